@@ -1,0 +1,13 @@
+pub mod RowLemmas
+pub mod OrderLemmas
+pub mod NameLemmas
+pub mod CheckLemmas
+pub mod CutLemmas
+pub mod SymbolLaws
+pub mod SpellingLaws
+pub mod PieceLaws
+pub mod ReadingLaws
+pub mod FitLemmas
+pub mod PlaceLemmas
+pub mod ReadLemmas
+pub mod TextLemmas

@@ -1,0 +1,6 @@
+pub mod Faults
+pub mod Labels
+pub mod Order
+pub mod Spelling
+pub mod Reading
+pub mod Rows

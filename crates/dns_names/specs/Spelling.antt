@@ -1,0 +1,61 @@
+-- How a name is spelled in a master file (RFC 1035 section 5.1), and which of its spellings is printed.
+use Rattle.std.specs.Prelude.{◌≡◌, ◌≢◌, ℕ, ◌+◌, ◌/◌, ◌%◌, ◌<◌, ◌⊎◌, List, [], ◌∷◌, ◌++◌, Bool, false, ◌||◌, ◌&&◌, ◌==◌, nat_le, if◌then◌else◌}
+use Rattle.std.specs.List.{flat_map}
+use Rattle.std.specs.Char.{to_ascii_lowercase, is_ascii_digit}
+
+-- the three decimal digits of a number below 1000
+abbrev pub three_digits : ℕ → List ℕ
+three_digits n = (48 + n / 100) ∷ (48 + n / 10 % 10) ∷ (48 + n % 10) ∷ []
+
+-- An octet is spelled by itself (but not `.` or `\`), by `\X` with X no digit, or by `\DDD`, its number.
+abbrev pub SpellsOctet : ℕ → List ℕ → Type 0
+SpellsOctet octet text =
+    ((octet ≢ 46) × (octet ≢ 92) × (text ≡ octet ∷ []))
+    ⊎ (((is_ascii_digit octet ≡ false) × (text ≡ 92 ∷ octet ∷ []))
+    ⊎ ((octet < 256) × (text ≡ 92 ∷ three_digits octet)))
+
+-- Letters are folded after the escapes are read (RFC 4343 section 3).
+abbrev pub SpellsFolded : ℕ → List ℕ → Type 0
+SpellsFolded octet text = (raw : ℕ) × (raw < 256) × (to_ascii_lowercase raw ≡ octet) × SpellsOctet raw text
+
+-- a label by its octets in turn
+abbrev pub SpellsLabel : List ℕ → List ℕ → Type 0
+SpellsLabel [] text = text ≡ []
+SpellsLabel (octet ∷ octets) text =
+    (front rest : List ℕ) × (text ≡ front ++ rest) × SpellsFolded octet front × SpellsLabel octets rest
+
+-- labels, each with a dot after it
+abbrev pub SpellsLabels : List (List ℕ) → List ℕ → Type 0
+SpellsLabels [] text = text ≡ []
+SpellsLabels (label ∷ labels) text =
+    (front rest : List ℕ) × (text ≡ front ++ 46 ∷ rest) × SpellsLabel label front × SpellsLabels labels rest
+
+-- a name by its labels, each with a dot after it, and the root by a dot
+abbrev pub SpellsAbsolute : List (List ℕ) → List ℕ → Type 0
+SpellsAbsolute [] text = text ≡ 46 ∷ []
+SpellsAbsolute (label ∷ labels) text = SpellsLabels (label ∷ labels) text
+
+-- Relative to an origin: an absolute spelling; `@` alone, for the origin; or labels without the last dot, which stand
+-- before the origin's.
+abbrev pub SpellsRelative : List (List ℕ) → List (List ℕ) → List ℕ → Type 0
+SpellsRelative origin name text =
+    SpellsAbsolute name text
+    ⊎ (((text ≡ 64 ∷ []) × (name ≡ origin))
+    ⊎ ((labels : List (List ℕ)) × (text ≢ 64 ∷ []) × (labels ≢ []) × (name ≡ labels ++ origin)
+    × SpellsLabels labels (text ++ 46 ∷ [])))
+
+-- `.` `\` `"` `(` `)` `;` `@` `$`, which mean something in a master file
+abbrev pub is_special : ℕ → Bool
+is_special o = o == 46 || o == 92 || o == 34 || o == 40 || o == 41 || o == 59 || o == 64 || o == 36
+
+-- the one spelling of an octet that is printed
+abbrev pub octet_text : ℕ → List ℕ
+octet_text o = if is_special o then 92 ∷ o ∷ [] else (if nat_le 33 o && nat_le o 126 then o ∷ [] else 92 ∷ three_digits o)
+
+abbrev pub label_text : List ℕ → List ℕ
+label_text label = flat_map octet_text label ++ 46 ∷ []
+
+-- the one spelling of a name that is printed
+abbrev pub name_text : List (List ℕ) → List ℕ
+name_text [] = 46 ∷ []
+name_text (label ∷ labels) = flat_map label_text (label ∷ labels)

@@ -1,0 +1,19 @@
+//! Domain names (RFC 1034 section 3.1, RFC 1035 section 2.3): reading them from the text of master files with every
+//! escape, printing them in one canonical spelling, and comparing them label by label. Whatever the code keeps,
+//! a contract sees a name as the list of its labels, leftmost first.
+#![tactic(auto)]
+
+mod fault;
+mod labels;
+mod name;
+mod pieces;
+mod symbol;
+mod text;
+
+pub use fault::NameFault;
+pub use labels::Labels;
+pub use name::Name;
+pub use symbol::{Symbol, first_symbol};
+
+#[cfg(test)]
+mod tests;
