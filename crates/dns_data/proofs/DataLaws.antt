@@ -1,0 +1,236 @@
+-- The laws of record data: what is read is spelled by the items, what the items spell is read, and so is what is printed.
+use Rattle.std.proofs.Common.{◌≡◌, ℕ, ◌^◌, ◌<◌, inl, eqb, decimal, List, [], ◌∷◌, length, Option, None, Result, Ok, Err, refl, ap, subst, arith, eqb-true}
+use Rattle.std.proofs.lemmas.List.{nil_from_length}
+use Rattle.std.proofs.NetLemmas.Texts.{IsDotted-ipv4_text, IsColonHex-hex_groups_text}
+use Rattle.std.specs.List.{AllByRecursion}
+use Rattle.std.specs.Net.Addr.{ipv4_octets, ipv6_segments, IsIpv4Addr, IsIpv6Addr}
+use Rattle.std.specs.Net.Text.{ipv4_text, hex_groups_text}
+use Rattle.std.specs.Net.Grammar.{IsIpv4Text, IsIpv6Text}
+use Rattle.dns_names.specs.Labels.{IsName}
+use Rattle.dns_names.specs.Spelling.{name_text}
+use Rattle.dns_names.proofs.ReadingLaws.{text_spells}
+use Rattle.dns_data.specs.declared.fault.DataFault.{DataFault}
+use Rattle.dns_data.specs.declared.fault.DataFault.TheVariants.{FieldExtra}
+use Rattle.dns_data.specs.declared.record_type.RecordType.{RecordType}
+use Rattle.dns_data.specs.declared.record_type.RecordType.TheVariants as types
+use Rattle.dns_data.specs.declared.rdata.Data.{Data}
+use Rattle.dns_data.specs.declared.rdata.Data.TheVariants.{A, Ns, Cname, Soa, Ptr, Mx, Txt, Aaaa, Srv}
+use Rattle.dns_data.specs.declared.rdata.MailExchange.{MailExchange}
+use Rattle.dns_data.specs.declared.rdata.Service.{Service}
+use Rattle.dns_data.specs.declared.soa.Soa.{Soa as SoaData}
+use Rattle.dns_data.specs.Faults.{◌>>=◌}
+use Rattle.dns_data.specs.Items.{ItemText, plain, in_quotes}
+use Rattle.dns_data.specs.Rdata.{type_of}
+use Rattle.dns_data.specs.Strings.{IsString, AreStrings, string_text}
+use Rattle.dns_data.specs.Text.{soa_items, mx_items, srv_items, strings_items, data_items}
+use Rattle.dns_data.specs.Grammar.{SpellsName, SpellsNumber, SpellsSeconds, IsNameItem, IsSoa, IsMx, IsSrv, SpellStrings, IsData}
+use Rattle.dns_data.specs.Reading.{Field, field, ipv4_of, ipv6_of, name_of, soa_at, mx_at, srv_at, strings_of, with_rest, ended, data_of}
+use Rattle.dns_data.proofs.StepLaws.{needed_ok, done, ok_is}
+use Rattle.dns_data.proofs.NumberLaws.{decimal_is_number}
+use Rattle.dns_data.proofs.StringLaws.{string_spells}
+use Rattle.dns_data.proofs.FieldLaws.{AreBytes, IsOrigin, field_found, field_only, name_found, name_only, ipv4_found, ipv4_only, ipv6_found, ipv6_only}
+use Rattle.dns_data.proofs.PartLaws.{mx_found, mx_only, srv_found, srv_only, soa_found, soa_only, strings_found, strings_only}
+
+-- ---- data that are kept
+
+-- what the parts of an SOA keep
+pub record KeepsSoa (soa : SoaData) : Type 0 where
+  pub mname : IsName soa.mname
+  pub rname : IsName soa.rname
+  pub serial : soa.serial.0 < 2 ^ 32
+  pub refresh : soa.refresh.0 < 2 ^ 32
+  pub retry : soa.retry.0 < 2 ^ 32
+  pub expire : soa.expire.0 < 2 ^ 32
+  pub minimum : soa.minimum.0 < 2 ^ 32
+
+pub record KeepsMx (mx : MailExchange) : Type 0 where
+  pub preference : mx.preference < 2 ^ 16
+  pub exchange : IsName mx.exchange
+
+pub record KeepsSrv (srv : Service) : Type 0 where
+  pub priority : srv.priority < 2 ^ 16
+  pub weight : srv.weight < 2 ^ 16
+  pub port : srv.port < 2 ^ 16
+  pub target : IsName srv.target
+
+-- what the types of data keep
+abbrev pub IsKept : Data → Type 0
+IsKept (A address) = IsIpv4Addr address
+IsKept (Ns server) = IsName server
+IsKept (Cname target) = IsName target
+IsKept (Soa soa) = KeepsSoa soa
+IsKept (Ptr target) = IsName target
+IsKept (Mx mx) = KeepsMx mx
+IsKept (Txt strings) = AreStrings strings
+IsKept (Aaaa address) = IsIpv6Addr address
+IsKept (Srv srv) = KeepsSrv srv
+
+-- ---- the end of the data
+
+-- a field is the whole of the data
+pub record Whole {X : Type 0} (wrap : X → Data) (read : Field X) (made : Data) : Type 0 where
+  pub value : X
+  pub read_is : read ≡ Ok (value, [])
+  pub same : wrap value ≡ made
+
+-- data that end behind their last field
+ended_ok : (d made : Data) (rest : List ItemText) → ended (d, rest) ≡ Ok made → (d ≡ made) × (rest ≡ [])
+ended_ok d made rest e =
+    let g = needed_ok (eqb (length rest) 0) FieldExtra (Ok d) made e in
+    (ok_is d made g.1, nil_from_length rest (eqb-true (length rest) 0 g.0))
+
+-- data of a field with what stands behind it
+whole_found : {X : Type 0} (wrap : X → Data) (read : Field X) (made : Data) → (with_rest wrap read >>= ended) ≡ Ok made → Whole wrap read made
+whole_found wrap (Err f) made e = absurd cc
+whole_found {X} wrap (Ok x) made e =
+    let g = ended_ok (wrap x.0) made x.1 e in
+    record { value = x.0; read_is = ap (λ (t : List ItemText). done (x.0, t)) g.1; same = g.0 }
+
+-- data of strings, which are all of the items
+strings_whole : (read : Result (List (List ℕ)) DataFault) (made : Data) → (read >>= (λ strings. Ok (Txt strings, [])) >>= ended) ≡ Ok made → (strings : List (List ℕ)) × (read ≡ Ok strings) × (Txt strings ≡ made)
+strings_whole (Err f) made e = absurd cc
+strings_whole (Ok strings) made e = (strings, refl, (ended_ok (Txt strings) made [] e).0)
+
+-- ---- data that are read
+
+-- data of a type that the items spell
+abbrev pub Found : Option (List (List ℕ)) → List ItemText → RecordType → Data → Type 0
+Found origin items t made = (type_of made ≡ t) × IsData origin made items
+
+-- a name alone
+name_item : (origin : Option (List (List ℕ))) (items : List ItemText) (name : List (List ℕ)) → IsOrigin origin → AreBytes items → field (name_of origin) items ≡ Ok (name, []) → IsNameItem origin name items
+name_item origin items name is bytes e =
+    let f = field_found (name_of origin) (SpellsName origin) (name_found origin is) items name [] bytes e in
+    (f.raw, f.items_are, f.spelled)
+
+-- data that are read are of the type, and the items spell them
+pub data_found : (t : RecordType) (origin : Option (List (List ℕ))) (items : List ItemText) (made : Data) → IsOrigin origin → AreBytes items → data_of t origin items ≡ Ok made → (type_of made ≡ t) × IsData origin made items
+data_found types.A origin items made is bytes e =
+    let w = whole_found A (field ipv4_of items) made e in
+    let f = field_found ipv4_of (λ a raw. IsIpv4Text raw a) ipv4_found items w.value [] bytes w.read_is in
+    subst (Found origin items types.A) w.same (refl, (f.raw, f.items_are, f.spelled))
+data_found types.Ns origin items made is bytes e =
+    let w = whole_found Ns (field (name_of origin) items) made e in
+    subst (Found origin items types.Ns) w.same (refl, name_item origin items w.value is bytes w.read_is)
+data_found types.Cname origin items made is bytes e =
+    let w = whole_found Cname (field (name_of origin) items) made e in
+    subst (Found origin items types.Cname) w.same (refl, name_item origin items w.value is bytes w.read_is)
+data_found types.Soa origin items made is bytes e =
+    let w = whole_found Soa (soa_at origin items) made e in
+    subst (Found origin items types.Soa) w.same (refl, soa_found origin items w.value is bytes w.read_is)
+data_found types.Ptr origin items made is bytes e =
+    let w = whole_found Ptr (field (name_of origin) items) made e in
+    subst (Found origin items types.Ptr) w.same (refl, name_item origin items w.value is bytes w.read_is)
+data_found types.Mx origin items made is bytes e =
+    let w = whole_found Mx (mx_at origin items) made e in
+    subst (Found origin items types.Mx) w.same (refl, mx_found origin items w.value is bytes w.read_is)
+data_found types.Txt origin items made is bytes e =
+    let w = strings_whole (strings_of items) made e in
+    subst (Found origin items types.Txt) w.2 (refl, strings_found items w.0 bytes w.1)
+data_found types.Aaaa origin items made is bytes e =
+    let w = whole_found Aaaa (field ipv6_of items) made e in
+    let f = field_found ipv6_of (λ a raw. IsIpv6Text raw a) ipv6_found items w.value [] bytes w.read_is in
+    subst (Found origin items types.Aaaa) w.same (refl, (f.raw, f.items_are, f.spelled))
+data_found types.Srv origin items made is bytes e =
+    let w = whole_found Srv (srv_at origin items) made e in
+    subst (Found origin items types.Srv) w.same (refl, srv_found origin items w.value is bytes w.read_is)
+
+-- ---- data that are spelled
+
+-- a name alone
+name_item_only : (origin : Option (List (List ℕ))) (items : List ItemText) (name : List (List ℕ)) → IsOrigin origin → IsNameItem origin name items → field (name_of origin) items ≡ Ok (name, [])
+name_item_only origin items name is (raw, items_are, spelled) = rw items_are (field_only (name_of origin) raw name [] (name_only origin is raw name spelled))
+
+-- what the items spell is read as data of its type
+spelled_only : (origin : Option (List (List ℕ))) (items : List ItemText) (made : Data) → IsOrigin origin → IsData origin made items → data_of (type_of made) origin items ≡ Ok made
+spelled_only origin items (A address) is (raw, items_are, spelled) = rw (items_are, field_only ipv4_of raw address [] (ipv4_only raw address spelled)) refl
+spelled_only origin items (Ns server) is h = rw (name_item_only origin items server is h) refl
+spelled_only origin items (Cname target) is h = rw (name_item_only origin items target is h) refl
+spelled_only origin items (Soa soa) is h = rw (soa_only origin items soa is h) refl
+spelled_only origin items (Ptr target) is h = rw (name_item_only origin items target is h) refl
+spelled_only origin items (Mx mx) is h = rw (mx_only origin items mx is h) refl
+spelled_only origin items (Txt strings) is h = rw (strings_only strings items h.0 h.1) refl
+spelled_only origin items (Aaaa address) is (raw, items_are, spelled) = rw (items_are, field_only ipv6_of raw address [] (ipv6_only raw address spelled)) refl
+spelled_only origin items (Srv srv) is h = rw (srv_only origin items srv is h) refl
+
+-- what the items spell is read
+pub data_only : (t : RecordType) (origin : Option (List (List ℕ))) (items : List ItemText) (made : Data) → IsOrigin origin → type_of made ≡ t → IsData origin made items → data_of t origin items ≡ Ok made
+data_only t origin items made is of h = subst (λ (k : RecordType). data_of k origin items ≡ Ok made) of (spelled_only origin items made is h)
+
+-- ---- data that are printed
+
+-- the printed strings spell them
+strings_spell : (strings : List (List ℕ)) → AllByRecursion IsString strings → SpellStrings strings (strings_items strings)
+strings_spell [] h = refl
+strings_spell (string ∷ strings) h = (in_quotes (string_text string), strings_items strings, refl, string_spells string h.0, strings_spell strings h.1)
+
+-- the printed name spells it
+name_spells : (name : List (List ℕ)) → IsName name → IsNameItem None name (plain (name_text name) ∷ [])
+name_spells name is = (name_text name, refl, (is, text_spells name is))
+
+-- a printed number spells it, and so it does as seconds
+number16_spells : (n : ℕ) → n < 2 ^ 16 → SpellsNumber 16 n (decimal n)
+number16_spells n h = (h, decimal_is_number n (omega arith))
+
+number32_spells : (n : ℕ) → n < 2 ^ 32 → SpellsNumber 32 n (decimal n)
+number32_spells n h = (h, decimal_is_number n (omega arith))
+
+seconds_spell : (n : ℕ) → n < 2 ^ 32 → SpellsSeconds n (decimal n)
+seconds_spell n h = (h, inl (decimal_is_number n (omega arith)))
+
+soa_spells : (soa : SoaData) → KeepsSoa soa → IsSoa None soa (soa_items soa)
+soa_spells soa k = record {
+  mname = name_text soa.mname;
+  rname = name_text soa.rname;
+  serial = decimal soa.serial.0;
+  refresh = decimal soa.refresh.0;
+  retry = decimal soa.retry.0;
+  expire = decimal soa.expire.0;
+  minimum = decimal soa.minimum.0;
+  items_are = refl;
+  mname_is = (k.mname, text_spells soa.mname k.mname);
+  rname_is = (k.rname, text_spells soa.rname k.rname);
+  serial_is = number32_spells soa.serial.0 k.serial;
+  refresh_is = seconds_spell soa.refresh.0 k.refresh;
+  retry_is = seconds_spell soa.retry.0 k.retry;
+  expire_is = seconds_spell soa.expire.0 k.expire;
+  minimum_is = seconds_spell soa.minimum.0 k.minimum;
+}
+
+mx_spells : (mx : MailExchange) → KeepsMx mx → IsMx None mx (mx_items mx)
+mx_spells mx k = record {
+  preference = decimal mx.preference;
+  exchange = name_text mx.exchange;
+  items_are = refl;
+  preference_is = number16_spells mx.preference k.preference;
+  exchange_is = (k.exchange, text_spells mx.exchange k.exchange);
+}
+
+srv_spells : (srv : Service) → KeepsSrv srv → IsSrv None srv (srv_items srv)
+srv_spells srv k = record {
+  priority = decimal srv.priority;
+  weight = decimal srv.weight;
+  port = decimal srv.port;
+  target = name_text srv.target;
+  items_are = refl;
+  priority_is = number16_spells srv.priority k.priority;
+  weight_is = number16_spells srv.weight k.weight;
+  port_is = number16_spells srv.port k.port;
+  target_is = (k.target, text_spells srv.target k.target);
+}
+
+-- the printed items spell the data
+pub data_spells : (made : Data) → IsKept made → IsData None made (data_items made)
+data_spells (A address) is = (ipv4_text (ipv4_octets address), refl, IsDotted-ipv4_text (ipv4_octets address) is.0 is.1)
+data_spells (Ns server) is = name_spells server is
+data_spells (Cname target) is = name_spells target is
+data_spells (Soa soa) is = soa_spells soa is
+data_spells (Ptr target) is = name_spells target is
+data_spells (Mx mx) is = mx_spells mx is
+data_spells (Txt strings) is = (is, strings_spell strings is.each)
+data_spells (Aaaa address) is = (hex_groups_text (ipv6_segments address), refl, IsColonHex-hex_groups_text (ipv6_segments address) is.0 is.1)
+data_spells (Srv srv) is = srv_spells srv is
+
+-- what is printed is read again
+pub data_again : (made : Data) → IsKept made → data_of (type_of made) None (data_items made) ≡ Ok made
+data_again made is = spelled_only None (data_items made) made tt (data_spells made is)

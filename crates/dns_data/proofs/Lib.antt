@@ -1,0 +1,13 @@
+pub mod NumberLemmas
+pub mod TypeLemmas
+pub mod StringLemmas
+pub mod SameLemmas
+pub mod TextLemmas
+pub mod StepLaws
+pub mod NumberLaws
+pub mod StringLaws
+pub mod FieldLaws
+pub mod PartLaws
+pub mod DataLaws
+pub mod EachLemmas
+pub mod AddressLemmas

@@ -1,0 +1,104 @@
+-- What `==` says of records and their data.
+use Rattle.std.proofs.Common.{◌≡◌, ◌↔◌, ℕ, Bool, true, false, List, IsTrue, refl, ap}
+use Rattle.std.specs.Bool.{Decides}
+use Rattle.std.specs.Prelude.{◌&&◌}
+use Rattle.std.proofs.lemmas.Bool.Decides.{Decides-eqb}
+use Rattle.std.proofs.lemmas.Slice.Eq.{bytes_eq-Decides, slice_eq-Decides}
+use Rattle.std.specs.declared.net.ipv4_addr.Ipv4Addr.{Ipv4Addr}
+use Rattle.std.specs.declared.net.ipv6_addr.Ipv6Addr.{Ipv6Addr}
+use Rattle.dns_names.proofs.NameLemmas.{same_name-Decides}
+use Rattle.dns_data.specs.declared.record.Record.{Record}
+use Rattle.dns_data.specs.declared.rdata.Data.{Data}
+use Rattle.dns_data.specs.declared.rdata.Data.TheVariants.{A, Ns, Cname, Soa, Ptr, Mx, Txt, Aaaa, Srv}
+use Rattle.dns_data.specs.declared.rdata.MailExchange.{MailExchange}
+use Rattle.dns_data.specs.declared.rdata.Service.{Service}
+use Rattle.dns_data.specs.declared.soa.Soa.{Soa as SoaData}
+use Rattle.dns_data.specs.contracts.rdata.DataPartialEq.TheImpl as of_data
+use Rattle.dns_data.specs.contracts.rdata.MailExchangePartialEq.TheImpl as of_mx
+use Rattle.dns_data.specs.contracts.rdata.ServicePartialEq.TheImpl as of_srv
+use Rattle.dns_data.specs.contracts.soa.SoaPartialEq.TheImpl as of_soa
+use Rattle.dns_data.specs.Rdata.{SameRecord}
+
+-- ---- tests of several parts
+
+both : {P Q : Type 0} (s t : Bool) → Decides s P → Decides t Q → Decides (s && t) (P × Q)
+both true t p q = (λ e. (p.0 refl, q.0 e), λ h. q.1 h.1)
+both false t p q = (λ e. absurd cc, λ h. p.1 h.0)
+
+via : {P Q : Type 0} (t : Bool) → Decides t P → (P → Q) → (Q → P) → Decides t Q
+via t d to from = (λ e. to (d.0 e), λ q. d.1 (from q))
+
+-- ---- fields
+
+ipv4_decides : (a b : Ipv4Addr) → Decides (of_data.ghosts.eq (A a) (A b)) (A a ≡ A b)
+ipv4_decides a b = via _ (bytes_eq-Decides a.octets b.octets) (λ e. λ i. A (record { octets = e i })) (λ e. cc)
+
+ipv6_decides : (a b : Ipv6Addr) → Decides (of_data.ghosts.eq (Aaaa a) (Aaaa b)) (Aaaa a ≡ Aaaa b)
+ipv6_decides a b = via _ (bytes_eq-Decides a.segments b.segments) (λ e. λ i. Aaaa (record { segments = e i })) (λ e. cc)
+
+strings_decides : (a b : List (List ℕ)) → Decides (of_data.ghosts.eq (Txt a) (Txt b)) (Txt a ≡ Txt b)
+strings_decides a b = via _ (slice_eq-Decides bytes_eq-Decides a b _ refl) (λ e. ap Txt e) (λ e. cc)
+
+soa_decides : (a b : SoaData) → Decides (of_soa.ghosts.eq a b) (a ≡ b)
+soa_decides a b =
+    via _
+    (both _ _ (same_name-Decides a.mname b.mname)
+    (both _ _ (same_name-Decides a.rname b.rname)
+    (both _ _ (Decides-eqb a.serial.0 b.serial.0)
+    (both _ _ (Decides-eqb a.refresh.0 b.refresh.0)
+    (both _ _ (Decides-eqb a.retry.0 b.retry.0)
+    (both _ _ (Decides-eqb a.expire.0 b.expire.0) (Decides-eqb a.minimum.0 b.minimum.0)))))))
+    (λ e.
+    λ i. record { mname = e.0 i; rname = e.1.0 i; serial = record { 0 = e.1.1.0 i }; refresh = record { 0 = e.1.1.1.0 i }; retry = record { 0 = e.1.1.1.1.0 i }; expire = record { 0 = e.1.1.1.1.1.0 i }; minimum = record { 0 = e.1.1.1.1.1.1 i } })
+    (λ e. (
+      ap (λ (s : SoaData). s.mname) e,
+      (
+        ap (λ (s : SoaData). s.rname) e,
+        (
+          ap (λ (s : SoaData). s.serial.0) e,
+          (ap (λ (s : SoaData). s.refresh.0) e, (ap (λ (s : SoaData). s.retry.0) e, (ap (λ (s : SoaData). s.expire.0) e, ap (λ (s : SoaData). s.minimum.0) e))),
+        ),
+      ),
+    ))
+
+mx_decides : (a b : MailExchange) → Decides (of_mx.ghosts.eq a b) (a ≡ b)
+mx_decides a b =
+    via _
+    (both _ _ (Decides-eqb a.preference b.preference) (same_name-Decides a.exchange b.exchange))
+    (λ e. λ i. record { preference = e.0 i; exchange = e.1 i })
+    (λ e. (ap (λ (m : MailExchange). m.preference) e, ap (λ (m : MailExchange). m.exchange) e))
+
+srv_decides : (a b : Service) → Decides (of_srv.ghosts.eq a b) (a ≡ b)
+srv_decides a b =
+    via _
+    (both _ _ (Decides-eqb a.priority b.priority)
+    (both _ _ (Decides-eqb a.weight b.weight)
+    (both _ _ (Decides-eqb a.port b.port) (same_name-Decides a.target b.target))))
+    (λ e. λ i. record { priority = e.0 i; weight = e.1.0 i; port = e.1.1.0 i; target = e.1.1.1 i })
+    (λ e. (ap (λ (s : Service). s.priority) e, (ap (λ (s : Service). s.weight) e, (ap (λ (s : Service). s.port) e, ap (λ (s : Service). s.target) e))))
+
+-- ---- data
+
+pub data_decides : (a b : Data) → Decides (of_data.ghosts.eq a b) (a ≡ b)
+data_decides (A a) (A b) = ipv4_decides a b
+data_decides (Ns a) (Ns b) = via _ (same_name-Decides a b) (λ e. ap Ns e) (λ e. cc)
+data_decides (Cname a) (Cname b) = via _ (same_name-Decides a b) (λ e. ap Cname e) (λ e. cc)
+data_decides (Soa a) (Soa b) = via _ (soa_decides a b) (λ e. ap Soa e) (λ e. cc)
+data_decides (Ptr a) (Ptr b) = via _ (same_name-Decides a b) (λ e. ap Ptr e) (λ e. cc)
+data_decides (Mx a) (Mx b) = via _ (mx_decides a b) (λ e. ap Mx e) (λ e. cc)
+data_decides (Txt a) (Txt b) = strings_decides a b
+data_decides (Aaaa a) (Aaaa b) = ipv6_decides a b
+data_decides (Srv a) (Srv b) = via _ (srv_decides a b) (λ e. ap Srv e) (λ e. cc)
+data_decides a b = (λ e. absurd cc, λ e. absurd cc)
+
+-- ---- records
+
+pub same_then : (a b : Record) (s t : Bool) → s ≡ true → Decides s (a.owner ≡ b.owner) → Decides t (a.rdata ≡ b.rdata) → IsTrue t ↔ SameRecord a b
+same_then a b s t e p q = (λ h. (p.0 e, q.0 h), λ h. q.1 h.1)
+
+pub same_else : (a b : Record) (s : Bool) → s ≡ false → Decides s (a.owner ≡ b.owner) → IsTrue s ↔ SameRecord a b
+same_else a b s e p = (λ h. absurd (absurd_test s e h), λ h. p.1 h.0)
+  where
+    absurd_test : (s : Bool) → s ≡ false → IsTrue s → ⊥
+    absurd_test true e h = cc
+    absurd_test false e h = cc

@@ -1,0 +1,17 @@
+use Rattle.std.proofs.Common.{map}
+use Rattle.dns_data.specs.declared.fault.DataFault.TheVariants.{BadAddress}
+use Rattle.dns_data.specs.Items.{item_of}
+use Rattle.dns_data.specs.Reading.{ipv4_of}
+use Rattle.dns_data.proofs.FieldLaws.{ipv4_only}
+use Rattle.dns_data.proofs.AddressLemmas.{ipv4_not, field_reads, field_refuses}
+use Rattle.dns_data.proofs.reading.ipv4.Goals as goal
+
+pub returns-in-Ok : goal.returns-in-Ok
+returns-in-Ok c =
+    let item = c.in_ok-raw in
+    field_reads ipv4_of (map item_of c.args.items.now) item.raw.now (map item_of item.rest.now) item.ensures c.in-Ok.address (ipv4_only item.raw.now c.in-Ok.address c.in-Ok.ensures)
+
+pub returns-in-Err : goal.returns-in-Err
+returns-in-Err c =
+    let item = c.in_ok-raw in
+    field_refuses ipv4_of (map item_of c.args.items.now) item.raw.now (map item_of item.rest.now) item.ensures BadAddress (ipv4_not item.raw.now c.in-Err.ensures)

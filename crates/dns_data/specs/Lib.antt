@@ -1,0 +1,9 @@
+pub mod Faults
+pub mod Types
+pub mod Items
+pub mod Numbers
+pub mod Strings
+pub mod Rdata
+pub mod Text
+pub mod Grammar
+pub mod Reading

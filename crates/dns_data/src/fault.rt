@@ -1,0 +1,98 @@
+//! Why items are no record data.
+
+ghost use Rattle.std.specs.Prelude.{◌≡◌};
+ghost use Rattle.dns_data.specs.declared.fault.DataFault.TheVariants.{NoMemory};
+
+use dns_names::NameFault;
+use std::alloc::{AllocError, AllocFailed};
+use thiserror::Error;
+
+/// What is wrong with the items of record data, or with the name of a type.
+#[derive(Clone, Copy, Debug, PartialEq, Eq, Error)]
+pub enum DataFault {
+    /// No IPv4 address for A (RFC 1035 section 3.4.1), or no IPv6 address for AAAA (RFC 4291 section 2.2).
+    #[error("this is no address of the record's type")]
+    BadAddress,
+    /// No decimal number; in a place of seconds, no number with units either.
+    #[error("this is no decimal number")]
+    BadNumber,
+    /// A number that its field has no room for.
+    #[error("the number is too large for its field")]
+    NumberRange,
+    /// A character-string of more than 255 octets (RFC 1035 section 3.3).
+    #[error("a character-string has more than 255 octets")]
+    StringTooLong,
+    /// The data end before their last field.
+    #[error("a field of the record data is missing")]
+    FieldMissing,
+    /// Items stand behind the last field.
+    #[error("an item stands behind the record data")]
+    FieldExtra,
+    /// A type that is not kept here.
+    #[error("records of this type are not kept")]
+    TypeNotKept,
+    /// Data of more than 65,535 octets (RFC 1035 section 3.2.1).
+    #[error("the record data have more than 65535 octets")]
+    DataTooLong,
+    /// A name that is none, or a bad escape in a character-string.
+    #[error("{0}")]
+    Name(NameFault),
+    /// A quoted item in the place of a name, a number or an address.
+    #[error("a quoted item stands where a name, a number or an address is wanted")]
+    QuotedItem,
+    /// Memory ran out. This says nothing of the items.
+    #[error("out of memory")]
+    NoMemory,
+}
+
+impl DataFault {
+    ghost use Rattle.dns_data.specs.Faults.{fault_number};
+
+    /// The published number of the refusal, 11 to 20, or 99 for want of memory. A name's own number is that of its fault.
+    pub const fn number(self) -> u8
+        ensures { result ≡ fault_number self }
+    {
+        match self {
+            DataFault::BadAddress => 11,
+            DataFault::BadNumber => 12,
+            DataFault::NumberRange => 13,
+            DataFault::StringTooLong => 14,
+            DataFault::FieldMissing => 15,
+            DataFault::FieldExtra => 16,
+            DataFault::TypeNotKept => 17,
+            DataFault::DataTooLong => 18,
+            DataFault::Name(_) => 19,
+            DataFault::QuotedItem => 20,
+            DataFault::NoMemory => 99,
+        }
+    }
+}
+
+impl From<NameFault> for DataFault {
+    ghost use Rattle.dns_data.specs.Faults.{of_name};
+
+    ghost from_gives = { λ f e. e ≡ of_name f };
+
+    fn from(fault: NameFault) -> DataFault {
+        match fault {
+            NameFault::NoMemory => DataFault::NoMemory,
+            fault => DataFault::Name(fault),
+        }
+    }
+}
+
+impl From<AllocError> for DataFault {
+    ghost from_gives = { λ _ e. e ≡ NoMemory };
+
+    fn from(_e: AllocError) -> DataFault {
+        DataFault::NoMemory
+    }
+}
+
+impl<T: Drop> From<AllocFailed<T>> for DataFault {
+    ghost from_gives = { λ _ e. e ≡ NoMemory };
+
+    fn from(_e: AllocFailed<T>) -> DataFault {
+        DataFault::NoMemory
+    }
+}

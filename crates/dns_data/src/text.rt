@@ -1,0 +1,137 @@
+//! The canonical text of record data.
+
+ghost use Rattle.std.specs.Prelude.{◌≡◌, ◌∷◌, ◌++◌, [], Some, None, Ok, IfOk, string_bytes, ◌==◌, ◌||◌, ◌&&◌, nat_le};
+ghost use Rattle.dns_data.specs.Items.{items_text};
+ghost use Rattle.dns_data.specs.Rdata.{type_of};
+ghost use Rattle.dns_data.specs.Reading.{data_of};
+ghost use Rattle.dns_data.specs.Strings.{octet_text, string_text};
+ghost use Rattle.dns_data.specs.Text.{soa_items, mx_items, srv_items, strings_items, data_items, data_text};
+
+use crate::notes::notes_again;
+use crate::rdata::{Data, MailExchange, Service};
+use crate::soa::Soa;
+use crate::strings::{CharacterString, Strings};
+use std::alloc::{AllocError, Global};
+use std::fmt;
+
+/// Whether an octet means something within quotes, so that a backslash stands before it.
+fn ends_quotes(octet: u8) -> bool
+    ensures { result ≡ (octet == 34 || octet == 92) }
+{
+    matches!(octet, b'"' | b'\\')
+}
+
+/// Whether an octet may stand within quotes as it is.
+fn is_plain(octet: u8) -> bool
+    ensures { result ≡ (nat_le 32 octet && nat_le octet 126) }
+{
+    matches!(octet, b' '..=b'~')
+}
+
+/// An octet of a character-string, as it is printed within quotes.
+#[derive(Clone, Copy)]
+struct StringOctet(u8);
+
+impl fmt::Display for StringOctet {
+    ghost output = { λ x. Some (octet_text x.0) };
+
+    fn fmt<W: fmt::Write>(&self, f: &mut fmt::Formatter<W>) -> fmt::Result {
+        let octet = self.0;
+        if ends_quotes(octet) {
+            write!(f, "\\{}", char::from(octet))
+        } else if is_plain(octet) {
+            write!(f, "{}", char::from(octet))
+        } else {
+            write!(f, "\\{}{}{}", octet / 100, octet / 10 % 10, octet % 10)
+        }
+    }
+}
+
+impl fmt::Display for CharacterString {
+    ghost output = { λ x. Some (34 ∷ string_text x ++ 34 ∷ []) };
+
+    fn fmt<W: fmt::Write>(&self, f: &mut fmt::Formatter<W>) -> fmt::Result {
+        write!(f, "\"")?;
+        for octet in self.octets() {
+            write!(f, "{}", StringOctet(*octet))?;
+        }
+        write!(f, "\"")
+    }
+}
+
+impl fmt::Display for Strings {
+    ghost output = { λ x. Some (items_text (strings_items x)) };
+
+    fn fmt<W: fmt::Write>(&self, f: &mut fmt::Formatter<W>) -> fmt::Result {
+        let [first, others @ ..] = self.as_slice() else {
+            return Ok(());
+        };
+        write!(f, "{first}")?;
+        for string in others {
+            write!(f, " {string}")?;
+        }
+        Ok(())
+    }
+}
+
+impl fmt::Display for Soa {
+    ghost output = { λ x. Some (items_text (soa_items x)) };
+
+    fn fmt<W: fmt::Write>(&self, f: &mut fmt::Formatter<W>) -> fmt::Result {
+        write!(f, "{} {} {}", self.mname, self.rname, self.serial.0)?;
+        write!(
+            f,
+            " {} {} {} {}",
+            self.refresh.0, self.retry.0, self.expire.0, self.minimum.0
+        )
+    }
+}
+
+impl fmt::Display for MailExchange {
+    ghost output = { λ x. Some (items_text (mx_items x)) };
+
+    fn fmt<W: fmt::Write>(&self, f: &mut fmt::Formatter<W>) -> fmt::Result {
+        write!(f, "{} {}", self.preference, self.exchange)
+    }
+}
+
+impl fmt::Display for Service {
+    ghost output = { λ x. Some (items_text (srv_items x)) };
+
+    fn fmt<W: fmt::Write>(&self, f: &mut fmt::Formatter<W>) -> fmt::Result {
+        write!(
+            f,
+            "{} {} {} {}",
+            self.priority, self.weight, self.port, self.target
+        )
+    }
+}
+
+impl fmt::Display for Data {
+    ghost output = { λ x. Some (data_text x) };
+
+    fn fmt<W: fmt::Write>(&self, f: &mut fmt::Formatter<W>) -> fmt::Result {
+        match self {
+            Data::A(address) => write!(f, "{address}"),
+            Data::Ns(name) | Data::Cname(name) | Data::Ptr(name) => write!(f, "{name}"),
+            Data::Soa(soa) => write!(f, "{soa}"),
+            Data::Mx(mx) => write!(f, "{mx}"),
+            Data::Txt(strings) => write!(f, "{strings}"),
+            Data::Aaaa(address) => write!(f, "{}", address.hex_groups()),
+            Data::Srv(srv) => write!(f, "{srv}"),
+        }
+    }
+}
+
+/// The data in their one canonical text: fields joined by one space, numbers without leading zeros, names in their
+/// canonical spelling, an IPv6 address as RFC 5952 section 4 has it with no dotted tail, and character-strings in quotes,
+/// in which `"` and `\` have a backslash before them, other octets from 32 to 126 stand plain, and all others are `\DDD`.
+/// The only error is want of memory.
+pub fn data_text(alloc: Global, rdata: &Data) -> Result<String, AllocError>
+    ensures canonical { IfOk result (λ text. string_bytes text ≡ data_text rdata.now) }
+    // Its items, read again, are the data.
+    ensures again { IfOk result (λ text. data_of (type_of rdata.now) None (data_items rdata.now) ≡ Ok rdata.now) }
+{
+    notes_again(rdata);
+    rdata.to_string(alloc)
+}
