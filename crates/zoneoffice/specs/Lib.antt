@@ -1,0 +1,10 @@
+pub mod Faults
+pub mod Lines
+pub mod RecordLines
+pub mod Serials
+pub mod Keys
+pub mod Zones
+pub mod Outcome
+pub mod Views
+pub mod Device
+pub mod Apply

@@ -1,0 +1,58 @@
+//! The program.
+#![tactic(auto)]
+
+ghost use Rattle.std.specs.Prelude.{◌≡◌, ◌<◌};
+
+mod apply;
+mod device;
+mod fault;
+mod key;
+mod lines;
+mod record_lines;
+mod records;
+mod serial;
+mod zone;
+
+use crate::apply::apply;
+use crate::device::Counted;
+use std::alloc::Global;
+use std::io::{Read, Write};
+use std::marker::Brand;
+use std::process::ExitCode;
+use std::sync::ledger::{Blank, Ledger};
+
+/// Runs `apply` on a reader and a writer of std.
+fn run<R: Read + Drop, W: Write + Drop, A: Ledger, B: Ledger>(
+    alloc: Global,
+    reader: R,
+    writer: W,
+    reads: Blank,
+    writes: Blank,
+) -> ExitCode
+    requires reads_name { reads.name ≡ A.name }
+    requires reads_parts { reads.parts ≡ A.parts }
+    requires reads_some { 0 < reads.parts }
+    requires writes_name { writes.name ≡ B.name }
+    requires writes_parts { writes.parts ≡ B.parts }
+    requires writes_some { 0 < writes.parts }
+{
+    let mut source: Counted<R, A> = Counted::new(reader, reads);
+    let mut sink: Counted<W, B> = Counted::new(writer, writes);
+    match apply(alloc, &mut source, &mut sink) {
+        Ok(()) => ExitCode::SUCCESS,
+        Err(_) => ExitCode::FAILURE,
+    }
+}
+
+fn main(rt: HostRuntime) -> ExitCode {
+    run::<_, _, Brand, Brand>(
+        rt.alloc(),
+        rt.stdin(),
+        rt.stdout(),
+        Blank::new(1),
+        Blank::new(1),
+    )
+}
+
+#[cfg(test)]
+mod tests;
