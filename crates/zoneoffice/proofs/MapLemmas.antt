@@ -1,5 +1,5 @@
 -- A map of records under their keys is a set of records.
-use Rattle.std.proofs.Common.{◌≡◌, ℕ, List, [], ◌∷◌, ◌++◌, Bool, true, false, cond, ◌&&◌, map, Option, Some, None, refl, sym, ap, subst, ◌∙◌}
+use Rattle.std.proofs.Common.{◌≡◌, List, [], ◌∷◌, Bool, true, false, cond, ◌&&◌, map, Some, None, refl, sym, ap, ◌∙◌}
 use Rattle.std.specs.declared.cmp.Ordering.{Ordering}
 use Rattle.std.specs.declared.cmp.Ordering.TheVariants.{Less, Equal, Greater}
 use Rattle.std.specs.Ordering.{nat_cmp, ordering_then, is_eq, is_lt, eq_by_cmp}
@@ -12,12 +12,12 @@ use Rattle.std.specs.Map.{lookup}
 use Rattle.std.specs.FinMap.Entries.{below_all}
 use lib.Dec.{T}
 use Rattle.std.specs.BTreeMap as btree
-use Rattle.std.specs.FinMap.{FinMap, IsAntisymmetric, nat_cmp-IsAntisymmetric, slice_cmp-IsAntisymmetric, is_sorted, find, empty, get, insert, remove, entries, from_sorted, entries-from_sorted, get-from_sorted, get-empty, get-insert, get-remove, same_map}
-use Rattle.dns_names.specs.Order.{canonical_cmp, same_name}
+use Rattle.std.specs.FinMap.{IsAntisymmetric, nat_cmp-IsAntisymmetric, slice_cmp-IsAntisymmetric, is_sorted, find, empty, get, insert, remove, entries, from_sorted, entries-from_sorted, get-from_sorted, get-empty, get-insert, get-remove, same_map}
+use Rattle.dns_names.specs.Order.{canonical_cmp}
 use Rattle.dns_names.proofs.NameLemmas.{same_name-Decides}
 use Rattle.dns_data.specs.declared.record.Record.{Record}
-use Rattle.zoneoffice.specs.Keys.{Key, key_cmp, key_eq, key_total}
-use Rattle.zoneoffice.specs.Zones.{Records, listing}
+use Rattle.zoneoffice.specs.Keys.{Key, key_cmp, key_total}
+use Rattle.zoneoffice.specs.Zones.{listing}
 use Rattle.zoneoffice.specs.Views.{records_in}
 
 -- ---- keys that tie are one

@@ -1,17 +1,17 @@
 -- What an addition makes of a set of records.
-use Rattle.std.proofs.Common.{if◌then◌else◌, ◌≡◌, ℕ, List, [], ◌∷◌, Bool, true, false, cond, ◌&&◌, ◌==◌, nat_eq, find, Option, Some, None, is_some, refl, sym, ap, subst, ◌∙◌}
+use Rattle.std.proofs.Common.{if◌then◌else◌, ◌≡◌, ℕ, List, [], ◌∷◌, Bool, true, false, cond, ◌&&◌, ◌==◌, nat_eq, find, Option, Some, None, is_some, refl, sym, ap, ◌∙◌}
 use Rattle.std.specs.declared.cmp.Ordering.{Ordering}
 use Rattle.std.specs.declared.cmp.Ordering.TheVariants.{Less, Equal, Greater}
 use Rattle.std.specs.Ordering.{is_eq, is_lt, ordering_reverse, eq_by_cmp}
 use Rattle.std.specs.Option.{option_map_or}
-use Rattle.std.specs.FinMap.{FinMap, get, insert, entries, entries_sorted, get-entries, entries-insert, is_sorted, put}
+use Rattle.std.specs.FinMap.{get, entries, entries_sorted, get-entries, entries-insert, is_sorted, put}
 use Rattle.std.specs.FinMap as map
 use Rattle.std.specs.FinMap.Entries.{below_all, by_order}
 use Rattle.std.specs.Cmp.{IsTotalOrder, tied_itself}
 use lib.Dec.{T, eqb_refl}
 use lib.Pointwise.{pointwise}
 use Rattle.dns_data.specs.declared.record.Record.{Record}
-use Rattle.zoneoffice.specs.Keys.{Key, key_cmp, key_eq, key_total}
+use Rattle.zoneoffice.specs.Keys.{key_cmp, key_eq, key_total}
 use Rattle.zoneoffice.specs.Zones.{Records, key_of, same_records, listing, soa_at, is_soa, is_at, serial_in, replaced_by, passing, in_place, effect, updated, advanced, without}
 use Rattle.zoneoffice.specs.Serials.{is_less}
 use Rattle.zoneoffice.specs.Zones as zones

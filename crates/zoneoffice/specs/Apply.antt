@@ -1,7 +1,6 @@
 -- What a call of `apply` reads, writes and answers.
 use Rattle.std.specs.Prelude.{◌≡◌, ℕ, ◌<◌, ◌≤◌, List, length, Option, Result, Ok, Err, ◌⊎◌}
 use Rattle.std.specs.Io.KnownBytes.{Appends}
-use Rattle.zoneoffice.specs.declared.fault.ZoneFault.{ZoneFault}
 use Rattle.zoneoffice.specs.declared.fault.ApplyFault.{ApplyFault}
 use Rattle.zoneoffice.specs.declared.fault.ApplyFault.TheVariants.{TooLarge, WriteFailed, Zone, NotZone, ReadFailed, NoDivider, BadLine, NoMemory}
 use Rattle.zoneoffice.specs.Device.{AppendsFront, IsAll}

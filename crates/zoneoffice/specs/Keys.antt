@@ -1,5 +1,5 @@
 -- What a record is apart from its TTL, and the order in which records are listed.
-use Rattle.std.specs.Prelude.{◌≡◌, ℕ, List, Bool, refl}
+use Rattle.std.specs.Prelude.{ℕ, List, Bool, refl}
 use Rattle.std.specs.Ordering.{nat_cmp, on, then_cmp, eq_by_cmp, as_partial_cmp}
 use Rattle.std.specs.declared.cmp.Ordering.{Ordering}
 use Rattle.std.specs.Cmp.{IsTotalOrder, IsEquivalence, IsPartialEquivalence, IsPartialOrder, eq_by_cmp_equiv, on_total, then_total, nat_cmp_total, partial_equiv_from_equiv, partial_order_from_agreeing_total}

@@ -1,5 +1,5 @@
 -- What `apply` makes of an input.
-use Rattle.std.specs.Prelude.{◌≡◌, ℕ, ◌+◌, List, [], ◌∷◌, ◌++◌, length, Bool, nat_lt, if◌then◌else◌, Option, Some, None, Result, Ok, Err}
+use Rattle.std.specs.Prelude.{ℕ, ◌+◌, List, length, nat_lt, if◌then◌else◌, Option, Some, None, Result, Ok, Err}
 use Rattle.dns_names.specs.Labels.{is_within}
 use Rattle.dns_data.specs.declared.record.Record.{Record}
 use Rattle.zoneoffice.specs.declared.fault.ZoneFault.{ZoneFault}

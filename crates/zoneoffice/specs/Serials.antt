@@ -1,5 +1,5 @@
 -- Serials of 32 bits (RFC 1982 section 3).
-use Rattle.std.specs.Prelude.{◌≡◌, ℕ, ◌+◌, ◌-◌, ◌%◌, ◌^◌, ◌<◌, ◌⊎◌, Bool, ◌&&◌, ◌||◌, nat_lt}
+use Rattle.std.specs.Prelude.{ℕ, ◌+◌, ◌-◌, ◌%◌, ◌^◌, ◌<◌, ◌⊎◌, Bool, ◌&&◌, ◌||◌, nat_lt}
 
 abbrev pub serial_sum : ℕ → ℕ → ℕ
 serial_sum s n = (s + n) % 2 ^ 32

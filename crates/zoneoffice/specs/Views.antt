@@ -1,5 +1,4 @@
 -- The records and the zone that a map stands for.
-use Rattle.std.specs.Prelude.{ℕ, List}
 use Rattle.std.specs.BTreeMap.{BTreeMap}
 use Rattle.std.specs.FinMap.{from_sorted}
 use Rattle.dns_data.specs.declared.record.Record.{Record}

@@ -1,9 +1,7 @@
-use Rattle.std.proofs.Common.{◌≡◌, List, [], ◌∷◌, sym, ap, ◌∙◌, arith}
+use Rattle.std.proofs.Common.{◌≡◌, [], sym, ap, ◌∙◌, arith}
 use Rattle.std.proofs.lemmas.List.{nil_from_length}
-use Rattle.std.specs.FinMap.{empty, from_sorted}
-use Rattle.dns_data.specs.declared.record.Record.{Record}
-use Rattle.zoneoffice.specs.Keys.{Key, key_cmp}
-use Rattle.zoneoffice.specs.Zones.{Records, set_of, put, put_all}
+use Rattle.std.specs.FinMap.{empty}
+use Rattle.zoneoffice.specs.Zones.{Records, put_all}
 use Rattle.zoneoffice.specs.Views.{records_in}
 use Rattle.zoneoffice.proofs.MapLemmas.{empty_in}
 use Rattle.zoneoffice.proofs.records.keyed.Goals as goal

@@ -1,4 +1,4 @@
-use Rattle.std.proofs.Common.{◌≡◌, List, [], ◌∷◌, Bool, true, false, cond, Option, Some, None, find, ◌&&◌, sym, ap, ◌∙◌, refl, subst}
+use Rattle.std.proofs.Common.{◌≡◌, List, [], ◌∷◌, Bool, true, cond, Some, find, ◌&&◌, sym, ap, ◌∙◌}
 use Rattle.std.specs.BTreeMap.{values}
 use Rattle.dns_data.specs.declared.record.Record.{Record}
 use Rattle.zoneoffice.specs.Zones.{is_soa, is_at, listing}

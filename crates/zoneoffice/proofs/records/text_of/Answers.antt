@@ -1,9 +1,7 @@
-use Rattle.std.proofs.Common.{◌≡◌, ℕ, List, [], ◌∷◌, ◌++◌, sym, ap, ◌∙◌}
+use Rattle.std.proofs.Common.{◌++◌, sym, ap, ◌∙◌}
 use Rattle.std.proofs.lemmas.List.{append-nil}
 use Rattle.std.specs.String.{string_bytes}
-use Rattle.std.specs.BTreeMap.{values}
-use Rattle.zoneoffice.specs.Zones.{text_of, listing}
-use Rattle.zoneoffice.specs.Views.{records_in}
+use Rattle.zoneoffice.specs.Zones.{text_of}
 use Rattle.zoneoffice.proofs.MapLemmas.{listing_in}
 use Rattle.zoneoffice.proofs.records.text_of.Goals as goal
 

@@ -1,4 +1,4 @@
-use Rattle.std.proofs.Common.{◌≡◌, ℕ, List, [], ◌∷◌, Bool, true, false, cond, ◌&&◌, ◌==◌, find, Option, Some, None, is_some, refl, sym, ap, subst, ◌∙◌}
+use Rattle.std.proofs.Common.{sym, ◌∙◌}
 use Rattle.zoneoffice.specs.Views.{records_in}
 use Rattle.zoneoffice.proofs.ZoneLemmas.{updated_soa}
 use Rattle.zoneoffice.proofs.zone.with.Goals as goal

@@ -1,4 +1,4 @@
-use Rattle.std.proofs.Common.{◌≡◌, ℕ, List, [], ◌∷◌, Bool, true, false, cond, ◌&&◌, find, Option, Some, None, is_some, refl, sym, ap, subst, ◌∙◌}
+use Rattle.std.proofs.Common.{sym, ap, ◌∙◌}
 use Rattle.zoneoffice.specs.Zones.{put, without}
 use Rattle.zoneoffice.specs.Views.{records_in}
 use Rattle.zoneoffice.proofs.ZoneLemmas.{soa_at_is_soa, effect_newer}
