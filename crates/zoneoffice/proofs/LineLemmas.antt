@@ -3,10 +3,10 @@ use Rattle.std.proofs.Common.{◌≡◌, ℕ, zero, suc, ◌+◌, ◌-◌, ◌<�
 use Rattle.std.specs.Prelude.{nat_lt, ◌==◌}
 use Rattle.dns_data.specs.Items.{plain}
 use Rattle.std.specs.Option.{option_map}
-use Rattle.std.specs.List.{position_or_len}
+use Rattle.std.specs.List.{position_or_len, slice_split}
 use Rattle.std.proofs.lemmas.Bool.{cases_lt, lt-ltb, le-ltb}
 use Rattle.std.proofs.lemmas.List.{drop-drop, drop_all, length-drop, length-take, get_or-drop}
-use Rattle.zoneoffice.specs.Lines.{parts, lines_of, is_white, items_of, is_divider, divided}
+use Rattle.zoneoffice.specs.Lines.{lines_of, is_white, items_of, is_divider, divided}
 
 no_is_false : (b : Bool) → ¬ (b ≡ true) → b ≡ false
 no_is_false true denied = absurd (denied refl)
@@ -16,17 +16,17 @@ no_is_false false denied = refl
 abbrev pub NoneUpTo : (ℕ → Bool) → List ℕ → ℕ → Type 0
 NoneUpTo test xs n = (k : ℕ) → k < n → test (get_or xs k 0) ≡ false
 
-parts_cut : (test : ℕ → Bool) (xs : List ℕ) (n : ℕ) → n < length xs → NoneUpTo test xs n → test (get_or xs n 0) ≡ true → parts test xs ≡ take n xs ∷ parts test (drop (suc n) xs)
+parts_cut : (test : ℕ → Bool) (xs : List ℕ) (n : ℕ) → n < length xs → NoneUpTo test xs n → test (get_or xs n 0) ≡ true → slice_split test xs ≡ take n xs ∷ slice_split test (drop (suc n) xs)
 parts_cut test [] n lt before here = absurd (omega arith)
 parts_cut test (x ∷ xs) zero lt before here = rw here refl
 parts_cut test (x ∷ xs) (suc n) lt before here =
     let one : test x ≡ false = before 0 (omega arith) in
     rw (one, parts_cut test xs n (omega arith) (λ k l. before (suc k) (omega arith)) here) refl
 
-pub parts_first : (test : ℕ → Bool) (xs : List ℕ) (n : ℕ) → n < length xs → NoneUpTo test xs n → test (get_or xs n 0) ≡ true → parts test xs ≡ take n xs ∷ parts test (drop (n + 1) xs)
+pub parts_first : (test : ℕ → Bool) (xs : List ℕ) (n : ℕ) → n < length xs → NoneUpTo test xs n → test (get_or xs n 0) ≡ true → slice_split test xs ≡ take n xs ∷ slice_split test (drop (n + 1) xs)
 parts_first test xs n lt before here = rw add-one (parts_cut test xs n lt before here)
 
-pub parts_none : (test : ℕ → Bool) (xs : List ℕ) → NoneUpTo test xs (length xs) → parts test xs ≡ xs ∷ []
+pub parts_none : (test : ℕ → Bool) (xs : List ℕ) → NoneUpTo test xs (length xs) → slice_split test xs ≡ xs ∷ []
 parts_none test [] before = refl
 parts_none test (x ∷ xs) before =
     let one : test x ≡ false = before 0 (omega arith) in
@@ -48,38 +48,6 @@ pub lines_end : (front : List (List ℕ)) (rest : List ℕ) (total : List (List 
     → front ++ lines_of rest ≡ total → front ++ rest ∷ [] ≡ total
 lines_end front rest total before so_far =
     ap (λ (ls : List (List ℕ)). front ++ ls) (sym (parts_none (λ octet. octet == 10) rest (λ k l. no_is_false _ (before k (omega arith) l)))) ∙ so_far
-
--- ---- items
-
-module _ (line : List ℕ) (start place : ℕ) (begun : start ≤ place) (no_white : (k : ℕ) → start ≤ k → k < place → is_white (get_or line k 0) ≡ false) where
-  none_up_to : NoneUpTo is_white (drop start line) (place - start)
-  none_up_to k lt = rw (get_or-drop start line k 0) (no_white (start + k) (omega arith) (omega arith))
-
-  cut_at_white : place < length line → is_white (get_or line place 0) ≡ true → parts is_white (drop start line) ≡ take (place - start) (drop start line) ∷ parts is_white (drop (place + 1) line)
-  cut_at_white lt here =
-      let at : start + (place - start) ≡ place = omega arith in
-      let after : start + (place - start + 1) ≡ place + 1 = omega arith in
-      let white : is_white (get_or (drop start line) (place - start) 0) ≡ true = rw (get_or-drop start line (place - start) 0, at) here in
-      rw (← after, ← drop-drop (place - start + 1) start line) (parts_first is_white (drop start line) (place - start) (omega (arith, length-drop start line)) none_up_to white)
-
-  pub item_at_white : place < length line → is_white (get_or line place 0) ≡ true → start < place → items_of (drop start line) ≡ plain (take (place - start) (drop start line)) ∷ items_of (drop (place + 1) line)
-  item_at_white lt here long =
-      let field : nat_lt 0 (length (take (place - start) (drop start line))) ≡ true = lt-ltb _ _ (omega (arith, length-take (place - start) (drop start line), length-drop start line)) in
-      rw (cut_at_white lt here, field) refl
-
-  pub none_at_white : place < length line → is_white (get_or line place 0) ≡ true → place ≤ start → items_of (drop start line) ≡ items_of (drop (place + 1) line)
-  none_at_white lt here short =
-      let field : nat_lt 0 (length (take (place - start) (drop start line))) ≡ false = le-ltb _ _ (omega (arith, length-take (place - start) (drop start line))) in
-      rw (cut_at_white lt here, field) refl
-
-  pub item_at_end : length line ≤ place → start < length line → items_of (drop start line) ≡ plain (drop start line) ∷ []
-  item_at_end done long =
-      let cut = parts_none is_white (drop start line) (λ k lt. none_up_to k (omega (arith, length-drop start line))) in
-      let field : nat_lt 0 (length (drop start line)) ≡ true = lt-ltb _ _ (omega (arith, length-drop start line)) in
-      rw (cut, field) refl
-
-pub none_at_end : (line : List ℕ) (start : ℕ) → length line ≤ start → items_of (drop start line) ≡ []
-none_at_end line start done = ap items_of (drop_all start line done)
 
 -- ---- the divider
 

@@ -7,7 +7,7 @@ ghost use Rattle.zoneoffice.specs.Views.{zone_of};
 ghost use Rattle.zoneoffice.specs.Apply.{InputRead, TextWritten, IsRefused, Applied};
 
 use crate::device::{Sink, Source};
-use crate::fault::{ApplyFault, RefusalLine};
+use crate::fault::{ApplyFault, NO_MEMORY_LINE, READ_FAILED_LINE, RefusalLine};
 use crate::lines::{divided, lines};
 use crate::record_lines::{read_addition, read_records};
 use crate::records::text_of;
@@ -109,7 +109,7 @@ pub fn apply<R: Source, W: Sink>(
         Err(fault) => match fault {
             // Told without memory, so that want of memory never hides it.
             ApplyFault::ReadFailed => {
-                write_text(writer, b"refused 93\n")?;
+                write_text(writer, READ_FAILED_LINE.as_bytes())?;
                 Err(fault)
             }
             _ => refuse(alloc, writer, fault),
@@ -128,7 +128,7 @@ fn refuse<W: Sink>(alloc: Global, writer: &mut W, fault: ApplyFault) -> Result<(
             Err(fault)
         }
         Err(_) => {
-            write_text(writer, b"refused 99\n")?;
+            write_text(writer, NO_MEMORY_LINE.as_bytes())?;
             Err(ApplyFault::NoMemory)
         }
     }

@@ -76,6 +76,12 @@ pub enum ApplyFault {
     NoMemory,
 }
 
+/// The line of a failed read, which is told without memory.
+pub const READ_FAILED_LINE: &str = "refused 93\n";
+
+/// The line of want of memory, which is told without memory.
+pub const NO_MEMORY_LINE: &str = "refused 99\n";
+
 /// The line that tells a refusal: `refused`, the published number, and the line or item where there is one.
 #[derive(Clone, Copy)]
 pub struct RefusalLine(pub ApplyFault);
@@ -89,10 +95,10 @@ impl fmt::Display for RefusalLine {
             ApplyFault::WriteFailed => writeln!(f, "refused 32"),
             ApplyFault::Zone(fault) => writeln!(f, "refused {}", fault.number()),
             ApplyFault::NotZone => writeln!(f, "refused NOTZONE item 0"),
-            ApplyFault::ReadFailed => writeln!(f, "refused 93"),
+            ApplyFault::ReadFailed => f.write_str(READ_FAILED_LINE),
             ApplyFault::NoDivider => writeln!(f, "refused 96"),
             ApplyFault::BadLine(line) => writeln!(f, "refused 97 line {line}"),
-            ApplyFault::NoMemory => writeln!(f, "refused 99"),
+            ApplyFault::NoMemory => f.write_str(NO_MEMORY_LINE),
         }
     }
 }

@@ -35,23 +35,10 @@ pub fn items(alloc: Global, line: &[u8]) -> Result<Vec<Item<'_>>, AllocError>
     ensures { IfOk result (λ items. map item_of items.items ≡ items_of line.now) }
 {
     let mut items = Vec::new(alloc);
-    let mut start = 0;
-    for (place, octet) in line.iter().enumerate() {
-        if is_white(*octet) {
-            if start < place {
-                items.push(Item {
-                    raw: &line[start..place],
-                    quoted: false,
-                })?;
-            }
-            start = place + 1;
+    for raw in line.split(|octet| is_white(*octet)) {
+        if !raw.is_empty() {
+            items.push(Item { raw, quoted: false })?;
         }
-    }
-    if start < line.len() {
-        items.push(Item {
-            raw: &line[start..],
-            quoted: false,
-        })?;
     }
     Ok(items)
 }
