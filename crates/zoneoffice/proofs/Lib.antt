@@ -1,8 +1,12 @@
 pub mod DeviceLemmas
+pub mod EntryLemmas
 pub mod FaultLemmas
 pub mod LineLemmas
 pub mod MapLemmas
 pub mod OutcomeLemmas
 pub mod RecordLineLemmas
 pub mod ReplyLemmas
+pub mod SerialLemmas
+pub mod SoundLemmas
+pub mod VersionLemmas
 pub mod ZoneLemmas

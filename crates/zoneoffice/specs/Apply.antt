@@ -5,7 +5,8 @@ use Rattle.zoneoffice.specs.declared.fault.ApplyFault.{ApplyFault}
 use Rattle.zoneoffice.specs.declared.fault.ApplyFault.TheVariants.{TooLarge, WriteFailed, Zone, NotZone, ReadFailed, NoDivider, BadLine, NoMemory}
 use Rattle.zoneoffice.specs.Device.{AppendsFront, IsAll}
 use Rattle.zoneoffice.specs.Faults.{refusal_line}
-use Rattle.zoneoffice.specs.Outcome.{ZoneOf, outcome, zone_text}
+use Rattle.zoneoffice.specs.Outcome.{ZoneOf, zone_given, outcome, zone_text}
+use Rattle.zoneoffice.specs.Versions.{IsZone, IsVersionAfter}
 
 -- ---- reading
 
@@ -48,6 +49,10 @@ reply_text (Err fault) = refusal_line fault
 abbrev pub Answers : Option (List ℕ) → Result ZoneOf ApplyFault → Type 0
 Answers left result = (input : List ℕ) × IsAll left input × (outcome input ≡ result)
 
+-- the zones before and after the update
+abbrev pub Updates : Option (List ℕ) → ZoneOf → ZoneOf → Type 0
+Updates left before zone = (input : List ℕ) × IsAll left input × (zone_given input ≡ Ok before) × (outcome input ≡ Ok zone)
+
 -- a text that is written where this was left to read
 abbrev pub IsReply : Option (List ℕ) → List ℕ → Type 0
 IsReply left text = ((result : Result ZoneOf ApplyFault) × Answers left result × (text ≡ reply_text result)) ⊎ ((text ≡ refusal_line ReadFailed) ⊎ (text ≡ refusal_line NoMemory))
@@ -56,7 +61,7 @@ IsReply left text = ((result : Result ZoneOf ApplyFault) × Answers left result 
 -- writer's failures before and after. A failed write leaves a front of what was to be written; else it is all written.
 abbrev pub Applied : Option (List ℕ) → Option (List ℕ) → Option (List ℕ) → Result (Unit {0}) ApplyFault → ℕ → ℕ → ℕ → ℕ → Type 0
 Applied left old new (Ok x) reads reads_after writes writes_after =
-    ((zone : ZoneOf) × Answers left (Ok zone) × Appends old new (zone_text zone)) × (reads_after ≡ reads) × (writes_after ≡ writes)
+    ((before : ZoneOf) × (zone : ZoneOf) × Updates left before zone × IsZone zone × IsVersionAfter before zone × Appends old new (zone_text zone)) × (reads_after ≡ reads) × (writes_after ≡ writes)
 Applied left old new (Err WriteFailed) reads reads_after writes writes_after = ((text : List ℕ) × IsReply left text × AppendsFront old new text) × (reads ≤ reads_after) × (writes < writes_after)
 Applied left old new (Err ReadFailed) reads reads_after writes writes_after = Appends old new (refusal_line ReadFailed) × (reads < reads_after) × (writes_after ≡ writes)
 Applied left old new (Err NoMemory) reads reads_after writes writes_after = Appends old new (refusal_line NoMemory) × (reads_after ≡ reads) × (writes_after ≡ writes)

@@ -5,6 +5,7 @@ pub mod Serials
 pub mod Keys
 pub mod Zones
 pub mod Outcome
+pub mod Versions
 pub mod Views
 pub mod Device
 pub mod Apply

@@ -38,6 +38,12 @@ zone_before file = do
   origin ← or_fault (origin_of records) (Zone NoSoa)
   built origin records
 
+-- the zone that an input gives, before its update
+unfoldable pub zone_given : List ℕ → Result ZoneOf ApplyFault
+zone_given input = do
+  parts ← or_fault (divided (lines_of input)) NoDivider
+  zone_before parts.0
+
 -- the zone after the update
 unfoldable pub zone_after : List ℕ → Result ZoneOf ApplyFault
 zone_after input = do
