@@ -1,8 +1,8 @@
 -- The canonical order, one label from the right after another.
-use Rattle.std.proofs.Common.{◌≡◌, ℕ, List, [], ◌∷◌, ◌++◌, true, false}
+use Rattle.std.proofs.Common.{◌≡◌, ℕ, List, [], ◌∷◌, ◌++◌, refl, sym, ap, ◌∙◌}
 use Rattle.std.specs.declared.cmp.Ordering.{Ordering}
 use Rattle.std.specs.declared.cmp.Ordering.TheVariants.{Less, Equal, Greater}
-use Rattle.std.specs.Ordering.{nat_cmp, ordering_then, is_ne}
+use Rattle.std.specs.Ordering.{nat_cmp, ordering_then}
 use Rattle.std.specs.Cmp.Lexicographic.{slice_cmp}
 use Rattle.std.proofs.lemmas.List.{reverse-append}
 use Rattle.dns_names.specs.Order.{canonical_cmp}
@@ -25,12 +25,10 @@ module _ (s o : List (List ℕ)) where
   one_more ours theirs xs ys x y a b h =
       rw (reverse-append xs (x ∷ []), reverse-append ys (y ∷ [])) at (rw (a, b) at h)
 
-  pub goes_on : (xs ys : List (List ℕ)) (r : Ordering) → is_ne r ≡ false → ordering_then r (canonical_cmp xs ys) ≡ canonical_cmp s o → canonical_cmp xs ys ≡ canonical_cmp s o
-  goes_on xs ys Less e h = absurd cc
-  goes_on xs ys Equal e h = h
-  goes_on xs ys Greater e h = absurd cc
+  pub goes_on : (xs ys : List (List ℕ)) (r : Ordering) → r ≡ Equal → ordering_then r (canonical_cmp xs ys) ≡ canonical_cmp s o → canonical_cmp xs ys ≡ canonical_cmp s o
+  goes_on xs ys r e h = sym (ap (λ r. ordering_then r (canonical_cmp xs ys)) e) ∙ h
 
-  pub decides : (xs ys : List (List ℕ)) (r : Ordering) → is_ne r ≡ true → ordering_then r (canonical_cmp xs ys) ≡ canonical_cmp s o → r ≡ canonical_cmp s o
+  pub decides : (xs ys : List (List ℕ)) (r : Ordering) → ¬ (r ≡ Equal) → ordering_then r (canonical_cmp xs ys) ≡ canonical_cmp s o → r ≡ canonical_cmp s o
   decides xs ys Less e h = h
-  decides xs ys Equal e h = absurd cc
+  decides xs ys Equal e h = absurd (e refl)
   decides xs ys Greater e h = h

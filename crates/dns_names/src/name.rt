@@ -266,12 +266,10 @@ impl Ord for Name {
                 (None, None) => return Ordering::Equal,
                 (None, Some(_)) => return Ordering::Less,
                 (Some(_), None) => return Ordering::Greater,
-                (Some(our), Some(their)) => {
-                    let order = our.cmp(their);
-                    if order.is_ne() {
-                        return order;
-                    }
-                }
+                (Some(our), Some(their)) => match our.cmp(their) {
+                    Ordering::Equal => {}
+                    order => return order,
+                },
             }
         }
     }
