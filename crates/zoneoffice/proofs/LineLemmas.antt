@@ -1,12 +1,10 @@
 -- Parts of a text between the octets that pass a test, one part after another.
 use Rattle.std.proofs.Common.{◌≡◌, ℕ, zero, suc, ◌+◌, ◌-◌, ◌<◌, ◌≤◌, Bool, true, false, cond, List, [], ◌∷◌, ◌++◌, length, get_or, take, drop, map, Option, Some, None, refl, sym, ap, ◌∙◌, append_assoc, arith, add-one, ◌⊎◌, inl, inr}
 use Rattle.std.specs.Prelude.{nat_lt, ◌==◌}
-use Rattle.dns_data.specs.Items.{plain}
 use Rattle.std.specs.Option.{option_map}
 use Rattle.std.specs.List.{position_or_len, slice_split}
 use Rattle.std.proofs.lemmas.Bool.{cases_lt, lt-ltb, le-ltb}
-use Rattle.std.proofs.lemmas.List.{drop-drop, drop_all, length-drop, length-take, get_or-drop}
-use Rattle.zoneoffice.specs.Lines.{lines_of, is_white, items_of, is_divider, divided}
+use Rattle.zoneoffice.specs.Lines.{lines_of, is_divider, divided}
 
 no_is_false : (b : Bool) → ¬ (b ≡ true) → b ≡ false
 no_is_false true denied = absurd (denied refl)

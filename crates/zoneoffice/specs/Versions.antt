@@ -1,5 +1,5 @@
 -- What a zone has, and what its serial tells of an update.
-use Rattle.std.specs.Prelude.{◌≡◌, ℕ, List, [], ◌∷◌, filter, ◌&&◌, true, None, ◌⊎◌}
+use Rattle.std.specs.Prelude.{◌≡◌, ℕ, [], ◌∷◌, filter, ◌&&◌, true, None, ◌⊎◌}
 use Rattle.std.specs.List.{list_any}
 use Rattle.std.specs.Option.{option_map_or}
 use Rattle.dns_data.specs.declared.record.Record.{Record}
