@@ -63,9 +63,18 @@ impl<T, L: Ledger> Counted<T, L> {
         requires name { blank.name ≡ L.name }
         requires parts { blank.parts ≡ L.parts }
         requires some { 0 < blank.parts }
+        ensures device { result.inner ≡ inner }
+        ensures none { result.book.total ≡ 0 }
     {
         let (book, share) = blank.open::<L>();
         Counted { inner, book, share }
+    }
+
+    /// The reader or the writer.
+    pub fn into_inner(self) -> T
+        ensures { result ≡ self.inner }
+    {
+        self.inner
     }
 }
 

@@ -1,7 +1,8 @@
 //! The program.
 #![tactic(auto)]
 
-ghost use Rattle.std.specs.Prelude.{◌≡◌, ◌<◌};
+ghost use Rattle.std.specs.Prelude.{◌≡◌, ◌<◌, ℕ};
+ghost use Rattle.zoneoffice.specs.Apply.{Applied};
 
 mod apply;
 mod device;
@@ -15,43 +16,47 @@ mod zone;
 
 use crate::apply::apply;
 use crate::device::Counted;
+use crate::fault::ApplyFault;
 use std::alloc::Global;
 use std::io::{Read, Write};
 use std::marker::Brand;
 use std::process::ExitCode;
 use std::sync::ledger::{Blank, Ledger};
 
-/// Runs `apply` on a reader and a writer of std.
+/// Runs `apply` on a reader and a writer of std, and hands the writer back.
 fn run<R: Read + Drop, W: Write + Drop, A: Ledger, B: Ledger>(
     alloc: Global,
     reader: R,
     writer: W,
     reads: Blank,
     writes: Blank,
-) -> ExitCode
+) -> (W, Result<(), ApplyFault>)
     requires reads_name { reads.name ≡ A.name }
     requires reads_parts { reads.parts ≡ A.parts }
     requires reads_some { 0 < reads.parts }
     requires writes_name { writes.name ≡ B.name }
     requires writes_parts { writes.parts ≡ B.parts }
     requires writes_some { 0 < writes.parts }
+    ensures { (failed_reads : ℕ) × (failed_writes : ℕ) × Applied (R.remaining reader) (W.contents writer) (W.contents result.0) result.1 0 failed_reads 0 failed_writes }
 {
     let mut source: Counted<R, A> = Counted::new(reader, reads);
     let mut sink: Counted<W, B> = Counted::new(writer, writes);
-    match apply(alloc, &mut source, &mut sink) {
-        Ok(()) => ExitCode::SUCCESS,
-        Err(_) => ExitCode::FAILURE,
-    }
+    let done = apply(alloc, &mut source, &mut sink);
+    (sink.into_inner(), done)
 }
 
 fn main(rt: HostRuntime) -> ExitCode {
-    run::<_, _, Brand, Brand>(
+    let (_, done) = run::<_, _, Brand, Brand>(
         rt.alloc(),
         rt.stdin(),
         rt.stdout(),
         Blank::new(1),
         Blank::new(1),
-    )
+    );
+    match done {
+        Ok(()) => ExitCode::SUCCESS,
+        Err(_) => ExitCode::FAILURE,
+    }
 }
 
 #[cfg(test)]

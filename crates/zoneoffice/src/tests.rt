@@ -9,7 +9,6 @@ use crate::serial::{serial_add, serial_less};
 use std::alloc::{AllocError, Global};
 use std::io::{self, ErrorKind, Read, Write};
 use std::marker::Brand;
-use std::process::ExitCode;
 use std::sync::ledger::Blank;
 use std::test::Fail;
 
@@ -316,17 +315,22 @@ impl Write for Page {
 }
 
 /// What the program writes for an input.
-fn printed(alloc: Global, input: &[u8], reading: Manner, writing: Manner) -> (Vec<u8>, ExitCode) {
+fn printed(
+    alloc: Global,
+    input: &[u8],
+    reading: Manner,
+    writing: Manner,
+) -> (Vec<u8>, Result<(), ApplyFault>) {
     let reader = Pieces {
         rest: input,
         manner: reading,
     };
-    let mut page = Page {
+    let page = Page {
         text: Vec::new(alloc),
         manner: writing,
     };
-    let code = run::<_, _, Brand, Brand>(alloc, reader, &mut page, Blank::new(1), Blank::new(1));
-    (page.text, code)
+    let (page, done) = run::<_, _, Brand, Brand>(alloc, reader, page, Blank::new(1), Blank::new(1));
+    (page.text, done)
 }
 
 /// A call that no test reaches.
@@ -339,9 +343,9 @@ fn read_in_pieces(rt: HostRuntime) -> Result<(), Fail> {
     let want = zone(alloc, 8, 600)?;
     for step in [1, 2, 3, 7, 64, 65_536, 100_000] {
         let manner = Manner::new(step, NEVER);
-        let (got, code) = printed(alloc, input.as_bytes(), manner, manner);
+        let (got, done) = printed(alloc, input.as_bytes(), manner, manner);
         assert!(rt; got.as_slice() == want.as_bytes(), "pieces of {step}");
-        assert!(rt; code == ExitCode::SUCCESS, "pieces of {step}");
+        assert!(rt; done == Ok(()), "pieces of {step}");
     }
     Ok(())
 }
@@ -353,7 +357,7 @@ fn failed_reads(rt: HostRuntime) -> Result<(), Fail> {
     // the last of these reads is the one that finds the end
     let reads = input.len() / 16 + 2;
     for fails in 1..reads {
-        let (got, code) = printed(
+        let (got, done) = printed(
             alloc,
             input.as_bytes(),
             Manner::new(16, fails),
@@ -363,7 +367,7 @@ fn failed_reads(rt: HostRuntime) -> Result<(), Fail> {
             got.as_slice() == b"refused 93\n".as_slice(),
             "read {fails}"
         );
-        assert!(rt; code == ExitCode::FAILURE, "read {fails}");
+        assert!(rt; done == Err(ApplyFault::ReadFailed), "read {fails}");
     }
     Ok(())
 }
@@ -374,7 +378,7 @@ fn failed_writes(rt: HostRuntime) -> Result<(), Fail> {
     let input = input(alloc, "")?;
     let want = zone(alloc, 7, 3600)?;
     for fails in 1..=want.len() / 16 {
-        let (got, code) = printed(
+        let (got, done) = printed(
             alloc,
             input.as_bytes(),
             Manner::new(16, NEVER),
@@ -382,16 +386,19 @@ fn failed_writes(rt: HostRuntime) -> Result<(), Fail> {
         );
         let front = &want.as_bytes()[..(fails - 1) * 16];
         assert!(rt; got.as_slice() == front, "write {fails}");
-        assert!(rt; code == ExitCode::FAILURE, "write {fails}");
+        assert!(rt; done == Err(ApplyFault::WriteFailed), "write {fails}");
     }
-    let (got, code) = printed(
+    let (got, done) = printed(
         alloc,
         input.as_bytes(),
         Manner::new(16, NEVER),
         Manner::new(0, NEVER),
     );
     assert!(rt; got.is_empty(), "a write that takes nothing");
-    assert!(rt; code == ExitCode::FAILURE, "a write that takes nothing");
+    assert!(rt;
+        done == Err(ApplyFault::WriteFailed),
+        "a write that takes nothing"
+    );
     Ok(())
 }
 
