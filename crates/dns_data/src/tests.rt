@@ -23,7 +23,7 @@ const ADDRESSES: [Row; 43] = [
         Ok("255.255.255.255"),
         "the greatest",
     ),
-    (RecordType::A, "192.0.02.1", Err(11), "a leading zero"),
+    (RecordType::A, "192.0.2.01", Err(11), "a leading zero"),
     (RecordType::A, "256.0.0.1", Err(11), "above 255"),
     (RecordType::A, "1.2.3", Err(11), "three numbers"),
     (RecordType::A, "1.2.3.4.5", Err(11), "five numbers"),
@@ -132,7 +132,7 @@ const ADDRESSES: [Row; 43] = [
     ),
     (
         RecordType::Aaaa,
-        "::192.0.02.1",
+        "::192.0.2.01",
         Err(11),
         "a leading zero in the dotted tail",
     ),
