@@ -3,12 +3,8 @@ use Rattle.std.proofs.Common.{◌≡◌, ℕ, zero, suc, ◌+◌, ◌-◌, ◌<�
 use Rattle.std.specs.Prelude.{nat_lt, ◌==◌}
 use Rattle.std.specs.Option.{option_map}
 use Rattle.std.specs.List.{position_or_len, slice_split}
-use Rattle.std.proofs.lemmas.Bool.{cases_lt, lt-ltb, le-ltb}
+use Rattle.std.proofs.lemmas.Bool.{cases_lt, lt-ltb, le-ltb, false_from_ne_true}
 use Rattle.zoneoffice.specs.Lines.{lines_of, is_divider, divided}
-
-no_is_false : (b : Bool) → ¬ (b ≡ true) → b ≡ false
-no_is_false true denied = absurd (denied refl)
-no_is_false false denied = refl
 
 -- no octet before this place passes
 abbrev pub NoneUpTo : (ℕ → Bool) → List ℕ → ℕ → Type 0
@@ -39,13 +35,13 @@ taken {A} front x left rest total first so_far = append_assoc front (x ∷ []) r
 pub line_goes_on : (front : List (List ℕ)) (rest : List ℕ) (n : ℕ) (total : List (List ℕ)) → n < length rest → ((k : ℕ) → 0 ≤ k → k < n → ¬ ((get_or rest k 0 == 10) ≡ true)) → (get_or rest n 0 == 10) ≡ true
     → front ++ lines_of rest ≡ total → (front ++ take n rest ∷ []) ++ lines_of (drop (n + 1) rest) ≡ total
 line_goes_on front rest n total lt before here so_far =
-    let cut = parts_first (λ octet. octet == 10) rest n lt (λ k l. no_is_false _ (before k (omega arith) l)) here in
+    let cut = parts_first (λ octet. octet == 10) rest n lt (λ k l. false_from_ne_true _ (before k (omega arith) l)) here in
     taken front (take n rest) (lines_of rest) (lines_of (drop (n + 1) rest)) total cut so_far
 
 pub lines_end : (front : List (List ℕ)) (rest : List ℕ) (total : List (List ℕ)) → ((k : ℕ) → 0 ≤ k → k < length rest → ¬ ((get_or rest k 0 == 10) ≡ true))
     → front ++ lines_of rest ≡ total → front ++ rest ∷ [] ≡ total
 lines_end front rest total before so_far =
-    ap (λ (ls : List (List ℕ)). front ++ ls) (sym (parts_none (λ octet. octet == 10) rest (λ k l. no_is_false _ (before k (omega arith) l)))) ∙ so_far
+    ap (λ (ls : List (List ℕ)). front ++ ls) (sym (parts_none (λ octet. octet == 10) rest (λ k l. false_from_ne_true _ (before k (omega arith) l)))) ∙ so_far
 
 -- ---- the divider
 

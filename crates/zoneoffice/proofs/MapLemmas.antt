@@ -46,7 +46,7 @@ below_all_is : (x : Key) (es : List (Key × Record)) → AllByRecursion (λ y. k
 below_all_is x [] all = tt
 below_all_is x (e ∷ es) all = both_true (is_lt (key_cmp x e.0)) (below_all key_cmp x es) (ap is_lt all.0) (below_all_is x es all.1)
 
-is_true : (b : Bool) → T b → b ≡ true
+pub is_true : (b : Bool) → T b → b ≡ true
 is_true true t = refl
 is_true false t = absurd t
 

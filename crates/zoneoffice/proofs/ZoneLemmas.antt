@@ -8,6 +8,8 @@ use Rattle.std.specs.FinMap.{get, entries, entries_sorted, get-entries, entries-
 use Rattle.std.specs.FinMap as map
 use Rattle.std.specs.FinMap.Entries.{below_all, by_order}
 use Rattle.std.specs.Cmp.{IsTotalOrder, tied_itself}
+use Rattle.std.proofs.Math.Bool.{and-true}
+use Rattle.std.proofs.lemmas.Bool.{and_parts}
 use lib.Dec.{T, eqb_refl}
 use lib.Pointwise.{pointwise}
 use Rattle.dns_data.specs.declared.record.Record.{Record}
@@ -15,6 +17,7 @@ use Rattle.zoneoffice.specs.Keys.{key_cmp, key_eq, key_total}
 use Rattle.zoneoffice.specs.Zones.{Records, key_of, same_records, listing, soa_at, is_soa, is_at, serial_in, replaced_by, passing, in_place, effect, updated, advanced, without}
 use Rattle.zoneoffice.specs.Serials.{is_less}
 use Rattle.zoneoffice.specs.Zones as zones
+use Rattle.zoneoffice.proofs.MapLemmas.{is_true}
 
 -- ---- what a search finds passes
 
@@ -25,12 +28,8 @@ passes p (x ∷ xs) = elim (p x) as (λ b. p x ≡ b → option_map_or p (cond b
 pub find_passes : {X : Type 0} (p : X → Bool) (xs : List X) (x : X) → find p xs ≡ Some x → p x ≡ true
 find_passes p xs x e = sym (ap (λ o. option_map_or p o true) e) ∙ passes p xs
 
-both_first : (a b : Bool) → (a && b) ≡ true → a ≡ true
-both_first true b e = refl
-both_first false b e = e
-
 pub soa_at_is_soa : (name : List (List ℕ)) (set : Records) (r : Record) → soa_at name set ≡ Some r → is_soa r ≡ true
-soa_at_is_soa name set r e = both_first (is_soa r) (is_at name r) (find_passes (λ x. is_soa x && is_at name x) (listing set) r e)
+soa_at_is_soa name set r e = (and_parts (is_soa r) (is_at name r) (find_passes (λ x. is_soa x && is_at name x) (listing set) r e)).0
 
 -- ---- when a put changes nothing
 
@@ -75,17 +74,9 @@ module _ {K X : Type 0} (R : K → K → Ordering) (o : IsTotalOrder R) (E : X �
             ap (λ r. (is_eq r && E e.1 v) && pointwise by_key es (e ∷ es)) (o.antisymm e.0 k ∙ ap ordering_reverse p)
             ∙ sym (ap (λ f. option_map_or (λ x. E x v) f false) (none_below k e.0 es p (first_of (below_all R e.0 es) (is_sorted R es) h)))
         | Equal ↦ λ p.
-            ap (λ b. (b && E e.1 v) && pointwise by_key es es) (itself e.0) ∙ ap (λ b. E e.1 v && b) (own es) ∙ and_true (E e.1 v)
+            ap (λ b. (b && E e.1 v) && pointwise by_key es es) (itself e.0) ∙ ap (λ b. E e.1 v && b) (own es) ∙ and-true (E e.1 v)
         | Greater ↦ λ p. by_key_itself e (pointwise by_key es (put R k v es)) ∙ same_put k v es (second_of (below_all R e.0 es) (is_sorted R es) h)
       ] refl
-    where
-      and_true : (b : Bool) → (b && true) ≡ b
-      and_true true = refl
-      and_true false = refl
-
-is_true : (b : Bool) → T b → b ≡ true
-is_true true t = refl
-is_true false t = absurd t
 
 eqb_same : (n : ℕ) → nat_eq n n ≡ true
 eqb_same n = is_true (nat_eq n n) (eqb_refl n)
