@@ -1,5 +1,5 @@
 -- What is known of the outcome before a reply is written, where the reader did not fail, and what the reply then shows.
-use Rattle.std.proofs.Common.{◌≡◌, ℕ, ◌≤◌, List, length, String, Vec, Global, if◌then◌else◌, Option, Result, Ok, Err, inl, inr, refl, sym, ap, subst, ◌∙◌, arith}
+use Rattle.std.proofs.Common.{◌≡◌, ℕ, ◌≤◌, List, length, String, Vec, Global, if◌then◌else◌, Option, Result, Ok, Err, inl, inr, refl, sym, ap, subst, ◌∙◌}
 use Rattle.std.specs.String.{string_bytes}
 use Rattle.std.specs.Io.KnownBytes.{Appends}
 use Rattle.std.proofs.lemmas.Bool.{le-ltb, lt-ltb}
@@ -73,15 +73,15 @@ module _ (left : Option (List ℕ)) (before after : ℕ) where
   -- ---- to what was answered
 
   -- the line that tells a refusal is one of the replies
-  reply_of : (fault : ApplyFault) (text : List ℕ) → text ≡ refusal_line fault → Settled left (Err fault) before after → IsReply left text × (before ≤ after)
-  reply_of TooLarge text e s = (inl (Err TooLarge, s.0, e), omega (arith, s.1))
+  reply_of : (fault : ApplyFault) (text : List ℕ) → text ≡ refusal_line fault → Settled left (Err fault) before after → IsReply left before after text
+  reply_of TooLarge text e s = inl ((Err TooLarge, s.0, e), s.1)
   reply_of ReadFailed text e s = absurd s
-  reply_of NoMemory text e s = (inr (inr e), omega (arith, s))
+  reply_of NoMemory text e s = inr (inr (e, s))
   reply_of WriteFailed text e s = absurd s
-  reply_of (Zone fault) text e s = (inl (Err (Zone fault), s.0, e), omega (arith, s.1))
-  reply_of NotZone text e s = (inl (Err NotZone, s.0, e), omega (arith, s.1))
-  reply_of NoDivider text e s = (inl (Err NoDivider, s.0, e), omega (arith, s.1))
-  reply_of (BadLine line) text e s = (inl (Err (BadLine line), s.0, e), omega (arith, s.1))
+  reply_of (Zone fault) text e s = inl ((Err (Zone fault), s.0, e), s.1)
+  reply_of NotZone text e s = inl ((Err NotZone, s.0, e), s.1)
+  reply_of NoDivider text e s = inl ((Err NoDivider, s.0, e), s.1)
+  reply_of (BadLine line) text e s = inl ((Err (BadLine line), s.0, e), s.1)
 
   module _ (old new : Option (List ℕ)) (writes writes_after : ℕ) where
     applied_told : (fault : ApplyFault) → Settled left (Err fault) before after → Appends old new (refusal_line fault) → writes_after ≡ writes → Applied left old new (Err fault) before after writes writes_after
@@ -112,7 +112,7 @@ module _ (left : Option (List ℕ)) (before after : ℕ) where
         ((versions.0, zone, (answer.0, answer.1, versions.1, answer.2), versions.2, versions.3, subst (Appends old new) s.0.2 wrote.0), s.1, wrote.1)
     applied_by_text text (Err e) s wrote =
         subst (λ f. Applied left old new (Err f) before after writes writes_after) (sym wrote.0)
-        ((string_bytes text, inl (Ok s.0.0, s.0.1, s.0.2), wrote.1), omega (arith, s.1), wrote.2)
+        ((string_bytes text, inl ((Ok s.0.0, s.0.1, s.0.2), s.1), wrote.1), wrote.2)
 
     pub applied_by_refusal : (fault : ApplyFault) (result : Result (Unit {0}) ApplyFault) → Settled left (Err fault) before after → IsRefused old new fault result writes writes_after → Applied left old new result before after writes writes_after
     applied_by_refusal fault (Ok done) s refused = absurd refused
@@ -122,8 +122,8 @@ module _ (left : Option (List ℕ)) (before after : ℕ) where
         subst (λ f. Applied left old new (Err f) before after writes writes_after) (sym short.0) (short.1, no_failure fault s, short.2)
     applied_by_refusal fault (Err e) s (inr (inr failed)) =
         let text = failed.1.0 in
-        let reply : IsReply left text × (before ≤ after) = elim failed.1.1 [
+        let reply : IsReply left before after text = elim failed.1.1 [
           | inl own ↦ reply_of fault text own s
-          | inr short ↦ (inr (inr short), (reply_of fault (refusal_line fault) refl s).1)
+          | inr short ↦ inr (inr (short, no_failure fault s))
         ] in
-        subst (λ f. Applied left old new (Err f) before after writes writes_after) (sym failed.0) ((text, reply.0, failed.1.2), reply.1, failed.2)
+        subst (λ f. Applied left old new (Err f) before after writes writes_after) (sym failed.0) ((text, reply, failed.1.2), failed.2)

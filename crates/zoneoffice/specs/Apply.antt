@@ -53,16 +53,19 @@ Answers left result = (input : List ℕ) × IsAll left input × (outcome input �
 abbrev pub Updates : Option (List ℕ) → ZoneOf → ZoneOf → Type 0
 Updates left before zone = (input : List ℕ) × IsAll left input × (zone_given input ≡ Ok before) × (outcome input ≡ Ok zone)
 
--- a text that is written where this was left to read
-abbrev pub IsReply : Option (List ℕ) → List ℕ → Type 0
-IsReply left text = ((result : Result ZoneOf ApplyFault) × Answers left result × (text ≡ reply_text result)) ⊎ ((text ≡ refusal_line ReadFailed) ⊎ (text ≡ refusal_line NoMemory))
+-- a text that is written where this was left to read, and the reader's failures are these before and after
+abbrev pub IsReply : Option (List ℕ) → ℕ → ℕ → List ℕ → Type 0
+IsReply left reads reads_after text =
+    (((result : Result ZoneOf ApplyFault) × Answers left result × (text ≡ reply_text result)) × (reads_after ≡ reads))
+    ⊎ (((text ≡ refusal_line ReadFailed) × (reads < reads_after))
+    ⊎ ((text ≡ refusal_line NoMemory) × (reads_after ≡ reads)))
 
 -- What was left to read, what the writer held before and after, the answer, the reader's failures before and after, and the
 -- writer's failures before and after. A failed write leaves a front of what was to be written; else it is all written.
 abbrev pub Applied : Option (List ℕ) → Option (List ℕ) → Option (List ℕ) → Result (Unit {0}) ApplyFault → ℕ → ℕ → ℕ → ℕ → Type 0
 Applied left old new (Ok x) reads reads_after writes writes_after =
     ((before : ZoneOf) × (zone : ZoneOf) × Updates left before zone × IsZone zone × IsVersionAfter before zone × Appends old new (zone_text zone)) × (reads_after ≡ reads) × (writes_after ≡ writes)
-Applied left old new (Err WriteFailed) reads reads_after writes writes_after = ((text : List ℕ) × IsReply left text × AppendsFront old new text) × (reads ≤ reads_after) × (writes < writes_after)
+Applied left old new (Err WriteFailed) reads reads_after writes writes_after = ((text : List ℕ) × IsReply left reads reads_after text × AppendsFront old new text) × (writes < writes_after)
 Applied left old new (Err ReadFailed) reads reads_after writes writes_after = Appends old new (refusal_line ReadFailed) × (reads < reads_after) × (writes_after ≡ writes)
 Applied left old new (Err NoMemory) reads reads_after writes writes_after = Appends old new (refusal_line NoMemory) × (reads_after ≡ reads) × (writes_after ≡ writes)
 Applied left old new (Err TooLarge) reads reads_after writes writes_after = Answers left (Err TooLarge) × Appends old new (refusal_line TooLarge) × (reads_after ≡ reads) × (writes_after ≡ writes)
