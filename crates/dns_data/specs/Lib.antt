@@ -7,3 +7,4 @@ pub mod Rdata
 pub mod Text
 pub mod Grammar
 pub mod Reading
+pub mod Again

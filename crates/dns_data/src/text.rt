@@ -1,11 +1,10 @@
 //! The canonical text of record data.
 
-ghost use Rattle.std.specs.Prelude.{◌≡◌, ◌∷◌, ◌++◌, [], Some, None, Ok, IfOk, string_bytes, ◌==◌, ◌||◌, ◌&&◌, nat_le};
+ghost use Rattle.std.specs.Prelude.{◌≡◌, ◌∷◌, ◌++◌, [], Some, IfOk, string_bytes, ◌==◌, ◌||◌, ◌&&◌, nat_le};
 ghost use Rattle.dns_data.specs.Items.{items_text};
-ghost use Rattle.dns_data.specs.Rdata.{type_of};
-ghost use Rattle.dns_data.specs.Reading.{data_of};
+ghost use Rattle.dns_data.specs.Again.{ReadsBack, IsTextOfOnly};
 ghost use Rattle.dns_data.specs.Strings.{octet_text, string_text};
-ghost use Rattle.dns_data.specs.Text.{soa_items, mx_items, srv_items, strings_items, data_items, data_text};
+ghost use Rattle.dns_data.specs.Text.{soa_items, mx_items, srv_items, strings_items, data_text};
 
 use crate::notes::notes_again;
 use crate::rdata::{Data, MailExchange, Service};
@@ -130,7 +129,9 @@ impl fmt::Display for Data {
 pub fn data_text(alloc: Global, rdata: &Data) -> Result<String, AllocError>
     ensures canonical { IfOk result (λ text. string_bytes text ≡ data_text rdata.now) }
     // Its items, read again, are the data.
-    ensures again { IfOk result (λ text. data_of (type_of rdata.now) None (data_items rdata.now) ≡ Ok rdata.now) }
+    ensures again { IfOk result (λ text. ReadsBack rdata.now) }
+    // No other data of its type have this text.
+    ensures apart { IfOk result (λ text. IsTextOfOnly (string_bytes text) rdata.now) }
 {
     notes_again(rdata);
     rdata.to_string(alloc)

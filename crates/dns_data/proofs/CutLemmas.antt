@@ -1,0 +1,147 @@
+-- Texts of items, cut into their items again.
+use Rattle.std.proofs.Common.{◌≡◌, ℕ, zero, suc, ◌+◌, ◌<◌, ◌/◌, ◌%◌, ◌&&◌, ◌||◌, Bool, true, false, cond, eqb, leb, List, [], ◌∷◌, ◌++◌, length, map, drop, refl, sym, ap, ◌∙◌, append_assoc, arith}
+use Rattle.std.specs.List.{All, AllByRecursion, flat_map, slice_split}
+use Rattle.std.specs.Fmt.{decimal, digits, digits_onto, digit_glyph}
+use Rattle.std.proofs.lemmas.Bool.{cond_both, or_parts, ne_eqb}
+use Rattle.std.proofs.lemmas.Bool.Decides.{nat_tests}
+use Rattle.std.proofs.lemmas.List.Elements.{All-from_recursion, All-cons, All-append}
+use Rattle.std.proofs.lemmas.List.Splits.{slice_split_none, slice_split_at}
+use Rattle.dns_names.specs.Spelling.{three_digits, is_special, label_text, name_text}
+use Rattle.dns_names.specs.Spelling as names
+use Rattle.dns_data.specs.Items.{ItemText, plain, in_quotes, items_text}
+use Rattle.dns_data.specs.Strings.{octet_text, string_text}
+use Rattle.dns_data.specs.Text.{strings_items}
+use Rattle.dns_data.proofs.TextLemmas.{behind, strings_text}
+
+-- ---- texts with no space
+
+abbrev is_space : ℕ → Bool
+is_space o = eqb o 32
+
+-- an octet that is no space
+abbrev IsNoSpace : ℕ → Type 0
+IsNoSpace o = is_space o ≡ false
+
+abbrev pub HasNoSpace : List ℕ → Type 0
+HasNoSpace text = All IsNoSpace text
+
+by_octet : (text : List ℕ) → AllByRecursion IsNoSpace text → HasNoSpace text
+by_octet text h = All-from_recursion IsNoSpace text h
+
+-- printed names have no space
+digit_no_space : (d : ℕ) → IsNoSpace (48 + d)
+digit_no_space d = grind (arith, nat_tests)
+
+special_no_space : (o : ℕ) → is_special o ≡ true → IsNoSpace o
+special_no_space o h = grind (arith, nat_tests)
+
+graphic_no_space : (o : ℕ) → leb 33 o && leb o 126 ≡ true → IsNoSpace o
+graphic_no_space o h = grind (arith, nat_tests)
+
+octet_no_space : (o : ℕ) → HasNoSpace (names.octet_text o)
+octet_no_space o =
+    cond_both (is_special o) (92 ∷ o ∷ []) (cond (leb 33 o && leb o 126) (o ∷ []) (92 ∷ three_digits o)) HasNoSpace
+    (λ s. by_octet (92 ∷ o ∷ []) (refl, (special_no_space o s, tt)))
+    (λ s. cond_both (leb 33 o && leb o 126) (o ∷ []) (92 ∷ three_digits o) HasNoSpace
+    (λ g. by_octet (o ∷ []) (graphic_no_space o g, tt))
+    (λ g. by_octet (92 ∷ three_digits o) (refl, (digit_no_space (o / 100), (digit_no_space (o / 10 % 10), (digit_no_space (o % 10), tt))))))
+
+each_no_space : {A : Type 0} (f : A → List ℕ) (xs : List A) → ((x : A) → HasNoSpace (f x)) → HasNoSpace (flat_map f xs)
+each_no_space f [] h = by_octet [] tt
+each_no_space f (x ∷ xs) h = All-append IsNoSpace (f x) (flat_map f xs) (h x) (each_no_space f xs h)
+
+label_no_space : (label : List ℕ) → HasNoSpace (label_text label)
+label_no_space label = All-append IsNoSpace (flat_map names.octet_text label) (46 ∷ []) (each_no_space names.octet_text label octet_no_space) (by_octet (46 ∷ []) (refl, tt))
+
+pub name_no_space : (name : List (List ℕ)) → HasNoSpace (name_text name)
+name_no_space [] = by_octet (46 ∷ []) (refl, tt)
+name_no_space (label ∷ labels) = each_no_space label_text (label ∷ labels) label_no_space
+
+-- nor have printed numbers
+glyph_no_space : (d : ℕ) → IsNoSpace (digit_glyph false d)
+glyph_no_space d = grind (arith, nat_tests)
+
+digits_no_space : (k n : ℕ) (text : List ℕ) → HasNoSpace text → HasNoSpace (digits_onto k 10 false n text)
+digits_no_space zero n text h = h
+digits_no_space (suc k) n text h =
+    let more = All-cons IsNoSpace (digit_glyph false (n % 10)) text (glyph_no_space (n % 10)) h in
+    cond_both (eqb (n / 10) 0) _ _ HasNoSpace (λ e. more) (λ e. digits_no_space k (n / 10) (digit_glyph false (n % 10) ∷ text) more)
+
+pub decimal_no_space : (n : ℕ) → HasNoSpace (decimal n)
+unfolding digits
+decimal_no_space n = digits_no_space 64 n [] (by_octet [] tt)
+
+-- ---- plain items
+
+abbrev pub HaveNoSpace : List (List ℕ) → Type 0
+HaveNoSpace texts = AllByRecursion HasNoSpace texts
+
+-- the text of plain items is cut at its spaces
+plain_cut : (text : List ℕ) (texts : List (List ℕ)) → HaveNoSpace (text ∷ texts) → slice_split is_space (items_text (map plain (text ∷ texts))) ≡ text ∷ texts
+plain_cut text [] h = slice_split_none is_space text h.0
+plain_cut text (next ∷ texts) h = slice_split_at is_space text 32 (items_text (map plain (next ∷ texts))) h.0 refl ∙ ap (λ (l : List (List ℕ)). text ∷ l) (plain_cut next texts h.1)
+
+-- as many plain items with one text are the same
+pub plain_apart : (texts others : List (List ℕ)) → HaveNoSpace texts → HaveNoSpace others → length texts ≡ length others → items_text (map plain texts) ≡ items_text (map plain others) → map plain texts ≡ map plain others
+plain_apart [] [] h k count e = refl
+plain_apart [] (other ∷ others) h k count e = absurd (omega arith)
+plain_apart (text ∷ texts) [] h k count e = absurd (omega arith)
+plain_apart (text ∷ texts) (other ∷ others) h k count e = ap (map plain) (sym (plain_cut text texts h) ∙ ap (slice_split is_space) e ∙ plain_cut other others k)
+
+-- ---- items in quotes
+
+-- a text before the first of two
+abbrev before : List ℕ → List ℕ × List ℕ → List ℕ × List ℕ
+before front parts = (front ++ parts.0, parts.1)
+
+-- What stands before the first quote that is not escaped, and what stands behind it. A backslash may stand before the text.
+abbrev cut_at_quote : (escaped : Bool) → List ℕ → List ℕ × List ℕ
+cut_at_quote escaped [] = ([], [])
+cut_at_quote true (o ∷ rest) = before (o ∷ []) (cut_at_quote false rest)
+cut_at_quote false (o ∷ rest) = cond (eqb o 34) ([], rest) (before (o ∷ []) (cut_at_quote (eqb o 92) rest))
+
+-- the first such quote behind a printed string is the one that closes it
+digit_no_quote : (d : ℕ) → eqb (48 + d) 34 ≡ false
+digit_no_quote d = ne_eqb (48 + d) 34 (λ e. omega arith)
+
+digit_no_backslash : (d : ℕ) → d < 10 → eqb (48 + d) 92 ≡ false
+digit_no_backslash d h = ne_eqb (48 + d) 92 (λ e. omega arith)
+
+octet_cut : (o : ℕ) (rest : List ℕ) → cut_at_quote false (octet_text o ++ rest) ≡ before (octet_text o) (cut_at_quote false rest)
+octet_cut o rest =
+    cond_both (eqb o 34 || eqb o 92) (92 ∷ o ∷ []) (cond (leb 32 o && leb o 126) (o ∷ []) (92 ∷ three_digits o)) Cut
+    (λ s. refl)
+    (λ s. cond_both (leb 32 o && leb o 126) (o ∷ []) (92 ∷ three_digits o) Cut
+    (λ p. let other = or_parts (eqb o 34) (eqb o 92) s in rw (other.0, other.1) refl)
+    (λ p. rw (digit_no_quote (o / 10 % 10), digit_no_backslash (o / 10 % 10) (omega arith), digit_no_quote (o % 10), digit_no_backslash (o % 10) (omega arith)) refl))
+  where
+    Cut : List ℕ → Type 0
+    Cut text = cut_at_quote false (text ++ rest) ≡ before text (cut_at_quote false rest)
+
+string_cut : (string rest : List ℕ) → cut_at_quote false (string_text string ++ 34 ∷ rest) ≡ (string_text string, rest)
+string_cut [] rest = refl
+string_cut (o ∷ string) rest =
+    ap (cut_at_quote false) (append_assoc (octet_text o) (string_text string) (34 ∷ rest)) ∙ octet_cut o (string_text string ++ 34 ∷ rest) ∙ ap (before (octet_text o)) (string_cut string rest)
+
+first_apart : (string other rest others : List ℕ) → string_text string ++ 34 ∷ rest ≡ string_text other ++ 34 ∷ others → (string_text string ≡ string_text other) × (rest ≡ others)
+first_apart string other rest others e =
+    let parts = sym (string_cut string rest) ∙ ap (cut_at_quote false) e ∙ string_cut other others in
+    (ap (λ (p : List ℕ × List ℕ). p.0) parts, ap (λ (p : List ℕ × List ℕ). p.1) parts)
+
+-- strings with one text are printed the same, one by one
+behind_parts : (string : List ℕ) (others : List (List ℕ)) → flat_map behind (string ∷ others) ≡ 32 ∷ 34 ∷ string_text string ++ 34 ∷ flat_map behind others
+behind_parts string others = ap (λ (l : List ℕ). 32 ∷ 34 ∷ l) (append_assoc (string_text string) (34 ∷ []) (flat_map behind others))
+
+behind_apart : (strings others : List (List ℕ)) → flat_map behind strings ≡ flat_map behind others → strings_items strings ≡ strings_items others
+behind_apart [] [] e = refl
+behind_apart [] (other ∷ others) e = absurd cc
+behind_apart (string ∷ strings) [] e = absurd cc
+behind_apart (string ∷ strings) (other ∷ others) e =
+    let first = first_apart string other (flat_map behind strings) (flat_map behind others) (ap (drop 2) (sym (behind_parts string strings) ∙ e ∙ behind_parts other others)) in
+    ap (λ (text : List ℕ). in_quotes text ∷ strings_items strings) first.0 ∙ ap (λ (items : List ItemText). in_quotes (string_text other) ∷ items) (behind_apart strings others first.1)
+
+pub strings_apart : (strings others : List (List ℕ)) → items_text (strings_items strings) ≡ items_text (strings_items others) → strings_items strings ≡ strings_items others
+strings_apart [] [] e = refl
+strings_apart [] (other ∷ others) e = absurd (let no = e ∙ sym (strings_text other others) in cc)
+strings_apart (string ∷ strings) [] e = absurd (let no = strings_text string strings ∙ e in cc)
+strings_apart (string ∷ strings) (other ∷ others) e = behind_apart (string ∷ strings) (other ∷ others) (ap (λ (l : List ℕ). 32 ∷ l) (strings_text string strings ∙ e ∙ sym (strings_text other others)))
