@@ -15,16 +15,7 @@ use Rattle.dns_data.specs.Reading.{each_string, strings_of}
 -- a refusal of one definition is a refusal of another
 pub refuses_on : {A B : Type 0} (e : DataFault) (r : Result A DataFault) (total : Result B DataFault) → Refuses e r → ((f : DataFault) → r ≡ Err f → total ≡ Err f) → Refuses e total
 refuses_on faults.NoMemory r total h on = tt
-refuses_on faults.BadAddress r total h on = on faults.BadAddress h
-refuses_on faults.BadNumber r total h on = on faults.BadNumber h
-refuses_on faults.NumberRange r total h on = on faults.NumberRange h
-refuses_on faults.StringTooLong r total h on = on faults.StringTooLong h
-refuses_on faults.FieldMissing r total h on = on faults.FieldMissing h
-refuses_on faults.FieldExtra r total h on = on faults.FieldExtra h
-refuses_on faults.TypeNotKept r total h on = on faults.TypeNotKept h
-refuses_on faults.DataTooLong r total h on = on faults.DataTooLong h
-refuses_on (faults.Name f) r total h on = on (faults.Name f) h
-refuses_on faults.QuotedItem r total h on = on faults.QuotedItem h
+refuses_on fault r total h on = on fault h
 
 -- ---- each item
 

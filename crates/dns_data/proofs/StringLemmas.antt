@@ -48,12 +48,7 @@ stops front (octet ∷ rest) f total more e so_far = sym so_far ∙ ap (λ (r : 
 -- a bad symbol refuses the text
 pub refuses_on : (front text : List ℕ) (f : NameFault) (total : Result (List ℕ) DataFault) → 0 < length text → RefusesName f (symbol_at text) → continued front text ≡ total → Refuses (of_name f) total
 refuses_on front text names.NoMemory total more h so_far = tt
-refuses_on front text names.EmptyLabel total more h so_far = stops front text names.EmptyLabel total more h so_far
-refuses_on front text names.LabelTooLong total more h so_far = stops front text names.LabelTooLong total more h so_far
-refuses_on front text names.NameTooLong total more h so_far = stops front text names.NameTooLong total more h so_far
-refuses_on front text names.BadEscape total more h so_far = stops front text names.BadEscape total more h so_far
-refuses_on front text names.NotAbsolute total more h so_far = stops front text names.NotAbsolute total more h so_far
-refuses_on front text names.Empty total more h so_far = stops front text names.Empty total more h so_far
+refuses_on front text fault total more h so_far = stops front text fault total more h so_far
 
 symbols_none : symbols [] ≡ Ok []
 unfolding symbols_within

@@ -21,26 +21,12 @@ fault_number NoMemory = 99
 -- the refusal of data where a name in it is refused
 abbrev pub of_name : NameFault → DataFault
 of_name names.NoMemory = NoMemory
-of_name names.EmptyLabel = Name names.EmptyLabel
-of_name names.LabelTooLong = Name names.LabelTooLong
-of_name names.NameTooLong = Name names.NameTooLong
-of_name names.BadEscape = Name names.BadEscape
-of_name names.NotAbsolute = Name names.NotAbsolute
-of_name names.Empty = Name names.Empty
+of_name fault = Name fault
 
 -- what a call refused with is the refusal of the definition; want of memory says nothing of the definition
 abbrev pub Refuses : {Y : Type 0} → DataFault → Result Y DataFault → Type 0
 Refuses NoMemory read = Unit {0}
-Refuses BadAddress read = read ≡ Err BadAddress
-Refuses BadNumber read = read ≡ Err BadNumber
-Refuses NumberRange read = read ≡ Err NumberRange
-Refuses StringTooLong read = read ≡ Err StringTooLong
-Refuses FieldMissing read = read ≡ Err FieldMissing
-Refuses FieldExtra read = read ≡ Err FieldExtra
-Refuses TypeNotKept read = read ≡ Err TypeNotKept
-Refuses DataTooLong read = read ≡ Err DataTooLong
-Refuses (Name fault) read = read ≡ Err (Name fault)
-Refuses QuotedItem read = read ≡ Err QuotedItem
+Refuses fault read = read ≡ Err fault
 
 -- what a call answered, seen by view, is what the definition reads, unless memory ran out
 abbrev pub Reads : {X Y : Type 0} → (X → Y) → Result X DataFault → Result Y DataFault → Type 0

@@ -112,12 +112,7 @@ begins text = whole_text (symbols text)
 -- a refusal of one definition is a refusal of another
 pub refuses_on : {A B : Type 0} (e : NameFault) (r : Result A NameFault) (total : Result B NameFault) → Refuses e r → ((f : NameFault) → r ≡ Err f → total ≡ Err f) → Refuses e total
 refuses_on faults.NoMemory r total h on = tt
-refuses_on faults.EmptyLabel r total h on = on faults.EmptyLabel h
-refuses_on faults.LabelTooLong r total h on = on faults.LabelTooLong h
-refuses_on faults.NameTooLong r total h on = on faults.NameTooLong h
-refuses_on faults.BadEscape r total h on = on faults.BadEscape h
-refuses_on faults.NotAbsolute r total h on = on faults.NotAbsolute h
-refuses_on faults.Empty r total h on = on faults.Empty h
+refuses_on fault r total h on = on fault h
 
 -- ---- folding
 

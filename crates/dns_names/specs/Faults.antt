@@ -15,12 +15,7 @@ fault_number NoMemory = 99
 -- what a call refused with is the refusal of the definition; want of memory says nothing of the definition
 abbrev pub Refuses : {Y : Type 0} → NameFault → Result Y NameFault → Type 0
 Refuses NoMemory read = Unit {0}
-Refuses EmptyLabel read = read ≡ Err EmptyLabel
-Refuses LabelTooLong read = read ≡ Err LabelTooLong
-Refuses NameTooLong read = read ≡ Err NameTooLong
-Refuses BadEscape read = read ≡ Err BadEscape
-Refuses NotAbsolute read = read ≡ Err NotAbsolute
-Refuses Empty read = read ≡ Err Empty
+Refuses fault read = read ≡ Err fault
 
 -- what a call answered, seen by view, is what the definition reads, unless memory ran out
 abbrev pub Reads : {X Y : Type 0} → (X → Y) → Result X NameFault → Result Y NameFault → Type 0

@@ -3,7 +3,7 @@ use Rattle.std.proofs.Common.{◌≡◌, Option, Some, None, Result, Ok, Err, ap
 use Rattle.dns_data.specs.declared.record.Record.{Record}
 use Rattle.zoneoffice.specs.declared.fault.ZoneFault.TheVariants.{NoSoa}
 use Rattle.zoneoffice.specs.declared.fault.ApplyFault.{ApplyFault}
-use Rattle.zoneoffice.specs.declared.fault.ApplyFault.TheVariants.{TooLarge, WriteFailed, Zone, NotZone, ReadFailed, NoDivider, BadLine, NoMemory}
+use Rattle.zoneoffice.specs.declared.fault.ApplyFault.TheVariants.{Zone, NoDivider, NoMemory}
 use Rattle.zoneoffice.specs.Faults.{◌>>=◌, or_fault, Refuses}
 use Rattle.zoneoffice.specs.Lines.{lines_of, divided}
 use Rattle.zoneoffice.specs.RecordLines.{records_of, addition_of}
@@ -12,13 +12,7 @@ use Rattle.zoneoffice.specs.Outcome.{ZoneOf, built, after, zone_before, zone_aft
 
 pub refuses_on : {Y Z : Type 0} (e : ApplyFault) (read : Result Y ApplyFault) (next : Y → Result Z ApplyFault) → Refuses e read → Refuses e (read >>= next)
 refuses_on NoMemory read next h = tt
-refuses_on TooLarge read next h = ap (λ r. r >>= next) h
-refuses_on WriteFailed read next h = ap (λ r. r >>= next) h
-refuses_on (Zone fault) read next h = ap (λ r. r >>= next) h
-refuses_on NotZone read next h = ap (λ r. r >>= next) h
-refuses_on ReadFailed read next h = ap (λ r. r >>= next) h
-refuses_on NoDivider read next h = ap (λ r. r >>= next) h
-refuses_on (BadLine line) read next h = ap (λ r. r >>= next) h
+refuses_on fault read next h = ap (λ r. r >>= next) h
 
 pub goes_on : {Y Z : Type 0} (y : Y) (read : Result Y ApplyFault) (next : Y → Result Z ApplyFault) → read ≡ Ok y → (read >>= next) ≡ next y
 goes_on y read next h = ap (λ r. r >>= next) h

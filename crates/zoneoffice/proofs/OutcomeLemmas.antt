@@ -5,7 +5,7 @@ use Rattle.dns_data.specs.declared.record.Record.{Record}
 use Rattle.zoneoffice.specs.declared.fault.ZoneFault.{ZoneFault}
 use Rattle.zoneoffice.specs.declared.fault.ZoneFault.TheVariants.{NoSoa}
 use Rattle.zoneoffice.specs.declared.fault.ApplyFault.{ApplyFault}
-use Rattle.zoneoffice.specs.declared.fault.ApplyFault.TheVariants.{TooLarge, WriteFailed, Zone, NotZone, ReadFailed, NoDivider, BadLine, NoMemory}
+use Rattle.zoneoffice.specs.declared.fault.ApplyFault.TheVariants.{WriteFailed, Zone, ReadFailed, NoDivider, BadLine}
 use Rattle.zoneoffice.specs.Faults.{◌>>=◌, or_fault}
 use Rattle.zoneoffice.specs.Lines.{lines_of, items_of, divided}
 use Rattle.zoneoffice.specs.RecordLines.{record_of, records_of, added_by, no_more, addition_of}
@@ -14,14 +14,9 @@ use Rattle.zoneoffice.specs.Outcome.{ZoneOf, unless_fault, after, zone_before, z
 
 -- no device failed
 abbrev pub NoDevice : ApplyFault → Type 0
-NoDevice TooLarge = Unit {0}
 NoDevice WriteFailed = ⊥
-NoDevice (Zone fault) = Unit {0}
-NoDevice NotZone = Unit {0}
 NoDevice ReadFailed = ⊥
-NoDevice NoDivider = Unit {0}
-NoDevice (BadLine line) = Unit {0}
-NoDevice NoMemory = Unit {0}
+NoDevice fault = Unit {0}
 
 abbrev pub Apart : {X : Type 0} → Result X ApplyFault → Type 0
 Apart (Ok x) = Unit {0}

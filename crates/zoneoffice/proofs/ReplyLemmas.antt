@@ -4,7 +4,7 @@ use Rattle.std.specs.String.{string_bytes}
 use Rattle.std.specs.Io.KnownBytes.{Appends}
 use Rattle.std.proofs.lemmas.Bool.{le-ltb, lt-ltb}
 use Rattle.zoneoffice.specs.declared.fault.ApplyFault.{ApplyFault}
-use Rattle.zoneoffice.specs.declared.fault.ApplyFault.TheVariants.{TooLarge, WriteFailed, Zone, NotZone, ReadFailed, NoDivider, BadLine, NoMemory}
+use Rattle.zoneoffice.specs.declared.fault.ApplyFault.TheVariants.{TooLarge, WriteFailed, ReadFailed, NoMemory}
 use Rattle.zoneoffice.specs.Device.{IsAll}
 use Rattle.zoneoffice.specs.Faults.{◌>>=◌, Gives, refusal_line}
 use Rattle.zoneoffice.specs.Outcome.{ZoneOf, zone_after, outcome, zone_text, text_after}
@@ -18,11 +18,7 @@ Settled left (Ok text) before after = ((zone : ZoneOf) × Answers left (Ok zone)
 Settled left (Err WriteFailed) before after = ⊥
 Settled left (Err ReadFailed) before after = ⊥
 Settled left (Err NoMemory) before after = after ≡ before
-Settled left (Err TooLarge) before after = Answers left (Err TooLarge) × (after ≡ before)
-Settled left (Err (Zone fault)) before after = Answers left (Err (Zone fault)) × (after ≡ before)
-Settled left (Err NotZone) before after = Answers left (Err NotZone) × (after ≡ before)
-Settled left (Err NoDivider) before after = Answers left (Err NoDivider) × (after ≡ before)
-Settled left (Err (BadLine line)) before after = Answers left (Err (BadLine line)) × (after ≡ before)
+Settled left (Err fault) before after = Answers left (Err fault) × (after ≡ before)
 
 -- ---- from what was read
 
@@ -52,11 +48,7 @@ module _ (left : Option (List ℕ)) (before after : ℕ) where
   settled_by_text input (Err WriteFailed) all small fine e = no_device input WriteFailed e
   settled_by_text input (Err ReadFailed) all small fine e = no_device input ReadFailed e
   settled_by_text input (Err NoMemory) all small fine e = fine
-  settled_by_text input (Err TooLarge) all small fine e = (refused_by input TooLarge all small e, fine)
-  settled_by_text input (Err (Zone fault)) all small fine e = (refused_by input (Zone fault) all small e, fine)
-  settled_by_text input (Err NotZone) all small fine e = (refused_by input NotZone all small e, fine)
-  settled_by_text input (Err NoDivider) all small fine e = (refused_by input NoDivider all small e, fine)
-  settled_by_text input (Err (BadLine line)) all small fine e = (refused_by input (BadLine line) all small e, fine)
+  settled_by_text input (Err fault) all small fine e = (refused_by input fault all small e, fine)
 
   pub settled_unread : (fault : ApplyFault) → ¬ (fault ≡ ReadFailed) → InputRead (λ (input : Vec ℕ Global). input.items) left (Err fault) before after → Settled left (Err fault) before after
   settled_unread TooLarge fine read =
@@ -65,44 +57,29 @@ module _ (left : Option (List ℕ)) (before after : ℕ) where
   settled_unread ReadFailed fine read = absurd (fine refl)
   settled_unread NoMemory fine read = read
   settled_unread WriteFailed fine read = read
-  settled_unread (Zone fault) fine read = absurd read
-  settled_unread NotZone fine read = absurd read
-  settled_unread NoDivider fine read = absurd read
-  settled_unread (BadLine line) fine read = absurd read
+  settled_unread fault fine read = absurd read
 
   -- ---- to what was answered
 
   -- the line that tells a refusal is one of the replies
   reply_of : (fault : ApplyFault) (text : List ℕ) → text ≡ refusal_line fault → Settled left (Err fault) before after → IsReply left before after text
-  reply_of TooLarge text e s = inl ((Err TooLarge, s.0, e), s.1)
   reply_of ReadFailed text e s = absurd s
   reply_of NoMemory text e s = inr (inr (e, s))
   reply_of WriteFailed text e s = absurd s
-  reply_of (Zone fault) text e s = inl ((Err (Zone fault), s.0, e), s.1)
-  reply_of NotZone text e s = inl ((Err NotZone, s.0, e), s.1)
-  reply_of NoDivider text e s = inl ((Err NoDivider, s.0, e), s.1)
-  reply_of (BadLine line) text e s = inl ((Err (BadLine line), s.0, e), s.1)
+  reply_of fault text e s = inl ((Err fault, s.0, e), s.1)
 
   module _ (old new : Option (List ℕ)) (writes writes_after : ℕ) where
     applied_told : (fault : ApplyFault) → Settled left (Err fault) before after → Appends old new (refusal_line fault) → writes_after ≡ writes → Applied left old new (Err fault) before after writes writes_after
-    applied_told TooLarge s told fine = (s.0, told, s.1, fine)
     applied_told ReadFailed s told fine = absurd s
     applied_told NoMemory s told fine = (told, s, fine)
     applied_told WriteFailed s told fine = absurd s
-    applied_told (Zone fault) s told fine = (s.0, told, s.1, fine)
-    applied_told NotZone s told fine = (s.0, told, s.1, fine)
-    applied_told NoDivider s told fine = (s.0, told, s.1, fine)
-    applied_told (BadLine line) s told fine = (s.0, told, s.1, fine)
+    applied_told fault s told fine = (s.0, told, s.1, fine)
 
     no_failure : (fault : ApplyFault) → Settled left (Err fault) before after → after ≡ before
-    no_failure TooLarge s = s.1
     no_failure ReadFailed s = absurd s
     no_failure NoMemory s = s
     no_failure WriteFailed s = absurd s
-    no_failure (Zone fault) s = s.1
-    no_failure NotZone s = s.1
-    no_failure NoDivider s = s.1
-    no_failure (BadLine line) s = s.1
+    no_failure fault s = s.1
 
     pub applied_by_text : (text : String Global) (result : Result (Unit {0}) ApplyFault) → Settled left (Ok text) before after → TextWritten old new (string_bytes text) result writes writes_after → Applied left old new result before after writes writes_after
     applied_by_text text (Ok done) s wrote =

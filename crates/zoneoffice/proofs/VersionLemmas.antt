@@ -8,7 +8,7 @@ use Rattle.dns_names.specs.Labels.{is_within}
 use Rattle.dns_names.proofs.NameLemmas.{same_name-Decides}
 use Rattle.dns_data.specs.declared.record.Record.{Record}
 use Rattle.dns_data.specs.declared.rdata.Data.{Data}
-use Rattle.dns_data.specs.declared.rdata.Data.TheVariants.{A, Ns, Cname, Soa, Ptr, Mx, Txt, Aaaa, Srv}
+use Rattle.dns_data.specs.declared.rdata.Data.TheVariants.{Soa}
 use Rattle.zoneoffice.specs.declared.fault.ZoneFault.{ZoneFault}
 use Rattle.zoneoffice.specs.declared.fault.ZoneFault.TheVariants.{NoSoa}
 use Rattle.zoneoffice.specs.declared.fault.ApplyFault.{ApplyFault}
@@ -30,26 +30,12 @@ use Rattle.zoneoffice.proofs.ZoneLemmas.{updated_other, updated_soa}
 -- ---- the SOA of the next version
 
 next_is_soa : (rdata : Data) → is_some (soa_in rdata) ≡ true → is_some (soa_in (next_data rdata)) ≡ true
-next_is_soa (A x) is = is
-next_is_soa (Ns x) is = is
-next_is_soa (Cname x) is = is
-next_is_soa (Soa x) is = is
-next_is_soa (Ptr x) is = is
-next_is_soa (Mx x) is = is
-next_is_soa (Txt x) is = is
-next_is_soa (Aaaa x) is = is
-next_is_soa (Srv x) is = is
+next_is_soa (Soa x) is = refl
+next_is_soa rdata is = is
 
 next_serial : (rdata : Data) → is_some (soa_in rdata) ≡ true → option_map_or (λ soa. soa.serial.0) (soa_in (next_data rdata)) 0 ≡ serial_sum (option_map_or (λ soa. soa.serial.0) (soa_in rdata) 0) 1
 next_serial (Soa x) is = refl
-next_serial (A x) is = absurd cc
-next_serial (Ns x) is = absurd cc
-next_serial (Cname x) is = absurd cc
-next_serial (Ptr x) is = absurd cc
-next_serial (Mx x) is = absurd cc
-next_serial (Txt x) is = absurd cc
-next_serial (Aaaa x) is = absurd cc
-next_serial (Srv x) is = absurd cc
+next_serial rdata is = absurd cc
 
 -- ---- a zone of sound records
 

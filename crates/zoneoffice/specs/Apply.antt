@@ -2,7 +2,7 @@
 use Rattle.std.specs.Prelude.{◌≡◌, ℕ, ◌<◌, ◌≤◌, List, length, Option, Result, Ok, Err, ◌⊎◌}
 use Rattle.std.specs.Io.KnownBytes.{Appends}
 use Rattle.zoneoffice.specs.declared.fault.ApplyFault.{ApplyFault}
-use Rattle.zoneoffice.specs.declared.fault.ApplyFault.TheVariants.{TooLarge, WriteFailed, Zone, NotZone, ReadFailed, NoDivider, BadLine, NoMemory}
+use Rattle.zoneoffice.specs.declared.fault.ApplyFault.TheVariants.{TooLarge, WriteFailed, ReadFailed, NoMemory}
 use Rattle.zoneoffice.specs.Device.{AppendsFront, IsAll}
 use Rattle.zoneoffice.specs.Faults.{refusal_line}
 use Rattle.zoneoffice.specs.Outcome.{ZoneOf, zone_given, outcome, zone_text}
@@ -16,11 +16,7 @@ InputRead view left (Ok input) before after = IsAll left (view input) × (length
 InputRead view left (Err TooLarge) before after = ((input : List ℕ) × IsAll left input × (4194304 < length input)) × (after ≡ before)
 InputRead view left (Err ReadFailed) before after = before < after
 InputRead view left (Err NoMemory) before after = after ≡ before
-InputRead view left (Err WriteFailed) before after = ⊥
-InputRead view left (Err (Zone fault)) before after = ⊥
-InputRead view left (Err NotZone) before after = ⊥
-InputRead view left (Err NoDivider) before after = ⊥
-InputRead view left (Err (BadLine line)) before after = ⊥
+InputRead view left (Err fault) before after = ⊥
 
 -- ---- writing
 
@@ -68,8 +64,4 @@ Applied left old new (Ok x) reads reads_after writes writes_after =
 Applied left old new (Err WriteFailed) reads reads_after writes writes_after = ((text : List ℕ) × IsReply left reads reads_after text × AppendsFront old new text) × (writes < writes_after)
 Applied left old new (Err ReadFailed) reads reads_after writes writes_after = Appends old new (refusal_line ReadFailed) × (reads < reads_after) × (writes_after ≡ writes)
 Applied left old new (Err NoMemory) reads reads_after writes writes_after = Appends old new (refusal_line NoMemory) × (reads_after ≡ reads) × (writes_after ≡ writes)
-Applied left old new (Err TooLarge) reads reads_after writes writes_after = Answers left (Err TooLarge) × Appends old new (refusal_line TooLarge) × (reads_after ≡ reads) × (writes_after ≡ writes)
-Applied left old new (Err (Zone fault)) reads reads_after writes writes_after = Answers left (Err (Zone fault)) × Appends old new (refusal_line (Zone fault)) × (reads_after ≡ reads) × (writes_after ≡ writes)
-Applied left old new (Err NotZone) reads reads_after writes writes_after = Answers left (Err NotZone) × Appends old new (refusal_line NotZone) × (reads_after ≡ reads) × (writes_after ≡ writes)
-Applied left old new (Err NoDivider) reads reads_after writes writes_after = Answers left (Err NoDivider) × Appends old new (refusal_line NoDivider) × (reads_after ≡ reads) × (writes_after ≡ writes)
-Applied left old new (Err (BadLine line)) reads reads_after writes writes_after = Answers left (Err (BadLine line)) × Appends old new (refusal_line (BadLine line)) × (reads_after ≡ reads) × (writes_after ≡ writes)
+Applied left old new (Err fault) reads reads_after writes writes_after = Answers left (Err fault) × Appends old new (refusal_line fault) × (reads_after ≡ reads) × (writes_after ≡ writes)

@@ -41,13 +41,7 @@ refusal_line fault = codes "refused " ++ fault_text fault ++ 10 ∷ []
 -- what a call refused with is the refusal of the definition; want of memory says nothing of the definition
 abbrev pub Refuses : {Y : Type 0} → ApplyFault → Result Y ApplyFault → Type 0
 Refuses NoMemory read = Unit {0}
-Refuses TooLarge read = read ≡ Err TooLarge
-Refuses WriteFailed read = read ≡ Err WriteFailed
-Refuses (Zone fault) read = read ≡ Err (Zone fault)
-Refuses NotZone read = read ≡ Err NotZone
-Refuses ReadFailed read = read ≡ Err ReadFailed
-Refuses NoDivider read = read ≡ Err NoDivider
-Refuses (BadLine line) read = read ≡ Err (BadLine line)
+Refuses fault read = read ≡ Err fault
 
 -- what a call answered, seen by view, is what the definition gives, unless memory ran out
 abbrev pub Gives : {X Y : Type 0} → (X → Y) → Result X ApplyFault → Result Y ApplyFault → Type 0

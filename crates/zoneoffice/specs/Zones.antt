@@ -10,7 +10,7 @@ use Rattle.dns_data.specs.declared.record.Record.{Record}
 use Rattle.dns_data.specs.declared.record_type.RecordType.{RecordType}
 use Rattle.dns_data.specs.declared.record_type.RecordType.TheVariants as types
 use Rattle.dns_data.specs.declared.rdata.Data.{Data}
-use Rattle.dns_data.specs.declared.rdata.Data.TheVariants.{A, Ns, Cname, Soa, Ptr, Mx, Txt, Aaaa, Srv}
+use Rattle.dns_data.specs.declared.rdata.Data.TheVariants.{Soa}
 use Rattle.dns_data.specs.declared.soa.Soa.{Soa as SoaData}
 use Rattle.dns_data.specs.Rdata.{type_of}
 use Rattle.dns_data.specs.Text.{data_text, record_line}
@@ -22,15 +22,8 @@ use Rattle.zoneoffice.specs.Serials.{serial_sum, is_less}
 
 -- the place of a type among the records of one owner: SOA first, and then by number
 abbrev pub rank_of : RecordType → ℕ
-rank_of types.A = type_number types.A
-rank_of types.Ns = type_number types.Ns
-rank_of types.Cname = type_number types.Cname
 rank_of types.Soa = 0
-rank_of types.Ptr = type_number types.Ptr
-rank_of types.Mx = type_number types.Mx
-rank_of types.Txt = type_number types.Txt
-rank_of types.Aaaa = type_number types.Aaaa
-rank_of types.Srv = type_number types.Srv
+rank_of kind = type_number kind
 
 abbrev pub key_of : Record → Key
 key_of r = (r.owner, rank_of (type_of r.rdata), data_text r.rdata)
@@ -63,14 +56,7 @@ listing set = map (λ e. e.1) (entries set)
 
 abbrev pub soa_in : Data → Option SoaData
 soa_in (Soa soa) = Some soa
-soa_in (A x) = None
-soa_in (Ns x) = None
-soa_in (Cname x) = None
-soa_in (Ptr x) = None
-soa_in (Mx x) = None
-soa_in (Txt x) = None
-soa_in (Aaaa x) = None
-soa_in (Srv x) = None
+soa_in rdata = None
 
 abbrev pub is_soa : Record → Bool
 is_soa r = is_some (soa_in r.rdata)
@@ -134,14 +120,7 @@ next_soa soa = record soa { serial = record { 0 = serial_sum soa.serial.0 1 } }
 
 abbrev pub next_data : Data → Data
 next_data (Soa soa) = Soa (next_soa soa)
-next_data (A x) = A x
-next_data (Ns x) = Ns x
-next_data (Cname x) = Cname x
-next_data (Ptr x) = Ptr x
-next_data (Mx x) = Mx x
-next_data (Txt x) = Txt x
-next_data (Aaaa x) = Aaaa x
-next_data (Srv x) = Srv x
+next_data rdata = rdata
 
 -- the SOA with its serial one further
 abbrev pub next_version : Record → Record

@@ -1,4 +1,4 @@
-use Rattle.std.proofs.Common.{[], refl, sym, ◌∙◌}
+use Rattle.std.proofs.Common.{[], sym, ◌∙◌}
 use Rattle.dns_names.proofs.NameLemmas.{same_name-Decides}
 use Rattle.grant_policy.proofs.TextLemmas.{ends_with_text}
 use Rattle.grant_policy.proofs.scope.covers.Goals as goal
