@@ -1,5 +1,5 @@
 -- What tests find among entries under keys, after an entry is put there or taken out.
-use Rattle.std.proofs.Common.{◌≡◌, ◌⊎◌, inl, inr, List, [], ◌∷◌, map, Bool, true, false, cond, ◌&&◌, ◌||◌, filter, find, Some, None, refl, sym, ap, subst, ◌∙◌}
+use Rattle.std.proofs.Common.{◌≡◌, ◌⊎◌, inl, inr, List, [], ◌∷◌, map, Bool, true, false, cond, ◌&&◌, ◌||◌, filter, find, Some, None, refl, sym, ap, subst, ◌∙◌, true≢false}
 use Rattle.std.specs.declared.cmp.Ordering.{Ordering}
 use Rattle.std.specs.declared.cmp.Ordering.TheVariants.{Less, Equal, Greater}
 use Rattle.std.specs.List.{AllByRecursion, list_any}
@@ -56,6 +56,20 @@ module _ {X : Type 0} (p : X → Bool) where
   passes_one x (y ∷ ys) one = elim (one_front (p y) y x (filter p ys) one) [
     | inl here ↦ sym (ap p here.1) ∙ here.0
     | inr there ↦ passes_one x ys there.1
+  ]
+
+  none_pass : (xs : List X) → filter p xs ≡ [] → AllByRecursion (λ x. p x ≡ false) xs
+  none_pass [] none = tt
+  none_pass (y ∷ ys) none =
+      let parts = no_front (p y) y (filter p ys) none in
+      (parts.0, none_pass ys parts.1)
+
+  -- each that passes is the one
+  pub All-one : (x : X) (xs : List X) → filter p xs ≡ x ∷ [] → AllByRecursion (λ y. p y ≡ true → y ≡ x) xs
+  All-one x [] one = tt
+  All-one x (y ∷ ys) one = elim (one_front (p y) y x (filter p ys) one) [
+    | inl here ↦ (λ _. here.1, All-weaker (λ z. p z ≡ false) (λ z. p z ≡ true → z ≡ x) (λ z fails passes. absurd (true≢false (sym passes ∙ fails))) ys (none_pass ys here.2))
+    | inr there ↦ (λ passes. absurd (true≢false (sym passes ∙ there.0)), All-one x ys there.1)
   ]
 
   find_none : (t : X → Bool) (xs : List X) → filter p xs ≡ [] → find (λ y. p y && t y) xs ≡ None

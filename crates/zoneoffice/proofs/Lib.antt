@@ -1,12 +1,15 @@
 pub mod DeviceLemmas
+pub mod EffectLemmas
 pub mod EntryLemmas
 pub mod FaultLemmas
 pub mod LineLemmas
 pub mod MapLemmas
+pub mod MemberLemmas
 pub mod OutcomeLemmas
 pub mod RecordLineLemmas
 pub mod ReplyLemmas
 pub mod SerialLemmas
 pub mod SoundLemmas
+pub mod UpdateLemmas
 pub mod VersionLemmas
 pub mod ZoneLemmas

@@ -42,6 +42,19 @@ both_true : (a b : Bool) → a ≡ true → T b → T (a && b)
 both_true true b e t = t
 both_true false b e t = absurd cc
 
+pub first_of : (a b : Bool) → T (a && b) → T a
+first_of true b p = tt
+first_of false b p = p
+
+pub second_of : (a b : Bool) → T (a && b) → T b
+second_of true b p = p
+second_of false b p = absurd p
+
+pub less_is : (r : Ordering) → T (is_lt r) → r ≡ Less
+less_is Less p = refl
+less_is Equal p = absurd p
+less_is Greater p = absurd p
+
 below_all_is : (x : Key) (es : List (Key × Record)) → AllByRecursion (λ y. key_cmp x y ≡ Less) (map (λ e. e.0) es) → T (below_all key_cmp x es)
 below_all_is x [] all = tt
 below_all_is x (e ∷ es) all = both_true (is_lt (key_cmp x e.0)) (below_all key_cmp x es) (ap is_lt all.0) (below_all_is x es all.1)
@@ -63,7 +76,7 @@ listing_in m ordered = ap (map (λ (e : Key × Record). e.1)) (entries_in m orde
 
 -- ---- what a map has at a key
 
-find_is : (q : Key) (es : List (Key × Record)) → find key_cmp q es ≡ lookup (is_at (key_cmp q)) es
+pub find_is : (q : Key) (es : List (Key × Record)) → find key_cmp q es ≡ lookup (is_at (key_cmp q)) es
 find_is q [] = refl
 find_is q (e ∷ es) = ap (cond (is_eq (key_cmp q e.0)) (Some e.1)) (find_is q es)
 

@@ -10,7 +10,7 @@ use Rattle.zoneoffice.specs.Faults.{◌>>=◌, Gives, refusal_line}
 use Rattle.zoneoffice.specs.Outcome.{ZoneOf, zone_after, outcome, zone_text, text_after}
 use Rattle.zoneoffice.specs.Apply.{InputRead, TextWritten, IsRefused, Answers, IsReply, Applied}
 use Rattle.zoneoffice.proofs.OutcomeLemmas.{NoDevice, Apart, apart_after}
-use Rattle.zoneoffice.proofs.VersionLemmas.{outcome_versions}
+use Rattle.zoneoffice.proofs.UpdateLemmas.{outcome_update}
 
 -- what was left to read, the outcome, and the reader's failures before and after
 abbrev pub Settled : Option (List ℕ) → Result (String Global) ApplyFault → ℕ → ℕ → Type 0
@@ -85,8 +85,8 @@ module _ (left : Option (List ℕ)) (before after : ℕ) where
     applied_by_text text (Ok done) s wrote =
         let zone = s.0.0 in
         let answer = s.0.1 in
-        let versions = outcome_versions answer.0 zone answer.2 in
-        ((versions.0, zone, (answer.0, answer.1, versions.1, answer.2), versions.2, versions.3, subst (Appends old new) s.0.2 wrote.0), s.1, wrote.1)
+        let update = outcome_update answer.0 zone answer.2 in
+        ((update.0, update.1, zone, (answer.0, answer.1, update.2, update.3, answer.2), update.4, update.5, update.6, subst (Appends old new) s.0.2 wrote.0), s.1, wrote.1)
     applied_by_text text (Err e) s wrote =
         subst (λ f. Applied left old new (Err f) before after writes writes_after) (sym wrote.0)
         ((string_bytes text, inl ((Ok s.0.0, s.0.1, s.0.2), s.1), wrote.1), wrote.2)

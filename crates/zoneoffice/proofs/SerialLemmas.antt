@@ -1,11 +1,13 @@
 -- Serials that are read have 32 bits, and the next one is greater.
-use Rattle.std.proofs.Common.{◌≡◌, ℕ, ◌+◌, ◌-◌, ◌^◌, ◌<◌, inl, inr, List, [], ◌∷◌, length, Bool, true, false, cond, ◌&&◌, ◌==◌, nat_lt, nat_le, if◌then◌else◌, Option, Some, None, IfSome, Result, Ok, Err, IfOk, codes, refl, arith}
+use Rattle.std.proofs.Common.{◌≡◌, ℕ, ◌+◌, ◌-◌, ◌^◌, ◌<◌, List, [], ◌∷◌, length, Bool, true, false, cond, ◌&&◌, ◌==◌, nat_lt, nat_le, if◌then◌else◌, Option, Some, None, IfSome, Result, Ok, Err, IfOk, codes, refl, arith}
 use Rattle.std.specs.List.{AllByRecursion}
 use Rattle.std.specs.Option.{option_map_or}
 use Rattle.std.specs.Result.{result_ok}
 use Rattle.std.specs.Str.{str_eq_ignore_ascii_case}
 use Rattle.std.specs.Str.Parse.{digits_value}
-use Rattle.std.proofs.lemmas.Bool.{and_parts, or_cases, ltb-true, leb-true}
+use Rattle.std.specs.Bool.{Decides}
+use Rattle.std.proofs.lemmas.Bool.{leb-true}
+use Rattle.std.proofs.lemmas.Bool.Decides.{Decides-ltb, Decides-and, Decides-or}
 use Rattle.dns_names.specs.Reading.{absolute_name}
 use Rattle.dns_data.specs.declared.fault.DataFault.{DataFault}
 use Rattle.dns_data.specs.declared.fault.DataFault.TheVariants.{BadNumber, NumberRange, FieldExtra, QuotedItem}
@@ -28,15 +30,11 @@ use Rattle.zoneoffice.specs.Zones.{soa_in, serial_in}
 
 -- ---- the order of serials
 
-pub less_from : (s t : ℕ) → is_less s t ≡ true → IsLess s t
-less_from s t e = elim (or_cases (nat_lt s t && nat_lt (t - s) (2 ^ 31)) (nat_lt t s && nat_lt (2 ^ 31) (s - t)) e) [
-  | inl up ↦
-      let parts = and_parts (nat_lt s t) (nat_lt (t - s) (2 ^ 31)) up in
-      inl (ltb-true s t parts.0, ltb-true (t - s) (2 ^ 31) parts.1)
-  | inr down ↦
-      let parts = and_parts (nat_lt t s) (nat_lt (2 ^ 31) (s - t)) down in
-      inr (ltb-true t s parts.0, ltb-true (2 ^ 31) (s - t) parts.1)
-]
+pub is_less-Decides : (s t : ℕ) → Decides (is_less s t) (IsLess s t)
+is_less-Decides s t =
+    let up = Decides-and (nat_lt s t) (nat_lt (t - s) (2 ^ 31)) (Decides-ltb s t) (Decides-ltb (t - s) (2 ^ 31)) in
+    let down = Decides-and (nat_lt t s) (nat_lt (2 ^ 31) (s - t)) (Decides-ltb t s) (Decides-ltb (2 ^ 31) (s - t)) in
+    Decides-or (nat_lt s t && nat_lt (t - s) (2 ^ 31)) (nat_lt t s && nat_lt (2 ^ 31) (s - t)) up down
 
 pub next_less : (s : ℕ) → s < 2 ^ 32 → IsLess s (serial_sum s 1)
 next_less s small = grind arith

@@ -81,7 +81,7 @@ ns_rank (Txt x) = refl
 ns_rank (Aaaa x) = refl
 ns_rank (Srv x) = refl
 
-abbrev key_is_soa : Key → Bool
+abbrev pub key_is_soa : Key → Bool
 key_is_soa k = k.1 == 0
 
 abbrev pub is_server : List (List ℕ) → Record → Bool
@@ -90,13 +90,13 @@ is_server origin r = is_ns r && is_at origin r
 abbrev key_is_server : List (List ℕ) → Key → Bool
 key_is_server origin k = (k.1 == 2) && same_name k.0 origin
 
-soa_told : (r : Record) → is_soa r ≡ key_is_soa (key_of r)
+pub soa_told : (r : Record) → is_soa r ≡ key_is_soa (key_of r)
 soa_told r = soa_rank r.rdata
 
 server_told : (origin : List (List ℕ)) (r : Record) → is_server origin r ≡ key_is_server origin (key_of r)
 server_told origin r = ap (λ b. b && is_at origin r) (ns_rank r.rdata)
 
-abbrev Keyed : List (Key × Record) → Type 0
+abbrev pub Keyed : List (Key × Record) → Type 0
 Keyed es = AllByRecursion (λ e. e.0 ≡ key_of e.1) es
 
 told : (p : Record → Bool) (q : Key → Bool) → ((r : Record) → p r ≡ q (key_of r)) → (es : List (Key × Record)) → Keyed es → Told p q es

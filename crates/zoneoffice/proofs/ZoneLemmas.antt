@@ -17,7 +17,7 @@ use Rattle.zoneoffice.specs.Keys.{key_cmp, key_eq, key_total}
 use Rattle.zoneoffice.specs.Zones.{Records, key_of, same_records, listing, soa_at, is_soa, is_at, serial_in, replaced_by, passing, in_place, effect, updated, advanced, without}
 use Rattle.zoneoffice.specs.Serials.{is_less}
 use Rattle.zoneoffice.specs.Zones as zones
-use Rattle.zoneoffice.proofs.MapLemmas.{is_true}
+use Rattle.zoneoffice.proofs.MapLemmas.{first_of, second_of, less_is, is_true}
 
 -- ---- what a search finds passes
 
@@ -46,19 +46,6 @@ module _ {K X : Type 0} (R : K → K → Ordering) (o : IsTotalOrder R) (E : X �
   pub own : (es : List (K × X)) → pointwise by_key es es ≡ true
   own [] = refl
   own (e ∷ es) = by_key_itself e (pointwise by_key es es) ∙ own es
-
-  first_of : (a b : Bool) → T (a && b) → T a
-  first_of true b p = tt
-  first_of false b p = p
-
-  second_of : (a b : Bool) → T (a && b) → T b
-  second_of true b p = p
-  second_of false b p = absurd p
-
-  less_is : (r : Ordering) → T (is_lt r) → r ≡ Less
-  less_is Less p = refl
-  less_is Equal p = absurd p
-  less_is Greater p = absurd p
 
   none_below : (x y : K) (es : List (K × X)) → R x y ≡ Less → T (below_all R y es) → map.find R x es ≡ None
   none_below x y [] p h = refl

@@ -1,12 +1,14 @@
 -- What a call of `apply` reads, writes and answers.
 use Rattle.std.specs.Prelude.{◌≡◌, ℕ, ◌<◌, ◌≤◌, List, length, Option, Result, Ok, Err, ◌⊎◌}
 use Rattle.std.specs.Io.KnownBytes.{Appends}
+use Rattle.dns_data.specs.declared.record.Record.{Record}
 use Rattle.zoneoffice.specs.declared.fault.ApplyFault.{ApplyFault}
 use Rattle.zoneoffice.specs.declared.fault.ApplyFault.TheVariants.{TooLarge, WriteFailed, ReadFailed, NoMemory}
 use Rattle.zoneoffice.specs.Device.{AppendsFront, IsAll}
 use Rattle.zoneoffice.specs.Faults.{refusal_line}
-use Rattle.zoneoffice.specs.Outcome.{ZoneOf, zone_given, outcome, zone_text}
+use Rattle.zoneoffice.specs.Outcome.{ZoneOf, zone_given, addition_given, outcome, zone_text}
 use Rattle.zoneoffice.specs.Versions.{IsZone, IsVersionAfter}
+use Rattle.zoneoffice.specs.Effects.{IsEffect}
 
 -- ---- reading
 
@@ -45,9 +47,10 @@ reply_text (Err fault) = refusal_line fault
 abbrev pub Answers : Option (List ℕ) → Result ZoneOf ApplyFault → Type 0
 Answers left result = (input : List ℕ) × IsAll left input × (outcome input ≡ result)
 
--- the zones before and after the update
-abbrev pub Updates : Option (List ℕ) → ZoneOf → ZoneOf → Type 0
-Updates left before zone = (input : List ℕ) × IsAll left input × (zone_given input ≡ Ok before) × (outcome input ≡ Ok zone)
+-- the zone before the update, the addition, and the zone after it
+abbrev pub Updates : Option (List ℕ) → ZoneOf → Option Record → ZoneOf → Type 0
+Updates left before addition zone =
+    (input : List ℕ) × IsAll left input × (zone_given input ≡ Ok before) × (addition_given input ≡ Ok addition) × (outcome input ≡ Ok zone)
 
 -- a text that is written where this was left to read, and the reader's failures are these before and after
 abbrev pub IsReply : Option (List ℕ) → ℕ → ℕ → List ℕ → Type 0
@@ -60,7 +63,8 @@ IsReply left reads reads_after text =
 -- writer's failures before and after. A failed write leaves a front of what was to be written; else it is all written.
 abbrev pub Applied : Option (List ℕ) → Option (List ℕ) → Option (List ℕ) → Result (Unit {0}) ApplyFault → ℕ → ℕ → ℕ → ℕ → Type 0
 Applied left old new (Ok x) reads reads_after writes writes_after =
-    ((before : ZoneOf) × (zone : ZoneOf) × Updates left before zone × IsZone zone × IsVersionAfter before zone × Appends old new (zone_text zone)) × (reads_after ≡ reads) × (writes_after ≡ writes)
+    ((before : ZoneOf) × (addition : Option Record) × (zone : ZoneOf) × Updates left before addition zone × IsZone zone × IsEffect before addition zone × IsVersionAfter before zone
+    × Appends old new (zone_text zone)) × (reads_after ≡ reads) × (writes_after ≡ writes)
 Applied left old new (Err WriteFailed) reads reads_after writes writes_after = ((text : List ℕ) × IsReply left reads reads_after text × AppendsFront old new text) × (writes < writes_after)
 Applied left old new (Err ReadFailed) reads reads_after writes writes_after = Appends old new (refusal_line ReadFailed) × (reads < reads_after) × (writes_after ≡ writes)
 Applied left old new (Err NoMemory) reads reads_after writes writes_after = Appends old new (refusal_line NoMemory) × (reads_after ≡ reads) × (writes_after ≡ writes)

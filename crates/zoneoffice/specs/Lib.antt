@@ -6,6 +6,7 @@ pub mod Keys
 pub mod Zones
 pub mod Outcome
 pub mod Versions
+pub mod Effects
 pub mod Views
 pub mod Device
 pub mod Apply

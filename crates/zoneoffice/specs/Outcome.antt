@@ -44,6 +44,12 @@ zone_given input = do
   parts ← or_fault (divided (lines_of input)) NoDivider
   zone_before parts.0
 
+-- the addition that an input gives
+unfoldable pub addition_given : List ℕ → Result (Option Record) ApplyFault
+addition_given input = do
+  parts ← or_fault (divided (lines_of input)) NoDivider
+  addition_of (length parts.0 + 2) parts.1
+
 -- the zone after the update
 unfoldable pub zone_after : List ℕ → Result ZoneOf ApplyFault
 zone_after input = do
