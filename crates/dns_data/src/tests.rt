@@ -661,3 +661,57 @@ fn same_records(rt: HostRuntime) -> Result<(), Fail> {
     }
     Ok(())
 }
+
+#[test]
+fn faults_say_what_is_wrong(rt: HostRuntime) -> Result<(), Fail> {
+    let rows = [
+        (
+            DataFault::BadAddress,
+            11,
+            "this is no address of the record's type",
+        ),
+        (DataFault::BadNumber, 12, "this is no decimal number"),
+        (
+            DataFault::NumberRange,
+            13,
+            "the number is too large for its field",
+        ),
+        (
+            DataFault::StringTooLong,
+            14,
+            "a character-string has more than 255 octets",
+        ),
+        (
+            DataFault::FieldMissing,
+            15,
+            "a field of the record data is missing",
+        ),
+        (
+            DataFault::FieldExtra,
+            16,
+            "an item stands behind the record data",
+        ),
+        (
+            DataFault::TypeNotKept,
+            17,
+            "records of this type are not kept",
+        ),
+        (
+            DataFault::DataTooLong,
+            18,
+            "the record data have more than 65535 octets",
+        ),
+        (DataFault::Name(NameFault::Empty), 19, "the name is empty"),
+        (
+            DataFault::QuotedItem,
+            20,
+            "a quoted item stands where a name, a number or an address is wanted",
+        ),
+        (DataFault::NoMemory, 99, "out of memory"),
+    ];
+    for (fault, number, text) in rows {
+        assert_eq!(rt; fault.number(), number);
+        assert_eq!(rt; fault.to_string(rt.alloc())?.as_str(), text);
+    }
+    Ok(())
+}

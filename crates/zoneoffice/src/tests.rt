@@ -232,6 +232,50 @@ fn refusals(rt: HostRuntime) -> Result<(), Fail> {
 }
 
 #[test]
+fn faults_say_what_is_wrong(rt: HostRuntime) -> Result<(), Fail> {
+    let rows = [
+        (
+            ApplyFault::TooLarge,
+            "the input has more than 4194304 octets",
+        ),
+        (ApplyFault::WriteFailed, "the writer failed"),
+        (
+            ApplyFault::NotZone,
+            "the item's name is not within the origin",
+        ),
+        (ApplyFault::ReadFailed, "the reader failed"),
+        (ApplyFault::NoDivider, "no line is --"),
+        (ApplyFault::BadLine(6), "line 6 is no record or item"),
+        (ApplyFault::NoMemory, "memory ran out"),
+        (
+            ApplyFault::Zone(ZoneFault::RootOrigin),
+            "the origin is the root",
+        ),
+        (
+            ApplyFault::Zone(ZoneFault::OutOfZone),
+            "an owner is not within the origin",
+        ),
+        (
+            ApplyFault::Zone(ZoneFault::SoaNotAtOrigin),
+            "an SOA record is not at the origin",
+        ),
+        (ApplyFault::Zone(ZoneFault::NoSoa), "there is no SOA record"),
+        (
+            ApplyFault::Zone(ZoneFault::TwoSoa),
+            "there are two SOA records",
+        ),
+        (
+            ApplyFault::Zone(ZoneFault::NoOriginNs),
+            "there is no NS record at the origin",
+        ),
+    ];
+    for (fault, text) in rows {
+        assert_eq!(rt; fault.to_string(rt.alloc())?.as_str(), text);
+    }
+    Ok(())
+}
+
+#[test]
 fn serials(rt: HostRuntime) {
     // RFC 1982 section 5.2, with 32 bits
     let rows = [
