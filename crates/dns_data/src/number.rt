@@ -1,11 +1,11 @@
 //! Numbers in record data.
 
-ghost use Rattle.std.specs.Prelude.{◌≡◌, ◌≤◌, ℕ, IfSome, IsSome, ◌↔◌, true, length, ◌==◌, if◌then◌else◌, Some, None, nat_le, min, ◌^◌, ◌-◌};
+ghost use Rattle.std.specs.Prelude.{◌≡◌, ◌≤◌, ℕ, Ok, IfOk, IfSome, IsSome, ◌↔◌, true, length, ◌==◌, if◌then◌else◌, Some, None, nat_le, min, ◌^◌, ◌-◌};
 ghost use Rattle.std.specs.Option.{option_map};
 ghost use Rattle.std.specs.List.{list_all};
 ghost use Rattle.std.specs.Char.{is_ascii_digit};
 ghost use Rattle.std.specs.Str.Parse.{digits_value};
-ghost use Rattle.dns_data.specs.Numbers.{is_number, unit_seconds, groups_after, number_of, duration_of};
+ghost use Rattle.dns_data.specs.Numbers.{IsDuration, is_number, unit_seconds, groups_after, number_of, duration_of};
 
 use crate::fault::DataFault;
 use std::marker::Model;
@@ -53,7 +53,12 @@ impl Ttl {
     /// Reads a TTL: a decimal number of seconds, or one or more numbers with a unit behind each (`1h30m`), which are summed,
     /// else `BadNumber`; more than `MAX` is `NumberRange`.
     pub fn read(text: &[u8]) -> Result<Ttl, DataFault>
-        ensures { result ≡ duration_of 2147483647 text.now }
+        // What is read is a duration that the text writes.
+        ensures found { IfOk result (λ ttl. IsDuration text.now ttl × (ttl ≤ 2147483647)) }
+        // A duration that the text writes is read.
+        ensures only { (seconds : ℕ) → IsDuration text.now seconds → seconds ≤ 2147483647 → result ≡ Ok seconds }
+        // Which refusal it is.
+        ensures exact { result ≡ duration_of 2147483647 text.now }
     {
         let seconds = read_duration(text, Ttl::MAX)?;
         Ok(Ttl { seconds })
