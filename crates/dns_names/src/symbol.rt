@@ -46,7 +46,8 @@ fn after_backslash(text: &[u8]) -> Result<(Symbol, &[u8]), NameFault>
     }
 }
 
-/// The first symbol of a text that is not empty, and the text after it.
+/// The first symbol of a text that is not empty, and the text after it. The only error is `BadEscape`, where a backslash
+/// begins no escape.
 pub fn first_symbol(text: &[u8]) -> Result<(Symbol, &[u8]), NameFault>
     requires { 0 < length text.now }
     ensures { Reads (λ x. (x.0, x.1.now)) result (symbol_at text.now) }
