@@ -86,7 +86,7 @@ pub(crate) fn text_after(alloc: Global, input: &[u8]) -> Result<String, ApplyFau
 fn refusal_text(alloc: Global, fault: ApplyFault) -> Result<String, AllocError>
     ensures { IfOk result (λ text. string_bytes text ≡ refusal_line fault) }
 {
-    Ok(format!(in alloc; "{}", RefusalLine(fault))?)
+    format!(in alloc; "{}", RefusalLine(fault))
 }
 
 /// Reads a zone, a line `--` and at most one item, updates the zone, and writes its records.

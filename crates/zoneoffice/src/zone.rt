@@ -91,9 +91,9 @@ fn with(
     ensures { IfOk result (λ map. records_in map ≡ updated origin.now (records_in records) rr) }
 {
     if is_soa(&rr) {
-        Ok(with_soa(alloc, records, rr)?)
+        with_soa(alloc, records, rr)
     } else {
-        Ok(with_other(alloc, origin, records, rr)?)
+        with_other(alloc, origin, records, rr)
     }
 }
 
@@ -106,7 +106,7 @@ fn with_soa(alloc: Global, records: RecordMap, rr: Record) -> Result<RecordMap, 
         Some(old) if is_newer(&rr, old) => RecordKey::of(alloc, old)?,
         _ => return Ok(records),
     };
-    Ok(replace(alloc, records, &key, rr)?)
+    replace(alloc, records, &key, rr)
 }
 
 /// Whether an SOA has a greater serial than another.
@@ -135,7 +135,7 @@ fn with_other(
         return Ok(records);
     }
     put_in(alloc, &mut records, rr)?;
-    Ok(advance(alloc, origin, records)?)
+    advance(alloc, origin, records)
 }
 
 /// The records with their serial one further.
