@@ -1,17 +1,14 @@
 -- Cutting a text at its dots, one symbol after another.
-use Rattle.std.proofs.Common.{◌≡◌, ℕ, ◌-◌, ◌<◌, ◌≤◌, List, [], ◌∷◌, ◌++◌, length, sum, take, drop, Result, Ok, Err, refl, sym, ap, ◌∙◌, append_assoc, arith, length-drop}
+use Rattle.std.proofs.Common.{◌≡◌, ℕ, ◌<◌, List, [], ◌∷◌, ◌++◌, length, Result, Ok, Err, refl, sym, ap, ◌∙◌, append_assoc, arith}
 use Rattle.std.specs.List.{AllByRecursion}
 use Rattle.std.specs.Char.{to_ascii_lowercase}
-use Rattle.std.proofs.lemmas.Bool.Decides.{nat_tests}
-use Rattle.std.proofs.lemmas.List.{append-nil, drop-append-le, drop_all, take_all}
+use Rattle.std.proofs.lemmas.List.{append-nil}
 use Rattle.dns_names.specs.declared.fault.NameFault.{NameFault}
 use Rattle.dns_names.specs.declared.fault.NameFault.TheVariants as faults
 use Rattle.dns_names.specs.declared.symbol.Symbol.{Symbol}
 use Rattle.dns_names.specs.declared.symbol.Symbol.TheVariants.{Dot, Octet}
 use Rattle.dns_names.specs.Faults.{Refuses}
-use Rattle.dns_names.specs.Labels.{IsFolded, labels_of}
 use Rattle.dns_names.specs.Reading.{◌>>=◌, Pieces, symbol_at, symbols_within, symbols, pieces, before_first, cut}
-use Rattle.dns_names.proofs.RowLemmas.{labels_of-append, labels_of-append_octets}
 use Rattle.dns_names.proofs.SymbolLaws.{symbols_cons, symbols_fails, symbol_shortens}
 
 -- the pieces before, the last of them still open, and those of the rest of the text
@@ -61,27 +58,19 @@ symbols_stop : (text : List ℕ) (f : NameFault) → 0 < length text → symbol_
 symbols_stop [] f more e = absurd (omega arith)
 symbols_stop (octet ∷ rest) f more e = symbols_fails octet rest f e
 
--- ---- rows
+-- ---- the state after a symbol
 
-module _ (ns os : List ℕ) (ended : ℕ) (whole : sum ns ≡ ended) (within : ended ≤ length os) where
-  pub after_octet : (text : List ℕ) (o : ℕ) (after : List ℕ) (total : Result Pieces NameFault) → symbol_at text ≡ Ok (Octet o, after)
-      → continued (labels_of ns os) (drop ended os) text ≡ total → continued (labels_of ns (os ++ to_ascii_lowercase o ∷ [])) (drop ended (os ++ to_ascii_lowercase o ∷ [])) after ≡ total
-  after_octet text o after total e so_far =
-      let labels = labels_of-append_octets ns os (to_ascii_lowercase o ∷ []) (omega arith) in
-      let last = drop-append-le ended os (to_ascii_lowercase o ∷ []) within in
-      let step = ap (λ (r : Result (List Symbol) NameFault). r >>= λ more. Ok (joined (labels_of ns os) (drop ended os) more)) (symbols_step text (Octet o) after e) in
-      rw (labels, last) (sym (on_octet (labels_of ns os) (drop ended os) o (symbols after)) ∙ sym step ∙ so_far)
+pub after_octet : (front : List (List ℕ)) (open_label text : List ℕ) (o : ℕ) (after : List ℕ) (total : Result Pieces NameFault) → symbol_at text ≡ Ok (Octet o, after)
+    → continued front open_label text ≡ total → continued front (open_label ++ to_ascii_lowercase o ∷ []) after ≡ total
+after_octet front open_label text o after total e so_far =
+    let step = ap (λ (r : Result (List Symbol) NameFault). r >>= λ more. Ok (joined front open_label more)) (symbols_step text (Octet o) after e) in
+    sym (on_octet front open_label o (symbols after)) ∙ sym step ∙ so_far
 
-  pub after_dot : (text after : List ℕ) (total : Result Pieces NameFault) → symbol_at text ≡ Ok (Dot, after)
-      → continued (labels_of ns os) (drop ended os) text ≡ total → continued (labels_of (ns ++ (length os - ended) ∷ []) os) (drop (length os) os) after ≡ total
-  after_dot text after total e so_far =
-      let here : take (length os - ended) (drop ended os) ≡ drop ended os = take_all (length os - ended) (drop ended os) (omega (arith, length-drop ended os)) in
-      let place : drop (sum ns) os ≡ drop ended os = ap (λ (k : ℕ). drop k os) whole in
-      let labels : labels_of (ns ++ (length os - ended) ∷ []) os ≡ labels_of ns os ++ drop ended os ∷ [] =
-      labels_of-append ns ((length os - ended) ∷ []) os ∙ ap (λ (l : List ℕ). labels_of ns os ++ take (length os - ended) l ∷ []) place ∙ ap (λ (l : List ℕ). labels_of ns os ++ l ∷ []) here in
-      let last : drop (length os) os ≡ [] = drop_all (length os) os (omega arith) in
-      let step = ap (λ (r : Result (List Symbol) NameFault). r >>= λ more. Ok (joined (labels_of ns os) (drop ended os) more)) (symbols_step text Dot after e) in
-      rw (labels, last) (sym (on_dot (labels_of ns os) (drop ended os) (symbols after)) ∙ sym step ∙ so_far)
+pub after_dot : (front : List (List ℕ)) (open_label text after : List ℕ) (total : Result Pieces NameFault) → symbol_at text ≡ Ok (Dot, after)
+    → continued front open_label text ≡ total → continued (front ++ open_label ∷ []) [] after ≡ total
+after_dot front open_label text after total e so_far =
+    let step = ap (λ (r : Result (List Symbol) NameFault). r >>= λ more. Ok (joined front open_label more)) (symbols_step text Dot after e) in
+    sym (on_dot front open_label (symbols after)) ∙ sym step ∙ so_far
 
 pub stops : (front : List (List ℕ)) (open_label text : List ℕ) (f : NameFault) (total : Result Pieces NameFault) → 0 < length text → symbol_at text ≡ Err f → continued front open_label text ≡ total → total ≡ Err f
 stops front open_label text f total more e so_far =
@@ -113,14 +102,6 @@ begins text = whole_text (symbols text)
 pub refuses_on : {A B : Type 0} (e : NameFault) (r : Result A NameFault) (total : Result B NameFault) → Refuses e r → ((f : NameFault) → r ≡ Err f → total ≡ Err f) → Refuses e total
 refuses_on faults.NoMemory r total h on = tt
 refuses_on fault r total h on = on fault h
-
--- ---- folding
-
-pub folded_twice : (o : ℕ) → to_ascii_lowercase (to_ascii_lowercase o) ≡ to_ascii_lowercase o
-folded_twice o = grind (arith, nat_tests)
-
-pub folded_fits : (o r : ℕ) → r < 256 → r ≡ to_ascii_lowercase o → IsFolded r
-folded_fits o r fits e = record { below = fits; folded = rw e (folded_twice o) }
 
 pub AllByRecursion-push : {A : Type 0} (P : A → Type 0) (xs : List A) (x : A) → AllByRecursion P xs → P x → AllByRecursion P (xs ++ x ∷ [])
 AllByRecursion-push P [] x all one = (one, tt)

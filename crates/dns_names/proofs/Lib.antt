@@ -1,13 +1,12 @@
 pub mod RowLemmas
-pub mod OrderLemmas
+pub mod KeyLaws
 pub mod NameLemmas
-pub mod CheckLemmas
+pub mod KeptLemmas
 pub mod CutLemmas
 pub mod SymbolLaws
 pub mod SpellingLaws
 pub mod PieceLaws
+pub mod PlacedLemmas
 pub mod ReadingLaws
-pub mod FitLemmas
-pub mod PlaceLemmas
 pub mod ReadLemmas
 pub mod TextLemmas

@@ -34,12 +34,12 @@ checked_ok p q e =
     e
 
 -- labels pass the checks
-none_empty : (labels : List (List ℕ)) → AllByRecursion IsLabel labels → list_any is_empty labels ≡ false
+pub none_empty : (labels : List (List ℕ)) → AllByRecursion IsLabel labels → list_any is_empty labels ≡ false
 none_empty [] h = refl
 none_empty (label ∷ labels) h = let some = h.0.not_empty in or_from (is_empty label) (list_any is_empty labels) (ne_eqb (length label) 0 (λ z. omega arith)) (none_empty labels h.1)
 
 -- nor is one of them too long
-none_long : (labels : List (List ℕ)) → AllByRecursion IsLabel labels → list_any is_long labels ≡ false
+pub none_long : (labels : List (List ℕ)) → AllByRecursion IsLabel labels → list_any is_long labels ≡ false
 none_long [] h = refl
 none_long (label ∷ labels) h = or_from (is_long label) (list_any is_long labels) (le-ltb 63 (length label) h.0.short) (none_long labels h.1)
 

@@ -1,13 +1,17 @@
 -- What the code that prints names writes.
-use Rattle.std.proofs.Common.{◌≡◌, ℕ, ◌<◌, ◌/◌, ◌%◌, List, [], ◌∷◌, ◌++◌, false, Option, None, Some, sym, ap, ◌∙◌, append-nil, arith}
-use Rattle.std.specs.List.{flat_map}
+use Rattle.std.proofs.Common.{◌≡◌, ℕ, zero, suc, Bool, true, leb, not, ◌&&◌, get_or, leb-true, refl, ◌<◌, ◌/◌, ◌%◌, List, [], ◌∷◌, ◌++◌, false, Option, None, Some, sym, ap, ◌∙◌, append-nil, append_assoc, arith}
+use Rattle.std.specs.List.{flat_map, list_all, AllPass}
+use Rattle.std.specs.Str.{IsAscii}
+use Rattle.std.proofs.lemmas.Bool.{and_parts}
+use Rattle.std.proofs.lemmas.List.Concat.{flat_map-append}
+use Rattle.std.proofs.lemmas.List.Sums.{list_all-from_AllPass}
 use Rattle.std.specs.Option.{is_some}
 use Rattle.std.specs.Char.{is_ascii_graphic}
 use Rattle.std.specs.Fmt.{decimal}
 use Rattle.std.specs.Iterator.{YieldsFirstRef}
 use Rattle.std.specs.Borrow.{Bor}
 use Rattle.std.proofs.lemmas.Fmt.{decimal_digit}
-use Rattle.dns_names.specs.Spelling.{is_special, octet_text, label_text, name_text}
+use Rattle.dns_names.specs.Spelling.{is_special, is_plain, octet_text, label_text, name_text}
 
 -- three digits, one by one
 pub number_text : (o : ℕ) → o < 256 → is_special o ≡ false → is_ascii_graphic o ≡ false → 92 ∷ (decimal (o / 100) ++ (decimal (o / 10 % 10) ++ decimal (o % 10))) ≡ octet_text o
@@ -27,3 +31,46 @@ pub dot_alone : (done left name : List (List ℕ)) → done ++ left ≡ name →
 dot_alone done left name parts all none =
     let nothing : done ≡ [] = sym (append-nil done) ∙ ap (λ (l : List (List ℕ)). done ++ l) (sym all) ∙ parts ∙ none in
     rw (nothing, none)
+
+-- ---- runs of octets that are printed as they stand
+
+plain_octet : (o : ℕ) → is_plain o ≡ true → (o < 128) × (octet_text o ≡ o ∷ [])
+plain_octet o plain =
+    let range = and_parts (leb 33 o && leb o 126) (not (is_special o)) plain in
+    let ends = and_parts (leb 33 o) (leb o 126) range.0 in
+    let special : is_special o ≡ false = not_true (is_special o) range.1 in
+    (omega (arith, leb-true o 126 ends.1), rw (special, range.0) refl)
+  where
+    not_true : (b : Bool) → not b ≡ true → b ≡ false
+    not_true true e = absurd cc
+    not_true false e = refl
+
+plain_octets : (run : List ℕ) → list_all is_plain run ≡ true → ((i : ℕ) → get_or run i 0 < 128) × (flat_map octet_text run ≡ run)
+plain_octets [] all = (λ i. omega arith, refl)
+plain_octets (o ∷ run) all =
+    let both = and_parts (is_plain o) (list_all is_plain run) all in
+    let here = plain_octet o both.0 in
+    let more = plain_octets run both.1 in
+    (below more.0 here.0, rw here.1 (ap (λ (l : List ℕ). o ∷ l) more.1))
+  where
+    below : ((i : ℕ) → get_or run i 0 < 128) → o < 128 → (i : ℕ) → get_or (o ∷ run) i 0 < 128
+    below more here zero = here
+    below more here (suc i) = more i
+
+pub run_is_ascii : (run : List ℕ) → AllPass is_plain run → IsAscii run
+run_is_ascii run all = (plain_octets run (list_all-from_AllPass is_plain run all)).0
+
+pub run_text : (run : List ℕ) → AllPass is_plain run → flat_map octet_text run ≡ run
+run_text run all = (plain_octets run (list_all-from_AllPass is_plain run all)).1
+
+-- a run and an octet behind what was written
+pub run_and_octet : (done run : List ℕ) (octet : ℕ) → AllPass is_plain run → (flat_map octet_text done ++ run) ++ octet_text octet ≡ flat_map octet_text (done ++ (run ++ octet ∷ []))
+run_and_octet done run octet plain =
+    append_assoc (flat_map octet_text done) run (octet_text octet)
+    ∙ ap (λ (l : List ℕ). flat_map octet_text done ++ l) (ap (λ (l : List ℕ). l ++ octet_text octet) (sym (run_text run plain)) ∙ ap (λ (l : List ℕ). flat_map octet_text run ++ l) (sym (append-nil (octet_text octet))) ∙ sym (flat_map-append octet_text run (octet ∷ [])))
+    ∙ sym (flat_map-append octet_text done (run ++ octet ∷ []))
+
+-- a last run and the dot behind what was written
+pub run_and_dot : (done run label : List ℕ) → AllPass is_plain run → done ++ run ≡ label → (flat_map octet_text done ++ run) ++ 46 ∷ [] ≡ label_text label
+run_and_dot done run label plain whole =
+    ap (λ (l : List ℕ). l ++ 46 ∷ []) (ap (λ (l : List ℕ). flat_map octet_text done ++ l) (sym (run_text run plain)) ∙ sym (flat_map-append octet_text done run) ∙ ap (flat_map octet_text) whole)

@@ -1,22 +1,77 @@
--- The pieces that rows of octets and lengths stand for.
-use Rattle.std.specs.Prelude.{◌≡◌, ◌-◌, ◌<◌, ◌≤◌, length, sum, drop}
-use Rattle.std.specs.List.{AllByRecursion}
+-- How a name stands in memory, and what is kept of a text while it is cut into labels.
+use Rattle.std.specs.Prelude.{◌≡◌, ◌≤◌, ℕ, List, [], ◌∷◌, ◌++◌, length, take, drop, map, sum, min, false, ◌==◌, if◌then◌else◌, Option, Some, None, Result, Ok, Err}
+use Rattle.std.specs.List.{concat, list_any}
+use Rattle.dns_names.specs.declared.fault.NameFault.{NameFault}
 use Rattle.dns_names.specs.declared.pieces.PieceRows.{PieceRows}
-use Rattle.dns_names.specs.Labels.{IsFolded, labels_of}
-use Rattle.dns_names.specs.Reading.{Pieces}
+use Rattle.dns_names.specs.Faults.{Refuses}
+use Rattle.dns_names.specs.Labels.{IsName, wire_len, labels_of}
+use Rattle.dns_names.specs.Keys.{key_of}
+use Rattle.dns_names.specs.Reading.{Pieces, is_empty, is_long}
 
-abbrev pub pieces_in : PieceRows → Pieces
-pieces_in p = record { ended = labels_of p.lengths.items p.octets.items; last = drop p.ended p.octets.items }
+-- ---- names
 
--- the lengths cut the octets up to the last dot, and all octets are folded
-pub record AreCut (p : PieceRows) : Type 0 where
-  pub whole : sum p.lengths.items ≡ p.ended
-  pub within : p.ended ≤ length p.octets.items
-  pub folded : AllByRecursion IsFolded p.octets.items
+-- how many labels, how many octets they have, their lengths, their octets, and the key
+abbrev pub rows_of : List (List ℕ) → List ℕ
+rows_of name = length name ∷ length (concat name) ∷ (map length name ++ (concat name ++ key_of name))
 
--- and no label that a dot ends is empty, and none is too long
-pub record AreChecked (p : PieceRows) : Type 0 where
-  pub rows : AreCut p
-  pub not_empty : AllByRecursion (λ n. 0 < n) p.lengths.items
-  pub short : AllByRecursion (λ n. n ≤ 63) p.lengths.items
-  pub last_short : length p.octets.items - p.ended ≤ 63
+-- the name that stands there
+abbrev pub name_in : List ℕ → List (List ℕ)
+name_in [] = []
+name_in (count ∷ []) = []
+name_in (count ∷ total ∷ rows) = labels_of (take count rows) (drop count rows)
+
+-- memory that holds a name, as each of that name does
+pub record AreRows (memory : List ℕ) : Type 0 where
+  pub name : IsName (name_in memory)
+  pub whole : memory ≡ rows_of (name_in memory)
+
+-- the lengths cut the whole row of octets, and the key is that of the labels
+pub record AreNameRows (lengths octets key : List ℕ) : Type 0 where
+  pub whole : sum lengths ≡ length octets
+  pub is_key : key ≡ key_of (labels_of lengths octets)
+
+-- what stands behind the first octet 0 of a key, which ends the key of a label
+abbrev pub behind_label : List ℕ → Option (List ℕ)
+behind_label [] = None
+behind_label (octet ∷ rest) = if octet == 0 then Some rest else behind_label rest
+
+-- ---- texts
+
+-- the length of a label, as far as an octet holds it
+abbrev pub kept_len : List ℕ → ℕ
+kept_len label = min (length label) 255
+
+-- What is kept of pieces: their octets and lengths as far as a name has room for them, how many there are of each, and
+-- whether a label is empty or too long.
+pub record AreKept (rows : PieceRows) (given : Pieces) : Type 0 where
+  pub octets : rows.octets.items ≡ take 254 (concat given.ended ++ given.last)
+  pub lengths : rows.lengths.items ≡ take 127 (map kept_len given.ended)
+  pub total : rows.total ≡ length (concat given.ended ++ given.last)
+  pub ended : rows.ended ≡ length given.ended
+  pub last : rows.last ≡ length given.last
+  pub has_empty : rows.has_empty ≡ list_any is_empty given.ended
+  pub has_long : rows.has_long ≡ list_any is_long given.ended
+
+-- rows keep the pieces that a definition reads, or the refusal is the definition's
+abbrev pub Keeps : Result PieceRows NameFault → Result Pieces NameFault → Type 0
+Keeps (Ok rows) read = (given : Pieces) × (read ≡ Ok given) × AreKept rows given
+Keeps (Err fault) read = Refuses fault read
+
+-- one octet more behind the last dot
+abbrev pub with_octet : Pieces → ℕ → Pieces
+with_octet given octet = record { ended = given.ended; last = given.last ++ octet ∷ [] }
+
+-- one dot more
+abbrev pub with_dot : Pieces → Pieces
+with_dot given = record { ended = given.ended ++ given.last ∷ []; last = [] }
+
+-- no label that a dot ends is empty or too long, and nothing stands behind the last dot
+pub record AreEnded (given : Pieces) : Type 0 where
+  pub some : list_any is_empty given.ended ≡ false
+  pub short : list_any is_long given.ended ≡ false
+  pub none : given.last ≡ []
+
+-- and with the labels of another name they make one, where they fit
+abbrev pub ArePlaced : PieceRows → List (List ℕ) → Type 0
+ArePlaced rows tail =
+    (given : Pieces) × AreKept rows given × AreEnded given × (wire_len (given.ended ++ tail) ≤ 255 → IsName (given.ended ++ tail))

@@ -1,5 +1,5 @@
 -- How a name is spelled in a master file (RFC 1035 section 5.1), and which of its spellings is printed.
-use Rattle.std.specs.Prelude.{◌≡◌, ◌≢◌, ℕ, ◌+◌, ◌/◌, ◌%◌, ◌<◌, ◌⊎◌, List, [], ◌∷◌, ◌++◌, Bool, false, ◌||◌, ◌&&◌, ◌==◌, nat_le, if◌then◌else◌}
+use Rattle.std.specs.Prelude.{◌≡◌, ◌≢◌, ℕ, ◌+◌, ◌/◌, ◌%◌, ◌<◌, ◌⊎◌, List, [], ◌∷◌, ◌++◌, Bool, false, ◌||◌, ◌&&◌, ◌==◌, nat_le, not, if◌then◌else◌}
 use Rattle.std.specs.List.{flat_map}
 use Rattle.std.specs.Char.{to_ascii_lowercase, is_ascii_digit}
 
@@ -47,6 +47,10 @@ SpellsRelative origin name text =
 -- `.` `\` `"` `(` `)` `;` `@` `$`, which mean something in a master file
 abbrev pub is_special : ℕ → Bool
 is_special o = o == 46 || o == 92 || o == 34 || o == 40 || o == 41 || o == 59 || o == 64 || o == 36
+
+-- an octet that is printed as it stands
+abbrev pub is_plain : ℕ → Bool
+is_plain o = nat_le 33 o && nat_le o 126 && not (is_special o)
 
 -- the one spelling of an octet that is printed
 abbrev pub octet_text : ℕ → List ℕ

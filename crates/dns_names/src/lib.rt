@@ -7,12 +7,13 @@ mod fault;
 mod labels;
 mod name;
 mod pieces;
+mod rows;
 mod symbol;
 mod text;
 
 pub use fault::NameFault;
 pub use labels::Labels;
-pub use name::Name;
+pub use name::{KeyRange, Name};
 pub use symbol::{Symbol, first_symbol};
 
 #[cfg(test)]

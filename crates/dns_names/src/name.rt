@@ -1,18 +1,21 @@
 //! A domain name.
 
-ghost use Rattle.std.specs.Prelude.{◌≡◌, ◌↔◌, ◌≤◌, ◌<◌, List, [], ◌++◌, ℕ, length, sum, IsTrue, IfOk, OnOk, Ok, string_bytes};
-ghost use Rattle.std.specs.List.{AllByRecursion};
+ghost use Rattle.std.specs.Prelude.{◌≡◌, ◌↔◌, ◌+◌, ◌^◌, ◌<◌, List, [], ◌++◌, ℕ, length, sum, IsTrue, IfOk, Ok, string_bytes};
+ghost use Rattle.std.specs.Option.{option_map, option_copied};
 ghost use Rattle.std.specs.Ordering.{as_partial_cmp};
 ghost use Rattle.std.proofs.Common.{rules};
 ghost use Rattle.dns_names.specs.Faults.{Reads};
-ghost use Rattle.dns_names.specs.Labels.{IsFolded, IsName, IsWithin, IsBelow, is_within, parent_of, labels_of, AreRows};
+ghost use Rattle.dns_names.specs.Labels.{IsName, IsWithin, IsBelow, is_within, parent_of, labels_of};
 ghost use Rattle.dns_names.specs.Order.{canonical_cmp, same_name, canonical_total, same_name_equiv, same_name_partial, canonical_partial};
+ghost use Rattle.dns_names.specs.Keys.{key_of, key_end, ancestor_key, OrdersNames, IsKeyOfOne, RangesOver, BeginsAll, BeginsAtAncestor};
+ghost use Rattle.dns_names.specs.Rows.{AreRows, name_in};
 ghost use Rattle.dns_names.specs.Spelling.{SpellsAbsolute, SpellsRelative, name_text};
-ghost use Rattle.dns_names.specs.Reading.{fitting, placed, absolute_name, relative_name};
+ghost use Rattle.dns_names.specs.Reading.{absolute_name, ended_name, relative_name, placed_name};
 
 use crate::fault::NameFault;
 use crate::labels::Labels;
 use crate::pieces::PieceRows;
+use crate::rows::{Rows, behind_label, push_key};
 use std::alloc::{AllocError, Global};
 use std::cmp::Ordering;
 use std::marker::Model;
@@ -20,72 +23,54 @@ use std::marker::Model;
 /// The most octets of a name, counting one before each label and one for the root (RFC 1035 section 2.3.4).
 const NAME_MAX: usize = 255;
 
-/// The lengths of labels, each in one octet. The only error is want of memory.
-fn short_lengths(alloc: Global, lengths: &[usize]) -> Result<Vec<u8>, AllocError>
-    requires { AllByRecursion (λ n. n ≤ 63) lengths.now }
-    ensures { IfOk result (λ short. short.items ≡ lengths.now) }
-{
-    let mut short = Vec::with_capacity(alloc, lengths.len())?;
-    for length in lengths {
-        short.push(*length as u8)?;
-    }
-    Ok(short)
-}
-
-/// Puts the lengths of more labels behind those of others. The only error is want of memory.
-fn push_lengths(lengths: &mut Vec<usize>, more: &[u8]) -> Result<(), AllocError>
-    ensures { OnOk result (lengths.new.items ≡ lengths.old.items ++ more.now) }
-{
-    for length in more {
-        lengths.push(usize::from(*length))?;
-    }
-    Ok(())
-}
-
 /// A domain name: labels of 1 to 63 octets, at most 255 octets in all, with the letters A to Z folded to lower case
-/// (RFC 1034 section 3.1, RFC 1035 section 2.3). The order is the canonical one (RFC 4034 section 6.1).
+/// (RFC 1034 section 3.1, RFC 1035 section 2.3). The order is the canonical one (RFC 4034 section 6.1). A name stands in
+/// one allocation, with its key.
 #[derive(Debug, Drop)]
 pub struct Name {
-    lengths: Vec<u8>,
-    octets: Vec<u8>,
+    memory: Vec<u8>,
 }
 
 impl Model for Name {
     ghost Value = { List (List ℕ) };
 
-    ghost view = { λ n. labels_of n.lengths.items n.octets.items };
+    ghost view = { λ n. name_in n.memory.items };
 
-    ghost invariant = { λ n. AreRows n.lengths.items n.octets.items };
+    ghost invariant = { λ n. AreRows n.memory.items };
+}
+
+/// The range of the keys of all names within a name: from the first to before the end.
+#[derive(Debug, Drop)]
+pub struct KeyRange<'a> {
+    /// The key of the name itself.
+    pub first: &'a [u8],
+    /// The first key behind those of the names within, and `None` where there is none, which is so for the root.
+    pub end: Option<Vec<u8>>,
 }
 
 impl Name {
-    ghost use Rattle.dns_names.specs.Rows.{pieces_in, AreChecked};
+    ghost use Rattle.dns_names.specs.Rows.{AreKept, AreEnded, ArePlaced};
+    ghost use Rattle.dns_names.specs.Reading.{Pieces, fitting};
 
-    /// The root, which has no label.
-    fn root(alloc: Global) -> Name
-        ensures { result ≡ [] }
+    /// The name of labels, which lengths cut from a row of octets, before those of another name. The only error is want of
+    /// memory.
+    fn joined(alloc: Global, lengths: &[u8], octets: &[u8], tail: &Rows) -> Result<Name, AllocError>
+        requires whole { sum lengths.now ≡ length octets.now }
+        requires name { IsName (labels_of lengths.now octets.now ++ tail.now) }
+        ensures { IfOk result (λ name. name ≡ labels_of lengths.now octets.now ++ tail.now) }
     {
-        Name {
-            lengths: Vec::new(alloc),
-            octets: Vec::new(alloc),
-        }
-    }
-
-    /// The name of rows whose labels are fit, unless it is too long.
-    fn of_rows(alloc: Global, lengths: &[usize], octets: Vec<u8>) -> Result<Name, NameFault>
-        requires whole { sum lengths.now ≡ length octets.items }
-        requires not_empty { AllByRecursion (λ n. 0 < n) lengths.now }
-        requires short { AllByRecursion (λ n. n ≤ 63) lengths.now }
-        requires folded { AllByRecursion IsFolded octets.items }
-        ensures { Reads (λ name. name) result (fitting (labels_of lengths.now octets.items)) }
-    {
-        if octets.len() + lengths.len() + 1 > NAME_MAX {
-            return Err(NameFault::NameTooLong);
-        }
-        Ok(Name {
-            lengths: short_lengths(alloc, lengths)?,
-            octets,
-        })
+        let labels = lengths.len() + tail.lengths.len();
+        let total = octets.len() + tail.octets.len();
+        let mut memory = Vec::with_capacity(alloc, 2 + 2 * (labels + total))?;
+        memory.push(labels as u8)?;
+        memory.push(total as u8)?;
+        memory.extend_from_slice(lengths)?;
+        memory.extend_from_slice(tail.lengths)?;
+        memory.extend_from_slice(octets)?;
+        memory.extend_from_slice(tail.octets)?;
+        memory.extend_from_slice(tail.key)?;
+        push_key(&mut memory, Labels::of_rows(lengths, octets))?;
+        Ok(Name { memory })
     }
 
     /// Reads an absolute name (RFC 1035 section 5.1): labels with a dot after each, or `.` for the root. An octet stands
@@ -110,19 +95,20 @@ impl Name {
     {
         match text {
             [] => Err(NameFault::Empty),
-            [b'.'] => Ok(Name::root(alloc)),
-            _ => {
-                let PieceRows {
-                    octets,
-                    lengths,
-                    ended,
-                } = PieceRows::read(alloc, text)?;
-                if ended < octets.len() {
-                    return Err(NameFault::NotAbsolute);
-                }
-                Name::of_rows(alloc, &lengths, octets)
-            }
+            [b'.'] => Ok(Name::joined(alloc, &[], &[], &Rows::of_root())?),
+            _ => Name::ended(alloc, text),
         }
+    }
+
+    /// The name of a text that is more than a dot, or the refusal that comes first.
+    fn ended(alloc: Global, text: &[u8]) -> Result<Name, NameFault>
+        ensures { Reads (λ name. name) result (ended_name text.now) }
+    {
+        let pieces = PieceRows::read(text)?;
+        if pieces.last > 0 {
+            return Err(NameFault::NotAbsolute);
+        }
+        Name::of_pieces(alloc, &pieces, &Rows::of_root())
     }
 
     /// Reads a name that may be relative to an origin (RFC 1035 section 5.1): an absolute name as it stands, `@` alone
@@ -139,7 +125,7 @@ impl Name {
         ensures exact { Reads (λ name. name) result (relative_name origin.now text.now) }
     {
         // the proof needs that the origin is a name
-        let _ = &origin.lengths;
+        let _ = &origin.memory;
         Name::relative(alloc, text, origin)
     }
 
@@ -149,28 +135,37 @@ impl Name {
     {
         match text {
             [] => Err(NameFault::Empty),
-            [b'.'] => Ok(Name::root(alloc)),
+            [b'.'] => Ok(Name::joined(alloc, &[], &[], &Rows::of_root())?),
             [b'@'] => Ok(origin.try_copy(alloc)?),
-            _ => Name::of_pieces(alloc, PieceRows::read(alloc, text)?, origin),
+            _ => Name::placed(alloc, text, origin),
         }
     }
 
-    /// The name of pieces, with the origin's labels behind a last piece that no dot ends.
-    fn of_pieces(alloc: Global, pieces: PieceRows, origin: &Name) -> Result<Name, NameFault>
-        requires checked { AreChecked pieces }
-        ensures { Reads (λ name. name) result (fitting (placed origin.now (pieces_in pieces))) }
+    /// The name of a text that is more than a dot or an at, with the labels of an origin behind a last one that no dot ends,
+    /// or the refusal that comes first.
+    fn placed(alloc: Global, text: &[u8], origin: &Name) -> Result<Name, NameFault>
+        ensures { Reads (λ name. name) result (placed_name origin.now text.now) }
     {
-        let PieceRows {
-            mut octets,
-            mut lengths,
-            ended,
-        } = pieces;
-        if ended < octets.len() {
-            lengths.push(octets.len() - ended)?;
-            push_lengths(&mut lengths, &origin.lengths)?;
-            octets.extend_from_slice(&origin.octets)?;
+        let mut pieces = PieceRows::read(text)?;
+        if pieces.last == 0 {
+            return Name::of_pieces(alloc, &pieces, &Rows::of_root());
         }
-        Name::of_rows(alloc, &lengths, octets)
+        pieces.end_label();
+        Name::of_pieces(alloc, &pieces, &origin.rows())
+    }
+
+    /// The name of pieces that dots end, before the labels of another name, unless it is too long.
+    fn of_pieces(alloc: Global, pieces: &PieceRows, tail: &Rows) -> Result<Name, NameFault>
+        requires fits { pieces.now.total + pieces.now.ended < 2 ^ 64 }
+        requires tail { IsName tail.now }
+        requires name { ArePlaced pieces.now tail.now }
+        ensures { (given : Pieces) → AreKept pieces.now given → AreEnded given → Reads (λ name. name) result (fitting (given.ended ++ tail.now)) }
+    {
+        let room = NAME_MAX - 1 - tail.octets.len() - tail.lengths.len();
+        if pieces.total + pieces.ended > room {
+            return Err(NameFault::NameTooLong);
+        }
+        Ok(Name::joined(alloc, &pieces.lengths, &pieces.octets, tail)?)
     }
 
     /// The name in its one canonical spelling: each label with a dot after it, and `.` for the root. The octets `.` `\`
@@ -182,8 +177,16 @@ impl Name {
         ensures again { IfOk result (λ text. absolute_name (string_bytes text) ≡ Ok self.now) }
     {
         // the proof needs that it is a name
-        let _ = &self.lengths;
+        let _ = &self.memory;
         self.to_string(alloc)
+    }
+
+    /// What the name holds, row by row.
+    fn rows(&self) -> Rows<'_>
+        ensures rows { result ≡ self.now }
+        ensures name { IsName self.now }
+    {
+        Rows::cut(&self.memory)
     }
 
     /// The labels, leftmost first.
@@ -191,7 +194,59 @@ impl Name {
         ensures labels { result ≡ self.now }
         ensures name { IsName self.now }
     {
-        Labels::of_rows(&self.lengths, &self.octets)
+        let rows = self.rows();
+        Labels::of_rows(rows.lengths, rows.octets)
+    }
+
+    /// The key: for the labels from the right to the left their octets, with 0 as 1 1 and 1 as 1 2, and then an octet 0. The
+    /// root's is empty. As rows of octets, keys stand in the canonical order of their names (RFC 4034 section 6.1).
+    pub fn key(&self) -> &[u8]
+        ensures key { result.now ≡ key_of self.now }
+        // The order of keys is the canonical order of names.
+        ensures order { OrdersNames self.now }
+        // No other name has this key.
+        ensures unique { IsKeyOfOne self.now }
+        // The names within are those that have keys in its range, and those that have keys which begin with it.
+        ensures range { RangesOver self.now }
+        ensures begins { BeginsAll self.now }
+    {
+        let rows = self.rows();
+        rows.key
+    }
+
+    /// The key of the name that the last `labels` labels are, which is a front of `key()`; `None` where there are not so
+    /// many.
+    pub fn ancestor_key(&self, labels: usize) -> Option<&[u8]>
+        ensures key { option_copied result ≡ ancestor_key self.now labels }
+        ensures begins { BeginsAtAncestor self.now labels }
+    {
+        let key = self.key();
+        let mut rest = key;
+        for _ in 0..labels {
+            rest = behind_label(rest)?;
+        }
+        Some(&key[..key.len() - rest.len()])
+    }
+
+    /// The range of the keys of the names within this one: from its key to the same with its last octet 0 made 1. All keys
+    /// are in that of the root. The only error is want of memory.
+    pub fn key_range(&self, alloc: Global) -> Result<KeyRange<'_>, AllocError>
+        ensures first { IfOk result (λ range. range.first.now ≡ key_of self.now) }
+        ensures end { IfOk result (λ range. option_map (λ end. end.items) range.end ≡ key_end self.now) }
+        // The names within are those that have keys in it.
+        ensures range { RangesOver self.now }
+    {
+        let first = self.key();
+        let Some((_, front)) = first.split_last() else {
+            return Ok(KeyRange { first, end: None });
+        };
+        let mut end = Vec::with_capacity(alloc, first.len())?;
+        end.extend_from_slice(front)?;
+        end.push(1)?;
+        Ok(KeyRange {
+            first,
+            end: Some(end),
+        })
     }
 
     /// Whether the name is some labels followed by those of `top`: equal to it or a subdomain (RFC 1034 section 3.1).
@@ -199,28 +254,27 @@ impl Name {
         ensures test { IsTrue result ↔ IsWithin self.now top.now }
         ensures value { result ≡ is_within self.now top.now }
     {
-        self.lengths.ends_with(&top.lengths) && self.octets.ends_with(&top.octets)
+        self.key().starts_with(top.key())
     }
 
     /// Whether the name is within `top` and not equal to it.
     pub fn is_below(&self, top: &Name) -> bool
         ensures { IsTrue result ↔ IsBelow self.now top.now }
     {
-        self.lengths.len() > top.lengths.len() && self.is_within(top)
+        self.key().len() > top.key().len() && self.is_within(top)
     }
 
     /// The name without its first label, and `None` for the root. The only error is want of memory.
     pub fn parent(&self, alloc: Global) -> Result<Option<Name>, AllocError>
         ensures { IfOk result (λ parent. parent ≡ parent_of self.now) }
     {
-        let Some((length, lengths)) = self.lengths.split_first() else {
+        let rows = self.rows();
+        let Some((length, lengths)) = rows.lengths.split_first() else {
             return Ok(None);
         };
-        let octets = &self.octets[*length as usize..];
-        Ok(Some(Name {
-            lengths: Vec::from_slice(alloc, lengths)?,
-            octets: Vec::from_slice(alloc, octets)?,
-        }))
+        let octets = &rows.octets[usize::from(*length)..];
+        let parent = Name::joined(alloc, lengths, octets, &Rows::of_root())?;
+        Ok(Some(parent))
     }
 
     /// An equal name in memory of its own. The only error is want of memory.
@@ -228,8 +282,7 @@ impl Name {
         ensures { IfOk result (λ copy. copy ≡ self.now) }
     {
         Ok(Name {
-            lengths: Vec::from_slice(alloc, &self.lengths)?,
-            octets: Vec::from_slice(alloc, &self.octets)?,
+            memory: Vec::from_slice(alloc, &self.memory)?,
         })
     }
 }
@@ -240,8 +293,7 @@ impl PartialEq for Name {
     ghost laws = { same_name_partial };
 
     fn eq(&self, other: &Name) -> bool {
-        self.lengths.as_slice() == other.lengths.as_slice()
-            && self.octets.as_slice() == other.octets.as_slice()
+        self.key() == other.key()
     }
 }
 
@@ -259,19 +311,7 @@ impl Ord for Name {
     ghost matches_eq = { λ x y. Prim.search rules };
 
     fn cmp(&self, other: &Name) -> Ordering {
-        let mut ours = self.labels();
-        let mut theirs = other.labels();
-        loop {
-            match (ours.next_back(), theirs.next_back()) {
-                (None, None) => return Ordering::Equal,
-                (None, Some(_)) => return Ordering::Less,
-                (Some(_), None) => return Ordering::Greater,
-                (Some(our), Some(their)) => match our.cmp(their) {
-                    Ordering::Equal => {}
-                    order => return order,
-                },
-            }
-        }
+        self.key().cmp(other.key())
     }
 }
 

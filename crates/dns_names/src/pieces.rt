@@ -1,92 +1,122 @@
 //! The pieces into which dots cut the text of a name.
 
-ghost use Rattle.std.specs.Prelude.{◌≡◌, IfOk, OnOk, ◌==◌, nat_lt};
-ghost use Rattle.std.specs.List.{list_any};
+ghost use Rattle.std.specs.Prelude.{◌≡◌, ◌+◌, ◌<◌, ◌≤◌, ◌^◌, [], ◌∷◌, ◌++◌, take, length, IfOk};
 ghost use Rattle.dns_names.specs.Faults.{Reads};
-ghost use Rattle.dns_names.specs.Reading.{cut, checked, pieces_of};
+ghost use Rattle.dns_names.specs.Reading.{Pieces, cut, checked, pieces_of};
 
 use crate::fault::NameFault;
 use crate::symbol::{Symbol, first_symbol};
-use std::alloc::Global;
+use arrayvec::ArrayVec;
 
 /// The most octets of a label (RFC 1035 section 2.3.4).
 const LABEL_MAX: usize = 63;
 
-/// Whether a label of these lengths is empty.
-fn has_empty(lengths: &[usize]) -> bool
-    ensures { result ≡ list_any (λ n. n == 0) lengths.now }
+/// Puts an octet behind the others, where there is room.
+fn keep<const N: usize>(row: &mut ArrayVec<u8, N>, octet: u8)
+    ensures { row.new.items ≡ take N (row.old.items ++ octet ∷ []) }
 {
-    lengths.iter().any(|length| *length == 0)
+    if !row.is_full() {
+        row.push(octet);
+    }
 }
 
-/// Whether a label of these lengths is too long.
-fn has_long(lengths: &[usize]) -> bool
-    ensures { result ≡ list_any (λ n. nat_lt 63 n) lengths.now }
-{
-    lengths.iter().any(|length| *length > LABEL_MAX)
-}
-
-/// The labels that dots end, by their lengths, and behind them what stands after the last dot. Letters are folded.
+/// The labels that dots end, and what stands behind the last dot. Letters are folded. Octets and lengths are kept as far as
+/// a name has room for them: 254 octets, and 127 labels of one octet each.
 #[derive(Drop)]
-pub struct PieceRows {
-    pub octets: Vec<u8>,
-    pub lengths: Vec<usize>,
-    /// How many octets stand before what follows the last dot.
+pub(crate) struct PieceRows {
+    pub octets: ArrayVec<u8, 254>,
+    /// The lengths of the labels that dots end, 255 for any that are longer.
+    pub lengths: ArrayVec<u8, 127>,
+    /// How many octets the pieces have.
+    pub total: usize,
+    /// How many labels dots end.
     pub ended: usize,
+    /// How many octets stand behind the last dot.
+    pub last: usize,
+    /// Whether a label that a dot ends is empty.
+    pub has_empty: bool,
+    /// Whether a label that a dot ends is too long.
+    pub has_long: bool,
 }
 
 impl PieceRows {
-    ghost use Rattle.dns_names.specs.Rows.{pieces_in, AreCut, AreChecked};
+    ghost use Rattle.dns_names.specs.Rows.{AreKept, Keeps, with_octet, with_dot};
+
+    /// Of no text.
+    fn new() -> PieceRows
+        ensures { AreKept result (record { ended = []; last = [] }) }
+    {
+        PieceRows {
+            octets: ArrayVec::new(),
+            lengths: ArrayVec::new(),
+            total: 0,
+            ended: 0,
+            last: 0,
+            has_empty: false,
+            has_long: false,
+        }
+    }
+
+    /// Puts an octet behind the last dot.
+    fn push(&mut self, octet: u8)
+        requires total { self.old.total + 1 < 2 ^ 64 }
+        requires last { self.old.last + 1 < 2 ^ 64 }
+        ensures { (given : Pieces) → AreKept self.old given → AreKept self.new (with_octet given octet) }
+    {
+        keep(&mut self.octets, octet);
+        self.total += 1;
+        self.last += 1;
+    }
+
+    /// Ends the last label by a dot.
+    pub fn end_label(&mut self)
+        requires { self.old.ended + 1 < 2 ^ 64 }
+        ensures { (given : Pieces) → AreKept self.old given → AreKept self.new (with_dot given) }
+    {
+        self.has_empty = self.has_empty | (self.last == 0);
+        self.has_long = self.has_long | (self.last > LABEL_MAX);
+        keep(&mut self.lengths, self.last.min(255) as u8);
+        self.ended += 1;
+        self.last = 0;
+    }
 
     /// The symbols of a text, cut at the dots.
-    fn cut(alloc: Global, text: &[u8]) -> Result<PieceRows, NameFault>
-        ensures rows { IfOk result AreCut }
-        ensures exact { Reads pieces_in result (cut text.now) }
+    fn cut(text: &[u8]) -> Result<PieceRows, NameFault>
+        ensures fits { IfOk result (λ rows. rows.total + rows.ended ≤ length text.now) }
+        ensures exact { Keeps result (cut text.now) }
     {
-        let mut octets = Vec::with_capacity(alloc, text.len())?;
-        let mut lengths = Vec::new(alloc);
-        let mut ended = 0;
+        let mut rows = PieceRows::new();
         let mut rest = text;
         while !rest.is_empty() {
             let (symbol, after) = first_symbol(rest)?;
             match symbol {
-                Symbol::Octet(octet) => octets.push(octet.to_ascii_lowercase())?,
-                Symbol::Dot => {
-                    lengths.push(octets.len() - ended)?;
-                    ended = octets.len();
-                }
+                Symbol::Octet(octet) => rows.push(octet.to_ascii_lowercase()),
+                Symbol::Dot => rows.end_label(),
             }
             rest = after;
         }
-        Ok(PieceRows {
-            octets,
-            lengths,
-            ended,
-        })
+        Ok(rows)
     }
 
     /// Refuses an empty label that a dot ends, and then a label that is too long.
     fn check(&self) -> Result<(), NameFault>
-        requires { AreCut self.now }
-        ensures checked { OnOk result (AreChecked self.now) }
-        ensures exact { Reads (λ _. pieces_in self.now) result (checked (pieces_in self.now)) }
+        ensures { (given : Pieces) → AreKept self.now given → Reads (λ _. given) result (checked given) }
     {
-        if has_empty(&self.lengths) {
+        if self.has_empty {
             return Err(NameFault::EmptyLabel);
         }
-        let last = self.octets.len() - self.ended;
-        if last > LABEL_MAX || has_long(&self.lengths) {
+        if self.has_long || self.last > LABEL_MAX {
             return Err(NameFault::LabelTooLong);
         }
         Ok(())
     }
 
     /// The pieces of a text, none of which is too long, and none of which that a dot ends is empty.
-    pub fn read(alloc: Global, text: &[u8]) -> Result<PieceRows, NameFault>
-        ensures checked { IfOk result AreChecked }
-        ensures exact { Reads pieces_in result (pieces_of text.now) }
+    pub fn read(text: &[u8]) -> Result<PieceRows, NameFault>
+        ensures fits { IfOk result (λ rows. rows.total + rows.ended ≤ length text.now) }
+        ensures exact { Keeps result (pieces_of text.now) }
     {
-        let rows = PieceRows::cut(alloc, text)?;
+        let rows = PieceRows::cut(text)?;
         rows.check()?;
         Ok(rows)
     }

@@ -276,6 +276,93 @@ fn labels_and_parents(rt: HostRuntime) -> Result<(), Fail> {
     Ok(())
 }
 
+/// Names, and the octets of their keys. Worked out by hand from the rule: labels from the right, 0 as 1 1, 1 as 1 2, and 0
+/// behind each label.
+const KEYS: [(&[u8], &[u8], &str); 8] = [
+    (b".", b"", "the root"),
+    (b"a.", b"a\0", "one label"),
+    (b"\\000.", b"\x01\x01\0", "an octet 0"),
+    (b"\\001.", b"\x01\x02\0", "an octet 1"),
+    (b"\\002.", b"\x02\0", "an octet 2"),
+    (b"a\\000.", b"a\x01\x01\0", "an octet 0 behind another"),
+    (b"z.a.", b"a\0z\0", "two labels, from the right"),
+    (
+        b"WWW.example.org.",
+        b"org\0example\0www\0",
+        "three labels, folded",
+    ),
+];
+
+#[test]
+fn keys(rt: HostRuntime) -> Result<(), Fail> {
+    for (name, key, why) in KEYS {
+        let name = Name::read_absolute(rt.alloc(), name)?;
+        assert!(rt; name.key() == key, "{why}");
+        let copy = name.try_copy(rt.alloc())?;
+        assert!(rt; copy.key() == key, "a copy: {why}");
+    }
+    let origin = Name::read_absolute(rt.alloc(), b"example.org.")?;
+    let name = Name::read_relative(rt.alloc(), b"a.\\000b", &origin)?;
+    assert!(rt; name.key() == b"org\0example\0\x01\x01b\0a\0".as_slice());
+    Ok(())
+}
+
+#[test]
+fn keys_of_ancestors(rt: HostRuntime) -> Result<(), Fail> {
+    let name = Name::read_absolute(rt.alloc(), b"a\\000.b.org.")?;
+    let rows: [(usize, Option<&[u8]>); 6] = [
+        (0, Some(b"")),
+        (1, Some(b"org\0")),
+        (2, Some(b"org\0b\0")),
+        (3, Some(b"org\0b\0a\x01\x01\0")),
+        (4, None),
+        (usize::MAX, None),
+    ];
+    for (labels, want) in rows {
+        assert!(rt; name.ancestor_key(labels) == want, "{labels}");
+    }
+    Ok(())
+}
+
+/// Names, names, and whether the key of the second lies in the range of the first.
+const RANGES: [(&[u8], &[u8], bool, &str); 9] = [
+    (b"a.", b"a.", true, "the name itself"),
+    (b"a.", b"z.a.", true, "a name below it"),
+    (b"a.", b"\\000.a.", true, "the first name below it"),
+    (
+        b"a.",
+        b"\\255\\255.\\255.a.",
+        true,
+        "names that are far behind",
+    ),
+    (b"a.", b"a\\000.", false, "the next name beside it"),
+    (b"a.", b"b.", false, "a name behind it"),
+    (b"b.a.", b"a.", false, "the name above it"),
+    (b".", b".", true, "the root"),
+    (b".", b"\\255.", true, "all are below the root"),
+];
+
+#[test]
+fn ranges_of_keys(rt: HostRuntime) -> Result<(), Fail> {
+    for (top, name, want, why) in RANGES {
+        let top = Name::read_absolute(rt.alloc(), top)?;
+        let name = Name::read_absolute(rt.alloc(), name)?;
+        let range = top.key_range(rt.alloc())?;
+        let before_end = match &range.end {
+            Some(end) => name.key() < end.as_slice(),
+            None => true,
+        };
+        assert_eq!(rt; range.first <= name.key() && before_end, want, "{why}");
+        assert_eq!(rt; name.is_within(&top), want, "{why}");
+    }
+    let a = Name::read_absolute(rt.alloc(), b"a.")?;
+    let range = a.key_range(rt.alloc())?;
+    assert!(rt; range.first == b"a\0".as_slice());
+    let end = range.end.ok_or("an end")?;
+    assert!(rt; end.as_slice() == b"a\x01".as_slice());
+    Ok(())
+}
+
 #[test]
 fn faults_say_what_is_wrong(rt: HostRuntime) -> Result<(), Fail> {
     let rows = [

@@ -1,32 +1,37 @@
-use Rattle.std.proofs.Common.{◌≡◌, ◌<◌, length, subst, arith, List, ℕ}
-use Rattle.dns_names.specs.Rows.{pieces_in}
-use Rattle.dns_names.specs.Reading.{placed, fitting}
-use Rattle.dns_names.specs.Faults.{Reads}
-use Rattle.dns_names.proofs.PlaceLemmas.{ArePlaced, kept, continued}
+use Rattle.std.proofs.Common.{◌++◌, List, ℕ, Ok, sym, ap, ◌∙◌, arith}
+use Rattle.dns_names.proofs.RowLemmas.{wire_len-name, wire_len-rows}
+use Rattle.dns_names.proofs.KeptLemmas.{wire_len-kept, kept_whole, kept_labels}
+use Rattle.dns_names.proofs.PieceLaws.{fitting_again}
+use Rattle.dns_names.proofs.PlacedLemmas.{too_long}
 use Rattle.dns_names.proofs.name.Name.of_pieces.Goals as goal
-use Rattle.dns_names.proofs.name.Name.of_pieces.Goals.{After-deref-2, then-ended-len+in_ok-push+in_ok-push_lengths+in_ok-extend_from_slice, else-ended-len}
 
-placed_rows : (c : After-deref-2) → ArePlaced c.if-ended-len.lengths.items c.if-ended-len.octets.items (placed c.args.origin.now (pieces_in c.args.pieces))
-placed_rows c = elim c.if-ended-len.branch [
-  | then-ended-len+in_ok-push+in_ok-push_lengths+in_ok-extend_from_slice w ↦
-      let h : c.args.pieces.ended < length c.args.pieces.octets.items = omega (arith, w.if-ended-len.true, c.len.ensures, c.args.pieces.octets.ok.0) in
-      let n : w.len-then-ended-len.result ≡ length c.args.pieces.octets.items = omega (arith, w.len-then-ended-len.ensures, c.args.pieces.octets.ok.0) in
-      let o = c.origin.inside in
-      rw (w.lengths-is, w.octets-is, w.in_ok-push_lengths.ensures, w.in_ok-push.ensures.items, w.in_ok-extend_from_slice.ensures.items, w.deref.ensures.value, w.deref-then-ended-len.ensures.value, n, ← c.origin.view_is)
-      (continued c.args.pieces c.requires.checked o.lengths.items o.octets.items c.origin.invariant h)
-  | else-ended-len w ↦ rw (w.lengths-is, w.octets-is) (kept c.args.pieces c.requires.checked c.args.origin.now (omega (arith, w.if-ended-len.false, c.len.ensures, c.args.pieces.octets.ok.0)))
-]
+pub overflow_sub-room-2 : goal.overflow_sub-room-2
+overflow_sub-room-2 c = omega (arith, wire_len-name c.args.tail.now, wire_len-rows _ _ _ c.args.tail.now c.tail.invariant c.tail.view_is, c.requires.tail.short)
 
-pub of_rows-requires-clause-not_empty : goal.of_rows-requires-clause-not_empty
-of_rows-requires-clause-not_empty c = rw c.deref-2.ensures.value (placed_rows c).not_empty
+pub overflow_sub-room-3 : goal.overflow_sub-room-3
+overflow_sub-room-3 c = omega (arith, wire_len-name c.args.tail.now, wire_len-rows _ _ _ c.args.tail.now c.tail.invariant c.tail.view_is, c.requires.tail.short)
 
-pub of_rows-requires-clause-short : goal.of_rows-requires-clause-short
-of_rows-requires-clause-short c = rw c.deref-2.ensures.value (placed_rows c).short
+pub returns-then-pieces-room : goal.returns-then-pieces-room
+returns-then-pieces-room c = λ given kept ends.
+    let tail = c.args.tail.now in
+    too_long (given.ended ++ tail) (omega (arith, wire_len-kept c.args.pieces.now given kept ends tail, wire_len-name tail, wire_len-rows _ _ _ tail c.tail.invariant c.tail.view_is, c.requires.tail.short, c.if-pieces-room.true))
 
-pub of_rows-requires-clause-folded : goal.of_rows-requires-clause-folded
-of_rows-requires-clause-folded c = (placed_rows c).folded
+pub joined-requires-clause-whole : goal.joined-requires-clause-whole
+joined-requires-clause-whole c =
+    let p = c.requires.name in
+    rw (c.deref.ensures.0, c.deref-2.ensures.0) (kept_whole c.args.pieces.now p.0 p.1 p.2 (omega (arith, c.if-pieces-room.false)))
+
+pub joined-requires-clause-name : goal.joined-requires-clause-name
+joined-requires-clause-name c =
+    let p = c.requires.name in
+    let tail = c.args.tail.now in
+    let labels = kept_labels c.args.pieces.now p.0 p.1 p.2 (omega (arith, c.if-pieces-room.false)) in
+    rw (c.deref.ensures.0, c.deref-2.ensures.0, labels)
+    (p.3 (omega (arith, wire_len-kept c.args.pieces.now p.0 p.1 p.2 tail, wire_len-name tail, wire_len-rows _ _ _ tail c.tail.invariant c.tail.view_is, c.requires.tail.short, c.if-pieces-room.false)))
 
 pub returns : goal.returns
-returns c =
-    let p = placed_rows (goal.at.returns c).After-deref-2 in
-    subst (λ (labels : List (List ℕ)). Reads (λ name. name) c.of_rows.result (fitting labels)) p.labels (rw c.deref-2.ensures.value at c.of_rows.ensures)
+returns c = λ given kept ends.
+    let tail = c.args.tail.now in
+    let labels = kept_labels c.args.pieces.now given kept ends (omega (arith, c.if-pieces-room.false)) in
+    let fits = fitting_again (given.ended ++ tail) (omega (arith, wire_len-kept c.args.pieces.now given kept ends tail, wire_len-name tail, wire_len-rows _ _ _ tail c.tail.invariant c.tail.view_is, c.requires.tail.short, c.if-pieces-room.false)) in
+    fits ∙ ap (λ (n : List (List ℕ)). Ok n) (sym (rw (c.in_ok-joined.ensures, c.deref.ensures.0, c.deref-2.ensures.0) (ap (λ (ls : List (List ℕ)). ls ++ tail) labels)))
