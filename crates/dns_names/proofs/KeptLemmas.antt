@@ -1,10 +1,10 @@
 -- Pieces of a text, as far as a name has room for them.
-use Rattle.std.proofs.Common.{◌≡◌, ℕ, ◌+◌, ◌≤◌, inl, inr, Bool, true, false, List, [], ◌∷◌, ◌++◌, length, sum, take, map, refl, sym, ap, ◌∙◌, append_assoc, append-nil, arith, length-append}
+use Rattle.std.proofs.Common.{◌≡◌, ℕ, ◌+◌, ◌≤◌, inl, inr, Bool, true, false, List, [], ◌∷◌, ◌++◌, length, min, set, sum, take, map, refl, sym, ap, ◌∙◌, append_assoc, append-nil, arith, length-append}
 use Rattle.std.specs.Prelude.{◌||◌}
 use Rattle.std.specs.List.{concat, list_any}
 use Rattle.std.proofs.lemmas.Bool.{cases_lt, ltb-false}
 use Rattle.std.proofs.lemmas.Bool.Decides.{eqb_tells}
-use Rattle.std.proofs.lemmas.List.{take_all, take-append-le, length-take, length-map, map-append}
+use Rattle.std.proofs.lemmas.List.{take_all, take-append-le, take_more_set, take-set-le, length-map, map-append}
 use Rattle.std.proofs.lemmas.List.Folds.{concat-append}
 use Rattle.dns_names.specs.Labels.{labels_of, wire_len}
 use Rattle.dns_names.proofs.RowLemmas.{sum-lengths, labels_of-name, wire_len-name}
@@ -16,12 +16,19 @@ either_false : (a b : Bool) → (a || b) ≡ false → (a ≡ false) × (b ≡ f
 either_false true b e = absurd cc
 either_false false b e = (refl, e)
 
--- one more behind a front that is kept
-pub keep_more : {A : Type 0} (n : ℕ) (xs : List A) (x : A) → take n (take n xs ++ x ∷ []) ≡ take n (xs ++ x ∷ [])
-keep_more {A = A} n xs x =
-    elim (cases_lt (length xs) n) [
-      | inl l ↦ ap (λ (ys : List A). take n (ys ++ x ∷ [])) (take_all n xs (omega arith))
-      | inr h ↦ take-append-le n (take n xs) (x ∷ []) (omega (arith, length-take n xs)) ∙ take_all n (take n xs) (omega (arith, length-take n xs)) ∙ sym (take-append-le n xs (x ∷ []) h)
+-- one more behind those that are kept, which has a place or is left out
+pub keep_more : (room n : ℕ) (row xs : List ℕ) (o : ℕ) → length row ≡ room → n ≡ length xs → take (min n room) row ≡ take room xs → take (min (n + 1) room) (set row n o) ≡ take room (xs ++ o ∷ [])
+keep_more room n row xs o long here kept =
+    elim (cases_lt n room) [
+      | inl l ↦
+          let a : min (n + 1) room ≡ n + 1 = omega arith in
+          let b : min n room ≡ n = omega arith in
+          ap (λ (k : ℕ). take k (set row n o)) a ∙ take_more_set row n o (omega arith) ∙ ap (λ (l : List ℕ). l ++ o ∷ []) (ap (λ (k : ℕ). take k row) (sym b) ∙ kept ∙ take_all room xs (omega arith))
+          ∙ sym (take_all room (xs ++ o ∷ []) (omega (arith, length-append xs (o ∷ []))))
+      | inr h ↦
+          let a : min (n + 1) room ≡ room = omega arith in
+          let b : min n room ≡ room = omega arith in
+          ap (λ (k : ℕ). take k (set row n o)) a ∙ take-set-le room row n o h ∙ ap (λ (k : ℕ). take k row) (sym b) ∙ kept ∙ sym (take-append-le room xs (o ∷ []) (omega arith))
     ]
 
 module _ (ended : List (List ℕ)) (last : List ℕ) where
@@ -89,14 +96,23 @@ module _ (rows : PieceRows) (given : Pieces) (kept : AreKept rows given) (ends :
       omega (arith, wire_len-name (given.ended ++ tail), length-append given.ended tail, ap (length {A = ℕ}) (concat-append given.ended tail), length-append (concat given.ended) (concat tail), total_is, kept.ended)
 
   module _ (fits : rows.total + rows.ended ≤ 254) where
-    octets_are : rows.octets.items ≡ concat given.ended
-    octets_are = kept.octets ∙ ap (take 254) octets_whole ∙ take_all 254 (concat given.ended) (omega (arith, total_is))
+    octets_are : take rows.total rows.octets ≡ concat given.ended
+    octets_are =
+        let few : min rows.total 254 ≡ rows.total = omega arith in
+        ap (λ (k : ℕ). take k rows.octets) (sym few) ∙ kept.octets ∙ ap (take 254) octets_whole ∙ take_all 254 (concat given.ended) (omega (arith, total_is))
 
-    lengths_are : rows.lengths.items ≡ map length given.ended
-    lengths_are = kept.lengths ∙ ap (take 127) (short_lengths given.ended ends.short) ∙ take_all 127 (map length given.ended) (omega (arith, length-map given.ended length, some_octets given.ended ends.some, total_is, kept.ended))
+    lengths_are : take rows.ended rows.lengths ≡ map length given.ended
+    lengths_are =
+        let some = some_octets given.ended ends.some in
+        let few : min rows.ended 127 ≡ rows.ended = omega (arith, some, total_is, kept.ended) in
+        ap (λ (k : ℕ). take k rows.lengths) (sym few) ∙ kept.lengths ∙ ap (take 127) (short_lengths given.ended ends.short) ∙ take_all 127 (map length given.ended) (omega (arith, length-map given.ended length, some, total_is, kept.ended))
 
-    pub kept_whole : sum rows.lengths.items ≡ length rows.octets.items
+    -- there are no more labels than there is room for
+    pub ended_fits : rows.ended ≤ 127
+    ended_fits = omega (arith, some_octets given.ended ends.some, total_is, kept.ended)
+
+    pub kept_whole : sum (take rows.ended rows.lengths) ≡ length (take rows.total rows.octets)
     kept_whole = ap sum lengths_are ∙ sum-lengths given.ended ∙ ap (length {A = ℕ}) (sym octets_are)
 
-    pub kept_labels : labels_of rows.lengths.items rows.octets.items ≡ given.ended
-    kept_labels = ap (λ (ns : List ℕ). labels_of ns rows.octets.items) lengths_are ∙ ap (labels_of (map length given.ended)) (octets_are ∙ sym (append-nil (concat given.ended))) ∙ labels_of-name given.ended []
+    pub kept_labels : labels_of (take rows.ended rows.lengths) (take rows.total rows.octets) ≡ given.ended
+    kept_labels = ap (λ (ns : List ℕ). labels_of ns (take rows.total rows.octets)) lengths_are ∙ ap (labels_of (map length given.ended)) (octets_are ∙ sym (append-nil (concat given.ended))) ∙ labels_of-name given.ended []

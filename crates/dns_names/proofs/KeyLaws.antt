@@ -1,6 +1,6 @@
 -- The laws of keys: their order, their beginnings and their ranges.
-use Rattle.std.proofs.Common.{◌≡◌, ℕ, zero, suc, ◌+◌, ◌-◌, ◌<◌, ◌≤◌, ◌⊎◌, inl, inr, true, List, [], ◌∷◌, ◌++◌, length, take, drop, reverse, Some, None, refl, sym, ap, subst, ◌∙◌, append_assoc, append-nil, arith, leb, ne_eqb, add-one, length-append, length-drop}
-use Rattle.std.specs.List.{flat_map}
+use Rattle.std.proofs.Common.{◌≡◌, ℕ, zero, suc, ◌+◌, ◌-◌, ◌<◌, ◌≤◌, ◌⊎◌, inl, inr, true, List, [], ◌∷◌, ◌++◌, length, take, drop, reverse, Some, None, refl, sym, ap, subst, ◌∙◌, append_assoc, append-nil, arith, leb, ltb, ltb-true, ne_eqb, add-one, length-append, length-drop}
+use Rattle.std.specs.List.{flat_map, list_all}
 use Rattle.std.specs.Option.{IfSome}
 use Rattle.std.specs.declared.cmp.Ordering.{Ordering}
 use Rattle.std.specs.declared.cmp.Ordering.TheVariants.{Less, Equal, Greater}
@@ -8,7 +8,7 @@ use Rattle.std.specs.Ordering.{nat_cmp, ordering_then, is_le, is_lt}
 use Rattle.std.specs.Cmp.{nat_cmp_is, tied_itself}
 use Rattle.std.specs.Cmp.Lexicographic.{slice_cmp, nat_list_cmp_total}
 use Rattle.std.specs.FinMap.{slice_cmp-IsAntisymmetric, nat_cmp-IsAntisymmetric}
-use Rattle.std.proofs.lemmas.Bool.{cases_lt, cond_both, le-leb, lt-leb}
+use Rattle.std.proofs.lemmas.Bool.{cases_lt, cond_both, le-leb, lt-leb, and_parts}
 use Rattle.std.proofs.lemmas.Bool.Decides.{eqb_tells}
 use Rattle.std.proofs.lemmas.List.{reverse-append, reverse-reverse, same_from_push, drop_all, take_all, take-append-le, take-append-drop, length-reverse}
 use Rattle.std.proofs.lemmas.List.Concat.{flat_map-append}
@@ -61,6 +61,17 @@ octet_order a b s t =
           | inr b1 ↦ elim b1 [ inl b1 ↦ rw (b1, a2.1, greater a 1 (omega (arith, a2.0))) refl | inr b2 ↦ rw (a2.1, b2.1) refl ]
         ]
       ]
+    ]
+
+-- octets that stand for themselves
+pub front_stands : (label : List ℕ) → list_all (λ o. ltb 1 o) label ≡ true → label_front label ≡ label
+front_stands [] all = refl
+front_stands (o ∷ label) all =
+    let both = and_parts (ltb 1 o) (list_all (λ o. ltb 1 o) label) all in
+    let more = ltb-true 1 o both.0 in
+    elim (octet_cases o) [
+      | inl o0 ↦ absurd (omega arith)
+      | inr o1 ↦ elim o1 [ inl o1 ↦ absurd (omega arith) | inr o2 ↦ rw o2.1 (ap (λ (l : List ℕ). o ∷ l) (front_stands label both.1)) ]
     ]
 
 -- ---- labels

@@ -44,8 +44,10 @@ kept_len label = min (length label) 255
 -- What is kept of pieces: their octets and lengths as far as a name has room for them, how many there are of each, and
 -- whether a label is empty or too long.
 pub record AreKept (rows : PieceRows) (given : Pieces) : Type 0 where
-  pub octets : rows.octets.items ≡ take 254 (concat given.ended ++ given.last)
-  pub lengths : rows.lengths.items ≡ take 127 (map kept_len given.ended)
+  pub octets : take (min rows.total 254) rows.octets ≡ take 254 (concat given.ended ++ given.last)
+  pub octets_room : length rows.octets ≡ 254
+  pub lengths : take (min rows.ended 127) rows.lengths ≡ take 127 (map kept_len given.ended)
+  pub lengths_room : length rows.lengths ≡ 127
   pub total : rows.total ≡ length (concat given.ended ++ given.last)
   pub ended : rows.ended ≡ length given.ended
   pub last : rows.last ≡ length given.last
@@ -53,9 +55,9 @@ pub record AreKept (rows : PieceRows) (given : Pieces) : Type 0 where
   pub has_long : rows.has_long ≡ list_any is_long given.ended
 
 -- rows keep the pieces that a definition reads, or the refusal is the definition's
-abbrev pub Keeps : Result PieceRows NameFault → Result Pieces NameFault → Type 0
-Keeps (Ok rows) read = (given : Pieces) × (read ≡ Ok given) × AreKept rows given
-Keeps (Err fault) read = Refuses fault read
+abbrev pub Keeps : PieceRows → Result (Unit {0}) NameFault → Result Pieces NameFault → Type 0
+Keeps rows (Ok done) read = (given : Pieces) × (read ≡ Ok given) × AreKept rows given
+Keeps rows (Err fault) read = Refuses fault read
 
 -- one octet more behind the last dot
 abbrev pub with_octet : Pieces → ℕ → Pieces

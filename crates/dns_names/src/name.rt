@@ -104,7 +104,8 @@ impl Name {
     fn ended(alloc: Global, text: &[u8]) -> Result<Name, NameFault>
         ensures { Reads (λ name. name) result (ended_name text.now) }
     {
-        let pieces = PieceRows::read(text)?;
+        let mut pieces = PieceRows::new();
+        pieces.read(text)?;
         if pieces.last > 0 {
             return Err(NameFault::NotAbsolute);
         }
@@ -146,7 +147,8 @@ impl Name {
     fn placed(alloc: Global, text: &[u8], origin: &Name) -> Result<Name, NameFault>
         ensures { Reads (λ name. name) result (placed_name origin.now text.now) }
     {
-        let mut pieces = PieceRows::read(text)?;
+        let mut pieces = PieceRows::new();
+        pieces.read(text)?;
         if pieces.last == 0 {
             return Name::of_pieces(alloc, &pieces, &Rows::of_root());
         }
@@ -165,7 +167,9 @@ impl Name {
         if pieces.total + pieces.ended > room {
             return Err(NameFault::NameTooLong);
         }
-        Ok(Name::joined(alloc, &pieces.lengths, &pieces.octets, tail)?)
+        let lengths = &pieces.lengths[..pieces.ended];
+        let octets = &pieces.octets[..pieces.total];
+        Ok(Name::joined(alloc, lengths, octets, tail)?)
     }
 
     /// The name in its one canonical spelling: each label with a dot after it, and `.` for the root. The octets `.` `\`

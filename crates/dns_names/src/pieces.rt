@@ -1,22 +1,21 @@
 //! The pieces into which dots cut the text of a name.
 
-ghost use Rattle.std.specs.Prelude.{◌≡◌, ◌+◌, ◌<◌, ◌≤◌, ◌^◌, [], ◌∷◌, ◌++◌, take, length, IfOk};
+ghost use Rattle.std.specs.Prelude.{◌≡◌, ◌+◌, ◌<◌, ◌≤◌, ◌^◌, [], length, slice_set, OnOk};
 ghost use Rattle.dns_names.specs.Faults.{Reads};
 ghost use Rattle.dns_names.specs.Reading.{Pieces, cut, checked, pieces_of};
 
 use crate::fault::NameFault;
 use crate::symbol::{Symbol, first_symbol};
-use arrayvec::ArrayVec;
 
 /// The most octets of a label (RFC 1035 section 2.3.4).
 const LABEL_MAX: usize = 63;
 
-/// Puts an octet behind the others, where there is room.
-fn keep<const N: usize>(row: &mut ArrayVec<u8, N>, octet: u8)
-    ensures { row.new.items ≡ take N (row.old.items ++ octet ∷ []) }
+/// Puts an octet at a place, where there is room.
+fn keep(row: &mut [u8], place: usize, octet: u8)
+    ensures { row.new ≡ slice_set row.old place octet }
 {
-    if !row.is_full() {
-        row.push(octet);
+    if place < row.len() {
+        row[place] = octet;
     }
 }
 
@@ -24,9 +23,9 @@ fn keep<const N: usize>(row: &mut ArrayVec<u8, N>, octet: u8)
 /// a name has room for them: 254 octets, and 127 labels of one octet each.
 #[derive(Drop)]
 pub(crate) struct PieceRows {
-    pub octets: ArrayVec<u8, 254>,
+    pub octets: [u8; 254],
     /// The lengths of the labels that dots end, 255 for any that are longer.
-    pub lengths: ArrayVec<u8, 127>,
+    pub lengths: [u8; 127],
     /// How many octets the pieces have.
     pub total: usize,
     /// How many labels dots end.
@@ -43,12 +42,12 @@ impl PieceRows {
     ghost use Rattle.dns_names.specs.Rows.{AreKept, Keeps, with_octet, with_dot};
 
     /// Of no text.
-    fn new() -> PieceRows
+    pub fn new() -> PieceRows
         ensures { AreKept result (record { ended = []; last = [] }) }
     {
         PieceRows {
-            octets: ArrayVec::new(),
-            lengths: ArrayVec::new(),
+            octets: [0; 254],
+            lengths: [0; 127],
             total: 0,
             ended: 0,
             last: 0,
@@ -63,7 +62,7 @@ impl PieceRows {
         requires last { self.old.last + 1 < 2 ^ 64 }
         ensures { (given : Pieces) → AreKept self.old given → AreKept self.new (with_octet given octet) }
     {
-        keep(&mut self.octets, octet);
+        keep(&mut self.octets, self.total, octet);
         self.total += 1;
         self.last += 1;
     }
@@ -75,27 +74,27 @@ impl PieceRows {
     {
         self.has_empty = self.has_empty | (self.last == 0);
         self.has_long = self.has_long | (self.last > LABEL_MAX);
-        keep(&mut self.lengths, self.last.min(255) as u8);
+        keep(&mut self.lengths, self.ended, self.last.min(255) as u8);
         self.ended += 1;
         self.last = 0;
     }
 
     /// The symbols of a text, cut at the dots.
-    fn cut(text: &[u8]) -> Result<PieceRows, NameFault>
-        ensures fits { IfOk result (λ rows. rows.total + rows.ended ≤ length text.now) }
-        ensures exact { Keeps result (cut text.now) }
+    fn cut(&mut self, text: &[u8]) -> Result<(), NameFault>
+        requires { AreKept self.old (record { ended = []; last = [] }) }
+        ensures fits { OnOk result (self.new.total + self.new.ended ≤ length text.now) }
+        ensures exact { Keeps self.new result (cut text.now) }
     {
-        let mut rows = PieceRows::new();
         let mut rest = text;
         while !rest.is_empty() {
             let (symbol, after) = first_symbol(rest)?;
             match symbol {
-                Symbol::Octet(octet) => rows.push(octet.to_ascii_lowercase()),
-                Symbol::Dot => rows.end_label(),
+                Symbol::Octet(octet) => self.push(octet.to_ascii_lowercase()),
+                Symbol::Dot => self.end_label(),
             }
             rest = after;
         }
-        Ok(rows)
+        Ok(())
     }
 
     /// Refuses an empty label that a dot ends, and then a label that is too long.
@@ -111,13 +110,13 @@ impl PieceRows {
         Ok(())
     }
 
-    /// The pieces of a text, none of which is too long, and none of which that a dot ends is empty.
-    pub fn read(text: &[u8]) -> Result<PieceRows, NameFault>
-        ensures fits { IfOk result (λ rows. rows.total + rows.ended ≤ length text.now) }
-        ensures exact { Keeps result (pieces_of text.now) }
+    /// Reads the pieces of a text, none of which is too long, and none of which that a dot ends is empty.
+    pub fn read(&mut self, text: &[u8]) -> Result<(), NameFault>
+        requires { AreKept self.old (record { ended = []; last = [] }) }
+        ensures fits { OnOk result (self.new.total + self.new.ended ≤ length text.now) }
+        ensures exact { Keeps self.new result (pieces_of text.now) }
     {
-        let rows = PieceRows::cut(text)?;
-        rows.check()?;
-        Ok(rows)
+        self.cut(text)?;
+        self.check()
     }
 }

@@ -1,6 +1,7 @@
 //! How a name stands in memory.
 
-ghost use Rattle.std.specs.Prelude.{◌≡◌, ◌++◌, [], List, ℕ, OnOk};
+ghost use Rattle.std.specs.Prelude.{◌≡◌, ◌++◌, [], List, ℕ, OnOk, nat_lt};
+ghost use Rattle.std.specs.List.{list_all};
 ghost use Rattle.std.specs.Option.{option_copied};
 ghost use Rattle.dns_names.specs.Labels.{labels_of};
 ghost use Rattle.dns_names.specs.Keys.{label_front, key_of};
@@ -70,10 +71,21 @@ pub(crate) fn behind_label(key: &[u8]) -> Option<&[u8]>
     None
 }
 
+/// Whether all octets of a label stand for themselves in keys.
+fn stands_in_keys(label: &[u8]) -> bool
+    ensures { result ≡ list_all (λ o. nat_lt 1 o) label.now }
+{
+    label.iter().all(|octet| *octet > 1)
+}
+
 /// Puts the octets of a label behind a key. The only error is want of memory.
 fn push_label(key: &mut Vec<u8>, label: &[u8]) -> Result<(), AllocError>
     ensures { OnOk result (key.new.items ≡ key.old.items ++ label_front label.now) }
 {
+    if stands_in_keys(label) {
+        key.extend_from_slice(label)?;
+        return Ok(());
+    }
     for octet in label {
         match *octet {
             0 => key.extend_from_slice(&[1, 1])?,

@@ -27,7 +27,7 @@ loop-rest-preserved-in-Octet c =
       with_octet given c.to_ascii_lowercase.result,
       kept,
       rw c.to_ascii_lowercase.ensures.value so_far,
-      omega (arith, counts_octet l.rows c.push.new.self given c.to_ascii_lowercase.result l.invariant.1 kept, l.invariant.3, text_shortens l.rest.now c.in_ok-symbol.symbol c.in_ok-symbol.after.now c.in_ok-symbol.ensures),
+      omega (arith, counts_octet l.self c.push.new.self given c.to_ascii_lowercase.result l.invariant.1 kept, l.invariant.3, text_shortens l.rest.now c.in_ok-symbol.symbol c.in_ok-symbol.after.now c.in_ok-symbol.ensures),
     )
 
 pub loop-rest-preserved : goal.loop-rest-preserved
@@ -39,7 +39,7 @@ loop-rest-preserved c =
       with_dot given,
       kept,
       after_dot given.ended given.last l.rest.now c.in_ok-symbol.after.now (cut c.args.text.now) e l.invariant.2,
-      omega (arith, counts_dot l.rows c.end_label.new.self given l.invariant.1 kept, l.invariant.3, text_shortens l.rest.now c.in_ok-symbol.symbol c.in_ok-symbol.after.now c.in_ok-symbol.ensures),
+      omega (arith, counts_dot l.self c.end_label.new.self given l.invariant.1 kept, l.invariant.3, text_shortens l.rest.now c.in_ok-symbol.symbol c.in_ok-symbol.after.now c.in_ok-symbol.ensures),
     )
 
 pub returns-clause-exact : goal.returns-clause-exact

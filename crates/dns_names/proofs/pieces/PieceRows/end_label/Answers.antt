@@ -1,6 +1,7 @@
-use Rattle.std.proofs.Common.{ℕ, List, Bool, ◌++◌, ◌∷◌, [], take, map, eqb, ltb, refl, ap, ◌∙◌, length, length-append, arith}
+use Rattle.std.proofs.Common.{◌≡◌, ℕ, Bool, sym, ◌∷◌, [], take, map, eqb, ltb, refl, ap, ◌∙◌, length, length-append, arith}
 use Rattle.std.specs.Prelude.{◌||◌, min}
 use Rattle.std.specs.List.{list_any}
+use Rattle.std.proofs.lemmas.List.{length-map, length-set}
 use Rattle.dns_names.specs.Reading.{is_empty, is_long}
 use Rattle.dns_names.specs.Rows.{kept_len}
 use Rattle.dns_names.proofs.KeptLemmas.{keep_more, octets_ended, lengths_more, any_more}
@@ -9,10 +10,12 @@ use Rattle.dns_names.proofs.pieces.PieceRows.end_label.Goals as goal
 pub returns : goal.returns
 returns c = λ given kept.
     let lengths = map kept_len given.ended in
+    let len : c.min.result ≡ kept_len given.last = c.min.ensures ∙ ap (λ (n : ℕ). min n 255) kept.last in
     record {
       octets = kept.octets ∙ ap (take 254) (octets_ended given.ended given.last);
-      lengths = c.keep.ensures ∙ ap (λ (n : ℕ). take 127 (c.args.self.now.lengths.items ++ n ∷ [])) (c.min.ensures ∙ ap (λ (n : ℕ). min n 255) kept.last)
-          ∙ ap (λ (ns : List ℕ). take 127 (ns ++ kept_len given.last ∷ [])) kept.lengths ∙ keep_more 127 lengths (kept_len given.last) ∙ ap (take 127) (lengths_more given.ended given.last);
+      octets_room = kept.octets_room;
+      lengths = rw (c.keep.ensures, len) (keep_more 127 c.args.self.now.ended c.args.self.now.lengths lengths (kept_len given.last) kept.lengths_room (kept.ended ∙ sym (length-map given.ended kept_len)) kept.lengths ∙ ap (take 127) (lengths_more given.ended given.last));
+      lengths_room = rw c.keep.ensures (length-set c.args.self.now.lengths c.args.self.now.ended c.min.result ∙ kept.lengths_room);
       total = kept.total ∙ ap (length {A = ℕ}) (octets_ended given.ended given.last);
       ended = omega (arith, kept.ended, length-append given.ended (given.last ∷ []));
       last = refl;
