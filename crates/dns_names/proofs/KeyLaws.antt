@@ -30,7 +30,7 @@ less a b h = sym (nat_cmp_is a b Less h)
 greater : (a b : ℕ) → b < a → nat_cmp a b ≡ Greater
 greater a b h = sym (nat_cmp_is a b Greater h)
 
-tied : (a : ℕ) → nat_cmp a a ≡ Equal
+pub tied : (a : ℕ) → nat_cmp a a ≡ Equal
 tied a = sym (nat_cmp_is a a Equal refl)
 
 -- ---- octets
@@ -133,7 +133,7 @@ labels_order (x ∷ xs) (y ∷ ys) =
 pub key_order : (name : List (List ℕ)) → OrdersNames name
 key_order name other = labels_order (reverse name) (reverse other)
 
-octets_exact : (s t : List ℕ) → by_octets s t ≡ Equal → s ≡ t
+pub octets_exact : (s t : List ℕ) → by_octets s t ≡ Equal → s ≡ t
 octets_exact s t e = slice_cmp-IsAntisymmetric nat_cmp-IsAntisymmetric s t e
 
 octets_tied : (s t : List ℕ) → s ≡ t → by_octets s t ≡ Equal
@@ -187,7 +187,7 @@ key_unique name other e =
 -- ---- ranges
 
 -- a number is less than another, or they are one, or it is greater
-three : (a b : ℕ) → ((nat_cmp a b ≡ Less) × (nat_cmp b a ≡ Greater)) ⊎ ((a ≡ b) ⊎ ((nat_cmp a b ≡ Greater) × (nat_cmp b a ≡ Less)))
+pub three : (a b : ℕ) → ((nat_cmp a b ≡ Less) × (nat_cmp b a ≡ Greater)) ⊎ ((a ≡ b) ⊎ ((nat_cmp a b ≡ Greater) × (nat_cmp b a ≡ Less)))
 three a b =
     elim (cases_lt a b) [
       | inl l ↦ inl (less a b l, greater b a l)

@@ -8,5 +8,6 @@ pub mod SpellingLaws
 pub mod PieceLaws
 pub mod PlacedLemmas
 pub mod ReadingLaws
+pub mod TextOrderLemmas
 pub mod ReadLemmas
 pub mod TextLemmas

@@ -251,7 +251,7 @@ not_special : (mark o : ℕ) → is_special mark ≡ true → is_special o ≡ f
 not_special mark o m s e = both_ways (is_special o) s (ap is_special e ∙ m)
 
 -- the printed octet spells it
-octet_text_spells : (o : ℕ) → o < 256 → SpellsOctet o (octet_text o)
+pub octet_text_spells : (o : ℕ) → o < 256 → SpellsOctet o (octet_text o)
 octet_text_spells o h =
     cond_both (is_special o) (92 ∷ o ∷ []) (cond (leb 33 o && leb o 126) (o ∷ []) (92 ∷ three_digits o)) (SpellsOctet o)
     (λ s. inr (inl (special_no_digit o h s, refl)))

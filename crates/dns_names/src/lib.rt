@@ -10,6 +10,7 @@ mod pieces;
 mod rows;
 mod symbol;
 mod text;
+mod text_order;
 
 pub use fault::NameFault;
 pub use labels::Labels;

@@ -363,6 +363,37 @@ fn ranges_of_keys(rt: HostRuntime) -> Result<(), Fail> {
     Ok(())
 }
 
+/// Texts of names, as `LC_ALL=C sort` sorts them.
+const BY_TEXT: [&[u8]; 12] = [
+    b"!.",
+    b"-.",
+    b".",
+    b"\\(.",
+    b"\\000.",
+    b"\\000\\..",
+    b"\\255.",
+    b"a-b.",
+    b"a.",
+    b"a.b.",
+    b"a.b.c.",
+    b"ab.",
+];
+
+#[test]
+fn order_by_text(rt: HostRuntime) -> Result<(), Fail> {
+    for (i, first) in BY_TEXT.iter().enumerate() {
+        for (j, second) in BY_TEXT.iter().enumerate() {
+            let first = Name::read_absolute(rt.alloc(), first)?;
+            let second = Name::read_absolute(rt.alloc(), second)?;
+            assert!(rt;
+                first.cmp_text(&second) == i.cmp(&j),
+                "{first} and {second}"
+            );
+        }
+    }
+    Ok(())
+}
+
 #[test]
 fn faults_say_what_is_wrong(rt: HostRuntime) -> Result<(), Fail> {
     let rows = [

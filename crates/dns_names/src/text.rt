@@ -8,7 +8,7 @@ use crate::name::Name;
 use std::{fmt, str};
 
 /// Whether an octet means something in a master file, so that a backslash stands before it.
-fn is_special(octet: u8) -> bool
+pub(crate) fn is_special(octet: u8) -> bool
     ensures { result ≡ is_special octet }
 {
     matches!(
@@ -18,7 +18,7 @@ fn is_special(octet: u8) -> bool
 }
 
 /// Whether an octet of a label is printed as it stands.
-fn is_plain(octet: u8) -> bool
+pub(crate) fn is_plain(octet: u8) -> bool
     ensures { result ≡ is_plain octet }
 {
     octet.is_ascii_graphic() && !is_special(octet)
