@@ -2,6 +2,8 @@ pub mod AddressLemmas
 pub mod ApartLaws
 pub mod CutLemmas
 pub mod DataLaws
+pub mod DigestLaws
+pub mod DsLaws
 pub mod EachLemmas
 pub mod FieldLaws
 pub mod NumberLaws

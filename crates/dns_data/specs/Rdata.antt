@@ -17,6 +17,7 @@ type_of (data_of.Mx exchange) = types.Mx
 type_of (data_of.Txt strings) = types.Txt
 type_of (data_of.Aaaa address) = types.Aaaa
 type_of (data_of.Srv service) = types.Srv
+type_of (data_of.Ds signer) = types.Ds
 
 -- owner, type and data agree; the TTL does not count (RFC 2136 section 1.1.1)
 abbrev pub SameRecord : Record → Record → Type 0

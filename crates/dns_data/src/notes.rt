@@ -5,16 +5,25 @@ ghost use Rattle.std.specs.List.{AllByRecursion};
 ghost use Rattle.std.specs.Option.{option_copied};
 ghost use Rattle.std.specs.Net.Addr.{IsIpv4Addr, IsIpv6Addr};
 ghost use Rattle.dns_names.specs.Labels.{IsName};
+ghost use Rattle.dns_data.specs.Digests.{IsDigest};
 ghost use Rattle.dns_data.specs.Items.{item_of};
 ghost use Rattle.dns_data.specs.Rdata.{type_of};
 ghost use Rattle.dns_data.specs.Reading.{data_of};
 ghost use Rattle.dns_data.specs.Text.{data_items};
 
+use crate::ds::DelegationSigner;
 use crate::item::Item;
 use crate::rdata::{Data, MailExchange, Service};
 use crate::soa::Soa;
 use dns_names::Name;
 use std::net::{Ipv4Addr, Ipv6Addr};
+
+/// A number of 8 bits fits in them.
+fn notes_u8(n: u8)
+    ensures { n < 2 ^ 8 }
+{
+    let _ = n;
+}
 
 /// A number of 16 bits fits in them.
 fn notes_u16(n: u16)
@@ -92,6 +101,19 @@ fn notes_srv(srv: &Service)
     notes_name(&srv.target);
 }
 
+/// The numbers of DS data fit, and the digest is one.
+fn notes_ds(ds: &DelegationSigner)
+    ensures key_tag { ds.now.key_tag < 2 ^ 16 }
+    ensures algorithm { ds.now.algorithm < 2 ^ 8 }
+    ensures digest_type { ds.now.digest_type < 2 ^ 8 }
+    ensures digest { IsDigest ds.now.digest }
+{
+    notes_u16(ds.key_tag);
+    notes_u8(ds.algorithm);
+    notes_u8(ds.digest_type);
+    let _ = ds.digest.octets();
+}
+
 /// The items of data, read again, are the data.
 pub(crate) fn notes_again(rdata: &Data)
     ensures { data_of (type_of rdata.now) None (data_items rdata.now) ≡ Ok rdata.now }
@@ -106,6 +128,7 @@ pub(crate) fn notes_again(rdata: &Data)
         }
         Data::Aaaa(address) => notes_ipv6(*address),
         Data::Srv(srv) => notes_srv(srv),
+        Data::Ds(ds) => notes_ds(ds),
     }
 }
 

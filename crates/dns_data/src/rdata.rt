@@ -2,6 +2,7 @@
 
 ghost use Rattle.std.specs.Prelude.{◌≡◌, IfOk};
 
+use crate::ds::DelegationSigner;
 use crate::record_type::RecordType;
 use crate::soa::Soa;
 use crate::strings::Strings;
@@ -45,6 +46,7 @@ pub enum Data {
     /// An IPv6 address (RFC 3596 section 2.2).
     Aaaa(Ipv6Addr),
     Srv(Service),
+    Ds(DelegationSigner),
 }
 
 impl Data {
@@ -64,6 +66,7 @@ impl Data {
             Data::Txt(_) => RecordType::Txt,
             Data::Aaaa(_) => RecordType::Aaaa,
             Data::Srv(_) => RecordType::Srv,
+            Data::Ds(_) => RecordType::Ds,
         }
     }
 
@@ -89,6 +92,7 @@ impl Data {
                 port: srv.port,
                 target: srv.target.try_copy(alloc)?,
             }),
+            Data::Ds(ds) => Data::Ds(ds.try_copy(alloc)?),
         })
     }
 }

@@ -1,17 +1,20 @@
 //! The canonical text of record data.
 
-ghost use Rattle.std.specs.Prelude.{◌≡◌, ◌∷◌, ◌++◌, [], Some, IfOk, string_bytes, ◌==◌, ◌||◌, ◌&&◌, nat_le};
+ghost use Rattle.std.specs.Prelude.{◌≡◌, ◌≤◌, ◌*◌, ◌∷◌, ◌++◌, [], length, Some, IfOk, string_bytes, ◌==◌, ◌||◌, ◌&&◌, nat_le};
+ghost use Rattle.std.specs.Fmt.{WritesOnOk};
+ghost use Rattle.hex.specs.Hex.{encode_lower};
 ghost use Rattle.dns_data.specs.Items.{items_text};
 ghost use Rattle.dns_data.specs.Again.{ReadsBack, IsTextOfOnly};
 ghost use Rattle.dns_data.specs.Strings.{octet_text, string_text};
-ghost use Rattle.dns_data.specs.Text.{soa_items, mx_items, srv_items, strings_items, data_text};
+ghost use Rattle.dns_data.specs.Text.{soa_items, mx_items, srv_items, ds_items, strings_items, data_text};
 
+use crate::ds::{DelegationSigner, Digest};
 use crate::notes::notes_again;
 use crate::rdata::{Data, MailExchange, Service};
 use crate::soa::Soa;
 use crate::strings::{CharacterString, Strings};
 use std::alloc::{AllocError, Global};
-use std::fmt;
+use std::{fmt, str};
 
 /// Whether an octet means something within quotes, so that a backslash stands before it.
 fn ends_quotes(octet: u8) -> bool
@@ -106,6 +109,55 @@ impl fmt::Display for Service {
     }
 }
 
+/// The most octets whose digits are written at once.
+const DIGITS_AT_ONCE: usize = 64;
+
+/// Fills a slice with the hexadecimal digits of half as many octets, in lower case.
+fn put_digits(octets: &[u8], digits: &mut [u8])
+    requires { length digits.old ≡ 2 * length octets.now }
+    ensures { digits.new ≡ encode_lower octets.now }
+{
+    let _ = hex::encode_to_slice(octets, digits);
+}
+
+/// Writes the hexadecimal digits of a few octets, in lower case.
+fn write_digits<W: fmt::Write>(f: &mut fmt::Formatter<W>, octets: &[u8]) -> fmt::Result
+    requires { length octets.now ≤ 64 }
+    ensures { WritesOnOk W.write_str_gives f.old result (encode_lower octets.now) f.new }
+{
+    let mut room = [0; 2 * DIGITS_AT_ONCE];
+    let digits = &mut room[..2 * octets.len()];
+    put_digits(octets, digits);
+    f.write_str(unsafe { str::from_utf8_unchecked(digits) })
+}
+
+/// The digits in lower case.
+impl fmt::Display for Digest {
+    ghost output = { λ x. Some (encode_lower x) };
+
+    fn fmt<W: fmt::Write>(&self, f: &mut fmt::Formatter<W>) -> fmt::Result {
+        let mut rest = self.octets();
+        while !rest.is_empty() {
+            let (front, after) = rest.split_at(rest.len().min(DIGITS_AT_ONCE));
+            write_digits(f, front)?;
+            rest = after;
+        }
+        Ok(())
+    }
+}
+
+impl fmt::Display for DelegationSigner {
+    ghost output = { λ x. Some (items_text (ds_items x)) };
+
+    fn fmt<W: fmt::Write>(&self, f: &mut fmt::Formatter<W>) -> fmt::Result {
+        write!(
+            f,
+            "{} {} {} {}",
+            self.key_tag, self.algorithm, self.digest_type, self.digest
+        )
+    }
+}
+
 impl fmt::Display for Data {
     ghost output = { λ x. Some (data_text x) };
 
@@ -118,13 +170,15 @@ impl fmt::Display for Data {
             Data::Txt(strings) => write!(f, "{strings}"),
             Data::Aaaa(address) => write!(f, "{}", address.hex_groups()),
             Data::Srv(srv) => write!(f, "{srv}"),
+            Data::Ds(ds) => write!(f, "{ds}"),
         }
     }
 }
 
 /// The data in their one canonical text: fields joined by one space, numbers without leading zeros, names in their
-/// canonical spelling, an IPv6 address as RFC 5952 section 4 has it with no dotted tail, and character-strings in quotes,
-/// in which `"` and `\` have a backslash before them, other octets from 32 to 126 stand plain, and all others are `\DDD`.
+/// canonical spelling, an IPv6 address as RFC 5952 section 4 has it with no dotted tail, a digest in lower case as one item,
+/// and character-strings in quotes, in which `"` and `\` have a backslash before them, other octets from 32 to 126 stand
+/// plain, and all others are `\DDD`.
 /// The only error is want of memory.
 pub fn data_text(alloc: Global, rdata: &Data) -> Result<String, AllocError>
     ensures canonical { IfOk result (λ text. string_bytes text ≡ data_text rdata.now) }

@@ -1,6 +1,6 @@
 use Rattle.std.proofs.Common.{◌≡◌, None, Ok, inl, inr, sym, subst}
 use Rattle.dns_data.specs.declared.rdata.Data.{Data}
-use Rattle.dns_data.specs.declared.rdata.Data.TheVariants.{A, Ns, Cname, Soa, Ptr, Mx, Txt, Aaaa, Srv}
+use Rattle.dns_data.specs.declared.rdata.Data.TheVariants.{A, Ns, Cname, Soa, Ptr, Mx, Txt, Aaaa, Srv, Ds}
 use Rattle.dns_data.specs.Rdata.{type_of}
 use Rattle.dns_data.specs.Reading.{data_of}
 use Rattle.dns_data.specs.Text.{data_items}
@@ -30,6 +30,10 @@ returns-in-Aaaa c = again c.args.rdata.now (Aaaa c.in-Aaaa.address) c.in-Aaaa.is
 pub returns-in-Srv : goal.returns-in-Srv
 returns-in-Srv c =
     let k = c.notes_srv.ensures in again c.args.rdata.now (Srv c.in-Srv.srv) c.in-Srv.is record { priority = k.priority; weight = k.weight; port = k.port; target = k.target }
+
+pub returns-in-Ds : goal.returns-in-Ds
+returns-in-Ds c =
+    let k = c.notes_ds.ensures in again c.args.rdata.now (Ds c.in-Ds.ds) c.in-Ds.is record { key_tag = k.key_tag; algorithm = k.algorithm; digest_type = k.digest_type; digest = k.digest }
 
 pub returns-in-Ns : goal.returns-in-Ns
 returns-in-Ns c =
