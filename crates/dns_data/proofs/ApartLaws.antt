@@ -8,7 +8,7 @@ use Rattle.dns_data.specs.declared.rdata.Data.TheVariants.{A, Ns, Cname, Soa, Pt
 use Rattle.dns_data.specs.declared.rdata.MailExchange.{MailExchange}
 use Rattle.dns_data.specs.declared.rdata.Service.{Service}
 use Rattle.dns_data.specs.declared.ds.DelegationSigner.{DelegationSigner}
-use Rattle.dns_data.specs.declared.soa.Soa.{Soa as SoaData}
+use Rattle.dns_data.specs.declared.soa.SoaFields.{SoaFields}
 use Rattle.dns_data.specs.Items.{ItemText, plain}
 use Rattle.dns_data.specs.Rdata.{type_of}
 use Rattle.dns_data.specs.Reading.{data_of}
@@ -18,7 +18,7 @@ use Rattle.dns_data.proofs.StepLaws.{ok_is}
 use Rattle.dns_data.proofs.CutLemmas.{HaveNoSpace, name_no_space, decimal_no_space, digits_no_space_in, plain_apart, strings_apart}
 
 -- the texts of the items of an SOA, an MX, an SRV and a DS
-abbrev soa_texts : SoaData → List (List ℕ)
+abbrev soa_texts : SoaFields → List (List ℕ)
 soa_texts soa = name_text soa.mname ∷ name_text soa.rname ∷ decimal soa.serial.0 ∷ decimal soa.refresh.0 ∷ decimal soa.retry.0 ∷ decimal soa.expire.0 ∷ decimal soa.minimum.0 ∷ []
 
 abbrev mx_texts : MailExchange → List (List ℕ)
@@ -31,7 +31,7 @@ abbrev ds_texts : DelegationSigner → List (List ℕ)
 ds_texts ds = decimal ds.key_tag ∷ decimal ds.algorithm ∷ decimal ds.digest_type ∷ encode_lower ds.digest ∷ []
 
 -- none of them has a space
-soa_no_space : (soa : SoaData) → HaveNoSpace (soa_texts soa)
+soa_no_space : (soa : SoaFields) → HaveNoSpace (soa_texts soa)
 soa_no_space soa = (
   name_no_space soa.mname,
   (

@@ -19,7 +19,7 @@ use Rattle.dns_data.specs.declared.rdata.Data.TheVariants.{A, Ns, Cname, Soa, Pt
 use Rattle.dns_data.specs.declared.rdata.MailExchange.{MailExchange}
 use Rattle.dns_data.specs.declared.rdata.Service.{Service}
 use Rattle.dns_data.specs.declared.ds.DelegationSigner.{DelegationSigner}
-use Rattle.dns_data.specs.declared.soa.Soa.{Soa as SoaData}
+use Rattle.dns_data.specs.declared.soa.SoaFields.{SoaFields}
 use Rattle.dns_data.specs.Faults.{◌>>=◌}
 use Rattle.dns_data.specs.Items.{ItemText, plain, in_quotes}
 use Rattle.dns_data.specs.Rdata.{type_of}
@@ -39,7 +39,7 @@ use Rattle.dns_data.proofs.PartLaws.{mx_found, mx_only, srv_found, srv_only, soa
 -- ---- data that are kept
 
 -- what the parts of an SOA keep
-pub record KeepsSoa (soa : SoaData) : Type 0 where
+pub record KeepsSoa (soa : SoaFields) : Type 0 where
   pub mname : IsName soa.mname
   pub rname : IsName soa.rname
   pub serial : soa.serial.0 < 2 ^ 32
@@ -202,7 +202,7 @@ number32_spells n h = (h, decimal_is_number n (omega arith))
 seconds_spell : (n : ℕ) → n < 2 ^ 32 → SpellsSeconds n (decimal n)
 seconds_spell n h = (h, inl (decimal_is_number n (omega arith)))
 
-soa_spells : (soa : SoaData) → KeepsSoa soa → IsSoa None soa (soa_items soa)
+soa_spells : (soa : SoaFields) → KeepsSoa soa → IsSoa None soa (soa_items soa)
 soa_spells soa k = record {
   mname = name_text soa.mname;
   rname = name_text soa.rname;

@@ -13,13 +13,13 @@ use Rattle.dns_data.specs.declared.rdata.Data.TheVariants.{A, Ns, Cname, Soa, Pt
 use Rattle.dns_data.specs.declared.rdata.MailExchange.{MailExchange}
 use Rattle.dns_data.specs.declared.rdata.Service.{Service}
 use Rattle.dns_data.specs.declared.ds.DelegationSigner.{DelegationSigner}
-use Rattle.dns_data.specs.declared.soa.Soa.{Soa as SoaData}
+use Rattle.dns_data.specs.declared.soa.SoaFields.{SoaFields}
 use Rattle.dns_data.specs.contracts.rdata.DataPartialEq.TheImpl as of_data
 use Rattle.dns_data.specs.contracts.rdata.MailExchangePartialEq.TheImpl as of_mx
 use Rattle.dns_data.specs.contracts.rdata.ServicePartialEq.TheImpl as of_srv
 use Rattle.dns_data.specs.contracts.ds.DelegationSignerPartialEq.TheImpl as of_ds
-use Rattle.dns_data.specs.contracts.soa.SoaPartialEq.TheImpl as of_soa
 use Rattle.dns_data.specs.Rdata.{SameRecord}
+use Rattle.dns_data.specs.SameSoa.{same_soa}
 
 -- ---- tests of several parts
 
@@ -41,7 +41,7 @@ ipv6_decides a b = via _ (bytes_eq-Decides a.segments b.segments) (λ e. λ i. A
 strings_decides : (a b : List (List ℕ)) → Decides (of_data.ghosts.eq (Txt a) (Txt b)) (Txt a ≡ Txt b)
 strings_decides a b = via _ (slice_eq-Decides bytes_eq-Decides a b _ refl) (λ e. ap Txt e) (λ e. cc)
 
-soa_decides : (a b : SoaData) → Decides (of_soa.ghosts.eq a b) (a ≡ b)
+soa_decides : (a b : SoaFields) → Decides (same_soa a b) (a ≡ b)
 soa_decides a b =
     via _
     (both _ _ (same_name-Decides a.mname b.mname)
@@ -53,12 +53,12 @@ soa_decides a b =
     (λ e.
     λ i. record { mname = e.0 i; rname = e.1.0 i; serial = record { 0 = e.1.1.0 i }; refresh = record { 0 = e.1.1.1.0 i }; retry = record { 0 = e.1.1.1.1.0 i }; expire = record { 0 = e.1.1.1.1.1.0 i }; minimum = record { 0 = e.1.1.1.1.1.1 i } })
     (λ e. (
-      ap (λ (s : SoaData). s.mname) e,
+      ap (λ (s : SoaFields). s.mname) e,
       (
-        ap (λ (s : SoaData). s.rname) e,
+        ap (λ (s : SoaFields). s.rname) e,
         (
-          ap (λ (s : SoaData). s.serial.0) e,
-          (ap (λ (s : SoaData). s.refresh.0) e, (ap (λ (s : SoaData). s.retry.0) e, (ap (λ (s : SoaData). s.expire.0) e, ap (λ (s : SoaData). s.minimum.0) e))),
+          ap (λ (s : SoaFields). s.serial.0) e,
+          (ap (λ (s : SoaFields). s.refresh.0) e, (ap (λ (s : SoaFields). s.retry.0) e, (ap (λ (s : SoaFields). s.expire.0) e, ap (λ (s : SoaFields). s.minimum.0) e))),
         ),
       ),
     ))

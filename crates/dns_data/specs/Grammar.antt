@@ -10,7 +10,7 @@ use Rattle.dns_data.specs.declared.rdata.Data.TheVariants.{A, Ns, Cname, Soa, Pt
 use Rattle.dns_data.specs.declared.rdata.MailExchange.{MailExchange}
 use Rattle.dns_data.specs.declared.rdata.Service.{Service}
 use Rattle.dns_data.specs.declared.ds.DelegationSigner.{DelegationSigner}
-use Rattle.dns_data.specs.declared.soa.Soa.{Soa as SoaData}
+use Rattle.dns_data.specs.declared.soa.SoaFields.{SoaFields}
 use Rattle.dns_data.specs.Items.{ItemText, plain}
 use Rattle.dns_data.specs.Numbers.{IsNumber, IsDuration}
 use Rattle.dns_data.specs.Strings.{AreStrings, SpellsString}
@@ -32,7 +32,7 @@ abbrev pub IsNameItem : Option (List (List ℕ)) → List (List ℕ) → List It
 IsNameItem origin name items = (raw : List ℕ) × (items ≡ plain raw ∷ []) × SpellsName origin name raw
 
 -- MNAME RNAME SERIAL REFRESH RETRY EXPIRE MINIMUM
-pub record IsSoa (origin : Option (List (List ℕ))) (soa : SoaData) (items : List ItemText) : Type 0 where
+pub record IsSoa (origin : Option (List (List ℕ))) (soa : SoaFields) (items : List ItemText) : Type 0 where
   pub mname : List ℕ
   pub rname : List ℕ
   pub serial : List ℕ

@@ -4,6 +4,7 @@ pub mod Items
 pub mod Numbers
 pub mod Strings
 pub mod Digests
+pub mod SameSoa
 pub mod Rdata
 pub mod Text
 pub mod Grammar

@@ -14,7 +14,7 @@ use Rattle.dns_data.specs.declared.rdata.Data.TheVariants.{A, Ns, Cname, Soa, Pt
 use Rattle.dns_data.specs.declared.rdata.MailExchange.{MailExchange}
 use Rattle.dns_data.specs.declared.rdata.Service.{Service}
 use Rattle.dns_data.specs.declared.ds.DelegationSigner.{DelegationSigner}
-use Rattle.dns_data.specs.declared.soa.Soa.{Soa as SoaData}
+use Rattle.dns_data.specs.declared.soa.SoaFields.{SoaFields}
 use Rattle.dns_data.specs.Faults.{◌>>=◌, of_names}
 use Rattle.dns_data.specs.Items.{ItemText}
 use Rattle.dns_data.specs.Numbers.{number_of, duration_of}
@@ -67,7 +67,7 @@ seconds_at items = field (duration_of 4294967295) items
 
 -- ---- fields of several parts
 
-unfoldable pub soa_at : Option (List (List ℕ)) → List ItemText → Field SoaData
+unfoldable pub soa_at : Option (List (List ℕ)) → List ItemText → Field SoaFields
 soa_at origin items = do
   mname ← field (name_of origin) items
   rname ← field (name_of origin) mname.1

@@ -10,13 +10,13 @@ use Rattle.dns_data.specs.declared.rdata.MailExchange.{MailExchange}
 use Rattle.dns_data.specs.declared.rdata.Service.{Service}
 use Rattle.dns_data.specs.declared.ds.DelegationSigner.{DelegationSigner}
 use Rattle.dns_data.specs.declared.record.Record.{Record}
-use Rattle.dns_data.specs.declared.soa.Soa.{Soa as SoaData}
+use Rattle.dns_data.specs.declared.soa.SoaFields.{SoaFields}
 use Rattle.dns_data.specs.Types.{type_text}
 use Rattle.dns_data.specs.Rdata.{type_of}
 use Rattle.dns_data.specs.Items.{ItemText, plain, in_quotes, items_text}
 use Rattle.dns_data.specs.Strings.{string_text}
 
-abbrev pub soa_items : SoaData → List ItemText
+abbrev pub soa_items : SoaFields → List ItemText
 soa_items soa =
     plain (name_text soa.mname) ∷ plain (name_text soa.rname) ∷ plain (decimal soa.serial.0) ∷ plain (decimal soa.refresh.0)
     ∷ plain (decimal soa.retry.0) ∷ plain (decimal soa.expire.0) ∷ plain (decimal soa.minimum.0) ∷ []

@@ -23,7 +23,7 @@ pub use rdata::{Data, MailExchange, Service};
 pub use reading::read_data;
 pub use record::{Record, record_line, same_record};
 pub use record_type::RecordType;
-pub use soa::Soa;
+pub use soa::{Soa, SoaFields};
 pub use strings::{CharacterString, Strings};
 pub use text::data_text;
 

@@ -70,6 +70,7 @@ fn notes_soa(soa: &Soa)
     ensures expire { soa.now.expire.0 < 2 ^ 32 }
     ensures minimum { soa.now.minimum.0 < 2 ^ 32 }
 {
+    let soa = soa.fields();
     notes_name(&soa.mname);
     notes_name(&soa.rname);
     notes_u32(soa.serial.0);

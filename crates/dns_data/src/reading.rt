@@ -17,7 +17,7 @@ use crate::notes::{notes_octets, notes_origin};
 use crate::number::{Seconds, Serial, read_duration, read_number};
 use crate::rdata::{Data, MailExchange, Service};
 use crate::record_type::RecordType;
-use crate::soa::Soa;
+use crate::soa::{Soa, SoaFields};
 use crate::strings::{CharacterString, Strings};
 use dns_names::Name;
 use std::alloc::Global;
@@ -112,7 +112,7 @@ fn soa<'a>(
     let (retry, items) = seconds(items)?;
     let (expire, items) = seconds(items)?;
     let (minimum, items) = seconds(items)?;
-    let soa = Soa {
+    let fields = SoaFields {
         mname,
         rname,
         serial,
@@ -121,7 +121,7 @@ fn soa<'a>(
         expire,
         minimum,
     };
-    Ok((soa, items))
+    Ok((Soa::new(alloc, fields)?, items))
 }
 
 #[tactic(auto, unfolding(crate::specs::Reading::mx_at))]

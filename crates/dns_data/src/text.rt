@@ -80,11 +80,12 @@ impl fmt::Display for Soa {
     ghost output = { λ x. Some (items_text (soa_items x)) };
 
     fn fmt<W: fmt::Write>(&self, f: &mut fmt::Formatter<W>) -> fmt::Result {
-        write!(f, "{} {} {}", self.mname, self.rname, self.serial.0)?;
+        let soa = self.fields();
+        write!(f, "{} {} {}", soa.mname, soa.rname, soa.serial.0)?;
         write!(
             f,
             " {} {} {} {}",
-            self.refresh.0, self.retry.0, self.expire.0, self.minimum.0
+            soa.refresh.0, soa.retry.0, soa.expire.0, soa.minimum.0
         )
     }
 }
