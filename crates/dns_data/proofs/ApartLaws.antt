@@ -10,11 +10,11 @@ use Rattle.dns_data.specs.declared.rdata.Service.{Service}
 use Rattle.dns_data.specs.declared.ds.DelegationSigner.{DelegationSigner}
 use Rattle.dns_data.specs.declared.soa.SoaFields.{SoaFields}
 use Rattle.dns_data.specs.Items.{ItemText, plain}
-use Rattle.dns_data.specs.Rdata.{type_of}
+use Rattle.dns_data.specs.Rdata.{type_of, IsRdata}
 use Rattle.dns_data.specs.Reading.{data_of}
 use Rattle.dns_data.specs.Text.{data_items, data_text}
-use Rattle.dns_data.specs.Again.{ReadsBack}
 use Rattle.dns_data.proofs.StepLaws.{ok_is}
+use Rattle.dns_data.proofs.DataLaws.{data_again}
 use Rattle.dns_data.proofs.CutLemmas.{HaveNoSpace, name_no_space, decimal_no_space, digits_no_space_in, plain_apart, strings_apart}
 
 -- the texts of the items of an SOA, an MX, an SRV and a DS
@@ -66,8 +66,8 @@ items_apart (Srv a) (Srv b) types texts = plain_apart (srv_texts a) (srv_texts b
 items_apart (Ds a) (Ds b) types texts = plain_apart (ds_texts a) (ds_texts b) (ds_no_space a) (ds_no_space b) refl texts
 items_apart a b types texts = absurd cc
 
-pub one_text : (a b : Data) → ReadsBack a → ReadsBack b → type_of a ≡ type_of b → data_text a ≡ data_text b → a ≡ b
-one_text a b again again' types texts =
+pub one_text : (a b : Data) → IsRdata a → IsRdata b → type_of a ≡ type_of b → data_text a ≡ data_text b → a ≡ b
+one_text a b is is' types texts =
     let type_is = ap (λ (t : RecordType). data_of t None (data_items a)) types in
     let items_are = ap (data_of (type_of b) None) (items_apart a b types texts) in
-    ok_is a b (sym again ∙ type_is ∙ items_are ∙ again')
+    ok_is a b (sym (data_again a is) ∙ type_is ∙ items_are ∙ data_again b is')

@@ -3,7 +3,7 @@ use Rattle.std.proofs.Common.{◌≡◌, ℕ, ◌^◌, ◌<◌, inl, eqb, decima
 use Rattle.std.proofs.lemmas.List.{nil_from_length}
 use Rattle.std.proofs.NetLemmas.Texts.{IsDotted-ipv4_text, IsColonHex-hex_groups_text}
 use Rattle.std.specs.List.{AllByRecursion}
-use Rattle.std.specs.Net.Addr.{ipv4_octets, ipv6_segments, IsIpv4Addr, IsIpv6Addr}
+use Rattle.std.specs.Net.Addr.{ipv4_octets, ipv6_segments}
 use Rattle.std.specs.Net.Text.{ipv4_text, hex_groups_text}
 use Rattle.std.specs.Net.Grammar.{IsIpv4Text, IsIpv6Text}
 use Rattle.hex.specs.Hex.{encode_lower}
@@ -22,9 +22,9 @@ use Rattle.dns_data.specs.declared.ds.DelegationSigner.{DelegationSigner}
 use Rattle.dns_data.specs.declared.soa.SoaFields.{SoaFields}
 use Rattle.dns_data.specs.Faults.{◌>>=◌}
 use Rattle.dns_data.specs.Items.{ItemText, plain, in_quotes}
-use Rattle.dns_data.specs.Rdata.{type_of}
-use Rattle.dns_data.specs.Strings.{IsString, AreStrings, string_text}
-use Rattle.dns_data.specs.Digests.{IsDigest, SpellsDigest}
+use Rattle.dns_data.specs.Rdata.{type_of, IsSoaRdata, IsMxRdata, IsSrvRdata, IsDsRdata, IsRdata}
+use Rattle.dns_data.specs.Strings.{IsString, string_text}
+use Rattle.dns_data.specs.Digests.{SpellsDigest}
 use Rattle.dns_data.specs.Text.{soa_items, mx_items, srv_items, ds_items, strings_items, data_items}
 use Rattle.dns_data.specs.Grammar.{SpellsName, SpellsNumber, SpellsSeconds, IsNameItem, IsSoa, IsMx, IsSrv, IsDs, SpellStrings, IsData}
 use Rattle.dns_data.specs.Reading.{Field, field, ipv4_of, ipv6_of, name_of, soa_at, mx_at, srv_at, strings_of, ds_at, with_rest, ended, data_of}
@@ -35,47 +35,6 @@ use Rattle.dns_data.proofs.FieldLaws.{AreBytes, IsOrigin, field_found, field_onl
 use Rattle.dns_data.proofs.DigestLaws.{digest_spells}
 use Rattle.dns_data.proofs.DsLaws.{ds_found, ds_only}
 use Rattle.dns_data.proofs.PartLaws.{mx_found, mx_only, srv_found, srv_only, soa_found, soa_only, strings_found, strings_only}
-
--- ---- data that are kept
-
--- what the parts of an SOA keep
-pub record KeepsSoa (soa : SoaFields) : Type 0 where
-  pub mname : IsName soa.mname
-  pub rname : IsName soa.rname
-  pub serial : soa.serial.0 < 2 ^ 32
-  pub refresh : soa.refresh.0 < 2 ^ 32
-  pub retry : soa.retry.0 < 2 ^ 32
-  pub expire : soa.expire.0 < 2 ^ 32
-  pub minimum : soa.minimum.0 < 2 ^ 32
-
-pub record KeepsMx (mx : MailExchange) : Type 0 where
-  pub preference : mx.preference < 2 ^ 16
-  pub exchange : IsName mx.exchange
-
-pub record KeepsSrv (srv : Service) : Type 0 where
-  pub priority : srv.priority < 2 ^ 16
-  pub weight : srv.weight < 2 ^ 16
-  pub port : srv.port < 2 ^ 16
-  pub target : IsName srv.target
-
-pub record KeepsDs (ds : DelegationSigner) : Type 0 where
-  pub key_tag : ds.key_tag < 2 ^ 16
-  pub algorithm : ds.algorithm < 2 ^ 8
-  pub digest_type : ds.digest_type < 2 ^ 8
-  pub digest : IsDigest ds.digest
-
--- what the types of data keep
-abbrev pub IsKept : Data → Type 0
-IsKept (A address) = IsIpv4Addr address
-IsKept (Ns server) = IsName server
-IsKept (Cname target) = IsName target
-IsKept (Soa soa) = KeepsSoa soa
-IsKept (Ptr target) = IsName target
-IsKept (Mx mx) = KeepsMx mx
-IsKept (Txt strings) = AreStrings strings
-IsKept (Aaaa address) = IsIpv6Addr address
-IsKept (Srv srv) = KeepsSrv srv
-IsKept (Ds ds) = KeepsDs ds
 
 -- ---- the end of the data
 
@@ -202,7 +161,7 @@ number32_spells n h = (h, decimal_is_number n (omega arith))
 seconds_spell : (n : ℕ) → n < 2 ^ 32 → SpellsSeconds n (decimal n)
 seconds_spell n h = (h, inl (decimal_is_number n (omega arith)))
 
-soa_spells : (soa : SoaFields) → KeepsSoa soa → IsSoa None soa (soa_items soa)
+soa_spells : (soa : SoaFields) → IsSoaRdata soa → IsSoa None soa (soa_items soa)
 soa_spells soa k = record {
   mname = name_text soa.mname;
   rname = name_text soa.rname;
@@ -221,7 +180,7 @@ soa_spells soa k = record {
   minimum_is = seconds_spell soa.minimum.0 k.minimum;
 }
 
-mx_spells : (mx : MailExchange) → KeepsMx mx → IsMx None mx (mx_items mx)
+mx_spells : (mx : MailExchange) → IsMxRdata mx → IsMx None mx (mx_items mx)
 mx_spells mx k = record {
   preference = decimal mx.preference;
   exchange = name_text mx.exchange;
@@ -230,7 +189,7 @@ mx_spells mx k = record {
   exchange_is = (k.exchange, text_spells mx.exchange k.exchange);
 }
 
-srv_spells : (srv : Service) → KeepsSrv srv → IsSrv None srv (srv_items srv)
+srv_spells : (srv : Service) → IsSrvRdata srv → IsSrv None srv (srv_items srv)
 srv_spells srv k = record {
   priority = decimal srv.priority;
   weight = decimal srv.weight;
@@ -243,7 +202,7 @@ srv_spells srv k = record {
   target_is = (k.target, text_spells srv.target k.target);
 }
 
-ds_spells : (ds : DelegationSigner) → KeepsDs ds → IsDs ds (ds_items ds)
+ds_spells : (ds : DelegationSigner) → IsDsRdata ds → IsDs ds (ds_items ds)
 ds_spells ds k = record {
   key_tag = decimal ds.key_tag;
   algorithm = decimal ds.algorithm;
@@ -257,7 +216,7 @@ ds_spells ds k = record {
 }
 
 -- the printed items spell the data
-pub data_spells : (made : Data) → IsKept made → IsData None made (data_items made)
+pub data_spells : (made : Data) → IsRdata made → IsData None made (data_items made)
 data_spells (A address) is = (ipv4_text (ipv4_octets address), refl, IsDotted-ipv4_text (ipv4_octets address) is.0 is.1)
 data_spells (Ns server) is = name_spells server is
 data_spells (Cname target) is = name_spells target is
@@ -270,5 +229,22 @@ data_spells (Srv srv) is = srv_spells srv is
 data_spells (Ds ds) is = ds_spells ds is
 
 -- what is printed is read again
-pub data_again : (made : Data) → IsKept made → data_of (type_of made) None (data_items made) ≡ Ok made
+pub data_again : (made : Data) → IsRdata made → data_of (type_of made) None (data_items made) ≡ Ok made
 data_again made is = spelled_only None (data_items made) made tt (data_spells made is)
+
+some_strings : (strings : List (List ℕ)) → 0 < length strings → 0 < length (strings_items strings)
+some_strings [] some = absurd (omega arith)
+some_strings (string ∷ strings) some = omega arith
+
+-- data have an item
+pub some_items : (made : Data) → IsRdata made → 0 < length (data_items made)
+some_items (A address) is = omega arith
+some_items (Ns server) is = omega arith
+some_items (Cname target) is = omega arith
+some_items (Soa soa) is = omega arith
+some_items (Ptr target) is = omega arith
+some_items (Mx mx) is = omega arith
+some_items (Txt strings) is = some_strings strings is.some
+some_items (Aaaa address) is = omega arith
+some_items (Srv srv) is = omega arith
+some_items (Ds ds) is = omega arith

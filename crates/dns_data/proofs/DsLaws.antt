@@ -1,7 +1,7 @@
 -- The laws of DS data: what is read is spelled by the items, what they spell is read, and so is what is printed.
 use Rattle.std.proofs.Common.{◌≡◌, ℕ, ◌+◌, ◌<◌, ◌≤◌, Bool, true, false, cond, List, [], ◌∷◌, ◌++◌, length, map, get_or, drop, Result, Ok, Err, refl, sym, ap, subst, ◌∙◌, append_assoc, arith}
 use Rattle.std.proofs.lemmas.List.{append-nil, at_drop_more, at_drop_all}
-use Rattle.std.specs.List.{AllByRecursion, concat}
+use Rattle.std.specs.List.{concat}
 use Rattle.dns_data.specs.declared.fault.DataFault.{DataFault}
 use Rattle.dns_data.specs.declared.fault.DataFault.TheVariants.{FieldMissing, QuotedItem}
 use Rattle.dns_data.specs.declared.item.Item.{Item}
@@ -143,6 +143,9 @@ ds_from ds items one two three a b c d = record {
   digest_is = d.spelled;
 }
 
+same_ds : (items : List ItemText) (made ds : DelegationSigner) → made ≡ ds → IsDs made items → IsDs ds items
+same_ds items made ds same is = subst (λ (s : DelegationSigner). IsDs s items) same is
+
 -- DS data that are read are spelled
 pub ds_found : (items : List ItemText) (ds : DelegationSigner) → AreBytes items → ds_at items ≡ Ok ds → IsDs ds items
 unfolding ds_at
@@ -155,7 +158,7 @@ ds_found items ds bytes e =
     let af = u16_field items a.0.0 a.0.1 bytes a.1 in
     let bf = u8_field a.0.1 b.0.0 b.0.1 af.bytes b.1 in
     let cf = u8_field b.0.1 c.0.0 c.0.1 bf.bytes c.1 in
-    subst (λ (s : DelegationSigner). IsDs s items) (ok_is made ds d.2) (ds_from made items a.0.1 b.0.1 c.0.1 af bf cf (digest_at_found c.0.1 d.0 d.1))
+    same_ds items made ds (ok_is made ds d.2) (ds_from made items a.0.1 b.0.1 c.0.1 af bf cf (digest_at_found c.0.1 d.0 d.1))
 
 -- DS data that are spelled are read
 pub ds_only : (items : List ItemText) (ds : DelegationSigner) → IsDs ds items → ds_at items ≡ Ok ds

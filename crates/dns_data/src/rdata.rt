@@ -3,6 +3,7 @@
 ghost use Rattle.std.specs.Prelude.{◌≡◌, IfOk};
 
 use crate::ds::DelegationSigner;
+use crate::notes::notes_rdata;
 use crate::record_type::RecordType;
 use crate::soa::Soa;
 use crate::strings::Strings;
@@ -50,12 +51,15 @@ pub enum Data {
 }
 
 impl Data {
-    ghost use Rattle.dns_data.specs.Rdata.{type_of};
+    ghost use Rattle.dns_data.specs.Rdata.{type_of, IsRdata};
 
     /// The type of record that has such data.
-    pub const fn record_type(&self) -> RecordType
-        ensures { result ≡ type_of self.now }
+    pub fn record_type(&self) -> RecordType
+        ensures value { result ≡ type_of self.now }
+        // What all data are.
+        ensures rdata { IsRdata self.now }
     {
+        notes_rdata(self);
         match self {
             Data::A(_) => RecordType::A,
             Data::Ns(_) => RecordType::Ns,

@@ -590,7 +590,8 @@ fn limits_of_digests(rt: HostRuntime) -> Result<(), Fail> {
             plain_item(b"2"),
             plain_item(&digits),
         ];
-        let got = match read_data(rt.alloc(), RecordType::Ds, &items, None) {
+        let read = read_data(rt.alloc(), RecordType::Ds, &items, None);
+        let got = match &read {
             Ok(Data::Ds(ds)) => Ok(ds.digest.octets().len()),
             Ok(_) => Ok(0),
             Err(fault) => Err(fault.number()),
@@ -758,6 +759,7 @@ fn record_lines(rt: HostRuntime) -> Result<(), Fail> {
     };
     let line = record_line(rt.alloc(), &record)?;
     assert_eq!(rt; line.as_str(), "x.example.org. 3600 IN TXT \"a\" \"b\"");
+    assert!(rt; record.record_type() == RecordType::Txt);
     let copy = record.try_copy(rt.alloc())?;
     assert!(rt; same_record(&record, &copy) && copy.ttl == record.ttl);
     Ok(())

@@ -9,7 +9,6 @@ ghost use Rattle.dns_data.specs.Strings.{octet_text, string_text};
 ghost use Rattle.dns_data.specs.Text.{soa_items, mx_items, srv_items, ds_items, strings_items, data_text};
 
 use crate::ds::{DelegationSigner, Digest};
-use crate::notes::notes_again;
 use crate::rdata::{Data, MailExchange, Service};
 use crate::soa::Soa;
 use crate::strings::{CharacterString, Strings};
@@ -188,6 +187,7 @@ pub fn data_text(alloc: Global, rdata: &Data) -> Result<String, AllocError>
     // No other data of its type have this text.
     ensures apart { IfOk result (λ text. IsTextOfOnly (string_bytes text) rdata.now) }
 {
-    notes_again(rdata);
+    // the proof needs that these are data
+    let _ = rdata.record_type();
     rdata.to_string(alloc)
 }

@@ -1,4 +1,4 @@
-use Rattle.std.proofs.Common.{map, rules}
+use Rattle.std.proofs.Common.{map}
 use Rattle.dns_data.specs.Items.{item_of}
 use Rattle.dns_data.specs.Reading.{joined}
 use Rattle.dns_data.proofs.DsLaws.{joins, is_quoted, all_joined}
