@@ -9,6 +9,7 @@ pub mod FieldLaws
 pub mod NumberLaws
 pub mod NumberLemmas
 pub mod PartLaws
+pub mod RunLemmas
 pub mod SameLemmas
 pub mod StepLaws
 pub mod StringLaws

@@ -1,11 +1,12 @@
 //! The canonical text of record data.
 
-ghost use Rattle.std.specs.Prelude.{◌≡◌, ◌≤◌, ◌*◌, ◌∷◌, ◌++◌, [], length, Some, IfOk, string_bytes, ◌==◌, ◌||◌, ◌&&◌, nat_le};
+ghost use Rattle.std.specs.Prelude.{◌≡◌, ◌≤◌, ◌<◌, ◌*◌, ◌∷◌, ◌++◌, [], length, true, false, Some, IfSome, IfOk, string_bytes, ◌==◌, ◌||◌};
+ghost use Rattle.std.specs.List.{AllByRecursion, position};
 ghost use Rattle.std.specs.Fmt.{WritesOnOk};
 ghost use Rattle.hex.specs.Hex.{encode_lower};
 ghost use Rattle.dns_data.specs.Items.{items_text};
 ghost use Rattle.dns_data.specs.Again.{ReadsBack, IsTextOfOnly};
-ghost use Rattle.dns_data.specs.Strings.{octet_text, string_text};
+ghost use Rattle.dns_data.specs.Strings.{is_escaped, octet_text, string_text};
 ghost use Rattle.dns_data.specs.Text.{soa_items, mx_items, srv_items, ds_items, strings_items, data_text};
 
 use crate::ds::{DelegationSigner, Digest};
@@ -22,41 +23,55 @@ fn ends_quotes(octet: u8) -> bool
     matches!(octet, b'"' | b'\\')
 }
 
-/// Whether an octet may stand within quotes as it is.
-fn is_plain(octet: u8) -> bool
-    ensures { result ≡ (nat_le 32 octet && nat_le octet 126) }
+/// Whether an octet does not stand for itself within quotes.
+fn is_escaped(octet: u8) -> bool
+    ensures { result ≡ is_escaped octet }
 {
-    matches!(octet, b' '..=b'~')
+    !matches!(octet, b' '..=b'~') || ends_quotes(octet)
 }
 
-/// An octet of a character-string, as it is printed within quotes.
-#[derive(Clone, Copy)]
-struct StringOctet(u8);
+/// Where the first octet is that does not stand for itself within quotes.
+fn first_escaped(octets: &[u8]) -> Option<usize>
+    ensures value { result ≡ position is_escaped octets.now }
+    ensures within { IfSome result (λ at. at < length octets.now) }
+{
+    octets.iter().position(|octet| is_escaped(*octet))
+}
 
-impl fmt::Display for StringOctet {
-    ghost output = { λ x. Some (octet_text x.0) };
+/// Writes octets that stand for themselves within quotes.
+fn write_run<W: fmt::Write>(f: &mut fmt::Formatter<W>, octets: &[u8]) -> fmt::Result
+    requires { AllByRecursion (λ o. is_escaped o ≡ false) octets.now }
+    ensures { WritesOnOk W.write_str_gives f.old result octets.now f.new }
+{
+    f.write_str(unsafe { str::from_utf8_unchecked(octets) })
+}
 
-    fn fmt<W: fmt::Write>(&self, f: &mut fmt::Formatter<W>) -> fmt::Result {
-        let octet = self.0;
-        if ends_quotes(octet) {
-            write!(f, "\\{}", char::from(octet))
-        } else if is_plain(octet) {
-            write!(f, "{}", char::from(octet))
-        } else {
-            write!(f, "\\{}{}{}", octet / 100, octet / 10 % 10, octet % 10)
-        }
+/// Writes an octet that does not stand for itself within quotes.
+fn write_escaped<W: fmt::Write>(f: &mut fmt::Formatter<W>, octet: u8) -> fmt::Result
+    requires { is_escaped octet ≡ true }
+    ensures { WritesOnOk W.write_str_gives f.old result (octet_text octet) f.new }
+{
+    if ends_quotes(octet) {
+        write!(f, "\\{}", char::from(octet))
+    } else {
+        write!(f, "\\{}{}{}", octet / 100, octet / 10 % 10, octet % 10)
     }
 }
 
+/// Octets that stand for themselves go out in runs, each in one piece.
 impl fmt::Display for CharacterString {
     ghost output = { λ x. Some (34 ∷ string_text x ++ 34 ∷ []) };
 
     fn fmt<W: fmt::Write>(&self, f: &mut fmt::Formatter<W>) -> fmt::Result {
-        write!(f, "\"")?;
-        for octet in self.octets() {
-            write!(f, "{}", StringOctet(*octet))?;
+        f.write_str("\"")?;
+        let mut rest = self.octets();
+        while let Some(at) = first_escaped(rest) {
+            write_run(f, &rest[..at])?;
+            write_escaped(f, rest[at])?;
+            rest = &rest[at + 1..];
         }
-        write!(f, "\"")
+        write_run(f, rest)?;
+        f.write_str("\"")
     }
 }
 
