@@ -21,8 +21,25 @@ pub struct SoaFields {
     pub minimum: Seconds,
 }
 
-/// The data of an SOA record, in an allocation of their own: a zone has one such record among many, so the others need
-/// no room for it.
+impl SoaFields {
+    /// Equal fields in memory of their own. The only error is want of memory.
+    pub fn try_copy(&self, alloc: Global) -> Result<SoaFields, AllocError>
+        ensures { IfOk result (λ copy. copy ≡ self.now) }
+    {
+        Ok(SoaFields {
+            mname: self.mname.try_copy(alloc)?,
+            rname: self.rname.try_copy(alloc)?,
+            serial: self.serial,
+            refresh: self.refresh,
+            retry: self.retry,
+            expire: self.expire,
+            minimum: self.minimum,
+        })
+    }
+}
+
+/// The data of an SOA record, in an allocation of their own: a zone has one such record among many, and the others need no
+/// room for it.
 #[derive(Debug, Drop)]
 pub struct Soa {
     fields: Box<SoaFields>,
@@ -57,17 +74,7 @@ impl Soa {
     pub fn try_copy(&self, alloc: Global) -> Result<Soa, AllocError>
         ensures { IfOk result (λ copy. copy ≡ self.now) }
     {
-        let soa = self.fields();
-        let copy = SoaFields {
-            mname: soa.mname.try_copy(alloc)?,
-            rname: soa.rname.try_copy(alloc)?,
-            serial: soa.serial,
-            refresh: soa.refresh,
-            retry: soa.retry,
-            expire: soa.expire,
-            minimum: soa.minimum,
-        };
-        Soa::new(alloc, copy)
+        Soa::new(alloc, self.fields.try_copy(alloc)?)
     }
 }
 

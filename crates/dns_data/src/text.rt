@@ -132,6 +132,7 @@ fn put_digits(octets: &[u8], digits: &mut [u8])
     requires { length digits.old ≡ 2 * length octets.now }
     ensures { digits.new ≡ encode_lower octets.now }
 {
+    // it fails at another length alone
     let _ = hex::encode_to_slice(octets, digits);
 }
 
