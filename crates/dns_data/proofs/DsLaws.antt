@@ -15,7 +15,8 @@ use Rattle.dns_data.specs.Reading.{u8_at, u16_at, joined, digest_at, ds_at}
 use Rattle.dns_data.proofs.StepLaws.{bind_ok, guarded_ok, ok_is}
 use Rattle.dns_data.proofs.DigestLaws.{digest_found, digest_only}
 use Rattle.dns_data.proofs.EachLemmas.{refuses_on}
-use Rattle.dns_data.proofs.FieldLaws.{AreBytes, ReadField, field_found, field_only, number8_found, number8_only, number16_found, number16_only}
+use Rattle.dns_data.proofs.FieldLaws.{AreBytes, ReadField, field_found, field_only, number8_found, number8_only, number16_only}
+use Rattle.dns_data.proofs.PartLaws.{before, u16_field}
 
 -- ---- items that are joined
 
@@ -120,13 +121,6 @@ digest_at_only (part ∷ parts) digest is h =
 
 u8_field : (items : List ItemText) (x : ℕ) (rest : List ItemText) → AreBytes items → u8_at items ≡ Ok (x, rest) → ReadField (SpellsNumber 8) items x rest
 u8_field items x rest = field_found (number_of 255) (SpellsNumber 8) number8_found items x rest
-
-u16_field : (items : List ItemText) (x : ℕ) (rest : List ItemText) → AreBytes items → u16_at items ≡ Ok (x, rest) → ReadField (SpellsNumber 16) items x rest
-u16_field items x rest = field_found (number_of 65535) (SpellsNumber 16) number16_found items x rest
-
--- an item before items
-abbrev before : List ℕ → List ItemText → List ItemText
-before raw items = plain raw ∷ items
 
 -- the numbers and the digest, from their fields
 ds_from : (ds : DelegationSigner) (items one two three : List ItemText) → ReadField (SpellsNumber 16) items ds.key_tag one → ReadField (SpellsNumber 8) one ds.algorithm two → ReadField (SpellsNumber 8) two ds.digest_type three

@@ -19,7 +19,7 @@ use Rattle.dns_data.proofs.FieldLaws.{AreBytes, IsOrigin, ReadField, field_found
 name_field : (origin : Option (List (List ℕ))) → IsOrigin origin → (items : List ItemText) (x : List (List ℕ)) (rest : List ItemText) → AreBytes items → field (name_of origin) items ≡ Ok (x, rest) → ReadField (SpellsName origin) items x rest
 name_field origin is items x rest = field_found (name_of origin) (SpellsName origin) (name_found origin is) items x rest
 
-u16_field : (items : List ItemText) (x : ℕ) (rest : List ItemText) → AreBytes items → u16_at items ≡ Ok (x, rest) → ReadField (SpellsNumber 16) items x rest
+pub u16_field : (items : List ItemText) (x : ℕ) (rest : List ItemText) → AreBytes items → u16_at items ≡ Ok (x, rest) → ReadField (SpellsNumber 16) items x rest
 u16_field items x rest = field_found (number_of 65535) (SpellsNumber 16) number16_found items x rest
 
 u32_field : (items : List ItemText) (x : ℕ) (rest : List ItemText) → AreBytes items → u32_at items ≡ Ok (x, rest) → ReadField (SpellsNumber 32) items x rest
@@ -29,7 +29,7 @@ seconds_field : (items : List ItemText) (x : ℕ) (rest : List ItemText) → Are
 seconds_field items x rest = field_found (duration_of 4294967295) SpellsSeconds seconds_found items x rest
 
 -- an item before items
-abbrev before : List ℕ → List ItemText → List ItemText
+abbrev pub before : List ℕ → List ItemText → List ItemText
 before raw items = plain raw ∷ items
 
 -- what was read, with nothing left behind it
