@@ -1,11 +1,13 @@
 -- Texts of items, cut into their items again.
 use Rattle.std.proofs.Common.{◌≡◌, ℕ, zero, suc, ◌+◌, ◌<◌, ◌/◌, ◌%◌, ◌&&◌, ◌||◌, Bool, true, false, cond, eqb, leb, List, [], ◌∷◌, ◌++◌, length, map, drop, refl, sym, ap, ◌∙◌, append_assoc, arith}
-use Rattle.std.specs.List.{All, AllByRecursion, flat_map, slice_split}
+use Rattle.std.specs.List.{All, AllByRecursion, flat_map, list_all, slice_split}
 use Rattle.std.specs.Fmt.{decimal, digits, digits_onto, digit_glyph}
-use Rattle.std.proofs.lemmas.Bool.{cond_both, or_parts, ne_eqb}
+use Rattle.std.proofs.lemmas.Bool.{and_parts, cond_both, or_parts, ne_eqb}
 use Rattle.std.proofs.lemmas.Bool.Decides.{nat_tests}
 use Rattle.std.proofs.lemmas.List.Elements.{All-from_recursion, All-cons, All-append}
 use Rattle.std.proofs.lemmas.List.Splits.{slice_split_none, slice_split_at}
+use Rattle.std.specs.Prelude.{not, slice_index}
+use Rattle.hex.specs.Hex.{lower_digits, encode_with, encode_lower}
 use Rattle.dns_names.specs.Spelling.{three_digits, is_special, label_text, name_text}
 use Rattle.dns_names.specs.Spelling as names
 use Rattle.dns_data.specs.Items.{ItemText, plain, in_quotes, items_text}
@@ -70,6 +72,23 @@ digits_no_space (suc k) n text h =
 pub decimal_no_space : (n : ℕ) → HasNoSpace (decimal n)
 unfolding digits
 decimal_no_space n = digits_no_space 64 n [] (by_octet [] tt)
+
+-- nor have printed digests
+digit_at_no_space : (digits : List ℕ) → list_all (λ o. not (is_space o)) digits ≡ true → (i : ℕ) → IsNoSpace (slice_index digits i)
+digit_at_no_space [] h i = refl
+digit_at_no_space (d ∷ digits) h zero = not_true (is_space d) (and_parts (not (is_space d)) (list_all (λ o. not (is_space o)) digits) h).0
+  where
+    not_true : (b : Bool) → not b ≡ true → b ≡ false
+    not_true true e = absurd cc
+    not_true false e = refl
+digit_at_no_space (d ∷ digits) h (suc i) = digit_at_no_space digits (and_parts (not (is_space d)) (list_all (λ o. not (is_space o)) digits) h).1 i
+
+pub digits_no_space_in : (octets : List ℕ) → HasNoSpace (encode_lower octets)
+unfolding encode_with
+digits_no_space_in [] = by_octet [] tt
+digits_no_space_in (o ∷ octets) =
+    All-cons IsNoSpace (slice_index lower_digits (o / 16)) (slice_index lower_digits (o % 16) ∷ encode_lower octets) (digit_at_no_space lower_digits refl (o / 16))
+    (All-cons IsNoSpace (slice_index lower_digits (o % 16)) (encode_lower octets) (digit_at_no_space lower_digits refl (o % 16)) (digits_no_space_in octets))
 
 -- ---- plain items
 

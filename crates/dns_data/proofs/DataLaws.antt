@@ -1,11 +1,12 @@
 -- The laws of record data: what is read is spelled by the items, what the items spell is read, and so is what is printed.
-use Rattle.std.proofs.Common.{◌≡◌, ℕ, ◌^◌, ◌<◌, inl, eqb, decimal, List, [], ◌∷◌, length, Option, None, Result, Ok, Err, refl, ap, subst, arith, eqb-true}
+use Rattle.std.proofs.Common.{◌≡◌, ℕ, ◌^◌, ◌<◌, inl, eqb, decimal, List, [], ◌∷◌, length, Option, None, Result, Ok, Err, refl, sym, ap, subst, append-nil, arith, eqb-true}
 use Rattle.std.proofs.lemmas.List.{nil_from_length}
 use Rattle.std.proofs.NetLemmas.Texts.{IsDotted-ipv4_text, IsColonHex-hex_groups_text}
 use Rattle.std.specs.List.{AllByRecursion}
-use Rattle.std.specs.Net.Addr.{ipv4_octets, ipv6_segments, IsIpv4Addr, IsIpv6Addr}
+use Rattle.std.specs.Net.Addr.{ipv4_octets, ipv6_segments}
 use Rattle.std.specs.Net.Text.{ipv4_text, hex_groups_text}
 use Rattle.std.specs.Net.Grammar.{IsIpv4Text, IsIpv6Text}
+use Rattle.hex.specs.Hex.{encode_lower}
 use Rattle.dns_names.specs.Labels.{IsName}
 use Rattle.dns_names.specs.Spelling.{name_text}
 use Rattle.dns_names.proofs.ReadingLaws.{text_spells}
@@ -14,56 +15,26 @@ use Rattle.dns_data.specs.declared.fault.DataFault.TheVariants.{FieldExtra}
 use Rattle.dns_data.specs.declared.record_type.RecordType.{RecordType}
 use Rattle.dns_data.specs.declared.record_type.RecordType.TheVariants as types
 use Rattle.dns_data.specs.declared.rdata.Data.{Data}
-use Rattle.dns_data.specs.declared.rdata.Data.TheVariants.{A, Ns, Cname, Soa, Ptr, Mx, Txt, Aaaa, Srv}
+use Rattle.dns_data.specs.declared.rdata.Data.TheVariants.{A, Ns, Cname, Soa, Ptr, Mx, Txt, Aaaa, Srv, Ds}
 use Rattle.dns_data.specs.declared.rdata.MailExchange.{MailExchange}
 use Rattle.dns_data.specs.declared.rdata.Service.{Service}
-use Rattle.dns_data.specs.declared.soa.Soa.{Soa as SoaData}
+use Rattle.dns_data.specs.declared.ds.DelegationSigner.{DelegationSigner}
+use Rattle.dns_data.specs.declared.soa.SoaFields.{SoaFields}
 use Rattle.dns_data.specs.Faults.{◌>>=◌}
 use Rattle.dns_data.specs.Items.{ItemText, plain, in_quotes}
-use Rattle.dns_data.specs.Rdata.{type_of}
-use Rattle.dns_data.specs.Strings.{IsString, AreStrings, string_text}
-use Rattle.dns_data.specs.Text.{soa_items, mx_items, srv_items, strings_items, data_items}
-use Rattle.dns_data.specs.Grammar.{SpellsName, SpellsNumber, SpellsSeconds, IsNameItem, IsSoa, IsMx, IsSrv, SpellStrings, IsData}
-use Rattle.dns_data.specs.Reading.{Field, field, ipv4_of, ipv6_of, name_of, soa_at, mx_at, srv_at, strings_of, with_rest, ended, data_of}
+use Rattle.dns_data.specs.Rdata.{type_of, IsSoaRdata, IsMxRdata, IsSrvRdata, IsDsRdata, IsRdata}
+use Rattle.dns_data.specs.Strings.{IsString, string_text}
+use Rattle.dns_data.specs.Digests.{SpellsDigest}
+use Rattle.dns_data.specs.Text.{soa_items, mx_items, srv_items, ds_items, strings_items, data_items}
+use Rattle.dns_data.specs.Grammar.{SpellsName, SpellsNumber, SpellsSeconds, IsNameItem, IsSoa, IsMx, IsSrv, IsDs, SpellStrings, IsData}
+use Rattle.dns_data.specs.Reading.{Field, field, ipv4_of, ipv6_of, name_of, soa_at, mx_at, srv_at, strings_of, ds_at, with_rest, ended, data_of}
 use Rattle.dns_data.proofs.StepLaws.{needed_ok, done, ok_is}
 use Rattle.dns_data.proofs.NumberLaws.{decimal_is_number}
 use Rattle.dns_data.proofs.StringLaws.{string_spells}
 use Rattle.dns_data.proofs.FieldLaws.{AreBytes, IsOrigin, field_found, field_only, name_found, name_only, ipv4_found, ipv4_only, ipv6_found, ipv6_only}
+use Rattle.dns_data.proofs.DigestLaws.{digest_spells}
+use Rattle.dns_data.proofs.DsLaws.{ds_found, ds_only}
 use Rattle.dns_data.proofs.PartLaws.{mx_found, mx_only, srv_found, srv_only, soa_found, soa_only, strings_found, strings_only}
-
--- ---- data that are kept
-
--- what the parts of an SOA keep
-pub record KeepsSoa (soa : SoaData) : Type 0 where
-  pub mname : IsName soa.mname
-  pub rname : IsName soa.rname
-  pub serial : soa.serial.0 < 2 ^ 32
-  pub refresh : soa.refresh.0 < 2 ^ 32
-  pub retry : soa.retry.0 < 2 ^ 32
-  pub expire : soa.expire.0 < 2 ^ 32
-  pub minimum : soa.minimum.0 < 2 ^ 32
-
-pub record KeepsMx (mx : MailExchange) : Type 0 where
-  pub preference : mx.preference < 2 ^ 16
-  pub exchange : IsName mx.exchange
-
-pub record KeepsSrv (srv : Service) : Type 0 where
-  pub priority : srv.priority < 2 ^ 16
-  pub weight : srv.weight < 2 ^ 16
-  pub port : srv.port < 2 ^ 16
-  pub target : IsName srv.target
-
--- what the types of data keep
-abbrev pub IsKept : Data → Type 0
-IsKept (A address) = IsIpv4Addr address
-IsKept (Ns server) = IsName server
-IsKept (Cname target) = IsName target
-IsKept (Soa soa) = KeepsSoa soa
-IsKept (Ptr target) = IsName target
-IsKept (Mx mx) = KeepsMx mx
-IsKept (Txt strings) = AreStrings strings
-IsKept (Aaaa address) = IsIpv6Addr address
-IsKept (Srv srv) = KeepsSrv srv
 
 -- ---- the end of the data
 
@@ -90,6 +61,11 @@ whole_found {X} wrap (Ok x) made e =
 strings_whole : (read : Result (List (List ℕ)) DataFault) (made : Data) → (read >>= (λ strings. Ok (Txt strings, [])) >>= ended) ≡ Ok made → (strings : List (List ℕ)) × (read ≡ Ok strings) × (Txt strings ≡ made)
 strings_whole (Err f) made e = absurd cc
 strings_whole (Ok strings) made e = (strings, refl, (ended_ok (Txt strings) made [] e).0)
+
+-- data of a digest, which is all of the items
+ds_whole : (read : Result DelegationSigner DataFault) (made : Data) → (read >>= (λ ds. Ok (Ds ds, [])) >>= ended) ≡ Ok made → (ds : DelegationSigner) × (read ≡ Ok ds) × (Ds ds ≡ made)
+ds_whole (Err f) made e = absurd cc
+ds_whole (Ok ds) made e = (ds, refl, (ended_ok (Ds ds) made [] e).0)
 
 -- ---- data that are read
 
@@ -134,6 +110,9 @@ data_found types.Aaaa origin items made is bytes e =
 data_found types.Srv origin items made is bytes e =
     let w = whole_found Srv (srv_at origin items) made e in
     subst (Found origin items types.Srv) w.same (refl, srv_found origin items w.value is bytes w.read_is)
+data_found types.Ds origin items made is bytes e =
+    let w = ds_whole (ds_at items) made e in
+    subst (Found origin items types.Ds) w.2 (refl, ds_found items w.0 bytes w.1)
 
 -- ---- data that are spelled
 
@@ -152,6 +131,7 @@ spelled_only origin items (Mx mx) is h = rw (mx_only origin items mx is h) refl
 spelled_only origin items (Txt strings) is h = rw (strings_only strings items h.0 h.1) refl
 spelled_only origin items (Aaaa address) is (raw, items_are, spelled) = rw (items_are, field_only ipv6_of raw address [] (ipv6_only raw address spelled)) refl
 spelled_only origin items (Srv srv) is h = rw (srv_only origin items srv is h) refl
+spelled_only origin items (Ds ds) is h = rw (ds_only items ds h) refl
 
 -- what the items spell is read
 pub data_only : (t : RecordType) (origin : Option (List (List ℕ))) (items : List ItemText) (made : Data) → IsOrigin origin → type_of made ≡ t → IsData origin made items → data_of t origin items ≡ Ok made
@@ -169,6 +149,9 @@ name_spells : (name : List (List ℕ)) → IsName name → IsNameItem None name 
 name_spells name is = (name_text name, refl, (is, text_spells name is))
 
 -- a printed number spells it, and so it does as seconds
+number8_spells : (n : ℕ) → n < 2 ^ 8 → SpellsNumber 8 n (decimal n)
+number8_spells n h = (h, decimal_is_number n (omega arith))
+
 number16_spells : (n : ℕ) → n < 2 ^ 16 → SpellsNumber 16 n (decimal n)
 number16_spells n h = (h, decimal_is_number n (omega arith))
 
@@ -178,7 +161,7 @@ number32_spells n h = (h, decimal_is_number n (omega arith))
 seconds_spell : (n : ℕ) → n < 2 ^ 32 → SpellsSeconds n (decimal n)
 seconds_spell n h = (h, inl (decimal_is_number n (omega arith)))
 
-soa_spells : (soa : SoaData) → KeepsSoa soa → IsSoa None soa (soa_items soa)
+soa_spells : (soa : SoaFields) → IsSoaRdata soa → IsSoa None soa (soa_items soa)
 soa_spells soa k = record {
   mname = name_text soa.mname;
   rname = name_text soa.rname;
@@ -197,7 +180,7 @@ soa_spells soa k = record {
   minimum_is = seconds_spell soa.minimum.0 k.minimum;
 }
 
-mx_spells : (mx : MailExchange) → KeepsMx mx → IsMx None mx (mx_items mx)
+mx_spells : (mx : MailExchange) → IsMxRdata mx → IsMx None mx (mx_items mx)
 mx_spells mx k = record {
   preference = decimal mx.preference;
   exchange = name_text mx.exchange;
@@ -206,7 +189,7 @@ mx_spells mx k = record {
   exchange_is = (k.exchange, text_spells mx.exchange k.exchange);
 }
 
-srv_spells : (srv : Service) → KeepsSrv srv → IsSrv None srv (srv_items srv)
+srv_spells : (srv : Service) → IsSrvRdata srv → IsSrv None srv (srv_items srv)
 srv_spells srv k = record {
   priority = decimal srv.priority;
   weight = decimal srv.weight;
@@ -219,8 +202,21 @@ srv_spells srv k = record {
   target_is = (k.target, text_spells srv.target k.target);
 }
 
+ds_spells : (ds : DelegationSigner) → IsDsRdata ds → IsDs ds (ds_items ds)
+ds_spells ds k = record {
+  key_tag = decimal ds.key_tag;
+  algorithm = decimal ds.algorithm;
+  digest_type = decimal ds.digest_type;
+  digest = encode_lower ds.digest ∷ [];
+  items_are = refl;
+  key_tag_is = number16_spells ds.key_tag k.key_tag;
+  algorithm_is = number8_spells ds.algorithm k.algorithm;
+  digest_type_is = number8_spells ds.digest_type k.digest_type;
+  digest_is = (k.digest, subst (SpellsDigest ds.digest) (sym (append-nil (encode_lower ds.digest))) (digest_spells ds.digest k.digest));
+}
+
 -- the printed items spell the data
-pub data_spells : (made : Data) → IsKept made → IsData None made (data_items made)
+pub data_spells : (made : Data) → IsRdata made → IsData None made (data_items made)
 data_spells (A address) is = (ipv4_text (ipv4_octets address), refl, IsDotted-ipv4_text (ipv4_octets address) is.0 is.1)
 data_spells (Ns server) is = name_spells server is
 data_spells (Cname target) is = name_spells target is
@@ -230,7 +226,25 @@ data_spells (Mx mx) is = mx_spells mx is
 data_spells (Txt strings) is = (is, strings_spell strings is.each)
 data_spells (Aaaa address) is = (hex_groups_text (ipv6_segments address), refl, IsColonHex-hex_groups_text (ipv6_segments address) is.0 is.1)
 data_spells (Srv srv) is = srv_spells srv is
+data_spells (Ds ds) is = ds_spells ds is
 
 -- what is printed is read again
-pub data_again : (made : Data) → IsKept made → data_of (type_of made) None (data_items made) ≡ Ok made
+pub data_again : (made : Data) → IsRdata made → data_of (type_of made) None (data_items made) ≡ Ok made
 data_again made is = spelled_only None (data_items made) made tt (data_spells made is)
+
+some_strings : (strings : List (List ℕ)) → 0 < length strings → 0 < length (strings_items strings)
+some_strings [] some = absurd (omega arith)
+some_strings (string ∷ strings) some = omega arith
+
+-- data have an item
+pub some_items : (made : Data) → IsRdata made → 0 < length (data_items made)
+some_items (A address) is = omega arith
+some_items (Ns server) is = omega arith
+some_items (Cname target) is = omega arith
+some_items (Soa soa) is = omega arith
+some_items (Ptr target) is = omega arith
+some_items (Mx mx) is = omega arith
+some_items (Txt strings) is = some_strings strings is.some
+some_items (Aaaa address) is = omega arith
+some_items (Srv srv) is = omega arith
+some_items (Ds ds) is = omega arith

@@ -73,6 +73,12 @@ name_only (Some origin) is raw name h = of_names_again (relative_name origin raw
 
 -- ---- numbers
 
+pub number8_found : (raw : List ℕ) (n : ℕ) → IsBytes raw → number_of 255 raw ≡ Ok n → SpellsNumber 8 n raw
+number8_found raw n bytes e = let f = number_found 255 raw n e in (omega (arith, f.1), f.0)
+
+pub number8_only : (raw : List ℕ) (n : ℕ) → SpellsNumber 8 n raw → number_of 255 raw ≡ Ok n
+number8_only raw n h = number_only 255 raw n h.1 (omega (arith, h.0))
+
 pub number16_found : (raw : List ℕ) (n : ℕ) → IsBytes raw → number_of 65535 raw ≡ Ok n → SpellsNumber 16 n raw
 number16_found raw n bytes e = let f = number_found 65535 raw n e in (omega (arith, f.1), f.0)
 

@@ -2,11 +2,14 @@ pub mod AddressLemmas
 pub mod ApartLaws
 pub mod CutLemmas
 pub mod DataLaws
+pub mod DigestLaws
+pub mod DsLaws
 pub mod EachLemmas
 pub mod FieldLaws
 pub mod NumberLaws
 pub mod NumberLemmas
 pub mod PartLaws
+pub mod RunLemmas
 pub mod SameLemmas
 pub mod StepLaws
 pub mod StringLaws

@@ -4,7 +4,7 @@ use Rattle.std.specs.List.{AllByRecursion}
 use Rattle.dns_data.specs.declared.fault.DataFault.TheVariants.{DataTooLong}
 use Rattle.dns_data.specs.declared.rdata.MailExchange.{MailExchange}
 use Rattle.dns_data.specs.declared.rdata.Service.{Service}
-use Rattle.dns_data.specs.declared.soa.Soa.{Soa as SoaData}
+use Rattle.dns_data.specs.declared.soa.SoaFields.{SoaFields}
 use Rattle.dns_data.specs.Items.{ItemText, plain}
 use Rattle.dns_data.specs.Numbers.{number_of, duration_of}
 use Rattle.dns_data.specs.Strings.{IsString, AreStrings, strings_len, string_of}
@@ -19,7 +19,7 @@ use Rattle.dns_data.proofs.FieldLaws.{AreBytes, IsOrigin, ReadField, field_found
 name_field : (origin : Option (List (List ℕ))) → IsOrigin origin → (items : List ItemText) (x : List (List ℕ)) (rest : List ItemText) → AreBytes items → field (name_of origin) items ≡ Ok (x, rest) → ReadField (SpellsName origin) items x rest
 name_field origin is items x rest = field_found (name_of origin) (SpellsName origin) (name_found origin is) items x rest
 
-u16_field : (items : List ItemText) (x : ℕ) (rest : List ItemText) → AreBytes items → u16_at items ≡ Ok (x, rest) → ReadField (SpellsNumber 16) items x rest
+pub u16_field : (items : List ItemText) (x : ℕ) (rest : List ItemText) → AreBytes items → u16_at items ≡ Ok (x, rest) → ReadField (SpellsNumber 16) items x rest
 u16_field items x rest = field_found (number_of 65535) (SpellsNumber 16) number16_found items x rest
 
 u32_field : (items : List ItemText) (x : ℕ) (rest : List ItemText) → AreBytes items → u32_at items ≡ Ok (x, rest) → ReadField (SpellsNumber 32) items x rest
@@ -29,7 +29,7 @@ seconds_field : (items : List ItemText) (x : ℕ) (rest : List ItemText) → Are
 seconds_field items x rest = field_found (duration_of 4294967295) SpellsSeconds seconds_found items x rest
 
 -- an item before items
-abbrev before : List ℕ → List ItemText → List ItemText
+abbrev pub before : List ℕ → List ItemText → List ItemText
 before raw items = plain raw ∷ items
 
 -- what was read, with nothing left behind it
@@ -126,7 +126,7 @@ srv_only origin items srv is h =
 -- ---- SOA
 
 -- the names and numbers of an SOA, from their fields
-soa_from : (origin : Option (List (List ℕ))) (soa : SoaData) (items one two three four five six : List ItemText) → ReadField (SpellsName origin) items soa.mname one → ReadField (SpellsName origin) one soa.rname two
+soa_from : (origin : Option (List (List ℕ))) (soa : SoaFields) (items one two three four five six : List ItemText) → ReadField (SpellsName origin) items soa.mname one → ReadField (SpellsName origin) one soa.rname two
     → ReadField (SpellsNumber 32) two soa.serial.0 three → ReadField SpellsSeconds three soa.refresh.0 four → ReadField SpellsSeconds four soa.retry.0 five → ReadField SpellsSeconds five soa.expire.0 six
     → ReadField SpellsSeconds six soa.minimum.0 [] → IsSoa origin soa items
 soa_from origin soa items one two three four five six a b c d e f g = record {
@@ -148,18 +148,18 @@ soa_from origin soa items one two three four five six a b c d e f g = record {
 }
 
 -- where nothing stands behind them
-soa_whole : (origin : Option (List (List ℕ))) (made soa : SoaData) (items one two three four five six end : List ItemText) → ReadField (SpellsName origin) items made.mname one → ReadField (SpellsName origin) one made.rname two
+soa_whole : (origin : Option (List (List ℕ))) (made soa : SoaFields) (items one two three four five six end : List ItemText) → ReadField (SpellsName origin) items made.mname one → ReadField (SpellsName origin) one made.rname two
     → ReadField (SpellsNumber 32) two made.serial.0 three → ReadField SpellsSeconds three made.refresh.0 four → ReadField SpellsSeconds four made.retry.0 five → ReadField SpellsSeconds five made.expire.0 six
     → ReadField SpellsSeconds six made.minimum.0 end → (made ≡ soa) × (end ≡ []) → IsSoa origin soa items
 soa_whole origin made soa items one two three four five six end a b c d e f g same =
-    subst (λ (s : SoaData). IsSoa origin s items) same.0 (soa_from origin made items one two three four five six a b c d e f (subst (ReadField SpellsSeconds six made.minimum.0) same.1 g))
+    subst (λ (s : SoaFields). IsSoa origin s items) same.0 (soa_from origin made items one two three four five six a b c d e f (subst (ReadField SpellsSeconds six made.minimum.0) same.1 g))
 
 -- an SOA by its parts
-abbrev made_soa : List (List ℕ) → List (List ℕ) → ℕ → ℕ → ℕ → ℕ → ℕ → SoaData
+abbrev made_soa : List (List ℕ) → List (List ℕ) → ℕ → ℕ → ℕ → ℕ → ℕ → SoaFields
 made_soa mname rname serial refresh retry expire minimum = record { mname = mname; rname = rname; serial = record { 0 = serial }; refresh = record { 0 = refresh }; retry = record { 0 = retry }; expire = record { 0 = expire }; minimum = record { 0 = minimum } }
 
 -- SOA data that are read are spelled
-pub soa_found : (origin : Option (List (List ℕ))) (items : List ItemText) (soa : SoaData) → IsOrigin origin → AreBytes items → soa_at origin items ≡ Ok (soa, []) → IsSoa origin soa items
+pub soa_found : (origin : Option (List (List ℕ))) (items : List ItemText) (soa : SoaFields) → IsOrigin origin → AreBytes items → soa_at origin items ≡ Ok (soa, []) → IsSoa origin soa items
 unfolding soa_at
 soa_found origin items soa is bytes whole =
     let a = bind_ok (field (name_of origin) items) _ (soa, []) whole in
@@ -169,7 +169,7 @@ soa_found origin items soa is bytes whole =
     let e = bind_ok (seconds_at d.0.1) _ (soa, []) d.2 in
     let f = bind_ok (seconds_at e.0.1) _ (soa, []) e.2 in
     let g = bind_ok (seconds_at f.0.1) _ (soa, []) f.2 in
-    let made : SoaData = made_soa a.0.0 b.0.0 c.0.0 d.0.0 e.0.0 f.0.0 g.0.0 in
+    let made : SoaFields = made_soa a.0.0 b.0.0 c.0.0 d.0.0 e.0.0 f.0.0 g.0.0 in
     let same = same_end made soa g.0.1 g.2 in
     let af = name_field origin is items a.0.0 a.0.1 bytes a.1 in
     let bf = name_field origin is a.0.1 b.0.0 b.0.1 af.bytes b.1 in
@@ -181,7 +181,7 @@ soa_found origin items soa is bytes whole =
     soa_whole origin made soa items a.0.1 b.0.1 c.0.1 d.0.1 e.0.1 f.0.1 g.0.1 af bf cf df ef ff gf same
 
 -- SOA data that are spelled are read
-pub soa_only : (origin : Option (List (List ℕ))) (items : List ItemText) (soa : SoaData) → IsOrigin origin → IsSoa origin soa items → soa_at origin items ≡ Ok (soa, [])
+pub soa_only : (origin : Option (List (List ℕ))) (items : List ItemText) (soa : SoaFields) → IsOrigin origin → IsSoa origin soa items → soa_at origin items ≡ Ok (soa, [])
 unfolding soa_at
 soa_only origin items soa is h =
     let six : List ItemText = plain h.minimum ∷ [] in

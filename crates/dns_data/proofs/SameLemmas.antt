@@ -9,15 +9,17 @@ use Rattle.std.specs.declared.net.ipv6_addr.Ipv6Addr.{Ipv6Addr}
 use Rattle.dns_names.proofs.NameLemmas.{same_name-Decides}
 use Rattle.dns_data.specs.declared.record.Record.{Record}
 use Rattle.dns_data.specs.declared.rdata.Data.{Data}
-use Rattle.dns_data.specs.declared.rdata.Data.TheVariants.{A, Ns, Cname, Soa, Ptr, Mx, Txt, Aaaa, Srv}
+use Rattle.dns_data.specs.declared.rdata.Data.TheVariants.{A, Ns, Cname, Soa, Ptr, Mx, Txt, Aaaa, Srv, Ds}
 use Rattle.dns_data.specs.declared.rdata.MailExchange.{MailExchange}
 use Rattle.dns_data.specs.declared.rdata.Service.{Service}
-use Rattle.dns_data.specs.declared.soa.Soa.{Soa as SoaData}
+use Rattle.dns_data.specs.declared.ds.DelegationSigner.{DelegationSigner}
+use Rattle.dns_data.specs.declared.soa.SoaFields.{SoaFields}
 use Rattle.dns_data.specs.contracts.rdata.DataPartialEq.TheImpl as of_data
 use Rattle.dns_data.specs.contracts.rdata.MailExchangePartialEq.TheImpl as of_mx
 use Rattle.dns_data.specs.contracts.rdata.ServicePartialEq.TheImpl as of_srv
-use Rattle.dns_data.specs.contracts.soa.SoaPartialEq.TheImpl as of_soa
+use Rattle.dns_data.specs.contracts.ds.DelegationSignerPartialEq.TheImpl as of_ds
 use Rattle.dns_data.specs.Rdata.{SameRecord}
+use Rattle.dns_data.specs.SameSoa.{same_soa}
 
 -- ---- tests of several parts
 
@@ -39,7 +41,7 @@ ipv6_decides a b = via _ (bytes_eq-Decides a.segments b.segments) (λ e. λ i. A
 strings_decides : (a b : List (List ℕ)) → Decides (of_data.ghosts.eq (Txt a) (Txt b)) (Txt a ≡ Txt b)
 strings_decides a b = via _ (slice_eq-Decides bytes_eq-Decides a b _ refl) (λ e. ap Txt e) (λ e. cc)
 
-soa_decides : (a b : SoaData) → Decides (of_soa.ghosts.eq a b) (a ≡ b)
+soa_decides : (a b : SoaFields) → Decides (same_soa a b) (a ≡ b)
 soa_decides a b =
     via _
     (both _ _ (same_name-Decides a.mname b.mname)
@@ -51,12 +53,12 @@ soa_decides a b =
     (λ e.
     λ i. record { mname = e.0 i; rname = e.1.0 i; serial = record { 0 = e.1.1.0 i }; refresh = record { 0 = e.1.1.1.0 i }; retry = record { 0 = e.1.1.1.1.0 i }; expire = record { 0 = e.1.1.1.1.1.0 i }; minimum = record { 0 = e.1.1.1.1.1.1 i } })
     (λ e. (
-      ap (λ (s : SoaData). s.mname) e,
+      ap (λ (s : SoaFields). s.mname) e,
       (
-        ap (λ (s : SoaData). s.rname) e,
+        ap (λ (s : SoaFields). s.rname) e,
         (
-          ap (λ (s : SoaData). s.serial.0) e,
-          (ap (λ (s : SoaData). s.refresh.0) e, (ap (λ (s : SoaData). s.retry.0) e, (ap (λ (s : SoaData). s.expire.0) e, ap (λ (s : SoaData). s.minimum.0) e))),
+          ap (λ (s : SoaFields). s.serial.0) e,
+          (ap (λ (s : SoaFields). s.refresh.0) e, (ap (λ (s : SoaFields). s.retry.0) e, (ap (λ (s : SoaFields). s.expire.0) e, ap (λ (s : SoaFields). s.minimum.0) e))),
         ),
       ),
     ))
@@ -77,6 +79,18 @@ srv_decides a b =
     (λ e. λ i. record { priority = e.0 i; weight = e.1.0 i; port = e.1.1.0 i; target = e.1.1.1 i })
     (λ e. (ap (λ (s : Service). s.priority) e, (ap (λ (s : Service). s.weight) e, (ap (λ (s : Service). s.port) e, ap (λ (s : Service). s.target) e))))
 
+ds_decides : (a b : DelegationSigner) → Decides (of_ds.ghosts.eq a b) (a ≡ b)
+ds_decides a b =
+    via _
+    (both _ _ (Decides-eqb a.key_tag b.key_tag)
+    (both _ _ (Decides-eqb a.algorithm b.algorithm)
+    (both _ _ (Decides-eqb a.digest_type b.digest_type) (bytes_eq-Decides a.digest b.digest))))
+    (λ e. λ i. record { key_tag = e.0 i; algorithm = e.1.0 i; digest_type = e.1.1.0 i; digest = e.1.1.1 i })
+    (λ e. (
+      ap (λ (s : DelegationSigner). s.key_tag) e,
+      (ap (λ (s : DelegationSigner). s.algorithm) e, (ap (λ (s : DelegationSigner). s.digest_type) e, ap (λ (s : DelegationSigner). s.digest) e)),
+    ))
+
 -- ---- data
 
 pub data_decides : (a b : Data) → Decides (of_data.ghosts.eq a b) (a ≡ b)
@@ -89,6 +103,7 @@ data_decides (Mx a) (Mx b) = via _ (mx_decides a b) (λ e. ap Mx e) (λ e. cc)
 data_decides (Txt a) (Txt b) = strings_decides a b
 data_decides (Aaaa a) (Aaaa b) = ipv6_decides a b
 data_decides (Srv a) (Srv b) = via _ (srv_decides a b) (λ e. ap Srv e) (λ e. cc)
+data_decides (Ds a) (Ds b) = via _ (ds_decides a b) (λ e. ap Ds e) (λ e. cc)
 data_decides a b = (λ e. absurd cc, λ e. absurd cc)
 
 -- ---- records

@@ -1,10 +1,13 @@
 -- What the code that prints data writes.
 use Rattle.std.proofs.Common.{◌≡◌, ℕ, ◌<◌, ◌≤◌, ◌/◌, ◌%◌, List, [], ◌∷◌, ◌++◌, false, leb, eqb, length, take, drop, get_or, ◌+◌, ◌-◌, refl, sym, ap, ◌∙◌, arith}
-use Rattle.std.specs.Prelude.{◌||◌, ◌&&◌}
+use Rattle.std.specs.Prelude.{◌||◌, ◌&&◌, Result, Ok, Err, IsOk, OnOk}
+use Rattle.std.proofs.Output.{writes_in_calls_nil}
+use Rattle.std.specs.Fmt.{HasWritten, IsPlainFormatter}
+use Rattle.std.specs.declared.fmt.Formatter.{Formatter}
 use Rattle.std.specs.List.{flat_map}
 use Rattle.std.specs.Fmt.{decimal}
 use Rattle.std.proofs.lemmas.Fmt.{decimal_digit}
-use Rattle.std.proofs.lemmas.List.{append-nil, take_all, take_more, flat_map_more}
+use Rattle.std.proofs.lemmas.List.{append-nil, take-append-drop, take_all, take_more, flat_map_more}
 use Rattle.std.specs.Prelude.{codes}
 use Rattle.dns_names.specs.Spelling.{name_text}
 use Rattle.dns_data.specs.declared.record.Record.{Record}
@@ -13,6 +16,21 @@ use Rattle.dns_data.specs.Types.{type_text}
 use Rattle.dns_data.specs.Rdata.{type_of}
 use Rattle.dns_data.specs.Strings.{octet_text, string_text}
 use Rattle.dns_data.specs.Text.{strings_items, data_items, data_text, record_line}
+
+-- ---- steps
+
+-- what a call ensures if it did not fail
+pub at_ok : {T E P : Type 0} (r : Result T E) → IsOk r → OnOk r P → P
+at_ok (Ok x) ok h = h
+at_ok (Err e) ok h = absurd cc
+
+pub nothing_written : {W : Type 0} (took : W → List ℕ → W → Type 0) (f : Formatter W) → IsPlainFormatter f → HasWritten took f [] f
+nothing_written took f plain = record { wrote = writes_in_calls_nil took f.writer; plain = plain }
+
+pub split_parts : (rest part after : List ℕ) (n : ℕ) → part ≡ take n rest → after ≡ drop n rest → part ++ after ≡ rest
+split_parts rest part after n e f = rw (e, f) (take-append-drop n rest)
+
+-- ---- strings
 
 -- a string in quotes
 abbrev pub quoted : List ℕ → List ℕ

@@ -7,11 +7,11 @@ use Rattle.std.proofs.lemmas.Slice.Eq.{bytes_eq-Decides}
 use Rattle.std.specs.Prelude.{bytes_eq}
 use Rattle.dns_data.specs.declared.fault.DataFault.{DataFault}
 use Rattle.dns_data.specs.declared.record_type.RecordType.{RecordType}
-use Rattle.dns_data.specs.declared.record_type.RecordType.TheVariants.{A, Ns, Cname, Soa, Ptr, Mx, Txt, Aaaa, Srv}
+use Rattle.dns_data.specs.declared.record_type.RecordType.TheVariants.{A, Ns, Cname, Soa, Ptr, Mx, Txt, Aaaa, Srv, Ds}
 use Rattle.dns_data.specs.Types.{type_text, type_number, IsCalled}
 
 abbrev pub all_types : List RecordType
-all_types = A ∷ Ns ∷ Cname ∷ Soa ∷ Ptr ∷ Mx ∷ Txt ∷ Aaaa ∷ Srv ∷ []
+all_types = A ∷ Ns ∷ Cname ∷ Soa ∷ Ptr ∷ Mx ∷ Txt ∷ Aaaa ∷ Srv ∷ Ds ∷ []
 
 found_passes : (test : RecordType → Bool) (types : List RecordType) (t : RecordType) → find test types ≡ Some t → test t ≡ true
 found_passes test [] t e = absurd cc
@@ -36,6 +36,7 @@ number_found Mx = refl
 number_found Txt = refl
 number_found Aaaa = refl
 number_found Srv = refl
+number_found Ds = refl
 
 pub by_number : (n : ℕ) (r : Option RecordType) → r ≡ find (has_number n) all_types → (t : RecordType) → (r ≡ Some t) ↔ (type_number t ≡ n)
 by_number n r e t =
@@ -59,6 +60,7 @@ name_found Mx = refl
 name_found Txt = refl
 name_found Aaaa = refl
 name_found Srv = refl
+name_found Ds = refl
 
 abbrev pub found_or : Option RecordType → DataFault → Result RecordType DataFault
 found_or None fault = Err fault

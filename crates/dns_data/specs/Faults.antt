@@ -3,7 +3,7 @@ use Rattle.std.specs.Prelude.{◌≡◌, ℕ, Result, Ok, Err}
 use Rattle.dns_names.specs.declared.fault.NameFault.{NameFault}
 use Rattle.dns_names.specs.declared.fault.NameFault.TheVariants as names
 use Rattle.dns_data.specs.declared.fault.DataFault.{DataFault}
-use Rattle.dns_data.specs.declared.fault.DataFault.TheVariants.{BadAddress, BadNumber, NumberRange, StringTooLong, FieldMissing, FieldExtra, TypeNotKept, DataTooLong, Name, QuotedItem, NoMemory}
+use Rattle.dns_data.specs.declared.fault.DataFault.TheVariants.{BadAddress, BadNumber, NumberRange, StringTooLong, FieldMissing, FieldExtra, TypeNotKept, DataTooLong, Name, QuotedItem, BadDigest, NoMemory}
 
 abbrev pub fault_number : DataFault → ℕ
 fault_number BadAddress = 11
@@ -16,6 +16,7 @@ fault_number TypeNotKept = 17
 fault_number DataTooLong = 18
 fault_number (Name fault) = 19
 fault_number QuotedItem = 20
+fault_number BadDigest = 33
 fault_number NoMemory = 99
 
 -- the refusal of data where a name in it is refused

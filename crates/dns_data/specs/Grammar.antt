@@ -1,16 +1,20 @@
--- The grammar of record data: which items spell which data (RFC 1035 sections 3.3 and 3.4, RFC 2782, RFC 3596 section 2.4).
-use Rattle.std.specs.Prelude.{◌≡◌, ℕ, ◌^◌, ◌<◌, List, [], ◌∷◌, Option, Some, None}
+-- The grammar of record data: which items spell which data (RFC 1035 sections 3.3 and 3.4, RFC 2782, RFC 3596 section
+-- 2.4, RFC 4034 section 5.3).
+use Rattle.std.specs.Prelude.{◌≡◌, ℕ, ◌^◌, ◌<◌, List, [], ◌∷◌, map, Option, Some, None}
+use Rattle.std.specs.List.{concat}
 use Rattle.std.specs.Net.Grammar.{IsIpv4Text, IsIpv6Text}
 use Rattle.dns_names.specs.Labels.{IsName}
 use Rattle.dns_names.specs.Spelling.{SpellsAbsolute, SpellsRelative}
 use Rattle.dns_data.specs.declared.rdata.Data.{Data}
-use Rattle.dns_data.specs.declared.rdata.Data.TheVariants.{A, Ns, Cname, Soa, Ptr, Mx, Txt, Aaaa, Srv}
+use Rattle.dns_data.specs.declared.rdata.Data.TheVariants.{A, Ns, Cname, Soa, Ptr, Mx, Txt, Aaaa, Srv, Ds}
 use Rattle.dns_data.specs.declared.rdata.MailExchange.{MailExchange}
 use Rattle.dns_data.specs.declared.rdata.Service.{Service}
-use Rattle.dns_data.specs.declared.soa.Soa.{Soa as SoaData}
+use Rattle.dns_data.specs.declared.ds.DelegationSigner.{DelegationSigner}
+use Rattle.dns_data.specs.declared.soa.SoaFields.{SoaFields}
 use Rattle.dns_data.specs.Items.{ItemText, plain}
 use Rattle.dns_data.specs.Numbers.{IsNumber, IsDuration}
 use Rattle.dns_data.specs.Strings.{AreStrings, SpellsString}
+use Rattle.dns_data.specs.Digests.{IsDigest, SpellsDigest}
 
 -- a name, relative to the origin where there is one
 abbrev pub SpellsName : Option (List (List ℕ)) → List (List ℕ) → List ℕ → Type 0
@@ -28,7 +32,7 @@ abbrev pub IsNameItem : Option (List (List ℕ)) → List (List ℕ) → List It
 IsNameItem origin name items = (raw : List ℕ) × (items ≡ plain raw ∷ []) × SpellsName origin name raw
 
 -- MNAME RNAME SERIAL REFRESH RETRY EXPIRE MINIMUM
-pub record IsSoa (origin : Option (List (List ℕ))) (soa : SoaData) (items : List ItemText) : Type 0 where
+pub record IsSoa (origin : Option (List (List ℕ))) (soa : SoaFields) (items : List ItemText) : Type 0 where
   pub mname : List ℕ
   pub rname : List ℕ
   pub serial : List ℕ
@@ -65,6 +69,18 @@ pub record IsSrv (origin : Option (List (List ℕ))) (srv : Service) (items : Li
   pub port_is : SpellsNumber 16 srv.port port
   pub target_is : SpellsName origin srv.target target
 
+-- key tag, algorithm, digest type, and a digest that may be cut into several items
+pub record IsDs (ds : DelegationSigner) (items : List ItemText) : Type 0 where
+  pub key_tag : List ℕ
+  pub algorithm : List ℕ
+  pub digest_type : List ℕ
+  pub digest : List (List ℕ)
+  pub items_are : items ≡ plain key_tag ∷ plain algorithm ∷ plain digest_type ∷ map plain digest
+  pub key_tag_is : SpellsNumber 16 ds.key_tag key_tag
+  pub algorithm_is : SpellsNumber 8 ds.algorithm algorithm
+  pub digest_type_is : SpellsNumber 8 ds.digest_type digest_type
+  pub digest_is : IsDigest ds.digest × SpellsDigest ds.digest (concat digest)
+
 -- strings, an item for each, quoted or not
 abbrev pub SpellStrings : List (List ℕ) → List ItemText → Type 0
 SpellStrings [] items = items ≡ []
@@ -81,3 +97,4 @@ IsData origin (Mx mx) items = IsMx origin mx items
 IsData origin (Txt strings) items = AreStrings strings × SpellStrings strings items
 IsData origin (Aaaa address) items = (raw : List ℕ) × (items ≡ plain raw ∷ []) × IsIpv6Text raw address
 IsData origin (Srv srv) items = IsSrv origin srv items
+IsData origin (Ds ds) items = IsDs ds items

@@ -3,6 +3,8 @@ pub mod Types
 pub mod Items
 pub mod Numbers
 pub mod Strings
+pub mod Digests
+pub mod SameSoa
 pub mod Rdata
 pub mod Text
 pub mod Grammar

@@ -1,6 +1,6 @@
 -- What items say as the data of a record of a type: fields from left to right, with the refusal that comes first; then what
 -- stands behind the last field, and then the size.
-use Rattle.std.specs.Prelude.{ℕ, List, [], ◌∷◌, length, ◌==◌, nat_lt, if◌then◌else◌, Option, Some, None, Result, Ok, Err}
+use Rattle.std.specs.Prelude.{ℕ, List, [], ◌∷◌, ◌++◌, length, ◌==◌, nat_lt, if◌then◌else◌, Option, Some, None, Result, Ok, Err}
 use Rattle.std.specs.Net.Reader.{whole_value, read_ipv4, read_ipv6}
 use Rattle.std.specs.declared.net.ipv4_addr.Ipv4Addr.{Ipv4Addr}
 use Rattle.std.specs.declared.net.ipv6_addr.Ipv6Addr.{Ipv6Addr}
@@ -10,14 +10,16 @@ use Rattle.dns_data.specs.declared.fault.DataFault.TheVariants.{BadAddress, Fiel
 use Rattle.dns_data.specs.declared.record_type.RecordType.{RecordType}
 use Rattle.dns_data.specs.declared.record_type.RecordType.TheVariants as types
 use Rattle.dns_data.specs.declared.rdata.Data.{Data}
-use Rattle.dns_data.specs.declared.rdata.Data.TheVariants.{A, Ns, Cname, Soa, Ptr, Mx, Txt, Aaaa, Srv}
+use Rattle.dns_data.specs.declared.rdata.Data.TheVariants.{A, Ns, Cname, Soa, Ptr, Mx, Txt, Aaaa, Srv, Ds}
 use Rattle.dns_data.specs.declared.rdata.MailExchange.{MailExchange}
 use Rattle.dns_data.specs.declared.rdata.Service.{Service}
-use Rattle.dns_data.specs.declared.soa.Soa.{Soa as SoaData}
+use Rattle.dns_data.specs.declared.ds.DelegationSigner.{DelegationSigner}
+use Rattle.dns_data.specs.declared.soa.SoaFields.{SoaFields}
 use Rattle.dns_data.specs.Faults.{◌>>=◌, of_names}
 use Rattle.dns_data.specs.Items.{ItemText}
 use Rattle.dns_data.specs.Numbers.{number_of, duration_of}
 use Rattle.dns_data.specs.Strings.{string_of, strings_len}
+use Rattle.dns_data.specs.Digests.{digest_of}
 
 -- a field and the items after it
 abbrev pub Field : Type 0 → Type 0
@@ -51,6 +53,9 @@ abbrev pub field : {X : Type 0} → (List ℕ → Result X DataFault) → List I
 field read [] = Err FieldMissing
 field read (item ∷ items) = if item.quoted then Err QuotedItem else (read item.raw >>= λ x. Ok (x, items))
 
+abbrev pub u8_at : List ItemText → Field ℕ
+u8_at items = field (number_of 255) items
+
 abbrev pub u16_at : List ItemText → Field ℕ
 u16_at items = field (number_of 65535) items
 
@@ -62,7 +67,7 @@ seconds_at items = field (duration_of 4294967295) items
 
 -- ---- fields of several parts
 
-unfoldable pub soa_at : Option (List (List ℕ)) → List ItemText → Field SoaData
+unfoldable pub soa_at : Option (List (List ℕ)) → List ItemText → Field SoaFields
 soa_at origin items = do
   mname ← field (name_of origin) items
   rname ← field (name_of origin) mname.1
@@ -102,6 +107,24 @@ strings_of (item ∷ items) = do
   strings ← each_string (item ∷ items)
   if nat_lt 65535 (strings_len strings) then Err DataTooLong else Ok strings
 
+-- the octets of items, joined; none of them is quoted
+unfoldable pub joined : List ItemText → Result (List ℕ) DataFault
+joined [] = Ok []
+joined (item ∷ items) = if item.quoted then Err QuotedItem else (joined items >>= λ others. Ok (item.raw ++ others))
+
+-- all items, one or more, as one digest
+unfoldable pub digest_at : List ItemText → Result (List ℕ) DataFault
+digest_at [] = Err FieldMissing
+digest_at (item ∷ items) = joined (item ∷ items) >>= digest_of
+
+unfoldable pub ds_at : List ItemText → Result DelegationSigner DataFault
+ds_at items = do
+  key_tag ← u16_at items
+  algorithm ← u8_at key_tag.1
+  digest_type ← u8_at algorithm.1
+  digest ← digest_at digest_type.1
+  Ok (record { key_tag = key_tag.0; algorithm = algorithm.0; digest_type = digest_type.0; digest = digest })
+
 -- ---- data
 
 abbrev pub with_rest : {X : Type 0} → (X → Data) → Field X → Field Data
@@ -117,6 +140,7 @@ data_at types.Mx origin items = with_rest Mx (mx_at origin items)
 data_at types.Txt origin items = strings_of items >>= λ strings. Ok (Txt strings, [])
 data_at types.Aaaa origin items = with_rest Aaaa (field ipv6_of items)
 data_at types.Srv origin items = with_rest Srv (srv_at origin items)
+data_at types.Ds origin items = ds_at items >>= λ ds. Ok (Ds ds, [])
 
 -- nothing stands behind the last field
 abbrev pub ended : Data × List ItemText → Result Data DataFault

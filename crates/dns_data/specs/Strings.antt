@@ -1,5 +1,5 @@
 -- Character-strings (RFC 1035 sections 3.3 and 5.1).
-use Rattle.std.specs.Prelude.{◌≡◌, ◌≢◌, ℕ, ◌+◌, ◌<◌, ◌≤◌, ◌⊎◌, List, [], ◌∷◌, ◌++◌, length, map, false, ◌||◌, ◌&&◌, ◌==◌, nat_lt, nat_le, if◌then◌else◌, Result, Ok, Err}
+use Rattle.std.specs.Prelude.{◌≡◌, ◌≢◌, ℕ, ◌+◌, ◌<◌, ◌≤◌, ◌⊎◌, List, [], ◌∷◌, ◌++◌, length, map, Bool, false, not, ◌||◌, ◌&&◌, ◌==◌, nat_lt, nat_le, if◌then◌else◌, Result, Ok, Err}
 use Rattle.std.specs.List.{AllByRecursion, sum_by, flat_map}
 use Rattle.std.specs.Char.{is_ascii_digit}
 use Rattle.dns_names.specs.declared.symbol.Symbol.{Symbol}
@@ -58,6 +58,10 @@ string_of raw = of_names (symbols raw) >>= λ all. short_string (map symbol_octe
 -- within quotes: `"` and `\` with a backslash, other octets from 32 to 126 plain, all others `\DDD`
 abbrev pub octet_text : ℕ → List ℕ
 octet_text o = if o == 34 || o == 92 then 92 ∷ o ∷ [] else (if nat_le 32 o && nat_le o 126 then o ∷ [] else 92 ∷ three_digits o)
+
+-- whether an octet does not stand for itself there
+abbrev pub is_escaped : ℕ → Bool
+is_escaped o = not (nat_le 32 o && nat_le o 126) || (o == 34 || o == 92)
 
 abbrev pub string_text : List ℕ → List ℕ
 string_text string = flat_map octet_text string

@@ -2,19 +2,21 @@
 use Rattle.std.specs.Prelude.{ℕ, List, [], ◌∷◌, map, decimal, codes}
 use Rattle.std.specs.Net.Addr.{ipv4_octets, ipv6_segments}
 use Rattle.std.specs.Net.Text.{ipv4_text, hex_groups_text}
+use Rattle.hex.specs.Hex.{encode_lower}
 use Rattle.dns_names.specs.Spelling.{name_text}
 use Rattle.dns_data.specs.declared.rdata.Data.{Data}
-use Rattle.dns_data.specs.declared.rdata.Data.TheVariants.{A, Ns, Cname, Soa, Ptr, Mx, Txt, Aaaa, Srv}
+use Rattle.dns_data.specs.declared.rdata.Data.TheVariants.{A, Ns, Cname, Soa, Ptr, Mx, Txt, Aaaa, Srv, Ds}
 use Rattle.dns_data.specs.declared.rdata.MailExchange.{MailExchange}
 use Rattle.dns_data.specs.declared.rdata.Service.{Service}
+use Rattle.dns_data.specs.declared.ds.DelegationSigner.{DelegationSigner}
 use Rattle.dns_data.specs.declared.record.Record.{Record}
-use Rattle.dns_data.specs.declared.soa.Soa.{Soa as SoaData}
+use Rattle.dns_data.specs.declared.soa.SoaFields.{SoaFields}
 use Rattle.dns_data.specs.Types.{type_text}
 use Rattle.dns_data.specs.Rdata.{type_of}
 use Rattle.dns_data.specs.Items.{ItemText, plain, in_quotes, items_text}
 use Rattle.dns_data.specs.Strings.{string_text}
 
-abbrev pub soa_items : SoaData → List ItemText
+abbrev pub soa_items : SoaFields → List ItemText
 soa_items soa =
     plain (name_text soa.mname) ∷ plain (name_text soa.rname) ∷ plain (decimal soa.serial.0) ∷ plain (decimal soa.refresh.0)
     ∷ plain (decimal soa.retry.0) ∷ plain (decimal soa.expire.0) ∷ plain (decimal soa.minimum.0) ∷ []
@@ -25,6 +27,11 @@ mx_items mx = plain (decimal mx.preference) ∷ plain (name_text mx.exchange) �
 abbrev pub srv_items : Service → List ItemText
 srv_items srv =
     plain (decimal srv.priority) ∷ plain (decimal srv.weight) ∷ plain (decimal srv.port) ∷ plain (name_text srv.target) ∷ []
+
+-- the digest in lower case, as one item
+abbrev pub ds_items : DelegationSigner → List ItemText
+ds_items ds =
+    plain (decimal ds.key_tag) ∷ plain (decimal ds.algorithm) ∷ plain (decimal ds.digest_type) ∷ plain (encode_lower ds.digest) ∷ []
 
 abbrev pub strings_items : List (List ℕ) → List ItemText
 strings_items strings = map (λ string. in_quotes (string_text string)) strings
@@ -40,6 +47,7 @@ data_items (Mx mx) = mx_items mx
 data_items (Txt strings) = strings_items strings
 data_items (Aaaa address) = plain (hex_groups_text (ipv6_segments address)) ∷ []
 data_items (Srv srv) = srv_items srv
+data_items (Ds ds) = ds_items ds
 
 abbrev pub data_text : Data → List ℕ
 data_text rdata = items_text (data_items rdata)

@@ -2,9 +2,9 @@
 use Rattle.std.specs.Prelude.{◌≡◌, ℕ, List, codes}
 use Rattle.std.specs.Str.{str_to_ascii_lowercase}
 use Rattle.dns_data.specs.declared.record_type.RecordType.{RecordType}
-use Rattle.dns_data.specs.declared.record_type.RecordType.TheVariants.{A, Ns, Cname, Soa, Ptr, Mx, Txt, Aaaa, Srv}
+use Rattle.dns_data.specs.declared.record_type.RecordType.TheVariants.{A, Ns, Cname, Soa, Ptr, Mx, Txt, Aaaa, Srv, Ds}
 
--- RFC 1035 section 3.2.2, RFC 2782, RFC 3596 section 2.1
+-- RFC 1035 section 3.2.2, RFC 2782, RFC 3596 section 2.1, RFC 4034 section 5
 abbrev pub type_text : RecordType → List ℕ
 type_text A = codes "A"
 type_text Ns = codes "NS"
@@ -15,6 +15,7 @@ type_text Mx = codes "MX"
 type_text Txt = codes "TXT"
 type_text Aaaa = codes "AAAA"
 type_text Srv = codes "SRV"
+type_text Ds = codes "DS"
 
 abbrev pub type_number : RecordType → ℕ
 type_number A = 1
@@ -26,6 +27,7 @@ type_number Mx = 15
 type_number Txt = 16
 type_number Aaaa = 28
 type_number Srv = 33
+type_number Ds = 43
 
 -- a text is what the type is called, in either letter case
 abbrev pub IsCalled : RecordType → List ℕ → Type 0

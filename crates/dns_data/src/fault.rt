@@ -37,9 +37,12 @@ pub enum DataFault {
     /// A name that is none, or a bad escape in a character-string.
     #[error("{0}")]
     Name(NameFault),
-    /// A quoted item in the place of a name, a number or an address.
-    #[error("a quoted item stands where a name, a number or an address is wanted")]
+    /// A quoted item in the place of a name, a number, an address or a digest.
+    #[error("a quoted item stands where a name, a number, an address or a digest is wanted")]
     QuotedItem,
+    /// A digest that is no row of pairs of hexadecimal digits, one pair or more (RFC 4034 section 5.3).
+    #[error("the digest is no row of pairs of hexadecimal digits")]
+    BadDigest,
     /// Memory ran out. This says nothing of the items.
     #[error("out of memory")]
     NoMemory,
@@ -48,7 +51,8 @@ pub enum DataFault {
 impl DataFault {
     ghost use Rattle.dns_data.specs.Faults.{fault_number};
 
-    /// The published number of the refusal, 11 to 20, or 99 for want of memory. A name's own number is that of its fault.
+    /// The published number of the refusal, 11 to 20 or 33, or 99 for want of memory. A name's own number is that of its
+    /// fault.
     pub const fn number(self) -> u8
         ensures { result ≡ fault_number self }
     {
@@ -63,6 +67,7 @@ impl DataFault {
             DataFault::DataTooLong => 18,
             DataFault::Name(_) => 19,
             DataFault::QuotedItem => 20,
+            DataFault::BadDigest => 33,
             DataFault::NoMemory => 99,
         }
     }

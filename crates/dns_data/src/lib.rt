@@ -1,7 +1,8 @@
-//! Record types, record data and record lines (RFC 1035 sections 3.2 to 3.4 and 5.1, RFC 2782, RFC 3596): reading data
-//! from the items of a master file, and printing them in one canonical text.
+//! Record types, record data and record lines (RFC 1035 sections 3.2 to 3.4 and 5.1, RFC 2782, RFC 3596, RFC 4034 section
+//! 5): reading data from the items of a master file, and printing them in one canonical text.
 #![tactic(auto)]
 
+mod ds;
 mod fault;
 mod item;
 mod notes;
@@ -14,6 +15,7 @@ mod soa;
 mod strings;
 mod text;
 
+pub use ds::{DelegationSigner, Digest};
 pub use fault::DataFault;
 pub use item::Item;
 pub use number::{Seconds, Serial, Ttl};
@@ -21,7 +23,7 @@ pub use rdata::{Data, MailExchange, Service};
 pub use reading::read_data;
 pub use record::{Record, record_line, same_record};
 pub use record_type::RecordType;
-pub use soa::Soa;
+pub use soa::{Soa, SoaFields};
 pub use strings::{CharacterString, Strings};
 pub use text::data_text;
 

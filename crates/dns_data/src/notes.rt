@@ -1,41 +1,19 @@
 //! Notes for proofs: what the types of data say of their fields. Nothing here does anything when it runs.
 
-ghost use Rattle.std.specs.Prelude.{◌≡◌, ◌<◌, ◌^◌, None, Ok, IfSome, length, map};
+ghost use Rattle.std.specs.Prelude.{◌<◌, IfSome, map};
 ghost use Rattle.std.specs.List.{AllByRecursion};
 ghost use Rattle.std.specs.Option.{option_copied};
 ghost use Rattle.std.specs.Net.Addr.{IsIpv4Addr, IsIpv6Addr};
 ghost use Rattle.dns_names.specs.Labels.{IsName};
 ghost use Rattle.dns_data.specs.Items.{item_of};
-ghost use Rattle.dns_data.specs.Rdata.{type_of};
-ghost use Rattle.dns_data.specs.Reading.{data_of};
-ghost use Rattle.dns_data.specs.Text.{data_items};
+ghost use Rattle.dns_data.specs.Rdata.{IsSoaRdata, IsMxRdata, IsSrvRdata, IsDsRdata, IsRdata};
 
+use crate::ds::DelegationSigner;
 use crate::item::Item;
 use crate::rdata::{Data, MailExchange, Service};
-use crate::soa::Soa;
+use crate::soa::SoaFields;
 use dns_names::Name;
 use std::net::{Ipv4Addr, Ipv6Addr};
-
-/// A number of 16 bits fits in them.
-fn notes_u16(n: u16)
-    ensures { n < 2 ^ 16 }
-{
-    let _ = n;
-}
-
-/// A number of 32 bits fits in them.
-fn notes_u32(n: u32)
-    ensures { n < 2 ^ 32 }
-{
-    let _ = n;
-}
-
-/// A name is one.
-fn notes_name(name: &Name)
-    ensures { IsName name.now }
-{
-    let _ = name.labels();
-}
 
 /// An IPv4 address has four octets.
 fn notes_ipv4(address: Ipv4Addr)
@@ -51,70 +29,64 @@ fn notes_ipv6(address: Ipv6Addr)
     let _ = address.segments();
 }
 
-/// The numbers of SOA data fit, and the names are names.
-fn notes_soa(soa: &Soa)
-    ensures mname { IsName soa.now.mname }
-    ensures rname { IsName soa.now.rname }
-    ensures serial { soa.now.serial.0 < 2 ^ 32 }
-    ensures refresh { soa.now.refresh.0 < 2 ^ 32 }
-    ensures retry { soa.now.retry.0 < 2 ^ 32 }
-    ensures expire { soa.now.expire.0 < 2 ^ 32 }
-    ensures minimum { soa.now.minimum.0 < 2 ^ 32 }
+/// The names of an SOA are names, and its numbers have 32 bits.
+fn notes_soa(soa: &SoaFields)
+    ensures { IsSoaRdata soa.now }
 {
-    notes_name(&soa.mname);
-    notes_name(&soa.rname);
-    notes_u32(soa.serial.0);
-    notes_u32(soa.refresh.0);
-    notes_u32(soa.retry.0);
-    notes_u32(soa.expire.0);
-    notes_u32(soa.minimum.0);
+    let _ = soa.mname.labels();
+    let _ = soa.rname.labels();
+    let _serial = soa.serial.0;
+    let _refresh = soa.refresh.0;
+    let _retry = soa.retry.0;
+    let _expire = soa.expire.0;
+    let _minimum = soa.minimum.0;
 }
 
-/// The preference of MX data fits, and the exchange is a name.
+/// The preference of an MX has 16 bits, and the exchange is a name.
 fn notes_mx(mx: &MailExchange)
-    ensures preference { mx.now.preference < 2 ^ 16 }
-    ensures exchange { IsName mx.now.exchange }
+    ensures { IsMxRdata mx.now }
 {
-    notes_u16(mx.preference);
-    notes_name(&mx.exchange);
+    let _preference = mx.preference;
+    let _ = mx.exchange.labels();
 }
 
-/// The numbers of SRV data fit, and the target is a name.
+/// The numbers of an SRV have 16 bits, and the target is a name.
 fn notes_srv(srv: &Service)
-    ensures priority { srv.now.priority < 2 ^ 16 }
-    ensures weight { srv.now.weight < 2 ^ 16 }
-    ensures port { srv.now.port < 2 ^ 16 }
-    ensures target { IsName srv.now.target }
+    ensures { IsSrvRdata srv.now }
 {
-    notes_u16(srv.priority);
-    notes_u16(srv.weight);
-    notes_u16(srv.port);
-    notes_name(&srv.target);
+    let _priority = srv.priority;
+    let _weight = srv.weight;
+    let _port = srv.port;
+    let _ = srv.target.labels();
 }
 
-/// The items of data, read again, are the data.
-pub(crate) fn notes_again(rdata: &Data)
-    ensures { data_of (type_of rdata.now) None (data_items rdata.now) ≡ Ok rdata.now }
+/// The numbers of a DS have 16 bits and 8, and the digest is one.
+fn notes_ds(ds: &DelegationSigner)
+    ensures { IsDsRdata ds.now }
+{
+    let _key_tag = ds.key_tag;
+    let _algorithm = ds.algorithm;
+    let _digest_type = ds.digest_type;
+    let _ = ds.digest.octets();
+}
+
+/// What all data are.
+pub(crate) fn notes_rdata(rdata: &Data)
+    ensures { IsRdata rdata.now }
 {
     match rdata {
         Data::A(address) => notes_ipv4(*address),
-        Data::Ns(name) | Data::Cname(name) | Data::Ptr(name) => notes_name(name),
-        Data::Soa(soa) => notes_soa(soa),
+        Data::Ns(name) | Data::Cname(name) | Data::Ptr(name) => {
+            let _ = name.labels();
+        }
+        Data::Soa(soa) => notes_soa(soa.fields()),
         Data::Mx(mx) => notes_mx(mx),
         Data::Txt(strings) => {
             let _ = strings.as_slice();
         }
         Data::Aaaa(address) => notes_ipv6(*address),
         Data::Srv(srv) => notes_srv(srv),
-    }
-}
-
-/// Data have an item: TXT data have a string.
-pub(crate) fn notes_items(rdata: &Data)
-    ensures { 0 < length (data_items rdata.now) }
-{
-    if let Data::Txt(strings) = rdata {
-        let _ = strings.as_slice();
+        Data::Ds(ds) => notes_ds(ds),
     }
 }
 

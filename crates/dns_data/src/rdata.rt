@@ -2,6 +2,8 @@
 
 ghost use Rattle.std.specs.Prelude.{◌≡◌, IfOk};
 
+use crate::ds::DelegationSigner;
+use crate::notes::notes_rdata;
 use crate::record_type::RecordType;
 use crate::soa::Soa;
 use crate::strings::Strings;
@@ -45,15 +47,19 @@ pub enum Data {
     /// An IPv6 address (RFC 3596 section 2.2).
     Aaaa(Ipv6Addr),
     Srv(Service),
+    Ds(DelegationSigner),
 }
 
 impl Data {
-    ghost use Rattle.dns_data.specs.Rdata.{type_of};
+    ghost use Rattle.dns_data.specs.Rdata.{type_of, IsRdata};
 
     /// The type of record that has such data.
-    pub const fn record_type(&self) -> RecordType
-        ensures { result ≡ type_of self.now }
+    pub fn record_type(&self) -> RecordType
+        ensures value { result ≡ type_of self.now }
+        // What all data are.
+        ensures rdata { IsRdata self.now }
     {
+        notes_rdata(self);
         match self {
             Data::A(_) => RecordType::A,
             Data::Ns(_) => RecordType::Ns,
@@ -64,6 +70,7 @@ impl Data {
             Data::Txt(_) => RecordType::Txt,
             Data::Aaaa(_) => RecordType::Aaaa,
             Data::Srv(_) => RecordType::Srv,
+            Data::Ds(_) => RecordType::Ds,
         }
     }
 
@@ -89,6 +96,7 @@ impl Data {
                 port: srv.port,
                 target: srv.target.try_copy(alloc)?,
             }),
+            Data::Ds(ds) => Data::Ds(ds.try_copy(alloc)?),
         })
     }
 }

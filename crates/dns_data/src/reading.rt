@@ -8,15 +8,16 @@ ghost use Rattle.dns_data.specs.Items.{item_of};
 ghost use Rattle.dns_data.specs.Strings.{IsString};
 ghost use Rattle.dns_data.specs.Rdata.{type_of};
 ghost use Rattle.dns_data.specs.Grammar.{IsData};
-ghost use Rattle.dns_data.specs.Reading.{field, ipv4_of, ipv6_of, name_of, u16_at, u32_at, seconds_at, soa_at, mx_at, srv_at, each_string, strings_of, data_at, data_of};
+ghost use Rattle.dns_data.specs.Reading.{field, ipv4_of, ipv6_of, name_of, u8_at, u16_at, u32_at, seconds_at, soa_at, mx_at, srv_at, each_string, strings_of, joined, digest_at, ds_at, data_at, data_of};
 
+use crate::ds::{DelegationSigner, Digest};
 use crate::fault::DataFault;
 use crate::item::Item;
 use crate::notes::{notes_octets, notes_origin};
 use crate::number::{Seconds, Serial, read_duration, read_number};
 use crate::rdata::{Data, MailExchange, Service};
 use crate::record_type::RecordType;
-use crate::soa::Soa;
+use crate::soa::{Soa, SoaFields};
 use crate::strings::{CharacterString, Strings};
 use dns_names::Name;
 use std::alloc::Global;
@@ -68,6 +69,13 @@ fn ipv6<'a>(items: &'a [Item<'a>]) -> Result<(Ipv6Addr, &'a [Item<'a>]), DataFau
     }
 }
 
+fn number8<'a>(items: &'a [Item<'a>]) -> Result<(u8, &'a [Item<'a>]), DataFault>
+    ensures { Reads (λ x. (x.0, map item_of x.1.now)) result (u8_at (map item_of items.now)) }
+{
+    let (raw, rest) = plain(items)?;
+    Ok((read_number(raw, 255)? as u8, rest))
+}
+
 fn number16<'a>(items: &'a [Item<'a>]) -> Result<(u16, &'a [Item<'a>]), DataFault>
     ensures { Reads (λ x. (x.0, map item_of x.1.now)) result (u16_at (map item_of items.now)) }
 {
@@ -104,7 +112,7 @@ fn soa<'a>(
     let (retry, items) = seconds(items)?;
     let (expire, items) = seconds(items)?;
     let (minimum, items) = seconds(items)?;
-    let soa = Soa {
+    let fields = SoaFields {
         mname,
         rname,
         serial,
@@ -113,7 +121,7 @@ fn soa<'a>(
         expire,
         minimum,
     };
-    Ok((soa, items))
+    Ok((Soa::new(alloc, fields)?, items))
 }
 
 #[tactic(auto, unfolding(crate::specs::Reading::mx_at))]
@@ -178,6 +186,45 @@ fn strings(alloc: Global, items: &[Item]) -> Result<Strings, DataFault>
     Strings::new(each_string(alloc, items)?).ok_or(DataFault::DataTooLong)
 }
 
+/// The octets of items, joined. None of the items may be quoted.
+fn joined(alloc: Global, items: &[Item]) -> Result<Vec<u8>, DataFault>
+    ensures { Reads (λ octets. octets.items) result (joined (map item_of items.now)) }
+{
+    let mut octets = Vec::new(alloc);
+    for item in items {
+        if item.quoted {
+            return Err(DataFault::QuotedItem);
+        }
+        octets.extend_from_slice(item.raw)?;
+    }
+    Ok(octets)
+}
+
+/// All items, one or more, as one digest.
+fn digest(alloc: Global, items: &[Item]) -> Result<Digest, DataFault>
+    ensures { Reads (λ digest. digest) result (digest_at (map item_of items.now)) }
+{
+    if items.is_empty() {
+        return Err(DataFault::FieldMissing);
+    }
+    Digest::read(alloc, &joined(alloc, items)?)
+}
+
+#[tactic(auto, unfolding(crate::specs::Reading::ds_at))]
+fn delegation_signer(alloc: Global, items: &[Item]) -> Result<DelegationSigner, DataFault>
+    ensures { Reads (λ ds. ds) result (ds_at (map item_of items.now)) }
+{
+    let (key_tag, items) = number16(items)?;
+    let (algorithm, items) = number8(items)?;
+    let (digest_type, items) = number8(items)?;
+    Ok(DelegationSigner {
+        key_tag,
+        algorithm,
+        digest_type,
+        digest: digest(alloc, items)?,
+    })
+}
+
 /// The data at the front of the items, and the items behind them.
 fn data_at<'a>(
     alloc: Global,
@@ -221,6 +268,7 @@ fn data_at<'a>(
             let (srv, rest) = service(alloc, items, origin)?;
             Ok((Data::Srv(srv), rest))
         }
+        RecordType::Ds => Ok((Data::Ds(delegation_signer(alloc, items)?), &[])),
     }
 }
 
@@ -240,11 +288,12 @@ fn whole_data(
     Ok(data)
 }
 
-/// Reads the data of a record from its items (RFC 1035 sections 3.3, 3.4 and 5.1, RFC 2782, RFC 3596 section 2.4). With no
-/// origin only absolute names are read.
+/// Reads the data of a record from its items (RFC 1035 sections 3.3, 3.4 and 5.1, RFC 2782, RFC 3596 section 2.4, RFC 4034
+/// section 5.3). With no origin only absolute names are read.
 ///
 /// The fields are tested from left to right, each for `FieldMissing`, `QuotedItem` (but a character-string may be quoted)
-/// and its own faults; then comes `FieldExtra`, and then `DataTooLong`. `NoMemory` comes at the growth that was refused.
+/// and its own faults; then comes `FieldExtra`, and then `DataTooLong`. A digest takes all items that are left, and is
+/// tested once they are joined. `NoMemory` comes at the growth that was refused.
 pub fn read_data(
     alloc: Global,
     record_type: RecordType,

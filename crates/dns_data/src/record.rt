@@ -2,11 +2,11 @@
 
 ghost use Rattle.std.specs.Prelude.{◌≡◌, ◌↔◌, Some, IfOk, IsTrue, string_bytes};
 ghost use Rattle.dns_data.specs.Text.{record_line};
-ghost use Rattle.dns_data.specs.Rdata.{SameRecord};
+ghost use Rattle.dns_data.specs.Rdata.{type_of, IsRecord, SameRecord};
 
-use crate::notes::notes_items;
 use crate::number::Ttl;
 use crate::rdata::Data;
+use crate::record_type::RecordType;
 use dns_names::Name;
 use std::alloc::{AllocError, Global};
 use std::fmt;
@@ -20,6 +20,18 @@ pub struct Record {
 }
 
 impl Record {
+    /// The type of the record.
+    pub fn record_type(&self) -> RecordType
+        ensures value { result ≡ type_of self.now.rdata }
+        // What all records are.
+        ensures record { IsRecord self.now }
+    {
+        // the proof needs that these are a name and a TTL
+        let _ = self.owner.labels();
+        let _ = self.ttl.seconds();
+        self.rdata.record_type()
+    }
+
     /// An equal record in memory of its own. The only error is want of memory.
     pub fn try_copy(&self, alloc: Global) -> Result<Record, AllocError>
         ensures { IfOk result (λ copy. copy ≡ self.now) }
@@ -36,9 +48,8 @@ impl fmt::Display for Record {
     ghost output = { λ r. Some (record_line r) };
 
     fn fmt<W: fmt::Write>(&self, f: &mut fmt::Formatter<W>) -> fmt::Result {
-        notes_items(&self.rdata);
         let ttl = self.ttl.seconds();
-        let record_type = self.rdata.record_type().text();
+        let record_type = self.record_type().text();
         write!(f, "{} {ttl} IN {record_type} {}", self.owner, self.rdata)
     }
 }

@@ -6,7 +6,7 @@ ghost use Rattle.std.specs.Str.{str_eq_ignore_ascii_case};
 
 use crate::fault::DataFault;
 
-/// A record type that is kept (RFC 1035 section 3.2.2, RFC 2782, RFC 3596 section 2.1).
+/// A record type that is kept (RFC 1035 section 3.2.2, RFC 2782, RFC 3596 section 2.1, RFC 4034 section 5).
 #[derive(Clone, Copy, Debug, PartialEq, Eq)]
 pub enum RecordType {
     A,
@@ -18,13 +18,14 @@ pub enum RecordType {
     Txt,
     Aaaa,
     Srv,
+    Ds,
 }
 
 impl RecordType {
     ghost use Rattle.dns_data.specs.Types.{type_text, type_number, IsCalled};
 
     /// The types that are kept, by number.
-    pub const ALL: [RecordType; 9] = [
+    pub const ALL: [RecordType; 10] = [
         RecordType::A,
         RecordType::Ns,
         RecordType::Cname,
@@ -34,6 +35,7 @@ impl RecordType {
         RecordType::Txt,
         RecordType::Aaaa,
         RecordType::Srv,
+        RecordType::Ds,
     ];
 
     /// The one table of types.
@@ -51,6 +53,7 @@ impl RecordType {
             RecordType::Txt => ("TXT", 16),
             RecordType::Aaaa => ("AAAA", 28),
             RecordType::Srv => ("SRV", 33),
+            RecordType::Ds => ("DS", 43),
         }
     }
 

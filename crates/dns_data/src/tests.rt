@@ -175,6 +175,127 @@ const ADDRESSES: [Row; 43] = [
     ),
 ];
 
+/// Delegation signers.
+const SIGNERS: [Row; 22] = [
+    (
+        RecordType::Ds,
+        "60485 5 1 2BB183AF5F22588179A53B0A 98631FAD1A292118",
+        Ok("60485 5 1 2bb183af5f22588179a53b0a98631fad1a292118"),
+        "RFC 4034 section 5.4: a digest of two items",
+    ),
+    (
+        RecordType::Ds,
+        "60485 5 1 2bb183af5f22588179a53b0a98631fad1a292118",
+        Ok("60485 5 1 2bb183af5f22588179a53b0a98631fad1a292118"),
+        "the same as it is printed",
+    ),
+    (
+        RecordType::Ds,
+        "60485 5 2 D4B7D520E7BB5F0F67674A0CCEB1E3E0614B93C4F9E99B8383F6A1E4469DA50A",
+        Ok("60485 5 2 d4b7d520e7bb5f0f67674a0cceb1e3e0614b93c4f9e99b8383f6a1e4469da50a"),
+        "RFC 4509 section 2.3: 32 octets",
+    ),
+    (
+        RecordType::Ds,
+        "00001 005 1 aB 0 1 Cd",
+        Ok("1 5 1 ab01cd"),
+        "an octet cut by a space, leading zeros, both letter cases",
+    ),
+    (
+        RecordType::Ds,
+        "0 0 0 00",
+        Ok("0 0 0 00"),
+        "the least numbers",
+    ),
+    (
+        RecordType::Ds,
+        "65535 255 255 ff",
+        Ok("65535 255 255 ff"),
+        "the greatest",
+    ),
+    (
+        RecordType::Ds,
+        "65536 5 1 2bb1",
+        Err(13),
+        "a key tag of 17 bits",
+    ),
+    (
+        RecordType::Ds,
+        "60485 256 1 2bb1",
+        Err(13),
+        "an algorithm of 9 bits",
+    ),
+    (
+        RecordType::Ds,
+        "60485 5 256 2bb1",
+        Err(13),
+        "a digest type of 9 bits",
+    ),
+    (
+        RecordType::Ds,
+        "60485 RSASHA1 1 2bb1",
+        Err(12),
+        "an algorithm by its name",
+    ),
+    (RecordType::Ds, "60485 5 1 2bb", Err(33), "an odd digit"),
+    (
+        RecordType::Ds,
+        "60485 5 1 2bbz",
+        Err(33),
+        "no hexadecimal digit",
+    ),
+    (
+        RecordType::Ds,
+        "60485 5 1 2b 0x2b",
+        Err(33),
+        "no digit in a second item",
+    ),
+    (
+        RecordType::Ds,
+        "60485 5 1 2b-b1",
+        Err(33),
+        "a dash between octets",
+    ),
+    (RecordType::Ds, "", Err(15), "no item"),
+    (RecordType::Ds, "60485 5 1", Err(15), "no digest"),
+    (
+        RecordType::Ds,
+        "60485 5 1 \"2bb1\"",
+        Err(20),
+        "a quoted digest",
+    ),
+    (
+        RecordType::Ds,
+        "60485 5 1 2bb1 \"83\"",
+        Err(20),
+        "a quoted second item",
+    ),
+    (
+        RecordType::Ds,
+        "60485 5 1 zz \"83\"",
+        Err(20),
+        "a quoted item right of a bad one",
+    ),
+    (
+        RecordType::Ds,
+        "60485 5 1 \"\"",
+        Err(20),
+        "an empty quoted item",
+    ),
+    (
+        RecordType::Ds,
+        "\"60485\" 5 1 2bb1",
+        Err(20),
+        "a quoted key tag",
+    ),
+    (
+        RecordType::Ds,
+        "60485 5 x \"2bb1\"",
+        Err(12),
+        "fields from left to right",
+    ),
+];
+
 /// Names, numbers and strings.
 const FIELDS: [Row; 57] = [
     (
@@ -401,6 +522,11 @@ fn items<'a>(alloc: Global, text: &'a str) -> Result<Vec<Item<'a>>, AllocError> 
     Ok(items)
 }
 
+/// An item that is not quoted.
+fn plain_item(raw: &[u8]) -> Item<'_> {
+    Item { raw, quoted: false }
+}
+
 /// The data that a text of items gives.
 fn data(alloc: Global, record_type: RecordType, text: &str) -> Result<Data, DataFault> {
     let items = items(alloc, text)?;
@@ -433,6 +559,44 @@ fn addresses(rt: HostRuntime) -> Result<(), Fail> {
     for (record_type, text, want, why) in ADDRESSES {
         let got = text_or_number(rt.alloc(), record_type, text)?;
         assert!(rt; same(&got, want), "{why}: {got:?}");
+    }
+    Ok(())
+}
+
+#[test]
+fn signers(rt: HostRuntime) -> Result<(), Fail> {
+    for (record_type, text, want, why) in SIGNERS {
+        let got = text_or_number(rt.alloc(), record_type, text)?;
+        assert!(rt; same(&got, want), "{why}: {got:?}");
+    }
+    Ok(())
+}
+
+#[test]
+fn limits_of_digests(rt: HostRuntime) -> Result<(), Fail> {
+    for (octets, want) in [
+        (65_531, Ok(65_531)),
+        (65_532, Err(18)),
+        (1, Ok(1)),
+        (0, Err(33)),
+    ] {
+        let mut digits = Vec::new(rt.alloc());
+        for _ in 0..octets {
+            digits.extend_from_slice(b"a5")?;
+        }
+        let items = [
+            plain_item(b"1"),
+            plain_item(b"8"),
+            plain_item(b"2"),
+            plain_item(&digits),
+        ];
+        let read = read_data(rt.alloc(), RecordType::Ds, &items, None);
+        let got = match &read {
+            Ok(Data::Ds(ds)) => Ok(ds.digest.octets().len()),
+            Ok(_) => Ok(0),
+            Err(fault) => Err(fault.number()),
+        };
+        assert!(rt; got == want, "{octets}: {got:?}");
     }
     Ok(())
 }
@@ -482,7 +646,7 @@ fn a_names_own_fault_is_told(rt: HostRuntime) -> Result<(), Fail> {
 
 #[test]
 fn types(rt: HostRuntime) -> Result<(), Fail> {
-    let rows: [(&[u8], Result<(&str, u16), u8>); 15] = [
+    let rows: [(&[u8], Result<(&str, u16), u8>); 16] = [
         (b"A", Ok(("A", 1))),
         (b"ns", Ok(("NS", 2))),
         (b"Cname", Ok(("CNAME", 5))),
@@ -492,7 +656,8 @@ fn types(rt: HostRuntime) -> Result<(), Fail> {
         (b"txt", Ok(("TXT", 16))),
         (b"aaaa", Ok(("AAAA", 28))),
         (b"SRV", Ok(("SRV", 33))),
-        (b"DS", Err(17)),
+        (b"dS", Ok(("DS", 43))),
+        (b"DNSKEY", Err(17)),
         (b"TYPE1", Err(17)),
         (b"AA", Err(17)),
         (b"A ", Err(17)),
@@ -510,7 +675,7 @@ fn types(rt: HostRuntime) -> Result<(), Fail> {
             assert!(rt; RecordType::from_number(number) == read.ok());
         }
     }
-    assert!(rt; RecordType::from_number(43).is_none());
+    assert!(rt; RecordType::from_number(48).is_none());
     Ok(())
 }
 
@@ -594,6 +759,7 @@ fn record_lines(rt: HostRuntime) -> Result<(), Fail> {
     };
     let line = record_line(rt.alloc(), &record)?;
     assert_eq!(rt; line.as_str(), "x.example.org. 3600 IN TXT \"a\" \"b\"");
+    assert!(rt; record.record_type() == RecordType::Txt);
     let copy = record.try_copy(rt.alloc())?;
     assert!(rt; same_record(&record, &copy) && copy.ttl == record.ttl);
     Ok(())
@@ -643,6 +809,27 @@ fn same_records(rt: HostRuntime) -> Result<(), Fail> {
             "1 2 3 a.",
             RecordType::Srv,
             "1 3 2 a.",
+            false,
+        ),
+        (
+            RecordType::Ds,
+            "1 2 3 abcd",
+            RecordType::Ds,
+            "1 2 3 AB CD",
+            true,
+        ),
+        (
+            RecordType::Ds,
+            "1 2 3 ab",
+            RecordType::Ds,
+            "1 2 3 ac",
+            false,
+        ),
+        (
+            RecordType::Ds,
+            "1 2 3 ab",
+            RecordType::Ds,
+            "1 3 2 ab",
             false,
         ),
     ];
@@ -705,7 +892,12 @@ fn faults_say_what_is_wrong(rt: HostRuntime) -> Result<(), Fail> {
         (
             DataFault::QuotedItem,
             20,
-            "a quoted item stands where a name, a number or an address is wanted",
+            "a quoted item stands where a name, a number, an address or a digest is wanted",
+        ),
+        (
+            DataFault::BadDigest,
+            33,
+            "the digest is no row of pairs of hexadecimal digits",
         ),
         (DataFault::NoMemory, 99, "out of memory"),
     ];

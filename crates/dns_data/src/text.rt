@@ -1,17 +1,20 @@
 //! The canonical text of record data.
 
-ghost use Rattle.std.specs.Prelude.{◌≡◌, ◌∷◌, ◌++◌, [], Some, IfOk, string_bytes, ◌==◌, ◌||◌, ◌&&◌, nat_le};
+ghost use Rattle.std.specs.Prelude.{◌≡◌, ◌≤◌, ◌<◌, ◌*◌, ◌∷◌, ◌++◌, [], length, true, false, Some, IfSome, IfOk, string_bytes, ◌==◌, ◌||◌};
+ghost use Rattle.std.specs.List.{AllByRecursion, position};
+ghost use Rattle.std.specs.Fmt.{WritesOnOk};
+ghost use Rattle.hex.specs.Hex.{encode_lower};
 ghost use Rattle.dns_data.specs.Items.{items_text};
 ghost use Rattle.dns_data.specs.Again.{ReadsBack, IsTextOfOnly};
-ghost use Rattle.dns_data.specs.Strings.{octet_text, string_text};
-ghost use Rattle.dns_data.specs.Text.{soa_items, mx_items, srv_items, strings_items, data_text};
+ghost use Rattle.dns_data.specs.Strings.{is_escaped, octet_text, string_text};
+ghost use Rattle.dns_data.specs.Text.{soa_items, mx_items, srv_items, ds_items, strings_items, data_text};
 
-use crate::notes::notes_again;
+use crate::ds::{DelegationSigner, Digest};
 use crate::rdata::{Data, MailExchange, Service};
 use crate::soa::Soa;
 use crate::strings::{CharacterString, Strings};
 use std::alloc::{AllocError, Global};
-use std::fmt;
+use std::{fmt, str};
 
 /// Whether an octet means something within quotes, so that a backslash stands before it.
 fn ends_quotes(octet: u8) -> bool
@@ -20,41 +23,55 @@ fn ends_quotes(octet: u8) -> bool
     matches!(octet, b'"' | b'\\')
 }
 
-/// Whether an octet may stand within quotes as it is.
-fn is_plain(octet: u8) -> bool
-    ensures { result ≡ (nat_le 32 octet && nat_le octet 126) }
+/// Whether an octet does not stand for itself within quotes.
+fn is_escaped(octet: u8) -> bool
+    ensures { result ≡ is_escaped octet }
 {
-    matches!(octet, b' '..=b'~')
+    !matches!(octet, b' '..=b'~') || ends_quotes(octet)
 }
 
-/// An octet of a character-string, as it is printed within quotes.
-#[derive(Clone, Copy)]
-struct StringOctet(u8);
+/// Where the first octet is that does not stand for itself within quotes.
+fn first_escaped(octets: &[u8]) -> Option<usize>
+    ensures value { result ≡ position is_escaped octets.now }
+    ensures within { IfSome result (λ at. at < length octets.now) }
+{
+    octets.iter().position(|octet| is_escaped(*octet))
+}
 
-impl fmt::Display for StringOctet {
-    ghost output = { λ x. Some (octet_text x.0) };
+/// Writes octets that stand for themselves within quotes.
+fn write_run<W: fmt::Write>(f: &mut fmt::Formatter<W>, octets: &[u8]) -> fmt::Result
+    requires { AllByRecursion (λ o. is_escaped o ≡ false) octets.now }
+    ensures { WritesOnOk W.write_str_gives f.old result octets.now f.new }
+{
+    f.write_str(unsafe { str::from_utf8_unchecked(octets) })
+}
 
-    fn fmt<W: fmt::Write>(&self, f: &mut fmt::Formatter<W>) -> fmt::Result {
-        let octet = self.0;
-        if ends_quotes(octet) {
-            write!(f, "\\{}", char::from(octet))
-        } else if is_plain(octet) {
-            write!(f, "{}", char::from(octet))
-        } else {
-            write!(f, "\\{}{}{}", octet / 100, octet / 10 % 10, octet % 10)
-        }
+/// Writes an octet that does not stand for itself within quotes.
+fn write_escaped<W: fmt::Write>(f: &mut fmt::Formatter<W>, octet: u8) -> fmt::Result
+    requires { is_escaped octet ≡ true }
+    ensures { WritesOnOk W.write_str_gives f.old result (octet_text octet) f.new }
+{
+    if ends_quotes(octet) {
+        write!(f, "\\{}", char::from(octet))
+    } else {
+        write!(f, "\\{}{}{}", octet / 100, octet / 10 % 10, octet % 10)
     }
 }
 
+/// Octets that stand for themselves go out in runs, each in one piece.
 impl fmt::Display for CharacterString {
     ghost output = { λ x. Some (34 ∷ string_text x ++ 34 ∷ []) };
 
     fn fmt<W: fmt::Write>(&self, f: &mut fmt::Formatter<W>) -> fmt::Result {
-        write!(f, "\"")?;
-        for octet in self.octets() {
-            write!(f, "{}", StringOctet(*octet))?;
+        f.write_str("\"")?;
+        let mut rest = self.octets();
+        while let Some(at) = first_escaped(rest) {
+            write_run(f, &rest[..at])?;
+            write_escaped(f, rest[at])?;
+            rest = &rest[at + 1..];
         }
-        write!(f, "\"")
+        write_run(f, rest)?;
+        f.write_str("\"")
     }
 }
 
@@ -77,11 +94,12 @@ impl fmt::Display for Soa {
     ghost output = { λ x. Some (items_text (soa_items x)) };
 
     fn fmt<W: fmt::Write>(&self, f: &mut fmt::Formatter<W>) -> fmt::Result {
-        write!(f, "{} {} {}", self.mname, self.rname, self.serial.0)?;
+        let soa = self.fields();
+        write!(f, "{} {} {}", soa.mname, soa.rname, soa.serial.0)?;
         write!(
             f,
             " {} {} {} {}",
-            self.refresh.0, self.retry.0, self.expire.0, self.minimum.0
+            soa.refresh.0, soa.retry.0, soa.expire.0, soa.minimum.0
         )
     }
 }
@@ -106,6 +124,56 @@ impl fmt::Display for Service {
     }
 }
 
+/// The most octets whose digits are written at once.
+const DIGITS_AT_ONCE: usize = 64;
+
+/// Fills a slice with the hexadecimal digits of half as many octets, in lower case.
+fn put_digits(octets: &[u8], digits: &mut [u8])
+    requires { length digits.old ≡ 2 * length octets.now }
+    ensures { digits.new ≡ encode_lower octets.now }
+{
+    // it fails at another length alone
+    let _ = hex::encode_to_slice(octets, digits);
+}
+
+/// Writes the hexadecimal digits of a few octets, in lower case.
+fn write_digits<W: fmt::Write>(f: &mut fmt::Formatter<W>, octets: &[u8]) -> fmt::Result
+    requires { length octets.now ≤ 64 }
+    ensures { WritesOnOk W.write_str_gives f.old result (encode_lower octets.now) f.new }
+{
+    let mut room = [0; 2 * DIGITS_AT_ONCE];
+    let digits = &mut room[..2 * octets.len()];
+    put_digits(octets, digits);
+    f.write_str(unsafe { str::from_utf8_unchecked(digits) })
+}
+
+/// The digits in lower case.
+impl fmt::Display for Digest {
+    ghost output = { λ x. Some (encode_lower x) };
+
+    fn fmt<W: fmt::Write>(&self, f: &mut fmt::Formatter<W>) -> fmt::Result {
+        let mut rest = self.octets();
+        while !rest.is_empty() {
+            let (front, after) = rest.split_at(rest.len().min(DIGITS_AT_ONCE));
+            write_digits(f, front)?;
+            rest = after;
+        }
+        Ok(())
+    }
+}
+
+impl fmt::Display for DelegationSigner {
+    ghost output = { λ x. Some (items_text (ds_items x)) };
+
+    fn fmt<W: fmt::Write>(&self, f: &mut fmt::Formatter<W>) -> fmt::Result {
+        write!(
+            f,
+            "{} {} {} {}",
+            self.key_tag, self.algorithm, self.digest_type, self.digest
+        )
+    }
+}
+
 impl fmt::Display for Data {
     ghost output = { λ x. Some (data_text x) };
 
@@ -118,13 +186,15 @@ impl fmt::Display for Data {
             Data::Txt(strings) => write!(f, "{strings}"),
             Data::Aaaa(address) => write!(f, "{}", address.hex_groups()),
             Data::Srv(srv) => write!(f, "{srv}"),
+            Data::Ds(ds) => write!(f, "{ds}"),
         }
     }
 }
 
 /// The data in their one canonical text: fields joined by one space, numbers without leading zeros, names in their
-/// canonical spelling, an IPv6 address as RFC 5952 section 4 has it with no dotted tail, and character-strings in quotes,
-/// in which `"` and `\` have a backslash before them, other octets from 32 to 126 stand plain, and all others are `\DDD`.
+/// canonical spelling, an IPv6 address as RFC 5952 section 4 has it with no dotted tail, a digest in lower case as one item,
+/// and character-strings in quotes, in which `"` and `\` have a backslash before them, other octets from 32 to 126 stand
+/// plain, and all others are `\DDD`.
 /// The only error is want of memory.
 pub fn data_text(alloc: Global, rdata: &Data) -> Result<String, AllocError>
     ensures canonical { IfOk result (λ text. string_bytes text ≡ data_text rdata.now) }
@@ -133,6 +203,7 @@ pub fn data_text(alloc: Global, rdata: &Data) -> Result<String, AllocError>
     // No other data of its type have this text.
     ensures apart { IfOk result (λ text. IsTextOfOnly (string_bytes text) rdata.now) }
 {
-    notes_again(rdata);
+    // the proof needs that these are data
+    let _ = rdata.record_type();
     rdata.to_string(alloc)
 }

@@ -15,7 +15,7 @@ use Rattle.dns_data.specs.declared.record.Record.{Record}
 use Rattle.dns_data.specs.declared.record_type.RecordType.{RecordType}
 use Rattle.dns_data.specs.declared.record_type.RecordType.TheVariants as types
 use Rattle.dns_data.specs.declared.rdata.Data.{Data}
-use Rattle.dns_data.specs.declared.soa.Soa.{Soa as SoaData}
+use Rattle.dns_data.specs.declared.soa.SoaFields.{SoaFields}
 use Rattle.dns_data.specs.Faults as data_faults
 use Rattle.dns_data.specs.Items.{ItemText}
 use Rattle.dns_data.specs.Numbers.{is_number, up_to, number_of}
@@ -84,7 +84,7 @@ field_short (item ∷ items) =
 soa_short : (items : List ItemText) → IfOk (soa_at None items) (λ read. read.0.serial.0 < 2 ^ 32)
 unfolding soa_at
 soa_short items =
-    let Q : SoaData × List ItemText → Type 0 = λ read. read.0.serial.0 < 2 ^ 32 in
+    let Q : SoaFields × List ItemText → Type 0 = λ read. read.0.serial.0 < 2 ^ 32 in
     data_on Q (field (name_of None) items) _ (λ mname. data_on Q (field (name_of None) mname.1) _ (λ rname. data_next (λ read. read.0 < 2 ^ 32) Q (u32_at rname.1) _ (field_short rname.1)
     (λ serial short. data_on Q (seconds_at serial.1) _ (λ refresh. data_on Q (seconds_at refresh.1) _ (λ retry. data_on Q (seconds_at retry.1) _ (λ expire. data_on Q (seconds_at expire.1) _ (λ minimum. short)))))))
 

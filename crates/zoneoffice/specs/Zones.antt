@@ -11,7 +11,7 @@ use Rattle.dns_data.specs.declared.record_type.RecordType.{RecordType}
 use Rattle.dns_data.specs.declared.record_type.RecordType.TheVariants as types
 use Rattle.dns_data.specs.declared.rdata.Data.{Data}
 use Rattle.dns_data.specs.declared.rdata.Data.TheVariants.{Soa}
-use Rattle.dns_data.specs.declared.soa.Soa.{Soa as SoaData}
+use Rattle.dns_data.specs.declared.soa.SoaFields.{SoaFields}
 use Rattle.dns_data.specs.Rdata.{type_of}
 use Rattle.dns_data.specs.Text.{data_text, record_line}
 use Rattle.dns_data.specs.Types.{type_number}
@@ -54,7 +54,7 @@ listing set = map (λ e. e.1) (entries set)
 
 -- ---- what a zone is
 
-abbrev pub soa_in : Data → Option SoaData
+abbrev pub soa_in : Data → Option SoaFields
 soa_in (Soa soa) = Some soa
 soa_in rdata = None
 
@@ -115,7 +115,7 @@ effect set r = in_place (replaced_by set r) set r
 abbrev pub same_records : Records → Records → Bool
 same_records a b = pointwise (λ x y. key_eq x.0 y.0 && (x.1.ttl == y.1.ttl)) (entries a) (entries b)
 
-abbrev pub next_soa : SoaData → SoaData
+abbrev pub next_soa : SoaFields → SoaFields
 next_soa soa = record soa { serial = record { 0 = serial_sum soa.serial.0 1 } }
 
 abbrev pub next_data : Data → Data

@@ -10,7 +10,7 @@ ghost use Rattle.zoneoffice.specs.Views.{records_in};
 use crate::fault::ZoneFault;
 use crate::key::RecordKey;
 use crate::serial::serial_add;
-use dns_data::{Data, Record, Serial, Soa};
+use dns_data::{Data, Record, Serial, Soa, SoaFields};
 use dns_names::Name;
 use std::alloc::{AllocError, Global};
 use std::collections::BTreeMap;
@@ -178,16 +178,16 @@ pub fn replace(
 }
 
 /// The SOA record with the next serial. The only error is want of memory.
-pub fn next_version(alloc: Global, rr: &Record, soa: &Soa) -> Result<Record, AllocError>
+pub fn next_version(alloc: Global, rr: &Record, soa: &SoaFields) -> Result<Record, AllocError>
     requires { rr.now.rdata ≡ Data.Soa soa.now }
     ensures { IfOk result (λ next. next ≡ next_version rr.now) }
 {
-    let mut soa = soa.try_copy(alloc)?;
-    soa.serial = Serial(serial_add(soa.serial.0, 1));
+    let mut next = soa.try_copy(alloc)?;
+    next.serial = Serial(serial_add(soa.serial.0, 1));
     Ok(Record {
         owner: rr.owner.try_copy(alloc)?,
         ttl: rr.ttl,
-        rdata: Data::Soa(soa),
+        rdata: Data::Soa(Soa::new(alloc, next)?),
     })
 }
 

@@ -15,7 +15,7 @@ use crate::records::{
     RecordMap, fault_in, has, is_soa, keyed, next_version, put_in, replace, soa_at,
 };
 use crate::serial::serial_less;
-use dns_data::{Data, Record, Soa};
+use dns_data::{Data, Record, SoaFields};
 use dns_names::Name;
 use std::alloc::{AllocError, Global};
 
@@ -55,12 +55,12 @@ pub fn build(alloc: Global, origin: Name, records: Vec<Record>) -> Result<Zone, 
     }
 }
 
-/// The SOA data of a record, where it is one.
-fn soa_in(rr: &Record) -> Option<&Soa>
+/// The fields of a record that is an SOA.
+fn soa_in(rr: &Record) -> Option<&SoaFields>
     ensures { option_copied result ≡ soa_in rr.now.rdata }
 {
     match &rr.rdata {
-        Data::Soa(soa) => Some(soa),
+        Data::Soa(soa) => Some(soa.fields()),
         _ => None,
     }
 }
