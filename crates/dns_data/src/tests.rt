@@ -760,6 +760,21 @@ fn record_lines(rt: HostRuntime) -> Result<(), Fail> {
     let line = record_line(rt.alloc(), &record)?;
     assert_eq!(rt; line.as_str(), "x.example.org. 3600 IN TXT \"a\" \"b\"");
     assert!(rt; record.record_type() == RecordType::Txt);
+    // RFC 4034 section 5.4
+    let signer = Record {
+        owner: Name::read_absolute(rt.alloc(), b"dskey.example.com.")?,
+        ttl: Ttl::read(b"86400")?,
+        rdata: data(
+            rt.alloc(),
+            RecordType::Ds,
+            "60485 5 1 2BB183AF5F22588179A53B0A 98631FAD1A292118",
+        )?,
+    };
+    let line = record_line(rt.alloc(), &signer)?;
+    assert_eq!(rt;
+        line.as_str(),
+        "dskey.example.com. 86400 IN DS 60485 5 1 2bb183af5f22588179a53b0a98631fad1a292118"
+    );
     let copy = record.try_copy(rt.alloc())?;
     assert!(rt; same_record(&record, &copy) && copy.ttl == record.ttl);
     Ok(())
