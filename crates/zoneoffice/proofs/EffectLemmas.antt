@@ -34,7 +34,8 @@ at_rank n =
     else (if n == 12 then types.Ptr
     else (if n == 15 then types.Mx
     else (if n == 16 then types.Txt
-    else (if n == 28 then types.Aaaa else types.Srv)))))))
+    else (if n == 28 then types.Aaaa
+    else (if n == 33 then types.Srv else types.Ds))))))))
 
 at_rank-rank_of : (t : RecordType) → at_rank (rank_of t) ≡ t
 at_rank-rank_of types.A = refl
@@ -46,6 +47,7 @@ at_rank-rank_of types.Mx = refl
 at_rank-rank_of types.Txt = refl
 at_rank-rank_of types.Aaaa = refl
 at_rank-rank_of types.Srv = refl
+at_rank-rank_of types.Ds = refl
 
 one_rank : (t u : RecordType) → rank_of t ≡ rank_of u → t ≡ u
 one_rank t u e = sym (at_rank-rank_of t) ∙ ap at_rank e ∙ at_rank-rank_of u

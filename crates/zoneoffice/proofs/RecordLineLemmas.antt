@@ -17,7 +17,7 @@ use Rattle.dns_data.specs.declared.fault.DataFault.TheVariants as faults
 use Rattle.dns_data.specs.declared.item.Item.{Item}
 use Rattle.dns_data.specs.declared.record.Record.{Record}
 use Rattle.dns_data.specs.declared.record_type.RecordType.{RecordType}
-use Rattle.dns_data.specs.declared.record_type.RecordType.TheVariants.{A, Ns, Cname, Soa, Ptr, Mx, Txt, Aaaa, Srv}
+use Rattle.dns_data.specs.declared.record_type.RecordType.TheVariants.{A, Ns, Cname, Soa, Ptr, Mx, Txt, Aaaa, Srv, Ds}
 use Rattle.dns_data.specs.Items.{item_of}
 use Rattle.dns_data.specs.Numbers.{is_number, duration_of}
 use Rattle.dns_data.specs.Types.{type_text, IsCalled}
@@ -64,6 +64,7 @@ not_taken Mx a n s = refl
 not_taken Txt a n s = refl
 not_taken Aaaa a n s = refl
 not_taken Srv a n s = refl
+not_taken Ds a n s = refl
 
 none_taken : (r : Result RecordType DataFault) → ¬ (r ≡ Ok A) → ¬ (r ≡ Ok Ns) → ¬ (r ≡ Ok Soa) → taken_of (result_ok r) ≡ None
 none_taken (Err e) a n s = refl

@@ -19,7 +19,7 @@ use Rattle.dns_data.specs.declared.soa.SoaFields.{SoaFields}
 use Rattle.dns_data.specs.Faults as data_faults
 use Rattle.dns_data.specs.Items.{ItemText}
 use Rattle.dns_data.specs.Numbers.{is_number, up_to, number_of}
-use Rattle.dns_data.specs.Reading.{field, u32_at, seconds_at, soa_at, data_at, ended, data_of, name_of, ipv4_of, ipv6_of, mx_at, srv_at, strings_of}
+use Rattle.dns_data.specs.Reading.{field, u32_at, seconds_at, soa_at, data_at, ended, data_of, name_of, ipv4_of, ipv6_of, mx_at, srv_at, ds_at, strings_of}
 use Rattle.zoneoffice.specs.declared.fault.ApplyFault.{ApplyFault}
 use Rattle.zoneoffice.specs.declared.fault.ApplyFault.TheVariants.{BadLine}
 use Rattle.zoneoffice.specs.Faults.{◌>>=◌, or_fault}
@@ -105,6 +105,7 @@ field_data_short types.Mx items = data_on (λ read. IsShort read.0) (mx_at None 
 field_data_short types.Txt items = data_on (λ read. IsShort read.0) (strings_of items) _ (λ x. none_short)
 field_data_short types.Aaaa items = data_on (λ read. IsShort read.0) (field ipv6_of items) _ (λ x. none_short)
 field_data_short types.Srv items = data_on (λ read. IsShort read.0) (srv_at None items) _ (λ x. none_short)
+field_data_short types.Ds items = data_on (λ read. IsShort read.0) (ds_at items) _ (λ x. none_short)
 
 data_short : (t : RecordType) (items : List ItemText) → IfOk (data_of t None items) IsShort
 data_short t items = data_next (λ read. IsShort read.0) IsShort (data_at t None items) ended (field_data_short t items) (λ read short. if_ok IsShort (length read.1 == 0) read.0 FieldExtra (λ _. short))

@@ -12,7 +12,7 @@ use Rattle.dns_names.specs.Order.{same_name}
 use Rattle.dns_data.specs.declared.record.Record.{Record}
 use Rattle.dns_data.specs.declared.record_type.RecordType.TheVariants as types
 use Rattle.dns_data.specs.declared.rdata.Data.{Data}
-use Rattle.dns_data.specs.declared.rdata.Data.TheVariants.{A, Ns, Cname, Soa, Ptr, Mx, Txt, Aaaa, Srv}
+use Rattle.dns_data.specs.declared.rdata.Data.TheVariants.{A, Ns, Cname, Soa, Ptr, Mx, Txt, Aaaa, Srv, Ds}
 use Rattle.dns_data.specs.Rdata.{type_of}
 use Rattle.dns_data.specs.Types.{type_number}
 use Rattle.zoneoffice.specs.declared.fault.ZoneFault.{ZoneFault}
@@ -69,6 +69,7 @@ soa_rank (Mx x) = refl
 soa_rank (Txt x) = refl
 soa_rank (Aaaa x) = refl
 soa_rank (Srv x) = refl
+soa_rank (Ds x) = refl
 
 ns_rank : (rdata : Data) → (type_number (type_of rdata) == type_number types.Ns) ≡ (rank_of (type_of rdata) == 2)
 ns_rank (A x) = refl
@@ -80,6 +81,7 @@ ns_rank (Mx x) = refl
 ns_rank (Txt x) = refl
 ns_rank (Aaaa x) = refl
 ns_rank (Srv x) = refl
+ns_rank (Ds x) = refl
 
 abbrev pub key_is_soa : Key → Bool
 key_is_soa k = k.1 == 0
