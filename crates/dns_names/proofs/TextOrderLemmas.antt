@@ -20,6 +20,9 @@ use Rattle.dns_names.proofs.SymbolLaws.{symbol_again, ok_is}
 use Rattle.dns_names.proofs.KeyLaws.{three, tied, octets_exact}
 use Rattle.dns_names.proofs.ReadingLaws.{octet_text_spells}
 
+abbrev AreOctets : List ℕ → Type 0
+AreOctets octets = AllByRecursion (λ o. o < 256) octets
+
 abbrev by_octets : List ℕ → List ℕ → Ordering
 by_octets = slice_cmp nat_cmp
 
@@ -42,7 +45,89 @@ parted (a ∷ x) (b ∷ y) u v part =
 parted_differ : (x y : List ℕ) → ((s t : List ℕ) → x ++ s ≡ y ++ t → ⊥) → by_octets x y ≢ Equal
 parted_differ x y part e = part [] [] (ap (λ (l : List ℕ). l ++ []) (octets_exact x y e))
 
--- ---- octets
+-- equal octets leave it to those behind them
+pub tied_front : (front u v : List ℕ) → by_octets (front ++ u) (front ++ v) ≡ by_octets u v
+tied_front [] u v = refl
+tied_front (o ∷ front) u v = rw (tied o) (tied_front front u v)
+
+then_first : (r o : Ordering) → r ≢ Equal → ordering_then r o ≡ r
+then_first Less o differ = refl
+then_first Equal o differ = absurd (differ refl)
+then_first Greater o differ = refl
+
+-- ---- rows that are printed octet by octet, with a last octet behind them
+
+module _ (text : ℕ → List ℕ) (last : ℕ) (octets_part : (a b : ℕ) → a < 256 → b < 256 → a ≢ b → (s t : List ℕ) → text a ++ s ≡ text b ++ t → ⊥) (last_parts : (b : ℕ) → b < 256 → (s t : List ℕ) → last ∷ s ≡ text b ++ t → ⊥) where
+  abbrev printed : List ℕ → List ℕ
+  printed octets = flat_map text octets ++ last ∷ []
+
+  -- the first octet that differs decides
+  octets_decide : (a b : ℕ) (x y : List ℕ) → a < 256 → b < 256 → a ≢ b → by_octets (printed (a ∷ x)) (printed (b ∷ y)) ≡ by_octets (text a) (text b)
+  octets_decide a b x y fits also differ =
+      rw (append_assoc (text a) (flat_map text x) (last ∷ []), append_assoc (text b) (flat_map text y) (last ∷ []))
+      (parted (text a) (text b) (printed x) (printed y) (octets_part a b fits also differ))
+
+  end_decides : (b : ℕ) (y : List ℕ) → b < 256 → by_octets (printed []) (printed (b ∷ y)) ≡ by_octets (last ∷ []) (text b)
+  end_decides b y fits =
+      rw (append_assoc (text b) (flat_map text y) (last ∷ [])) (parted (last ∷ []) (text b) [] (printed y) (last_parts b fits))
+
+  end_decides_first : (a : ℕ) (x : List ℕ) → a < 256 → by_octets (printed (a ∷ x)) (printed []) ≡ by_octets (text a) (last ∷ [])
+  end_decides_first a x fits =
+      rw (append_assoc (text a) (flat_map text x) (last ∷ [])) (parted (text a) (last ∷ []) (printed x) [] (λ s t e. last_parts a fits t s (sym e)))
+
+  octet_passes : (a : ℕ) (x y : List ℕ) → by_octets (printed (a ∷ x)) (printed (a ∷ y)) ≡ by_octets (printed x) (printed y)
+  octet_passes a x y =
+      rw (append_assoc (text a) (flat_map text x) (last ∷ []), append_assoc (text a) (flat_map text y) (last ∷ [])) (tied_front (text a) (printed x) (printed y))
+
+  printed_cons : (o : ℕ) (octets rest : List ℕ) → printed (o ∷ octets) ++ rest ≡ text o ++ (printed octets ++ rest)
+  printed_cons o octets rest =
+      ap (λ (l : List ℕ). l ++ rest) (append_assoc (text o) (flat_map text octets) (last ∷ [])) ∙ append_assoc (text o) (printed octets) rest
+
+  -- the texts of two rows part, unless the rows are one
+  rows_part : (x y : List ℕ) → AreOctets x → AreOctets y → x ≢ y → (s t : List ℕ) → printed x ++ s ≡ printed y ++ t → ⊥
+  rows_part [] [] fits also differ s t e = differ refl
+  rows_part [] (b ∷ y) fits also differ s t e = last_parts b also.0 s (printed y ++ t) (e ∙ printed_cons b y t)
+  rows_part (a ∷ x) [] fits also differ s t e = last_parts a fits.0 t (printed x ++ s) (sym e ∙ printed_cons a x s)
+  rows_part (a ∷ x) (b ∷ y) fits also differ s t e =
+      let parts : text a ++ (printed x ++ s) ≡ text b ++ (printed y ++ t) = sym (printed_cons a x s) ∙ e ∙ printed_cons b y t in
+      elim (eqb_tells a b) [
+        | inl same ↦
+            let rest : printed x ++ s ≡ printed y ++ t = append_cancel_left (text b) (printed x ++ s) (printed y ++ t) (ap (λ (n : ℕ). text n ++ (printed x ++ s)) (sym same.1) ∙ parts) in
+            rows_part x y fits.1 also.1 (λ f. differ (ap (λ (n : ℕ). n ∷ x) same.1 ∙ ap (λ (l : List ℕ). b ∷ l) f)) s t rest
+        | inr other ↦ octets_part a b fits.0 also.0 other.1 (printed x ++ s) (printed y ++ t) parts
+      ]
+
+  -- the order of the first rows' texts decides, unless they are one
+  pub rows_then : (x y s t : List ℕ) → AreOctets x → AreOctets y → by_octets (printed x ++ s) (printed y ++ t) ≡ ordering_then (by_octets (printed x) (printed y)) (by_octets s t)
+  rows_then x y s t fits also = by (pointwise nat_eq x y) refl
+    where
+      by : (b : Bool) → pointwise nat_eq x y ≡ b → by_octets (printed x ++ s) (printed y ++ t) ≡ ordering_then (by_octets (printed x) (printed y)) (by_octets s t)
+      by true e =
+          let same : printed x ≡ printed y = ap printed ((bytes_eq-Decides x y).0 e) in
+          rw (same, tied_itself nat_list_cmp_total (printed y)) (tied_front (printed y) s t)
+      by false e =
+          let part = rows_part x y fits also (λ f. both_ways (pointwise nat_eq x y) e ((bytes_eq-Decides x y).1 f)) in
+          parted (printed x) (printed y) s t part ∙ sym (then_first (by_octets (printed x) (printed y)) (by_octets s t) (parted_differ (printed x) (printed y) part))
+
+  -- what the code that compares two rows answers
+  module _ (first second ours theirs : List ℕ) (so_far : by_octets (printed ours) (printed theirs) ≡ by_octets (printed first) (printed second)) where
+    pub first_ended : (b : ℕ) (y : List ℕ) → ours ≡ [] → theirs ≡ b ∷ y → b < 256 → by_octets (last ∷ []) (text b) ≡ by_octets (printed first) (printed second)
+    first_ended b y none some fits = sym (end_decides b y fits) ∙ ap (λ (l : List ℕ). by_octets (printed l) (printed (b ∷ y))) (sym none) ∙ ap (λ (l : List ℕ). by_octets (printed ours) (printed l)) (sym some) ∙ so_far
+
+    pub second_ended : (a : ℕ) (x : List ℕ) → ours ≡ a ∷ x → theirs ≡ [] → a < 256 → by_octets (text a) (last ∷ []) ≡ by_octets (printed first) (printed second)
+    second_ended a x some none fits = sym (end_decides_first a x fits) ∙ ap (λ (l : List ℕ). by_octets (printed l) (printed [])) (sym some) ∙ ap (λ (l : List ℕ). by_octets (printed ours) (printed l)) (sym none) ∙ so_far
+
+    module _ (a b : ℕ) (x y : List ℕ) (first_is : ours ≡ a ∷ x) (second_is : theirs ≡ b ∷ y) where
+      both_are : by_octets (printed (a ∷ x)) (printed (b ∷ y)) ≡ by_octets (printed first) (printed second)
+      both_are = ap (λ (l : List ℕ). by_octets (printed l) (printed (b ∷ y))) (sym first_is) ∙ ap (λ (l : List ℕ). by_octets (printed ours) (printed l)) (sym second_is) ∙ so_far
+
+      pub differ_here : a < 256 → b < 256 → a ≢ b → by_octets (text a) (text b) ≡ by_octets (printed first) (printed second)
+      differ_here fits also differ = sym (octets_decide a b x y fits also differ) ∙ both_are
+
+      pub same_here : a ≡ b → by_octets (printed x) (printed y) ≡ by_octets (printed first) (printed second)
+      same_here same = sym (octet_passes a x y) ∙ ap (λ (n : ℕ). by_octets (printed (a ∷ x)) (printed (n ∷ y))) same ∙ both_are
+
+-- ---- labels
 
 octet_reads : (o : ℕ) (rest : List ℕ) → o < 256 → symbol_at (octet_text o ++ rest) ≡ Ok (Octet o, rest)
 octet_reads o rest fits = symbol_again (Octet o) (octet_text o) rest (octet_text_spells o fits)
@@ -61,91 +146,8 @@ octets_part a b fits also differ s t e = differ (same_octet a b (Octet a, s) (Oc
 pub dot_parts : (b : ℕ) → b < 256 → (s t : List ℕ) → 46 ∷ s ≡ octet_text b ++ t → ⊥
 dot_parts b fits s t e = no_octet b (Dot, s) (Octet b, t) (ok_is (Dot, s) (Octet b, t) (ap symbol_at e ∙ octet_reads b t fits)) refl refl
 
--- ---- labels
-
--- of two labels the first octet that differs decides
-module _ (a b : ℕ) (fits : a < 256) (also : b < 256) where
-  pub octets_decide : (x y : List ℕ) → a ≢ b → by_octets (label_text (a ∷ x)) (label_text (b ∷ y)) ≡ by_octets (octet_text a) (octet_text b)
-  octets_decide x y differ =
-      rw (append_assoc (octet_text a) (flat_map octet_text x) (46 ∷ []), append_assoc (octet_text b) (flat_map octet_text y) (46 ∷ []))
-      (parted (octet_text a) (octet_text b) (label_text x) (label_text y) (octets_part a b fits also differ))
-
-pub end_decides : (b : ℕ) (y : List ℕ) → b < 256 → by_octets (label_text []) (label_text (b ∷ y)) ≡ by_octets (46 ∷ []) (octet_text b)
-end_decides b y fits =
-    rw (append_assoc (octet_text b) (flat_map octet_text y) (46 ∷ [])) (parted (46 ∷ []) (octet_text b) [] (label_text y) (dot_parts b fits))
-
-pub end_decides_first : (a : ℕ) (x : List ℕ) → a < 256 → by_octets (label_text (a ∷ x)) (label_text []) ≡ by_octets (octet_text a) (46 ∷ [])
-end_decides_first a x fits =
-    rw (append_assoc (octet_text a) (flat_map octet_text x) (46 ∷ [])) (parted (octet_text a) (46 ∷ []) (label_text x) [] (λ s t e. dot_parts a fits t s (sym e)))
-
--- equal octets leave it to those behind them
-tied_front : (front u v : List ℕ) → by_octets (front ++ u) (front ++ v) ≡ by_octets u v
-tied_front [] u v = refl
-tied_front (o ∷ front) u v = rw (tied o) (tied_front front u v)
-
-pub octet_passes : (a : ℕ) (x y : List ℕ) → by_octets (label_text (a ∷ x)) (label_text (a ∷ y)) ≡ by_octets (label_text x) (label_text y)
-octet_passes a x y =
-    rw (append_assoc (octet_text a) (flat_map octet_text x) (46 ∷ []), append_assoc (octet_text a) (flat_map octet_text y) (46 ∷ [])) (tied_front (octet_text a) (label_text x) (label_text y))
-
--- ---- names
-
-abbrev AreOctets : List ℕ → Type 0
-AreOctets label = AllByRecursion (λ o. o < 256) label
-
-text_cons : (o : ℕ) (label rest : List ℕ) → label_text (o ∷ label) ++ rest ≡ octet_text o ++ (label_text label ++ rest)
-text_cons o label rest =
-    ap (λ (l : List ℕ). l ++ rest) (append_assoc (octet_text o) (flat_map octet_text label) (46 ∷ [])) ∙ append_assoc (octet_text o) (label_text label) rest
-
--- the texts of two labels part, unless they are one
-labels_part : (x y : List ℕ) → AreOctets x → AreOctets y → x ≢ y → (s t : List ℕ) → label_text x ++ s ≡ label_text y ++ t → ⊥
-labels_part [] [] fits also differ s t e = differ refl
-labels_part [] (b ∷ y) fits also differ s t e = dot_parts b also.0 s (label_text y ++ t) (e ∙ text_cons b y t)
-labels_part (a ∷ x) [] fits also differ s t e = dot_parts a fits.0 t (label_text x ++ s) (sym e ∙ text_cons a x s)
-labels_part (a ∷ x) (b ∷ y) fits also differ s t e =
-    let parts : octet_text a ++ (label_text x ++ s) ≡ octet_text b ++ (label_text y ++ t) = sym (text_cons a x s) ∙ e ∙ text_cons b y t in
-    elim (eqb_tells a b) [
-      | inl same ↦
-          let rest : label_text x ++ s ≡ label_text y ++ t = append_cancel_left (octet_text b) (label_text x ++ s) (label_text y ++ t) (ap (λ (n : ℕ). octet_text n ++ (label_text x ++ s)) (sym same.1) ∙ parts) in
-          labels_part x y fits.1 also.1 (λ f. differ (ap (λ (n : ℕ). n ∷ x) same.1 ∙ ap (λ (l : List ℕ). b ∷ l) f)) s t rest
-      | inr other ↦ octets_part a b fits.0 also.0 other.1 (label_text x ++ s) (label_text y ++ t) parts
-    ]
-
-then_first : (r o : Ordering) → r ≢ Equal → ordering_then r o ≡ r
-then_first Less o differ = refl
-then_first Equal o differ = absurd (differ refl)
-then_first Greater o differ = refl
-
--- the order of the first labels' texts decides, unless they are one
 pub labels_then : (x y s t : List ℕ) → AreOctets x → AreOctets y → by_octets (label_text x ++ s) (label_text y ++ t) ≡ ordering_then (by_octets (label_text x) (label_text y)) (by_octets s t)
-labels_then x y s t fits also = by (pointwise nat_eq x y) refl
-  where
-    by : (b : Bool) → pointwise nat_eq x y ≡ b → by_octets (label_text x ++ s) (label_text y ++ t) ≡ ordering_then (by_octets (label_text x) (label_text y)) (by_octets s t)
-    by true e =
-        let same : x ≡ y = (bytes_eq-Decides x y).0 e in
-        let text : label_text x ≡ label_text y = ap label_text same in
-        rw (text, tied_itself nat_list_cmp_total (label_text y)) (tied_front (label_text y) s t)
-    by false e =
-        let part = labels_part x y fits also (λ f. both_ways (pointwise nat_eq x y) e ((bytes_eq-Decides x y).1 f)) in
-        parted (label_text x) (label_text y) s t part ∙ sym (then_first (by_octets (label_text x) (label_text y)) (by_octets s t) (parted_differ (label_text x) (label_text y) part))
-
--- ---- what the code that compares labels answers
-
-module _ (first second ours theirs : List ℕ) (so_far : by_octets (label_text ours) (label_text theirs) ≡ by_octets (label_text first) (label_text second)) where
-  pub first_ended : (b : ℕ) (y : List ℕ) → ours ≡ [] → theirs ≡ b ∷ y → b < 256 → by_octets (46 ∷ []) (octet_text b) ≡ by_octets (label_text first) (label_text second)
-  first_ended b y none some fits = sym (end_decides b y fits) ∙ ap (λ (l : List ℕ). by_octets (label_text l) (label_text (b ∷ y))) (sym none) ∙ ap (λ (l : List ℕ). by_octets (label_text ours) (label_text l)) (sym some) ∙ so_far
-
-  pub second_ended : (a : ℕ) (x : List ℕ) → ours ≡ a ∷ x → theirs ≡ [] → a < 256 → by_octets (octet_text a) (46 ∷ []) ≡ by_octets (label_text first) (label_text second)
-  second_ended a x some none fits = sym (end_decides_first a x fits) ∙ ap (λ (l : List ℕ). by_octets (label_text l) (label_text [])) (sym some) ∙ ap (λ (l : List ℕ). by_octets (label_text ours) (label_text l)) (sym none) ∙ so_far
-
-  module _ (a b : ℕ) (x y : List ℕ) (first_is : ours ≡ a ∷ x) (second_is : theirs ≡ b ∷ y) where
-    both_are : by_octets (label_text (a ∷ x)) (label_text (b ∷ y)) ≡ by_octets (label_text first) (label_text second)
-    both_are = ap (λ (l : List ℕ). by_octets (label_text l) (label_text (b ∷ y))) (sym first_is) ∙ ap (λ (l : List ℕ). by_octets (label_text ours) (label_text l)) (sym second_is) ∙ so_far
-
-    pub differ_here : a < 256 → b < 256 → a ≢ b → by_octets (octet_text a) (octet_text b) ≡ by_octets (label_text first) (label_text second)
-    differ_here fits also differ = sym (octets_decide a b fits also x y differ) ∙ both_are
-
-    pub same_here : a ≡ b → by_octets (label_text x) (label_text y) ≡ by_octets (label_text first) (label_text second)
-    same_here same = sym (octet_passes a x y) ∙ ap (λ (n : ℕ). by_octets (label_text (a ∷ x)) (label_text (n ∷ y))) same ∙ both_are
+labels_then = rows_then octet_text 46 octets_part dot_parts
 
 -- ---- what the code that compares names answers
 
