@@ -4,7 +4,7 @@ use Rattle.std.specs.List.{All, AllByRecursion, flat_map, list_all, slice_split}
 use Rattle.std.specs.Fmt.{decimal, digits, digits_onto, digit_glyph}
 use Rattle.std.proofs.lemmas.Bool.{and_parts, cond_both, or_parts, ne_eqb}
 use Rattle.std.proofs.lemmas.Bool.Decides.{nat_tests}
-use Rattle.std.proofs.lemmas.List.Elements.{All-from_recursion, All-cons, All-append}
+use Rattle.std.proofs.lemmas.List.Elements.{All-from_recursion, All-weaker, All-cons, All-append}
 use Rattle.std.proofs.lemmas.List.Splits.{slice_split_none, slice_split_at}
 use Rattle.std.specs.Prelude.{not, slice_index}
 use Rattle.hex.specs.Hex.{lower_digits, encode_with, encode_lower}
@@ -15,93 +15,108 @@ use Rattle.dns_data.specs.Strings.{octet_text, string_text}
 use Rattle.dns_data.specs.Text.{strings_items}
 use Rattle.dns_data.proofs.TextLemmas.{behind, strings_text}
 
--- ---- texts with no space
+-- ---- texts of visible octets
+
+-- an octet behind the space
+abbrev pub IsVisible : ℕ → Type 0
+IsVisible o = 32 < o
+
+abbrev pub AreVisible : List ℕ → Type 0
+AreVisible text = All IsVisible text
+
+by_octet : (text : List ℕ) → AllByRecursion IsVisible text → AreVisible text
+by_octet text h = All-from_recursion IsVisible text h
+
+backslash : IsVisible 92
+backslash = omega arith
+
+dot : IsVisible 46
+dot = omega arith
 
 abbrev is_space : ℕ → Bool
 is_space o = eqb o 32
 
--- an octet that is no space
-abbrev IsNoSpace : ℕ → Type 0
-IsNoSpace o = is_space o ≡ false
+no_space : (text : List ℕ) → AreVisible text → All (λ o. is_space o ≡ false) text
+no_space text h = All-weaker IsVisible (λ o. is_space o ≡ false) (λ o seen. ne_eqb o 32 (λ e. omega arith)) text h
 
-abbrev pub HasNoSpace : List ℕ → Type 0
-HasNoSpace text = All IsNoSpace text
+-- so are printed names
+digit_visible : (d : ℕ) → IsVisible (48 + d)
+digit_visible d = grind (arith, nat_tests)
 
-by_octet : (text : List ℕ) → AllByRecursion IsNoSpace text → HasNoSpace text
-by_octet text h = All-from_recursion IsNoSpace text h
+special_visible : (o : ℕ) → is_special o ≡ true → IsVisible o
+special_visible o h = grind (arith, nat_tests)
 
--- printed names have no space
-digit_no_space : (d : ℕ) → IsNoSpace (48 + d)
-digit_no_space d = grind (arith, nat_tests)
+graphic_visible : (o : ℕ) → leb 33 o && leb o 126 ≡ true → IsVisible o
+graphic_visible o h = grind (arith, nat_tests)
 
-special_no_space : (o : ℕ) → is_special o ≡ true → IsNoSpace o
-special_no_space o h = grind (arith, nat_tests)
+octet_visible : (o : ℕ) → AreVisible (names.octet_text o)
+octet_visible o =
+    cond_both (is_special o) (92 ∷ o ∷ []) (cond (leb 33 o && leb o 126) (o ∷ []) (92 ∷ three_digits o)) AreVisible
+    (λ s. by_octet (92 ∷ o ∷ []) (backslash, (special_visible o s, tt)))
+    (λ s. cond_both (leb 33 o && leb o 126) (o ∷ []) (92 ∷ three_digits o) AreVisible
+    (λ g. by_octet (o ∷ []) (graphic_visible o g, tt))
+    (λ g. by_octet (92 ∷ three_digits o) (backslash, (digit_visible (o / 100), (digit_visible (o / 10 % 10), (digit_visible (o % 10), tt))))))
 
-graphic_no_space : (o : ℕ) → leb 33 o && leb o 126 ≡ true → IsNoSpace o
-graphic_no_space o h = grind (arith, nat_tests)
+each_visible : {A : Type 0} (f : A → List ℕ) (xs : List A) → ((x : A) → AreVisible (f x)) → AreVisible (flat_map f xs)
+each_visible f [] h = by_octet [] tt
+each_visible f (x ∷ xs) h = All-append IsVisible (f x) (flat_map f xs) (h x) (each_visible f xs h)
 
-octet_no_space : (o : ℕ) → HasNoSpace (names.octet_text o)
-octet_no_space o =
-    cond_both (is_special o) (92 ∷ o ∷ []) (cond (leb 33 o && leb o 126) (o ∷ []) (92 ∷ three_digits o)) HasNoSpace
-    (λ s. by_octet (92 ∷ o ∷ []) (refl, (special_no_space o s, tt)))
-    (λ s. cond_both (leb 33 o && leb o 126) (o ∷ []) (92 ∷ three_digits o) HasNoSpace
-    (λ g. by_octet (o ∷ []) (graphic_no_space o g, tt))
-    (λ g. by_octet (92 ∷ three_digits o) (refl, (digit_no_space (o / 100), (digit_no_space (o / 10 % 10), (digit_no_space (o % 10), tt))))))
+label_visible : (label : List ℕ) → AreVisible (label_text label)
+label_visible label = All-append IsVisible (flat_map names.octet_text label) (46 ∷ []) (each_visible names.octet_text label octet_visible) (by_octet (46 ∷ []) (dot, tt))
 
-each_no_space : {A : Type 0} (f : A → List ℕ) (xs : List A) → ((x : A) → HasNoSpace (f x)) → HasNoSpace (flat_map f xs)
-each_no_space f [] h = by_octet [] tt
-each_no_space f (x ∷ xs) h = All-append IsNoSpace (f x) (flat_map f xs) (h x) (each_no_space f xs h)
+pub name_visible : (name : List (List ℕ)) → AreVisible (name_text name)
+name_visible [] = by_octet (46 ∷ []) (dot, tt)
+name_visible (label ∷ labels) = each_visible label_text (label ∷ labels) label_visible
 
-label_no_space : (label : List ℕ) → HasNoSpace (label_text label)
-label_no_space label = All-append IsNoSpace (flat_map names.octet_text label) (46 ∷ []) (each_no_space names.octet_text label octet_no_space) (by_octet (46 ∷ []) (refl, tt))
+-- and printed numbers
+glyph_visible : (d : ℕ) → IsVisible (digit_glyph false d)
+glyph_visible d = grind (arith, nat_tests)
 
-pub name_no_space : (name : List (List ℕ)) → HasNoSpace (name_text name)
-name_no_space [] = by_octet (46 ∷ []) (refl, tt)
-name_no_space (label ∷ labels) = each_no_space label_text (label ∷ labels) label_no_space
+digits_visible : (k n : ℕ) (text : List ℕ) → AreVisible text → AreVisible (digits_onto k 10 false n text)
+digits_visible zero n text h = h
+digits_visible (suc k) n text h =
+    let more = All-cons IsVisible (digit_glyph false (n % 10)) text (glyph_visible (n % 10)) h in
+    cond_both (eqb (n / 10) 0) _ _ AreVisible (λ e. more) (λ e. digits_visible k (n / 10) (digit_glyph false (n % 10) ∷ text) more)
 
--- nor have printed numbers
-glyph_no_space : (d : ℕ) → IsNoSpace (digit_glyph false d)
-glyph_no_space d = grind (arith, nat_tests)
-
-digits_no_space : (k n : ℕ) (text : List ℕ) → HasNoSpace text → HasNoSpace (digits_onto k 10 false n text)
-digits_no_space zero n text h = h
-digits_no_space (suc k) n text h =
-    let more = All-cons IsNoSpace (digit_glyph false (n % 10)) text (glyph_no_space (n % 10)) h in
-    cond_both (eqb (n / 10) 0) _ _ HasNoSpace (λ e. more) (λ e. digits_no_space k (n / 10) (digit_glyph false (n % 10) ∷ text) more)
-
-pub decimal_no_space : (n : ℕ) → HasNoSpace (decimal n)
+pub decimal_visible : (n : ℕ) → AreVisible (decimal n)
 unfolding digits
-decimal_no_space n = digits_no_space 64 n [] (by_octet [] tt)
+decimal_visible n = digits_visible 64 n [] (by_octet [] tt)
 
--- nor have printed digests
-digit_at_no_space : (digits : List ℕ) → list_all (λ o. not (is_space o)) digits ≡ true → (i : ℕ) → IsNoSpace (slice_index digits i)
-digit_at_no_space [] h i = refl
-digit_at_no_space (d ∷ digits) h zero = not_true (is_space d) (and_parts (not (is_space d)) (list_all (λ o. not (is_space o)) digits) h).0
+-- and printed digests
+digit_at_visible : (digits : List ℕ) → AllByRecursion IsVisible digits → (i : ℕ) → i < length digits → IsVisible (slice_index digits i)
+digit_at_visible [] h i within = absurd (omega arith)
+digit_at_visible (d ∷ digits) h zero within = h.0
+digit_at_visible (d ∷ digits) h (suc i) within = digit_at_visible digits h.1 i (omega arith)
+
+lower_digits_visible : AllByRecursion IsVisible lower_digits
+lower_digits_visible = by (leb 33) (λ n h. grind (arith, nat_tests)) lower_digits refl
   where
-    not_true : (b : Bool) → not b ≡ true → b ≡ false
-    not_true true e = absurd cc
-    not_true false e = refl
-digit_at_no_space (d ∷ digits) h (suc i) = digit_at_no_space digits (and_parts (not (is_space d)) (list_all (λ o. not (is_space o)) digits) h).1 i
+    by : (test : ℕ → Bool) → ((n : ℕ) → test n ≡ true → IsVisible n) → (l : List ℕ) → list_all test l ≡ true → AllByRecursion IsVisible l
+    by test tells [] h = tt
+    by test tells (n ∷ l) h = let parts = and_parts (test n) (list_all test l) h in (tells n parts.0, by test tells l parts.1)
 
-pub digits_no_space_in : (octets : List ℕ) → HasNoSpace (encode_lower octets)
+pub digits_visible_in : (octets : List ℕ) → AllByRecursion (λ o. o < 256) octets → AreVisible (encode_lower octets)
 unfolding encode_with
-digits_no_space_in [] = by_octet [] tt
-digits_no_space_in (o ∷ octets) =
-    All-cons IsNoSpace (slice_index lower_digits (o / 16)) (slice_index lower_digits (o % 16) ∷ encode_lower octets) (digit_at_no_space lower_digits refl (o / 16))
-    (All-cons IsNoSpace (slice_index lower_digits (o % 16)) (encode_lower octets) (digit_at_no_space lower_digits refl (o % 16)) (digits_no_space_in octets))
+digits_visible_in [] below = by_octet [] tt
+digits_visible_in (o ∷ octets) below =
+    let fits = below.0 in
+    let high : o / 16 < 16 = omega arith in
+    let low : o % 16 < 16 = omega arith in
+    All-cons IsVisible (slice_index lower_digits (o / 16)) (slice_index lower_digits (o % 16) ∷ encode_lower octets) (digit_at_visible lower_digits lower_digits_visible (o / 16) high)
+    (All-cons IsVisible (slice_index lower_digits (o % 16)) (encode_lower octets) (digit_at_visible lower_digits lower_digits_visible (o % 16) low) (digits_visible_in octets below.1))
 
 -- ---- plain items
 
-abbrev pub HaveNoSpace : List (List ℕ) → Type 0
-HaveNoSpace texts = AllByRecursion HasNoSpace texts
+abbrev pub AreVisibleTexts : List (List ℕ) → Type 0
+AreVisibleTexts texts = AllByRecursion AreVisible texts
 
 -- the text of plain items is cut at its spaces
-plain_cut : (text : List ℕ) (texts : List (List ℕ)) → HaveNoSpace (text ∷ texts) → slice_split is_space (items_text (map plain (text ∷ texts))) ≡ text ∷ texts
-plain_cut text [] h = slice_split_none is_space text h.0
-plain_cut text (next ∷ texts) h = slice_split_at is_space text 32 (items_text (map plain (next ∷ texts))) h.0 refl ∙ ap (λ (l : List (List ℕ)). text ∷ l) (plain_cut next texts h.1)
+plain_cut : (text : List ℕ) (texts : List (List ℕ)) → AreVisibleTexts (text ∷ texts) → slice_split is_space (items_text (map plain (text ∷ texts))) ≡ text ∷ texts
+plain_cut text [] h = slice_split_none is_space text (no_space text h.0)
+plain_cut text (next ∷ texts) h = slice_split_at is_space text 32 (items_text (map plain (next ∷ texts))) (no_space text h.0) refl ∙ ap (λ (l : List (List ℕ)). text ∷ l) (plain_cut next texts h.1)
 
 -- as many plain items with one text are the same
-pub plain_apart : (texts others : List (List ℕ)) → HaveNoSpace texts → HaveNoSpace others → length texts ≡ length others → items_text (map plain texts) ≡ items_text (map plain others) → map plain texts ≡ map plain others
+pub plain_apart : (texts others : List (List ℕ)) → AreVisibleTexts texts → AreVisibleTexts others → length texts ≡ length others → items_text (map plain texts) ≡ items_text (map plain others) → map plain texts ≡ map plain others
 plain_apart [] [] h k count e = refl
 plain_apart [] (other ∷ others) h k count e = absurd (omega arith)
 plain_apart (text ∷ texts) [] h k count e = absurd (omega arith)

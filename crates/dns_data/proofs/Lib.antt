@@ -8,11 +8,13 @@ pub mod EachLemmas
 pub mod FieldLaws
 pub mod NumberLaws
 pub mod NumberLemmas
+pub mod OrderLemmas
 pub mod PartLaws
 pub mod RunLemmas
 pub mod SameLemmas
 pub mod StepLaws
 pub mod StringLaws
 pub mod StringLemmas
+pub mod StringOrderLemmas
 pub mod TextLemmas
 pub mod TypeLemmas

@@ -44,7 +44,7 @@ pub record SymbolOf (octet : ℕ) (text : List ℕ) : Type 0 where
   pub spelled : SpellsSymbol symbol text
 
 -- what spells an octet spells a symbol for it
-symbol_of : (octet : ℕ) (text : List ℕ) → SpellsOctet octet text → SymbolOf octet text
+pub symbol_of : (octet : ℕ) (text : List ℕ) → SpellsOctet octet text → SymbolOf octet text
 symbol_of octet text (inl h) =
     elim (cases_eq octet 46) [
       | inl dot ↦ record { symbol = Dot; same = sym dot; spelled = h.1 ∙ ap (λ (o : ℕ). o ∷ []) dot }
@@ -163,7 +163,7 @@ marked_no_digit : (o : ℕ) → eqb o 34 || eqb o 92 ≡ true → is_ascii_digit
 marked_no_digit o h = grind arith
 
 -- the printed octet spells it
-octet_text_spells : (o : ℕ) → o < 256 → SpellsOctet o (octet_text o)
+pub octet_text_spells : (o : ℕ) → o < 256 → SpellsOctet o (octet_text o)
 octet_text_spells o h =
     cond_both (eqb o 34 || eqb o 92) (92 ∷ o ∷ []) (cond (leb 32 o && leb o 126) (o ∷ []) (92 ∷ three_digits o)) (SpellsOctet o)
     (λ s. inr (inl (marked_no_digit o s, refl)))

@@ -7,6 +7,7 @@ pub mod Digests
 pub mod SameSoa
 pub mod Rdata
 pub mod Text
+pub mod RecordOrder
 pub mod Grammar
 pub mod Reading
 pub mod Again

@@ -7,6 +7,7 @@ mod fault;
 mod item;
 mod notes;
 mod number;
+mod order;
 mod rdata;
 mod reading;
 mod record;

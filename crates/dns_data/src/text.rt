@@ -17,14 +17,14 @@ use std::alloc::{AllocError, Global};
 use std::{fmt, str};
 
 /// Whether an octet means something within quotes, so that a backslash stands before it.
-fn ends_quotes(octet: u8) -> bool
+pub(crate) fn ends_quotes(octet: u8) -> bool
     ensures { result ≡ (octet == 34 || octet == 92) }
 {
     matches!(octet, b'"' | b'\\')
 }
 
 /// Whether an octet does not stand for itself within quotes.
-fn is_escaped(octet: u8) -> bool
+pub(crate) fn is_escaped(octet: u8) -> bool
     ensures { result ≡ is_escaped octet }
 {
     !matches!(octet, b' '..=b'~') || ends_quotes(octet)

@@ -1,0 +1,161 @@
+-- The order of texts of items: the first item that differs decides.
+use Rattle.std.proofs.Common.{◌≡◌, ℕ, zero, suc, ◌+◌, ◌*◌, ◌<◌, ◌/◌, ◌%◌, ◌⊎◌, inl, inr, Bool, true, ◌&&◌, List, [], ◌∷◌, ◌++◌, length, map, refl, sym, ap, ◌∙◌, append_assoc, arith}
+use Rattle.std.specs.Prelude.{⊤, decimal, slice_index, nat_lt, ◌≤◌}
+use Rattle.std.specs.List.{All, AllByRecursion, list_all}
+use Rattle.std.specs.declared.cmp.Ordering.{Ordering}
+use Rattle.std.specs.declared.cmp.Ordering.TheVariants.{Less, Equal, Greater}
+use Rattle.std.specs.Ordering.{nat_cmp, ordering_then}
+use Rattle.std.specs.Cmp.Lexicographic.{slice_cmp}
+use Rattle.std.proofs.lemmas.Bool.{and_parts, cases_lt}
+use Rattle.std.proofs.lemmas.Bool.Decides.{nat_tests}
+use Rattle.std.proofs.lemmas.List.Elements.{recursion_from_All}
+use Rattle.hex.specs.Hex.{lower_digits, encode_with, encode_lower}
+use Rattle.dns_names.specs.Spelling.{name_text}
+use Rattle.dns_names.proofs.KeyLaws.{three, tied, less, greater}
+use Rattle.dns_data.specs.declared.ds.DelegationSigner.{DelegationSigner}
+use Rattle.dns_data.specs.declared.rdata.MailExchange.{MailExchange}
+use Rattle.dns_data.specs.declared.rdata.Service.{Service}
+use Rattle.dns_data.specs.declared.soa.SoaFields.{SoaFields}
+use Rattle.dns_data.specs.Digests.{IsDigest}
+use Rattle.dns_data.specs.Items.{plain, items_text}
+use Rattle.dns_data.proofs.CutLemmas.{IsVisible, AreVisible, AreVisibleTexts}
+use Rattle.dns_data.proofs.ApartLaws.{soa_texts, mx_texts, srv_texts, ds_texts, soa_visible, mx_visible, srv_visible, ds_visible}
+
+abbrev pub by_octets : List ℕ → List ℕ → Ordering
+by_octets = slice_cmp nat_cmp
+
+-- ---- orders one after the other
+
+then_nothing : (o : Ordering) → ordering_then o Equal ≡ o
+then_nothing Less = refl
+then_nothing Equal = refl
+then_nothing Greater = refl
+
+then_assoc : (a b c : Ordering) → ordering_then a (ordering_then b c) ≡ ordering_then (ordering_then a b) c
+then_assoc Less b c = refl
+then_assoc Equal b c = refl
+then_assoc Greater b c = refl
+
+-- ---- items of visible octets
+
+-- before a space they compare as they do alone
+visible_then : (x y s t : List ℕ) → AllByRecursion IsVisible x → AllByRecursion IsVisible y → by_octets (x ++ 32 ∷ s) (y ++ 32 ∷ t) ≡ ordering_then (by_octets x y) (by_octets s t)
+visible_then [] [] s t seen also = refl
+visible_then [] (b ∷ y) s t seen also = rw (less 32 b also.0) refl
+visible_then (a ∷ x) [] s t seen also = rw (greater a 32 seen.0) refl
+visible_then (a ∷ x) (b ∷ y) s t seen also =
+    elim (three a b) [
+      | inl l ↦ rw l.0 refl
+      | inr r ↦ elim r [
+          | inl e ↦ rw (e, tied b) (visible_then x y s t seen.1 also.1)
+          | inr g ↦ rw g.0 refl
+        ]
+    ]
+
+-- the orders of texts in turn
+abbrev pub in_turn : Ordering → List (List ℕ) → List (List ℕ) → Ordering
+in_turn so_far (x ∷ xs) (y ∷ ys) = in_turn (ordering_then so_far (by_octets x y)) xs ys
+in_turn so_far xs ys = so_far
+
+items_order : (so_far : Ordering) (texts others : List (List ℕ)) → AreVisibleTexts texts → AreVisibleTexts others → length texts ≡ length others → ordering_then so_far (by_octets (items_text (map plain texts)) (items_text (map plain others))) ≡ in_turn so_far texts others
+items_order so_far [] [] seen also count = then_nothing so_far
+items_order so_far [] (y ∷ ys) seen also count = absurd (omega arith)
+items_order so_far (x ∷ xs) [] seen also count = absurd (omega arith)
+items_order so_far (x ∷ []) (y ∷ []) seen also count = refl
+items_order so_far (x ∷ []) (y ∷ y' ∷ ys) seen also count = absurd (omega arith)
+items_order so_far (x ∷ x' ∷ xs) (y ∷ []) seen also count = absurd (omega arith)
+items_order so_far (x ∷ x' ∷ xs) (y ∷ y' ∷ ys) seen also count =
+    let rest = items_text (map plain (x' ∷ xs)) in
+    let rest' = items_text (map plain (y' ∷ ys)) in
+    ap (ordering_then so_far) (visible_then x y rest rest' (recursion_from_All IsVisible x seen.0) (recursion_from_All IsVisible y also.0))
+    ∙ then_assoc so_far (by_octets x y) (by_octets rest rest')
+    ∙ items_order (ordering_then so_far (by_octets x y)) (x' ∷ xs) (y' ∷ ys) seen.1 also.1 (omega arith)
+
+pub soa_order : (a b : SoaFields) → in_turn Equal (soa_texts a) (soa_texts b) ≡ by_octets (items_text (map plain (soa_texts a))) (items_text (map plain (soa_texts b)))
+soa_order a b = sym (items_order Equal (soa_texts a) (soa_texts b) (soa_visible a) (soa_visible b) refl)
+
+pub mx_order : (a b : MailExchange) → in_turn Equal (mx_texts a) (mx_texts b) ≡ by_octets (items_text (map plain (mx_texts a))) (items_text (map plain (mx_texts b)))
+mx_order a b = sym (items_order Equal (mx_texts a) (mx_texts b) (mx_visible a) (mx_visible b) refl)
+
+pub srv_order : (a b : Service) → in_turn Equal (srv_texts a) (srv_texts b) ≡ by_octets (items_text (map plain (srv_texts a))) (items_text (map plain (srv_texts b)))
+srv_order a b = sym (items_order Equal (srv_texts a) (srv_texts b) (srv_visible a) (srv_visible b) refl)
+
+-- ---- digests
+
+abbrev list_rises : List ℕ → Bool
+list_rises [] = true
+list_rises (x ∷ l) = list_all (λ y. nat_lt x y) l && list_rises l
+
+-- each number less than all behind it
+abbrev Rises : List ℕ → Type 0
+Rises [] = ⊤
+Rises (x ∷ l) = AllByRecursion (λ y. x < y) l × Rises l
+
+rises : (l : List ℕ) → list_rises l ≡ true → Rises l
+rises [] h = tt
+rises (x ∷ l) h = let parts = and_parts (list_all (λ y. nat_lt x y) l) (list_rises l) h in (behind l parts.0, rises l parts.1)
+  where
+    behind : (l : List ℕ) → list_all (λ y. nat_lt x y) l ≡ true → AllByRecursion (λ y. x < y) l
+    behind [] h = tt
+    behind (y ∷ l) h = let parts = and_parts (nat_lt x y) (list_all (λ y. nat_lt x y) l) h in (grind (arith, nat_tests), behind l parts.1)
+
+at_least : (x : ℕ) (l : List ℕ) (j : ℕ) → AllByRecursion (λ y. x < y) l → j < length l → x < slice_index l j
+at_least x [] j all within = absurd (omega arith)
+at_least x (y ∷ l) zero all within = all.0
+at_least x (y ∷ l) (suc j) all within = at_least x l j all.1 (omega arith)
+
+rising : (l : List ℕ) (i j : ℕ) → Rises l → i < j → j < length l → slice_index l i < slice_index l j
+rising [] i j all before within = absurd (omega arith)
+rising (x ∷ l) zero zero all before within = absurd (omega arith)
+rising (x ∷ l) zero (suc j) all before within = at_least x l j all.0 (omega arith)
+rising (x ∷ l) (suc i) zero all before within = absurd (omega arith)
+rising (x ∷ l) (suc i) (suc j) all before within = rising l i j all.1 (omega arith) (omega arith)
+
+-- the hexadecimal digits stand in the order of what they say
+digits_rise : (i j : ℕ) → i < j → j < 16 → slice_index lower_digits i < slice_index lower_digits j
+digits_rise i j before within = rising lower_digits i j (rises lower_digits refl) before within
+
+abbrev pair : ℕ → List ℕ → List ℕ
+pair o text = slice_index lower_digits (o / 16) ∷ slice_index lower_digits (o % 16) ∷ text
+
+module _ (a b : ℕ) (x y : List ℕ) (fits : b < 256) (before : a < b) where
+  pair_before : by_octets (pair a x) (pair b y) ≡ Less
+  pair_before = by (cases_lt (a / 16) (b / 16))
+    where
+      by : (a / 16 < b / 16) ⊎ (b / 16 ≤ a / 16) → by_octets (pair a x) (pair b y) ≡ Less
+      by (inl l) = rw (less (slice_index lower_digits (a / 16)) (slice_index lower_digits (b / 16)) (digits_rise (a / 16) (b / 16) l (omega arith))) refl
+      by (inr h) =
+          let high : a / 16 ≡ b / 16 = omega arith in
+          let low : a % 16 < b % 16 = omega arith in
+          rw (high, tied (slice_index lower_digits (b / 16)), less (slice_index lower_digits (a % 16)) (slice_index lower_digits (b % 16)) (digits_rise (a % 16) (b % 16) low (omega arith))) refl
+
+  pair_after : by_octets (pair b y) (pair a x) ≡ Greater
+  pair_after = by (cases_lt (a / 16) (b / 16))
+    where
+      by : (a / 16 < b / 16) ⊎ (b / 16 ≤ a / 16) → by_octets (pair b y) (pair a x) ≡ Greater
+      by (inl l) = rw (greater (slice_index lower_digits (b / 16)) (slice_index lower_digits (a / 16)) (digits_rise (a / 16) (b / 16) l (omega arith))) refl
+      by (inr h) =
+          let high : a / 16 ≡ b / 16 = omega arith in
+          let low : a % 16 < b % 16 = omega arith in
+          rw (high, tied (slice_index lower_digits (b / 16)), greater (slice_index lower_digits (b % 16)) (slice_index lower_digits (a % 16)) (digits_rise (a % 16) (b % 16) low (omega arith))) refl
+
+digest_order : (x y : List ℕ) → AllByRecursion (λ o. o < 256) x → AllByRecursion (λ o. o < 256) y → by_octets (encode_lower x) (encode_lower y) ≡ by_octets x y
+unfolding encode_with
+digest_order [] [] below also = refl
+digest_order [] (b ∷ y) below also = refl
+digest_order (a ∷ x) [] below also = refl
+digest_order (a ∷ x) (b ∷ y) below also =
+    elim (cases_lt a b) [
+      | inl l ↦ rw (pair_before a b (encode_lower x) (encode_lower y) also.0 l, less a b l) refl
+      | inr h ↦ elim (cases_lt b a) [
+          | inl g ↦ rw (pair_after b a (encode_lower y) (encode_lower x) below.0 g, greater a b g) refl
+          | inr k ↦
+              let same : a ≡ b = omega arith in
+              rw (same, tied b, tied (slice_index lower_digits (b / 16)), tied (slice_index lower_digits (b % 16))) (digest_order x y below.1 also.1)
+        ]
+    ]
+
+pub ds_order : (a b : DelegationSigner) → IsDigest a.digest → IsDigest b.digest → ordering_then (in_turn Equal (decimal a.key_tag ∷ decimal a.algorithm ∷ decimal a.digest_type ∷ []) (decimal b.key_tag ∷ decimal b.algorithm ∷ decimal b.digest_type ∷ [])) (by_octets a.digest b.digest) ≡ by_octets (items_text (map plain (ds_texts a))) (items_text (map plain (ds_texts b)))
+ds_order a b is also =
+    ap (ordering_then (in_turn Equal (decimal a.key_tag ∷ decimal a.algorithm ∷ decimal a.digest_type ∷ []) (decimal b.key_tag ∷ decimal b.algorithm ∷ decimal b.digest_type ∷ []))) (sym (digest_order a.digest b.digest is.octets also.octets))
+    ∙ sym (items_order Equal (ds_texts a) (ds_texts b) (ds_visible a is) (ds_visible b also) refl)

@@ -1,0 +1,29 @@
+-- The order in which records are listed: by owner in canonical order (RFC 4034 section 6.1), at one owner SOA first and then
+-- by type number, and then by the octets of the data's text.
+use Rattle.std.specs.Prelude.{ℕ}
+use Rattle.std.specs.Ordering.{nat_cmp, on, then_cmp}
+use Rattle.std.specs.declared.cmp.Ordering.{Ordering}
+use Rattle.std.specs.Cmp.{IsTotalOrder, on_total, then_total, nat_cmp_total}
+use Rattle.std.specs.Cmp.Lexicographic.{slice_cmp, nat_list_cmp_total}
+use Rattle.dns_names.specs.Order.{canonical_cmp, canonical_total}
+use Rattle.dns_data.specs.declared.record.Record.{Record}
+use Rattle.dns_data.specs.declared.record_type.RecordType.{RecordType}
+use Rattle.dns_data.specs.declared.record_type.RecordType.TheVariants as types
+use Rattle.dns_data.specs.Rdata.{type_of}
+use Rattle.dns_data.specs.Text.{data_text}
+use Rattle.dns_data.specs.Types.{type_number}
+
+-- the place of a type among the records of one owner
+abbrev pub rank_of : RecordType → ℕ
+rank_of types.Soa = 0
+rank_of record_type = type_number record_type
+
+abbrev pub record_order : Record → Record → Ordering
+record_order =
+    then_cmp (then_cmp (on (λ r. r.owner) canonical_cmp) (on (λ r. rank_of (type_of r.rdata)) nat_cmp))
+    (on (λ r. data_text r.rdata) (slice_cmp nat_cmp))
+
+pub record_order_total : IsTotalOrder record_order
+record_order_total =
+    then_total (then_total (on_total (λ r. r.owner) canonical_total) (on_total (λ r. rank_of (type_of r.rdata)) nat_cmp_total))
+    (on_total (λ r. data_text r.rdata) nat_list_cmp_total)

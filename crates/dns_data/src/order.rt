@@ -1,0 +1,135 @@
+//! The order in which records are listed.
+
+ghost use Rattle.std.specs.Prelude.{◌≡◌, ◌↔◌, ◌∷◌, ◌++◌, ◌<◌, [], decimal};
+ghost use Rattle.std.specs.Ordering.{nat_cmp};
+ghost use Rattle.std.specs.Cmp.Lexicographic.{slice_cmp};
+ghost use Rattle.dns_data.specs.Items.{items_text};
+ghost use Rattle.dns_data.specs.Strings.{octet_text, string_text};
+ghost use Rattle.dns_data.specs.Text.{soa_items, mx_items, srv_items, ds_items, strings_items, data_text};
+ghost use Rattle.dns_data.specs.Rdata.{type_of, SameRecord};
+ghost use Rattle.dns_data.specs.RecordOrder.{rank_of, record_order};
+
+use crate::ds::DelegationSigner;
+use crate::rdata::{Data, MailExchange, Service};
+use crate::record::Record;
+use crate::record_type::RecordType;
+use crate::soa::SoaFields;
+use crate::strings::{CharacterString, Strings};
+use crate::text::{ends_quotes, is_escaped};
+use arrayvec::ArrayVec;
+use itoa::Buffer;
+use std::cmp::Ordering;
+
+/// The order of two numbers by the octets of their decimals.
+fn cmp_decimals(first: u32, second: u32) -> Ordering
+    ensures { result ≡ slice_cmp nat_cmp (decimal first) (decimal second) }
+{
+    let (mut ours, mut theirs) = (Buffer::new(), Buffer::new());
+    let (ours, theirs) = (ours.format(first), theirs.format(second));
+    ours.as_bytes().cmp(theirs.as_bytes())
+}
+
+/// An octet of a character-string, as it is printed.
+fn spelling(octet: u8) -> ArrayVec<u8, 4>
+    ensures text { result.items ≡ octet_text octet }
+    ensures octet { octet < 256 }
+{
+    let mut spelling = ArrayVec::new();
+    if !is_escaped(octet) {
+        spelling.push(octet);
+    } else if ends_quotes(octet) {
+        spelling.push(b'\\');
+        spelling.push(octet);
+    } else {
+        spelling.push(b'\\');
+        spelling.push(b'0' + octet / 100);
+        spelling.push(b'0' + octet / 10 % 10);
+        spelling.push(b'0' + octet % 10);
+    }
+    spelling
+}
+
+/// The order of two character-strings with a quote behind each, by their texts.
+fn cmp_strings(first: &[u8], second: &[u8]) -> Ordering
+    ensures { result ≡ slice_cmp nat_cmp (string_text first.now ++ 34 ∷ []) (string_text second.now ++ 34 ∷ []) }
+{
+    let (mut ours, mut theirs) = (first, second);
+    loop {
+        match (ours.split_first(), theirs.split_first()) {
+            (None, None) => return Ordering::Equal,
+            (None, Some((their, _))) => return b"\"".as_slice().cmp(spelling(*their).as_slice()),
+            (Some((our, _)), None) => return spelling(*our).as_slice().cmp(b"\"".as_slice()),
+            (Some((our, our_rest)), Some((their, their_rest))) => {
+                if our != their {
+                    return spelling(*our).as_slice().cmp(spelling(*their).as_slice());
+                }
+                ours = our_rest;
+                theirs = their_rest;
+            }
+        }
+    }
+}
+
+/// The order of the data of two TXT records by their texts.
+fn cmp_txt(first: &Strings, second: &Strings) -> Ordering
+    ensures { result ≡ slice_cmp nat_cmp (items_text (strings_items first.now)) (items_text (strings_items second.now)) }
+{
+    let (mut ours, mut theirs) = (first.as_slice(), second.as_slice());
+    let mut order = Ordering::Equal;
+    while order.is_eq() {
+        match (ours.split_first(), theirs.split_first()) {
+            (None, None) => return Ordering::Equal,
+            (None, Some(_)) => return Ordering::Less,
+            (Some(_), None) => return Ordering::Greater,
+            (Some((our, our_rest)), Some((their, their_rest))) => {
+                order = cmp_strings(our.octets(), their.octets());
+                ours = our_rest;
+                theirs = their_rest;
+            }
+        }
+    }
+    order
+}
+
+/// The order of the data of two SOA records by their texts.
+fn cmp_soa(first: &SoaFields, second: &SoaFields) -> Ordering
+    ensures { result ≡ slice_cmp nat_cmp (items_text (soa_items first.now)) (items_text (soa_items second.now)) }
+{
+    first
+        .mname
+        .cmp_text(&second.mname)
+        .then(first.rname.cmp_text(&second.rname))
+        .then(cmp_decimals(first.serial.0, second.serial.0))
+        .then(cmp_decimals(first.refresh.0, second.refresh.0))
+        .then(cmp_decimals(first.retry.0, second.retry.0))
+        .then(cmp_decimals(first.expire.0, second.expire.0))
+        .then(cmp_decimals(first.minimum.0, second.minimum.0))
+}
+
+/// The order of the data of two MX records by their texts.
+fn cmp_mx(first: &MailExchange, second: &MailExchange) -> Ordering
+    ensures { result ≡ slice_cmp nat_cmp (items_text (mx_items first.now)) (items_text (mx_items second.now)) }
+{
+    cmp_decimals(u32::from(first.preference), u32::from(second.preference))
+        .then(first.exchange.cmp_text(&second.exchange))
+}
+
+/// The order of the data of two SRV records by their texts.
+fn cmp_srv(first: &Service, second: &Service) -> Ordering
+    ensures { result ≡ slice_cmp nat_cmp (items_text (srv_items first.now)) (items_text (srv_items second.now)) }
+{
+    cmp_decimals(u32::from(first.priority), u32::from(second.priority))
+        .then(cmp_decimals(u32::from(first.weight), u32::from(second.weight)))
+        .then(cmp_decimals(u32::from(first.port), u32::from(second.port)))
+        .then(first.target.cmp_text(&second.target))
+}
+
+/// The order of the data of two DS records by their texts. Digits stand in the order of what they say.
+fn cmp_ds(first: &DelegationSigner, second: &DelegationSigner) -> Ordering
+    ensures { result ≡ slice_cmp nat_cmp (items_text (ds_items first.now)) (items_text (ds_items second.now)) }
+{
+    cmp_decimals(u32::from(first.key_tag), u32::from(second.key_tag))
+        .then(cmp_decimals(u32::from(first.algorithm), u32::from(second.algorithm)))
+        .then(cmp_decimals(u32::from(first.digest_type), u32::from(second.digest_type)))
+        .then(first.digest.octets().cmp(second.digest.octets()))
+}
