@@ -2,6 +2,7 @@
 //! 5): reading data from the items of a master file, and printing them in one canonical text.
 #![tactic(auto)]
 
+mod address_text;
 mod ds;
 mod fault;
 mod item;

@@ -1,7 +1,9 @@
 //! Outside vectors and worked examples: their expected values come from the standards or from tools beside the program.
 use super::*;
+use crate::address_text::{ipv4_text, ipv6_text};
 use dns_names::{Name, NameFault};
 use std::alloc::{AllocError, Global};
+use std::net::{Ipv4Addr, Ipv6Addr};
 use std::test::Fail;
 
 /// A type, items with a space between them (in quotes where they are quoted), the text of the data or the number of the
@@ -919,6 +921,43 @@ fn faults_say_what_is_wrong(rt: HostRuntime) -> Result<(), Fail> {
     for (fault, number, text) in rows {
         assert_eq!(rt; fault.number(), number);
         assert_eq!(rt; fault.to_string(rt.alloc())?.as_str(), text);
+    }
+    Ok(())
+}
+
+#[test]
+fn address_texts(rt: HostRuntime) -> Result<(), Fail> {
+    let rows = [
+        (Ipv4Addr::new(0, 0, 0, 0), "0.0.0.0"),
+        (Ipv4Addr::new(255, 255, 255, 255), "255.255.255.255"),
+        (Ipv4Addr::new(192, 0, 2, 1), "192.0.2.1"),
+        (Ipv4Addr::new(10, 0, 100, 9), "10.0.100.9"),
+    ];
+    for (address, text) in rows {
+        assert_eq!(rt; ipv4_text(address).as_slice(), text.as_bytes());
+    }
+    // the first five from RFC 5952 section 4
+    let rows = [
+        ([0x2001, 0xdb8, 0, 0, 0, 0, 0, 1], "2001:db8::1"),
+        ([0x2001, 0xdb8, 0, 0, 0, 0, 2, 1], "2001:db8::2:1"),
+        ([0x2001, 0xdb8, 0, 1, 1, 1, 1, 1], "2001:db8:0:1:1:1:1:1"),
+        ([0x2001, 0, 0, 1, 0, 0, 0, 1], "2001:0:0:1::1"),
+        ([0x2001, 0xdb8, 0, 0, 1, 0, 0, 1], "2001:db8::1:0:0:1"),
+        ([0, 0, 0, 0, 0, 0, 0, 0], "::"),
+        ([0, 0, 0, 0, 0, 0, 0, 1], "::1"),
+        ([1, 0, 0, 0, 0, 0, 0, 0], "1::"),
+        ([0, 0, 0, 0, 0, 0xffff, 0xc000, 0x201], "::ffff:c000:201"),
+        (
+            [0x2001, 0xdb8, 0x85a3, 0, 0, 0x8a2e, 0x370, 0x7334],
+            "2001:db8:85a3::8a2e:370:7334",
+        ),
+        ([0xffff; 8], "ffff:ffff:ffff:ffff:ffff:ffff:ffff:ffff"),
+    ];
+    for (segments, text) in rows {
+        assert_eq!(rt;
+            ipv6_text(Ipv6Addr::from(segments)).as_slice(),
+            text.as_bytes()
+        );
     }
     Ok(())
 }
