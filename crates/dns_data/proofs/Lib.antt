@@ -10,6 +10,7 @@ pub mod NumberLaws
 pub mod NumberLemmas
 pub mod OrderLemmas
 pub mod PartLaws
+pub mod RecordOrderLemmas
 pub mod RunLemmas
 pub mod SameLemmas
 pub mod StepLaws

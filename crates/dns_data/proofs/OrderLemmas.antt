@@ -1,7 +1,7 @@
 -- The order of texts of items: the first item that differs decides.
-use Rattle.std.proofs.Common.{◌≡◌, ℕ, zero, suc, ◌+◌, ◌*◌, ◌<◌, ◌/◌, ◌%◌, ◌⊎◌, inl, inr, Bool, true, ◌&&◌, List, [], ◌∷◌, ◌++◌, length, map, refl, sym, ap, ◌∙◌, append_assoc, arith}
+use Rattle.std.proofs.Common.{◌≡◌, ℕ, zero, suc, ◌<◌, ◌/◌, ◌%◌, ◌⊎◌, inl, inr, Bool, true, ◌&&◌, List, [], ◌∷◌, ◌++◌, length, map, refl, sym, ap, ◌∙◌, arith}
 use Rattle.std.specs.Prelude.{⊤, decimal, slice_index, nat_lt, ◌≤◌}
-use Rattle.std.specs.List.{All, AllByRecursion, list_all}
+use Rattle.std.specs.List.{AllByRecursion, list_all}
 use Rattle.std.specs.declared.cmp.Ordering.{Ordering}
 use Rattle.std.specs.declared.cmp.Ordering.TheVariants.{Less, Equal, Greater}
 use Rattle.std.specs.Ordering.{nat_cmp, ordering_then}
@@ -10,7 +10,6 @@ use Rattle.std.proofs.lemmas.Bool.{and_parts, cases_lt}
 use Rattle.std.proofs.lemmas.Bool.Decides.{nat_tests}
 use Rattle.std.proofs.lemmas.List.Elements.{recursion_from_All}
 use Rattle.hex.specs.Hex.{lower_digits, encode_with, encode_lower}
-use Rattle.dns_names.specs.Spelling.{name_text}
 use Rattle.dns_names.proofs.KeyLaws.{three, tied, less, greater}
 use Rattle.dns_data.specs.declared.ds.DelegationSigner.{DelegationSigner}
 use Rattle.dns_data.specs.declared.rdata.MailExchange.{MailExchange}
@@ -18,7 +17,7 @@ use Rattle.dns_data.specs.declared.rdata.Service.{Service}
 use Rattle.dns_data.specs.declared.soa.SoaFields.{SoaFields}
 use Rattle.dns_data.specs.Digests.{IsDigest}
 use Rattle.dns_data.specs.Items.{plain, items_text}
-use Rattle.dns_data.proofs.CutLemmas.{IsVisible, AreVisible, AreVisibleTexts}
+use Rattle.dns_data.proofs.CutLemmas.{IsVisible, AreVisibleTexts}
 use Rattle.dns_data.proofs.ApartLaws.{soa_texts, mx_texts, srv_texts, ds_texts, soa_visible, mx_visible, srv_visible, ds_visible}
 
 abbrev pub by_octets : List ℕ → List ℕ → Ordering
@@ -47,9 +46,9 @@ visible_then (a ∷ x) (b ∷ y) s t seen also =
     elim (three a b) [
       | inl l ↦ rw l.0 refl
       | inr r ↦ elim r [
-          | inl e ↦ rw (e, tied b) (visible_then x y s t seen.1 also.1)
-          | inr g ↦ rw g.0 refl
-        ]
+        | inl e ↦ rw (e, tied b) (visible_then x y s t seen.1 also.1)
+        | inr g ↦ rw g.0 refl
+      ]
     ]
 
 -- the orders of texts in turn
@@ -148,11 +147,11 @@ digest_order (a ∷ x) (b ∷ y) below also =
     elim (cases_lt a b) [
       | inl l ↦ rw (pair_before a b (encode_lower x) (encode_lower y) also.0 l, less a b l) refl
       | inr h ↦ elim (cases_lt b a) [
-          | inl g ↦ rw (pair_after b a (encode_lower y) (encode_lower x) below.0 g, greater a b g) refl
-          | inr k ↦
-              let same : a ≡ b = omega arith in
-              rw (same, tied b, tied (slice_index lower_digits (b / 16)), tied (slice_index lower_digits (b % 16))) (digest_order x y below.1 also.1)
-        ]
+        | inl g ↦ rw (pair_after b a (encode_lower y) (encode_lower x) below.0 g, greater a b g) refl
+        | inr k ↦
+            let same : a ≡ b = omega arith in
+            rw (same, tied b, tied (slice_index lower_digits (b / 16)), tied (slice_index lower_digits (b % 16))) (digest_order x y below.1 also.1)
+      ]
     ]
 
 pub ds_order : (a b : DelegationSigner) → IsDigest a.digest → IsDigest b.digest → ordering_then (in_turn Equal (decimal a.key_tag ∷ decimal a.algorithm ∷ decimal a.digest_type ∷ []) (decimal b.key_tag ∷ decimal b.algorithm ∷ decimal b.digest_type ∷ [])) (by_octets a.digest b.digest) ≡ by_octets (items_text (map plain (ds_texts a))) (items_text (map plain (ds_texts b)))

@@ -1,8 +1,8 @@
 -- The order of texts of strings: the first string that differs decides, and in it the first octet.
-use Rattle.std.proofs.Common.{◌≡◌, ◌≢◌, ℕ, ◌<◌, ◌||◌, ◌&&◌, eqb, leb, cond, Result, Ok, Bool, List, [], ◌∷◌, ◌++◌, refl, sym, ap, subst, ◌∙◌, append_assoc, arith}
-use Rattle.std.specs.List.{AllByRecursion, flat_map}
+use Rattle.std.proofs.Common.{◌≡◌, ◌≢◌, ℕ, ◌<◌, ◌||◌, ◌&&◌, eqb, leb, cond, List, [], ◌∷◌, ◌++◌, refl, sym, ap, ◌∙◌}
+use Rattle.std.specs.List.{flat_map}
 use Rattle.std.specs.declared.cmp.Ordering.{Ordering}
-use Rattle.std.specs.declared.cmp.Ordering.TheVariants.{Less, Equal, Greater}
+use Rattle.std.specs.declared.cmp.Ordering.TheVariants.{Equal}
 use Rattle.std.specs.Ordering.{ordering_then}
 use Rattle.std.proofs.lemmas.Bool.{cond_both, or_parts, eqb-false}
 use Rattle.dns_names.specs.declared.symbol.Symbol.{Symbol}
@@ -15,8 +15,8 @@ use Rattle.dns_data.specs.Items.{items_text}
 use Rattle.dns_data.specs.Strings.{IsString, octet_text, string_text, symbol_octet}
 use Rattle.dns_data.specs.Text.{strings_items}
 use Rattle.dns_data.proofs.OrderLemmas.{by_octets}
-use Rattle.dns_data.proofs.StringLaws.{SymbolOf, symbol_of, octet_text_spells}
-use Rattle.dns_data.proofs.TextLemmas.{quoted, behind, strings_text}
+use Rattle.dns_data.proofs.StringLaws.{symbol_of, octet_text_spells}
+use Rattle.dns_data.proofs.TextLemmas.{behind, strings_text}
 
 -- ---- octets
 

@@ -1,6 +1,6 @@
 -- The order in which records are listed: by owner in canonical order (RFC 4034 section 6.1), at one owner SOA first and then
 -- by type number, and then by the octets of the data's text.
-use Rattle.std.specs.Prelude.{ℕ}
+use Rattle.std.specs.Prelude.{ℕ, List}
 use Rattle.std.specs.Ordering.{nat_cmp, on, then_cmp}
 use Rattle.std.specs.declared.cmp.Ordering.{Ordering}
 use Rattle.std.specs.Cmp.{IsTotalOrder, on_total, then_total, nat_cmp_total}
@@ -18,12 +18,21 @@ abbrev pub rank_of : RecordType → ℕ
 rank_of types.Soa = 0
 rank_of record_type = type_number record_type
 
+-- what a record is apart from its TTL: its owner, the place of its type, and the text of its data
+abbrev pub Key : Type 0
+Key = List (List ℕ) × ℕ × List ℕ
+
+abbrev pub key_of : Record → Key
+key_of r = (r.owner, rank_of (type_of r.rdata), data_text r.rdata)
+
+abbrev pub key_cmp : Key → Key → Ordering
+key_cmp = then_cmp (then_cmp (on (λ k. k.0) canonical_cmp) (on (λ k. k.1) nat_cmp)) (on (λ k. k.2) (slice_cmp nat_cmp))
+
+pub key_total : IsTotalOrder key_cmp
+key_total = then_total (then_total (on_total (λ k. k.0) canonical_total) (on_total (λ k. k.1) nat_cmp_total)) (on_total (λ k. k.2) nat_list_cmp_total)
+
 abbrev pub record_order : Record → Record → Ordering
-record_order =
-    then_cmp (then_cmp (on (λ r. r.owner) canonical_cmp) (on (λ r. rank_of (type_of r.rdata)) nat_cmp))
-    (on (λ r. data_text r.rdata) (slice_cmp nat_cmp))
+record_order = on key_of key_cmp
 
 pub record_order_total : IsTotalOrder record_order
-record_order_total =
-    then_total (then_total (on_total (λ r. r.owner) canonical_total) (on_total (λ r. rank_of (type_of r.rdata)) nat_cmp_total))
-    (on_total (λ r. data_text r.rdata) nat_list_cmp_total)
+record_order_total = on_total key_of key_total

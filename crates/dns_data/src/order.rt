@@ -9,12 +9,13 @@ ghost use Rattle.dns_data.specs.Text.{soa_items, mx_items, srv_items, ds_items, 
 ghost use Rattle.dns_data.specs.Rdata.{type_of, SameRecord};
 ghost use Rattle.dns_data.specs.RecordOrder.{rank_of, record_order};
 
+use crate::address_text::{ipv4_text, ipv6_text};
 use crate::ds::DelegationSigner;
 use crate::rdata::{Data, MailExchange, Service};
 use crate::record::Record;
 use crate::record_type::RecordType;
 use crate::soa::SoaFields;
-use crate::strings::{CharacterString, Strings};
+use crate::strings::Strings;
 use crate::text::{ends_quotes, is_escaped};
 use arrayvec::ArrayVec;
 use itoa::Buffer;
@@ -110,8 +111,9 @@ fn cmp_soa(first: &SoaFields, second: &SoaFields) -> Ordering
 fn cmp_mx(first: &MailExchange, second: &MailExchange) -> Ordering
     ensures { result ≡ slice_cmp nat_cmp (items_text (mx_items first.now)) (items_text (mx_items second.now)) }
 {
-    cmp_decimals(u32::from(first.preference), u32::from(second.preference))
-        .then(first.exchange.cmp_text(&second.exchange))
+    cmp_decimals(u32::from(first.preference), u32::from(second.preference)).then(
+        first.exchange.cmp_text(&second.exchange),
+    )
 }
 
 /// The order of the data of two SRV records by their texts.
@@ -132,4 +134,57 @@ fn cmp_ds(first: &DelegationSigner, second: &DelegationSigner) -> Ordering
         .then(cmp_decimals(u32::from(first.algorithm), u32::from(second.algorithm)))
         .then(cmp_decimals(u32::from(first.digest_type), u32::from(second.digest_type)))
         .then(first.digest.octets().cmp(second.digest.octets()))
+}
+
+/// The order of data of one type by the octets of their texts.
+fn cmp_rdata(first: &Data, second: &Data) -> Ordering
+    requires { type_of first.now ≡ type_of second.now }
+    ensures { result ≡ slice_cmp nat_cmp (data_text first.now) (data_text second.now) }
+{
+    match (first, second) {
+        (Data::A(first), Data::A(second)) => {
+            ipv4_text(*first)
+                .as_slice()
+                .cmp(ipv4_text(*second).as_slice())
+        }
+        (Data::Ns(first), Data::Ns(second))
+        | (Data::Cname(first), Data::Cname(second))
+        | (Data::Ptr(first), Data::Ptr(second)) => first.cmp_text(second),
+        (Data::Soa(first), Data::Soa(second)) => cmp_soa(first.fields(), second.fields()),
+        (Data::Mx(first), Data::Mx(second)) => cmp_mx(first, second),
+        (Data::Txt(first), Data::Txt(second)) => cmp_txt(first, second),
+        (Data::Aaaa(first), Data::Aaaa(second)) => {
+            ipv6_text(*first)
+                .as_slice()
+                .cmp(ipv6_text(*second).as_slice())
+        }
+        (Data::Srv(first), Data::Srv(second)) => cmp_srv(first, second),
+        (Data::Ds(first), Data::Ds(second)) => cmp_ds(first, second),
+        _ => unreachable!(),
+    }
+}
+
+/// The place of a type among the records of one owner: SOA first, and then by number.
+fn rank(record_type: RecordType) -> u16
+    ensures { result ≡ rank_of record_type }
+{
+    match record_type {
+        RecordType::Soa => 0,
+        other => other.number(),
+    }
+}
+
+/// The order in which records are listed: by owner in canonical order (RFC 4034 section 6.1), at one owner SOA first and
+/// then by type number, and then by the octets of the data's text. No memory is taken.
+pub fn record_order(first: &Record, second: &Record) -> Ordering
+    ensures order { result ≡ record_order first.now second.now }
+    // Records tie exactly where they are the same.
+    ensures same { (result ≡ Ordering.Equal) ↔ SameRecord first.now second.now }
+{
+    let by_owner = first.owner.cmp(&second.owner);
+    let by_type = rank(first.record_type()).cmp(&rank(second.record_type()));
+    match by_owner.then(by_type) {
+        Ordering::Equal => cmp_rdata(&first.rdata, &second.rdata),
+        order => order,
+    }
 }

@@ -1,5 +1,5 @@
 -- What an addition does to the records that are in a zone.
-use Rattle.std.proofs.Common.{◌≡◌, ℕ, ◌↔◌, inl, inr, Bool, true, false, ◌&&◌, ◌==◌, if◌then◌else◌, Some, None, refl, sym, ap, ◌∙◌}
+use Rattle.std.proofs.Common.{◌≡◌, ◌↔◌, inl, inr, Bool, true, false, ◌&&◌, ◌==◌, Some, None, refl, sym, ap, ◌∙◌}
 use Rattle.std.specs.Bool.{Decides}
 use Rattle.std.specs.Option.{option_map_or}
 use Rattle.std.specs.FinMap.{get}
@@ -8,12 +8,11 @@ use Rattle.std.proofs.lemmas.Bool.Decides.{Decides-at, Decides-and}
 use Rattle.std.proofs.lemmas.List.Elements.{All-contains, All-from_recursion}
 use Rattle.dns_names.proofs.NameLemmas.{same_name-Decides}
 use Rattle.dns_data.specs.declared.record.Record.{Record}
-use Rattle.dns_data.specs.declared.record_type.RecordType.{RecordType}
-use Rattle.dns_data.specs.declared.record_type.RecordType.TheVariants as types
 use Rattle.dns_data.specs.Rdata.{type_of}
 use Rattle.zoneoffice.specs.Effects.{IsIn, IsSoaOf, IsSame, IsWith, IsInPlace, Replaces, IsThere}
 use Rattle.zoneoffice.specs.Outcome.{ZoneOf}
 use Rattle.zoneoffice.specs.Serials.{is_less}
+use Rattle.dns_data.proofs.RecordOrderLemmas.{one_rank}
 use Rattle.zoneoffice.specs.Zones.{Records, rank_of, key_of, without, listing, is_soa, is_at, serial_in, same_records}
 use Rattle.zoneoffice.specs.Zones as zones
 use Rattle.zoneoffice.proofs.EntryLemmas.{All-one}
@@ -23,34 +22,6 @@ use Rattle.zoneoffice.proofs.SoundLemmas.{key_is_soa, soa_told}
 use Rattle.zoneoffice.proofs.ZoneLemmas.{same_records-put}
 
 -- ---- records of one key are the same
-
--- the type in a place
-abbrev at_rank : ℕ → RecordType
-at_rank n =
-    if n == 0 then types.Soa
-    else (if n == 1 then types.A
-    else (if n == 2 then types.Ns
-    else (if n == 5 then types.Cname
-    else (if n == 12 then types.Ptr
-    else (if n == 15 then types.Mx
-    else (if n == 16 then types.Txt
-    else (if n == 28 then types.Aaaa
-    else (if n == 33 then types.Srv else types.Ds))))))))
-
-at_rank-rank_of : (t : RecordType) → at_rank (rank_of t) ≡ t
-at_rank-rank_of types.A = refl
-at_rank-rank_of types.Ns = refl
-at_rank-rank_of types.Cname = refl
-at_rank-rank_of types.Soa = refl
-at_rank-rank_of types.Ptr = refl
-at_rank-rank_of types.Mx = refl
-at_rank-rank_of types.Txt = refl
-at_rank-rank_of types.Aaaa = refl
-at_rank-rank_of types.Srv = refl
-at_rank-rank_of types.Ds = refl
-
-one_rank : (t u : RecordType) → rank_of t ≡ rank_of u → t ≡ u
-one_rank t u e = sym (at_rank-rank_of t) ∙ ap at_rank e ∙ at_rank-rank_of u
 
 key-IsSame : (a b : Record) → (key_of a ≡ key_of b) ↔ IsSame a b
 key-IsSame a b = (λ e. (ap (λ k. k.0) e, one_rank (type_of a.rdata) (type_of b.rdata) (ap (λ k. k.1) e), ap (λ k. k.2) e), λ same i. (same.0 i, rank_of (same.1 i), same.2 i))

@@ -7,26 +7,18 @@ use lib.Pointwise.{pointwise}
 use Rattle.dns_names.specs.Labels.{is_within}
 use Rattle.dns_names.specs.Order.{same_name}
 use Rattle.dns_data.specs.declared.record.Record.{Record}
-use Rattle.dns_data.specs.declared.record_type.RecordType.{RecordType}
 use Rattle.dns_data.specs.declared.record_type.RecordType.TheVariants as types
 use Rattle.dns_data.specs.declared.rdata.Data.{Data}
 use Rattle.dns_data.specs.declared.rdata.Data.TheVariants.{Soa}
 use Rattle.dns_data.specs.declared.soa.SoaFields.{SoaFields}
 use Rattle.dns_data.specs.Rdata.{type_of}
-use Rattle.dns_data.specs.Text.{data_text, record_line}
+use Rattle.dns_data.specs.Text.{record_line}
 use Rattle.dns_data.specs.Types.{type_number}
 use Rattle.zoneoffice.specs.declared.fault.ZoneFault.{ZoneFault}
 use Rattle.zoneoffice.specs.declared.fault.ZoneFault.TheVariants.{RootOrigin, OutOfZone, SoaNotAtOrigin, NoSoa, TwoSoa, NoOriginNs}
+pub use Rattle.dns_data.specs.RecordOrder.{rank_of, key_of}
 use Rattle.zoneoffice.specs.Keys.{Key, key_cmp, key_eq}
 use Rattle.zoneoffice.specs.Serials.{serial_sum, is_less}
-
--- the place of a type among the records of one owner: SOA first, and then by number
-abbrev pub rank_of : RecordType → ℕ
-rank_of types.Soa = 0
-rank_of kind = type_number kind
-
-abbrev pub key_of : Record → Key
-key_of r = (r.owner, rank_of (type_of r.rdata), data_text r.rdata)
 
 -- a set of records of which no two are the same: at most one under each key
 abbrev pub Records : Type 0

@@ -1,4 +1,4 @@
-use Rattle.std.proofs.Common.{sym, rules}
+use Rattle.std.proofs.Common.{sym}
 use Rattle.dns_names.proofs.TextOrderLemmas.{was_even}
 use Rattle.dns_data.proofs.StringOrderLemmas.{texts_order, string_passes}
 use Rattle.dns_data.proofs.order.cmp_txt.Goals as goal
