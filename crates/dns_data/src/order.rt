@@ -60,10 +60,10 @@ fn cmp_strings(first: &[u8], second: &[u8]) -> Ordering
             (None, None) => return Ordering::Equal,
             (None, Some((their, _))) => return b"\"".as_slice().cmp(spelling(*their).as_slice()),
             (Some((our, _)), None) => return spelling(*our).as_slice().cmp(b"\"".as_slice()),
-            (Some((our, our_rest)), Some((their, their_rest))) => {
-                if our != their {
-                    return spelling(*our).as_slice().cmp(spelling(*their).as_slice());
-                }
+            (Some((our, _)), Some((their, _))) if our != their => {
+                return spelling(*our).as_slice().cmp(spelling(*their).as_slice());
+            }
+            (Some((_, our_rest)), Some((_, their_rest))) => {
                 ours = our_rest;
                 theirs = their_rest;
             }

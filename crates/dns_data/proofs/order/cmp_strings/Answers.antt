@@ -18,15 +18,15 @@ returns-in-Some-None c =
     rw (c.cmp-in-Some-None.ensures, c.as_slice-in-Some-None.ensures.value, c.as_slice-in-Some-None-2.ensures, c.spelling-in-Some-None.ensures.text)
     (second_ended octet_text 34 octets_part quote_parts c.args.first.now c.args.second.now l.ours.now l.theirs.now l.invariant some.our.now some.field-0-1-0.now some.ensures.cases.0 (nil_from_length l.theirs.now some.ensures'.cases) c.spelling-in-Some-None.ensures.octet)
 
-pub returns-then-our-their : goal.returns-then-our-their
-returns-then-our-their c =
+pub returns-in-Some-Some : goal.returns-in-Some-Some
+returns-in-Some-Some c =
     let l = c.loop-their in
     let some = c.in-Some-Some in
-    rw (c.cmp-then-our-their.ensures, c.as_slice-then-our-their.ensures.value, c.as_slice-then-our-their-2.ensures.value, c.spelling-then-our-their.ensures.text, c.spelling-then-our-their-2.ensures.text)
-    (differ_here octet_text 34 octets_part quote_parts c.args.first.now c.args.second.now l.ours.now l.theirs.now l.invariant some.our.now some.their.now some.our_rest.now some.their_rest.now some.ensures.cases.0 some.ensures'.cases.0 c.spelling-then-our-their.ensures.octet c.spelling-then-our-their-2.ensures.octet c.if-our-their.true)
+    rw (c.cmp-in-Some-Some.ensures, c.as_slice-in-Some-Some.ensures.value, c.as_slice-in-Some-Some-2.ensures.value, c.spelling-in-Some-Some.ensures.text, c.spelling-in-Some-Some-2.ensures.text)
+    (differ_here octet_text 34 octets_part quote_parts c.args.first.now c.args.second.now l.ours.now l.theirs.now l.invariant some.our.now some.their.now some.field-0-1-0.now some.field-0-1-1.now some.ensures.cases.0 some.ensures'.cases.0 c.spelling-in-Some-Some.ensures.octet c.spelling-in-Some-Some-2.ensures.octet c.if-our-their.true)
 
 pub loop-their-preserved : goal.loop-their-preserved
 loop-their-preserved c =
     let l = c.loop-their in
     let some = c.in-Some-Some in
-    same_here octet_text 34 octets_part quote_parts c.args.first.now c.args.second.now l.ours.now l.theirs.now l.invariant some.our.now some.their.now some.our_rest.now some.their_rest.now some.ensures.cases.0 some.ensures'.cases.0 c.if-our-their.false
+    same_here octet_text 34 octets_part quote_parts c.args.first.now c.args.second.now l.ours.now l.theirs.now l.invariant some.our.now some.their.now some.field-0-1-0.now some.field-0-1-1.now some.ensures.cases.0 some.ensures'.cases.0 c.if-our-their.false
