@@ -1,25 +1,43 @@
 -- What the code that prints names writes.
-use Rattle.std.proofs.Common.{◌≡◌, ℕ, zero, suc, Bool, true, leb, not, ◌&&◌, get_or, leb-true, refl, ◌<◌, ◌/◌, ◌%◌, List, [], ◌∷◌, ◌++◌, false, Option, None, Some, sym, ap, ◌∙◌, append-nil, append_assoc, arith}
-use Rattle.std.specs.List.{flat_map, list_all, AllPass}
+use Rattle.std.proofs.Common.{◌≡◌, ℕ, zero, suc, Bool, true, cond, leb, not, ◌&&◌, get_or, leb-true, refl, ◌<◌, ◌/◌, ◌%◌, ◌+◌, List, [], ◌∷◌, ◌++◌, false, Option, None, Some, sym, ap, ◌∙◌, append-nil, append_assoc, arith}
+use Rattle.std.specs.List.{flat_map, list_all, AllByRecursion, AllPass}
 use Rattle.std.specs.Str.{IsAscii}
-use Rattle.std.proofs.lemmas.Bool.{and_parts}
+use Rattle.std.proofs.lemmas.Bool.{and_parts, cond_both}
+use Rattle.std.proofs.lemmas.Bool.Decides.{nat_tests}
 use Rattle.std.proofs.lemmas.List.Concat.{flat_map-append}
 use Rattle.std.proofs.lemmas.List.Sums.{list_all-from_AllPass}
 use Rattle.std.specs.Option.{is_some}
-use Rattle.std.specs.Char.{is_ascii_graphic}
-use Rattle.std.specs.Fmt.{decimal}
 use Rattle.std.specs.Iterator.{YieldsFirstRef}
 use Rattle.std.specs.Borrow.{Bor}
-use Rattle.std.proofs.lemmas.Fmt.{decimal_digit}
-use Rattle.dns_names.specs.Spelling.{is_special, is_plain, octet_text, label_text, name_text}
+use Rattle.dns_names.specs.Spelling.{three_digits, is_special, is_plain, octet_text, label_text, name_text}
 
--- three digits, one by one
-pub number_text : (o : ℕ) → o < 256 → is_special o ≡ false → is_ascii_graphic o ≡ false → 92 ∷ (decimal (o / 100) ++ (decimal (o / 10 % 10) ++ decimal (o % 10))) ≡ octet_text o
-number_text o fits special graphic =
-    let a = decimal_digit (o / 100) (omega arith) in
-    let b = decimal_digit (o / 10 % 10) (omega arith) in
-    let d = decimal_digit (o % 10) (omega arith) in
-    rw (special, graphic, a, b, d)
+-- ---- octets
+
+ascii_from : (text : List ℕ) → AllByRecursion (λ o. o < 128) text → IsAscii text
+ascii_from [] below i = omega arith
+ascii_from (o ∷ text) below zero = below.0
+ascii_from (o ∷ text) below (suc i) = ascii_from text below.1 i
+
+special_below : (o : ℕ) → is_special o ≡ true → o < 128
+special_below o h = grind (arith, nat_tests)
+
+graphic_below : (o : ℕ) → leb 33 o && leb o 126 ≡ true → o < 128
+graphic_below o h = grind (arith, nat_tests)
+
+-- an octet is printed in ASCII
+pub octet_is_ascii : (o : ℕ) → o < 256 → IsAscii (octet_text o)
+octet_is_ascii o fits =
+    cond_both (is_special o) (92 ∷ o ∷ []) (cond (leb 33 o && leb o 126) (o ∷ []) (92 ∷ three_digits o)) IsAscii
+    (λ special. ascii_from (92 ∷ o ∷ []) (backslash, (special_below o special, tt)))
+    (λ plain. cond_both (leb 33 o && leb o 126) (o ∷ []) (92 ∷ three_digits o) IsAscii
+    (λ graphic. ascii_from (o ∷ []) (graphic_below o graphic, tt))
+    (λ other. ascii_from (92 ∷ three_digits o) (backslash, (digit (o / 100) (omega arith), (digit (o / 10 % 10) (omega arith), (digit (o % 10) (omega arith), tt))))))
+  where
+    backslash : 92 < 128
+    backslash = omega arith
+
+    digit : (d : ℕ) → d < 10 → 48 + d < 128
+    digit d h = omega arith
 
 -- a name that gives no label has none
 pub no_label : (name left : List (List ℕ)) (first : Option (Bor (List ℕ))) → YieldsFirstRef (λ l. l) name first left → is_some first ≡ false → name ≡ []

@@ -59,6 +59,6 @@ RangesOver top = (name : List (List ℕ)) → IsWithin name top ↔ IsInRange (k
 abbrev pub BeginsAll : List (List ℕ) → Type 0
 BeginsAll top = (name : List (List ℕ)) → IsWithin name top ↔ BeginsWith (key_of name) (key_of top)
 
--- the key of an ancestor begins that of the name, and is that of a name that it is within
+-- the key of an ancestor begins that of the name
 abbrev pub BeginsAtAncestor : List (List ℕ) → ℕ → Type 0
 BeginsAtAncestor name n = IfSome (ancestor_key name n) (BeginsWith (key_of name))

@@ -1,14 +1,16 @@
 //! The canonical spelling of names.
 
-ghost use Rattle.std.specs.Prelude.{◌≡◌, ◌∷◌, ◌++◌, Some, IfSome, IfNone};
+ghost use Rattle.std.specs.Prelude.{◌≡◌, ◌<◌, ◌∷◌, ◌++◌, Some, IfSome, IfNone};
 ghost use Rattle.std.specs.List.{AllPass};
+ghost use Rattle.std.specs.Fmt.{WritesOnOk};
 ghost use Rattle.dns_names.specs.Spelling.{is_special, is_plain, octet_text, label_text, name_text};
 
 use crate::name::Name;
+use arrayvec::ArrayVec;
 use std::{fmt, str};
 
 /// Whether an octet means something in a master file, so that a backslash stands before it.
-pub(crate) fn is_special(octet: u8) -> bool
+fn is_special(octet: u8) -> bool
     ensures { result ≡ is_special octet }
 {
     matches!(
@@ -18,29 +20,38 @@ pub(crate) fn is_special(octet: u8) -> bool
 }
 
 /// Whether an octet of a label is printed as it stands.
-pub(crate) fn is_plain(octet: u8) -> bool
+fn is_plain(octet: u8) -> bool
     ensures { result ≡ is_plain octet }
 {
     octet.is_ascii_graphic() && !is_special(octet)
 }
 
 /// An octet of a label, as it is printed.
-#[derive(Clone, Copy)]
-struct OctetText(u8);
-
-impl fmt::Display for OctetText {
-    ghost output = { λ o. Some (octet_text o.0) };
-
-    fn fmt<W: fmt::Write>(&self, f: &mut fmt::Formatter<W>) -> fmt::Result {
-        let octet = self.0;
-        if is_special(octet) {
-            write!(f, "\\{}", char::from(octet))
-        } else if octet.is_ascii_graphic() {
-            write!(f, "{}", char::from(octet))
-        } else {
-            write!(f, "\\{}{}{}", octet / 100, octet / 10 % 10, octet % 10)
-        }
+pub(crate) fn spelling(octet: u8) -> ArrayVec<u8, 4>
+    ensures text { result.items ≡ octet_text octet }
+    ensures octet { octet < 256 }
+{
+    let mut spelling = ArrayVec::new();
+    if is_plain(octet) {
+        spelling.push(octet);
+    } else if is_special(octet) {
+        spelling.push(b'\\');
+        spelling.push(octet);
+    } else {
+        spelling.push(b'\\');
+        spelling.push(b'0' + octet / 100);
+        spelling.push(b'0' + octet / 10 % 10);
+        spelling.push(b'0' + octet % 10);
     }
+    spelling
+}
+
+/// Writes an octet of a label.
+fn write_octet<W: fmt::Write>(f: &mut fmt::Formatter<W>, octet: u8) -> fmt::Result
+    ensures { WritesOnOk W.write_str_gives f.old result (octet_text octet) f.new }
+{
+    let spelling = spelling(octet);
+    f.write_str(unsafe { str::from_utf8_unchecked(spelling.as_slice()) })
 }
 
 /// Octets that are printed as they stand, as text.
@@ -73,7 +84,7 @@ impl fmt::Display for LabelText<'_> {
         let mut rest = self.0;
         while let Some((run, octet, others)) = first_escaped(rest) {
             f.write_str(run)?;
-            write!(f, "{}", OctetText(octet))?;
+            write_octet(f, octet)?;
             rest = others;
         }
         f.write_str(plain_text(rest))?;

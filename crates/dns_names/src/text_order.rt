@@ -5,33 +5,12 @@ ghost use Rattle.std.specs.List.{AllByRecursion, flat_map};
 ghost use Rattle.std.specs.Ordering.{nat_cmp};
 ghost use Rattle.std.specs.Cmp.Lexicographic.{slice_cmp};
 ghost use Rattle.dns_names.specs.Labels.{IsLabel};
-ghost use Rattle.dns_names.specs.Spelling.{octet_text, label_text, name_text};
+ghost use Rattle.dns_names.specs.Spelling.{label_text, name_text};
 
 use crate::labels::Labels;
 use crate::name::Name;
-use crate::text::{is_plain, is_special};
-use arrayvec::ArrayVec;
+use crate::text::spelling;
 use std::cmp::Ordering;
-
-/// An octet of a label, as it is printed.
-fn spelling(octet: u8) -> ArrayVec<u8, 4>
-    ensures text { result.items ≡ octet_text octet }
-    ensures octet { octet < 256 }
-{
-    let mut spelling = ArrayVec::new();
-    if is_plain(octet) {
-        spelling.push(octet);
-    } else if is_special(octet) {
-        spelling.push(b'\\');
-        spelling.push(octet);
-    } else {
-        spelling.push(b'\\');
-        spelling.push(b'0' + octet / 100);
-        spelling.push(b'0' + octet / 10 % 10);
-        spelling.push(b'0' + octet % 10);
-    }
-    spelling
-}
 
 /// The order of two labels with a dot behind each, by their texts.
 fn cmp_labels(first: &[u8], second: &[u8]) -> Ordering

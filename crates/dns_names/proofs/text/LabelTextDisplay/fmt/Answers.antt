@@ -16,7 +16,7 @@ loop-run-preserved g c = λ plain.
     let octet = c.in-Some.octet in
     let wrote = has_written_append _ _ _ _ _ _ now.1 (c.in_ok-write_str.ensures.writes now.1.plain refl) in (
       now.0 ++ (run ++ octet ∷ []),
-      has_written_of_eq _ _ _ _ _ (run_and_octet now.0 run octet found.0) (has_written_append _ _ _ _ _ _ wrote (c.in_ok-write.ensures.writes wrote.plain refl)),
+      has_written_of_eq _ _ _ _ _ (run_and_octet now.0 run octet found.0) (has_written_append _ _ _ _ _ _ wrote (c.in_ok-write_octet.ensures wrote.plain refl)),
       append_assoc now.0 (run ++ octet ∷ []) c.in-Some.others.now ∙ ap (λ (l : List ℕ). now.0 ++ l) (append_assoc run (octet ∷ []) c.in-Some.others.now ∙ sym found.1) ∙ now.2,
     )
 
