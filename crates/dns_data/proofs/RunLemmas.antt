@@ -1,9 +1,10 @@
 -- Printing the octets of a string in runs.
-use Rattle.std.proofs.Common.{◌≡◌, ℕ, zero, suc, ◌+◌, ◌-◌, ◌<◌, ◌≤◌, Bool, true, false, cond, leb, ltb, eqb, List, [], ◌∷◌, ◌++◌, length, take, drop, get_or, Some, None, refl, sym, ap, subst, ◌∙◌, append_assoc, append-nil, length-drop, arith}
+use Rattle.std.proofs.Common.{◌≡◌, ℕ, zero, suc, ◌+◌, ◌-◌, ◌<◌, ◌/◌, ◌%◌, ◌≤◌, Bool, true, false, cond, leb, ltb, eqb, List, [], ◌∷◌, ◌++◌, length, take, drop, get_or, Some, None, refl, sym, ap, subst, ◌∙◌, append_assoc, append-nil, length-drop, arith}
 use Rattle.std.specs.Prelude.{◌||◌, ◌&&◌, not}
 use Rattle.std.specs.List.{AllByRecursion, prefix_len, position}
 use Rattle.std.specs.Str.{IsAscii, IsUtf8}
-use Rattle.std.proofs.lemmas.Bool.{and_parts, leb-true, ltb-false}
+use Rattle.std.proofs.lemmas.Bool.{and_parts, leb-true, ltb-false, cond_both}
+use Rattle.std.proofs.lemmas.Bool.Decides.{nat_tests}
 use Rattle.std.proofs.lemmas.Grind.{flat_map-append}
 use Rattle.std.proofs.lemmas.List.{take-append-drop, take_all, drop_more}
 use Rattle.std.proofs.lemmas.Str.{IsUtf8-from_ascii}
@@ -35,13 +36,34 @@ plain_below o e =
     let le : o ≤ 126 = leb-true o 126 (and_parts (leb 32 o) (leb o 126) graphic).1 in
     omega arith
 
-not_graphic : (marked graphic : Bool) → (not graphic || marked) ≡ true → marked ≡ false → graphic ≡ false
-not_graphic marked true e f = absurd cc
-not_graphic marked false e f = refl
+ascii_from : (text : List ℕ) → AllByRecursion (λ o. o < 128) text → IsAscii text
+ascii_from [] below i = omega arith
+ascii_from (o ∷ text) below zero = below.0
+ascii_from (o ∷ text) below (suc i) = ascii_from text below.1 i
 
--- an octet that is escaped and no quote or backslash is not graphic
-pub escaped_not_graphic : (o : ℕ) → is_escaped o ≡ true → (eqb o 34 || eqb o 92) ≡ false → (leb 32 o && leb o 126) ≡ false
-escaped_not_graphic o e f = not_graphic (eqb o 34 || eqb o 92) (leb 32 o && leb o 126) e f
+marked_below : (o : ℕ) → eqb o 34 || eqb o 92 ≡ true → o < 128
+marked_below o h = grind (arith, nat_tests)
+
+graphic_below : (o : ℕ) → leb 32 o && leb o 126 ≡ true → o < 128
+graphic_below o h = grind (arith, nat_tests)
+
+-- an octet is printed in ASCII
+octet_ascii : (o : ℕ) → o < 256 → IsAscii (octet_text o)
+octet_ascii o fits =
+    cond_both (eqb o 34 || eqb o 92) (92 ∷ o ∷ []) (cond (leb 32 o && leb o 126) (o ∷ []) (92 ∷ three_digits o)) IsAscii
+    (λ marked. ascii_from (92 ∷ o ∷ []) (backslash, (marked_below o marked, tt)))
+    (λ plain. cond_both (leb 32 o && leb o 126) (o ∷ []) (92 ∷ three_digits o) IsAscii
+    (λ graphic. ascii_from (o ∷ []) (graphic_below o graphic, tt))
+    (λ other. ascii_from (92 ∷ three_digits o) (backslash, (digit (o / 100) (omega arith), (digit (o / 10 % 10) (omega arith), (digit (o % 10) (omega arith), tt))))))
+  where
+    backslash : 92 < 128
+    backslash = omega arith
+
+    digit : (d : ℕ) → d < 10 → 48 + d < 128
+    digit d h = omega arith
+
+pub octet_utf8 : (o : ℕ) → o < 256 → IsUtf8 (octet_text o)
+octet_utf8 o fits = IsUtf8-from_ascii (octet_text o) (octet_ascii o fits)
 
 -- ---- runs
 

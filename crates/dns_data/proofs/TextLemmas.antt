@@ -1,12 +1,11 @@
 -- What the code that prints data writes.
-use Rattle.std.proofs.Common.{◌≡◌, ℕ, ◌<◌, ◌≤◌, ◌/◌, ◌%◌, List, [], ◌∷◌, ◌++◌, false, leb, eqb, length, take, drop, get_or, ◌+◌, ◌-◌, refl, sym, ap, ◌∙◌, arith}
-use Rattle.std.specs.Prelude.{◌||◌, ◌&&◌, Result, Ok, Err, IsOk, OnOk}
+use Rattle.std.proofs.Common.{◌≡◌, ℕ, ◌<◌, ◌≤◌, List, [], ◌∷◌, ◌++◌, length, take, drop, get_or, ◌+◌, ◌-◌, refl, sym, ap, ◌∙◌, arith}
+use Rattle.std.specs.Prelude.{Result, Ok, Err, IsOk, OnOk}
 use Rattle.std.proofs.Output.{writes_in_calls_nil}
 use Rattle.std.specs.Fmt.{HasWritten, IsPlainFormatter}
 use Rattle.std.specs.declared.fmt.Formatter.{Formatter}
 use Rattle.std.specs.List.{flat_map}
 use Rattle.std.specs.Fmt.{decimal}
-use Rattle.std.proofs.lemmas.Fmt.{decimal_digit}
 use Rattle.std.proofs.lemmas.List.{append-nil, take-append-drop, take_all, take_more, flat_map_more}
 use Rattle.std.specs.Prelude.{codes}
 use Rattle.dns_names.specs.Spelling.{name_text}
@@ -14,7 +13,7 @@ use Rattle.dns_data.specs.declared.record.Record.{Record}
 use Rattle.dns_data.specs.Items.{ItemText, plain, items_text}
 use Rattle.dns_data.specs.Types.{type_text}
 use Rattle.dns_data.specs.Rdata.{type_of}
-use Rattle.dns_data.specs.Strings.{octet_text, string_text}
+use Rattle.dns_data.specs.Strings.{string_text}
 use Rattle.dns_data.specs.Text.{strings_items, data_items, data_text, record_line}
 
 -- ---- steps
@@ -43,14 +42,6 @@ behind string = 32 ∷ quoted string
 pub strings_text : (first : List ℕ) (others : List (List ℕ)) → quoted first ++ flat_map behind others ≡ items_text (strings_items (first ∷ others))
 strings_text first [] = append-nil (quoted first)
 strings_text first (next ∷ others) = ap (λ (l : List ℕ). quoted first ++ 32 ∷ l) (strings_text next others)
-
--- three digits, one by one
-pub number_text : (o : ℕ) → o < 256 → (eqb o 34 || eqb o 92) ≡ false → (leb 32 o && leb o 126) ≡ false → 92 ∷ (decimal (o / 100) ++ (decimal (o / 10 % 10) ++ decimal (o % 10))) ≡ octet_text o
-number_text o fits special plain =
-    let a = decimal_digit (o / 100) (omega arith) in
-    let b = decimal_digit (o / 10 % 10) (omega arith) in
-    let d = decimal_digit (o % 10) (omega arith) in
-    rw (special, plain, a, b, d)
 
 pub first_and_rest : (strings : List (List ℕ)) (first : List ℕ) → 1 ≤ length strings → first ≡ get_or strings 0 first → strings ≡ first ∷ take (length strings - 1) (drop 1 strings)
 first_and_rest [] first some e = absurd (omega arith)

@@ -4,7 +4,7 @@ ghost use Rattle.std.specs.Prelude.{◌≡◌, ◌↔◌, ◌∷◌, ◌++◌, �
 ghost use Rattle.std.specs.Ordering.{nat_cmp};
 ghost use Rattle.std.specs.Cmp.Lexicographic.{slice_cmp};
 ghost use Rattle.dns_data.specs.Items.{items_text};
-ghost use Rattle.dns_data.specs.Strings.{octet_text, string_text};
+ghost use Rattle.dns_data.specs.Strings.{string_text};
 ghost use Rattle.dns_data.specs.Text.{soa_items, mx_items, srv_items, ds_items, strings_items, data_text};
 ghost use Rattle.dns_data.specs.Rdata.{type_of, SameRecord};
 ghost use Rattle.dns_data.specs.RecordOrder.{rank_of, record_order};
@@ -16,8 +16,7 @@ use crate::record::Record;
 use crate::record_type::RecordType;
 use crate::soa::SoaFields;
 use crate::strings::Strings;
-use crate::text::{ends_quotes, is_escaped};
-use arrayvec::ArrayVec;
+use crate::text::spelling;
 use itoa::Buffer;
 use std::cmp::Ordering;
 
@@ -28,26 +27,6 @@ fn cmp_decimals(first: u32, second: u32) -> Ordering
     let (mut ours, mut theirs) = (Buffer::new(), Buffer::new());
     let (ours, theirs) = (ours.format(first), theirs.format(second));
     ours.as_bytes().cmp(theirs.as_bytes())
-}
-
-/// An octet of a character-string, as it is printed.
-fn spelling(octet: u8) -> ArrayVec<u8, 4>
-    ensures text { result.items ≡ octet_text octet }
-    ensures octet { octet < 256 }
-{
-    let mut spelling = ArrayVec::new();
-    if !is_escaped(octet) {
-        spelling.push(octet);
-    } else if ends_quotes(octet) {
-        spelling.push(b'\\');
-        spelling.push(octet);
-    } else {
-        spelling.push(b'\\');
-        spelling.push(b'0' + octet / 100);
-        spelling.push(b'0' + octet / 10 % 10);
-        spelling.push(b'0' + octet % 10);
-    }
-    spelling
 }
 
 /// The order of two character-strings with a quote behind each, by their texts.

@@ -8,7 +8,7 @@ ghost use Rattle.dns_data.specs.Items.{item_of};
 ghost use Rattle.dns_data.specs.Strings.{IsString};
 ghost use Rattle.dns_data.specs.Rdata.{type_of};
 ghost use Rattle.dns_data.specs.Grammar.{IsData};
-ghost use Rattle.dns_data.specs.Reading.{field, ipv4_of, ipv6_of, name_of, u8_at, u16_at, u32_at, seconds_at, soa_at, mx_at, srv_at, each_string, strings_of, joined, digest_at, ds_at, data_at, data_of};
+ghost use Rattle.dns_data.specs.Reading.{field, ipv4_of, ipv6_of, name_of, u8_at, u16_at, u32_at, seconds_at, soa_at, mx_at, srv_at, each_string, strings_of, joined, digest_at, ds_at, with_rest, data_at, data_of};
 
 use crate::ds::{DelegationSigner, Digest};
 use crate::fault::DataFault;
@@ -97,13 +97,14 @@ fn seconds<'a>(items: &'a [Item<'a>]) -> Result<(Seconds, &'a [Item<'a>]), DataF
     Ok((Seconds(read_duration(raw, u32::MAX)?), rest))
 }
 
+/// The data of an SOA.
 #[tactic(auto, unfolding(crate::specs::Reading::soa_at))]
 fn soa<'a>(
     alloc: Global,
     items: &'a [Item<'a>],
     origin: Option<&Name>,
-) -> Result<(Soa, &'a [Item<'a>]), DataFault>
-    ensures { Reads (λ x. (x.0, map item_of x.1.now)) result (soa_at (option_copied origin.entry) (map item_of items.now)) }
+) -> Result<(Data, &'a [Item<'a>]), DataFault>
+    ensures { Reads (λ x. (x.0, map item_of x.1.now)) result (with_rest Data.Soa (soa_at (option_copied origin.entry) (map item_of items.now))) }
 {
     let (mname, items) = name(alloc, items, origin)?;
     let (rname, items) = name(alloc, items, origin)?;
@@ -121,47 +122,47 @@ fn soa<'a>(
         expire,
         minimum,
     };
-    Ok((Soa::new(alloc, fields)?, items))
+    Ok((Data::Soa(Soa::new(alloc, fields)?), items))
 }
 
+/// The data of an MX.
 #[tactic(auto, unfolding(crate::specs::Reading::mx_at))]
 fn mail_exchange<'a>(
     alloc: Global,
     items: &'a [Item<'a>],
     origin: Option<&Name>,
-) -> Result<(MailExchange, &'a [Item<'a>]), DataFault>
-    ensures { Reads (λ x. (x.0, map item_of x.1.now)) result (mx_at (option_copied origin.entry) (map item_of items.now)) }
+) -> Result<(Data, &'a [Item<'a>]), DataFault>
+    ensures { Reads (λ x. (x.0, map item_of x.1.now)) result (with_rest Data.Mx (mx_at (option_copied origin.entry) (map item_of items.now))) }
 {
     let (preference, items) = number16(items)?;
     let (exchange, items) = name(alloc, items, origin)?;
-    Ok((
-        MailExchange {
-            preference,
-            exchange,
-        },
-        items,
-    ))
+    let mx = MailExchange {
+        preference,
+        exchange,
+    };
+    Ok((Data::Mx(mx), items))
 }
 
+/// The data of an SRV.
 #[tactic(auto, unfolding(crate::specs::Reading::srv_at))]
 fn service<'a>(
     alloc: Global,
     items: &'a [Item<'a>],
     origin: Option<&Name>,
-) -> Result<(Service, &'a [Item<'a>]), DataFault>
-    ensures { Reads (λ x. (x.0, map item_of x.1.now)) result (srv_at (option_copied origin.entry) (map item_of items.now)) }
+) -> Result<(Data, &'a [Item<'a>]), DataFault>
+    ensures { Reads (λ x. (x.0, map item_of x.1.now)) result (with_rest Data.Srv (srv_at (option_copied origin.entry) (map item_of items.now))) }
 {
     let (priority, items) = number16(items)?;
     let (weight, items) = number16(items)?;
     let (port, items) = number16(items)?;
     let (target, items) = name(alloc, items, origin)?;
-    let service = Service {
+    let srv = Service {
         priority,
         weight,
         port,
         target,
     };
-    Ok((service, items))
+    Ok((Data::Srv(srv), items))
 }
 
 /// Each of the items as a character-string.
@@ -210,6 +211,7 @@ fn digest(alloc: Global, items: &[Item]) -> Result<Digest, DataFault>
     Digest::read(alloc, &joined(alloc, items)?)
 }
 
+/// The data of a DS.
 #[tactic(auto, unfolding(crate::specs::Reading::ds_at))]
 fn delegation_signer(alloc: Global, items: &[Item]) -> Result<DelegationSigner, DataFault>
     ensures { Reads (λ ds. ds) result (ds_at (map item_of items.now)) }
@@ -247,27 +249,18 @@ fn data_at<'a>(
             let (target, rest) = name(alloc, items, origin)?;
             Ok((Data::Cname(target), rest))
         }
-        RecordType::Soa => {
-            let (soa, rest) = soa(alloc, items, origin)?;
-            Ok((Data::Soa(soa), rest))
-        }
+        RecordType::Soa => soa(alloc, items, origin),
         RecordType::Ptr => {
             let (target, rest) = name(alloc, items, origin)?;
             Ok((Data::Ptr(target), rest))
         }
-        RecordType::Mx => {
-            let (mx, rest) = mail_exchange(alloc, items, origin)?;
-            Ok((Data::Mx(mx), rest))
-        }
+        RecordType::Mx => mail_exchange(alloc, items, origin),
         RecordType::Txt => Ok((Data::Txt(strings(alloc, items)?), &[])),
         RecordType::Aaaa => {
             let (address, rest) = ipv6(items)?;
             Ok((Data::Aaaa(address), rest))
         }
-        RecordType::Srv => {
-            let (srv, rest) = service(alloc, items, origin)?;
-            Ok((Data::Srv(srv), rest))
-        }
+        RecordType::Srv => service(alloc, items, origin),
         RecordType::Ds => Ok((Data::Ds(delegation_signer(alloc, items)?), &[])),
     }
 }

@@ -13,18 +13,19 @@ use crate::ds::{DelegationSigner, Digest};
 use crate::rdata::{Data, MailExchange, Service};
 use crate::soa::Soa;
 use crate::strings::{CharacterString, Strings};
+use arrayvec::ArrayVec;
 use std::alloc::{AllocError, Global};
 use std::{fmt, str};
 
 /// Whether an octet means something within quotes, so that a backslash stands before it.
-pub(crate) fn ends_quotes(octet: u8) -> bool
+fn ends_quotes(octet: u8) -> bool
     ensures { result ≡ (octet == 34 || octet == 92) }
 {
     matches!(octet, b'"' | b'\\')
 }
 
 /// Whether an octet does not stand for itself within quotes.
-pub(crate) fn is_escaped(octet: u8) -> bool
+fn is_escaped(octet: u8) -> bool
     ensures { result ≡ is_escaped octet }
 {
     !matches!(octet, b' '..=b'~') || ends_quotes(octet)
@@ -46,16 +47,32 @@ fn write_run<W: fmt::Write>(f: &mut fmt::Formatter<W>, octets: &[u8]) -> fmt::Re
     f.write_str(unsafe { str::from_utf8_unchecked(octets) })
 }
 
-/// Writes an octet that does not stand for itself within quotes.
-fn write_escaped<W: fmt::Write>(f: &mut fmt::Formatter<W>, octet: u8) -> fmt::Result
-    requires { is_escaped octet ≡ true }
+/// An octet of a character-string, as it is printed.
+pub(crate) fn spelling(octet: u8) -> ArrayVec<u8, 4>
+    ensures text { result.items ≡ octet_text octet }
+    ensures octet { octet < 256 }
+{
+    let mut spelling = ArrayVec::new();
+    if !is_escaped(octet) {
+        spelling.push(octet);
+    } else if ends_quotes(octet) {
+        spelling.push(b'\\');
+        spelling.push(octet);
+    } else {
+        spelling.push(b'\\');
+        spelling.push(b'0' + octet / 100);
+        spelling.push(b'0' + octet / 10 % 10);
+        spelling.push(b'0' + octet % 10);
+    }
+    spelling
+}
+
+/// Writes an octet as it is printed within quotes.
+fn write_octet<W: fmt::Write>(f: &mut fmt::Formatter<W>, octet: u8) -> fmt::Result
     ensures { WritesOnOk W.write_str_gives f.old result (octet_text octet) f.new }
 {
-    if ends_quotes(octet) {
-        write!(f, "\\{}", char::from(octet))
-    } else {
-        write!(f, "\\{}{}{}", octet / 100, octet / 10 % 10, octet % 10)
-    }
+    let spelling = spelling(octet);
+    f.write_str(unsafe { str::from_utf8_unchecked(spelling.as_slice()) })
 }
 
 /// Octets that stand for themselves go out in runs, each in one piece.
@@ -67,7 +84,7 @@ impl fmt::Display for CharacterString {
         let mut rest = self.octets();
         while let Some(at) = first_escaped(rest) {
             write_run(f, &rest[..at])?;
-            write_escaped(f, rest[at])?;
+            write_octet(f, rest[at])?;
             rest = &rest[at + 1..];
         }
         write_run(f, rest)?;

@@ -12,9 +12,6 @@ loop-at-init g c = ([], c.octets-rest.ensures.octets, λ plain. c.in_ok-write_st
 pub write_run-requires : goal.write_run-requires
 write_run-requires g c = run_plain c.loop-at.rest.now c.in-Some.at (sym c.in-Some.ensures.value)
 
-pub write_escaped-requires : goal.write_escaped-requires
-write_escaped-requires g c = (position-Some is_escaped c.loop-at.rest.now c.in-Some.at 0 (sym c.in-Some.ensures.value)).1
-
 pub loop-at-preserved : goal.loop-at-preserved
 loop-at-preserved g c =
     let l = c.loop-at in
@@ -30,7 +27,7 @@ loop-at-preserved g c =
       λ plain.
           let now = l.invariant.2 plain in
           let more = has_written_append _ _ _ _ _ _ now (c.in_ok-write_run.ensures now.plain (refl {a = true})) in
-          has_written_of_eq _ _ _ _ _ (ap (λ text. 34 ∷ text) (run_text front run o (run_plain rest at found))) (has_written_append _ _ _ _ _ _ more (c.in_ok-write_escaped.ensures more.plain (refl {a = true}))),
+          has_written_of_eq _ _ _ _ _ (ap (λ text. 34 ∷ text) (run_text front run o (run_plain rest at found))) (has_written_append _ _ _ _ _ _ more (c.in_ok-write_octet.ensures more.plain (refl {a = true}))),
     )
 
 pub write_run-requires-2 : goal.write_run-requires-2
