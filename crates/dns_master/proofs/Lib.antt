@@ -1,0 +1,10 @@
+pub mod ScanLemmas
+pub mod ClassLemmas
+pub mod EntryLemmas
+pub mod StepLemmas
+pub mod ReadLemmas
+pub mod GrammarLaws
+pub mod FoundLaws
+pub mod LineLemmas
+pub mod DepthLaws
+pub mod TokenLemmas

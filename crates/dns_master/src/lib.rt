@@ -1,0 +1,16 @@
+//! Master files (RFC 1035 section 5.1): telling the items and the entries of a text apart, and the devices that texts are
+//! read from and written to.
+#![tactic(auto)]
+
+mod entry;
+mod fault;
+mod laws;
+mod line;
+mod reader;
+mod scan;
+mod shape;
+mod token;
+
+pub use fault::MasterFault;
+pub use laws::{depths_are_counted, pieces_are_one_list, pieces_are_read};
+pub use token::{Token, tokens};
