@@ -6,3 +6,4 @@ pub mod Lines
 pub mod Faults
 pub mod Reader
 pub mod Tokens
+pub mod Device

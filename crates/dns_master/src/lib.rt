@@ -2,6 +2,7 @@
 //! read from and written to.
 #![tactic(auto)]
 
+mod device;
 mod entry;
 mod fault;
 mod laws;
@@ -11,6 +12,7 @@ mod scan;
 mod shape;
 mod token;
 
+pub use device::{Counted, DeviceFailed, FaultCount, Pieces, Sink, Source};
 pub use fault::MasterFault;
 pub use laws::{depths_are_counted, pieces_are_one_list, pieces_are_read};
 pub use token::{Token, tokens};
