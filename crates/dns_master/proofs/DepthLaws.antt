@@ -1,5 +1,5 @@
 -- The depth that is carried is the depth that is counted.
-use Rattle.std.proofs.Common.{◌≡◌, ℕ, zero, suc, ◌+◌, ◌-◌, Bool, true, false, eqb, List, [], ◌∷◌, ◌++◌, Option, Result, Ok, refl, ap, ◌∙◌, arith, ne_eqb}
+use Rattle.std.proofs.Common.{◌≡◌, ℕ, zero, suc, ◌+◌, ◌-◌, Bool, false, eqb, List, [], ◌∷◌, ◌++◌, Option, Result, Ok, refl, ap, ◌∙◌, arith, ne_eqb}
 use Rattle.dns_data.specs.Items.{plain, in_quotes}
 use Rattle.dns_master.specs.declared.shape.ShapeFault.{ShapeFault}
 use Rattle.dns_master.specs.Pieces.{Piece, LineEnd, White, Comment, Open, Close, Quoted, Plain, Placed, lexed}

@@ -1,7 +1,6 @@
 -- The pieces of a text, one after the other, and what each does inside an entry.
 use Rattle.std.proofs.Common.{◌≡◌, ℕ, zero, suc, ◌≤◌, Bool, true, false, eqb, List, [], ◌∷◌, length, take, drop, Option, Some, None, Result, Err, refl, sym, ap, subst, ◌∙◌, arith, length-drop, eqb-true}
 use Rattle.std.proofs.lemmas.Bool.{cond_both}
-use Rattle.dns_data.specs.Items.{plain, in_quotes}
 use Rattle.dns_master.specs.declared.shape.ShapeFault.{ShapeFault}
 use Rattle.dns_master.specs.declared.shape.ShapeFault.TheVariants.{QuoteOpen}
 use Rattle.dns_master.specs.Pieces.{Piece, LineEnd, White, Comment, Open, Close, Quoted, Plain, Lexed, scan, line_len, ends_item, is_quote, is_white, quoted, piece_at, before, lexed_within, lexed}

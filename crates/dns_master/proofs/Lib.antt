@@ -7,4 +7,7 @@ pub mod GrammarLaws
 pub mod FoundLaws
 pub mod LineLemmas
 pub mod DepthLaws
+pub mod PlaceLemmas
 pub mod TokenLemmas
+pub mod WalkLaws
+pub mod SpanLaws

@@ -35,6 +35,11 @@ spelled Close = 41 ∷ []
 spelled (Quoted raw) = 34 ∷ raw ++ 34 ∷ []
 spelled (Plain raw) = raw
 
+-- the text that pieces make
+abbrev pub pieces_text : List Piece → List ℕ
+pieces_text [] = []
+pieces_text (p ∷ ps) = spelled p ++ pieces_text ps
+
 -- A piece that may stand before this text: a comment goes to the line's end, an item in quotes to the next quote that no
 -- backslash takes, and another item to an octet that ends it (RFC 1035 section 5.1).
 abbrev pub Stands : Piece → List ℕ → Type 0

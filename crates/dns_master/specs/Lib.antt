@@ -6,4 +6,5 @@ pub mod Lines
 pub mod Faults
 pub mod Reader
 pub mod Tokens
+pub mod Spans
 pub mod Device

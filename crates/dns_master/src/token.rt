@@ -1,10 +1,12 @@
 //! The items of a text with their places.
 
-ghost use Rattle.std.specs.Prelude.{◌≡◌, ◌+◌, ◌-◌, ◌<◌, ◌≤◌, ◌^◌, length, map};
+ghost use Rattle.std.specs.Prelude.{◌≡◌, ◌+◌, ◌-◌, ◌<◌, ◌≤◌, ◌^◌, List, length, map, Ok, IfOk};
+ghost use Rattle.std.specs.List.{AllByRecursion};
 ghost use Rattle.dns_master.specs.Faults.{Gives};
 ghost use Rattle.dns_master.specs.Lines.{Marks};
 ghost use Rattle.dns_master.specs.Reader.{found, GivesAt};
-ghost use Rattle.dns_master.specs.Tokens.{token_at, token_of, placed_tokens, tokens_of};
+ghost use Rattle.dns_master.specs.Spans.{IsSlice, AreInOrder};
+ghost use Rattle.dns_master.specs.Tokens.{TokenText, AreTokens, token_at, token_of, placed_tokens, tokens_of};
 
 use crate::fault::MasterFault;
 use crate::line::{Mark, line_at};
@@ -94,6 +96,15 @@ fn placed_tokens<'a>(alloc: Global, text: &'a [u8]) -> Result<Vec<Token<'a>>, Sh
 /// open one; at the text's end `QuoteOpen` inside quotes, else `ParenOpen` inside parentheses. `NoMemory` comes at the
 /// growth that was refused.
 pub fn tokens<'a>(alloc: Global, text: &'a [u8]) -> Result<Vec<Token<'a>>, MasterFault>
+    // What is answered are the tokens of the pieces of the text.
+    ensures found { IfOk result (λ v. AreTokens text.now (map token_of v.items)) }
+    // A text without a fault is told apart, unless memory runs out.
+    ensures only { (tokens : List TokenText) → AreTokens text.now tokens → Gives (λ v. map token_of v.items) result (Ok tokens) }
+    // Each item is the slice of the text at its place, with its quotes.
+    ensures slices { IfOk result (λ v. AllByRecursion (IsSlice text.now) (map token_of v.items)) }
+    // None begins before the end of the one before.
+    ensures order { IfOk result (λ v. AreInOrder 0 (map token_of v.items)) }
+    // Which refusal it is.
     ensures exact { Gives (λ v. map token_of v.items) result (tokens_of text.now) }
 {
     match placed_tokens(alloc, text) {
