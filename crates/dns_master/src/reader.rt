@@ -1,6 +1,8 @@
 //! A reader that goes from item to item.
 
-ghost use Rattle.std.specs.Prelude.{◌≡◌, ◌+◌, ◌<◌, ◌≤◌, length, ◌^◌};
+ghost use Rattle.std.specs.Prelude.{◌≡◌, ◌∷◌, [], ◌+◌, ◌<◌, ◌≤◌, ℕ, length, take, drop, false, ◌^◌, IfSome, MatchOption};
+ghost use Rattle.dns_data.specs.Items.{item_of, plain, in_quotes};
+ghost use Rattle.dns_master.specs.Pieces.{scan, ends_item, is_quote};
 ghost use Rattle.dns_master.specs.Reader.{NextItem, Shrinks};
 
 use crate::scan::{at_line_end, body_len, first_octet, run_len};
@@ -16,6 +18,45 @@ pub(crate) struct Place<'a> {
     pub outermost: usize,
 }
 
+impl<'a> Place<'a> {
+    /// The place from which this is left, at this depth of parentheses.
+    #[inline(always)]
+    pub(crate) fn new(rest: &'a [u8], depth: usize, outermost: usize) -> Place<'a>
+        ensures rest { result.rest.now ≡ rest.entry.now }
+        ensures depth { result.depth ≡ depth }
+        ensures outermost { result.outermost ≡ outermost }
+    {
+        Place {
+            rest,
+            depth,
+            outermost,
+        }
+    }
+}
+
+/// The item of a text behind its opening quote, and the text behind the closing one, if there is one.
+#[inline]
+fn quoted_item(text: &[u8]) -> Option<(Item<'_>, &[u8])>
+    ensures item { MatchOption result (drop (scan is_quote false text.now) text.now ≡ [])
+        (λ x. (item_of x.0 ≡ in_quotes (take (scan is_quote false text.now) text.now))
+        × ((quote : ℕ) × (drop (scan is_quote false text.now) text.now ≡ quote ∷ x.1.now))) }
+    ensures shorter { IfSome result (λ x. length x.0.raw.now + length x.1.now < length text.now) }
+{
+    let (raw, end) = text.split_at(body_len(text));
+    let (_, rest) = first_octet(end)?;
+    Some((Item { raw, quoted: true }, rest))
+}
+
+/// The unquoted item at the front of a text, and the text behind it.
+#[inline]
+fn plain_item(text: &[u8]) -> (Item<'_>, &[u8])
+    ensures item { item_of result.0 ≡ plain (take (scan ends_item false text.now) text.now) }
+    ensures rest { result.1.now ≡ drop (scan ends_item false text.now) text.now }
+{
+    let (raw, rest) = text.split_at(run_len(text));
+    (Item { raw, quoted: false }, rest)
+}
+
 /// The next item of the entry and the place behind it, or `None` where the entry ends, and then the place behind its end.
 pub(crate) fn next_item<'a>(place: Place<'a>) -> Result<(Option<Item<'a>>, Place<'a>), ShapeFault>
     requires { place.depth + length place.rest.now < 2 ^ 64 }
@@ -27,14 +68,7 @@ pub(crate) fn next_item<'a>(place: Place<'a>) -> Result<(Option<Item<'a>>, Place
     let mut outermost = place.outermost;
     while let Some((octet, after)) = first_octet(rest) {
         match octet {
-            b'\n' if depth == 0 => return Ok((
-                None,
-                Place {
-                    rest: after,
-                    depth,
-                    outermost,
-                },
-            )),
+            b'\n' if depth == 0 => return Ok((None, Place::new(after, depth, outermost))),
             b'\n' | b' ' | b'\t' | b'\r' => rest = after,
             b';' => rest = at_line_end(after),
             b'(' if depth == 0 => {
@@ -52,41 +86,19 @@ pub(crate) fn next_item<'a>(place: Place<'a>) -> Result<(Option<Item<'a>>, Place
                 rest = after;
             }
             b'"' => {
-                let (raw, end) = after.split_at(body_len(after));
-                let Some((_, further)) = first_octet(end) else {
+                let Some((item, behind)) = quoted_item(after) else {
                     return Err(ShapeFault::QuoteOpen(rest.len()));
                 };
-                return Ok((
-                    Some(Item { raw, quoted: true }),
-                    Place {
-                        rest: further,
-                        depth,
-                        outermost,
-                    },
-                ));
+                return Ok((Some(item), Place::new(behind, depth, outermost)));
             }
             _ => {
-                let (raw, end) = rest.split_at(run_len(rest));
-                return Ok((
-                    Some(Item { raw, quoted: false }),
-                    Place {
-                        rest: end,
-                        depth,
-                        outermost,
-                    },
-                ));
+                let (item, behind) = plain_item(rest);
+                return Ok((Some(item), Place::new(behind, depth, outermost)));
             }
         }
     }
     if depth > 0 {
         return Err(ShapeFault::ParenOpen(outermost));
     }
-    Ok((
-        None,
-        Place {
-            rest,
-            depth,
-            outermost,
-        },
-    ))
+    Ok((None, Place::new(rest, depth, outermost)))
 }

@@ -1,4 +1,5 @@
-use Rattle.std.proofs.Common.{◌≡◌, ◌∙◌, length, sym, ap, arith, length-drop, inl, inr, false}
+use Rattle.std.proofs.Common.{◌≡◌, ◌∙◌, length, sym, ap, arith, length-drop, inl, inr, true, false, refl}
+use Rattle.dns_data.specs.Items.{ItemText}
 use Rattle.dns_master.specs.Entries.{from}
 use Rattle.dns_master.specs.Pieces.{line_len, ends_item, is_quote}
 use Rattle.dns_master.proofs.ScanLemmas.{scan_within}
@@ -8,7 +9,7 @@ use Rattle.dns_master.proofs.reader.next_item.Goals as goal
 pub returns-in-10-clause-exact : goal.returns-in-10-clause-exact
 returns-in-10-clause-exact c =
     let l = c.loop-octet in
-    (c.if-depth-eq0.true, sym l.invariant.so_far ∙ at_entry_end l.rest.now c.in-Some.after.now c.in-Some.octet l.depth l.outermost c.in-Some.ensures c.in-10.is c.if-depth-eq0.true)
+    rw (c.new.ensures.rest, c.new.ensures.depth) (c.if-depth-eq0.true, sym l.invariant.so_far ∙ at_entry_end l.rest.now c.in-Some.after.now c.in-Some.octet l.depth l.outermost c.in-Some.ensures c.in-10.is c.if-depth-eq0.true)
 
 pub loop-octet-preserved-in-10-2 : goal.loop-octet-preserved-in-10-2
 loop-octet-preserved-in-10-2 c =
@@ -84,21 +85,20 @@ loop-octet-preserved-in-41-1 c =
       so_far = sym (at_close l.rest.now c.in-Some.after.now c.in-Some.octet l.depth l.outermost c.in-Some.ensures c.in-41.is c.if-depth-eq0-3.false) ∙ l.invariant.so_far;
     }
 
-pub split_at-requires : goal.split_at-requires
-split_at-requires c = omega (arith, c.body_len.ensures, scan_within is_quote false c.in-Some.after.now)
-
-pub returns-in_default-first_octet-clause-exact : goal.returns-in_default-first_octet-clause-exact
-returns-in_default-first_octet-clause-exact c =
+pub returns-in_default-quoted_item-clause-exact : goal.returns-in_default-quoted_item-clause-exact
+returns-in_default-quoted_item-clause-exact c =
     let l = c.loop-octet in
-    sym l.invariant.so_far ∙ at_open_quote l.rest.now c.in-Some.after.now c.in-Some.octet l.depth l.outermost c.in-Some.ensures c.in-34.is c.body_len.result c.split_at.result.1.now c.body_len.ensures c.split_at.ensures.back c.in_default-first_octet.ensures
+    sym l.invariant.so_far ∙ at_open_quote l.rest.now c.in-Some.after.now c.in-Some.octet l.depth l.outermost c.in-Some.ensures c.in-34.is _ _ refl refl c.in_default-quoted_item.ensures.item
 
 pub returns-in-34-clause-exact : goal.returns-in-34-clause-exact
 returns-in-34-clause-exact c =
     let l = c.loop-octet in
-    sym l.invariant.so_far ∙ at_quoted l.rest.now c.in-Some.after.now c.in-Some.octet l.depth l.outermost c.in-Some.ensures c.in-34.is c.body_len.result c.in-Some-first_octet.field-0-0 c.split_at.result.0.now c.split_at.result.1.now c.in-Some-first_octet.further.now c.body_len.ensures c.split_at.ensures.front c.split_at.ensures.back c.in-Some-first_octet.ensures
-
-pub split_at-requires-in_default-octet : goal.split_at-requires-in_default-octet
-split_at-requires-in_default-octet c = omega (arith, c.run_len.ensures, scan_within ends_item false c.loop-octet.rest.now)
+    let item = c.in-Some-quoted_item.item in
+    let read = c.in-Some-quoted_item.ensures.item in
+    let quoted : item.quoted ≡ true = ap (λ (i : ItemText). i.quoted) read.0 in
+    let raw = ap (λ (i : ItemText). i.raw) read.0 in
+    rw (c.new-in-34.ensures.rest, c.new-in-34.ensures.depth, c.new-in-34.ensures.outermost, quoted) (sym l.invariant.so_far
+    ∙ at_quoted l.rest.now c.in-Some.after.now c.in-Some.octet l.depth l.outermost c.in-Some.ensures c.in-34.is _ read.1.0 item.raw.now _ c.in-Some-quoted_item.behind.now refl raw refl read.1.1)
 
 pub returns-in_default-octet-clause-exact : goal.returns-in_default-octet-clause-exact
 returns-in_default-octet-clause-exact c =
@@ -112,7 +112,12 @@ returns-in_default-octet-clause-exact c =
     let n40 : o ≡ 40 → ⊥ = λ h. omega arith in
     let n41 : o ≡ 41 → ⊥ = λ h. omega arith in
     let n34 : o ≡ 34 → ⊥ = λ h. omega arith in
-    sym l.invariant.so_far ∙ at_plain l.rest.now c.in-Some.after.now o l.depth l.outermost c.in-Some.ensures n10 n32 n9 n13 n59 n40 n41 n34 c.run_len.result c.split_at-in_default-octet.result.0.now c.split_at-in_default-octet.result.1.now c.run_len.ensures c.split_at-in_default-octet.ensures.front c.split_at-in_default-octet.ensures.back
+    let item = c.plain_item.result.0 in
+    let quoted : item.quoted ≡ false = ap (λ (i : ItemText). i.quoted) c.plain_item.ensures.item in
+    let raw = ap (λ (i : ItemText). i.raw) c.plain_item.ensures.item in
+    let new = c.new-in_default-octet.ensures in
+    rw (new.rest, new.depth, new.outermost, quoted) (sym l.invariant.so_far
+    ∙ at_plain l.rest.now c.in-Some.after.now o l.depth l.outermost c.in-Some.ensures n10 n32 n9 n13 n59 n40 n41 n34 _ item.raw.now c.plain_item.result.1.now refl raw c.plain_item.ensures.rest)
 
 pub returns-then-depth-gt0-clause-exact : goal.returns-then-depth-gt0-clause-exact
 returns-then-depth-gt0-clause-exact c =
@@ -124,4 +129,4 @@ pub returns-clause-exact : goal.returns-clause-exact
 returns-clause-exact c =
     let l = c.loop-octet in
     let closed : l.depth ≡ 0 = omega arith in
-    (closed, sym l.invariant.so_far ∙ at_end l.rest.now l.depth l.outermost c.in_default.ensures closed)
+    rw (c.new-2.ensures.rest, c.new-2.ensures.depth) (closed, sym l.invariant.so_far ∙ at_end l.rest.now l.depth l.outermost c.in_default.ensures closed)
