@@ -19,11 +19,7 @@ pub(crate) fn read_entry<'a>(
 {
     items.clear();
     lefts.clear();
-    let mut place = Place {
-        rest: text,
-        depth: 0,
-        outermost: 0,
-    };
+    let mut place = Place::new(text, 0, 0);
     'reading: loop {
         let (found, after) = next_item(place)?;
         let Some(item) = found else {

@@ -57,11 +57,7 @@ fn placed_tokens<'a>(alloc: Global, text: &'a [u8]) -> Result<Vec<Token<'a>>, Sh
     ensures { GivesAt (λ v. map token_of v.items) result (placed_tokens text.now) }
 {
     let mut tokens = Vec::new(alloc);
-    let mut place = Place {
-        rest: text,
-        depth: 0,
-        outermost: 0,
-    };
+    let mut place = Place::new(text, 0, 0);
     let mut mark = Mark { at: 0, line: 1 };
     let mut entry: usize = 0;
     let mut filled = false;

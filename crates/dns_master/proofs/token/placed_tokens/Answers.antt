@@ -7,11 +7,11 @@ use Rattle.dns_master.proofs.token.placed_tokens.Goals as goal
 
 pub reading-init : goal.reading-init
 reading-init c = rw c.new-tokens.ensures.items (record {
-  room = omega arith;
-  fits = omega arith;
+  room = omega (arith, ap length c.new-place.ensures.rest);
+  fits = omega (arith, ap length c.new-place.ensures.rest);
   fits_filled = λ e. absurd cc;
   marks = record { within = omega arith; line = refl };
-  so_far = begins c.args.text.now _ refl refl refl;
+  so_far = begins c.args.text.now _ c.new-place.ensures.rest c.new-place.ensures.depth c.new-place.ensures.outermost;
 })
 
 pub returns-then-is_empty : goal.returns-then-is_empty
