@@ -16,3 +16,6 @@ pub use device::{Counted, DeviceFailed, FaultCount, Pieces, Sink, Source};
 pub use fault::MasterFault;
 pub use laws::{depths_are_counted, pieces_are_one_list, pieces_are_read};
 pub use token::{Token, tokens};
+
+#[cfg(test)]
+mod tests;
