@@ -8,3 +8,4 @@ pub mod Reader
 pub mod Tokens
 pub mod Spans
 pub mod Device
+pub mod Turns

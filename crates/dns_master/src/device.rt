@@ -1,6 +1,7 @@
 //! Readers and writers that are asked for one piece at a time, and whose failures are counted.
 
-ghost use Rattle.std.specs.Prelude.{◌≡◌, ◌+◌, ◌<◌, ◌≤◌, ◌↔◌, ℕ, List, Option, Some, None, drop, length, min, vec_len, IfOk, IsErr, OnOk, OnErr};
+ghost use Rattle.std.specs.Prelude.{◌≡◌, ◌+◌, ◌<◌, ◌≤◌, ◌↔◌, ◌⊎◌, ℕ, List, Option, Some, None, drop, length, min, max, vec_len, IfOk, IfErr, IsOk, IsErr, OnOk, OnErr};
+ghost use Rattle.std.specs.IoError.{error_kind};
 ghost use Rattle.std.specs.Io.KnownBytes.{ReadConsumes, WriteAppends};
 
 use std::io::{self, ErrorKind, Read, Write};
@@ -128,6 +129,8 @@ pub struct Pieces {
 }
 
 impl Pieces {
+    ghost use Rattle.dns_master.specs.Turns.{TurnsOnce};
+
     /// Octets to read or to write behind, at most so many in a call, of which the one of this number fails.
     pub fn new(octets: Vec<u8>, most: usize, fails: usize) -> Pieces
         ensures octets { result.octets ≡ octets }
@@ -145,12 +148,14 @@ impl Pieces {
         }
     }
 
-    /// How many octets the next call moves where it is asked for so many.
+    /// How many octets the next call moves where it is asked for so many, or its failure.
     fn turn(&mut self, asked: usize) -> io::Result<usize>
         ensures count { IfOk result (λ count. count ≡ min asked self.old.most) }
         ensures fails { IsErr result ↔ (self.new.calls ≡ self.old.fails) }
-        ensures octets { self.new.octets ≡ self.old.octets }
+        ensures kind { IfErr result (λ e. error_kind e ≡ ErrorKind.Other) }
+        ensures turns { TurnsOnce self.old self.new }
         ensures read { self.new.read ≡ self.old.read }
+        ensures octets { self.new.octets ≡ self.old.octets }
     {
         self.calls = self.calls.saturating_add(1);
         if self.calls == self.fails {
@@ -161,9 +166,18 @@ impl Pieces {
 }
 
 impl Read for Pieces {
+    ghost use Rattle.dns_master.specs.Turns.{TurnsOnce};
+    ghost use Rattle.std.specs.Io.{ReadsAtMost};
+
     ghost remaining = { λ p. Some (drop p.read p.octets.items) };
 
-    fn read(&mut self, buffer: &mut [u8]) -> io::Result<usize> {
+    fn read(&mut self, buffer: &mut [u8]) -> io::Result<usize>
+        ensures bound { ReadsAtMost result buffer.new }
+        ensures bytes { ReadConsumes (Some (drop self.old.read self.old.octets.items)) (Some (drop self.new.read self.new.octets.items)) result buffer.new }
+        ensures most { IfOk result (λ count. count ≤ max self.old.most 1) }
+        ensures fails { IsErr result ↔ (self.new.calls ≡ self.old.fails) }
+        ensures turns { TurnsOnce self.old self.new }
+    {
         let left = self.octets.len() - self.read;
         let room = left.min(buffer.len());
         // a read of none would say that this is the end
@@ -176,15 +190,29 @@ impl Read for Pieces {
 }
 
 impl Write for Pieces {
+    ghost use Rattle.dns_master.specs.Turns.{TurnsOnce};
+    ghost use Rattle.std.specs.Io.{WritesAtMost};
+    ghost use Rattle.std.specs.Io.KnownBytes.{Keeps};
+
     ghost contents = { λ p. Some p.octets.items };
 
-    fn write(&mut self, octets: &[u8]) -> io::Result<usize> {
+    fn write(&mut self, octets: &[u8]) -> io::Result<usize>
+        ensures bound { WritesAtMost result octets.now }
+        ensures bytes { WriteAppends (Some self.old.octets.items) (Some self.new.octets.items) result octets.now }
+        ensures most { IfOk result (λ count. count ≡ min (length octets.now) self.old.most) }
+        ensures fails { self.new.calls ≡ self.old.fails → IsErr result }
+        ensures only { IfErr result (λ e. (self.new.calls ≡ self.old.fails) ⊎ (error_kind e ≡ ErrorKind.OutOfMemory)) }
+        ensures turns { TurnsOnce self.old self.new }
+    {
         let count = self.turn(octets.len())?;
         self.octets.extend_from_slice(&octets[..count])?;
         Ok(count)
     }
 
-    fn flush(&mut self) -> io::Result<()> {
+    fn flush(&mut self) -> io::Result<()>
+        ensures bytes { Keeps (Some self.old.octets.items) (Some self.new.octets.items) }
+        ensures fine { IsOk result }
+    {
         Ok(())
     }
 }
