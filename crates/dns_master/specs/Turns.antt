@@ -1,5 +1,5 @@
 -- The calls of a reader or a writer over memory.
-use Rattle.std.specs.Prelude.{◌≡◌, ℕ, ◌+◌, ◌-◌, ◌^◌, min}
+use Rattle.std.specs.Prelude.{◌≡◌, ◌+◌, ◌-◌, ◌^◌, min}
 use Rattle.dns_master.specs.declared.device.Pieces.{Pieces}
 
 -- one more call is counted, as far as the count goes, and the device goes on as it was made

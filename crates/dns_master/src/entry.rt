@@ -25,9 +25,8 @@ pub(crate) fn read_entry<'a>(
         let Some(item) = found else {
             return Ok(after.rest);
         };
-        let closing = if item.quoted { 1 } else { 0 };
         items.push(item)?;
-        lefts.push(item.raw.len() + closing + after.rest.len())?;
+        lefts.push(after.left_from(item))?;
         place = after;
     }
 }

@@ -1,9 +1,9 @@
 //! A reader that goes from item to item.
 
-ghost use Rattle.std.specs.Prelude.{◌≡◌, ◌∷◌, [], ◌+◌, ◌<◌, ◌≤◌, ℕ, length, take, drop, false, ◌^◌, IfSome, MatchOption};
+ghost use Rattle.std.specs.Prelude.{◌≡◌, ◌∷◌, [], ◌+◌, ◌-◌, ◌<◌, ◌≤◌, ℕ, length, take, drop, false, ◌^◌, IfSome, MatchOption};
 ghost use Rattle.dns_data.specs.Items.{item_of, plain, in_quotes};
 ghost use Rattle.dns_master.specs.Pieces.{scan, ends_item, is_quote};
-ghost use Rattle.dns_master.specs.Reader.{NextItem, Shrinks};
+ghost use Rattle.dns_master.specs.Reader.{found, NextItem, Shrinks};
 
 use crate::scan::{at_line_end, body_len, first_octet, run_len};
 use crate::shape::ShapeFault;
@@ -31,6 +31,15 @@ impl<'a> Place<'a> {
             depth,
             outermost,
         }
+    }
+
+    /// How many octets are left from an item on that ends here, from the first of its own, which is no quote around it.
+    pub(crate) fn left_from(self, item: Item) -> usize
+        requires { length item.raw.now + length self.rest.now < 2 ^ 64 - 1 }
+        ensures { result ≡ (found item.entry self.entry).left }
+    {
+        let closing = if item.quoted { 1 } else { 0 };
+        item.raw.len() + closing + self.rest.len()
     }
 }
 

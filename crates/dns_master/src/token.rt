@@ -40,9 +40,7 @@ fn token_before<'a>(
     ensures exact { token_of result ≡ token_at text.entry.now entry (found item.entry after.entry) }
     ensures within { result.start ≤ length text.entry.now }
 {
-    let closing = if item.quoted { 1 } else { 0 };
-    let left = item.raw.len() + closing + after.rest.len();
-    let start = text.len().saturating_sub(left);
+    let start = text.len().saturating_sub(after.left_from(item));
     let line = line_at(text, mark, start);
     Token {
         item,
