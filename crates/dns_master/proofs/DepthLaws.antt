@@ -6,7 +6,7 @@ use Rattle.dns_master.specs.Pieces.{Piece, LineEnd, White, Comment, Open, Close,
 use Rattle.dns_master.specs.Entries.{◌>>=◌, Split, add, end_of, ended, at_piece, begins_white, split, from}
 use Rattle.dns_master.specs.Depth.{opens, closes, sum_of, depth_behind, split_behind}
 
-sum_more : (count : Piece → ℕ) (front : List Piece) (p : Piece) → sum_of count (front ++ p ∷ []) ≡ sum_of count front + count p
+pub sum_more : (count : Piece → ℕ) (front : List Piece) (p : Piece) → sum_of count (front ++ p ∷ []) ≡ sum_of count front + count p
 sum_more count [] p = omega arith
 sum_more count (q ∷ front) p = omega (arith, sum_more count front p)
 

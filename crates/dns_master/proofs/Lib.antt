@@ -11,3 +11,4 @@ pub mod PlaceLemmas
 pub mod TokenLemmas
 pub mod WalkLaws
 pub mod SpanLaws
+pub mod RefusalLaws

@@ -143,16 +143,16 @@ balanced_read front (p ∷ ps) u h =
 -- ---- texts
 
 -- what is split of a text
-abbrev split_of : List ℕ → Result Split ShapeFault
+abbrev pub split_of : List ℕ → Result Split ShapeFault
 split_of text = split_behind (lexed text).open_quote [] (lexed text).pieces 0
 
-abbrev entries_in : List ℕ → Split → List Entry
+abbrev pub entries_in : List ℕ → Split → List Entry
 entries_in text s = with_entry (white_first text) s.first s.others
 
 text_walked : (text : List ℕ) → IfOk (split_of text) (IsWalked text (lexed text).open_quote [] 0 false (pieces_of (lexed text)))
 text_walked text = walked text (lexed text).open_quote [] (lexed text).pieces 0 0 false (pieces_placed text)
 
-tokens_split : (text : List ℕ) → placed_tokens text ≡ ((split_of text >>= λ s. Ok (entries_in text s)) >>= λ es. Ok (tokens_from text 0 es))
+pub tokens_split : (text : List ℕ) → placed_tokens text ≡ ((split_of text >>= λ s. Ok (entries_in text s)) >>= λ es. Ok (tokens_from text 0 es))
 tokens_split text = ap (λ (r : Result Split ShapeFault). (r >>= λ s. Ok (entries_in text s)) >>= λ es. Ok (tokens_from text 0 es)) (from_counts text)
 
 -- what is read of a text whose pieces are split so

@@ -1,5 +1,5 @@
 -- The depth at a piece, counted: the parentheses that open before it, less those that close (RFC 1035 section 5.1).
-use Rattle.std.specs.Prelude.{◌≡◌, ℕ, ◌+◌, ◌-◌, ◌≤◌, List, [], ◌∷◌, ◌++◌, Option, Result}
+use Rattle.std.specs.Prelude.{◌≡◌, ℕ, ◌+◌, ◌-◌, ◌<◌, ◌≤◌, List, [], ◌∷◌, ◌++◌, Option, Result}
 use Rattle.dns_master.specs.declared.shape.ShapeFault.{ShapeFault}
 use Rattle.dns_master.specs.Pieces.{Piece, Open, Close, Placed}
 use Rattle.dns_master.specs.Entries.{Split, ended, at_piece, begins_white}
@@ -24,6 +24,16 @@ depth_behind ps = sum_of opens ps - sum_of closes ps
 abbrev pub AreBalanced : List Piece → List Piece → Type 0
 AreBalanced front [] = depth_behind front ≡ 0
 AreBalanced front (p ∷ ps) = (closes p ≤ depth_behind front) × AreBalanced (front ++ p ∷ []) ps
+
+-- behind these pieces each parenthesis that closes has an open one
+abbrev pub AreOpened : List Piece → List Piece → Type 0
+AreOpened front [] = Unit {0}
+AreOpened front (p ∷ ps) = (closes p ≤ depth_behind front) × AreOpened (front ++ p ∷ []) ps
+
+-- behind these pieces some parenthesis stays open
+abbrev pub StayOpen : List Piece → List Piece → Type 0
+StayOpen front [] = 0 < depth_behind front
+StayOpen front (p ∷ ps) = (0 < depth_behind front) × StayOpen (front ++ p ∷ []) ps
 
 -- the pieces behind these, split at the line ends of depth 0 (RFC 1035 section 5.1)
 abbrev pub split_behind : Option ℕ → List Piece → List Placed → ℕ → Result Split ShapeFault

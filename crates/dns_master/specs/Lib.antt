@@ -7,5 +7,6 @@ pub mod Faults
 pub mod Reader
 pub mod Tokens
 pub mod Spans
+pub mod Refusals
 pub mod Device
 pub mod Turns

@@ -1,10 +1,11 @@
 //! The items of a text with their places.
 
-ghost use Rattle.std.specs.Prelude.{◌≡◌, ◌+◌, ◌-◌, ◌<◌, ◌≤◌, ◌^◌, List, length, map, Ok, IfOk};
+ghost use Rattle.std.specs.Prelude.{◌≡◌, ◌+◌, ◌-◌, ◌<◌, ◌≤◌, ◌^◌, List, length, map, Ok, IfOk, IfErr};
 ghost use Rattle.std.specs.List.{AllByRecursion};
 ghost use Rattle.dns_master.specs.Faults.{Gives};
 ghost use Rattle.dns_master.specs.Lines.{Marks};
 ghost use Rattle.dns_master.specs.Reader.{found, GivesAt};
+ghost use Rattle.dns_master.specs.Refusals.{HasFault};
 ghost use Rattle.dns_master.specs.Spans.{IsSlice, AreInOrder};
 ghost use Rattle.dns_master.specs.Tokens.{TokenText, AreTokens, token_at, token_of, placed_tokens, tokens_of};
 
@@ -98,6 +99,8 @@ pub fn tokens<'a>(alloc: Global, text: &'a [u8]) -> Result<Vec<Token<'a>>, Maste
     ensures slices { IfOk result (λ v. AllByRecursion (IsSlice text.now) (map token_of v.items)) }
     // None begins before the end of the one before.
     ensures order { IfOk result (λ v. AreInOrder 0 (map token_of v.items)) }
+    // A refusal is a fault of the text.
+    ensures refused { IfErr result (HasFault text.now) }
     // Which refusal it is.
     ensures exact { Gives (λ v. map token_of v.items) result (tokens_of text.now) }
 {

@@ -3,6 +3,7 @@ use Rattle.dns_master.specs.Tokens.{token_of}
 use Rattle.dns_master.specs.Faults.{on_lines}
 use Rattle.dns_master.proofs.WalkLaws.{tokens_found, tokens_read, tokens_or_memory}
 use Rattle.dns_master.proofs.SpanLaws.{tokens_slices, tokens_in_order}
+use Rattle.dns_master.proofs.RefusalLaws.{refusal_is_fault}
 use Rattle.dns_master.proofs.token.tokens.Goals as goal
 
 pub returns-in-Ok-clause-found : goal.returns-in-Ok-clause-found
@@ -21,3 +22,6 @@ returns-in-Ok-clause-order c =
 
 pub returns-in-Err-clause-only : goal.returns-in-Err-clause-only
 returns-in-Err-clause-only c = λ ts h. rw c.on_line.ensures (tokens_or_memory c.args.text.now c.in-Err.fault ts c.in-Err.ensures h)
+
+pub returns-in-Err-clause-refused : goal.returns-in-Err-clause-refused
+returns-in-Err-clause-refused c = rw c.on_line.ensures (refusal_is_fault c.args.text.now c.in-Err.fault c.in-Err.ensures)
