@@ -1,5 +1,6 @@
 -- Tokens stand in the text at their places, in order.
-use Rattle.std.proofs.Common.{◌≡◌, ℕ, suc, ◌+◌, ◌≤◌, Bool, cond, eqb, List, [], ◌∷◌, ◌++◌, length, None, refl, sym, ap, subst, ◌∙◌, arith, length-append}
+use Rattle.std.proofs.Common.{◌≡◌, ℕ, zero, suc, ◌+◌, ◌≤◌, Bool, cond, eqb, List, [], ◌∷◌, ◌++◌, length, None, refl, sym, ap, subst, ◌∙◌, arith, length-append}
+use Rattle.std.specs.Prelude.{All}
 use Rattle.std.specs.List.{AllByRecursion}
 use Rattle.dns_master.specs.Pieces.{Piece, LineEnd, White, Comment, Open, Close, Quoted, Plain}
 use Rattle.dns_master.specs.Grammar.{spelled, pieces_text, ArePieces}
@@ -36,8 +37,13 @@ behind_slices text front (p ∷ ps) entry filled e =
     one_slice text front entry p (pieces_text ps) _ e
     (behind_slices text (front ++ p ∷ []) ps (entry_behind front entry filled p) (filled_behind front filled p) (text_more text front p (pieces_text ps) e))
 
-pub tokens_slices : (text : List ℕ) (ts : List TokenText) → AreTokens text ts → AllByRecursion (IsSlice text) ts
-tokens_slices text ts h = subst (AllByRecursion (IsSlice text)) (sym h.3) (behind_slices text [] h.0 0 _ (pieces_make h.0 text h.1))
+each_listed : {X : Type 0} (P : X → Type 0) (xs : List X) → AllByRecursion P xs → All P xs
+each_listed P [] h k d n = absurd (omega arith)
+each_listed P (x ∷ xs) h zero d n = h.0
+each_listed P (x ∷ xs) h (suc k) d n = each_listed P xs h.1 k d (omega arith)
+
+pub tokens_slices : (text : List ℕ) (ts : List TokenText) → AreTokens text ts → All (IsSlice text) ts
+tokens_slices text ts h = subst (All (IsSlice text)) (sym h.3) (each_listed (IsSlice text) _ (behind_slices text [] h.0 0 _ (pieces_make h.0 text h.1)))
 
 -- ---- order
 

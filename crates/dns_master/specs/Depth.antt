@@ -4,14 +4,17 @@ use Rattle.dns_master.specs.declared.shape.ShapeFault.{ShapeFault}
 use Rattle.dns_master.specs.Pieces.{Piece, Open, Close, Placed}
 use Rattle.dns_master.specs.Entries.{Split, ended, at_piece, begins_white}
 
+-- how many parentheses a piece opens
 abbrev pub opens : Piece → ℕ
 opens Open = 1
 opens p = 0
 
+-- how many parentheses a piece closes
 abbrev pub closes : Piece → ℕ
 closes Close = 1
 closes p = 0
 
+-- a count over all pieces
 abbrev pub sum_of : (Piece → ℕ) → List Piece → ℕ
 sum_of count [] = 0
 sum_of count (p ∷ ps) = count p + sum_of count ps

@@ -5,6 +5,7 @@ use Rattle.dns_master.specs.declared.shape.ShapeFault.{ShapeFault}
 use Rattle.dns_master.specs.declared.shape.ShapeFault.TheVariants.{ParenOpen, ParenClose, QuoteOpen}
 use Rattle.dns_master.specs.Pieces.{Piece, LineEnd, White, Comment, Open, Close, Quoted, Plain, Placed, lexed, is_white}
 
+-- the next step, unless there is a fault
 infixl 10 ◌>>=◌
 abbrev pub ◌>>=◌ : {A B : Type 0} → Result A ShapeFault → (A → Result B ShapeFault) → Result B ShapeFault
 (Ok x) >>= f = f x
@@ -38,6 +39,7 @@ add item s = record { first = item ∷ s.first; others = s.others }
 abbrev pub end_of : Bool → Split → Split
 end_of white s = record { first = []; others = with_entry white s.first s.others }
 
+-- whether a piece is white space
 abbrev pub is_white_piece : Piece → Bool
 is_white_piece (White o) = true
 is_white_piece piece = false

@@ -6,6 +6,7 @@ use Rattle.dns_master.specs.declared.shape.ShapeFault.{ShapeFault}
 use Rattle.dns_master.specs.declared.shape.ShapeFault.TheVariants as shapes
 use Rattle.dns_master.specs.Lines.{line_at}
 
+-- the published number of a refusal
 abbrev pub fault_number : MasterFault → ℕ
 fault_number (ParenOpen line) = 21
 fault_number (ParenClose line) = 22
@@ -56,6 +57,7 @@ on_line text (shapes.ParenClose left) = ParenClose (line_at text (length text - 
 on_line text (shapes.QuoteOpen left) = QuoteOpen (line_at text (length text - left))
 on_line text shapes.NoMemory = NoMemory
 
+-- what is read, or the fault with its line
 abbrev pub on_lines : {A : Type 0} → List ℕ → Result A ShapeFault → Result A MasterFault
 on_lines text (Ok x) = Ok x
 on_lines text (Err fault) = Err (on_line text fault)

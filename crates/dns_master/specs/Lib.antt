@@ -9,4 +9,3 @@ pub mod Tokens
 pub mod Spans
 pub mod Refusals
 pub mod Device
-pub mod Turns

@@ -20,6 +20,7 @@ GivesAt view (Err e) read = RefusesAt e read
 
 -- ---- items
 
+-- what is read from a place on
 abbrev pub from_place : Place → Result Split ShapeFault
 from_place p = from p.depth p.outermost p.rest.now
 
@@ -27,6 +28,7 @@ from_place p = from p.depth p.outermost p.rest.now
 abbrev pub found : Item → Place → Found
 found item after = record { item = item_of item; left = (if item.quoted then suc (length item.raw.now + length after.rest.now) else length item.raw.now + length after.rest.now) }
 
+-- the next item of the entry is this, or none is left of it, and the text goes on at that place
 abbrev pub NextPart : Place → Option Item → Place → Type 0
 NextPart place None after = (after.depth ≡ 0) × (from_place place ≡ (from 0 0 after.rest.now >>= λ s. Ok (end_of (white_first after.rest.now) s)))
 NextPart place (Some item) after = from_place place ≡ (from_place after >>= λ s. Ok (add (found item after) s))
@@ -41,21 +43,25 @@ abbrev pub Shorter : Place → Option Item → Place → Type 0
 Shorter place None after = 0 < length place.rest.now → length after.rest.now < length place.rest.now
 Shorter place (Some item) after = length after.rest.now < length place.rest.now
 
+-- what is left behind a call, which a loop goes on with
 pub record Shrunk (place : Place) (item : Option Item) (after : Place) : Type 0 where
   pub shorter : Shorter place item after
   pub no_longer : length after.rest.now ≤ length place.rest.now
   pub room : after.depth + length after.rest.now ≤ place.depth + length place.rest.now
   pub within : IfSome item (λ i. length i.raw.now + length after.rest.now < 2 ^ 64 - 1)
 
+-- the same of an answer
 abbrev pub Shrinks : Place → Result (Option Item × Place) ShapeFault → Type 0
 Shrinks place (Ok x) = Shrunk place x.0 x.1
 Shrinks place (Err e) = Unit {0}
 
 -- ---- entries
 
+-- the item, without its place
 abbrev pub text_of : Found → ItemText
 text_of f = f.item
 
+-- how many octets are left at the item
 abbrev pub left_of : Found → ℕ
 left_of f = f.left
 
@@ -66,10 +72,12 @@ pub record EntryRead (text : List ℕ) (items : List Item) (lefts : List ℕ) (r
   pub places : map left_of founds ≡ lefts
   pub exact : entries text ≡ (entries rest >>= λ es. Ok (with_entry (white_first text) founds es))
 
+-- the first entry of a text, or its first fault
 abbrev pub ReadsEntry : List ℕ → List Item → List ℕ → Result (Bor (List ℕ)) ShapeFault → Type 0
 ReadsEntry text items lefts (Ok rest) = EntryRead text items lefts rest.now
 ReadsEntry text items lefts (Err e) = RefusesAt e (entries text)
 
+-- the text behind an entry is shorter, unless there was none
 abbrev pub ShorterRest : List ℕ → Result (Bor (List ℕ)) ShapeFault → Type 0
 ShorterRest text (Ok rest) = 0 < length text → length rest.now < length text
 ShorterRest text (Err e) = Unit {0}

@@ -18,6 +18,7 @@ pub record TokenText : Type 0 where
   pub line : ℕ
   pub entry : ℕ
 
+-- a token of a call
 abbrev pub token_of : Token → TokenText
 token_of t = record { item = item_of t.item; start = t.start; line = t.line; entry = t.entry }
 
@@ -57,6 +58,7 @@ AreTokens text tokens = (ps : List Piece) × ArePieces ps None text × AreBalanc
 
 -- ---- by its entries, or the first fault
 
+-- the token of an item of which it is known how many octets are left
 abbrev pub token_at : List ℕ → ℕ → Found → TokenText
 token_at text entry f = record { item = f.item; start = length text - f.left; line = line_at text (length text - f.left); entry = entry }
 

@@ -129,7 +129,7 @@ pub struct Pieces {
 }
 
 impl Pieces {
-    ghost use Rattle.dns_master.specs.Turns.{TurnsOnce};
+    ghost use Rattle.dns_master.specs.Device.{TurnsOnce};
 
     /// Octets to read or to write behind, at most so many in a call, of which the one of this number fails.
     pub fn new(octets: Vec<u8>, most: usize, fails: usize) -> Pieces
@@ -166,7 +166,7 @@ impl Pieces {
 }
 
 impl Read for Pieces {
-    ghost use Rattle.dns_master.specs.Turns.{TurnsOnce};
+    ghost use Rattle.dns_master.specs.Device.{TurnsOnce};
     ghost use Rattle.std.specs.Io.{ReadsAtMost};
 
     ghost remaining = { λ p. Some (drop p.read p.octets.items) };
@@ -190,7 +190,7 @@ impl Read for Pieces {
 }
 
 impl Write for Pieces {
-    ghost use Rattle.dns_master.specs.Turns.{TurnsOnce};
+    ghost use Rattle.dns_master.specs.Device.{TurnsOnce};
     ghost use Rattle.std.specs.Io.{WritesAtMost};
     ghost use Rattle.std.specs.Io.KnownBytes.{Keeps};
 

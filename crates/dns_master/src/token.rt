@@ -1,7 +1,6 @@
 //! The items of a text with their places.
 
-ghost use Rattle.std.specs.Prelude.{◌≡◌, ◌+◌, ◌-◌, ◌<◌, ◌≤◌, ◌^◌, List, length, map, Ok, IfOk, IfErr};
-ghost use Rattle.std.specs.List.{AllByRecursion};
+ghost use Rattle.std.specs.Prelude.{◌≡◌, ◌+◌, ◌-◌, ◌<◌, ◌≤◌, ◌^◌, List, All, length, map, Ok, IfOk, IfErr};
 ghost use Rattle.dns_master.specs.Faults.{Gives};
 ghost use Rattle.dns_master.specs.Lines.{Marks};
 ghost use Rattle.dns_master.specs.Reader.{found, GivesAt};
@@ -96,7 +95,7 @@ pub fn tokens<'a>(alloc: Global, text: &'a [u8]) -> Result<Vec<Token<'a>>, Maste
     // A text without a fault is told apart, unless memory runs out.
     ensures only { (tokens : List TokenText) → AreTokens text.now tokens → Gives (λ v. map token_of v.items) result (Ok tokens) }
     // Each item is the slice of the text at its place, with its quotes.
-    ensures slices { IfOk result (λ v. AllByRecursion (IsSlice text.now) (map token_of v.items)) }
+    ensures slices { IfOk result (λ v. All (IsSlice text.now) (map token_of v.items)) }
     // None begins before the end of the one before.
     ensures order { IfOk result (λ v. AreInOrder 0 (map token_of v.items)) }
     // A refusal is a fault of the text.
