@@ -12,11 +12,12 @@ use Rattle.dns_names.proofs.NameLemmas.{same_name-Decides}
 use Rattle.dns_data.specs.declared.record.Record.{Record}
 use Rattle.dns_data.specs.declared.record_type.RecordType.{RecordType}
 use Rattle.dns_data.specs.declared.record_type.RecordType.TheVariants as types
-use Rattle.dns_data.specs.Rdata.{type_of, IsRecord, SameRecord}
+use Rattle.dns_data.specs.declared.rdata.Data.{Data}
+use Rattle.dns_data.specs.Rdata.{type_of, IsRdata, SameRecord}
 use Rattle.dns_data.specs.Text.{data_text}
-use Rattle.dns_data.specs.RecordOrder.{rank_of, record_order}
+use Rattle.dns_data.specs.RecordOrder.{rank_of, data_order, record_order}
 use Rattle.dns_data.proofs.ApartLaws.{one_text}
-use Rattle.dns_data.proofs.OrderLemmas.{by_octets}
+use Rattle.dns_data.proofs.OrderLemmas.{by_octets, then_assoc}
 
 -- ---- a place is the place of one type
 
@@ -57,33 +58,48 @@ both_tied Less second e = absurd cc
 both_tied Equal second e = (refl, e)
 both_tied Greater second e = absurd cc
 
--- the order by owner and type
-abbrev pub head_order : Record → Record → Ordering
-head_order a b = ordering_then (canonical_cmp a.owner b.owner) (nat_cmp (rank_of (type_of a.rdata)) (rank_of (type_of b.rdata)))
+-- ---- data
 
-module _ (a b : Record) (is : IsRecord a) (also : IsRecord b) where
-  ties_same : record_order a b ≡ Equal → SameRecord a b
+abbrev pub by_type : Data → Data → Ordering
+by_type a b = nat_cmp (rank_of (type_of a)) (rank_of (type_of b))
+
+module _ (a b : Data) (is : IsRdata a) (also : IsRdata b) where
+  ties_same : data_order a b ≡ Equal → a ≡ b
   ties_same e =
-      let whole = both_tied (head_order a b) (by_octets (data_text a.rdata) (data_text b.rdata)) e in
-      let head = both_tied (canonical_cmp a.owner b.owner) (nat_cmp (rank_of (type_of a.rdata)) (rank_of (type_of b.rdata))) whole.0 in
-      let types = one_rank (type_of a.rdata) (type_of b.rdata) (numbers_exact (rank_of (type_of a.rdata)) (rank_of (type_of b.rdata)) head.1) in
-      ((same_name-Decides a.owner b.owner).0 (ap is_eq head.0), one_text a.rdata b.rdata is.rdata also.rdata types (octets_exact (data_text a.rdata) (data_text b.rdata) whole.1))
+      let whole = both_tied (by_type a b) (by_octets (data_text a) (data_text b)) e in
+      let types = one_rank (type_of a) (type_of b) (numbers_exact (rank_of (type_of a)) (rank_of (type_of b)) whole.0) in
+      one_text a b is also types (octets_exact (data_text a) (data_text b) whole.1)
 
-  same_ties : SameRecord a b → record_order a b ≡ Equal
-  same_ties same =
-      rw (same.0, same.1, tied_itself canonical_total b.owner, tied (rank_of (type_of b.rdata)), tied_itself nat_list_cmp_total (data_text b.rdata)) refl
+  same_ties : a ≡ b → data_order a b ≡ Equal
+  same_ties same = rw (same, tied (rank_of (type_of b)), tied_itself nat_list_cmp_total (data_text b)) refl
 
-  pub answers : (order : Ordering) → order ≡ record_order a b → (order ≡ Equal) ↔ SameRecord a b
-  answers order e = (λ even. ties_same (sym e ∙ even), λ same. e ∙ same_ties same)
+  pub data_answers : (order : Ordering) → order ≡ data_order a b → (order ≡ Equal) ↔ (a ≡ b)
+  data_answers order e = (λ even. ties_same (sym e ∙ even), λ same. e ∙ same_ties same)
 
-  module _ (head : Ordering) (head_is : head ≡ head_order a b) where
-    pub by_text : (order : Ordering) → head ≡ Equal → order ≡ by_octets (data_text a.rdata) (data_text b.rdata) → order ≡ record_order a b
-    by_text order even e = e ∙ ap (λ (o : Ordering). ordering_then o (by_octets (data_text a.rdata) (data_text b.rdata))) (sym (sym head_is ∙ even))
+-- the first order decides, unless it ties
+pub decided : (o t : Ordering) → o ≢ Equal → o ≡ ordering_then o t
+decided Less t differ = refl
+decided Equal t differ = absurd (differ refl)
+decided Greater t differ = refl
 
-    pub by_head : head ≢ Equal → head ≡ record_order a b
-    by_head differ = decided head (by_octets (data_text a.rdata) (data_text b.rdata)) differ ∙ ap (λ (o : Ordering). ordering_then o (by_octets (data_text a.rdata) (data_text b.rdata))) head_is
-      where
-        decided : (o t : Ordering) → o ≢ Equal → o ≡ ordering_then o t
-        decided Less t differ = refl
-        decided Equal t differ = absurd (differ refl)
-        decided Greater t differ = refl
+pub tied_then : (o t : Ordering) → o ≡ Equal → t ≡ ordering_then o t
+tied_then o t e = ap (λ (x : Ordering). ordering_then x t) (sym e)
+
+-- ---- records
+
+-- by owner, and then by data
+pub record_is : (a b : Record) → ordering_then (canonical_cmp a.owner b.owner) (data_order a.rdata b.rdata) ≡ record_order a b
+record_is a b = then_assoc (canonical_cmp a.owner b.owner) (by_type a.rdata b.rdata) (by_octets (data_text a.rdata) (data_text b.rdata))
+
+module _ (a b : Record) where
+  owners_same : canonical_cmp a.owner b.owner ≡ Equal → a.owner ≡ b.owner
+  owners_same e = (same_name-Decides a.owner b.owner).0 (ap is_eq e)
+
+  owners_tie : a.owner ≡ b.owner → canonical_cmp a.owner b.owner ≡ Equal
+  owners_tie e = rw (e, tied_itself canonical_total b.owner) refl
+
+  pub answers : canonical_cmp a.owner b.owner ≡ Equal → (order : Ordering) → (order ≡ Equal) ↔ (a.rdata ≡ b.rdata) → (order ≡ Equal) ↔ SameRecord a b
+  answers owners order same = (λ e. (owners_same owners, same.0 e), λ both. same.1 both.1)
+
+  pub differ_answers : (order : Ordering) → order ≡ canonical_cmp a.owner b.owner → order ≢ Equal → (order ≡ Equal) ↔ SameRecord a b
+  differ_answers order is differ = (λ e. absurd (differ e), λ both. is ∙ owners_tie both.0)

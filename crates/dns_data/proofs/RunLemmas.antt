@@ -9,6 +9,7 @@ use Rattle.std.proofs.lemmas.Grind.{flat_map-append}
 use Rattle.std.proofs.lemmas.List.{take-append-drop, take_all, drop_more}
 use Rattle.std.proofs.lemmas.Str.{IsUtf8-from_ascii}
 use Rattle.dns_names.specs.Spelling.{three_digits}
+use Rattle.dns_names.proofs.TextLemmas.{ascii_from}
 use Rattle.dns_data.specs.Strings.{is_escaped, octet_text, string_text}
 
 abbrev pub ArePlain : List ℕ → Type 0
@@ -35,11 +36,6 @@ plain_below o e =
     let graphic = is_graphic (eqb o 34 || eqb o 92) (leb 32 o && leb o 126) e in
     let le : o ≤ 126 = leb-true o 126 (and_parts (leb 32 o) (leb o 126) graphic).1 in
     omega arith
-
-ascii_from : (text : List ℕ) → AllByRecursion (λ o. o < 128) text → IsAscii text
-ascii_from [] below i = omega arith
-ascii_from (o ∷ text) below zero = below.0
-ascii_from (o ∷ text) below (suc i) = ascii_from text below.1 i
 
 marked_below : (o : ℕ) → eqb o 34 || eqb o 92 ≡ true → o < 128
 marked_below o h = grind (arith, nat_tests)

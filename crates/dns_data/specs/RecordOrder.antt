@@ -7,6 +7,7 @@ use Rattle.std.specs.Cmp.{IsTotalOrder, on_total, then_total, nat_cmp_total}
 use Rattle.std.specs.Cmp.Lexicographic.{slice_cmp, nat_list_cmp_total}
 use Rattle.dns_names.specs.Order.{canonical_cmp, canonical_total}
 use Rattle.dns_data.specs.declared.record.Record.{Record}
+use Rattle.dns_data.specs.declared.rdata.Data.{Data}
 use Rattle.dns_data.specs.declared.record_type.RecordType.{RecordType}
 use Rattle.dns_data.specs.declared.record_type.RecordType.TheVariants as types
 use Rattle.dns_data.specs.Rdata.{type_of}
@@ -36,3 +37,7 @@ record_order = on key_of key_cmp
 
 pub record_order_total : IsTotalOrder record_order
 record_order_total = on_total key_of key_total
+
+-- the order of data: by the place of their type, and then by the octets of their text
+abbrev pub data_order : Data → Data → Ordering
+data_order = then_cmp (on (λ d. rank_of (type_of d)) nat_cmp) (on data_text (slice_cmp nat_cmp))

@@ -21,7 +21,7 @@ pub use ds::{DelegationSigner, Digest};
 pub use fault::DataFault;
 pub use item::Item;
 pub use number::{Seconds, Serial, Ttl};
-pub use order::record_order;
+pub use order::{data_order, record_order};
 pub use rdata::{Data, MailExchange, Service};
 pub use reading::read_data;
 pub use record::{Record, record_line, same_record};

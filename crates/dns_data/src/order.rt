@@ -7,13 +7,12 @@ ghost use Rattle.dns_data.specs.Items.{items_text};
 ghost use Rattle.dns_data.specs.Strings.{string_text};
 ghost use Rattle.dns_data.specs.Text.{soa_items, mx_items, srv_items, ds_items, strings_items, data_text};
 ghost use Rattle.dns_data.specs.Rdata.{type_of, SameRecord};
-ghost use Rattle.dns_data.specs.RecordOrder.{rank_of, record_order};
+ghost use Rattle.dns_data.specs.RecordOrder.{data_order, record_order};
 
 use crate::address_text::{ipv4_text, ipv6_text};
 use crate::ds::DelegationSigner;
 use crate::rdata::{Data, MailExchange, Service};
 use crate::record::Record;
-use crate::record_type::RecordType;
 use crate::soa::SoaFields;
 use crate::strings::Strings;
 use crate::text::spelling;
@@ -143,13 +142,17 @@ fn cmp_rdata(first: &Data, second: &Data) -> Ordering
     }
 }
 
-/// The place of a type among the records of one owner: SOA first, and then by number.
-fn rank(record_type: RecordType) -> u16
-    ensures { result ≡ rank_of record_type }
+/// The order of data: by their type, SOA first and then by number, and then by the octets of their texts. No memory is
+/// taken.
+pub fn data_order(first: &Data, second: &Data) -> Ordering
+    ensures order { result ≡ data_order first.now second.now }
+    // Data tie exactly where they are the same.
+    ensures same { (result ≡ Ordering.Equal) ↔ (first.now ≡ second.now) }
 {
-    match record_type {
-        RecordType::Soa => 0,
-        other => other.number(),
+    let by_type = first.record_type().rank().cmp(&second.record_type().rank());
+    match by_type {
+        Ordering::Equal => cmp_rdata(first, second),
+        order => order,
     }
 }
 
@@ -160,10 +163,8 @@ pub fn record_order(first: &Record, second: &Record) -> Ordering
     // Records tie exactly where they are the same.
     ensures same { (result ≡ Ordering.Equal) ↔ SameRecord first.now second.now }
 {
-    let by_owner = first.owner.cmp(&second.owner);
-    let by_type = rank(first.record_type()).cmp(&rank(second.record_type()));
-    match by_owner.then(by_type) {
-        Ordering::Equal => cmp_rdata(&first.rdata, &second.rdata),
+    match first.owner.cmp(&second.owner) {
+        Ordering::Equal => data_order(&first.rdata, &second.rdata),
         order => order,
     }
 }

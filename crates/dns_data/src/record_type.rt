@@ -23,6 +23,7 @@ pub enum RecordType {
 
 impl RecordType {
     ghost use Rattle.dns_data.specs.Types.{type_text, type_number, IsCalled};
+    ghost use Rattle.dns_data.specs.RecordOrder.{rank_of};
 
     /// The types that are kept, by number.
     pub const ALL: [RecordType; 10] = [
@@ -94,6 +95,16 @@ impl RecordType {
         ensures { result ≡ type_number self }
     {
         self.row().1
+    }
+
+    /// The place of the type among the records of one owner: 0 for SOA, and the number for the others.
+    pub const fn rank(self) -> u16
+        ensures { result ≡ rank_of self }
+    {
+        match self {
+            RecordType::Soa => 0,
+            other => other.number(),
+        }
     }
 
     /// The kept type with this number, if there is one.

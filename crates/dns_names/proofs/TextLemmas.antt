@@ -13,7 +13,7 @@ use Rattle.dns_names.specs.Spelling.{three_digits, is_special, is_plain, octet_t
 
 -- ---- octets
 
-ascii_from : (text : List ℕ) → AllByRecursion (λ o. o < 128) text → IsAscii text
+pub ascii_from : (text : List ℕ) → AllByRecursion (λ o. o < 128) text → IsAscii text
 ascii_from [] below i = omega arith
 ascii_from (o ∷ text) below zero = below.0
 ascii_from (o ∷ text) below (suc i) = ascii_from text below.1 i

@@ -1,22 +1,19 @@
-use Rattle.std.proofs.Common.{◌≡◌, refl}
-use Rattle.dns_data.proofs.RecordOrderLemmas.{head_order, answers, by_text, by_head}
+use Rattle.std.proofs.Common.{◌≡◌, ◌≢◌, sym, ◌∙◌, Equal}
+use Rattle.dns_names.specs.Order.{canonical_cmp}
+use Rattle.dns_data.specs.RecordOrder.{data_order}
+use Rattle.dns_data.proofs.RecordOrderLemmas.{record_is, answers, differ_answers, decided}
 use Rattle.dns_data.proofs.order.record_order.Goals as goal
 
 pub returns-in-Equal-clause-same : goal.returns-in-Equal-clause-same
 returns-in-Equal-clause-same c =
-    let a = c.args.first.now in
-    let b = c.args.second.now in
-    let is = c.record_type.ensures.record in
-    let also = c.record_type-2.ensures.record in
-    let head : c.then.result ≡ head_order a b = rw (c.then.ensures, c.cmp-by_owner.ensures, c.cmp-by_type.ensures, c.rank.ensures, c.rank-2.ensures, c.record_type.ensures.value, c.record_type-2.ensures.value) refl in
-    answers a b is also c.cmp_rdata.result (by_text a b is also c.then.result head c.cmp_rdata.result c.in-Equal.is c.cmp_rdata.ensures)
+    answers c.args.first.now c.args.second.now (sym c.cmp.ensures ∙ c.in-Equal.is) c.data_order.result c.data_order.ensures.same
 
 pub returns-in_default : goal.returns-in_default
 returns-in_default c =
     let a = c.args.first.now in
     let b = c.args.second.now in
-    let is = c.record_type.ensures.record in
-    let also = c.record_type-2.ensures.record in
-    let head : c.then.result ≡ head_order a b = rw (c.then.ensures, c.cmp-by_owner.ensures, c.cmp-by_type.ensures, c.rank.ensures, c.rank-2.ensures, c.record_type.ensures.value, c.record_type-2.ensures.value) refl in
-    let order = by_head a b is also c.then.result head c.in_default.not-Equal in
-    record { order = order; same = answers a b is also c.then.result order }
+    let differ : c.cmp.result ≢ Equal = c.in_default.not-Equal in
+    record {
+      order = decided c.cmp.result (data_order a.rdata b.rdata) differ ∙ rw c.cmp.ensures (record_is a b);
+      same = differ_answers a b c.cmp.result c.cmp.ensures differ;
+    }
