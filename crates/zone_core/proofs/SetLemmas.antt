@@ -1,0 +1,152 @@
+-- What is found in a set that was made from another, and what a test finds in two sets.
+use Rattle.std.proofs.Common.{◌≡◌, ℕ, List, [], ◌∷◌, Bool, true, false, cond, not, ◌&&◌, ◌==◌, map, Option, Some, None, refl, sym, ap, ◌∙◌, subst}
+use Rattle.std.specs.declared.cmp.Ordering.{Ordering}
+use Rattle.std.specs.declared.cmp.Ordering.TheVariants.{Less, Equal, Greater}
+use Rattle.std.specs.Ordering.{nat_cmp, ordering_then, is_eq}
+use Rattle.std.specs.Cmp.{tied_itself}
+use Rattle.std.specs.Cmp.Lexicographic.{slice_cmp}
+use Rattle.std.specs.FinMap.{entries, len, len-entries, IsAntisymmetric, nat_cmp-IsAntisymmetric, slice_cmp-IsAntisymmetric, get, empty, insert, remove, get-empty, get-insert, get-remove, get-retain_keys, same_map, empty_of_len, len-empty}
+use Rattle.std.proofs.lemmas.Bool.{both_ways, true_from_ne_false, false_from_ne_true, and_parts, eqb-true, not-false}
+use Rattle.std.proofs.lemmas.List.{nil_from_length}
+use Rattle.dns_names.specs.Order.{canonical_cmp, canonical_total, same_name}
+use Rattle.dns_names.proofs.NameLemmas.{same_name-Decides}
+use Rattle.dns_data.specs.declared.record.Record.{Record}
+use Rattle.dns_data.specs.RecordOrder.{key_total}
+use Rattle.zone_core.specs.Sets.{Records, Key, key_of, key_cmp, same_key, part, cut, count, has, put, same_ttl, minus, is_same}
+
+-- ---- tests
+
+pub by_cases : (b : Bool) (A : Type 0) → (b ≡ true → A) → (b ≡ false → A) → A
+by_cases true A when_true when_false = when_true refl
+by_cases false A when_true when_false = when_false refl
+
+-- ---- names and keys that tie are one
+
+both_equal : (a b : Ordering) → ordering_then a b ≡ Equal → (a ≡ Equal) × (b ≡ Equal)
+both_equal Less b e = absurd cc
+both_equal Equal b e = (refl, e)
+both_equal Greater b e = absurd cc
+
+pub is_tied : (r : Ordering) → is_eq r ≡ true → r ≡ Equal
+is_tied Less e = absurd cc
+is_tied Equal e = refl
+is_tied Greater e = absurd cc
+
+pub name_is : (a b : List (List ℕ)) → same_name a b ≡ true → a ≡ b
+name_is a b e = (same_name-Decides a b).0 e
+
+pub name_self : (a : List (List ℕ)) → same_name a a ≡ true
+name_self a = ap is_eq (tied_itself canonical_total a)
+
+pub name_other : (a b : List (List ℕ)) → (a ≡ b → ⊥) → same_name a b ≡ false
+name_other a b differ = false_from_ne_true (same_name a b) (λ e. differ (name_is a b e))
+
+pub one_key : IsAntisymmetric key_cmp
+one_key x y e =
+    let last = both_equal (ordering_then (canonical_cmp x.0 y.0) (nat_cmp x.1 y.1)) (slice_cmp nat_cmp x.2 y.2) e in
+    let front = both_equal (canonical_cmp x.0 y.0) (nat_cmp x.1 y.1) last.0 in
+    let owner = name_is x.0 y.0 (ap is_eq front.0) in
+    let rank = nat_cmp-IsAntisymmetric x.1 y.1 front.1 in
+    let text = slice_cmp-IsAntisymmetric nat_cmp-IsAntisymmetric x.2 y.2 last.1 in
+    λ i. (owner i, rank i, text i)
+
+pub key_is : (a b : Key) → same_key a b ≡ true → a ≡ b
+key_is a b e = one_key a b (is_tied (key_cmp a b) e)
+
+pub key_self : (a : Key) → same_key a a ≡ true
+key_self a = ap is_eq (tied_itself key_total a)
+
+pub key_other : (a b : Key) → (a ≡ b → ⊥) → same_key a b ≡ false
+key_other a b differ = false_from_ne_true (same_key a b) (λ e. differ (key_is a b e))
+
+-- ---- what is found
+
+pub get-part : (a : Records) (p : Key → Bool) (k : Key) → get (part a p) k ≡ cond (p k) (get a k) None
+get-part a p k = get-retain_keys a p k (λ x t. ap p (sym (one_key k x t)))
+
+turned : {A : Type 0} (b : Bool) (x y : A) → cond (not b) x y ≡ cond b y x
+turned true x y = refl
+turned false x y = refl
+
+pub get-cut : (a : Records) (p : Key → Bool) (k : Key) → get (cut a p) k ≡ cond (p k) None (get a k)
+get-cut a p k = get-part a (λ x. not (p x)) k ∙ turned (p k) (get a k) None
+
+pub get-put : (a : Records) (r : Record) (k : Key) → get (put a r) k ≡ cond (same_key k (key_of r)) (Some r) (get a k)
+get-put a r k = get-insert key_total a (key_of r) r k
+
+pub get-gone : (a : Records) (q k : Key) → get (remove a q) k ≡ cond (same_key k q) None (get a k)
+get-gone a q k = get-remove key_total a q k
+
+-- where a test fails, and where it holds
+pub kept_by_cut : (a : Records) (p : Key → Bool) (k : Key) → p k ≡ false → get (cut a p) k ≡ get a k
+kept_by_cut a p k e = get-cut a p k ∙ ap (λ b. cond b None (get a k)) e
+
+pub gone_by_cut : (a : Records) (p : Key → Bool) (k : Key) → p k ≡ true → get (cut a p) k ≡ None
+gone_by_cut a p k e = get-cut a p k ∙ ap (λ b. cond b None (get a k)) e
+
+pub kept_by_put : (a : Records) (r : Record) (k : Key) → (k ≡ key_of r → ⊥) → get (put a r) k ≡ get a k
+kept_by_put a r k differ = get-put a r k ∙ ap (λ b. cond b (Some r) (get a k)) (key_other k (key_of r) differ)
+
+pub found_by_put : (a : Records) (r : Record) → get (put a r) (key_of r) ≡ Some r
+found_by_put a r = get-put a r (key_of r) ∙ ap (λ b. cond b (Some r) (get a (key_of r))) (key_self (key_of r))
+
+pub kept_by_remove : (a : Records) (q k : Key) → (k ≡ q → ⊥) → get (remove a q) k ≡ get a k
+kept_by_remove a q k differ = get-gone a q k ∙ ap (λ b. cond b None (get a k)) (key_other k q differ)
+
+pub gone_by_remove : (a : Records) (q : Key) → get (remove a q) q ≡ None
+gone_by_remove a q = get-gone a q q ∙ ap (λ b. cond b None (get a q)) (key_self q)
+
+pub found_in_part : (a : Records) (p : Key → Bool) (k : Key) → p k ≡ true → get (part a p) k ≡ get a k
+found_in_part a p k e = get-part a p k ∙ ap (λ b. cond b (get a k) None) e
+
+-- ---- two sets in which the same is found
+
+pub same_sets : (a b : Records) → ((k : Key) → get a k ≡ get b k) → a ≡ b
+same_sets a b is = same_map key_total one_key a b is
+
+under : (b : Bool) (x y : Option Record) → (b ≡ true → x ≡ y) → cond b x None ≡ cond b y None
+under true x y e = e refl
+under false x y e = refl
+
+pub same_parts : (a b : Records) (p : Key → Bool) → ((k : Key) → p k ≡ true → get a k ≡ get b k) → part a p ≡ part b p
+same_parts a b p is = same_sets (part a p) (part b p) (λ k. get-part a p k ∙ under (p k) (get a k) (get b k) (is k) ∙ sym (get-part b p k))
+
+pub same_has : (a b : Records) (p : Key → Bool) → ((k : Key) → p k ≡ true → get a k ≡ get b k) → has a p ≡ has b p
+same_has a b p is = ap (λ (s : Records). not (len s == 0)) (same_parts a b p is)
+
+-- ---- a set in which nothing is found
+
+abbrev pub is_empty : Records → Bool
+is_empty set = len set == 0
+
+pub empty_is : (a : Records) → is_empty a ≡ true → a ≡ empty
+empty_is a e = empty_of_len a (eqb-true _ _ e)
+
+pub empty_has : is_empty empty ≡ true
+empty_has = ap (λ n. n == 0) (len-empty key_cmp Record)
+
+pub none_in_empty : (a : Records) (k : Key) → is_empty a ≡ true → get a k ≡ None
+none_in_empty a k e = ap (λ (s : Records). get s k) (empty_is a e) ∙ get-empty key_cmp k
+
+pub none_there : (a : Records) (p : Key → Bool) (k : Key) → has a p ≡ false → p k ≡ true → get a k ≡ None
+none_there a p k e holds = sym (found_in_part a p k holds) ∙ none_in_empty (part a p) k (not-false (is_empty (part a p)) e)
+
+nothing : (b : Bool) (x : Option Record) → (b ≡ true → x ≡ None) → cond b x None ≡ None
+nothing true x e = e refl
+nothing false x e = refl
+
+pub has_nothing : (a : Records) (p : Key → Bool) → ((k : Key) → p k ≡ true → get a k ≡ None) → has a p ≡ false
+has_nothing a p none =
+    let bare : part a p ≡ empty = same_sets (part a p) empty (λ k. get-part a p k ∙ nothing (p k) (get a k) (none k) ∙ sym (get-empty key_cmp k)) in
+    ap (λ (s : Records). not (is_empty s)) bare ∙ ap not empty_has
+
+-- what a test finds, a wider test finds
+pub has_wider : (a : Records) (p q : Key → Bool) → ((k : Key) → p k ≡ true → q k ≡ true) → has a p ≡ true → has a q ≡ true
+has_wider a p q wider found =
+    true_from_ne_false (has a q) (λ none. both_ways (has a p) (has_nothing a p (λ k e. none_there a q k none (wider k e))) found)
+
+pub some_is : (a : Records) (k : Key) (x : Record) → get a k ≡ Some x → get a k ≡ None → ⊥
+some_is a k x e n = let c : Some x ≡ None = sym e ∙ n in absurd cc
+
+pub has_found : (a : Records) (p : Key → Bool) (k : Key) (x : Record) → p k ≡ true → get a k ≡ Some x → has a p ≡ true
+has_found a p k x e found = true_from_ne_false (has a p) (λ none. some_is a k x found (none_there a p k none e))

@@ -1,0 +1,10 @@
+pub mod Serials
+pub mod Sets
+pub mod Faults
+pub mod Zones
+pub mod Views
+pub mod Codes
+pub mod Rcodes
+pub mod Updates
+pub mod Prerequisites
+pub mod Effects

@@ -1,0 +1,92 @@
+-- An update: prerequisites and operations (RFC 2136 sections 2.4 and 2.5).
+use Rattle.std.specs.Prelude.{◌≡◌, ℕ, ◌≤◌, List, length, Bool, not, ◌||◌, nat_lt, if◌then◌else◌, Option, Some, None, Result, Ok, Err, true, false}
+use Rattle.std.specs.List.{filter, AllByRecursion, position}
+use Rattle.std.specs.Option.{option_map, option_or}
+use Rattle.dns_names.specs.Labels.{IsName, IsWithin, is_within}
+use Rattle.dns_data.specs.declared.record.Record.{Record}
+use Rattle.dns_data.specs.declared.rdata.Data.{Data}
+use Rattle.dns_data.specs.Rdata.{IsRecord, IsRdata}
+use Rattle.zone_core.specs.declared.update.Prerequisite.{Prerequisite}
+use Rattle.zone_core.specs.declared.update.Prerequisite.TheVariants.{RrsetExists, RrsetEquals, RrsetAbsent, NameUsed, NameUnused}
+use Rattle.zone_core.specs.declared.update.Operation.{Operation}
+use Rattle.zone_core.specs.declared.update.Operation.TheVariants.{Add, DeleteRrset, DeleteName, DeleteRecord}
+use Rattle.zone_core.specs.declared.update.ItemList.{ItemList}
+use Rattle.zone_core.specs.declared.update.ItemList.TheVariants as lists
+use Rattle.zone_core.specs.declared.update.Place.{Place}
+use Rattle.zone_core.specs.declared.fault.UpdateFault.{UpdateFault}
+use Rattle.zone_core.specs.declared.fault.UpdateFault.TheVariants.{TooManyItems, TwoSoa}
+use Rattle.zone_core.specs.Sets.{Key, key_of}
+use Rattle.zone_core.specs.Zones.{is_soa}
+
+-- prerequisites and operations
+pub record UpdateOf : Type 0 where
+  pub prerequisites : List Prerequisite
+  pub operations : List Operation
+
+-- the name that a prerequisite tests
+abbrev pub tested_name : Prerequisite → List (List ℕ)
+tested_name (RrsetExists name record_type) = name
+tested_name (RrsetEquals name rdata) = name
+tested_name (RrsetAbsent name record_type) = name
+tested_name (NameUsed name) = name
+tested_name (NameUnused name) = name
+
+-- the name at which an operation acts
+abbrev pub acted_name : Operation → List (List ℕ)
+acted_name (Add r) = r.owner
+acted_name (DeleteRrset name record_type) = name
+acted_name (DeleteName name) = name
+acted_name (DeleteRecord name rdata) = name
+
+-- whether an operation adds an SOA
+abbrev pub adds_soa : Operation → Bool
+adds_soa (Add r) = is_soa (key_of r)
+adds_soa op = false
+
+-- ---- what an update is
+
+-- the names and the data of a prerequisite are such
+abbrev pub IsPrerequisite : Prerequisite → Type 0
+IsPrerequisite (RrsetExists name record_type) = IsName name
+IsPrerequisite (RrsetEquals name rdata) = IsName name × IsRdata rdata
+IsPrerequisite (RrsetAbsent name record_type) = IsName name
+IsPrerequisite (NameUsed name) = IsName name
+IsPrerequisite (NameUnused name) = IsName name
+
+-- the record, or the names and the data, of an operation are such
+abbrev pub IsOperation : Operation → Type 0
+IsOperation (Add r) = IsRecord r
+IsOperation (DeleteRrset name record_type) = IsName name
+IsOperation (DeleteName name) = IsName name
+IsOperation (DeleteRecord name rdata) = IsName name × IsRdata rdata
+
+-- at most 64 prerequisites and 256 operations, of which at most one adds an SOA
+pub record IsUpdate (update : UpdateOf) : Type 0 where
+  pub prerequisites : AllByRecursion IsPrerequisite update.prerequisites
+  pub operations : AllByRecursion IsOperation update.operations
+  pub few_prerequisites : length update.prerequisites ≤ 64
+  pub few_operations : length update.operations ≤ 256
+  pub one_soa : length (filter adds_soa update.operations) ≤ 1
+
+-- the update of two lists, or the first fault
+abbrev pub update_of : List Prerequisite → List Operation → Result UpdateOf UpdateFault
+update_of prerequisites operations =
+    if nat_lt 64 (length prerequisites) || nat_lt 256 (length operations) then Err TooManyItems
+    else (if nat_lt 1 (length (filter adds_soa operations)) then Err TwoSoa
+    else Ok (record { prerequisites = prerequisites; operations = operations }))
+
+-- ---- names within the zone (RFC 2136 sections 3.2 and 3.4.1)
+
+-- each item's name is within the origin
+pub record ActsWithin (origin : List (List ℕ)) (update : UpdateOf) : Type 0 where
+  pub prerequisites : AllByRecursion (λ p. IsWithin (tested_name p) origin) update.prerequisites
+  pub operations : AllByRecursion (λ op. IsWithin (acted_name op) origin) update.operations
+
+abbrev pub place_in : ItemList → ℕ → Place
+place_in list i = record { list = list; item = i }
+
+-- the first item whose name is not within the origin, prerequisites before operations
+abbrev pub first_outside : List (List ℕ) → UpdateOf → Option Place
+first_outside origin update =
+    option_or (option_map (place_in lists.Prerequisites) (position (λ p. not (is_within (tested_name p) origin)) update.prerequisites))
+    (option_map (place_in lists.Operations) (position (λ op. not (is_within (acted_name op) origin)) update.operations))

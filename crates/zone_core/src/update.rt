@@ -1,0 +1,268 @@
+//! Updates: prerequisites and operations (RFC 2136 sections 2.4 and 2.5).
+
+ghost use Rattle.std.specs.Prelude.{◌≡◌, ◌↔◌, None, IfOk, length, not};
+ghost use Rattle.std.specs.List.{filter, position};
+ghost use Rattle.dns_names.specs.Labels.{is_within};
+ghost use Rattle.zone_core.specs.Updates.{tested_name, acted_name, adds_soa, update_of, IsUpdate, ActsWithin, first_outside};
+
+use crate::fault::UpdateFault;
+use crate::notes::{notes_operations, notes_prerequisites};
+use crate::rows::has_type;
+use dns_data::{Data, Record, RecordType};
+use dns_names::Name;
+use std::alloc::{AllocError, Global};
+use std::marker::Model;
+
+/// A test of the records before an update (RFC 2136 section 2.4).
+#[derive(Debug, PartialEq, Eq, Drop)]
+pub enum Prerequisite {
+    /// Some record has this owner and type (section 2.4.1).
+    RrsetExists { name: Name, record_type: RecordType },
+    /// These data are among those of the set at this owner, and together with those of the other such tests for the owner
+    /// and type they are all of them (section 2.4.2).
+    RrsetEquals { name: Name, rdata: Data },
+    /// No record has this owner and type (section 2.4.3).
+    RrsetAbsent { name: Name, record_type: RecordType },
+    /// Some record has this owner (section 2.4.4).
+    NameUsed(Name),
+    /// No record has this owner (section 2.4.5).
+    NameUnused(Name),
+}
+
+/// A change of the records at a name (RFC 2136 section 2.5).
+#[derive(Debug, PartialEq, Eq, Drop)]
+pub enum Operation {
+    /// Adds a record to a set (section 2.5.1).
+    Add(Record),
+    /// Deletes a set (section 2.5.2).
+    DeleteRrset { name: Name, record_type: RecordType },
+    /// Deletes all sets at a name (section 2.5.3).
+    DeleteName(Name),
+    /// Deletes a record of a set (section 2.5.4).
+    DeleteRecord { name: Name, rdata: Data },
+}
+
+/// One of the two lists of an update.
+#[derive(Clone, Copy, Debug, PartialEq, Eq)]
+pub enum ItemList {
+    Prerequisites,
+    Operations,
+}
+
+/// An item of an update: its list, and its number in it, from 0.
+#[derive(Clone, Copy, Debug, PartialEq, Eq)]
+pub struct Place {
+    pub list: ItemList,
+    pub item: usize,
+}
+
+impl Prerequisite {
+    /// The name that is tested.
+    pub fn name(&self) -> &Name
+        ensures { result.now ≡ tested_name self.now }
+    {
+        match self {
+            Prerequisite::RrsetExists { name, .. }
+            | Prerequisite::RrsetEquals { name, .. }
+            | Prerequisite::RrsetAbsent { name, .. }
+            | Prerequisite::NameUsed(name)
+            | Prerequisite::NameUnused(name) => name,
+        }
+    }
+
+    /// An equal prerequisite in memory of its own. The only error is want of memory.
+    pub fn try_copy(&self, alloc: Global) -> Result<Prerequisite, AllocError>
+        ensures { IfOk result (λ copy. copy ≡ self.now) }
+    {
+        Ok(match self {
+            Prerequisite::RrsetExists { name, record_type } => Prerequisite::RrsetExists {
+                name: name.try_copy(alloc)?,
+                record_type: *record_type,
+            },
+            Prerequisite::RrsetEquals { name, rdata } => Prerequisite::RrsetEquals {
+                name: name.try_copy(alloc)?,
+                rdata: rdata.try_copy(alloc)?,
+            },
+            Prerequisite::RrsetAbsent { name, record_type } => Prerequisite::RrsetAbsent {
+                name: name.try_copy(alloc)?,
+                record_type: *record_type,
+            },
+            Prerequisite::NameUsed(name) => Prerequisite::NameUsed(name.try_copy(alloc)?),
+            Prerequisite::NameUnused(name) => Prerequisite::NameUnused(name.try_copy(alloc)?),
+        })
+    }
+}
+
+impl Operation {
+    /// The name whose records are changed.
+    pub fn name(&self) -> &Name
+        ensures { result.now ≡ acted_name self.now }
+    {
+        match self {
+            Operation::Add(record) => &record.owner,
+            Operation::DeleteRrset { name, .. }
+            | Operation::DeleteName(name)
+            | Operation::DeleteRecord { name, .. } => name,
+        }
+    }
+
+    /// Whether it adds an SOA.
+    fn adds_soa(&self) -> bool
+        ensures { result ≡ adds_soa self.now }
+    {
+        match self {
+            Operation::Add(record) => has_type(record, RecordType::Soa),
+            _ => false,
+        }
+    }
+
+    /// An equal operation in memory of its own. The only error is want of memory.
+    pub fn try_copy(&self, alloc: Global) -> Result<Operation, AllocError>
+        ensures { IfOk result (λ copy. copy ≡ self.now) }
+    {
+        Ok(match self {
+            Operation::Add(record) => Operation::Add(record.try_copy(alloc)?),
+            Operation::DeleteRrset { name, record_type } => Operation::DeleteRrset {
+                name: name.try_copy(alloc)?,
+                record_type: *record_type,
+            },
+            Operation::DeleteName(name) => Operation::DeleteName(name.try_copy(alloc)?),
+            Operation::DeleteRecord { name, rdata } => Operation::DeleteRecord {
+                name: name.try_copy(alloc)?,
+                rdata: rdata.try_copy(alloc)?,
+            },
+        })
+    }
+}
+
+/// Prerequisites and operations: at most 64 and 256, and at most one operation that adds an SOA.
+#[derive(Debug, Drop)]
+pub struct Update {
+    prerequisites: Vec<Prerequisite>,
+    operations: Vec<Operation>,
+}
+
+impl Model for Update {
+    ghost use Rattle.zone_core.specs.Updates.{UpdateOf, IsUpdate};
+
+    ghost Value = { UpdateOf };
+
+    ghost view = { λ u. record { prerequisites = u.prerequisites.items; operations = u.operations.items } };
+
+    ghost invariant = { λ u. IsUpdate (record { prerequisites = u.prerequisites.items; operations = u.operations.items }) };
+}
+
+impl Update {
+    /// The most prerequisites of an update.
+    pub const PREREQUISITES_MAX: usize = 64;
+
+    /// The most operations of an update.
+    pub const OPERATIONS_MAX: usize = 256;
+
+    /// The update of prerequisites and operations. `TooManyItems` comes above 64 prerequisites or 256 operations, and then
+    /// `TwoSoa` where two operations add an SOA.
+    pub fn build(
+        prerequisites: Vec<Prerequisite>,
+        operations: Vec<Operation>,
+    ) -> Result<Update, UpdateFault>
+        // What is built is an update.
+        ensures found { IfOk result IsUpdate }
+        // Which one it is, or which refusal.
+        ensures exact { result ≡ update_of prerequisites.items operations.items }
+    {
+        if prerequisites.len() > Update::PREREQUISITES_MAX
+            || operations.len() > Update::OPERATIONS_MAX
+        {
+            return Err(UpdateFault::TooManyItems);
+        }
+        if soas_added(&operations) > 1 {
+            return Err(UpdateFault::TwoSoa);
+        }
+        notes_prerequisites(&prerequisites);
+        notes_operations(&operations);
+        Ok(Update {
+            prerequisites,
+            operations,
+        })
+    }
+
+    /// The prerequisites, in order.
+    pub fn prerequisites(&self) -> &[Prerequisite]
+        ensures value { result.now ≡ self.now.prerequisites }
+        // What holds of every update.
+        ensures update { IsUpdate self.now }
+    {
+        &self.prerequisites
+    }
+
+    /// The operations, in order.
+    pub fn operations(&self) -> &[Operation]
+        ensures value { result.now ≡ self.now.operations }
+        ensures update { IsUpdate self.now }
+    {
+        &self.operations
+    }
+
+    /// The first item whose name is not within an origin, prerequisites before operations (RFC 2136 sections 3.2 and
+    /// 3.4.1).
+    pub fn outside(&self, origin: &Name) -> Option<Place>
+        ensures inside { (result ≡ None) ↔ ActsWithin origin.now self.now }
+        ensures exact { result ≡ first_outside origin.now self.now }
+    {
+        let list = ItemList::Prerequisites;
+        if let Some(item) = prerequisite_outside(&self.prerequisites, origin) {
+            return Some(Place { list, item });
+        }
+        let list = ItemList::Operations;
+        operation_outside(&self.operations, origin).map(|item| Place { list, item })
+    }
+
+    /// An equal update in memory of its own. The only error is want of memory.
+    pub fn try_copy(&self, alloc: Global) -> Result<Update, AllocError>
+        ensures { IfOk result (λ copy. copy ≡ self.now) }
+    {
+        let mut prerequisites = Vec::with_capacity(alloc, self.prerequisites.len())?;
+        for prerequisite in &self.prerequisites {
+            prerequisites.push(prerequisite.try_copy(alloc)?)?;
+        }
+        let mut operations = Vec::with_capacity(alloc, self.operations.len())?;
+        for operation in &self.operations {
+            operations.push(operation.try_copy(alloc)?)?;
+        }
+        Ok(Update {
+            prerequisites,
+            operations,
+        })
+    }
+}
+
+/// How many operations add an SOA.
+fn soas_added(operations: &[Operation]) -> usize
+    ensures { result ≡ length (filter adds_soa operations.now) }
+{
+    let mut soas = 0;
+    for operation in operations {
+        if operation.adds_soa() {
+            soas += 1;
+        }
+    }
+    soas
+}
+
+/// The first prerequisite whose name is not within an origin.
+fn prerequisite_outside(prerequisites: &[Prerequisite], origin: &Name) -> Option<usize>
+    ensures { result ≡ position (λ p. not (is_within (tested_name p) origin.now)) prerequisites.now }
+{
+    prerequisites
+        .iter()
+        .position(|prerequisite| !prerequisite.name().is_within(origin))
+}
+
+/// The first operation whose name is not within an origin.
+fn operation_outside(operations: &[Operation], origin: &Name) -> Option<usize>
+    ensures { result ≡ position (λ op. not (is_within (acted_name op) origin.now)) operations.now }
+{
+    operations
+        .iter()
+        .position(|operation| !operation.name().is_within(origin))
+}

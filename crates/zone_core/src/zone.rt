@@ -1,0 +1,114 @@
+//! A zone.
+
+ghost use Rattle.std.specs.Prelude.{◌≡◌, Some, IfOk};
+ghost use Rattle.zone_core.specs.Sets.{set_of, listing, part, at_name, at, within, InOrder};
+ghost use Rattle.zone_core.specs.Zones.{IsZone, IsSoaOf, soa_at, serial_of};
+ghost use Rattle.zone_core.specs.Views.{zone_in, AreOfZone};
+
+use crate::rows;
+use dns_data::{Data, Record, RecordType};
+use dns_names::Name;
+use std::alloc::{AllocError, Global};
+use std::marker::Model;
+
+/// A zone: an origin and a set of records (RFC 1034 section 4.2). It has one SOA, which is at the origin, and an NS there
+/// (RFC 1035 section 5.2); a CNAME stands alone at its name (RFC 1034 section 3.6.2); all owners are within the origin, and
+/// those of a DS below it; no two records are the same, and those of one owner and type have one TTL (RFC 2181 section 5).
+#[derive(Debug, Drop)]
+pub struct Zone {
+    origin: Name,
+    // in record order, in which the SOA comes first
+    records: Vec<Record>,
+}
+
+impl Model for Zone {
+    ghost use Rattle.zone_core.specs.Zones.{ZoneOf};
+    ghost use Rattle.zone_core.specs.Codes.{zone_code};
+
+    ghost Value = { ZoneOf };
+
+    ghost coded = { zone_code };
+
+    ghost use Rattle.zone_core.specs.Views.{zone_in, AreOfZone};
+
+    ghost view = { λ z. zone_in z.origin z.records.items };
+
+    ghost invariant = { λ z. AreOfZone z.origin z.records.items };
+}
+
+impl Zone {
+    /// The zone of records in record order.
+    pub(crate) fn of_rows(origin: Name, records: Vec<Record>) -> Zone
+        requires { AreOfZone origin records.items }
+        ensures { result ≡ zone_in origin records.items }
+    {
+        Zone { origin, records }
+    }
+
+    /// The origin.
+    pub fn origin(&self) -> &Name
+        ensures value { result.now ≡ self.now.origin }
+        // What holds of every zone.
+        ensures zone { IsZone self.now }
+    {
+        &self.origin
+    }
+
+    /// The records, in record order.
+    pub fn records(&self) -> &[Record]
+        ensures value { result.now ≡ listing self.now.records }
+        ensures order { InOrder result.now }
+        ensures set { set_of result.now ≡ self.now.records }
+    {
+        &self.records
+    }
+
+    /// The SOA.
+    pub fn soa(&self) -> &Record
+        ensures one { IsSoaOf self.now result.now }
+        ensures value { soa_at self.now.origin self.now.records ≡ Some result.now }
+    {
+        &self.records[0]
+    }
+
+    /// The serial.
+    pub fn serial(&self) -> u32
+        ensures { result ≡ serial_of self.now }
+    {
+        match &self.soa().rdata {
+            Data::Soa(soa) => soa.fields().serial.0,
+            _ => unreachable!(),
+        }
+    }
+
+    /// The records at a name, in record order.
+    pub fn records_at(&self, name: &Name) -> &[Record]
+        ensures { result.now ≡ listing (part self.now.records (at_name name.now)) }
+    {
+        rows::at_name(&self.records, name)
+    }
+
+    /// The records of a set: those of this owner and type, in record order.
+    pub fn record_set(&self, name: &Name, record_type: RecordType) -> &[Record]
+        ensures { result.now ≡ listing (part self.now.records (at name.now record_type)) }
+    {
+        rows::of_set(&self.records, name, record_type)
+    }
+
+    /// The records within a name, in record order.
+    pub fn records_within(&self, name: &Name) -> &[Record]
+        ensures { result.now ≡ listing (part self.now.records (within name.now)) }
+    {
+        rows::within(&self.records, name)
+    }
+
+    /// An equal zone in memory of its own. The only error is want of memory.
+    pub fn try_copy(&self, alloc: Global) -> Result<Zone, AllocError>
+        ensures { IfOk result (λ copy. copy ≡ self.now) }
+    {
+        Ok(Zone {
+            origin: self.origin.try_copy(alloc)?,
+            records: rows::copied(alloc, &self.records)?,
+        })
+    }
+}
