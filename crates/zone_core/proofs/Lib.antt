@@ -5,3 +5,8 @@ pub mod WithinLemmas
 pub mod UpdateLemmas
 pub mod GroupLemmas
 pub mod HeadLemmas
+pub mod SortLemmas
+pub mod EvenLemmas
+pub mod FaultLemmas
+pub mod WholeLemmas
+pub mod BuildLemmas

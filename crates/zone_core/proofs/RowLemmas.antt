@@ -139,7 +139,7 @@ by_test : (b : Bool) (r : Record) (rs : List Record) (found : Bool) → not (len
 by_test true r rs found e = not_none (length rs)
 by_test false r rs found e = e
 
-some_kept : (p : Record → Bool) (rs : List Record) → not (length (filter p rs) == 0) ≡ list_any p rs
+pub some_kept : (p : Record → Bool) (rs : List Record) → not (length (filter p rs) == 0) ≡ list_any p rs
 some_kept p [] = refl
 some_kept p (r ∷ rs) = by_test (p r) r (filter p rs) (list_any p rs) (some_kept p rs)
 

@@ -1,13 +1,15 @@
 -- What is found in a set that was made from another, and what a test finds in two sets.
-use Rattle.std.proofs.Common.{◌≡◌, ℕ, List, [], ◌∷◌, Bool, true, false, cond, not, ◌&&◌, ◌==◌, map, Option, Some, None, refl, sym, ap, ◌∙◌, subst}
+use Rattle.std.proofs.Common.{◌≡◌, ℕ, suc, List, [], ◌∷◌, length, Bool, true, false, cond, not, ◌&&◌, ◌==◌, nat_lt, map, arith, Option, Some, None, refl, sym, ap, ◌∙◌, subst}
 use Rattle.std.specs.declared.cmp.Ordering.{Ordering}
 use Rattle.std.specs.declared.cmp.Ordering.TheVariants.{Less, Equal, Greater}
-use Rattle.std.specs.Ordering.{nat_cmp, ordering_then, is_eq}
+use Rattle.std.specs.Ordering.{nat_cmp, ordering_then, is_eq, is_lt}
+use Rattle.std.specs.FinMap.Entries.{below_all}
+use lib.Dec.{T}
 use Rattle.std.specs.Cmp.{tied_itself}
 use Rattle.std.specs.Cmp.Lexicographic.{slice_cmp}
-use Rattle.std.specs.FinMap.{entries, len, len-entries, IsAntisymmetric, nat_cmp-IsAntisymmetric, slice_cmp-IsAntisymmetric, get, empty, insert, remove, get-empty, get-insert, get-remove, get-retain_keys, same_map, empty_of_len, len-empty}
+use Rattle.std.specs.FinMap.{entries, entries_sorted, is_sorted, get-entries, find, len, len-entries, IsAntisymmetric, nat_cmp-IsAntisymmetric, slice_cmp-IsAntisymmetric, get, empty, insert, remove, get-empty, get-insert, get-remove, get-retain_keys, same_map, empty_of_len, len-empty}
 use Rattle.std.proofs.lemmas.Bool.{both_ways, true_from_ne_false, false_from_ne_true, and_parts, eqb-true, not-false}
-use Rattle.std.proofs.lemmas.List.{nil_from_length}
+use Rattle.std.proofs.lemmas.Bool.Decides.{nat_tests}
 use Rattle.dns_names.specs.Order.{canonical_cmp, canonical_total, same_name}
 use Rattle.dns_names.proofs.NameLemmas.{same_name-Decides}
 use Rattle.dns_data.specs.declared.record.Record.{Record}
@@ -150,3 +152,82 @@ some_is a k x e n = let c : Some x ≡ None = sym e ∙ n in absurd cc
 
 pub has_found : (a : Records) (p : Key → Bool) (k : Key) (x : Record) → p k ≡ true → get a k ≡ Some x → has a p ≡ true
 has_found a p k x e found = true_from_ne_false (has a p) (λ none. some_is a k x found (none_there a p k none e))
+
+-- ---- a set in which a test finds something
+
+head_found : (es : List (Key × Record)) → not (length es == 0) ≡ true → (k : Key) × (r : Record) × (find key_cmp k es ≡ Some r)
+head_found [] e = absurd cc
+head_found (x ∷ es) e = (x.0, x.1, ap (λ b. cond b (Some x.1) (find key_cmp x.0 es)) (key_self x.0))
+
+chosen : (b : Bool) (o : Option Record) (r : Record) → cond b o None ≡ Some r → (b ≡ true) × (o ≡ Some r)
+chosen true o r e = (refl, e)
+chosen false o r e = absurd cc
+
+-- what is found in a part passes its test, and is found in the set
+pub found_of_part : (a : Records) (p : Key → Bool) (k : Key) (r : Record) → get (part a p) k ≡ Some r → (p k ≡ true) × (get a k ≡ Some r)
+found_of_part a p k r e = chosen (p k) (get a k) r (sym (get-part a p k) ∙ e)
+
+pub some_found : (a : Records) (p : Key → Bool) → has a p ≡ true → (k : Key) × (r : Record) × (p k ≡ true) × (get a k ≡ Some r)
+some_found a p e =
+    let head = head_found (entries (part a p)) (ap (λ n. not (n == 0)) (sym (len-entries (part a p))) ∙ e) in
+    let both = found_of_part a p head.0 head.1 (get-entries (part a p) head.0 ∙ head.2) in
+    (head.0, head.1, both.0, both.1)
+
+one_entry : (es : List (Key × Record)) (j k : Key) (r s : Record) → nat_lt 1 (length es) ≡ false → find key_cmp j es ≡ Some r → find key_cmp k es ≡ Some s → j ≡ k
+one_entry [] j k r s few e f = absurd cc
+one_entry (x ∷ []) j k r s few e f = only j r e ∙ sym (only k s f)
+  where
+    only : (q : Key) (v : Record) → cond (same_key q x.0) (Some x.1) None ≡ Some v → q ≡ x.0
+    only q v e = key_is q x.0 ((chosen (same_key q x.0) (Some x.1) v e).0)
+one_entry (x ∷ y ∷ es) j k r s few e f = absurd (let c = sym (two (length es)) ∙ few in cc)
+  where
+    two : (n : ℕ) → nat_lt 1 (suc (suc n)) ≡ true
+    two n = grind (arith, nat_tests)
+
+-- where a test finds no two records, those that it finds are one
+pub one_found : (a : Records) (p : Key → Bool) (j k : Key) (r s : Record) → nat_lt 1 (count a p) ≡ false → p j ≡ true → p k ≡ true → get a j ≡ Some r → get a k ≡ Some s → j ≡ k
+one_found a p j k r s few here there e f =
+    one_entry (entries (part a p)) j k r s (ap (nat_lt 1) (sym (len-entries (part a p))) ∙ few)
+    (sym (get-entries (part a p) j) ∙ found_in_part a p j here ∙ e) (sym (get-entries (part a p) k) ∙ found_in_part a p k there ∙ f)
+
+-- where a test finds two, they stand under different keys
+pub record Two (a : Records) (p : Key → Bool) : Type 0 where
+  pub first : Key
+  pub second : Key
+  pub one : Record
+  pub other : Record
+  pub one_found : get a first ≡ Some one
+  pub other_found : get a second ≡ Some other
+  pub one_passes : p first ≡ true
+  pub other_passes : p second ≡ true
+  pub apart : first ≡ second → ⊥
+
+below_second : (x y : Key × Record) (es : List (Key × Record)) → T (is_sorted key_cmp (x ∷ y ∷ es)) → key_cmp x.0 y.0 ≡ Less
+below_second x y es sorted = is_less (key_cmp x.0 y.0) (first_true (is_lt (key_cmp x.0 y.0)) (below_all key_cmp x.0 es) (first_true (below_all key_cmp x.0 (y ∷ es)) (is_sorted key_cmp (y ∷ es)) sorted))
+  where
+    first_true : (a b : Bool) → T (a && b) → T a
+    first_true true b t = tt
+    first_true false b t = t
+
+    is_less : (o : Ordering) → T (is_lt o) → o ≡ Less
+    is_less Less t = refl
+    is_less Equal t = absurd t
+    is_less Greater t = absurd t
+
+two_entries : (a : Records) (p : Key → Bool) (es : List (Key × Record)) → entries (part a p) ≡ es → nat_lt 1 (length es) ≡ true → Two a p
+two_entries a p [] is many = absurd cc
+two_entries a p (x ∷ []) is many = absurd cc
+two_entries a p (x ∷ y ∷ es) is many =
+    let less = below_second x y es (subst (λ xs. T (is_sorted key_cmp xs)) is (entries_sorted (part a p))) in
+    let differ : x.0 ≡ y.0 → ⊥ = λ e. let tie : key_cmp x.0 y.0 ≡ Equal = ap (key_cmp x.0) (sym e) ∙ tied_itself key_total x.0 in let c : Less ≡ Equal = sym less ∙ tie in absurd cc in
+    let here = get-entries (part a p) x.0 ∙ ap (find key_cmp x.0) is ∙ ap (λ b. cond b (Some x.1) (find key_cmp x.0 (y ∷ es))) (key_self x.0) in
+    let there =
+    get-entries (part a p) y.0 ∙ ap (find key_cmp y.0) is
+    ∙ ap (λ b. cond b (Some x.1) (find key_cmp y.0 (y ∷ es))) (key_other y.0 x.0 (λ e. differ (sym e)))
+    ∙ ap (λ b. cond b (Some y.1) (find key_cmp y.0 es)) (key_self y.0) in
+    let one = found_of_part a p x.0 x.1 here in
+    let two = found_of_part a p y.0 y.1 there in
+    record { first = x.0; second = y.0; one = x.1; other = y.1; one_found = one.1; other_found = two.1; one_passes = one.0; other_passes = two.0; apart = differ }
+
+pub two_found : (a : Records) (p : Key → Bool) → nat_lt 1 (count a p) ≡ true → Two a p
+two_found a p many = two_entries a p (entries (part a p)) refl (ap (nat_lt 1) (sym (len-entries (part a p))) ∙ many)

@@ -1,13 +1,14 @@
 -- Zones as rows of records in record order.
-use Rattle.std.specs.Prelude.{◌≡◌, ℕ, List}
+use Rattle.std.specs.Prelude.{◌≡◌, ℕ, List, [], ◌∷◌, map}
+use Rattle.std.specs.List.{filter}
 use Rattle.std.specs.declared.cmp.Ordering.{Ordering}
 use Rattle.std.specs.Ordering.{nat_cmp, ordering_then}
 use Rattle.dns_names.specs.Order.{canonical_cmp}
 use Rattle.dns_data.specs.declared.record.Record.{Record}
 use Rattle.dns_data.specs.declared.record_type.RecordType.{RecordType}
 use Rattle.dns_data.specs.Rdata.{type_of}
-use Rattle.zone_core.specs.Sets.{rank_of, set_of, InOrder}
-use Rattle.zone_core.specs.Zones.{ZoneOf, IsZone}
+use Rattle.zone_core.specs.Sets.{key_of, rank_of, set_of, InOrder}
+use Rattle.zone_core.specs.Zones.{ZoneOf, IsZone, beside, least_ttl}
 
 -- the order of a record to the records of a set: by owner, and then by type
 abbrev pub set_order : List (List ℕ) → RecordType → Record → Ordering
@@ -21,3 +22,19 @@ zone_in origin rs = record { origin = origin; records = set_of rs }
 pub record AreOfZone (origin : List (List ℕ)) (rs : List Record) : Type 0 where
   pub order : InOrder rs
   pub zone : IsZone (zone_in origin rs)
+
+-- ---- a zone that is built
+
+-- the least TTL of the set of a record
+abbrev pub set_ttl : List Record → Record → ℕ
+set_ttl rs r = least_ttl (filter (λ s. beside (key_of r) (key_of s)) rs)
+
+-- records with TTLs in the place of their own
+abbrev pub given_ttls : List Record → List ℕ → List Record
+given_ttls [] ttls = []
+given_ttls (r ∷ rs) [] = r ∷ rs
+given_ttls (r ∷ rs) (ttl ∷ ttls) = record r { ttl = ttl } ∷ given_ttls rs ttls
+
+-- each record with the least TTL of its set
+abbrev pub even_rows : List Record → List Record
+even_rows rs = given_ttls rs (map (set_ttl rs) rs)

@@ -60,10 +60,15 @@ pub record IsZone (zone : ZoneOf) : Type 0 where
 abbrev pub latest : List Record → Records
 latest rs = set_of (reverse rs)
 
--- the least TTL of records, of which one has this TTL
-abbrev pub least_ttl : ℕ → List Record → ℕ
-least_ttl ttl [] = ttl
-least_ttl ttl (r ∷ rs) = least_ttl (min ttl r.ttl) rs
+-- the least of a TTL and those of records
+abbrev pub least_below : ℕ → List Record → ℕ
+least_below ttl [] = ttl
+least_below ttl (r ∷ rs) = least_below (min ttl r.ttl) rs
+
+-- the least TTL of records
+abbrev pub least_ttl : List Record → ℕ
+least_ttl [] = 0
+least_ttl (r ∷ rs) = least_below r.ttl rs
 
 -- the records of one owner and one place of a type
 abbrev pub beside : Key → Key → Bool
@@ -71,7 +76,7 @@ beside k other = same_name other.0 k.0 && (other.1 == k.1)
 
 -- a record with the least TTL of its set
 abbrev pub even : Records → Key × Record → Key × Record
-even set e = (e.0, record e.1 { ttl = least_ttl e.1.ttl (listing (part set (beside e.0))) })
+even set e = (e.0, record e.1 { ttl = least_ttl (listing (part set (beside e.0))) })
 
 -- each set with its least TTL (RFC 2181 section 5.2)
 abbrev pub evened : Records → Records
@@ -103,7 +108,7 @@ fault_in origin set =
     if length origin == 0 then Some RootOrigin
     else (if has set (is_outside origin) then Some OutOfZone
     else (if has set (λ k. is_soa k && not (at_name origin k)) then Some SoaNotAtOrigin
-    else (if not (has set is_soa) then Some NoSoa
+    else (if count set is_soa == 0 then Some NoSoa
     else (if nat_lt 1 (count set is_soa) then Some TwoSoa
     else (if not (has set (at origin types.Ns)) then Some NoOriginNs
     else (if has set (is_twin set) then Some TwoCnames

@@ -2,6 +2,7 @@
 //! delegations in it (RFC 1034 section 4.2).
 #![tactic(auto)]
 
+mod build;
 mod fault;
 mod notes;
 mod rcode;

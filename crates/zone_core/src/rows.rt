@@ -2,7 +2,7 @@
 
 ghost use Rattle.std.specs.Prelude.{◌≡◌, ◌==◌, IfOk};
 ghost use Rattle.std.specs.List.{filter};
-ghost use Rattle.zone_core.specs.Sets.{key_of, rank_of, InOrder, at_name, at, within};
+ghost use Rattle.zone_core.specs.Sets.{key_of, rank_of, set_of, has, InOrder, at_name, at, within};
 ghost use Rattle.zone_core.specs.Views.{set_order};
 
 use dns_data::{Record, RecordType};
@@ -60,6 +60,22 @@ pub(crate) fn within<'a>(records: &'a [Record], name: &Name) -> &'a [Record]
     let rest = &records[start..];
     let count = rest.partition_point(|record| record.owner.is_within(name));
     &rest[..count]
+}
+
+/// Whether a record set exists.
+pub(crate) fn has_set(records: &[Record], name: &Name, record_type: RecordType) -> bool
+    requires { InOrder records.now }
+    ensures { result ≡ has (set_of records.now) (at name.now record_type) }
+{
+    !of_set(records, name, record_type).is_empty()
+}
+
+/// Whether a name has records.
+pub(crate) fn has_name(records: &[Record], name: &Name) -> bool
+    requires { InOrder records.now }
+    ensures { result ≡ has (set_of records.now) (at_name name.now) }
+{
+    !at_name(records, name).is_empty()
 }
 
 /// Equal records in memory of their own. The only error is want of memory.

@@ -3,11 +3,11 @@
 ghost use Rattle.std.specs.Prelude.{◌≡◌};
 ghost use Rattle.std.specs.Option.{option_copied, option_to_list};
 ghost use Rattle.std.specs.List.{list_any, list_all, flat_map};
-ghost use Rattle.zone_core.specs.Sets.{set_of, part, has, at_name, at, InOrder};
+ghost use Rattle.zone_core.specs.Sets.{set_of, part, at, InOrder};
 ghost use Rattle.zone_core.specs.Prerequisites.{fails, set_fails, same_data, given_for, are_data, first_failed, verdict, failure};
 
 use crate::rcode::Rcode;
-use crate::rows::{at_name, of_set};
+use crate::rows::{has_name, has_set, of_set};
 use crate::update::{Prerequisite, Update};
 use crate::zone::Zone;
 use dns_data::{Data, Record, RecordType, data_order};
@@ -64,22 +64,6 @@ fn fails(records: &[Record], prerequisite: &Prerequisite) -> Option<Rcode>
         Prerequisite::NameUnused(name) if has_name(records, name) => Some(Rcode::YxDomain),
         _ => None,
     }
-}
-
-/// Whether a record set exists.
-fn has_set(records: &[Record], name: &Name, record_type: RecordType) -> bool
-    requires { InOrder records.now }
-    ensures { result ≡ has (set_of records.now) (at name.now record_type) }
-{
-    !of_set(records, name, record_type).is_empty()
-}
-
-/// Whether a name has records.
-fn has_name(records: &[Record], name: &Name) -> bool
-    requires { InOrder records.now }
-    ensures { result ≡ has (set_of records.now) (at_name name.now) }
-{
-    !at_name(records, name).is_empty()
 }
 
 /// The first item whose set is given whole and is another.

@@ -1,0 +1,245 @@
+//! Building zones.
+
+ghost use Rattle.std.specs.Prelude.{◌≡◌, ◌<◌, ◌==◌, ◌&&◌, map, not, Ok, IfOk, length, take, slice_index_or};
+ghost use Rattle.std.specs.List.{list_any};
+ghost use Rattle.std.specs.List.Sorted.{IsSorted};
+ghost use Rattle.zone_core.specs.Faults.{Gives};
+ghost use Rattle.zone_core.specs.Sets.{key_of, set_of, record_order, count, at_name, InOrder};
+ghost use Rattle.zone_core.specs.Views.{set_ttl, given_ttls, even_rows};
+ghost use Rattle.zone_core.specs.Zones.{IsZone, built, zone_of, latest, least_below, least_ttl, beside, fault_in, is_outside, is_soa, is_twin, is_crowded};
+
+use crate::fault::ZoneFault;
+use crate::notes::notes_records;
+use crate::rows::{at_name, has_set, has_type, of_set};
+use crate::zone::Zone;
+use dns_data::{Record, RecordType, Ttl, record_order};
+use dns_names::Name;
+use std::alloc::{AllocError, Global};
+
+impl Zone {
+    /// The zone of an origin and records, in any order. A repeated record is kept once, with its last TTL; then each set has
+    /// the least TTL of its records (RFC 2181 section 5.2).
+    ///
+    /// The refusals, of which the first is answered: `RootOrigin`, `OutOfZone`, `SoaNotAtOrigin`, `NoSoa`, `TwoSoa`,
+    /// `NoOriginNs`, `TwoCnames`, `CnameAndOther`. `NoMemory` comes at the growth that was refused.
+    pub fn build(alloc: Global, origin: Name, records: Vec<Record>) -> Result<Zone, ZoneFault>
+        // What is built is a zone.
+        ensures found { IfOk result IsZone }
+        // Records that make a zone are built, unless memory runs out.
+        ensures only { IsZone (zone_of origin records.items) → Gives (λ zone. zone) result (Ok (zone_of origin records.items)) }
+        // Which zone it is, or which refusal.
+        ensures exact { Gives (λ zone. zone) result (built origin records.items) }
+    {
+        let records = even(alloc, once(sorted(records)?))?;
+        notes_records(&records);
+        match fault_in(&origin, &records) {
+            Some(fault) => Err(fault),
+            None => Ok(Zone::of_rows(origin, records)),
+        }
+    }
+}
+
+/// The records in record order, and those that are the same from the last to the first.
+fn sorted(mut records: Vec<Record>) -> Result<Vec<Record>, AllocError>
+    ensures order { IfOk result (λ rows. IsSorted record_order rows.items) }
+    ensures set { IfOk result (λ rows. set_of rows.items ≡ latest records.items) }
+{
+    records.reverse();
+    records.sort_by(|first, second| record_order(first, second))?;
+    Ok(records)
+}
+
+/// The records, each once: of those that are the same the first.
+fn once(mut records: Vec<Record>) -> Vec<Record>
+    requires { IsSorted record_order records.items }
+    ensures order { InOrder result.items }
+    ensures set { set_of result.items ≡ set_of records.items }
+{
+    records.dedup_by(|next, kept| record_order(next, kept).is_eq());
+    records
+}
+
+/// The records, each with the least TTL of its set.
+fn even(alloc: Global, records: Vec<Record>) -> Result<Vec<Record>, AllocError>
+    requires { InOrder records.items }
+    ensures { IfOk result (λ rows. rows.items ≡ even_rows records.items) }
+{
+    let ttls = set_ttls(alloc, &records)?;
+    Ok(with_ttls(records, &ttls))
+}
+
+/// The least TTL of the set of each record.
+fn set_ttls(alloc: Global, records: &[Record]) -> Result<Vec<Ttl>, AllocError>
+    requires { InOrder records.now }
+    ensures { IfOk result (λ ttls. ttls.items ≡ map (set_ttl records.now) records.now) }
+{
+    let mut ttls = Vec::with_capacity(alloc, records.len())?;
+    for i in 0..records.len() {
+        let ttl = set_ttl(records, &ttls, i);
+        ttls.push(ttl)?;
+    }
+    Ok(ttls)
+}
+
+/// The least TTL of the set of a record, where those of the records before it are known.
+fn set_ttl(records: &[Record], known: &[Ttl], i: usize) -> Ttl
+    requires order { InOrder records.now }
+    requires within { i < length records.now }
+    requires known { known.now ≡ map (set_ttl records.now) (take i records.now) }
+    ensures { (d : Record) → result ≡ set_ttl records.now (slice_index_or records.now i d) }
+{
+    let record = &records[i];
+    if i > 0 && are_beside(&records[i - 1], record) {
+        return known[i - 1];
+    }
+    least_ttl(of_set(records, &record.owner, record.record_type()))
+}
+
+/// Whether two records are of one set.
+fn are_beside(first: &Record, second: &Record) -> bool
+    ensures { result ≡ beside (key_of first.now) (key_of second.now) }
+{
+    second.owner == first.owner && has_type(second, first.record_type())
+}
+
+/// The least TTL of records, of which there is one.
+fn least_ttl(records: &[Record]) -> Ttl
+    requires { 0 < length records.now }
+    ensures { result ≡ least_ttl records.now }
+{
+    least_below(records[0].ttl, &records[1..])
+}
+
+/// The least of a TTL and those of records.
+fn least_below(ttl: Ttl, records: &[Record]) -> Ttl
+    ensures { result ≡ least_below ttl records.now }
+{
+    let mut least = ttl;
+    for record in records {
+        if record.ttl.seconds() < least.seconds() {
+            least = record.ttl;
+        }
+    }
+    least
+}
+
+/// Records with TTLs in the place of their own.
+fn with_ttls(mut records: Vec<Record>, ttls: &[Ttl]) -> Vec<Record>
+    requires { length ttls.now ≡ length records.items }
+    ensures { result.items ≡ given_ttls records.items ttls.now }
+{
+    for i in 0..records.len() {
+        records[i].ttl = ttls[i];
+    }
+    records
+}
+
+/// What is wrong with records as a zone of this origin, if there is something.
+fn fault_in(origin: &Name, records: &[Record]) -> Option<ZoneFault>
+    requires { InOrder records.now }
+    ensures { result ≡ fault_in origin.now (set_of records.now) }
+{
+    if is_root(origin) {
+        Some(ZoneFault::RootOrigin)
+    } else if some_outside(origin, records) {
+        Some(ZoneFault::OutOfZone)
+    } else if some_soa_elsewhere(origin, records) {
+        Some(ZoneFault::SoaNotAtOrigin)
+    } else if soas(records) == 0 {
+        Some(ZoneFault::NoSoa)
+    } else if soas(records) > 1 {
+        Some(ZoneFault::TwoSoa)
+    } else if !has_set(records, origin, RecordType::Ns) {
+        Some(ZoneFault::NoOriginNs)
+    } else if some_twin(records) {
+        Some(ZoneFault::TwoCnames)
+    } else if some_crowded(records) {
+        Some(ZoneFault::CnameAndOther)
+    } else {
+        None
+    }
+}
+
+/// Whether a name is the root.
+fn is_root(name: &Name) -> bool
+    ensures { result ≡ (length name.now == 0) }
+{
+    name.labels().next().is_none()
+}
+
+/// Whether an owner is outside the origin, or a DS is at it.
+fn is_outside(origin: &Name, rr: &Record) -> bool
+    ensures { result ≡ is_outside origin.now (key_of rr.now) }
+{
+    !rr.owner.is_within(origin) || (has_type(rr, RecordType::Ds) && rr.owner == *origin)
+}
+
+/// Whether some record is outside the origin.
+fn some_outside(origin: &Name, records: &[Record]) -> bool
+    ensures { result ≡ list_any (λ r. is_outside origin.now (key_of r)) records.now }
+{
+    records.iter().any(|record| is_outside(origin, record))
+}
+
+/// Whether an SOA stands elsewhere than at the origin.
+fn is_soa_elsewhere(origin: &Name, rr: &Record) -> bool
+    ensures { result ≡ (is_soa (key_of rr.now) && not (at_name origin.now (key_of rr.now))) }
+{
+    has_type(rr, RecordType::Soa) && rr.owner != *origin
+}
+
+/// Whether some SOA stands elsewhere than at the origin.
+fn some_soa_elsewhere(origin: &Name, records: &[Record]) -> bool
+    ensures { result ≡ list_any (λ r. is_soa (key_of r) && not (at_name origin.now (key_of r))) records.now }
+{
+    records
+        .iter()
+        .any(|record| is_soa_elsewhere(origin, record))
+}
+
+/// How many SOA records there are.
+fn soas(records: &[Record]) -> usize
+    requires { InOrder records.now }
+    ensures { result ≡ count (set_of records.now) is_soa }
+{
+    let mut soas = 0;
+    for record in records {
+        if has_type(record, RecordType::Soa) {
+            soas += 1;
+        }
+    }
+    soas
+}
+
+/// Whether a record is a CNAME beside another.
+fn is_twin(records: &[Record], rr: &Record) -> bool
+    requires { InOrder records.now }
+    ensures { result ≡ is_twin (set_of records.now) (key_of rr.now) }
+{
+    has_type(rr, RecordType::Cname) && of_set(records, &rr.owner, RecordType::Cname).len() > 1
+}
+
+/// Whether a name has two CNAME records.
+fn some_twin(records: &[Record]) -> bool
+    requires { InOrder records.now }
+    ensures { result ≡ list_any (λ r. is_twin (set_of records.now) (key_of r)) records.now }
+{
+    records.iter().any(|record| is_twin(records, record))
+}
+
+/// Whether a record is a CNAME beside one of another type.
+fn is_crowded(records: &[Record], rr: &Record) -> bool
+    requires { InOrder records.now }
+    ensures { result ≡ is_crowded (set_of records.now) (key_of rr.now) }
+{
+    has_type(rr, RecordType::Cname)
+        && of_set(records, &rr.owner, RecordType::Cname).len() < at_name(records, &rr.owner).len()
+}
+
+/// Whether a name has a CNAME and another record.
+fn some_crowded(records: &[Record]) -> bool
+    requires { InOrder records.now }
+    ensures { result ≡ list_any (λ r. is_crowded (set_of records.now) (key_of r)) records.now }
+{
+    records.iter().any(|record| is_crowded(records, record))
+}
