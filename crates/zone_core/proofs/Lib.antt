@@ -10,3 +10,7 @@ pub mod EvenLemmas
 pub mod FaultLemmas
 pub mod WholeLemmas
 pub mod BuildLemmas
+pub mod SiteLemmas
+pub mod RetainLemmas
+pub mod PutLemmas
+pub mod RuleLemmas

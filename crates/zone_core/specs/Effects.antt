@@ -1,6 +1,5 @@
 -- What operations do to the records of a zone (RFC 2136 sections 2.5 and 3.4.2), and its serial (section 3.6).
-use Rattle.std.specs.Prelude.{◌≡◌, ℕ, List, [], ◌∷◌, Bool, not, ◌&&◌, ◌||◌, ◌==◌, if◌then◌else◌, Option, Some, None}
-use Rattle.std.specs.FinMap.{remove}
+use Rattle.std.specs.Prelude.{◌≡◌, ℕ, List, [], ◌∷◌, Bool, false, not, ◌&&◌, ◌||◌, ◌==◌, if◌then◌else◌, Option, Some, None}
 use Rattle.dns_names.specs.Order.{same_name}
 use Rattle.dns_data.specs.declared.record.Record.{Record}
 use Rattle.dns_data.specs.declared.record_type.RecordType.{RecordType}
@@ -25,7 +24,7 @@ is_other_type name k = at_name name k && not (is_cname k)
 
 -- whether an SOA takes the place of this one: its serial is greater (RFC 1982)
 abbrev pub takes_over : Record → Option Record → Bool
-takes_over r None = Bool.false
+takes_over r None = false
 takes_over r (Some old) = is_less (serial_in old) (serial_in r)
 
 -- an SOA: in the place of the one at its name, where there is one with a lesser serial
@@ -75,7 +74,7 @@ key_at name rdata = (name, rank_of (type_of rdata), data_text rdata)
 
 -- another NS at the name
 abbrev pub is_other_ns : Key → Key → Bool
-is_other_ns key k = at key.0 types.Ns k && not (same_key k key)
+is_other_ns key k = at key.0 types.Ns k && not (same_key key k)
 
 -- a record that is never deleted: at the origin an SOA, and an NS beside which there is no other
 abbrev pub stays : List (List ℕ) → Records → Key → Bool
@@ -83,7 +82,7 @@ stays origin set key = same_name key.0 origin && ((key.1 == rank_of types.Soa) |
 
 -- a record, but for those that stay
 abbrev pub delete_record : List (List ℕ) → Records → Key → Records
-delete_record origin set key = if stays origin set key then set else remove set key
+delete_record origin set key = if stays origin set key then set else cut set (same_key key)
 
 -- ---- operations in turn
 

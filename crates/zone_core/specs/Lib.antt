@@ -8,3 +8,4 @@ pub mod Rcodes
 pub mod Updates
 pub mod Prerequisites
 pub mod Effects
+pub mod Sites

@@ -76,7 +76,7 @@ put set r = insert set (key_of r) r
 
 -- a record with a TTL, if its key passes a test
 abbrev pub given : (Key → Bool) → ℕ → Key × Record → Key × Record
-given test ttl e = (e.0, if test e.0 then record e.1 { ttl = ttl } else e.1)
+given test ttl e = (e.0, record e.1 { ttl = if test e.0 then ttl else e.1.ttl })
 
 -- the set in which the records that pass a test have this TTL
 abbrev pub with_ttl : Records → (Key → Bool) → ℕ → Records

@@ -3,6 +3,7 @@
 #![tactic(auto)]
 
 mod build;
+mod effect;
 mod fault;
 mod notes;
 mod rcode;

@@ -6,11 +6,12 @@ ghost use Rattle.std.specs.List.{list_any, list_all, flat_map};
 ghost use Rattle.zone_core.specs.Sets.{set_of, part, at, InOrder};
 ghost use Rattle.zone_core.specs.Prerequisites.{fails, set_fails, same_data, given_for, are_data, first_failed, verdict, failure};
 
+use crate::effect::same_data;
 use crate::rcode::Rcode;
 use crate::rows::{has_name, has_set, of_set};
 use crate::update::{Prerequisite, Update};
 use crate::zone::Zone;
-use dns_data::{Data, Record, RecordType, data_order};
+use dns_data::{Data, Record, RecordType};
 use dns_names::Name;
 
 /// A prerequisite that does not hold: the code of the reply, and the item's number among the prerequisites, from 0.
@@ -104,13 +105,6 @@ fn is_given_whole(
     let set = of_set(records, name, record_type);
     // a set of more data than can be given is told apart before each of those is sought in it
     all_given(set, name, record_type, all) && all_there(all, name, record_type, set)
-}
-
-/// Whether two data are the same.
-fn same_data(first: &Data, second: &Data) -> bool
-    ensures { result ≡ same_data first.now second.now }
-{
-    data_order(first, second).is_eq()
 }
 
 /// Whether the data of each record are given for a name and a type.
