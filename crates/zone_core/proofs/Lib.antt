@@ -14,3 +14,5 @@ pub mod SiteLemmas
 pub mod RetainLemmas
 pub mod PutLemmas
 pub mod RuleLemmas
+pub mod EffectLemmas
+pub mod ChangeLemmas

@@ -3,9 +3,10 @@ use Rattle.std.proofs.Common.{◌≡◌, ℕ, zero, suc, ◌+◌, ◌-◌, ◌<�
 use Rattle.std.specs.declared.cmp.Ordering.{Ordering}
 use Rattle.std.specs.declared.cmp.Ordering.TheVariants.{Less, Equal, Greater}
 use Rattle.std.specs.Ordering.{is_lt, is_eq, ordering_reverse}
+use Rattle.std.specs.Prelude.{slice_get}
 use Rattle.std.specs.List.{AllByRecursion, AllWithin, filter, insert as insert_at}
 use Rattle.std.specs.List.Sorted.{IsStrictlySortedBy, IsPartitionPoint, IsPartitionedBy}
-use Rattle.std.specs.FinMap.{get, entries, from_entries, entries-insert, put as put_entry}
+use Rattle.std.specs.FinMap.{get, find, entries, from_entries, entries-insert, put as put_entry}
 use Rattle.std.specs.FinMap.Entries.{by_order}
 use Rattle.std.proofs.lemmas.Bool.{cases_lt}
 use Rattle.dns_data.specs.declared.record.Record.{Record}
@@ -16,7 +17,7 @@ use Rattle.dns_names.specs.Order.{same_name}
 use Rattle.zone_core.specs.Sets.{Records, Key, key_of, key_cmp, rank_of, same_key, keyed, set_of, record_order, put, cut, at, with_ttl, given, InOrder}
 use Rattle.zone_core.specs.Sites.{IsSite, Becomes, with_type_ttl}
 use Rattle.zone_core.proofs.SetLemmas.{same_sets, get-put, get-cut, key_other, key_is, key_self, is_tied, name_self, by_cases}
-use Rattle.zone_core.proofs.RowLemmas.{entries_of, row_of}
+use Rattle.zone_core.proofs.RowLemmas.{entries_of, row_of, get-set_of, found_has, found_key}
 use Rattle.zone_core.proofs.RangeLemmas.{pair_order}
 
 -- ---- a record at its place
@@ -135,3 +136,63 @@ ttl_site name t ttl rs site =
       site = retimed_site (λ r. if (key_of r).1 == rank_of t then ttl else r.ttl) name rs site;
       set = ap (from_entries {R = key_cmp}) (same_retimed name t ttl rs site.here ∙ ap (map (given (at name t) ttl)) (sym (entries_of rs site.order)));
     }
+
+-- ---- seeking a record
+
+-- what stands at the place of a record, if it is the same
+abbrev pub tied_first : Record → List Record → Option Record
+tied_first r [] = None
+tied_first r (x ∷ xs) = if is_eq (record_order x r) then Some x else None
+
+turned : (a b : Ordering) → a ≡ ordering_reverse b → is_eq a ≡ is_eq b
+turned a Less e = rw e refl
+turned a Equal e = rw e refl
+turned a Greater e = rw e refl
+
+pub tie_turned : (r x : Record) → same_key (key_of r) (key_of x) ≡ is_eq (record_order x r)
+tie_turned r x = turned (record_order r x) (record_order x r) (record_order_total.antisymm r x)
+
+none_behind : (r x : Record) (xs : List Record) → AllByRecursion (λ s. record_order x s ≡ Less) xs → is_lt (record_order x r) ≡ false → (o : Option Record) → find key_cmp (key_of r) (keyed xs) ≡ o → find key_cmp (key_of r) (keyed xs) ≡ None
+none_behind r x xs all low None e = e
+none_behind r x xs all low (Some y) e =
+    let less = found_has (λ s. record_order x s ≡ Less) xs (key_of r) y all e in
+    let same : record_order x y ≡ record_order x r = ap (key_cmp (key_of x)) (sym (found_key xs (key_of r) y e)) in
+    absurd (let f : true ≡ false = ap is_lt (sym (sym same ∙ less)) ∙ low in cc)
+
+sought_at : (r : Record) (rs : List Record) (i : ℕ) → InOrder rs → i ≤ length rs
+    → ((k : ℕ) (d : Record) → k < i → is_lt (record_order (get_or rs k d) r) ≡ true)
+    → ((k : ℕ) (d : Record) → i ≤ k → k < length rs → is_lt (record_order (get_or rs k d) r) ≡ false)
+    → find key_cmp (key_of r) (keyed rs) ≡ tied_first r (drop i rs)
+unfolding IsStrictlySortedBy
+sought_at r [] zero order within below above = refl
+sought_at r [] (suc i) order within below above = absurd (omega arith)
+sought_at r (x ∷ rs) zero order within below above =
+    ap (λ b. cond b (Some x) (find key_cmp (key_of r) (keyed rs))) (tie_turned r x)
+    ∙ ap (cond (is_eq (record_order x r)) (Some x)) (none_behind r x rs order.0 (above 0 x (omega arith) (omega arith)) (find key_cmp (key_of r) (keyed rs)) refl)
+sought_at r (x ∷ rs) (suc i) order within below above =
+    ap (λ b. cond b (Some x) (find key_cmp (key_of r) (keyed rs))) (tie_turned r x ∙ apart (record_order x r) (below 0 x (omega arith)))
+    ∙ sought_at r rs i order.1 (omega arith) (λ k d h. below (suc k) d (omega arith)) (λ k d h j. above (suc k) d (omega arith) (omega arith))
+  where
+    apart : (o : Ordering) → is_lt o ≡ true → is_eq o ≡ false
+    apart Less e = refl
+    apart Equal e = absurd cc
+    apart Greater e = absurd cc
+
+pub sought : (r : Record) (rs : List Record) (i : ℕ) → InOrder rs → i ≤ length rs → IsPartitionPoint (λ x. is_lt (record_order x r) ≡ true) (λ x. is_lt (record_order x r) ≡ false) rs i
+    → get (set_of rs) (key_of r) ≡ tied_first r (drop i rs)
+sought r rs i order within parts = get-set_of rs (key_of r) ∙ sought_at r rs i order within (λ k d h. parts.0 k d (omega arith) h) (λ k d h j. parts.1 k d h j)
+
+-- a record that is found at the place, if it is the same
+abbrev pub tied : Record → Option Record → Option Record
+tied r None = None
+tied r (Some x) = if is_eq (record_order x r) then Some x else None
+
+first_tied : (r : Record) (xs : List Record) → tied_first r xs ≡ tied r (slice_get xs 0)
+first_tied r [] = refl
+first_tied r (x ∷ xs) = refl
+
+pub sought_first : (r : Record) (rs rest : List Record) (i : ℕ) (found : Option Record) → InOrder rs → i ≤ length rs
+    → (IsPartitionedBy (λ x. is_lt (record_order x r)) rs → IsPartitionPoint (λ x. is_lt (record_order x r) ≡ true) (λ x. is_lt (record_order x r) ≡ false) rs i)
+    → rest ≡ drop i rs → found ≡ slice_get rest 0 → tied r found ≡ get (set_of rs) (key_of r)
+sought_first r rs rest i found order within parts e f =
+    ap (tied r) (f ∙ ap (λ xs. slice_get xs 0) e) ∙ sym (sought r rs i order within (parts (parted r rs order)) ∙ first_tied r (drop i rs))

@@ -1,5 +1,5 @@
 -- The records at one name as a row in record order.
-use Rattle.std.specs.Prelude.{◌≡◌, ℕ, List, ◌==◌, if◌then◌else◌}
+use Rattle.std.specs.Prelude.{◌≡◌, ℕ, List, ◌++◌, ◌==◌, if◌then◌else◌}
 use Rattle.std.specs.List.{AllByRecursion}
 use Rattle.dns_data.specs.declared.record.Record.{Record}
 use Rattle.dns_data.specs.declared.record_type.RecordType.{RecordType}
@@ -18,3 +18,9 @@ pub record Becomes (name : List (List ℕ)) (rs : List Record) (whole : Records)
 -- a record with a TTL, if it has a type
 abbrev pub with_type_ttl : RecordType → ℕ → Record → Record
 with_type_ttl record_type ttl r = record r { ttl = if (key_of r).1 == rank_of record_type then ttl else r.ttl }
+
+-- a row grows by the records of a set
+pub record Grows (old new : List Record) (whole : Records) : Type 0 where
+  pub more : List Record
+  pub grown : new ≡ old ++ more
+  pub set : set_of more ≡ whole

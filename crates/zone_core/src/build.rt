@@ -1,18 +1,17 @@
 //! Building zones.
 
-ghost use Rattle.std.specs.Prelude.{◌≡◌, ◌<◌, ◌==◌, ◌&&◌, map, not, Ok, IfOk, length, take, slice_index_or};
+ghost use Rattle.std.specs.Prelude.{◌≡◌, ◌<◌, ◌==◌, ◌&&◌, reverse, map, not, Ok, IfOk, length, take, slice_index_or};
 ghost use Rattle.std.specs.List.{list_any};
-ghost use Rattle.std.specs.List.Sorted.{IsSorted};
 ghost use Rattle.zone_core.specs.Faults.{Gives};
-ghost use Rattle.zone_core.specs.Sets.{key_of, set_of, record_order, count, at_name, InOrder};
+ghost use Rattle.zone_core.specs.Sets.{key_of, set_of, count, at_name, InOrder};
 ghost use Rattle.zone_core.specs.Views.{set_ttl, given_ttls, even_rows};
-ghost use Rattle.zone_core.specs.Zones.{IsZone, built, zone_of, latest, least_below, least_ttl, beside, fault_in, is_outside, is_soa, is_twin, is_crowded};
+ghost use Rattle.zone_core.specs.Zones.{IsZone, built, zone_of, least_below, least_ttl, beside, fault_in, is_outside, is_soa, is_twin, is_crowded};
 
 use crate::fault::ZoneFault;
 use crate::notes::notes_records;
-use crate::rows::{at_name, has_set, has_type, of_set};
+use crate::rows::{at_name, has_set, has_type, in_order, of_set};
 use crate::zone::Zone;
-use dns_data::{Record, RecordType, Ttl, record_order};
+use dns_data::{Record, RecordType, Ttl};
 use dns_names::Name;
 use std::alloc::{AllocError, Global};
 
@@ -30,7 +29,7 @@ impl Zone {
         // Which zone it is, or which refusal.
         ensures exact { Gives (λ zone. zone) result (built origin records.items) }
     {
-        let records = even(alloc, once(sorted(records)?))?;
+        let records = even(alloc, in_order(reversed(records))?)?;
         notes_records(&records);
         match fault_in(&origin, &records) {
             Some(fault) => Err(fault),
@@ -39,23 +38,11 @@ impl Zone {
     }
 }
 
-/// The records in record order, and those that are the same from the last to the first.
-fn sorted(mut records: Vec<Record>) -> Result<Vec<Record>, AllocError>
-    ensures order { IfOk result (λ rows. IsSorted record_order rows.items) }
-    ensures set { IfOk result (λ rows. set_of rows.items ≡ latest records.items) }
+/// The records from the last to the first.
+fn reversed(mut records: Vec<Record>) -> Vec<Record>
+    ensures { result.items ≡ reverse records.items }
 {
     records.reverse();
-    records.sort_by(|first, second| record_order(first, second))?;
-    Ok(records)
-}
-
-/// The records, each once: of those that are the same the first.
-fn once(mut records: Vec<Record>) -> Vec<Record>
-    requires { IsSorted record_order records.items }
-    ensures order { InOrder result.items }
-    ensures set { set_of result.items ≡ set_of records.items }
-{
-    records.dedup_by(|next, kept| record_order(next, kept).is_eq());
     records
 }
 

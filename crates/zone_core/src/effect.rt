@@ -5,11 +5,11 @@ ghost use Rattle.std.specs.Prelude.{◌≡◌, ◌&&◌, ◌==◌, if◌then◌e
 ghost use Rattle.std.specs.List.{list_any, filter, find};
 ghost use Rattle.std.specs.Option.{option_copied};
 ghost use Rattle.dns_data.specs.declared.record_type.RecordType.TheVariants.{Ns};
-ghost use Rattle.zone_core.specs.Sets.{key_of, rank_of, set_of, put};
+ghost use Rattle.zone_core.specs.Sets.{Records, key_of, rank_of, set_of, part, at_name, put};
 ghost use Rattle.zone_core.specs.Zones.{is_soa, soa_at, serial_in};
 ghost use Rattle.zone_core.specs.Updates.{acted_name};
 ghost use Rattle.zone_core.specs.Prerequisites.{same_data};
-ghost use Rattle.zone_core.specs.Effects.{effect, add, add_soa, add_cname, add_other, is_misplaced, takes_over, delete_rrset, delete_name, delete_record, key_at, is_guarded, stays};
+ghost use Rattle.zone_core.specs.Effects.{effect, effects, add, add_soa, add_cname, add_other, is_misplaced, takes_over, delete_rrset, delete_name, delete_record, key_at, is_guarded, stays};
 ghost use Rattle.zone_core.specs.Sites.{IsSite, Becomes, with_type_ttl};
 
 use crate::rows::has_type;
@@ -298,4 +298,24 @@ fn without(mut site: Vec<Record>, rdata: &Data) -> Vec<Record>
 {
     site.retain(|record| has_other_data(record, rdata));
     site
+}
+
+/// What the operations at a name make of its records. The only error is want of memory.
+pub(crate) fn effects(
+    alloc: Global,
+    origin: &Name,
+    name: &Name,
+    site: Vec<Record>,
+    operations: &[Operation],
+) -> Result<Vec<Record>, AllocError>
+    requires { IsSite name.now site.items }
+    ensures { (before : Records) → set_of site.items ≡ part before (at_name name.now) → IfOk result (λ after. Becomes name.now after.items (part (effects origin.now before operations.now) (at_name name.now))) }
+{
+    let mut site = site;
+    for operation in operations {
+        if operation.name() == name {
+            site = effect(alloc, origin, site, operation)?;
+        }
+    }
+    Ok(site)
 }

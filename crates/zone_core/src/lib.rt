@@ -3,6 +3,7 @@
 #![tactic(auto)]
 
 mod build;
+mod change;
 mod effect;
 mod fault;
 mod notes;

@@ -1,11 +1,15 @@
 //! Rows of records in record order, in which what stands at a name, in a set or within a name is found by halving.
 
-ghost use Rattle.std.specs.Prelude.{◌≡◌, ◌==◌, IfOk};
+ghost use Rattle.std.specs.Prelude.{◌≡◌, ◌==◌, ◌++◌, if◌then◌else◌, not, Some, None, IfOk};
+ghost use Rattle.std.specs.FinMap.{get};
+ghost use Rattle.std.specs.Option.{option_copied};
+ghost use Rattle.std.specs.Ordering.{is_eq};
 ghost use Rattle.std.specs.List.{filter};
-ghost use Rattle.zone_core.specs.Sets.{key_of, rank_of, set_of, has, InOrder, at_name, at, within};
+ghost use Rattle.std.specs.List.Sorted.{IsSorted};
+ghost use Rattle.zone_core.specs.Sets.{key_of, rank_of, set_of, record_order, same_ttl, has, InOrder, at_name, at, within};
 ghost use Rattle.zone_core.specs.Views.{set_order};
 
-use dns_data::{Record, RecordType};
+use dns_data::{Record, RecordType, record_order};
 use dns_names::Name;
 use std::alloc::{AllocError, Global};
 use std::cmp::Ordering;
@@ -87,4 +91,83 @@ pub(crate) fn copied(alloc: Global, records: &[Record]) -> Result<Vec<Record>, A
         copies.push(record.try_copy(alloc)?)?;
     }
     Ok(copies)
+}
+
+/// The records in record order, and of those that are the same the first. The only error is want of memory.
+pub(crate) fn in_order(records: Vec<Record>) -> Result<Vec<Record>, AllocError>
+    ensures order { IfOk result (λ rows. InOrder rows.items) }
+    ensures set { IfOk result (λ rows. set_of rows.items ≡ set_of records.items) }
+{
+    Ok(once(sorted(records)?))
+}
+
+/// The records in record order, in which those that are the same stay in theirs.
+fn sorted(mut records: Vec<Record>) -> Result<Vec<Record>, AllocError>
+    ensures order { IfOk result (λ rows. IsSorted record_order rows.items) }
+    ensures set { IfOk result (λ rows. set_of rows.items ≡ set_of records.items) }
+{
+    records.sort_by(|first, second| record_order(first, second))?;
+    Ok(records)
+}
+
+/// The records, each once: of those that are the same the first.
+fn once(mut records: Vec<Record>) -> Vec<Record>
+    requires { IsSorted record_order records.items }
+    ensures order { InOrder result.items }
+    ensures set { set_of result.items ≡ set_of records.items }
+{
+    records.dedup_by(|next, kept| record_order(next, kept).is_eq());
+    records
+}
+
+/// The record of a row that is the same as this one.
+fn same_in<'a>(records: &'a [Record], rr: &Record) -> Option<&'a Record>
+    requires { InOrder records.now }
+    ensures { option_copied result ≡ get (set_of records.now) (key_of rr.now) }
+{
+    let place = records.partition_point(|record| record_order(record, rr).is_lt());
+    match records[place..].first() {
+        Some(found) => if_same(found, rr),
+        None => None,
+    }
+}
+
+/// A record, if it is the same as another.
+fn if_same<'a>(found: &'a Record, rr: &Record) -> Option<&'a Record>
+    ensures { option_copied result ≡ (if is_eq (record_order found.now rr.now) then Some found.now else None) }
+{
+    if record_order(found, rr).is_eq() {
+        Some(found)
+    } else {
+        None
+    }
+}
+
+/// Whether a row has not the same record as this one, or has it with another TTL.
+fn differs(rr: &Record, others: &[Record]) -> bool
+    requires { InOrder others.now }
+    ensures { result ≡ not (same_ttl (Some rr.now) (get (set_of others.now) (key_of rr.now))) }
+{
+    match same_in(others, rr) {
+        Some(other) => rr.ttl.seconds() != other.ttl.seconds(),
+        None => true,
+    }
+}
+
+/// Records, and copies of those of a row that another has not, or has with other TTLs. The only error is want of memory.
+pub(crate) fn with_difference(
+    alloc: Global,
+    mut found: Vec<Record>,
+    records: &[Record],
+    others: &[Record],
+) -> Result<Vec<Record>, AllocError>
+    requires { InOrder others.now }
+    ensures { IfOk result (λ all. all.items ≡ found.items ++ filter (λ r. not (same_ttl (Some r) (get (set_of others.now) (key_of r)))) records.now) }
+{
+    for record in records {
+        if differs(record, others) {
+            found.push(record.try_copy(alloc)?)?;
+        }
+    }
+    Ok(found)
 }

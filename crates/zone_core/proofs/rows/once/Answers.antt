@@ -2,7 +2,7 @@ use Rattle.std.proofs.Common.{rules, sym, ap, subst, ◌∙◌}
 use Rattle.std.proofs.lemmas.Fn.{dedup_same}
 use Rattle.zone_core.specs.Sets.{set_of, InOrder}
 use Rattle.zone_core.proofs.SortLemmas.{repeats, dedup_set, dedup_order}
-use Rattle.zone_core.proofs.build.once.Goals as goal
+use Rattle.zone_core.proofs.rows.once.Goals as goal
 
 pub returns-clause-order : goal.returns-clause-order
 returns-clause-order c =

@@ -1,0 +1,47 @@
+use Rattle.std.proofs.Common.{◌≡◌, sym, ap, subst, ◌∙◌}
+use Rattle.zone_core.specs.Sets.{set_of, part, at_name, InOrder}
+use Rattle.zone_core.specs.Effects.{effects}
+use Rattle.zone_core.specs.Sites.{IsSite, Becomes}
+use Rattle.zone_core.proofs.ChangeLemmas.{site_is, set_is, removed_here, added_here}
+use Rattle.zone_core.proofs.change.change_at.Goals as goal
+
+pub effects-requires : goal.effects-requires
+effects-requires c = subst (IsSite c.args.name.now) (sym c.in_ok-copied.ensures) (site_is c.args.name.now c.args.records.now c.requires c.at_name-before.result.now c.at_name-before.ensures)
+
+pub with_difference-requires : goal.with_difference-requires
+with_difference-requires c =
+    let o = c.args.origin.now in
+    let n = c.args.name.now in
+    let rs = c.args.records.now in
+    let ops = c.args.operations.now in
+    let before = c.at_name-before.result.now in
+    let becomes : Becomes n c.in_ok-after.after.items (part (effects o (set_of rs) ops) (at_name n)) =
+    c.in_ok-after.ensures (set_of rs) (ap set_of c.in_ok-copied.ensures ∙ set_is n rs c.requires before c.at_name-before.ensures) in
+    subst InOrder (sym c.deref.ensures.value) becomes.site.order
+
+pub with_difference-requires-2 : goal.with_difference-requires-2
+with_difference-requires-2 c = (site_is c.args.name.now c.args.records.now c.requires c.at_name-before.result.now c.at_name-before.ensures).order
+
+pub returns-clause-removed : goal.returns-clause-removed
+returns-clause-removed c =
+    let o = c.args.origin.now in
+    let n = c.args.name.now in
+    let rs = c.args.records.now in
+    let ops = c.args.operations.now in
+    let before = c.at_name-before.result.now in
+    let becomes : Becomes n c.in_ok-after.after.items (part (effects o (set_of rs) ops) (at_name n)) =
+    c.in_ok-after.ensures (set_of rs) (ap set_of c.in_ok-copied.ensures ∙ set_is n rs c.requires before c.at_name-before.ensures) in
+    removed_here n rs c.requires before c.at_name-before.ensures (effects o (set_of rs) ops) c.in_ok-after.after.items becomes c.args.change.removed.items c.in_ok-with_difference.field-0.items
+    (rw (sym c.deref.ensures.value) c.in_ok-with_difference.ensures)
+
+pub returns-clause-added : goal.returns-clause-added
+returns-clause-added c =
+    let o = c.args.origin.now in
+    let n = c.args.name.now in
+    let rs = c.args.records.now in
+    let ops = c.args.operations.now in
+    let before = c.at_name-before.result.now in
+    let becomes : Becomes n c.in_ok-after.after.items (part (effects o (set_of rs) ops) (at_name n)) =
+    c.in_ok-after.ensures (set_of rs) (ap set_of c.in_ok-copied.ensures ∙ set_is n rs c.requires before c.at_name-before.ensures) in
+    added_here n rs c.requires before c.at_name-before.ensures (effects o (set_of rs) ops) c.in_ok-after.after.items becomes c.args.change.added.items c.in_ok-with_difference-2.field-0.items
+    (rw (sym c.deref-2.ensures.value) c.in_ok-with_difference-2.ensures)
