@@ -1,4 +1,4 @@
--- What operations do to the records of a zone (RFC 2136 sections 2.5 and 3.4.2), and its serial (section 3.6).
+-- What operations do to the records of a zone (RFC 2136 sections 2.5 and 3.4.2).
 use Rattle.std.specs.Prelude.{◌≡◌, ℕ, List, [], ◌∷◌, Bool, false, not, ◌&&◌, ◌||◌, ◌==◌, if◌then◌else◌, Option, Some, None}
 use Rattle.dns_names.specs.Order.{same_name}
 use Rattle.dns_data.specs.declared.record.Record.{Record}
@@ -44,6 +44,7 @@ add_other set r = if has set (at r.owner types.Cname) then set else put (with_tt
 abbrev pub is_misplaced : List (List ℕ) → Record → Bool
 is_misplaced origin r = same_name r.owner origin && (rank_of (type_of r.rdata) == rank_of types.Ds)
 
+-- a record, by its type; a DS at the origin is left out
 abbrev pub add : List (List ℕ) → Records → Record → Records
 add origin set r =
     if is_soa (key_of r) then add_soa set r
@@ -97,36 +98,3 @@ effect origin set (DeleteRecord name rdata) = delete_record origin set (key_at n
 abbrev pub effects : List (List ℕ) → Records → List Operation → Records
 effects origin set [] = set
 effects origin set (op ∷ ops) = effects origin (effect origin set op) ops
-
--- ---- the serial (RFC 2136 section 3.6)
-
-abbrev pub next_soa : SoaFields → SoaFields
-next_soa soa = record soa { serial = record { 0 = serial_sum soa.serial.0 1 } }
-
-abbrev pub next_data : Data → Data
-next_data (Soa soa) = Soa (next_soa soa)
-next_data rdata = rdata
-
--- an SOA with its serial one further (RFC 1982 section 3.1)
-abbrev pub next_version : Record → Record
-next_version r = record r { rdata = next_data r.rdata }
-
--- the set with the next version of an SOA in its place
-abbrev pub with_next : Records → Option Record → Records
-with_next set None = set
-with_next set (Some soa) = put (cut set (at soa.owner types.Soa)) (next_version soa)
-
--- After operations took the records of an origin from one set to another: where nothing changed, TTLs counted, the serial
--- stays; where an SOA was taken its serial stands; else it is one further.
-abbrev pub settled : List (List ℕ) → Records → Records → Records
-settled origin before after =
-    if is_same before after then after
-    else (if serial_at origin before == serial_at origin after then with_next after (soa_at origin after) else after)
-
--- the records after operations
-abbrev pub updated : List (List ℕ) → Records → List Operation → Records
-updated origin set ops = settled origin set (effects origin set ops)
-
--- the zone after an update
-abbrev pub zone_after : ZoneOf → UpdateOf → ZoneOf
-zone_after zone update = record zone { records = updated zone.origin zone.records update.operations }

@@ -1,11 +1,9 @@
--- The refusals of zones, updates and delegations, by their published numbers, and the codes of prerequisites that fail.
+-- The refusals of zones and updates, by their published numbers.
 use Rattle.std.specs.Prelude.{◌≡◌, ℕ, Result, Ok, Err}
 use Rattle.zone_core.specs.declared.fault.ZoneFault.{ZoneFault}
 use Rattle.zone_core.specs.declared.fault.ZoneFault.TheVariants as zones
 use Rattle.zone_core.specs.declared.fault.UpdateFault.{UpdateFault}
 use Rattle.zone_core.specs.declared.fault.UpdateFault.TheVariants as updates
-use Rattle.zone_core.specs.declared.fault.DelegationFault.{DelegationFault}
-use Rattle.zone_core.specs.declared.fault.DelegationFault.TheVariants as delegations
 
 -- the published number of a zone's refusal
 abbrev pub zone_fault_number : ZoneFault → ℕ
@@ -23,14 +21,6 @@ zone_fault_number zones.NoMemory = 99
 abbrev pub update_fault_number : UpdateFault → ℕ
 update_fault_number updates.TooManyItems = 89
 update_fault_number updates.TwoSoa = 92
-
--- the published number of a delegation's refusal
-abbrev pub delegation_fault_number : DelegationFault → ℕ
-delegation_fault_number delegations.NoServer = 40
-delegation_fault_number delegations.GlueMissing = 48
-delegation_fault_number delegations.NotBelowOrigin = 49
-delegation_fault_number delegations.TooManyItems = 89
-delegation_fault_number delegations.NoMemory = 99
 
 -- what a call refused with is the refusal of the definition; want of memory says nothing of the definition
 abbrev pub Refuses : {Y : Type 0} → ZoneFault → Result Y ZoneFault → Type 0

@@ -37,7 +37,7 @@ abbrev pub given_for : List (List ℕ) → RecordType → Prerequisite → List 
 given_for name record_type (RrsetEquals n rdata) = if same_name n name && (rank_of (type_of rdata) == rank_of record_type) then rdata ∷ [] else []
 given_for name record_type p = []
 
--- whether each of the one is among the others
+-- whether each of these data is among those
 abbrev pub all_among : List Data → List Data → Bool
 all_among xs ys = list_all (λ x. list_any (same_data x) ys) xs
 
@@ -58,6 +58,7 @@ set_fails set all p = None
 
 -- ---- the verdict
 
+-- an item that fails with a code
 abbrev pub failed : ℕ → Rcode → Failed
 failed i code = record { code = code; item = i }
 

@@ -34,7 +34,7 @@ InOrder rs = IsStrictlySortedBy record_order rs
 abbrev pub same_key : Key → Key → Bool
 same_key = eq_by_cmp key_cmp
 
--- a record is in a set
+-- a record is in a set, with its TTL
 abbrev pub IsIn : Record → Records → Type 0
 IsIn r set = get set (key_of r) ≡ Some r
 
@@ -60,7 +60,7 @@ has set test = not (count set test == 0)
 abbrev pub at_name : List (List ℕ) → Key → Bool
 at_name name k = same_name k.0 name
 
--- a key of this owner and type: of a record set (RFC 2136 section 1.1.1)
+-- a key of this owner and type: of a record set (RFC 2181 section 5)
 abbrev pub at : List (List ℕ) → RecordType → Key → Bool
 at name record_type k = same_name k.0 name && (k.1 == rank_of record_type)
 

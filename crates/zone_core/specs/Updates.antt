@@ -82,6 +82,7 @@ pub record ActsWithin (origin : List (List ℕ)) (update : UpdateOf) : Type 0 wh
   pub prerequisites : AllByRecursion (λ p. IsWithin (tested_name p) origin) update.prerequisites
   pub operations : AllByRecursion (λ op. IsWithin (acted_name op) origin) update.operations
 
+-- an item of a list, by its number
 abbrev pub place_in : ItemList → ℕ → Place
 place_in list i = record { list = list; item = i }
 

@@ -31,7 +31,7 @@ pub record IsSoaOf (zone : ZoneOf) (soa : Record) : Type 0 where
   pub type : type_of soa.rdata ≡ types.Soa
   pub alone : (r : Record) → IsIn r zone.records → type_of r.rdata ≡ types.Soa → r ≡ soa
 
--- an NS at the origin (RFC 1035 section 5.2)
+-- an NS at the origin (RFC 1034 section 4.2.1)
 pub record IsOriginNs (zone : ZoneOf) (ns : Record) : Type 0 where
   pub here : IsIn ns zone.records
   pub origin : ns.owner ≡ zone.origin
@@ -70,7 +70,7 @@ abbrev pub least_ttl : List Record → ℕ
 least_ttl [] = 0
 least_ttl (r ∷ rs) = least_below r.ttl rs
 
--- the records of one owner and one place of a type
+-- whether two keys are of one set: of one owner and type (RFC 2181 section 5)
 abbrev pub beside : Key → Key → Bool
 beside k other = same_name other.0 k.0 && (other.1 == k.1)
 
@@ -82,9 +82,11 @@ even set e = (e.0, record e.1 { ttl = least_ttl (listing (part set (beside e.0))
 abbrev pub evened : Records → Records
 evened set = from_entries (map (even set) (entries set))
 
+-- a key of an SOA
 abbrev pub is_soa : Key → Bool
 is_soa k = k.1 == rank_of types.Soa
 
+-- a key of a CNAME
 abbrev pub is_cname : Key → Bool
 is_cname k = k.1 == rank_of types.Cname
 
@@ -114,6 +116,7 @@ fault_in origin set =
     else (if has set (is_twin set) then Some TwoCnames
     else (if has set (is_crowded set) then Some CnameAndOther else None)))))))
 
+-- the zone of a set, unless something is wrong with it
 abbrev pub unless_fault : List (List ℕ) → Records → Option ZoneFault → Result ZoneOf ZoneFault
 unless_fault origin set None = Ok (record { origin = origin; records = set })
 unless_fault origin set (Some fault) = Err fault
@@ -133,7 +136,7 @@ abbrev pub soa_in : Data → Option SoaFields
 soa_in (Soa soa) = Some soa
 soa_in rdata = None
 
--- the serial of SOA data (RFC 1035 section 3.3.13), and 0 of others
+-- the serial of an SOA (RFC 1035 section 3.3.13), and 0 of another record
 abbrev pub serial_in : Record → ℕ
 serial_in r = option_map_or (λ soa. soa.serial.0) (soa_in r.rdata) 0
 

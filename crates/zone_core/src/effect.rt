@@ -12,10 +12,10 @@ ghost use Rattle.zone_core.specs.Prerequisites.{same_data};
 ghost use Rattle.zone_core.specs.Effects.{effect, effects, add, add_soa, add_cname, add_other, is_misplaced, takes_over, delete_rrset, delete_name, delete_record, key_at, is_guarded, stays};
 ghost use Rattle.zone_core.specs.Sites.{IsSite, Becomes, with_type_ttl};
 
-use crate::rows::has_type;
+use crate::rows::{has_type, same_data};
 use crate::serial::serial_less;
 use crate::update::Operation;
-use dns_data::{Data, Record, RecordType, Ttl, data_order, record_order};
+use dns_data::{Data, Record, RecordType, Ttl, record_order};
 use dns_names::Name;
 use std::alloc::{AllocError, Global};
 
@@ -152,13 +152,6 @@ fn has_other_type(site: &[Record], record_type: RecordType) -> bool
 {
     site.iter()
         .any(|record| is_of_other_type(record, record_type))
-}
-
-/// Whether two data are the same.
-pub(crate) fn same_data(first: &Data, second: &Data) -> bool
-    ensures { result ≡ same_data first.now second.now }
-{
-    data_order(first, second).is_eq()
 }
 
 /// Whether a record is an NS with other data.

@@ -20,13 +20,13 @@ pub enum ZoneFault {
     /// There is no SOA (RFC 1035 section 5.2).
     #[error("the zone has no SOA record")]
     NoSoa,
-    /// There are two SOA records (RFC 1035 section 5.2).
+    /// There are two SOA records that are not the same (RFC 1035 section 5.2).
     #[error("the zone has two SOA records")]
     TwoSoa,
     /// There is no NS at the origin (RFC 1034 section 4.2.1).
     #[error("the zone has no NS record at its origin")]
     NoOriginNs,
-    /// A name has two CNAME records (RFC 1034 section 3.6.2).
+    /// A name has two CNAME records that are not the same (RFC 1034 section 3.6.2).
     #[error("a name has two CNAME records")]
     TwoCnames,
     /// A name has a CNAME and a record of another type (RFC 1034 section 3.6.2).
@@ -84,7 +84,7 @@ pub enum UpdateFault {
     /// More than 64 prerequisites or more than 256 operations.
     #[error("an update has at most 64 prerequisites and 256 operations")]
     TooManyItems,
-    /// Two operations add an SOA.
+    /// Two operations add an SOA, be it the same one.
     #[error("an update adds at most one SOA record")]
     TwoSoa,
 }
@@ -100,62 +100,5 @@ impl UpdateFault {
             UpdateFault::TooManyItems => 89,
             UpdateFault::TwoSoa => 92,
         }
-    }
-}
-
-/// Why a delegation is refused.
-#[derive(Clone, Copy, Debug, PartialEq, Eq, Error)]
-pub enum DelegationFault {
-    /// The child is not below the zone's origin.
-    #[error("the child is not below the zone's origin")]
-    NotBelowOrigin,
-    /// The request names no server.
-    #[error("the delegation names no server")]
-    NoServer,
-    /// A server within the child has no address (RFC 1034 section 4.2.1).
-    #[error("a server within the child has no address")]
-    GlueMissing,
-    /// The update would have more than 256 operations.
-    #[error("the delegation makes more than 256 operations")]
-    TooManyItems,
-    /// Memory ran out. This says nothing of the request.
-    #[error("out of memory")]
-    NoMemory,
-}
-
-impl DelegationFault {
-    ghost use Rattle.zone_core.specs.Faults.{delegation_fault_number};
-
-    /// The published number of the refusal: 40, 48, 49, 89, or 99 for want of memory.
-    pub const fn number(self) -> u8
-        ensures { result ≡ delegation_fault_number self }
-    {
-        match self {
-            DelegationFault::NoServer => 40,
-            DelegationFault::GlueMissing => 48,
-            DelegationFault::NotBelowOrigin => 49,
-            DelegationFault::TooManyItems => 89,
-            DelegationFault::NoMemory => 99,
-        }
-    }
-}
-
-impl From<AllocError> for DelegationFault {
-    ghost use Rattle.zone_core.specs.declared.fault.DelegationFault.TheVariants.{NoMemory};
-
-    ghost from_gives = { λ _ e. e ≡ NoMemory };
-
-    fn from(_e: AllocError) -> DelegationFault {
-        DelegationFault::NoMemory
-    }
-}
-
-impl<T: Drop> From<AllocFailed<T>> for DelegationFault {
-    ghost use Rattle.zone_core.specs.declared.fault.DelegationFault.TheVariants.{NoMemory};
-
-    ghost from_gives = { λ _ e. e ≡ NoMemory };
-
-    fn from(_e: AllocFailed<T>) -> DelegationFault {
-        DelegationFault::NoMemory
     }
 }

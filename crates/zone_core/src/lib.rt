@@ -1,5 +1,5 @@
-//! Zones and their updates: what a zone is (RFC 1035 section 5.2), what an update does to it (RFC 2136 section 3), and the
-//! delegations in it (RFC 1034 section 4.2).
+//! Zones (RFC 1035 section 5.2) and updates of them (RFC 2136): what a zone is, whether the prerequisites of an update hold
+//! in it, and what operations change.
 #![tactic(auto)]
 
 mod build;
@@ -14,9 +14,12 @@ mod update;
 mod verdict;
 mod zone;
 
-pub use fault::{DelegationFault, UpdateFault, ZoneFault};
+pub use fault::{UpdateFault, ZoneFault};
 pub use rcode::Rcode;
 pub use serial::{serial_add, serial_less};
 pub use update::{ItemList, Operation, Place, Prerequisite, Update};
 pub use verdict::{Failed, holds};
 pub use zone::Zone;
+
+#[cfg(test)]
+mod tests;

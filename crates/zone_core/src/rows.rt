@@ -7,9 +7,10 @@ ghost use Rattle.std.specs.Ordering.{is_eq};
 ghost use Rattle.std.specs.List.{filter};
 ghost use Rattle.std.specs.List.Sorted.{IsSorted};
 ghost use Rattle.zone_core.specs.Sets.{key_of, rank_of, set_of, record_order, same_ttl, has, InOrder, at_name, at, within};
+ghost use Rattle.zone_core.specs.Prerequisites.{same_data};
 ghost use Rattle.zone_core.specs.Views.{set_order};
 
-use dns_data::{Record, RecordType, record_order};
+use dns_data::{Data, Record, RecordType, data_order, record_order};
 use dns_names::Name;
 use std::alloc::{AllocError, Global};
 use std::cmp::Ordering;
@@ -19,6 +20,13 @@ pub(crate) fn has_type(rr: &Record, record_type: RecordType) -> bool
     ensures { result ≡ ((key_of rr.now).1 == rank_of record_type) }
 {
     rr.record_type().rank() == record_type.rank()
+}
+
+/// Whether two data are the same.
+pub(crate) fn same_data(first: &Data, second: &Data) -> bool
+    ensures { result ≡ same_data first.now second.now }
+{
+    data_order(first, second).is_eq()
 }
 
 /// The records at a name.

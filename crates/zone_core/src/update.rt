@@ -45,14 +45,18 @@ pub enum Operation {
 /// One of the two lists of an update.
 #[derive(Clone, Copy, Debug, PartialEq, Eq)]
 pub enum ItemList {
+    /// The prerequisites.
     Prerequisites,
+    /// The operations.
     Operations,
 }
 
 /// An item of an update: its list, and its number in it, from 0.
 #[derive(Clone, Copy, Debug, PartialEq, Eq)]
 pub struct Place {
+    /// The list.
     pub list: ItemList,
+    /// The number of the item, from 0.
     pub item: usize,
 }
 

@@ -6,9 +6,8 @@ ghost use Rattle.std.specs.List.{list_any, list_all, flat_map};
 ghost use Rattle.zone_core.specs.Sets.{set_of, part, at, InOrder};
 ghost use Rattle.zone_core.specs.Prerequisites.{fails, set_fails, same_data, given_for, are_data, first_failed, verdict, failure};
 
-use crate::effect::same_data;
 use crate::rcode::Rcode;
-use crate::rows::{has_name, has_set, of_set};
+use crate::rows::{has_name, has_set, of_set, same_data};
 use crate::update::{Prerequisite, Update};
 use crate::zone::Zone;
 use dns_data::{Data, Record, RecordType};
@@ -17,12 +16,15 @@ use dns_names::Name;
 /// A prerequisite that does not hold: the code of the reply, and the item's number among the prerequisites, from 0.
 #[derive(Clone, Copy, Debug, PartialEq, Eq)]
 pub struct Failed {
+    /// The code of the reply.
     pub code: Rcode,
+    /// The number of the item among the prerequisites, from 0.
     pub item: usize,
 }
 
 /// Whether the prerequisites of an update hold in a zone, or the first that does not: tests by themselves in their order,
-/// and then sets that are given whole, each named by its first item (RFC 2136 section 3.2).
+/// and then sets that are given whole, each named by its first item (RFC 2136 section 3.2). A name outside the zone has no
+/// records in it: `Update::outside` tells of such names.
 pub fn holds(zone: &Zone, update: &Update) -> Result<(), Failed>
     ensures { failure result ≡ verdict zone.now.records update.now.prerequisites }
 {
@@ -103,7 +105,7 @@ fn is_given_whole(
     ensures { result ≡ are_data (part (set_of records.now) (at name.now record_type)) (flat_map (given_for name.now record_type) all.now) }
 {
     let set = of_set(records, name, record_type);
-    // a set of more data than can be given is told apart before each of those is sought in it
+    // a set with more data than an update can give fails the first test, so the second seeks in few
     all_given(set, name, record_type, all) && all_there(all, name, record_type, set)
 }
 
