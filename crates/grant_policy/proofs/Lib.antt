@@ -1,1 +1,1 @@
-pub mod TextLemmas
+mod Walks
