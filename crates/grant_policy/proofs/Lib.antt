@@ -1,1 +1,7 @@
 mod Walks
+pub mod WordLemmas
+pub mod ScopeLemmas
+pub mod RuleLemmas
+pub mod IndexLemmas
+pub mod DecideLemmas
+pub mod DecisionLaws

@@ -1,5 +1,6 @@
 -- What a policy decides: what the first rule that matches does, and where none matches a denial, which is called `closing`.
 use Rattle.std.specs.Prelude.{◌≡◌, ◌⊎◌, ℕ, ◌<◌, List, [], ◌∷◌, Bool, true, false, ◌&&◌, if◌then◌else◌, Option, Some, None, option_map, slice_get, codes}
+use Rattle.std.specs.List.{list_any}
 use Rattle.dns_names.specs.Labels.{is_within}
 use Rattle.dns_data.specs.declared.record_type.RecordType.{RecordType}
 use Rattle.grant_policy.specs.declared.action.Action.{Action}
@@ -8,6 +9,7 @@ use Rattle.grant_policy.specs.declared.decision.Decision.TheVariants as code
 use Rattle.grant_policy.specs.declared.effect.Effect.{Effect}
 use Rattle.grant_policy.specs.declared.effect.Effect.TheVariants.{Grant, Deny}
 use Rattle.grant_policy.specs.declared.rule.Rule.{Rule}
+use Rattle.grant_policy.specs.Words.{all_types, all_actions}
 use Rattle.grant_policy.specs.Rules.{Question, Matches, matches, is_of}
 
 -- a grant by a rule, or a denial by a rule or by none
@@ -44,6 +46,14 @@ abbrev pub decision : Question → List Rule → Verdict
 decision asked [] = denied None
 decision asked (rule ∷ rules) = if matches asked rule then decided rule else decision asked rules
 
+-- the first rule that matches has that effect and that id
+pub record IsDecidedBy (does : Effect) (called : List ℕ) (asked : Question) (rules : List Rule) : Type 0 where
+  pub number : ℕ
+  pub rule : Rule
+  pub is_first : IsFirstMatch asked rules number rule
+  pub effect : rule.effect ≡ does
+  pub id : rule.id ≡ called
+
 -- ---- how a decision is told
 
 abbrev pub verdict_of : Decision → Verdict
@@ -68,6 +78,15 @@ pub record HasRight (rules : List Rule) (caller : List ℕ) (name : List (List �
   pub action : Action
   pub id : List ℕ
   pub granting : decision (record { caller = caller; name = name; record_type = record_type; action = action }) rules ≡ granted id
+
+-- whether some action is granted
+abbrev pub has_right_to : List Rule → List ℕ → List (List ℕ) → RecordType → Bool
+has_right_to rules caller name record_type =
+    list_any (λ a. is_granted (decision (record { caller = caller; name = name; record_type = record_type; action = a }) rules)) all_actions
+
+-- and for some type
+abbrev pub has_right : List Rule → List ℕ → List (List ℕ) → Bool
+has_right rules caller name = list_any (has_right_to rules caller name) all_types
 
 -- ---- cost
 

@@ -48,6 +48,13 @@ impl Action {
         ensures found { (action : Action) → (result ≡ Some action) ↔ (action_text action ≡ word.now) }
         ensures exact { result ≡ action_of word.now }
     {
+        Action::called(word)
+    }
+
+    /// The first of the actions with this word.
+    fn called(word: &[u8]) -> Option<Action>
+        ensures { result ≡ action_of word.now }
+    {
         Action::ALL
             .iter()
             .copied()

@@ -1,11 +1,12 @@
 //! The decision, by the index of a policy.
 
 ghost use Rattle.std.specs.Prelude.{◌≡◌, ◌↔◌, ◌+◌, ◌*◌, ◌<◌, ◌≤◌, ℕ, length, slice_index_or, count_by, true, IsTrue};
-ghost use Rattle.std.specs.List.{list_any};
+ghost use Rattle.std.specs.List.{All};
 ghost use Rattle.std.specs.Option.{option_copied};
+ghost use Rattle.dns_names.specs.Keys.{IsKeyOfOne};
 ghost use Rattle.grant_policy.specs.declared.rule.Rule.{Rule as RuleOf};
 ghost use Rattle.grant_policy.specs.Rules.{matches};
-ghost use Rattle.grant_policy.specs.Decisions.{IsDecision, HasRight, decision, verdict_of, concerns, is_granted};
+ghost use Rattle.grant_policy.specs.Decisions.{IsDecision, HasRight, decision, verdict_of, concerns, is_granted, has_right, has_right_to as has_right_to_type};
 ghost use Rattle.grant_policy.specs.Index.{is_at, place_of};
 ghost use Rattle.grant_policy.specs.Found.{IsFound, question_of, bound_of, is_before};
 
@@ -48,6 +49,8 @@ fn least_at<'a, T: RuleTable>(
     ensures found { IsFound (question_of asked.entry) (T.rules table.now) result }
     ensures upto { bound_of (T.rules table.now) result ≤ bound_of (T.rules table.now) so_far.entry }
     ensures all { (i : ℕ) → (d : RuleOf) → i < length (T.rules table.now) → place_of (slice_index_or (T.rules table.now) i d) ≡ record { caller = option_copied group.entry; key = key.now } → matches (question_of asked.entry) (slice_index_or (T.rules table.now) i d) ≡ true → bound_of (T.rules table.now) result ≤ i }
+    ensures keys { All (λ rule. IsKeyOfOne rule.at) (T.rules table.now) }
+    ensures search { T.count look_ups.old + 1 ≤ T.count look_ups.new }
     ensures cost { T.count look_ups.new ≤ T.count look_ups.old + 1 + count_by (is_at (option_copied group.entry) key.now) (T.rules table.now) }
 {
     let mut found = so_far;
@@ -73,6 +76,13 @@ fn is_less(number: usize, found: Option<Found<'_>>) -> bool
     }
 }
 
+/// How many names a name and those above it are, the root too.
+fn ancestor_count(name: &Name) -> usize
+    ensures { result ≡ length name.now + 1 }
+{
+    name.labels().count() + 1
+}
+
 /// The first rule of a table that matches.
 fn first_match<'a, T: RuleTable>(
     table: &'a T,
@@ -85,7 +95,7 @@ fn first_match<'a, T: RuleTable>(
     ensures searches { T.count look_ups.old + 2 * (length asked.entry.name.now + 1) ≤ T.count look_ups.new }
 {
     let mut found = None;
-    for labels in 0..=asked.name.labels().count() {
+    for labels in 0..ancestor_count(asked.name) {
         if let Some(key) = asked.name.ancestor_key(labels) {
             found = least_at(table, None, key, asked, found, look_ups);
             let own = Some(asked.caller.as_bytes());
@@ -145,17 +155,10 @@ fn grants(
 }
 
 /// Whether a policy grants some action on the records of a type.
-fn has_right_to(
-    policy: &Policy,
-    caller: &Identifier,
-    name: &Name,
-    record_type: RecordType,
-) -> bool
-    ensures { result ≡ list_any (λ action. is_granted (decision (record { caller = caller.now; name = name.now; record_type = record_type; action = action }) policy.now)) Action.ALL }
+fn has_right_to(policy: &Policy, caller: &Identifier, name: &Name, record_type: RecordType) -> bool
+    ensures { result ≡ has_right_to_type policy.now caller.now name.now record_type }
 {
-    Action::ALL
-        .iter()
-        .any(|action| grants(policy, caller, name, record_type, *action))
+    Action::ALL.iter().any(|action| grants(policy, caller, name, record_type, *action))
 }
 
 /// Whether a policy grants a caller some action on the records of some kept type at a name. It takes no memory, and always
@@ -163,7 +166,12 @@ fn has_right_to(
 pub fn has_any_right(policy: &Policy, caller: &Identifier, name: &Name) -> bool
     ensures { IsTrue result ↔ HasRight policy.now caller.now name.now }
 {
-    RecordType::ALL
-        .iter()
-        .any(|record_type| has_right_to(policy, caller, name, *record_type))
+    has_some_right(policy, caller, name)
+}
+
+/// Whether a policy grants some action on the records of some kept type.
+fn has_some_right(policy: &Policy, caller: &Identifier, name: &Name) -> bool
+    ensures { result ≡ has_right policy.now caller.now name.now }
+{
+    RecordType::ALL.iter().any(|record_type| has_right_to(policy, caller, name, *record_type))
 }

@@ -8,6 +8,7 @@ mod deciding;
 mod decision;
 mod effect;
 mod identifier;
+pub mod laws;
 mod look_ups;
 mod policy;
 mod row;

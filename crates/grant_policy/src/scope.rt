@@ -55,6 +55,6 @@ pub fn covers(scope: Scope, at: &Name, name: &Name) -> bool
     match scope {
         Scope::Name => name == at,
         Scope::Subtree => name.is_within(at),
-        Scope::Below => name.is_within(at) && !(name == at),
+        Scope::Below => name.is_below(at),
     }
 }

@@ -49,11 +49,18 @@ impl Types {
     {
         match &self.listed {
             None => true,
-            Some(listed) => listed
-                .iter()
-                .any(|one| one.number() == record_type.number()),
+            Some(listed) => has_type(listed, record_type),
         }
     }
+}
+
+/// Whether a type is in a list.
+fn has_type(listed: &[RecordType], record_type: RecordType) -> bool
+    ensures { result ≡ list_any (λ one. type_number one == type_number record_type) listed.now }
+{
+    listed
+        .iter()
+        .any(|one| one.number() == record_type.number())
 }
 
 /// The actions of which a rule speaks: every one, or those that are listed.
@@ -94,9 +101,16 @@ impl Actions {
     {
         match &self.listed {
             None => true,
-            Some(listed) => listed
-                .iter()
-                .any(|one| one.text().as_bytes() == action.text().as_bytes()),
+            Some(listed) => has_action(listed, action),
         }
     }
+}
+
+/// Whether an action is in a list.
+fn has_action(listed: &[Action], action: Action) -> bool
+    ensures { result ≡ list_any (λ one. bytes_eq (action_text one) (action_text action)) listed.now }
+{
+    listed
+        .iter()
+        .any(|one| one.text().as_bytes() == action.text().as_bytes())
 }
