@@ -5,3 +5,6 @@ pub mod Rules
 pub mod Decisions
 pub mod Index
 pub mod Found
+pub mod Faults
+pub mod Documents
+pub mod Reading
