@@ -5,3 +5,5 @@ pub mod RuleLemmas
 pub mod IndexLemmas
 pub mod DecideLemmas
 pub mod DecisionLaws
+pub mod IdLemmas
+pub mod ReadLemmas

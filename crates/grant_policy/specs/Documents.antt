@@ -31,8 +31,7 @@ key_text key.Types = codes "types"
 key_text key.Actions = codes "actions"
 
 abbrev pub rule_keys : List (List ℕ)
-rule_keys =
-    codes "id" ∷ codes "effect" ∷ codes "caller" ∷ codes "scope" ∷ codes "at" ∷ codes "types" ∷ codes "actions" ∷ []
+rule_keys = map key_text (key.Id ∷ key.Effect ∷ key.Caller ∷ key.Scope ∷ key.At ∷ key.Types ∷ key.Actions ∷ [])
 
 -- a table has no other keys than these
 abbrev pub HasOnly : List (List ℕ) → Members → Type 0

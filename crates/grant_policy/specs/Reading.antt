@@ -5,8 +5,12 @@ use Rattle.std.specs.Prelude.{◌≡◌, ℕ, ◌+◌, List, [], ◌∷◌, ◌+
 use Rattle.std.specs.List.{list_any, list_all, find}
 use Rattle.std.specs.Option.{ok_or}
 use Rattle.std.specs.Str.{str_eq_ignore_ascii_case}
+use Rattle.toml.specs.View.{view}
+use Rattle.grant_policy.specs.declared.reading.Values.{Values}
 use Rattle.toml.specs.Data.{Data, string, array, table, Items, no_items, item, Members, no_members, member, get_member, as_str}
 use Rattle.dns_names.specs.declared.fault.NameFault.{NameFault}
+use Rattle.dns_names.specs.Labels.{IsName}
+use Rattle.dns_names.specs.Spelling.{SpellsAbsolute}
 use Rattle.dns_names.specs.Reading.{absolute_name}
 use Rattle.dns_data.specs.declared.record_type.RecordType.{RecordType}
 use Rattle.dns_data.specs.Types.{type_text}
@@ -38,13 +42,17 @@ abbrev pub free_id : ℕ → List (List ℕ) → List ℕ → Result (List ℕ) 
 free_id number ids id =
     if bytes_eq id (codes "closing") then Err (IdReserved number) else (if is_among id ids then Err (IdRepeated number) else Ok id)
 
--- ids of rules, in order, where some stand before
-abbrev pub free_ids : List (List ℕ) → List (List ℕ) → Result (List (List ℕ)) PolicyFault
-free_ids before [] = Ok []
-free_ids before (id ∷ ids) = do
-  first ← free_id (length before + 1) before id
-  others ← free_ids (before ++ first ∷ []) ids
-  Ok (first ∷ others)
+-- rows of ids that have the same ones, in whatever order
+abbrev pub SameIds : List (List ℕ) → List (List ℕ) → Type 0
+SameIds ids others = (id : List ℕ) → is_among id ids ≡ is_among id others
+
+-- rules, in order, behind rules of these ids
+abbrev pub free_rules : List (List ℕ) → List Rule → Result (List Rule) PolicyFault
+free_rules ids [] = Ok []
+free_rules ids (rule ∷ rules) = do
+  first ← free_id (length ids + 1) ids rule.id
+  others ← free_rules (ids ++ rule.id ∷ []) rules
+  Ok (rule ∷ others)
 
 -- ---- values
 
@@ -80,6 +88,19 @@ named number (Err fault) = Err (of_name number fault)
 
 abbrev pub name_in : ℕ → Data → Result (List (List ℕ)) PolicyFault
 name_in number d = text_in (place.Key number key.At) d >>= λ text. named number (absolute_name text)
+
+-- a value that spells the name
+abbrev pub IsNamed : List (List ℕ) → Data → Type 0
+IsNamed name d = (text : List ℕ) × (d ≡ string text) × IsName name × SpellsAbsolute name text
+
+-- a table with such a value, and tables, one after the other
+abbrev pub IsNamedIn : List (List ℕ) → Members → Type 0
+IsNamedIn name ms = (d : Data) × (get_member (codes "at") ms ≡ Some d) × IsNamed name d
+
+abbrev pub AreNamedIn : List Rule → List Members → Type 0
+AreNamedIn [] mss = Unit {0}
+AreNamedIn (rule ∷ rules) [] = Unit {0}
+AreNamedIn (rule ∷ rules) (ms ∷ mss) = IsNamedIn rule.at ms × AreNamedIn rules mss
 
 -- words, one or more
 abbrev pub words_of : {X : Type 0} → (List ℕ → Option X) → Place → Items → Result (List X) PolicyFault
@@ -126,6 +147,18 @@ rule_data number ms = do
   actions ← needed number ms key.Actions
   Ok (record { id = id; effect = effect; caller = caller; scope = scope; at = at; types = types; actions = actions })
 
+-- the seven values of a rule, as they are read
+abbrev pub data_of : Values → RuleData
+data_of values = record {
+  id = view values.id.now;
+  effect = view values.effect.now;
+  caller = view values.caller.now;
+  scope = view values.scope.now;
+  at = view values.at.now;
+  types = view values.types.now;
+  actions = view values.actions.now;
+}
+
 -- the rule that values make, behind rules of these ids
 abbrev pub rule_in : ℕ → List (List ℕ) → RuleData → Result Rule PolicyFault
 rule_in number ids d = do
@@ -170,6 +203,12 @@ rule_tables (Some _) = Err (BadValue place.Rules)
 
 abbrev pub few : {X : Type 0} → List X → Result (List X) PolicyFault
 few xs = if nat_lt 1024 (length xs) then Err TooManyRules else Ok xs
+
+-- the rules of a list that may be those of a policy
+abbrev pub built : List Rule → Result (List Rule) PolicyFault
+built rules = do
+  all ← few rules
+  free_rules [] all
 
 -- the rules of a document
 abbrev pub policy_of : Option Members → Result (List Rule) PolicyFault

@@ -23,6 +23,17 @@ pub enum RuleKey {
 impl RuleKey {
     ghost use Rattle.grant_policy.specs.Documents.{key_text};
 
+    /// The keys of a rule, in the order in which they are read.
+    pub const ALL: [RuleKey; 7] = [
+        RuleKey::Id,
+        RuleKey::Effect,
+        RuleKey::Caller,
+        RuleKey::Scope,
+        RuleKey::At,
+        RuleKey::Types,
+        RuleKey::Actions,
+    ];
+
     /// The key as it is written: `id`, `effect`, `caller`, `scope`, `at`, `types` or `actions`.
     pub const fn text(self) -> &'static str
         ensures { result.now ≡ key_text self }

@@ -30,7 +30,7 @@ impl Model for Policy {
 
 impl Policy {
     /// The policy of a list of rules, which are not looked at. The only error is want of memory.
-    fn indexed(alloc: Global, rules: Vec<Rule>) -> Result<Policy, AllocError>
+    pub(crate) fn indexed(alloc: Global, rules: Vec<Rule>) -> Result<Policy, AllocError>
         ensures { IfOk result (λ policy. policy ≡ rules.items) }
     {
         let mut index = Vec::new(alloc);
