@@ -7,3 +7,4 @@ pub mod DecideLemmas
 pub mod DecisionLaws
 pub mod IdLemmas
 pub mod ReadLemmas
+pub mod PolicyLaws

@@ -1,7 +1,7 @@
 -- What is read item by item, and its refusals.
-use Rattle.std.proofs.Common.{◌≡◌, ℕ, ◌+◌, ◌<◌, ◌≤◌, List, [], ◌∷◌, ◌++◌, length, drop, Option, Some, None, Result, Ok, Err, refl, sym, ap, ◌∙◌, append_assoc, append-nil, arith, codes, Bool, false, ◌==◌, zero, suc, get_or, add-one, option_map, String, Global, string_bytes, true, ◌&&◌, ◌||◌, ⊎_elim}
+use Rattle.std.proofs.Common.{◌≡◌, ℕ, ◌+◌, ◌<◌, ◌≤◌, List, [], ◌∷◌, ◌++◌, length, drop, take, length-take, Option, Some, None, Result, Ok, Err, refl, sym, ap, ◌∙◌, append_assoc, append-nil, arith, codes, Bool, false, ◌==◌, zero, suc, get_or, add-one, option_map, String, Global, string_bytes, true, ◌&&◌, ◌||◌, ⊎_elim}
 use Rattle.std.specs.Prelude.{bytes_eq, slice_get, map, if◌then◌else◌}
-use Rattle.std.proofs.lemmas.List.{drop_all, map-append}
+use Rattle.std.proofs.lemmas.List.{drop_all, map-append, take_more, drop_more, take_all, length-map}
 use Rattle.toml.specs.declared.value.Value.{Value}
 use Rattle.toml.specs.Data.{Data, string, integer, float, boolean, datetime, array, table, Items, no_items, item, Members, as_str, as_array, as_table}
 use Rattle.toml.specs.View.{view, items_view, members_view}
@@ -10,7 +10,7 @@ use Rattle.grant_policy.specs.declared.fault.PolicyFault.{PolicyFault}
 use Rattle.grant_policy.specs.declared.fault.PolicyFault.TheVariants.{NotToml, UnknownKey, MissingKey, BadValue, IdRepeated, IdReserved, TooManyRules, Name, NoMemory}
 use Rattle.grant_policy.specs.declared.fault.Place.{Place}
 use Rattle.grant_policy.specs.Faults.{Refuses, Reads, ◌>>=◌}
-use Rattle.grant_policy.specs.Reading.{word_in, words_of, selection_in, rule_of, rules_of, IsNamedIn, AreNamedIn, has_only, tables_of, rule_tables}
+use Rattle.grant_policy.specs.Reading.{word_in, words_of, selection_in, rule_of, rules_of, IsNamedIn, AreNamedIn, has_only, tables_of, rule_tables, SameIds, is_among, free_id, free_rules}
 use Rattle.grant_policy.specs.Documents.{document_of}
 use Rattle.grant_policy.specs.declared.fault.Place.TheVariants.{Rules}
 use Rattle.toml.specs.Parse.{parse_document}
@@ -154,6 +154,42 @@ module _ (all : List Members) where
 
   pub rules_done : (done : List Rule) (i : ℕ) → length all ≤ i → rules_from done i ≡ Ok done
   rules_done done i past = ap (λ l. with_front done (rules_of (map (λ (r : Rule). r.id) done) l)) (drop_all i all past) ∙ front_all done
+
+-- rules whose ids are checked
+module _ (all : List Rule) where
+  abbrev pub free_from : ℕ → Result (List Rule) PolicyFault
+  free_from i = with_front (take i all) (free_rules (map (λ rule. rule.id) (take i all)) (drop i all))
+
+  abbrev pub ids_before : ℕ → List (List ℕ)
+  ids_before i = map (λ rule. rule.id) (take i all)
+
+  ids_more : (i : ℕ) (rule : Rule) → i < length all → rule ≡ get_or all i rule → ids_before (i + 1) ≡ ids_before i ++ rule.id ∷ []
+  ids_more i rule lt is = ap (map (λ (r : Rule). r.id)) (take_more all i rule lt ∙ ap (λ (r : Rule). take i all ++ r ∷ []) (sym is)) ∙ map-append (λ (r : Rule). r.id) (take i all) (rule ∷ [])
+
+  free_here : (i : ℕ) (rule : Rule) → i < length all → rule ≡ get_or all i rule → drop i all ≡ rule ∷ drop (i + 1) all
+  free_here i rule lt is = drop_more all i rule lt ∙ ap (λ (r : Rule). r ∷ drop (i + 1) all) (sym is)
+
+  pub free_more : (i : ℕ) (rule : Rule) → i < length all → rule ≡ get_or all i rule → free_id (length (ids_before i) + 1) (ids_before i) rule.id ≡ Ok rule.id → free_from i ≡ free_from (i + 1)
+  free_more i rule lt is e =
+      ap (λ l. with_front (take i all) (free_rules (ids_before i) l)) (free_here i rule lt is)
+      ∙ ap (λ (r : Result (List ℕ) PolicyFault). with_front (take i all) (r >>= λ first. free_rules (ids_before i ++ rule.id ∷ []) (drop (i + 1) all) >>= λ others. Ok (rule ∷ others))) e
+      ∙ front_more (take i all) rule (free_rules (ids_before i ++ rule.id ∷ []) (drop (i + 1) all))
+      ∙ ap (λ (l : List Rule). with_front l (free_rules (ids_before i ++ rule.id ∷ []) (drop (i + 1) all))) (sym (take_more all i rule lt ∙ ap (λ (r : Rule). take i all ++ r ∷ []) (sym is)))
+      ∙ ap (λ (l : List (List ℕ)). with_front (take (i + 1) all) (free_rules l (drop (i + 1) all))) (sym (ids_more i rule lt is))
+
+  pub free_stop : (i : ℕ) (rule : Rule) (fault : PolicyFault) → i < length all → rule ≡ get_or all i rule → free_id (length (ids_before i) + 1) (ids_before i) rule.id ≡ Err fault → free_from i ≡ Err fault
+  free_stop i rule fault lt is e =
+      ap (λ l. with_front (take i all) (free_rules (ids_before i) l)) (free_here i rule lt is)
+      ∙ ap (λ (r : Result (List ℕ) PolicyFault). with_front (take i all) (r >>= λ first. free_rules (ids_before i ++ rule.id ∷ []) (drop (i + 1) all) >>= λ others. Ok (rule ∷ others))) e
+
+  pub free_seen : (ids : List (List ℕ)) (i : ℕ) (rule : Rule) → i < length all → rule ≡ get_or all i rule → SameIds ids (ids_before i ++ rule.id ∷ []) → SameIds ids (ids_before (i + 1))
+  free_seen ids i rule lt is same q = same q ∙ ap (is_among q) (sym (ids_more i rule lt is))
+
+  pub free_count : (i : ℕ) → i < length all → i + 1 ≡ length (ids_before i) + 1
+  free_count i lt = omega (arith, length-map (take i all) (λ (r : Rule). r.id), length-take i all)
+
+  pub free_done : (i : ℕ) → length all ≤ i → free_from i ≡ Ok all
+  free_done i past = ap (λ l. with_front (take i all) (free_rules (ids_before i) l)) (drop_all i all past) ∙ front_all (take i all) ∙ ap (λ (l : List Rule). Ok l) (take_all i all past)
 
 -- ---- keys
 

@@ -24,9 +24,6 @@ use std::alloc::Global;
 use std::str;
 use toml::{Table, Value};
 
-/// The most rules of a policy.
-const RULES_MAX: usize = 1024;
-
 /// The text of a value.
 fn text_of(value: &Value, place: Place) -> Result<&str, PolicyFault>
     ensures { Reads (λ text. text.now) result (text_in place (view value.now)) }
@@ -275,7 +272,7 @@ fn document_rules(alloc: Global, top: &Table) -> Result<Vec<Rule>, PolicyFault>
         return Err(PolicyFault::UnknownKey(Place::Document));
     }
     let tables = document_tables(alloc, top)?;
-    if tables.len() > RULES_MAX {
+    if tables.len() > Policy::RULES_MAX {
         return Err(PolicyFault::TooManyRules);
     }
     read_rules(alloc, &tables)
