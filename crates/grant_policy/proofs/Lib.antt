@@ -8,3 +8,4 @@ pub mod DecisionLaws
 pub mod IdLemmas
 pub mod ReadLemmas
 pub mod PolicyLaws
+pub mod DocumentLaws
