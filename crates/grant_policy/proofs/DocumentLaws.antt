@@ -1,5 +1,5 @@
 -- Which tables are rules, and which documents are policies.
-use Rattle.std.proofs.Common.{◌≡◌, ◌≢◌, ◌⊎◌, ◌↔◌, inl, inr, ℕ, ◌+◌, ◌<◌, ◌≤◌, Bool, true, false, not, ◌&&◌, cond, List, [], ◌∷◌, ◌++◌, length, map, Option, Some, None, option_map, Result, Ok, Err, refl, sym, ap, ◌∙◌, subst, ⊎_elim, codes, arith, leb, ltb}
+use Rattle.std.proofs.Common.{◌≡◌, ◌≢◌, ◌⊎◌, ◌↔◌, inl, inr, ℕ, suc, ◌+◌, ◌<◌, ◌≤◌, Bool, true, false, not, ◌&&◌, cond, List, [], ◌∷◌, ◌++◌, length, map, Option, Some, None, option_map, Result, Ok, Err, refl, sym, ap, ◌∙◌, subst, ⊎_elim, codes, arith, leb, ltb}
 use Rattle.std.specs.Prelude.{bytes_eq}
 use Rattle.std.specs.Bool.{Decides, IsTrue}
 use Rattle.std.specs.List.{AllByRecursion, Contains, list_any, list_all, find}
@@ -274,3 +274,171 @@ module _ (number : ℕ) (ids : List (List ℕ)) (d : RuleData) where
       ∙ bind_step (name_in number d.at) (r6 rule.id rule.effect rule.callers rule.scope) rule.at at
       ∙ bind_step (selection_in type_of (place.Key number key.Types) d.types) (r7 rule.id rule.effect rule.callers rule.scope rule.at) rule.types (selection_only type_of IsCalled type_spelled (place.Key number key.Types) rule.types d.types is.types)
       ∙ bind_step (selection_in action_of (place.Key number key.Actions) d.actions) (r8 rule.id rule.effect rule.callers rule.scope rule.at rule.types) rule.actions (selection_only action_of (λ x text. action_text x ≡ text) action_spelled (place.Key number key.Actions) rule.actions d.actions is.actions)
+
+-- ---- the rule of a table
+
+module _ (ids : List (List ℕ)) (ms : Members) where
+  abbrev n : ℕ
+  n = length ids + 1
+
+  abbrev t2 : Unit {0} → Result Rule PolicyFault
+  t2 known = rule_data n ms >>= λ d. rule_in n ids d
+
+  table_found : (rule : Rule) → rule_of ids ms ≡ Ok rule → IsNamedIn rule.at ms → SpellsRule rule ms × (free_id n ids rule.id ≡ Ok rule.id)
+  table_found rule e at =
+      let known = bind_ok (known_keys rule_keys (place.Rule n) ms) t2 rule e in
+      let d = bind_ok (rule_data n ms) (rule_in n ids) rule known.2 in
+      let has = data_found n ms d.0 d.1 in
+      let made = rule_found n ids d.0 rule d.2 in
+      let is = made.0 in (
+        record {
+          keys = known_ok rule_keys (place.Rule n) ms known.0 known.1;
+          id = has.id ∙ ap Some is.id;
+          identifier = is.identifier;
+          effect = has.effect ∙ ap Some is.effect;
+          caller = (is.caller.0, has.caller ∙ ap Some is.caller.1, is.caller.2);
+          scope = has.scope ∙ ap Some is.scope;
+          at = (at.2.0, at.1 ∙ ap Some at.2.1, at.2.2, at.2.3);
+          types = (d.0.types, has.types, is.types);
+          actions = (d.0.actions, has.actions, is.actions);
+        },
+        made.1,
+      )
+
+  table_only : (rule : Rule) → SpellsRule rule ms → free_id n ids rule.id ≡ Ok rule.id → rule_of ids ms ≡ Ok rule
+  table_only rule is free =
+      let d : RuleData = record { id = string rule.id; effect = string (effect_text rule.effect); caller = string is.caller.0; scope = string (scope_text rule.scope); at = string is.at.0; types = is.types.0; actions = is.actions.0 } in
+      let has : HasData ms d = record { id = is.id; effect = is.effect; caller = is.caller.1; scope = is.scope; at = is.at.1; types = is.types.1; actions = is.actions.1 } in
+      let spelled : SpellsData d rule = record { id = refl; identifier = is.identifier; effect = refl; caller = (is.caller.0, refl, is.caller.2); scope = refl; types = is.types.2; actions = is.actions.2 } in
+      let at : name_in n (string is.at.0) ≡ Ok rule.at = ap (named n) (absolute_only rule.at is.at.0 is.at.2 is.at.3) in
+      bind_step (known_keys rule_keys (place.Rule n) ms) t2 tt (known_only rule_keys (place.Rule n) ms is.keys)
+      ∙ bind_step (rule_data n ms) (rule_in n ids) d (data_only n ms d has)
+      ∙ rule_only n ids d rule spelled free at
+
+-- ---- rules and tables
+
+abbrev AreSpelled : List Rule → List Members → Type 0
+AreSpelled [] mss = mss ≡ []
+AreSpelled (rule ∷ rules) [] = ⊥
+AreSpelled (rule ∷ rules) (ms ∷ mss) = SpellsRule rule ms × AreSpelled rules mss
+
+tables_rules : (ids : List (List ℕ)) (mss : List Members) (rules : List Rule) → rules_of ids mss ≡ Ok rules → AreNamedIn rules mss → AreSpelled rules mss × (free_rules ids rules ≡ Ok rules)
+tables_rules ids [] rules e at =
+    let none : [] ≡ rules = same_Ok [] rules e in
+    subst (λ (l : List Rule). AreSpelled l [] × (free_rules ids l ≡ Ok l)) none (refl, refl)
+tables_rules ids (ms ∷ mss) rules e at =
+    let first = bind_ok (rule_of ids ms) (λ first. rules_of (ids ++ first.id ∷ []) mss >>= λ others. Ok (first ∷ others)) rules e in
+    let rest = bind_ok (rules_of (ids ++ first.0.id ∷ []) mss) (λ others. Ok (first.0 ∷ others)) rules first.2 in
+    let whole : first.0 ∷ rest.0 ≡ rules = same_Ok (first.0 ∷ rest.0) rules rest.2 in
+    let named = subst (λ (l : List Rule). AreNamedIn l (ms ∷ mss)) (sym whole) at in
+    let here = table_found ids ms first.0 first.1 named.0 in
+    let others = tables_rules (ids ++ first.0.id ∷ []) mss rest.0 rest.1 named.1 in
+    subst (λ (l : List Rule). AreSpelled l (ms ∷ mss) × (free_rules ids l ≡ Ok l)) whole (
+      (here.0, others.0),
+      bind_step (free_id (length ids + 1) ids first.0.id) (λ f. free_rules (ids ++ first.0.id ∷ []) rest.0 >>= λ l. ok (first.0 ∷ l)) first.0.id here.1
+          ∙ bind_step (free_rules (ids ++ first.0.id ∷ []) rest.0) (λ l. ok (first.0 ∷ l)) rest.0 others.1,
+    )
+
+rules_tables : (ids : List (List ℕ)) (rules : List Rule) (mss : List Members) → AreSpelled rules mss → free_rules ids rules ≡ Ok rules → rules_of ids mss ≡ Ok rules
+rules_tables ids [] mss none free = ap (rules_of ids) none
+rules_tables ids (rule ∷ rules) [] is free = absurd is
+rules_tables ids (rule ∷ rules) (ms ∷ mss) is free =
+    let first = bind_ok (free_id (length ids + 1) ids rule.id) (λ f. free_rules (ids ++ rule.id ∷ []) rules >>= λ l. ok (rule ∷ l)) (rule ∷ rules) free in
+    let rest = bind_ok (free_rules (ids ++ rule.id ∷ []) rules) (λ l. ok (rule ∷ l)) (rule ∷ rules) first.2 in
+    let own : free_id (length ids + 1) ids rule.id ≡ Ok rule.id = first.1 ∙ ap ok (sym (free_id_same (length ids + 1) ids rule.id first.0 first.1)) in
+    let others : free_rules (ids ++ rule.id ∷ []) rules ≡ Ok rules = rest.1 ∙ ap ok (free_found (ids ++ rule.id ∷ []) rules rest.0 rest.1).0 in
+    bind_step (rule_of ids ms) (λ f. rules_of (ids ++ f.id ∷ []) mss >>= λ l. ok (f ∷ l)) rule (table_only ids ms rule is.0 own)
+    ∙ bind_step (rules_of (ids ++ rule.id ∷ []) mss) (λ l. ok (rule ∷ l)) rules (rules_tables (ids ++ rule.id ∷ []) rules mss is.1 others)
+
+abbrev all_tables : List Members → Items
+all_tables [] = no_items
+all_tables (ms ∷ mss) = item (table ms) (all_tables mss)
+
+more_tables : (o : Option (List Members)) (ms : Members) (mss : List Members) → option_map (λ l. ms ∷ l) o ≡ Some mss → (l : List Members) × (o ≡ Some l) × (mss ≡ ms ∷ l)
+more_tables None ms mss e = absurd cc
+more_tables (Some l) ms mss e = (l, refl, sym (same_Some (ms ∷ l) mss e))
+
+tables_are : (items : Items) (mss : List Members) → tables_of items ≡ Some mss → items ≡ all_tables mss
+tables_are no_items mss e = ap all_tables (same_Some [] mss e)
+tables_are (item (string text) ds) mss e = absurd cc
+tables_are (item (integer z) ds) mss e = absurd cc
+tables_are (item (float x) ds) mss e = absurd cc
+tables_are (item (boolean b) ds) mss e = absurd cc
+tables_are (item (datetime t) ds) mss e = absurd cc
+tables_are (item (array es) ds) mss e = absurd cc
+tables_are (item (table ms) ds) mss e =
+    let more = more_tables (tables_of ds) ms mss e in
+    ap (item (table ms)) (tables_are ds more.0 more.1) ∙ ap all_tables (sym more.2)
+
+are_tables : (mss : List Members) → tables_of (all_tables mss) ≡ Some mss
+are_tables [] = refl
+are_tables (ms ∷ mss) = ap (option_map (λ l. ms ∷ l)) (are_tables mss)
+
+spelled_rules : (rules : List Rule) (mss : List Members) → AreSpelled rules mss → SpellsRules rules (all_tables mss)
+spelled_rules [] mss none = ap all_tables none
+spelled_rules (rule ∷ rules) [] is = absurd is
+spelled_rules (rule ∷ rules) (ms ∷ mss) is = (ms, all_tables mss, refl, is.0, spelled_rules rules mss is.1)
+
+rules_spelled : (rules : List Rule) (items : Items) → SpellsRules rules items → (mss : List Members) × (items ≡ all_tables mss) × AreSpelled rules mss
+rules_spelled [] items e = ([], e, refl)
+rules_spelled (rule ∷ rules) items (ms, rest, is', here, others) =
+    let more = rules_spelled rules rest others in
+    (ms ∷ more.0, is' ∙ ap (item (table ms)) more.1, (here, more.2))
+
+rule_tables_ok : (o : Option Data) (mss : List Members) → rule_tables o ≡ Ok mss → ((o ≡ None) × (mss ≡ [])) ⊎ ((items : Items) × (o ≡ Some (array items)) × (tables_of items ≡ Some mss))
+rule_tables_ok None mss e = inl (refl, sym (same_Ok [] mss e))
+rule_tables_ok (Some (string text)) mss e = absurd (not_Err (BadValue place.Rules) mss e)
+rule_tables_ok (Some (integer z)) mss e = absurd (not_Err (BadValue place.Rules) mss e)
+rule_tables_ok (Some (float x)) mss e = absurd (not_Err (BadValue place.Rules) mss e)
+rule_tables_ok (Some (boolean b)) mss e = absurd (not_Err (BadValue place.Rules) mss e)
+rule_tables_ok (Some (datetime t)) mss e = absurd (not_Err (BadValue place.Rules) mss e)
+rule_tables_ok (Some (array items)) mss e = inr (items, refl, ok_or_ok (tables_of items) (BadValue place.Rules) mss e)
+rule_tables_ok (Some (table ms)) mss e = absurd (not_Err (BadValue place.Rules) mss e)
+
+spelled_length : (rules : List Rule) (mss : List Members) → AreSpelled rules mss → length rules ≡ length mss
+spelled_length [] mss none = sym (ap (length {A = Members}) none)
+spelled_length (rule ∷ rules) [] is = absurd is
+spelled_length (rule ∷ rules) (ms ∷ mss) is = ap suc (spelled_length rules mss is.1)
+
+-- ---- documents
+
+abbrev top_value : Members → Option Data
+top_value top = get_member (codes "rule") top
+
+pub policy_found : (top : Members) (rules : List Rule) → policy_of (Some top) ≡ Ok rules → ((mss : List Members) → rule_tables (top_value top) ≡ Ok mss → AreNamedIn rules mss) → IsPolicy top rules
+policy_found top rules e named =
+    let known = bind_ok (known_keys (codes "rule" ∷ []) place.Document top) (λ u. rule_tables (top_value top) >>= λ all. few all >>= λ mss. rules_of [] mss) rules e in
+    let all = bind_ok (rule_tables (top_value top)) (λ all. few all >>= λ mss. rules_of [] mss) rules known.2 in
+    let mss = bind_ok (few all.0) (λ mss. rules_of [] mss) rules all.2 in
+    let short = few_ok all.0 mss.0 mss.1 in
+    let read : rules_of [] all.0 ≡ Ok rules = ap (rules_of []) short.1 ∙ mss.2 in
+    let both = tables_rules [] all.0 rules read (named all.0 all.1) in
+    let free = (free_found [] rules rules both.1).1 in
+    record {
+      keys = known_ok (codes "rule" ∷ []) place.Document top known.0 known.1;
+      tables = ⊎_elim
+          (λ (none : (top_value top ≡ None) × (all.0 ≡ [])). inl (none.0, no_rules rules (subst (AreSpelled rules) none.1 both.0)))
+          (λ (some : (items : Items) × (top_value top ≡ Some (array items)) × (tables_of items ≡ Some all.0)).
+          inr (some.0, some.1, subst (SpellsRules rules) (sym (tables_are some.0 all.0 some.2)) (spelled_rules rules all.0 both.0)))
+          (rule_tables_ok (top_value top) all.0 all.1);
+      are = record { few = omega (arith, spelled_length rules all.0 both.0, short.0); distinct = free.distinct; free = free.open' };
+    }
+  where
+    no_rules : (rules : List Rule) → AreSpelled rules [] → rules ≡ []
+    no_rules [] is = refl
+    no_rules (rule ∷ rules) is = absurd is
+
+pub policy_only : (top : Members) (rules : List Rule) → IsPolicy top rules → policy_of (Some top) ≡ Ok rules
+policy_only top rules is =
+    let got : (mss : List Members) × (rule_tables (top_value top) ≡ Ok mss) × AreSpelled rules mss = ⊎_elim
+    (λ (none : (top_value top ≡ None) × (rules ≡ [])). ([], ap rule_tables none.0, subst (λ (l : List Rule). AreSpelled l []) (sym none.1) refl))
+    (λ (some : (items : Items) × (top_value top ≡ Some (array items)) × SpellsRules rules items).
+    let more = rules_spelled rules some.0 some.2 in
+    (more.0, ap rule_tables (some.1 ∙ ap (λ (l : Items). Some (array l)) more.1) ∙ ap (λ (o : Option (List Members)). ok_or o (BadValue place.Rules)) (are_tables more.0), more.2))
+    is.tables in
+    let free : free_rules [] rules ≡ Ok rules = free_only [] rules (record { open' = is.are.free; fresh = none_before rules; distinct = is.are.distinct }) in
+    let short : length got.0 ≤ 1024 = omega (arith, spelled_length rules got.0 got.2, is.are.few) in
+    bind_step (known_keys (codes "rule" ∷ []) place.Document top) (λ u. rule_tables (top_value top) >>= λ all. few all >>= λ mss. rules_of [] mss) tt (known_only (codes "rule" ∷ []) place.Document top is.keys)
+    ∙ bind_step (rule_tables (top_value top)) (λ all. few all >>= λ mss. rules_of [] mss) got.0 got.1
+    ∙ bind_step (few got.0) (λ mss. rules_of [] mss) got.0 (few_only got.0 short)
+    ∙ rules_tables [] rules got.0 got.2 free

@@ -2,9 +2,10 @@
 
 ghost use Rattle.std.specs.Prelude.{◌≡◌, ◌+◌, ◌∷◌, ◌++◌, List, ℕ, [], Some, Ok, length, map, codes, bytes_eq, string_bytes, None, ◌⊎◌, IfOk, MatchResult};
 ghost use Rattle.std.specs.Option.{option_map};
-ghost use Rattle.toml.specs.Data.{string, get_member};
+ghost use Rattle.toml.specs.Data.{Members, string, get_member};
 ghost use Rattle.toml.specs.View.{view, table_view, items_view};
-ghost use Rattle.grant_policy.specs.Documents.{document_of, rule_keys, key_text};
+ghost use Rattle.grant_policy.specs.declared.rule.Rule.{Rule as RuleOf};
+ghost use Rattle.grant_policy.specs.Documents.{document_of, rule_keys, key_text, IsPolicy};
 ghost use Rattle.grant_policy.specs.Words.{action_of};
 ghost use Rattle.grant_policy.specs.Faults.{Reads};
 ghost use Rattle.grant_policy.specs.Reading.{SameIds, text_in, word_in, words_of, type_of, name_in, selection_in, needed, rule_data, rule_in, rule_of, rules_of, rule_tables, known_keys, policy_of, data_of, IsNamed, IsNamedIn, AreNamedIn, has_only, tables_of};
@@ -267,6 +268,7 @@ fn value_tables(alloc: Global, value: &Value) -> Result<Vec<&Table>, PolicyFault
 /// The rules of a document.
 fn document_rules(alloc: Global, top: &Table) -> Result<Vec<Rule>, PolicyFault>
     ensures exact { Reads (λ rules. rules.items) result (policy_of (Some (table_view top.now))) }
+    ensures named { IfOk result (λ rules. (mss : List Members) → rule_tables (get_member (codes "rule") (table_view top.now)) ≡ Ok mss → AreNamedIn rules.items mss) }
 {
     if !has_top_keys_only(top) {
         return Err(PolicyFault::UnknownKey(Place::Document));
@@ -292,9 +294,30 @@ fn document(alloc: Global, text: &[u8]) -> Result<Table, PolicyFault>
     }
 }
 
-/// Reads a policy from a TOML document.
+/// Reads a policy from a TOML document, in UTF-8, whose only key is `rule`, an array of tables; without it there is no rule.
+/// Each table has exactly the keys `id`, `effect`, `caller`, `scope`, `at`, `types` and `actions`. `caller` is `*` or an
+/// identifier, `at` an absolute name, `types` and `actions` are `*` or an array of one or more; types are read in either
+/// letter case, all other words as they are written.
+///
+/// Of several refusals the first of these is answered: `NotToml`; `UnknownKey` at the top; `BadValue` where `rule` is no
+/// array of tables; `TooManyRules` above 1,024; and then rule by rule `UnknownKey`, `MissingKey`, and for the values in the
+/// order of the keys above `BadValue`, for the id then `IdReserved` and `IdRepeated`, and for `at` then `Name`. `NoMemory`
+/// comes at the growth that was refused. The time grows with the octets, and with the rules n as n log n.
 pub fn read_policy(alloc: Global, text: &[u8]) -> Result<Policy, PolicyFault>
+    // What is read is a policy with these rules.
+    ensures found { IfOk result (λ policy. (top : Members) × (document_of text.now ≡ Some top) × IsPolicy top policy) }
+    // A document that is a policy is read, unless memory runs out.
+    ensures only { (top : Members) (rules : List RuleOf) → document_of text.now ≡ Some top → IsPolicy top rules → Reads (λ policy. policy) result (Ok rules) }
+    // Which refusal it is.
     ensures exact { Reads (λ policy. policy) result (policy_of (document_of text.now)) }
+{
+    policy_in(alloc, text)
+}
+
+/// The policy of a text, or the refusal that comes first.
+fn policy_in(alloc: Global, text: &[u8]) -> Result<Policy, PolicyFault>
+    ensures exact { Reads (λ policy. policy) result (policy_of (document_of text.now)) }
+    ensures found { IfOk result (λ policy. (top : Members) × (document_of text.now ≡ Some top) × IsPolicy top policy) }
 {
     let top = document(alloc, text)?;
     let rules = document_rules(alloc, &top)?;
