@@ -1,10 +1,10 @@
 -- The least rule that matches, and how many rules are at the names above a name.
 use Rattle.std.proofs.Common.{◌≡◌, ℕ, zero, suc, ◌+◌, ◌-◌, ◌<◌, ◌≤◌, ◌⊎◌, Bool, true, false, ◌&&◌, cond, ltb, ltb-true, List, [], ◌∷◌, ◌++◌, length, take, drop, get_or, Option, Some, None, refl, sym, ap, ◌∙◌, subst, inl, inr, ⊎_elim, arith, count_by, length-append, length-drop}
 use Rattle.std.specs.Option.{option_eq}
-use Rattle.std.specs.Prelude.{bytes_eq, slice_get}
+use Rattle.std.specs.Prelude.{bytes_eq}
 use Rattle.std.specs.List.{All, sum_by}
 use Rattle.std.proofs.lemmas.Bool.{cases_lt, cases_Bool, false≢true, lt-ltb, le-ltb, le-leb}
-use Rattle.std.proofs.lemmas.List.{take-append-drop, drop-append-le}
+use Rattle.std.proofs.lemmas.List.{take-append-drop}
 use Rattle.std.proofs.lemmas.List.Sums.{sum_by-cons, sum_by-le-sum_by}
 use Rattle.std.proofs.lemmas.Slice.Eq.{bytes_eq-Decides}
 use Rattle.dns_names.specs.Labels.{IsWithin, is_within, wire_len}
@@ -15,13 +15,13 @@ use Rattle.grant_policy.specs.declared.rule.Rule.{Rule}
 use Rattle.grant_policy.specs.declared.scope.Scope.{Scope}
 use Rattle.grant_policy.specs.declared.scope.Scope.TheVariants.{Name, Subtree, Below}
 use Rattle.grant_policy.specs.declared.deciding.Found.{Found}
-use Rattle.grant_policy.specs.Scopes.{Covers, covers}
-use Rattle.grant_policy.specs.Rules.{Question, Matches, is_of, matches}
+use Rattle.grant_policy.specs.Scopes.{Covers}
+use Rattle.grant_policy.specs.Rules.{Question, is_of, matches}
 use Rattle.grant_policy.specs.Decisions.{Verdict, denied, decided, decision, concerns}
-use Rattle.grant_policy.specs.Index.{is_at, one_of, place_of, Place}
-use Rattle.grant_policy.specs.Found.{IsFound, IsRuleFound, bound_of}
+use Rattle.grant_policy.specs.Index.{is_at, one_of, place_of}
+use Rattle.grant_policy.specs.Found.{IsFound, bound_of}
 use Rattle.grant_policy.proofs.ScopeLemmas.{is_within-Decides}
-use Rattle.grant_policy.proofs.RuleLemmas.{is_of-Decides, matches-Decides}
+use Rattle.grant_policy.proofs.RuleLemmas.{matches-Decides}
 
 -- ---- the decision
 

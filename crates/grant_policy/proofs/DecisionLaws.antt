@@ -1,11 +1,11 @@
 -- The decision of a list of rules, and the relation that it is of.
-use Rattle.std.proofs.Common.{◌≡◌, ◌⊎◌, ◌↔◌, ◌≢◌, inl, inr, ℕ, zero, suc, ◌<◌, Bool, true, false, cond, List, [], ◌∷◌, ◌++◌, length, Option, Some, None, refl, sym, ap, ◌∙◌, subst, ⊎_elim, arith, ◌||◌, ◌≤◌, lit<}
+use Rattle.std.proofs.Common.{◌≡◌, ◌↔◌, ◌≢◌, inl, inr, ℕ, zero, suc, ◌<◌, Bool, true, false, List, [], ◌∷◌, ◌++◌, Some, None, refl, sym, ap, ◌∙◌, subst, ⊎_elim, arith, ◌||◌, ◌≤◌, lit<, codes}
 use Rattle.std.specs.Prelude.{slice_get}
-use Rattle.std.proofs.lemmas.Bool.{cases_Bool, false≢true, cases_lt}
+use Rattle.std.proofs.lemmas.Bool.{cases_Bool, cases_lt}
 use Rattle.std.proofs.lemmas.Bool.Decides.{not_from_Decides}
 use Rattle.std.proofs.lemmas.List.Folds.{list_any_at}
 use Rattle.std.specs.Bool.{Decides}
-use Rattle.std.specs.List.{list_any}
+use Rattle.std.specs.List.{AllByRecursion, list_any}
 use Rattle.dns_data.specs.declared.record_type.RecordType.{RecordType}
 use Rattle.dns_data.specs.declared.record_type.RecordType.TheVariants.{A, Ns, Cname, Soa, Ptr, Mx, Txt, Aaaa, Srv, Ds}
 use Rattle.grant_policy.specs.declared.action.Action.{Action}
@@ -15,7 +15,7 @@ use Rattle.grant_policy.specs.declared.effect.Effect.TheVariants.{Grant, Deny}
 use Rattle.grant_policy.specs.declared.rule.Rule.{Rule}
 use Rattle.grant_policy.specs.Words.{all_types, all_actions}
 use Rattle.grant_policy.specs.Rules.{Question, Matches, matches}
-use Rattle.grant_policy.specs.Decisions.{Verdict, granted, denied, effect_by, decided, decision, NoneMatches, IsFirstMatch, IsDecision, IsDecidedBy, is_granted, has_right, has_right_to, HasRight}
+use Rattle.grant_policy.specs.Decisions.{Verdict, granted, denied, effect_by, decided, decision, NoneMatches, IsFirstMatch, IsDecision, IsDecidedBy, told, is_granted, has_right, has_right_to, HasRight}
 use Rattle.grant_policy.proofs.RuleLemmas.{matches-Decides}
 
 same_Some : {T : Type 0} (a b : T) → Some a ≡ Some b → a ≡ b
@@ -142,3 +142,19 @@ decision_stays p (first ∷ rules) rule some =
     (λ (yes' : matches p first ≡ true). rw yes' refl)
     (λ (no' : matches p first ≡ false). rw no' (decision_stays p rules rule (rw no' at some)))
     (cases_Bool (matches p first))
+
+-- ---- how a decision is told
+
+open_at : (rules : List Rule) (i : ℕ) (rule : Rule) → AllByRecursion (λ r. r.id ≢ codes "closing") rules → slice_get rules i ≡ Some rule → rule.id ≢ codes "closing"
+open_at [] i rule all at = absurd cc
+open_at (r ∷ rules) zero rule all at = let e : r ≡ rule = same_Some r rule at in subst (λ (s : Rule). s.id ≢ codes "closing") e all.0
+open_at (r ∷ rules) (suc i) rule all at = open_at rules i rule all.1 at
+
+told_by : (effect : Effect) (id : List ℕ) → told (effect_by effect id) ≡ id
+told_by Grant id = refl
+told_by Deny id = refl
+
+pub told_closing : (p : Question) (rules : List Rule) (v : Verdict) → IsDecision p rules v → AllByRecursion (λ r. r.id ≢ codes "closing") rules → (told v ≡ codes "closing") ↔ NoneMatches p rules
+told_closing p rules v (inl (i, rule, f, e)) all =
+    (λ c. absurd (open_at rules i rule all f.at (sym (told_by rule.effect rule.id) ∙ ap told (sym e) ∙ c)), λ none. absurd (none i rule f.at f.matching))
+told_closing p rules v (inr (none, e)) all = (λ c. none, λ n. ap told e)

@@ -1,17 +1,12 @@
 -- Which tables are rules, and which documents are policies.
-use Rattle.std.proofs.Common.{◌≡◌, ◌≢◌, ◌⊎◌, ◌↔◌, inl, inr, ℕ, suc, ◌+◌, ◌<◌, ◌≤◌, Bool, true, false, not, ◌&&◌, cond, List, [], ◌∷◌, ◌++◌, length, map, Option, Some, None, option_map, Result, Ok, Err, refl, sym, ap, ◌∙◌, subst, ⊎_elim, codes, arith, leb, ltb}
+use Rattle.std.proofs.Common.{◌≡◌, ◌⊎◌, ◌↔◌, inl, inr, ℕ, suc, ◌+◌, ◌≤◌, Bool, true, false, cond, List, [], ◌∷◌, ◌++◌, length, Option, Some, None, option_map, Result, Ok, Err, refl, sym, ap, ◌∙◌, subst, ⊎_elim, codes, arith, leb}
 use Rattle.std.specs.Prelude.{bytes_eq}
-use Rattle.std.specs.Bool.{Decides, IsTrue}
-use Rattle.std.specs.List.{AllByRecursion, Contains, list_any, list_all, find}
+use Rattle.std.specs.Bool.{Decides}
 use Rattle.std.specs.Option.{ok_or}
 use Rattle.std.proofs.lemmas.Bool.{cases_Bool, false≢true}
-use Rattle.std.proofs.lemmas.Bool.Decides.{Decides-and, Decides-like, Decides-ltb, not_from_Decides, leb_tells}
+use Rattle.std.proofs.lemmas.Bool.Decides.{Decides-and, Decides-like, Decides-ltb, leb_tells}
 use Rattle.std.proofs.lemmas.Slice.Eq.{bytes_eq-Decides}
 use Rattle.toml.specs.Data.{Data, string, integer, float, boolean, datetime, array, table, Items, no_items, item, Members, no_members, member, get_member}
-use Rattle.dns_names.specs.declared.fault.NameFault.{NameFault}
-use Rattle.dns_names.specs.Labels.{IsName}
-use Rattle.dns_names.specs.Spelling.{SpellsAbsolute}
-use Rattle.dns_names.specs.Reading.{absolute_name}
 use Rattle.dns_names.proofs.ReadingLaws.{absolute_only}
 use Rattle.dns_data.specs.declared.record_type.RecordType.{RecordType}
 use Rattle.dns_data.specs.Types.{IsCalled}
@@ -29,14 +24,14 @@ use Rattle.grant_policy.specs.declared.fault.Place.TheVariants as place
 use Rattle.grant_policy.specs.declared.fault.RuleKey.{RuleKey}
 use Rattle.grant_policy.specs.declared.fault.RuleKey.TheVariants as key
 use Rattle.grant_policy.specs.declared.rule.Rule.{Rule}
-use Rattle.grant_policy.specs.Identifiers.{IsIdentifier, is_identifier_octet}
+use Rattle.grant_policy.specs.Identifiers.{IsIdentifier}
 use Rattle.grant_policy.specs.Words.{effect_text, scope_text, action_text, effect_of, scope_of, action_of, all_actions}
 use Rattle.grant_policy.specs.Documents.{AreRules, HasOnly, IsPolicy, SpellsCallers, SpellsRule, SpellsRules, SpellsSelection, key_text, rule_keys}
-use Rattle.grant_policy.specs.Faults.{◌>>=◌, of_name}
-use Rattle.grant_policy.specs.Reading.{RuleData, IsNamed, IsNamedIn, AreNamedIn, free_id, free_rules, few, text_in, word_in, identifier_of, is_identifier, callers_of, type_of, named, name_in, selection_in, needed, rule_data, rule_in, rule_of, rules_of, has_only, known_keys, tables_of, rule_tables, policy_of}
+use Rattle.grant_policy.specs.Faults.{◌>>=◌}
+use Rattle.grant_policy.specs.Reading.{RuleData, IsNamedIn, AreNamedIn, free_id, free_rules, few, word_in, identifier_of, is_identifier, callers_of, type_of, named, name_in, selection_in, needed, rule_data, rule_in, rule_of, rules_of, has_only, known_keys, tables_of, rule_tables, policy_of}
 use Rattle.grant_policy.proofs.WordLemmas.{by_word, action_own, type_named}
 use Rattle.grant_policy.proofs.RuleLemmas.{list_any-Decides}
-use Rattle.grant_policy.proofs.PolicyLaws.{AreFree, ok, same_Ok, not_Err, bind_ok, cond_ok, ok_or_ok, word_ok, word_only, selection_found, selection_only, free_id_same, free_found, free_only, few_ok, few_only, none_before}
+use Rattle.grant_policy.proofs.PolicyLaws.{ok, same_Ok, not_Err, bind_ok, ok_or_ok, word_ok, word_only, selection_found, selection_only, free_id_same, free_found, free_only, few_ok, few_only, none_before, free_are}
 
 -- ---- keys
 
@@ -399,6 +394,12 @@ spelled_length : (rules : List Rule) (mss : List Members) → AreSpelled rules m
 spelled_length [] mss none = sym (ap (length {A = Members}) none)
 spelled_length (rule ∷ rules) [] is = absurd is
 spelled_length (rule ∷ rules) (ms ∷ mss) is = ap suc (spelled_length rules mss is.1)
+
+-- tables that are read make the rules of a policy, where they are few
+pub tables_make : (mss : List Members) (rules : List Rule) → rules_of [] mss ≡ Ok rules → AreNamedIn rules mss → length mss ≤ 1024 → AreRules rules
+tables_make mss rules e at short =
+    let both = tables_rules [] mss rules e at in
+    free_are rules (omega (arith, spelled_length rules mss both.0, short)) both.1
 
 -- ---- documents
 

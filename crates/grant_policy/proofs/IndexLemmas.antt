@@ -15,8 +15,7 @@ use Rattle.std.proofs.lemmas.List.Sums.{sum_by-cons, sum_by-take-drop}
 use Rattle.std.proofs.lemmas.Map.Lookups.{exact_bytes}
 use Rattle.std.proofs.lemmas.Cmp.{tied_itself}
 use Rattle.std.proofs.lemmas.Slice.Eq.{bytes_eq-Decides}
-use Rattle.dns_names.specs.Keys.{key_of}
-use Rattle.grant_policy.specs.Index.{IsIndex, IsRow, Names, Place, RowOf, is_at, one_of, place_cmp, place_of, place_total, rows_from}
+use Rattle.grant_policy.specs.Index.{IsIndex, IsRow, Names, Place, RowOf, is_at, place_cmp, place_of, place_total, rows_from}
 use Rattle.grant_policy.specs.declared.rule.Rule.{Rule}
 
 pub length_rows : (n : ℕ) (rules : List Rule) → length (rows_from n rules) ≡ length rules

@@ -1,23 +1,21 @@
 -- Which rules make a policy, and which documents are one.
-use Rattle.std.proofs.Common.{◌≡◌, ◌≢◌, ◌⊎◌, ◌↔◌, inl, inr, ℕ, zero, suc, ◌+◌, ◌<◌, ◌≤◌, Bool, true, false, not, ◌&&◌, ◌||◌, cond, List, [], ◌∷◌, ◌++◌, length, map, Option, Some, None, option_map, Result, Ok, Err, refl, sym, ap, ◌∙◌, subst, ⊎_elim, codes, arith, leb, ltb, ltb-true}
-use Rattle.std.specs.Prelude.{bytes_eq, nat_lt}
-use Rattle.std.specs.Bool.{Decides}
-use Rattle.std.specs.List.{AllByRecursion, Contains, IsDistinct, list_any}
+use Rattle.std.proofs.Common.{◌≡◌, ◌≢◌, ◌↔◌, ℕ, ◌+◌, ◌<◌, ◌≤◌, Bool, true, false, ◌||◌, cond, List, [], ◌∷◌, ◌++◌, length, map, Option, Some, None, Result, Ok, Err, refl, sym, ap, ◌∙◌, subst, ⊎_elim, codes, ltb}
+use Rattle.std.specs.Prelude.{bytes_eq}
+use Rattle.std.specs.List.{AllByRecursion, IsDistinct}
 use Rattle.std.specs.Result.{IfOk}
 use Rattle.std.proofs.lemmas.Bool.{cases_Bool, cases_lt, lt-ltb, le-ltb, false≢true}
 use Rattle.std.proofs.lemmas.Bool.Decides.{not_from_Decides}
 use Rattle.std.proofs.lemmas.Slice.Eq.{bytes_eq-Decides}
 use Rattle.grant_policy.specs.declared.fault.PolicyFault.{PolicyFault}
-use Rattle.grant_policy.specs.declared.fault.PolicyFault.TheVariants.{UnknownKey, MissingKey, BadValue, IdRepeated, IdReserved, TooManyRules}
+use Rattle.grant_policy.specs.declared.fault.PolicyFault.TheVariants.{BadValue, IdRepeated, IdReserved, TooManyRules}
 use Rattle.grant_policy.specs.declared.rule.Rule.{Rule}
 use Rattle.grant_policy.specs.Documents.{AreRules, SpellsItems, SpellsSelection}
 use Rattle.grant_policy.specs.Faults.{Reads, ◌>>=◌}
 use Rattle.grant_policy.specs.Reading.{is_among, free_id, free_rules, few, built, text_in, word_in, words_of, selection_in}
 use Rattle.grant_policy.proofs.IdLemmas.{among_push}
 use Rattle.std.specs.Option.{ok_or}
-use Rattle.toml.specs.Data.{Data, string, integer, float, boolean, datetime, array, table, Items, no_items, item, Members, no_members, member, get_member, as_str}
+use Rattle.toml.specs.Data.{Data, string, integer, float, boolean, datetime, array, table, Items, no_items, item, as_str}
 use Rattle.grant_policy.specs.declared.fault.Place.{Place}
-use Rattle.grant_policy.specs.declared.fault.Place.TheVariants as place
 
 -- what is true of each value that a definition reads is true of what a call answers
 pub found_of : {X : Type 0} (P : X → Type 0) (r read : Result X PolicyFault) → Reads (λ x. x) r read → ((x : X) → read ≡ Ok x → P x) → IfOk r P
@@ -140,6 +138,9 @@ few_only xs le = rw (le-ltb 1024 (length xs) le) refl
 pub none_before : (rules : List Rule) → Fresh [] rules
 none_before [] = tt
 none_before (rule ∷ rules) = (refl, none_before rules)
+
+pub free_are : (rules : List Rule) → length rules ≤ 1024 → free_rules [] rules ≡ Ok rules → AreRules rules
+free_are rules short e = let free = (free_found [] rules rules e).1 in record { few = short; distinct = free.distinct; free = free.open' }
 
 pub built_found : (rules got : List Rule) → built rules ≡ Ok got → (got ≡ rules) × AreRules rules
 built_found rules got e =

@@ -3,13 +3,12 @@ use Rattle.std.proofs.Common.{◌≡◌, ℕ, ◌+◌, ◌<◌, ◌≤◌, List,
 use Rattle.std.specs.Prelude.{bytes_eq, slice_get, map, if◌then◌else◌}
 use Rattle.std.proofs.lemmas.List.{drop_all, map-append, take_more, drop_more, take_all, length-map}
 use Rattle.toml.specs.declared.value.Value.{Value}
-use Rattle.toml.specs.Data.{Data, string, integer, float, boolean, datetime, array, table, Items, no_items, item, Members, as_str, as_array, as_table}
+use Rattle.toml.specs.Data.{Data, string, integer, float, boolean, datetime, array, table, Items, item, Members, as_str, as_array, as_table}
 use Rattle.toml.specs.View.{view, items_view, members_view}
-use Rattle.toml.proofs.Views.{items_view-drop}
 use Rattle.grant_policy.specs.declared.fault.PolicyFault.{PolicyFault}
 use Rattle.grant_policy.specs.declared.fault.PolicyFault.TheVariants.{NotToml, UnknownKey, MissingKey, BadValue, IdRepeated, IdReserved, TooManyRules, Name, NoMemory}
 use Rattle.grant_policy.specs.declared.fault.Place.{Place}
-use Rattle.grant_policy.specs.Faults.{Refuses, Reads, ◌>>=◌}
+use Rattle.grant_policy.specs.Faults.{Refuses, ◌>>=◌}
 use Rattle.grant_policy.specs.Reading.{word_in, words_of, selection_in, rule_of, rules_of, IsNamedIn, AreNamedIn, has_only, tables_of, rule_tables, SameIds, is_among, free_id, free_rules}
 use Rattle.grant_policy.specs.Documents.{document_of}
 use Rattle.grant_policy.specs.declared.fault.Place.TheVariants.{Rules}

@@ -1,5 +1,5 @@
 -- Whether a rule matches.
-use Rattle.std.proofs.Common.{◌≡◌, ℕ, zero, suc, ◌<◌, ◌⊎◌, inl, inr, Bool, true, ◌||◌, List, [], ◌∷◌, length, get_or, Option, Some, None, refl, arith}
+use Rattle.std.proofs.Common.{◌≡◌, ℕ, zero, suc, ◌⊎◌, inl, inr, Bool, List, [], ◌∷◌, Option, Some, None, refl, arith}
 use Rattle.std.specs.Bool.{Decides}
 use Rattle.std.specs.List.{Contains, list_any}
 use Rattle.std.proofs.lemmas.Bool.Decides.{Decides-and, Decides-or, Decides-like}

@@ -1,5 +1,5 @@
 -- When names are one, and when one is within another.
-use Rattle.std.proofs.Common.{◌≡◌, ℕ, ◌-◌, List, ◌++◌, Bool, true, ◌&&◌, not, length, take, reverse, refl, sym, ap, subst, ◌∙◌}
+use Rattle.std.proofs.Common.{◌≡◌, ℕ, ◌-◌, List, true, length, take, reverse, refl, sym, ap, subst, ◌∙◌}
 use Rattle.std.specs.Bool.{Decides}
 use Rattle.std.specs.declared.cmp.Ordering.{Ordering}
 use Rattle.std.specs.declared.cmp.Ordering.TheVariants.{Less, Equal, Greater}
@@ -9,7 +9,7 @@ use Rattle.std.specs.Cmp.{tied_itself}
 use Rattle.std.proofs.lemmas.Bool.Decides.{Decides-and, Decides-not}
 use Rattle.std.proofs.lemmas.Slice.Eq.{bytes_eq-Decides, ends_is}
 use Rattle.std.proofs.lemmas.List.{reverse-reverse}
-use Rattle.dns_names.specs.Labels.{IsWithin, IsBelow, is_within}
+use Rattle.dns_names.specs.Labels.{IsWithin, is_within}
 use Rattle.dns_names.specs.Order.{canonical_cmp, same_name, canonical_total}
 use Rattle.grant_policy.specs.declared.scope.Scope.{Scope}
 use Rattle.grant_policy.specs.declared.scope.Scope.TheVariants.{Name, Subtree, Below}

@@ -1,7 +1,7 @@
 -- What the document of a policy says, with the refusal that comes first: a key at the top that is not known; no array of
 -- tables; too many rules; and then rule by rule: a key that is not known, a key that is missing, a value that is not allowed,
 -- where an id may also be reserved or repeated, and a name may be refused.
-use Rattle.std.specs.Prelude.{◌≡◌, ℕ, ◌+◌, List, [], ◌∷◌, ◌++◌, length, Bool, true, ◌&&◌, ◌||◌, nat_lt, nat_le, if◌then◌else◌, Option, Some, None, option_map, Result, Ok, Err, codes, bytes_eq}
+use Rattle.std.specs.Prelude.{◌≡◌, ℕ, ◌+◌, List, [], ◌∷◌, ◌++◌, length, Bool, true, ◌&&◌, nat_lt, nat_le, if◌then◌else◌, Option, Some, None, option_map, Result, Ok, Err, codes, bytes_eq}
 use Rattle.std.specs.List.{list_any, list_all, find}
 use Rattle.std.specs.Option.{ok_or}
 use Rattle.std.specs.Str.{str_eq_ignore_ascii_case}
@@ -14,13 +14,10 @@ use Rattle.dns_names.specs.Spelling.{SpellsAbsolute}
 use Rattle.dns_names.specs.Reading.{absolute_name}
 use Rattle.dns_data.specs.declared.record_type.RecordType.{RecordType}
 use Rattle.dns_data.specs.Types.{type_text}
-use Rattle.grant_policy.specs.declared.action.Action.{Action}
 use Rattle.grant_policy.specs.declared.callers.Callers.{Callers}
 use Rattle.grant_policy.specs.declared.callers.Callers.TheVariants.{Every, One}
-use Rattle.grant_policy.specs.declared.effect.Effect.{Effect}
-use Rattle.grant_policy.specs.declared.scope.Scope.{Scope}
 use Rattle.grant_policy.specs.declared.fault.PolicyFault.{PolicyFault}
-use Rattle.grant_policy.specs.declared.fault.PolicyFault.TheVariants.{NotToml, UnknownKey, MissingKey, BadValue, IdRepeated, IdReserved, TooManyRules, Name}
+use Rattle.grant_policy.specs.declared.fault.PolicyFault.TheVariants.{NotToml, UnknownKey, MissingKey, BadValue, IdRepeated, IdReserved, TooManyRules}
 use Rattle.grant_policy.specs.declared.fault.Place.{Place}
 use Rattle.grant_policy.specs.declared.fault.Place.TheVariants as place
 use Rattle.grant_policy.specs.declared.fault.RuleKey.{RuleKey}

@@ -1,12 +1,12 @@
 //! The decision, by the index of a policy.
 
-ghost use Rattle.std.specs.Prelude.{◌≡◌, ◌↔◌, ◌+◌, ◌*◌, ◌<◌, ◌≤◌, ℕ, length, slice_index_or, count_by, true, IsTrue};
+ghost use Rattle.std.specs.Prelude.{◌≡◌, ◌↔◌, ◌+◌, ◌*◌, ◌<◌, ◌≤◌, ℕ, length, slice_index_or, count_by, true, codes, IsTrue};
 ghost use Rattle.std.specs.List.{All};
 ghost use Rattle.std.specs.Option.{option_copied};
 ghost use Rattle.dns_names.specs.Keys.{IsKeyOfOne};
 ghost use Rattle.grant_policy.specs.declared.rule.Rule.{Rule as RuleOf};
 ghost use Rattle.grant_policy.specs.Rules.{matches};
-ghost use Rattle.grant_policy.specs.Decisions.{IsDecision, HasRight, decision, verdict_of, concerns, is_granted, has_right, has_right_to as has_right_to_type};
+ghost use Rattle.grant_policy.specs.Decisions.{IsDecision, NoneMatches, HasRight, told, decision, verdict_of, concerns, is_granted, has_right, has_right_to as has_right_to_type};
 ghost use Rattle.grant_policy.specs.Index.{is_at, place_of};
 ghost use Rattle.grant_policy.specs.Found.{IsFound, question_of, bound_of, is_before};
 
@@ -14,7 +14,7 @@ use crate::action::Action;
 use crate::decision::Decision;
 use crate::identifier::Identifier;
 use crate::look_ups::LookUps;
-use crate::policy::Policy;
+use crate::policy::{Policy, notes_rules};
 use crate::rule::Rule;
 use crate::table::RuleTable;
 use dns_data::RecordType;
@@ -122,6 +122,8 @@ pub fn decide<'a>(
     ensures found { IsDecision (record { caller = caller.now; name = name.now; record_type = record_type; action = action }) policy.now (verdict_of result) }
     // Which decision it is.
     ensures first { verdict_of result ≡ decision (record { caller = caller.now; name = name.now; record_type = record_type; action = action }) policy.now }
+    // The closing default is told exactly where no rule matches.
+    ensures closing { told (verdict_of result) ≡ codes "closing" ↔ NoneMatches (record { caller = caller.now; name = name.now; record_type = record_type; action = action }) policy.now }
     // No more look-ups than two for each name from the name to the root, and one for each rule of the caller or of every
     // caller whose name is one of them.
     ensures cost { look_ups.new.count ≤ look_ups.old.count + 2 * (length name.now + 1) + count_by (concerns caller.now name.now) policy.now }
@@ -134,6 +136,7 @@ pub fn decide<'a>(
         record_type,
         action,
     };
+    notes_rules(policy);
     match first_match(policy, asked, look_ups) {
         Some(found) => found.rule.decision(),
         None => Decision::Denied(None),

@@ -30,15 +30,16 @@ impl Model for Policy {
 
     ghost view = { λ p. p.rules.items };
 
-    ghost invariant = { λ p. IsIndex p.rules.items p.index.items };
+    ghost invariant = { λ p. IsIndex p.rules.items p.index.items × AreRules p.rules.items };
 }
 
 impl Policy {
     /// The most rules of a policy.
     pub const RULES_MAX: usize = 1024;
 
-    /// The policy of a list of rules, which are not looked at. The only error is want of memory.
+    /// The policy of a list of rules. The only error is want of memory.
     pub(crate) fn indexed(alloc: Global, rules: Vec<Rule>) -> Result<Policy, AllocError>
+        requires { AreRules rules.items }
         ensures { IfOk result (λ policy. policy ≡ rules.items) }
     {
         let mut index = Vec::new(alloc);
@@ -74,6 +75,13 @@ impl Policy {
         check_ids(alloc, &rules)?;
         Ok(Policy::indexed(alloc, rules)?)
     }
+}
+
+/// Makes known to a proof that the rules of a policy are such. It does nothing when it runs.
+pub(crate) fn notes_rules(policy: &Policy)
+    ensures { AreRules policy.now }
+{
+    let _ = &policy.rules;
 }
 
 /// Checks that no two rules have one id, and none that of the closing default.

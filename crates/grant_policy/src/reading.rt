@@ -1,11 +1,11 @@
 //! Reading a policy from a TOML document.
 
-ghost use Rattle.std.specs.Prelude.{◌≡◌, ◌+◌, ◌∷◌, ◌++◌, List, ℕ, [], Some, Ok, length, map, codes, bytes_eq, string_bytes, None, ◌⊎◌, IfOk, MatchResult};
+ghost use Rattle.std.specs.Prelude.{◌≡◌, ◌+◌, ◌≤◌, ◌∷◌, ◌++◌, List, ℕ, [], Some, Ok, length, map, codes, bytes_eq, string_bytes, None, ◌⊎◌, IfOk, MatchResult};
 ghost use Rattle.std.specs.Option.{option_map};
 ghost use Rattle.toml.specs.Data.{Members, string, get_member};
 ghost use Rattle.toml.specs.View.{view, table_view, items_view};
 ghost use Rattle.grant_policy.specs.declared.rule.Rule.{Rule as RuleOf};
-ghost use Rattle.grant_policy.specs.Documents.{document_of, rule_keys, key_text, IsPolicy};
+ghost use Rattle.grant_policy.specs.Documents.{document_of, rule_keys, key_text, AreRules, IsPolicy};
 ghost use Rattle.grant_policy.specs.Words.{action_of};
 ghost use Rattle.grant_policy.specs.Faults.{Reads};
 ghost use Rattle.grant_policy.specs.Reading.{SameIds, text_in, word_in, words_of, type_of, name_in, selection_in, needed, rule_data, rule_in, rule_of, rules_of, rule_tables, known_keys, policy_of, data_of, IsNamed, IsNamedIn, AreNamedIn, has_only, tables_of};
@@ -218,10 +218,12 @@ fn read_rule(
     rule_from(alloc, number, &values, ids)
 }
 
-/// The rules of tables, in order.
+/// The rules of few tables, in order.
 fn read_rules(alloc: Global, tables: &[&Table]) -> Result<Vec<Rule>, PolicyFault>
+    requires { length tables.now ≤ 1024 }
     ensures exact { Reads (λ rules. rules.items) result (rules_of [] (map (λ table. table_view table.now) tables.now)) }
     ensures named { IfOk result (λ rules. AreNamedIn rules.items (map (λ table. table_view table.now) tables.now)) }
+    ensures are { IfOk result (λ rules. AreRules rules.items) }
 {
     let mut ids = Ids::new(alloc);
     let mut rules = Vec::new(alloc);
@@ -269,6 +271,7 @@ fn value_tables(alloc: Global, value: &Value) -> Result<Vec<&Table>, PolicyFault
 fn document_rules(alloc: Global, top: &Table) -> Result<Vec<Rule>, PolicyFault>
     ensures exact { Reads (λ rules. rules.items) result (policy_of (Some (table_view top.now))) }
     ensures named { IfOk result (λ rules. (mss : List Members) → rule_tables (get_member (codes "rule") (table_view top.now)) ≡ Ok mss → AreNamedIn rules.items mss) }
+    ensures are { IfOk result (λ rules. AreRules rules.items) }
 {
     if !has_top_keys_only(top) {
         return Err(PolicyFault::UnknownKey(Place::Document));

@@ -1,6 +1,5 @@
-use Rattle.std.proofs.Common.{◌≡◌, ◌≤◌, ◌+◌, ℕ, length, sym, ap, ◌∙◌, subst, Option, arith}
-use Rattle.grant_policy.specs.declared.deciding.Found.{Found}
-use Rattle.grant_policy.specs.Found.{IsFound, bound_of, question_of}
+use Rattle.std.proofs.Common.{◌≡◌, ◌≤◌, ◌+◌, length, ap, arith}
+use Rattle.grant_policy.specs.Found.{bound_of, question_of}
 use Rattle.grant_policy.proofs.DecideLemmas.{ancestor_is, ancestor_none, least_step, least_end, count_step, reached_le}
 use Rattle.grant_policy.proofs.deciding.first_match.Goals as goal
 use Rattle.grant_policy.proofs.deciding.first_match.Goals.{in-Some, in_default}

@@ -1,4 +1,4 @@
-use Rattle.std.proofs.Common.{[], ◌∷◌, codes, ◌∙◌}
+use Rattle.std.proofs.Common.{◌∙◌}
 use Rattle.grant_policy.specs.Documents.{rule_keys}
 use Rattle.grant_policy.proofs.ReadLemmas.{only_tells}
 use Rattle.grant_policy.proofs.reading.has_rule_keys_only.Goals as goal

@@ -1,4 +1,3 @@
-use Rattle.std.proofs.Common.{◌≡◌}
 use Rattle.toml.specs.View.{table_view}
 use Rattle.grant_policy.proofs.DocumentLaws.{policy_found}
 use Rattle.grant_policy.proofs.reading.policy_in.Goals as goal

@@ -1,4 +1,4 @@
-use Rattle.std.proofs.Common.{◌≡◌, List, Option, Result, Ok, Some, subst, sym, ap, ◌∙◌}
+use Rattle.std.proofs.Common.{List, Result, subst, ap, ◌∙◌}
 use Rattle.grant_policy.specs.declared.fault.PolicyFault.{PolicyFault}
 use Rattle.grant_policy.specs.declared.rule.Rule.{Rule}
 use Rattle.grant_policy.specs.Faults.{Reads}

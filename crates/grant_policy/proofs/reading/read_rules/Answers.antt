@@ -1,10 +1,11 @@
-use Rattle.std.proofs.Common.{◌≡◌, ◌+◌, ◌<◌, ◌∙◌, ◌∷◌, [], ℕ, List, length, map, ap, sym, arith, length-append}
+use Rattle.std.proofs.Common.{◌≡◌, ◌+◌, ◌<◌, ◌≤◌, ◌∙◌, ◌∷◌, [], List, length, map, ap, sym, arith, length-append}
 use Rattle.std.proofs.lemmas.List.{length-map, map-append}
 use Rattle.std.proofs.lemmas.Result.{err_from_is_err_and}
 use Rattle.toml.specs.View.{table_view}
 use Rattle.grant_policy.specs.declared.rule.Rule.{Rule}
 use Rattle.grant_policy.specs.Reading.{is_among}
-use Rattle.grant_policy.proofs.ReadLemmas.{Refuses-on, rules_from, rules_more, rules_stop, named_push, mapped_here, mapped_at}
+use Rattle.grant_policy.proofs.ReadLemmas.{Refuses-on, rules_from, rules_more, rules_stop, rules_done, named_push, mapped_here, mapped_at}
+use Rattle.grant_policy.proofs.DocumentLaws.{tables_make}
 use Rattle.grant_policy.proofs.reading.read_rules.Goals as goal
 
 pub returns-in_err-read_rule-clause-exact : goal.returns-in_err-read_rule-clause-exact
@@ -41,3 +42,11 @@ loop-i-preserved c =
           ∙ ap (λ (l : List Rule). rules_from (map (λ t. table_view t.now) ts) l (i + 1)) (sym items);
       named = rw items (named_push done (map (λ t. table_view t.now) ts) rule (table_view table.now) c.loop-i.invariant.named (rw c.loop-i.invariant.count at) c.in_ok-read_rule.ensures.named);
     }
+
+pub returns-clause-are : goal.returns-clause-are
+returns-clause-are c =
+    let ts = c.args.tables.now in
+    let mss = map (λ t. table_view t.now) ts in
+    let past : length mss ≤ c.loop-i.i = omega (arith, length-map ts (λ t. table_view t.now)) in
+    let short : length mss ≤ 1024 = omega (arith, length-map ts (λ t. table_view t.now), c.requires) in
+    tables_make mss c.loop-i.rules.items (c.loop-i.invariant.read ∙ rules_done mss c.loop-i.rules.items c.loop-i.i past) c.loop-i.invariant.named short

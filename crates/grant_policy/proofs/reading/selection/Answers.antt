@@ -1,4 +1,4 @@
-use Rattle.std.proofs.Common.{◌≡◌, ◌<◌, ℕ, List, length, Ok, Some, Result, sym, ap, ◌∙◌, arith, vec_len}
+use Rattle.std.proofs.Common.{◌<◌, List, length, Ok, Some, Result, sym, ap, ◌∙◌, arith, vec_len}
 use Rattle.toml.specs.View.{view, items_view}
 use Rattle.grant_policy.specs.declared.fault.PolicyFault.{PolicyFault}
 use Rattle.grant_policy.specs.Faults.{◌>>=◌}

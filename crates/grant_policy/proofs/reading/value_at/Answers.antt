@@ -1,5 +1,4 @@
-use Rattle.std.proofs.Common.{◌∙◌, sym, ap, refl}
-use Rattle.std.specs.Option.{ok_or}
+use Rattle.std.proofs.Common.{refl}
 use Rattle.toml.proofs.Views.{table_get}
 use Rattle.grant_policy.proofs.reading.value_at.Goals as goal
 

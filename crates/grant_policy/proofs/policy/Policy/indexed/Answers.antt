@@ -1,4 +1,4 @@
-use Rattle.std.proofs.Common.{rules, ◌≡◌, ◌<◌, ◌∙◌, ap, subst, List, length, arith}
+use Rattle.std.proofs.Common.{rules, ◌<◌, ◌∙◌, ap, subst, List, length, arith}
 use Rattle.std.specs.List.{All}
 use Rattle.std.specs.List.Sorted.{IsPermutation}
 use Rattle.std.proofs.lemmas.List.Elements.{All-more}
@@ -23,9 +23,11 @@ loop-number-preserved c =
 
 pub invariant_of-result : goal.invariant_of-result
 invariant_of-result c =
-    let all = all_rules c.args.rules.items c.deref-rule-items.result.now c.loop-number.number (omega arith) c.deref-rule-items.ensures.value in
-    record {
-      sorted = c.in_ok-sort_by.ensures.sorted (λ x y. is_lt (place_cmp x.place y.place)) (ranks_by place_total (λ (r : RowOf). r.place)) (answers_always _ _ _ (λ f a r g called. search rules));
-      moved = subst (λ (rows : List RowOf). IsPermutation rows c.sort_by.new.self.items) (c.loop-number.invariant.rows ∙ ap (rows_from 0) all) c.in_ok-sort_by.ensures.permutation;
-      keys = subst (λ (xs : List Rule). All (λ r. IsKeyOfOne r.at) xs) all c.loop-number.invariant.keys;
-    }
+    let all = all_rules c.args.rules.items c.deref-rule-items.result.now c.loop-number.number (omega arith) c.deref-rule-items.ensures.value in (
+      record {
+        sorted = c.in_ok-sort_by.ensures.sorted (λ x y. is_lt (place_cmp x.place y.place)) (ranks_by place_total (λ (r : RowOf). r.place)) (answers_always _ _ _ (λ f a r g called. search rules));
+        moved = subst (λ (rows : List RowOf). IsPermutation rows c.sort_by.new.self.items) (c.loop-number.invariant.rows ∙ ap (rows_from 0) all) c.in_ok-sort_by.ensures.permutation;
+        keys = subst (λ (xs : List Rule). All (λ r. IsKeyOfOne r.at) xs) all c.loop-number.invariant.keys;
+      },
+      c.requires,
+    )
