@@ -1,1 +1,11 @@
-pub mod TextLemmas
+mod Walks
+pub mod WordLemmas
+pub mod ScopeLemmas
+pub mod RuleLemmas
+pub mod IndexLemmas
+pub mod DecideLemmas
+pub mod DecisionLaws
+pub mod IdLemmas
+pub mod ReadLemmas
+pub mod PolicyLaws
+pub mod DocumentLaws

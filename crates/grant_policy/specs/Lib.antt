@@ -1,1 +1,10 @@
-pub mod Texts
+pub mod Identifiers
+pub mod Words
+pub mod Scopes
+pub mod Rules
+pub mod Decisions
+pub mod Index
+pub mod Found
+pub mod Faults
+pub mod Documents
+pub mod Reading

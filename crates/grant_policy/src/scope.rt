@@ -1,7 +1,8 @@
 //! Scopes of rules.
 
-ghost use Rattle.std.specs.Prelude.{IsTrue};
-ghost use Rattle.grant_policy.specs.Texts.{EndsWithText};
+ghost use Rattle.std.specs.Prelude.{◌≡◌, ◌↔◌, Some, IsTrue, bytes_eq};
+ghost use Rattle.std.specs.List.{find};
+ghost use Rattle.grant_policy.specs.Scopes.{Covers, covers as covers_of};
 
 use dns_names::Name;
 
@@ -12,16 +13,44 @@ pub enum Scope {
     Name,
     /// That name and all below it.
     Subtree,
-    /// All names below that name.
+    /// All names below that name, and not the name itself.
     Below,
 }
 
-/// Whether a rule of this scope at the name `at` speaks of a name.
-///
-/// What is promised of it so far is weak, and is known to be too weak: only that the text of a name for which it answers
-/// true ends with the text of `at`. So the promise alone would let `badexample.org.` pass for `example.org.`.
+impl Scope {
+    ghost use Rattle.grant_policy.specs.Words.{scope_text, scope_of};
+
+    /// The scopes that there are.
+    pub const ALL: [Scope; 3] = [Scope::Name, Scope::Subtree, Scope::Below];
+
+    /// The word for it: `name`, `subtree` or `below`.
+    pub const fn text(self) -> &'static str
+        ensures { result.now ≡ scope_text self }
+    {
+        match self {
+            Scope::Name => "name",
+            Scope::Subtree => "subtree",
+            Scope::Below => "below",
+        }
+    }
+
+    /// The scope of this word, which is read only as it is written.
+    pub fn read(word: &[u8]) -> Option<Scope>
+        ensures found { (scope : Scope) → (result ≡ Some scope) ↔ (scope_text scope ≡ word.now) }
+        ensures exact { result ≡ scope_of word.now }
+    {
+        Scope::ALL
+            .iter()
+            .copied()
+            .find(|scope| scope.text().as_bytes() == word)
+    }
+}
+
+/// Whether a rule of this scope at the name `at` speaks of a name. Names are compared label by label: neither
+/// `badexample.org.` nor `x\.example.org.`, of the labels `x.example` and `org`, is within `example.org.`.
 pub fn covers(scope: Scope, at: &Name, name: &Name) -> bool
-    ensures { IsTrue result → EndsWithText name.now at.now }
+    ensures test { IsTrue result ↔ Covers scope at.now name.now }
+    ensures value { result ≡ covers_of scope at.now name.now }
 {
     match scope {
         Scope::Name => name == at,

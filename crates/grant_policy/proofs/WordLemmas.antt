@@ -1,0 +1,106 @@
+-- Words that are read, and values that are told apart by a word or a number.
+use Rattle.std.proofs.Common.{◌≡◌, ◌↔◌, ℕ, Bool, true, false, cond, eqb, List, [], ◌∷◌, Option, Some, None, Result, Ok, Err, refl, sym, ap, subst, ◌∙◌}
+use Rattle.std.specs.Prelude.{bytes_eq}
+use Rattle.std.specs.Bool.{Decides}
+use Rattle.std.specs.List.{find}
+use Rattle.std.specs.Result.{result_ok}
+use Rattle.std.specs.Str.{str_to_ascii_lowercase, str_eq_ignore_ascii_case}
+use Rattle.dns_data.specs.declared.fault.DataFault.{DataFault}
+use Rattle.std.proofs.lemmas.Bool.Decides.{Decides-eqb, Decides-like}
+use Rattle.std.proofs.lemmas.Slice.Eq.{bytes_eq-Decides}
+use Rattle.dns_data.specs.declared.record_type.RecordType.{RecordType}
+use Rattle.dns_data.specs.declared.record_type.RecordType.TheVariants.{A, Ns, Cname, Soa, Ptr, Mx, Txt, Aaaa, Srv, Ds}
+use Rattle.dns_data.specs.Types.{type_number, type_text, IsCalled}
+use Rattle.grant_policy.specs.declared.action.Action.{Action}
+use Rattle.grant_policy.specs.declared.action.Action.TheVariants as action
+use Rattle.grant_policy.specs.Words.{action_text, action_of, all_types}
+use Rattle.grant_policy.specs.Reading.{type_of}
+use Rattle.grant_policy.specs.Rules.{same_type, same_action}
+
+pub found_passes : {T : Type 0} (test : T → Bool) (all : List T) (t : T) → find test all ≡ Some t → test t ≡ true
+found_passes test [] t e = absurd cc
+found_passes {T} test (s ∷ all) t e = first_passes (test s) refl (found_passes test all t) e
+  where
+    first_passes : (b : Bool) → test s ≡ b → (find test all ≡ Some t → test t ≡ true) → cond b (Some s) (find test all) ≡ Some t → test t ≡ true
+    first_passes true p later e = let q : s ≡ t = cc in subst (λ (u : T). test u ≡ true) q p
+    first_passes false p later e = later e
+
+-- what is found by its word is what has that word, where each is found by its own
+pub by_word : {T : Type 0} (text : T → List ℕ) (all : List T) → ((t : T) → find (λ s. bytes_eq (text s) (text t)) all ≡ Some t) → (word : List ℕ) (r : Option T) → r ≡ find (λ s. bytes_eq (text s) word) all → (t : T) → (r ≡ Some t) ↔ (text t ≡ word)
+by_word {T} text all own word r e t = (
+  λ found. (bytes_eq-Decides (text t) word).0 (found_passes (λ s. bytes_eq (text s) word) all t (sym e ∙ found)),
+  λ is. e ∙ subst (λ (w : List ℕ). find (λ s. bytes_eq (text s) w) all ≡ Some t) is (own t),
+)
+
+same_Some : {T : Type 0} (a b : T) → Some a ≡ Some b → a ≡ b
+same_Some a b e = cc
+
+-- ---- actions
+
+pub action_own : (t : Action) → action_of (action_text t) ≡ Some t
+action_own action.List = refl
+action_own action.Check = refl
+action_own action.Add = refl
+action_own action.Delete = refl
+action_own action.Delegate = refl
+
+pub same_action-Decides : (a b : Action) → Decides (same_action a b) (a ≡ b)
+same_action-Decides a b =
+    Decides-like _ (λ e. same_Some a b (sym (action_own a) ∙ ap action_of e ∙ action_own b)) (ap action_text) (bytes_eq-Decides (action_text a) (action_text b))
+
+-- ---- types
+
+by_number : ℕ → Option RecordType
+by_number n = find (λ t. eqb (type_number t) n) (A ∷ Ns ∷ Cname ∷ Soa ∷ Ptr ∷ Mx ∷ Txt ∷ Aaaa ∷ Srv ∷ Ds ∷ [])
+
+type_own : (t : RecordType) → by_number (type_number t) ≡ Some t
+unfolding by_number
+type_own A = refl
+type_own Ns = refl
+type_own Cname = refl
+type_own Soa = refl
+type_own Ptr = refl
+type_own Mx = refl
+type_own Txt = refl
+type_own Aaaa = refl
+type_own Srv = refl
+type_own Ds = refl
+
+pub same_type-Decides : (a b : RecordType) → Decides (same_type a b) (a ≡ b)
+same_type-Decides a b =
+    Decides-like _ (λ e. same_Some a b (sym (type_own a) ∙ ap by_number e ∙ type_own b)) (ap type_number) (Decides-eqb (type_number a) (type_number b))
+
+name_found : (t : RecordType) → find (λ u. bytes_eq (str_to_ascii_lowercase (type_text u)) (str_to_ascii_lowercase (type_text t))) all_types ≡ Some t
+name_found A = refl
+name_found Ns = refl
+name_found Cname = refl
+name_found Soa = refl
+name_found Ptr = refl
+name_found Mx = refl
+name_found Txt = refl
+name_found Aaaa = refl
+name_found Srv = refl
+name_found Ds = refl
+
+-- a text is read as the type that it is called
+pub type_named : (text : List ℕ) (t : RecordType) → (type_of text ≡ Some t) ↔ IsCalled t text
+type_named text t = (
+  λ found. sym ((bytes_eq-Decides _ _).0 (found_passes (λ u. str_eq_ignore_ascii_case (type_text u) text) all_types t found)),
+  λ called. subst (λ (k : List ℕ). find (λ u. bytes_eq (str_to_ascii_lowercase (type_text u)) k) all_types ≡ Some t) (sym called) (name_found t),
+)
+
+-- what holds the same values is the same
+same_options : {T : Type 0} (a b : Option T) → ((t : T) → a ≡ Some t → b ≡ Some t) → ((t : T) → b ≡ Some t → a ≡ Some t) → a ≡ b
+same_options None None there back = refl
+same_options None (Some y) there back = back y refl
+same_options (Some x) b there back = sym (there x refl)
+
+ok_some : {T E : Type 0} (r : Result T E) (t : T) → result_ok r ≡ Some t → r ≡ Ok t
+ok_some (Ok x) t e = let f : x ≡ t = cc in ap Ok f
+ok_some (Err x) t e = absurd cc
+
+pub type_read : (text : List ℕ) (r : Result RecordType DataFault) → ((t : RecordType) → (r ≡ Ok t) ↔ IsCalled t text) → result_ok r ≡ type_of text
+type_read text r found =
+    same_options (result_ok r) (type_of text)
+    (λ t e. (type_named text t).1 ((found t).0 (ok_some r t e)))
+    (λ t e. ap (result_ok {T = RecordType} {E = DataFault}) ((found t).1 ((type_named text t).0 e)))

@@ -1,0 +1,116 @@
+//! Of which types and actions a rule speaks.
+
+ghost use Rattle.std.specs.Prelude.{◌≡◌, ◌↔◌, ◌==◌, List, Option, Some, None, IsTrue, option_map, bytes_eq};
+ghost use Rattle.std.specs.List.{list_any};
+ghost use Rattle.dns_data.specs.declared.record_type.RecordType.{RecordType as RecordTypeOf};
+ghost use Rattle.dns_data.specs.Types.{type_number};
+ghost use Rattle.grant_policy.specs.declared.action.Action.{Action as ActionOf};
+ghost use Rattle.grant_policy.specs.Words.{action_text};
+
+use crate::action::Action;
+use dns_data::RecordType;
+use std::marker::Model;
+
+/// The record types of which a rule speaks: every kept one, or those that are listed.
+#[derive(Debug, Drop)]
+pub struct Types {
+    listed: Option<Vec<RecordType>>,
+}
+
+impl Model for Types {
+    ghost Value = { Option (List RecordTypeOf) };
+
+    ghost view = { λ t. option_map (λ v. v.items) t.listed };
+}
+
+impl Types {
+    ghost use Rattle.grant_policy.specs.Rules.{Has, has, same_type};
+
+    /// Every kept type, which is written `*`.
+    pub fn every() -> Types
+        ensures { result ≡ None }
+    {
+        Types { listed: None }
+    }
+
+    /// The types of a list.
+    pub fn of(listed: Vec<RecordType>) -> Types
+        ensures { result ≡ Some listed.items }
+    {
+        Types {
+            listed: Some(listed),
+        }
+    }
+
+    /// Whether a type is one of them.
+    pub fn include(&self, record_type: RecordType) -> bool
+        ensures test { IsTrue result ↔ Has self.now record_type }
+        ensures value { result ≡ has same_type self.now record_type }
+    {
+        match &self.listed {
+            None => true,
+            Some(listed) => has_type(listed, record_type),
+        }
+    }
+}
+
+/// Whether a type is in a list.
+fn has_type(listed: &[RecordType], record_type: RecordType) -> bool
+    ensures { result ≡ list_any (λ one. type_number one == type_number record_type) listed.now }
+{
+    listed
+        .iter()
+        .any(|one| one.number() == record_type.number())
+}
+
+/// The actions of which a rule speaks: every one, or those that are listed.
+#[derive(Debug, Drop)]
+pub struct Actions {
+    listed: Option<Vec<Action>>,
+}
+
+impl Model for Actions {
+    ghost Value = { Option (List ActionOf) };
+
+    ghost view = { λ a. option_map (λ v. v.items) a.listed };
+}
+
+impl Actions {
+    ghost use Rattle.grant_policy.specs.Rules.{Has, has, same_action};
+
+    /// Every action, which is written `*`.
+    pub fn every() -> Actions
+        ensures { result ≡ None }
+    {
+        Actions { listed: None }
+    }
+
+    /// The actions of a list.
+    pub fn of(listed: Vec<Action>) -> Actions
+        ensures { result ≡ Some listed.items }
+    {
+        Actions {
+            listed: Some(listed),
+        }
+    }
+
+    /// Whether an action is one of them.
+    pub fn include(&self, action: Action) -> bool
+        ensures test { IsTrue result ↔ Has self.now action }
+        ensures value { result ≡ has same_action self.now action }
+    {
+        match &self.listed {
+            None => true,
+            Some(listed) => has_action(listed, action),
+        }
+    }
+}
+
+/// Whether an action is in a list.
+fn has_action(listed: &[Action], action: Action) -> bool
+    ensures { result ≡ list_any (λ one. bytes_eq (action_text one) (action_text action)) listed.now }
+{
+    listed
+        .iter()
+        .any(|one| one.text().as_bytes() == action.text().as_bytes())
+}
