@@ -11,6 +11,7 @@ use Rattle.zone_core.specs.declared.update.Operation.{Operation}
 use Rattle.zone_core.specs.Sets.{Records, Key, key_of, key_cmp, same_key, keyed, set_of, listing, part, minus, same_ttl, at_name, InOrder}
 use Rattle.zone_core.specs.Updates.{acted_name}
 use Rattle.zone_core.specs.Effects.{effect, effects}
+pub use Rattle.zone_core.specs.Parts.{touched}
 use Rattle.zone_core.specs.Sites.{IsSite, Becomes, Grows}
 use Rattle.zone_core.proofs.SetLemmas.{name_is, name_self, get-part, same_sets, found_in_part, by_cases}
 use Rattle.zone_core.proofs.RowLemmas.{get-set_of, each_in, set_of-filter, InOrder-filter, listing_of}
@@ -49,9 +50,6 @@ minus_part a b p =
     ∙ sym (get-part (minus a b) p k))
 
 -- ---- names that operations act at
-
-abbrev pub touched : List Operation → Key → Bool
-touched ops k = list_any (λ op. at_name (acted_name op) k) ops
 
 pub touched_more : (ops : List Operation) (i : ℕ) (op : Operation) (k : Key) → i < length ops → op ≡ get_or ops i op → touched (take (i + 1) ops) k ≡ (touched (take i ops) k || at_name (acted_name op) k)
 touched_more ops i op k below is =
@@ -130,14 +128,14 @@ or_none : (a b : Bool) → (a || b) ≡ false → (a ≡ false) × (b ≡ false)
 or_none true b e = absurd cc
 or_none false b e = (refl, e)
 
-effects_away : (origin : List (List ℕ)) (a : Records) (ops : List Operation) (k : Key) → touched ops k ≡ false → get (effects origin a ops) k ≡ get a k
+pub effects_away : (origin : List (List ℕ)) (a : Records) (ops : List Operation) (k : Key) → touched ops k ≡ false → get (effects origin a ops) k ≡ get a k
 effects_away origin a [] k e = refl
 effects_away origin a (op ∷ ops) k e =
     let both = or_none (at_name (acted_name op) k) (touched ops k) e in
     effects_away origin (effect origin a op) ops k both.1
     ∙ effect_away origin a op k (λ same. let f : true ≡ false = sym (rw same (name_self (acted_name op))) ∙ both.0 in cc)
 
-same_ttl_self : (o : Option Record) → same_ttl o o ≡ true
+pub same_ttl_self : (o : Option Record) → same_ttl o o ≡ true
 same_ttl_self None = refl
 same_ttl_self (Some r) = self r.ttl
   where

@@ -16,3 +16,4 @@ pub mod PutLemmas
 pub mod RuleLemmas
 pub mod EffectLemmas
 pub mod ChangeLemmas
+pub mod PartLemmas

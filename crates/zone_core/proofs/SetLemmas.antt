@@ -14,7 +14,7 @@ use Rattle.dns_names.specs.Order.{canonical_cmp, canonical_total, same_name}
 use Rattle.dns_names.proofs.NameLemmas.{same_name-Decides}
 use Rattle.dns_data.specs.declared.record.Record.{Record}
 use Rattle.dns_data.specs.RecordOrder.{key_total}
-use Rattle.zone_core.specs.Sets.{Records, Key, key_of, key_cmp, same_key, part, cut, count, has, put, same_ttl, minus, is_same}
+use Rattle.zone_core.specs.Sets.{Records, Key, key_of, key_cmp, same_key, part, cut, count, has, put, same_ttl, minus}
 
 -- ---- tests
 

@@ -12,7 +12,7 @@ use Rattle.dns_data.specs.Text.{data_text}
 use Rattle.zone_core.specs.declared.update.Operation.{Operation}
 use Rattle.zone_core.specs.declared.update.Operation.TheVariants.{Add, DeleteRrset, DeleteName, DeleteRecord}
 use Rattle.zone_core.specs.Serials.{serial_sum, is_less}
-use Rattle.zone_core.specs.Sets.{Records, Key, key_of, rank_of, same_key, cut, has, at_name, at, put, with_ttl, is_same}
+use Rattle.zone_core.specs.Sets.{Records, Key, key_of, rank_of, same_key, cut, has, at_name, at, put, with_ttl}
 use Rattle.zone_core.specs.Zones.{ZoneOf, is_soa, is_cname, soa_at, serial_in, serial_at}
 use Rattle.zone_core.specs.Updates.{UpdateOf}
 

@@ -9,3 +9,4 @@ pub mod Updates
 pub mod Prerequisites
 pub mod Effects
 pub mod Sites
+pub mod Parts

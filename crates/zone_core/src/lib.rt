@@ -6,6 +6,7 @@ mod build;
 mod change;
 mod effect;
 mod fault;
+mod laws;
 mod notes;
 mod rcode;
 mod rows;
@@ -15,6 +16,7 @@ mod verdict;
 mod zone;
 
 pub use fault::{UpdateFault, ZoneFault};
+pub use laws::{operations_read_their_names, verdicts_read_their_names};
 pub use rcode::Rcode;
 pub use serial::{serial_add, serial_less};
 pub use update::{ItemList, Operation, Place, Prerequisite, Update};
