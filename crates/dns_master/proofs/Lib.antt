@@ -1,8 +1,11 @@
+pub mod TypeLemmas
+pub mod FieldLemmas
 pub mod ScanLemmas
 pub mod SpecialLemmas
 pub mod EntryLemmas
 pub mod StepLemmas
 pub mod ReadLemmas
+pub mod FileLemmas
 pub mod GrammarLaws
 pub mod FoundLaws
 pub mod LineLemmas

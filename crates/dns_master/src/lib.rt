@@ -4,16 +4,21 @@
 
 mod device;
 mod entry;
+mod entry_fault;
 mod fault;
+mod field;
+mod file;
 mod laws;
 mod line;
 mod reader;
 mod scan;
 mod shape;
+mod statement;
 mod token;
 
 pub use device::{Counted, DeviceFailed, FaultCount, Pieces, Sink, Source};
 pub use fault::MasterFault;
+pub use file::read_file;
 pub use laws::{depths_are_counted, pieces_are_one_list, pieces_are_read};
 pub use token::{Token, tokens};
 
