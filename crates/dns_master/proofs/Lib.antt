@@ -4,6 +4,9 @@ pub mod ScanLemmas
 pub mod SpecialLemmas
 pub mod EntryLemmas
 pub mod StepLemmas
+pub mod DeviceLemmas
+pub mod ZoneTextLemmas
+pub mod PartLaws
 pub mod ReadLemmas
 pub mod FileLemmas
 pub mod GrammarLaws

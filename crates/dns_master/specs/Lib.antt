@@ -16,3 +16,6 @@ pub mod Greatest
 pub mod InForce
 pub mod Files
 pub mod FileViews
+pub mod EntryGrammar
+pub mod FileGrammar
+pub mod ZoneText
