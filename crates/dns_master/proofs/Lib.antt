@@ -7,10 +7,15 @@ pub mod StepLemmas
 pub mod DeviceLemmas
 pub mod ZoneTextLemmas
 pub mod PartLaws
+pub mod StatementLaws
+pub mod GreatestLaws
+pub mod CarriedLaws
 pub mod ReadLemmas
 pub mod FileLemmas
 pub mod GrammarLaws
 pub mod FoundLaws
+pub mod ByteLaws
+pub mod FileLaws
 pub mod LineLemmas
 pub mod DepthLaws
 pub mod PlaceLemmas

@@ -48,7 +48,7 @@ unquoted_is item text e = unquoted_with item.raw text item.quoted e
 -- ---- letters
 
 -- a test that no letter passes says the same of either case
-same_case : (test : ℕ → Bool) → ((c : ℕ) → 64 < c → test c ≡ false) → (c : ℕ) → test (to_ascii_lowercase c) ≡ test c
+pub same_case : (test : ℕ → Bool) → ((c : ℕ) → 64 < c → test c ≡ false) → (c : ℕ) → test (to_ascii_lowercase c) ≡ test c
 same_case test none c =
     let P : ℕ → Type 0 = λ x. test x ≡ test c in
     cond_both (ltb c 65) c (cond (ltb c 91) (c + 32) c) P (λ _. refl)

@@ -1,7 +1,9 @@
 //! The records of a master file.
 
-ghost use Rattle.std.specs.Prelude.{◌≡◌, [], map, IfOk};
+ghost use Rattle.std.specs.Prelude.{◌≡◌, ◌<◌, ◌≤◌, List, [], length, map, Ok, IfOk};
+ghost use Rattle.std.specs.List.{AllByRecursion};
 ghost use Rattle.std.specs.Option.{option_copied};
+ghost use Rattle.dns_data.specs.declared.record.Record.{Record as RecordOf};
 ghost use Rattle.dns_data.specs.Items.{item_of};
 ghost use Rattle.dns_master.specs.declared.entry_fault.EntryFault.TheVariants.{NoOwner};
 ghost use Rattle.dns_master.specs.EntryFaults.{Tells};
@@ -9,6 +11,7 @@ ghost use Rattle.dns_master.specs.Entries.{white_first};
 ghost use Rattle.dns_master.specs.Faults.{Gives};
 ghost use Rattle.dns_master.specs.InForce.{minimum_in, fitting_ttl, or_else, handed_in};
 ghost use Rattle.dns_master.specs.Files.{or_refused, file_fault_on_line, placed_file, file_of};
+ghost use Rattle.dns_master.specs.FileGrammar.{IsFile};
 ghost use Rattle.dns_master.specs.FileViews.{GivesFile};
 
 use crate::entry::{check_rest, read_entry};
@@ -231,6 +234,26 @@ fn placed_file(alloc: Global, text: &[u8], origin: &Name) -> Result<Vec<Record>,
     Ok(file.into_records())
 }
 
+/// The records of a text, or its first refusal.
+fn file_of(alloc: Global, text: &[u8], origin: &Name) -> Result<Vec<Record>, MasterFault>
+    ensures { Gives (λ v. v.items) result (file_of text.now origin.now) }
+{
+    if text.len() > FILE_MAX {
+        return Err(MasterFault::TooLarge);
+    }
+    match placed_file(alloc, text, origin) {
+        Ok(records) => Ok(records),
+        Err(fault) => Err(fault.on_line(text)),
+    }
+}
+
+/// A text has octets. Only proofs need it.
+fn notes_octets(text: &[u8])
+    ensures { AllByRecursion (λ o. o < 256) text.now }
+{
+    let _ = text;
+}
+
 /// Reads a master file (RFC 1035 section 5.1, with `$TTL` of RFC 2308 section 4): its records in order, one for each entry that
 /// is no directive, names relative to `origin` up to the first `$ORIGIN`.
 ///
@@ -240,14 +263,15 @@ fn placed_file(alloc: Global, text: &[u8], origin: &Name) -> Result<Vec<Record>,
 /// missing, `EntryShort` before the type and `Data` behind it; a fault of the data as a whole, `Data`; `NoTtl`. `NoMemory`
 /// comes at the growth that was refused.
 pub fn read_file(alloc: Global, text: &[u8], origin: &Name) -> Result<Vec<Record>, MasterFault>
-    // Which records are read, or which refusal it is.
+    // What is read are the records of the text.
+    ensures found { IfOk result (λ v. IsFile text.now origin.now v.items) }
+    // A text without a fault is read, unless memory runs out.
+    ensures only { (records : List RecordOf) → IsFile text.now origin.now records → length text.now ≤ 4194304 → Gives (λ v. v.items) result (Ok records) }
+    // Which refusal it is.
     ensures exact { Gives (λ v. v.items) result (file_of text.now origin.now) }
 {
-    if text.len() > FILE_MAX {
-        return Err(MasterFault::TooLarge);
-    }
-    match placed_file(alloc, text, origin) {
-        Ok(records) => Ok(records),
-        Err(fault) => Err(fault.on_line(text)),
-    }
+    notes_octets(text);
+    // the proof needs that the origin is a name
+    let _ = origin.labels();
+    file_of(alloc, text, origin)
 }
