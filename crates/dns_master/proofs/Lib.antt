@@ -16,6 +16,9 @@ pub mod GrammarLaws
 pub mod FoundLaws
 pub mod ByteLaws
 pub mod FileLaws
+pub mod CleanLaws
+pub mod LineLaws
+pub mod ZoneLaws
 pub mod LineLemmas
 pub mod DepthLaws
 pub mod PlaceLemmas

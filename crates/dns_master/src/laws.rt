@@ -1,12 +1,18 @@
 //! What the definitions promise.
 
 ghost use Rattle.std.specs.Prelude.{◌≡◌, ◌≤◌, List, ℕ, Option, length, map, []};
+ghost use Rattle.std.specs.List.{AllByRecursion};
+ghost use Rattle.dns_names.specs.Labels.{IsName};
+ghost use Rattle.dns_data.specs.declared.record.Record.{Record};
+ghost use Rattle.dns_data.specs.Rdata.{IsRecord};
 ghost use Rattle.dns_master.specs.Pieces.{Piece, lexed};
 ghost use Rattle.dns_master.specs.Grammar.{ArePieces};
 ghost use Rattle.dns_master.specs.Entries.{from};
 ghost use Rattle.dns_master.specs.Depth.{split_behind};
 ghost use Rattle.dns_master.specs.declared.statement.Statement.{Statement};
 ghost use Rattle.dns_master.specs.InForce.{InForce, AreInForce};
+ghost use Rattle.dns_master.specs.FileGrammar.{IsFile};
+ghost use Rattle.dns_master.specs.ZoneText.{zone_text};
 
 /// A text has at most one list of pieces.
 pub fn pieces_are_one_list()
@@ -31,4 +37,9 @@ pub fn defaults_are_there()
 /// There is one such account, up to the last entry.
 pub fn defaults_are_one()
     ensures { (statements : List Statement) (origin : List (List ℕ)) (first second : ℕ → InForce) → AreInForce statements origin first → AreInForce statements origin second → (k : ℕ) → k ≤ length statements → first k ≡ second k }
+{}
+
+/// The text of a zone that is printed has the records of the zone, in their order, whichever origin is handed in.
+pub fn printed_is_read()
+    ensures { (handed origin : List (List ℕ)) (records : List Record) → IsName origin → AllByRecursion IsRecord records → IsFile (zone_text origin records) handed records }
 {}

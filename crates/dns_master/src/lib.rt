@@ -22,6 +22,7 @@ pub use fault::MasterFault;
 pub use file::read_file;
 pub use laws::{
     defaults_are_one, defaults_are_there, depths_are_counted, pieces_are_one_list, pieces_are_read,
+    printed_is_read,
 };
 pub use token::{Token, tokens};
 pub use zone_text::print_zone;
