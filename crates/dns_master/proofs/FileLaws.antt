@@ -23,11 +23,13 @@ use Rattle.dns_master.specs.Faults.{Gives}
 use Rattle.dns_master.specs.Statements.{statement_of}
 use Rattle.dns_master.specs.InForce.{InForce, or_else, ttl_in_force, behind_entry, handed_in}
 use Rattle.dns_master.specs.Files.{or_refused, records_of, Taken, taken, first_left, with_records, then_entries, read_from, file_from, placed_file, file_on_lines, file_of}
+use Rattle.dns_master.specs.EntryTexts.{EntryText}
 use Rattle.dns_master.specs.EntryGrammar.{States}
 use Rattle.dns_master.specs.FileGrammar.{IsRecordOf, AreRecords, AreStated, IsFile}
 use Rattle.dns_master.proofs.PartLaws.{step_ok}
 use Rattle.dns_master.proofs.StatementLaws.{HasOwner, statement_found, statement_only}
 use Rattle.dns_master.proofs.CarriedLaws.{carried, carried_in_force, one_in_force}
+use Rattle.dns_master.proofs.CutLaws.{view, entries_are, entries_read}
 use Rattle.dns_master.proofs.ByteLaws.{AreEntryBytes, entries_bytes}
 
 -- ---- what is in force is told by two functions that agree
@@ -49,12 +51,12 @@ on_zero (suc j) = on_suc 0 j ∙ ap (λ (n : ℕ). suc n) (on_zero j)
 abbrev Agree : (f g : ℕ → InForce) → ℕ → ℕ → ℕ → Type 0
 Agree f g i k n = (j : ℕ) → j ≤ n → f (on i j) ≡ g (on k j)
 
-stated_along : (f g : ℕ → InForce) (n i k : ℕ) (es : List Entry) (ss : List Statement) → length ss ≤ n → Agree f g i k n → AreStated f i es ss → AreStated g k es ss
+stated_along : (f g : ℕ → InForce) (n i k : ℕ) (es : List EntryText) (ss : List Statement) → length ss ≤ n → Agree f g i k n → AreStated f i es ss → AreStated g k es ss
 stated_along f g n i k [] ss l a h = h
 stated_along f g n i k (e ∷ es) [] l a h = h
 stated_along f g zero i k (e ∷ es) (s ∷ ss) l a h = absurd (omega arith)
 stated_along f g (suc n) i k (e ∷ es) (s ∷ ss) l a h = (
-  subst (λ (b : InForce). States b.origin e.white (map text_of e.items) s) (a 0 (omega arith)) h.0,
+  subst (λ (b : InForce). States b.origin e.white e.items s) (a 0 (omega arith)) h.0,
   stated_along f g n (suc i) (suc k) es ss (omega arith) (λ j q. a (suc j) (omega arith)) h.1,
 )
 
@@ -77,10 +79,10 @@ carried_before : (b : InForce) (s : Statement) (ss : List Statement) (n : ℕ) �
 carried_before b s ss n j q = sym (carried_behind b s ss n j q)
 
 module _ (b : InForce) (s : Statement) (ss : List Statement) where
-  stated_less : (es : List Entry) → AreStated (carried b (s ∷ ss)) 1 es ss → AreStated (carried (behind_entry s b) ss) 0 es ss
+  stated_less : (es : List EntryText) → AreStated (carried b (s ∷ ss)) 1 es ss → AreStated (carried (behind_entry s b) ss) 0 es ss
   stated_less es h = stated_along (carried b (s ∷ ss)) (carried (behind_entry s b) ss) (length ss) 1 0 es ss (omega arith) (carried_behind b s ss (length ss)) h
 
-  stated_more : (es : List Entry) → AreStated (carried (behind_entry s b) ss) 0 es ss → AreStated (carried b (s ∷ ss)) 1 es ss
+  stated_more : (es : List EntryText) → AreStated (carried (behind_entry s b) ss) 0 es ss → AreStated (carried b (s ∷ ss)) 1 es ss
   stated_more es h = stated_along (carried (behind_entry s b) ss) (carried b (s ∷ ss)) (length ss) 0 1 es ss (omega arith) (carried_before b s ss (length ss)) h
 
   records_less : (rs : List Record) → AreRecords (carried b (s ∷ ss)) 1 ss rs → AreRecords (carried (behind_entry s b) ss) 0 ss rs
@@ -127,7 +129,7 @@ name_behind b white items (statements.Record stated) is h = is
 -- what entries state, and their records
 pub record FileRead (b : InForce) (es : List Entry) (rs : List Record) : Type 0 where
   pub said : List Statement
-  pub stated : AreStated (carried b said) 0 es said
+  pub stated : AreStated (carried b said) 0 (map view es) said
   pub records : AreRecords (carried b said) 0 said rs
 
 -- an entry and those behind it
@@ -176,7 +178,7 @@ entries_found b (e ∷ es) rs is bytes h =
     let r = entries_found (behind_entry s b) es p.2 (name_behind b e.white (map text_of e.items) s is states) bytes.1 p.5 in
     record {
       said = s ∷ r.said;
-      stated = (states, stated_more b s r.said es r.stated);
+      stated = (states, stated_more b s r.said (map view es) r.stated);
       records = records_before b s r.said p.1 p.2 rs p.4 p.6 r.records;
     }
 
@@ -189,22 +191,22 @@ entry_again b e es s new others p m h =
     ∙ ap (λ (r : Result (List Record) EntryFault). r >>= λ records. Ok (behind_entry s b, records)) m in
     ap (λ (r : Result Taken EntryFault). then_entries (first_left e.items) r (read_from es)) t ∙ ap (with_records new) h
 
-entries_only : (b : InForce) (es : List Entry) (ss : List Statement) (rs : List Record) → IsName b.origin → AreStated (carried b ss) 0 es ss → AreRecords (carried b ss) 0 ss rs → read_from es b ≡ Ok rs
+entries_only : (b : InForce) (es : List Entry) (ss : List Statement) (rs : List Record) → IsName b.origin → AreStated (carried b ss) 0 (map view es) ss → AreRecords (carried b ss) 0 ss rs → read_from es b ≡ Ok rs
 entries_only b [] [] rs is h r = ap (λ (l : List Record). Ok l) (sym r)
 entries_only b [] (s ∷ ss) rs is h r = absurd (let no = h in cc)
 entries_only b (e ∷ es) [] rs is h r = absurd h
 entries_only b (e ∷ es) ((statements.Origin name) ∷ ss) rs is h r =
     let s = statements.Origin name in
-    let more = entries_only (behind_entry s b) es ss rs (name_behind b e.white (map text_of e.items) s is h.0) (stated_less b s ss es h.1) (records_less b s ss rs r) in
+    let more = entries_only (behind_entry s b) es ss rs (name_behind b e.white (map text_of e.items) s is h.0) (stated_less b s ss (map view es) h.1) (records_less b s ss rs r) in
     entry_again b e es s [] rs (statement_only b.origin b.owner e.white (map text_of e.items) s is tt h.0) refl more
 entries_only b (e ∷ es) ((statements.DefaultTtl ttl) ∷ ss) rs is h r =
     let s = statements.DefaultTtl ttl in
-    let more = entries_only (behind_entry s b) es ss rs is (stated_less b s ss es h.1) (records_less b s ss rs r) in
+    let more = entries_only (behind_entry s b) es ss rs is (stated_less b s ss (map view es) h.1) (records_less b s ss rs r) in
     entry_again b e es s [] rs (statement_only b.origin b.owner e.white (map text_of e.items) s is tt h.0) refl more
 entries_only b (e ∷ es) ((statements.Record stated) ∷ ss) [] is h r = absurd r
 entries_only b (e ∷ es) ((statements.Record stated) ∷ ss) (x ∷ rs) is h r =
     let s = statements.Record stated in
-    let more = entries_only (behind_entry s b) es ss rs is (stated_less b s ss es h.1) (records_less b s ss rs r.1) in
+    let more = entries_only (behind_entry s b) es ss rs is (stated_less b s ss (map view es) h.1) (records_less b s ss rs r.1) in
     entry_again b e es s (x ∷ []) rs (statement_only b.origin b.owner e.white (map text_of e.items) s is (owner_there stated.owner b.owner x.owner r.0.owner) h.0) (record_again stated b x r.0) more
 
 -- ---- texts
@@ -218,10 +220,10 @@ file_found text origin rs is bytes e =
     let f = whole_file (handed_in origin) (entries text) rs e in
     let r = entries_found (handed_in origin) f.0 rs is (entries_bytes text f.0 bytes f.1) f.2 in
     record {
-      of_entries = f.0;
+      of_entries = map view f.0;
       statements = r.said;
       before = carried (handed_in origin) r.said;
-      entries_are = f.1;
+      entries_are = entries_are text f.0 f.1;
       in_force = carried_in_force r.said origin;
       are_stated = r.stated;
       are_records = r.records;
@@ -233,9 +235,11 @@ file_only text origin rs is h =
     let n = length ss in
     let agree : Agree h.before (carried (handed_in origin) ss) 0 0 n = λ j q.
     one_in_force ss origin h.before (carried (handed_in origin) ss) h.in_force (carried_in_force ss origin) (on 0 j) (omega (arith, on_zero j, q)) in
-    ap (file_from (handed_in origin)) h.entries_are
-    ∙ entries_only (handed_in origin) h.of_entries ss rs is (stated_along h.before (carried (handed_in origin) ss) n 0 0 h.of_entries ss (omega arith) agree h.are_stated)
-    (records_along h.before (carried (handed_in origin) ss) n 0 0 ss rs (omega arith) agree h.are_records)
+    let read = entries_read text h.of_entries h.entries_are in
+    let stated = stated_along h.before (carried (handed_in origin) ss) n 0 0 h.of_entries ss (omega arith) agree h.are_stated in
+    let records = records_along h.before (carried (handed_in origin) ss) n 0 0 ss rs (omega arith) agree h.are_records in
+    ap (file_from (handed_in origin)) read.1
+    ∙ entries_only (handed_in origin) read.0 ss rs is (subst (λ (es : List EntryText). AreStated (carried (handed_in origin) ss) 0 es ss) (sym read.2) stated) records
 
 -- ---- with the limit, and the lines of refusals
 

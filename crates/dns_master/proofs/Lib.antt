@@ -15,6 +15,7 @@ pub mod FileLemmas
 pub mod GrammarLaws
 pub mod FoundLaws
 pub mod ByteLaws
+pub mod CutLaws
 pub mod FileLaws
 pub mod CleanLaws
 pub mod LineLaws

@@ -134,6 +134,16 @@ item_split false raw left d u white more items lines h = record {
 as_piece : (p q : Piece) (left u : ℕ) (white : Bool) (more : ℕ → ℕ → Result Split ShapeFault) (items : List ItemText) (lines : List (List ItemText)) → p ≡ q → SplitLines items lines (at_piece q left 0 u white more) → SplitLines items lines (at_piece p left 0 u white more)
 as_piece p q left u white more items lines e h = subst (λ (x : Piece). SplitLines items lines (at_piece x left 0 u white more)) (sym e) h
 
+-- a line end before a line
+line_ends : (left u : ℕ) (white : Bool) (more : ℕ → ℕ → Result Split ShapeFault) (line : List ItemText) (lines : List (List ItemText)) → white ≡ false → 0 < length line → SplitLines line lines (more 0 u)
+    → SplitLines [] (line ∷ lines) (at_piece LineEnd left 0 u white more)
+line_ends left u white more line lines w some h = record {
+  found = end_of white h.found;
+  read = ap (λ (r : Result Split ShapeFault). r >>= λ s. Ok (end_of white s)) h.read;
+  first = refl;
+  others = one_entry white h.found.first h.found.others line lines w some h.first h.others;
+}
+
 -- items that follow, up to the line's end, and the lines behind it
 behind_split : (ps : List Placed) (u : ℕ) (items : List ItemText) (lines : List (List ItemText)) → AllByRecursion CleanLine lines → map (λ p. p.piece) ps ≡ behind_first items (lines_pieces lines) → SplitLines items lines (split None ps 0 u)
 unfolding split
@@ -153,12 +163,7 @@ behind_split (p ∷ q ∷ ps) u [] ((item ∷ items) ∷ lines) h e =
     let line = as_piece q.piece (item_piece item) q.left u (begins_white ps) (split None ps) (item ∷ items) lines first (item_split item.quoted item.raw q.left 0 u (begins_white ps) (split None ps) items lines (behind_split ps u items lines h.1 others)) in
     let white = starts (q ∷ ps) (item ∷ items) (lines_pieces lines) h.0.some rest in
     as_piece p.piece LineEnd p.left u (begins_white (q ∷ ps)) (split None (q ∷ ps)) [] ((item ∷ items) ∷ lines) end
-    (record {
-      found = end_of (begins_white (q ∷ ps)) line.found;
-      read = ap (λ (r : Result Split ShapeFault). r >>= λ s. Ok (end_of (begins_white (q ∷ ps)) s)) line.read;
-      first = refl;
-      others = one_entry (begins_white (q ∷ ps)) line.found.first line.found.others (item ∷ items) lines white h.0.some line.first line.others;
-    })
+    (line_ends p.left u (begins_white (q ∷ ps)) (split None (q ∷ ps)) (item ∷ items) lines white h.0.some line)
 behind_split (p ∷ []) u (item ∷ items) lines h e = absurd cc
 behind_split (p ∷ q ∷ ps) u (item ∷ items) lines h e =
     let space : p.piece ≡ White 32 = cc in

@@ -27,6 +27,7 @@ use Rattle.dns_master.specs.EntryGrammar.{States}
 use Rattle.dns_master.specs.FileGrammar.{AreRecords, AreStated, IsFile}
 use Rattle.dns_master.specs.ZoneText.{ended_line, zone_text}
 use Rattle.dns_master.proofs.CarriedLaws.{carried, carried_in_force}
+use Rattle.dns_master.proofs.CutLaws.{view, entries_are}
 use Rattle.dns_master.proofs.CleanLaws.{name_clean, number_clean, type_clean, data_clean}
 use Rattle.dns_master.proofs.LineLaws.{line_text, CleanLine, AreLines, lines_read}
 
@@ -170,7 +171,7 @@ lines_printed (r ∷ rs) = ap (λ (t : List ℕ). ended_line r ++ t) (lines_prin
 here_said : (origin : List (List ℕ)) (white : Bool) (items line : List ItemText) (s : Statement) → white ≡ false → items ≡ line → States origin false line s → States origin white items s
 here_said origin white items line s w e h = subst (λ (b : Bool). States origin b items s) (sym w) (subst (λ (l : List ItemText). States origin false l s) (sym e) h)
 
-lines_said : (f : ℕ → InForce) (k : ℕ) (es : List Entry) (rs : List Record) → AllByRecursion IsRecord rs → AreLines es (map record_items rs) → AreStated f k es (map said rs)
+lines_said : (f : ℕ → InForce) (k : ℕ) (es : List Entry) (rs : List Record) → AllByRecursion IsRecord rs → AreLines es (map record_items rs) → AreStated f k (map view es) (map said rs)
 lines_said f k [] [] h l = refl
 lines_said f k [] (r ∷ rs) h l = absurd l
 lines_said f k (e ∷ es) [] h l = absurd l
@@ -181,7 +182,7 @@ records_are : (f : ℕ → InForce) (k : ℕ) (rs : List Record) → AreRecords 
 records_are f k [] = refl
 records_are f k (r ∷ rs) = (record { owner = refl; ttl = refl; rdata = refl }, records_are f (suc k) rs)
 
-all_said : (f : ℕ → InForce) (origin : List (List ℕ)) (es : List Entry) (rs : List Record) → IsName origin → AllByRecursion IsRecord rs → AreLines es (origin_items origin ∷ map record_items rs) → AreStated f 0 es (statements.Origin origin ∷ map said rs)
+all_said : (f : ℕ → InForce) (origin : List (List ℕ)) (es : List Entry) (rs : List Record) → IsName origin → AllByRecursion IsRecord rs → AreLines es (origin_items origin ∷ map record_items rs) → AreStated f 0 (map view es) (statements.Origin origin ∷ map said rs)
 all_said f origin [] rs is h l = absurd l
 all_said f origin (e ∷ es) rs is h l =
     (here_said (f 0).origin e.white (map text_of e.items) (origin_items origin) (statements.Origin origin) l.0 l.1 (origin_said (f 0).origin origin is), lines_said f 1 es rs h l.2)
@@ -193,10 +194,10 @@ zone_read handed origin rs is h =
     let lines = lines_read (origin_items origin) (map record_items rs) (origin_clean origin is) (records_clean rs h) in
     let text : zone_text origin rs ≡ flat_map line_text (origin_items origin ∷ map record_items rs) = ap (λ (t : List ℕ). line_text (origin_items origin) ++ t) (lines_printed rs) in
     record {
-      of_entries = lines.0;
+      of_entries = map view lines.0;
       statements = ss;
       before = f;
-      entries_are = ap entries text ∙ lines.1;
+      entries_are = entries_are (zone_text origin rs) lines.0 (ap entries text ∙ lines.1);
       in_force = carried_in_force ss handed;
       are_stated = all_said f origin lines.0 rs is h lines.2;
       are_records = records_are f 1 rs;

@@ -1,12 +1,11 @@
 -- Which records a text has (RFC 1035 section 5.1, RFC 2308 section 4): its entries, what each states where the origin before it
 -- is in force, and the record of each that states one.
-use Rattle.std.specs.Prelude.{◌≡◌, ℕ, suc, List, [], ◌∷◌, map, Some, Ok}
+use Rattle.std.specs.Prelude.{◌≡◌, ℕ, suc, List, [], ◌∷◌, Some}
 use Rattle.dns_data.specs.declared.record.Record.{Record}
 use Rattle.dns_master.specs.declared.statement.StatedRecord.{StatedRecord}
 use Rattle.dns_master.specs.declared.statement.Statement.{Statement}
 use Rattle.dns_master.specs.declared.statement.Statement.TheVariants as statements
-use Rattle.dns_master.specs.Entries.{Entry, entries}
-use Rattle.dns_master.specs.Reader.{text_of}
+use Rattle.dns_master.specs.EntryTexts.{EntryText, AreEntries}
 use Rattle.dns_master.specs.InForce.{InForce, AreInForce, or_else, ttl_in_force}
 use Rattle.dns_master.specs.EntryGrammar.{States}
 
@@ -25,17 +24,17 @@ AreRecords before k ((statements.Record stated) ∷ others) (r ∷ records) =
 AreRecords before k (s ∷ others) records = AreRecords before (suc k) others records
 
 -- what each of the entries from this number on states
-abbrev pub AreStated : (ℕ → InForce) → ℕ → List Entry → List Statement → Type 0
+abbrev pub AreStated : (ℕ → InForce) → ℕ → List EntryText → List Statement → Type 0
 AreStated before k [] statements = statements ≡ []
 AreStated before k (e ∷ es) [] = ⊥
-AreStated before k (e ∷ es) (s ∷ statements) = States (before k).origin e.white (map text_of e.items) s × AreStated before (suc k) es statements
+AreStated before k (e ∷ es) (s ∷ statements) = States (before k).origin e.white e.items s × AreStated before (suc k) es statements
 
 -- The records of a text where this origin is handed in: one for each entry that states one, in order.
 pub record IsFile (text : List ℕ) (origin : List (List ℕ)) (records : List Record) : Type 0 where
-  pub of_entries : List Entry
+  pub of_entries : List EntryText
   pub statements : List Statement
   pub before : ℕ → InForce
-  pub entries_are : entries text ≡ Ok of_entries
+  pub entries_are : AreEntries text of_entries
   pub in_force : AreInForce statements origin before
   pub are_stated : AreStated before 0 of_entries statements
   pub are_records : AreRecords before 0 statements records

@@ -16,6 +16,7 @@ pub mod Greatest
 pub mod InForce
 pub mod Files
 pub mod FileViews
+pub mod EntryTexts
 pub mod EntryGrammar
 pub mod FileGrammar
 pub mod ZoneText
