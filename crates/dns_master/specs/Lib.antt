@@ -9,3 +9,14 @@ pub mod Tokens
 pub mod Spans
 pub mod Refusals
 pub mod Device
+pub mod EntryFaults
+pub mod Fields
+pub mod Statements
+pub mod Greatest
+pub mod InForce
+pub mod Files
+pub mod FileViews
+pub mod EntryTexts
+pub mod EntryGrammar
+pub mod FileGrammar
+pub mod ZoneText

@@ -60,8 +60,8 @@ impl MasterFault {
     ghost use Rattle.dns_master.specs.Faults.{fault_number, fault_line};
 
     /// The published number of the refusal, 21 to 32, or 99 for want of memory. Data's own number is that of their fault.
-    pub const fn number(&self) -> u8
-        ensures { result ≡ fault_number self.now }
+    pub const fn number(self) -> u8
+        ensures { result ≡ fault_number self }
     {
         match self {
             MasterFault::ParenOpen(_) => 21,
@@ -80,9 +80,9 @@ impl MasterFault {
         }
     }
 
-    /// The line of the text at which the fault is, where it is at one.
-    pub const fn line(&self) -> Option<usize>
-        ensures { result ≡ fault_line self.now }
+    /// The line of the text at which the fault is, from 1. `TooLarge`, `WriteFailed` and `NoMemory` are at none: `None`.
+    pub const fn line(self) -> Option<usize>
+        ensures { result ≡ fault_line self }
     {
         match self {
             MasterFault::ParenOpen(line)
@@ -94,7 +94,7 @@ impl MasterFault {
             | MasterFault::DirectiveNotKept(line)
             | MasterFault::BadTtl(line)
             | MasterFault::Data { line, .. }
-            | MasterFault::EntryShort(line) => Some(*line),
+            | MasterFault::EntryShort(line) => Some(line),
             MasterFault::TooLarge | MasterFault::WriteFailed | MasterFault::NoMemory => None,
         }
     }

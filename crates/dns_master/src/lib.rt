@@ -1,21 +1,31 @@
-//! Master files (RFC 1035 section 5.1): telling the items and the entries of a text apart, and the devices that texts are
-//! read from and written to.
+//! Master files (RFC 1035 section 5.1): telling the items and the entries of a text apart, reading its records, and printing
+//! a zone; and the devices that texts are read from and written to.
 #![tactic(auto)]
 
 mod device;
 mod entry;
+mod entry_fault;
 mod fault;
+mod field;
+mod file;
 mod laws;
 mod line;
 mod reader;
 mod scan;
 mod shape;
+mod statement;
 mod token;
+mod zone_text;
 
 pub use device::{Counted, DeviceFailed, FaultCount, Pieces, Sink, Source};
 pub use fault::MasterFault;
-pub use laws::{depths_are_counted, pieces_are_one_list, pieces_are_read};
+pub use file::read_file;
+pub use laws::{
+    defaults_are_one, defaults_are_there, depths_are_counted, pieces_are_one_list, pieces_are_read,
+    printed_is_read,
+};
 pub use token::{Token, tokens};
+pub use zone_text::print_zone;
 
 #[cfg(test)]
 mod tests;

@@ -1,7 +1,8 @@
 //! A reader that goes from item to item.
 
-ghost use Rattle.std.specs.Prelude.{◌≡◌, ◌∷◌, [], ◌+◌, ◌-◌, ◌<◌, ◌≤◌, ℕ, length, take, drop, false, ◌^◌, IfSome, MatchOption};
+ghost use Rattle.std.specs.Prelude.{◌≡◌, ◌∷◌, [], ◌+◌, ◌-◌, ◌<◌, ◌≤◌, ℕ, length, take, drop, false, ◌^◌, IfOk, MatchResult};
 ghost use Rattle.dns_data.specs.Items.{item_of, plain, in_quotes};
+ghost use Rattle.dns_master.specs.declared.shape.ShapeFault.TheVariants.{QuoteOpen};
 ghost use Rattle.dns_master.specs.Pieces.{scan, ends_item, is_quote};
 ghost use Rattle.dns_master.specs.Reader.{found, NextItem, Shrinks};
 
@@ -43,17 +44,21 @@ impl<'a> Place<'a> {
     }
 }
 
-/// The item of a text behind its opening quote, and the text behind the closing one, if there is one.
+/// The item of a text behind its opening quote, and the text behind the closing one, or the quote that stays open.
 #[inline]
-fn quoted_item(text: &[u8]) -> Option<(Item<'_>, &[u8])>
-    ensures item { MatchOption result (drop (scan is_quote false text.now) text.now ≡ [])
+fn quoted_item(text: &[u8]) -> Result<(Item<'_>, &[u8]), ShapeFault>
+    requires { length text.now < 2 ^ 64 - 1 }
+    ensures item { MatchResult result
         (λ x. (item_of x.0 ≡ in_quotes (take (scan is_quote false text.now) text.now))
-        × ((quote : ℕ) × (drop (scan is_quote false text.now) text.now ≡ quote ∷ x.1.now))) }
-    ensures shorter { IfSome result (λ x. length x.0.raw.now + length x.1.now < length text.now) }
+        × ((quote : ℕ) × (drop (scan is_quote false text.now) text.now ≡ quote ∷ x.1.now)))
+        (λ fault. (fault ≡ QuoteOpen (length text.now + 1)) × (drop (scan is_quote false text.now) text.now ≡ [])) }
+    ensures shorter { IfOk result (λ x. length x.0.raw.now + length x.1.now < length text.now) }
 {
     let (raw, end) = text.split_at(body_len(text));
-    let (_, rest) = first_octet(end)?;
-    Some((Item { raw, quoted: true }, rest))
+    match first_octet(end) {
+        Some((_, rest)) => Ok((Item { raw, quoted: true }, rest)),
+        None => Err(ShapeFault::QuoteOpen(text.len() + 1)),
+    }
 }
 
 /// The unquoted item at the front of a text, and the text behind it.
@@ -95,9 +100,7 @@ pub(crate) fn next_item<'a>(place: Place<'a>) -> Result<(Option<Item<'a>>, Place
                 rest = after;
             }
             b'"' => {
-                let Some((item, behind)) = quoted_item(after) else {
-                    return Err(ShapeFault::QuoteOpen(rest.len()));
-                };
+                let (item, behind) = quoted_item(after)?;
                 return Ok((Some(item), Place::new(behind, depth, outermost)));
             }
             _ => {

@@ -3,8 +3,9 @@
 ghost use Rattle.std.specs.Prelude.{◌≡◌, ◌∷◌, [], ◌+◌, ◌≤◌, length, false, drop, MatchOption};
 ghost use Rattle.dns_master.specs.Pieces.{scan, ends_item, is_quote, line_len, is_special, Stopped};
 
-/// Whether an octet does not stand for itself in an unquoted item: it is a backslash, or it ends the item. A table takes a
-/// third off the time of a `match`.
+/// Whether an octet does not stand for itself in an unquoted item (RFC 1035 section 5.1): at its number, true for tab, line
+/// feed and return (9, 10, 13), space, `"`, `(`, `)` and `;` (32, 34, 40, 41, 59), which end the item, and for the backslash
+/// (92), which takes the next octet. A table takes a third off the time of a `match`.
 static SPECIAL: [bool; 256] = [
     false, false, false, false, false, false, false, false, false, true, true, false, false, true,
     false, false, false, false, false, false, false, false, false, false, false, false, false,

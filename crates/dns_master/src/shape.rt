@@ -37,7 +37,7 @@ impl ShapeFault {
 }
 
 /// The line of the place from which so many octets are left.
-fn line_before(text: &[u8], left: usize) -> usize
+pub(crate) fn line_before(text: &[u8], left: usize) -> usize
     ensures { result ≡ line_at text.now (length text.now - left) }
 {
     line_at(

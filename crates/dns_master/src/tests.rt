@@ -1,6 +1,8 @@
 //! Worked examples: their expected values come from the standard and by hand, and not from the program.
 
 mod devices;
+mod files;
+mod printing;
 
 use super::*;
 use dns_data::DataFault;

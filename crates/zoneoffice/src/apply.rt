@@ -6,12 +6,12 @@ ghost use Rattle.zoneoffice.specs.Outcome.{zone_before, zone_after, text_after};
 ghost use Rattle.zoneoffice.specs.Views.{zone_of};
 ghost use Rattle.zoneoffice.specs.Apply.{InputRead, TextWritten, IsRefused, Applied};
 
-use crate::device::{Sink, Source};
 use crate::fault::{ApplyFault, NO_MEMORY_LINE, READ_FAILED_LINE, RefusalLine};
 use crate::lines::{divided, lines};
 use crate::record_lines::{read_addition, read_records};
 use crate::records::text_of;
 use crate::zone::{Zone, build, origin_of, update};
+use dns_master::{Sink, Source};
 use std::alloc::{AllocError, Global};
 
 /// The most octets of an input.

@@ -5,7 +5,6 @@ ghost use Rattle.std.specs.Prelude.{◌≡◌, ◌<◌, ℕ};
 ghost use Rattle.zoneoffice.specs.Apply.{Applied};
 
 mod apply;
-mod device;
 mod fault;
 mod key;
 mod lines;
@@ -15,8 +14,8 @@ mod serial;
 mod zone;
 
 use crate::apply::apply;
-use crate::device::Counted;
 use crate::fault::ApplyFault;
+use dns_master::Counted;
 use std::alloc::Global;
 use std::io::{Read, Write};
 use std::marker::Brand;

@@ -1,13 +1,11 @@
 //! Worked examples: their expected texts come from the standards and not from the program.
 
-ghost use Rattle.std.specs.Prelude.{◌≤◌, IfOk};
-
 use crate::apply::text_after;
 use crate::fault::{ApplyFault, RefusalLine, ZoneFault};
 use crate::run;
 use crate::serial::{serial_add, serial_less};
+use dns_master::Pieces;
 use std::alloc::{AllocError, Global};
-use std::io::{self, ErrorKind, Read, Write};
 use std::marker::Brand;
 use std::sync::ledger::Blank;
 use std::test::Fail;
@@ -294,69 +292,8 @@ fn serials(rt: HostRuntime) {
     assert!(rt; serial_add(0xffff_ffff, 1) == 0);
 }
 
-/// How a device of a test behaves: it moves at most `step` octets in a call, and the call of the number `fails`, from 1, fails.
-#[derive(Clone, Copy)]
-struct Manner {
-    step: usize,
-    calls: usize,
-    fails: usize,
-}
-
-impl Manner {
-    fn new(step: usize, fails: usize) -> Manner {
-        Manner {
-            step,
-            calls: 0,
-            fails,
-        }
-    }
-
-    /// How many octets of these a call moves.
-    fn turn(&mut self, octets: usize) -> io::Result<usize>
-        ensures { IfOk result (λ count. count ≤ octets) }
-    {
-        self.calls = self.calls.saturating_add(1);
-        if self.calls == self.fails {
-            return Err(io::Error::from(ErrorKind::Other));
-        }
-        Ok(octets.min(self.step))
-    }
-}
-
-/// A reader of a text.
-#[derive(Drop)]
-struct Pieces<'a> {
-    rest: &'a [u8],
-    manner: Manner,
-}
-
-impl Read for Pieces<'_> {
-    fn read(&mut self, buffer: &mut [u8]) -> io::Result<usize> {
-        let count = self.manner.turn(self.rest.len().min(buffer.len()))?;
-        buffer[..count].copy_from_slice(&self.rest[..count]);
-        self.rest = &self.rest[count..];
-        Ok(count)
-    }
-}
-
-/// A writer that keeps what is written.
-#[derive(Drop)]
-struct Page {
-    text: Vec<u8>,
-    manner: Manner,
-}
-
-impl Write for Page {
-    fn write(&mut self, octets: &[u8]) -> io::Result<usize> {
-        let count = self.manner.turn(octets.len())?;
-        self.text.extend_from_slice(&octets[..count])?;
-        Ok(count)
-    }
-
-    fn flush(&mut self) -> io::Result<()> {
-        Ok(())
-    }
-}
+/// The most octets that a device moves in a call, and the number of the call that fails, from 1.
+type Manner = (usize, usize);
 
 /// What the program writes for an input.
 fn printed(
@@ -364,17 +301,13 @@ fn printed(
     input: &[u8],
     reading: Manner,
     writing: Manner,
-) -> (Vec<u8>, Result<(), ApplyFault>) {
-    let reader = Pieces {
-        rest: input,
-        manner: reading,
-    };
-    let page = Page {
-        text: Vec::new(alloc),
-        manner: writing,
-    };
+) -> Result<(Vec<u8>, Result<(), ApplyFault>), AllocError> {
+    let (most, fails) = reading;
+    let reader = Pieces::new(Vec::from_slice(alloc, input)?, most, fails);
+    let (most, fails) = writing;
+    let page = Pieces::new(Vec::new(alloc), most, fails);
     let (page, done) = run::<_, _, Brand, Brand>(alloc, reader, page, Blank::new(1), Blank::new(1));
-    (page.text, done)
+    Ok((page.octets, done))
 }
 
 /// A call that no test reaches.
@@ -386,8 +319,8 @@ fn read_in_pieces(rt: HostRuntime) -> Result<(), Fail> {
     let input = input(alloc, "add ns1.example.org. 600 A 192.0.2.1\n")?;
     let want = zone(alloc, 8, 600)?;
     for step in [1, 2, 3, 7, 64, 65_536, 100_000] {
-        let manner = Manner::new(step, NEVER);
-        let (got, done) = printed(alloc, input.as_bytes(), manner, manner);
+        let manner = (step, NEVER);
+        let (got, done) = printed(alloc, input.as_bytes(), manner, manner)?;
         assert!(rt; got.as_slice() == want.as_bytes(), "pieces of {step}");
         assert!(rt; done == Ok(()), "pieces of {step}");
     }
@@ -401,12 +334,7 @@ fn failed_reads(rt: HostRuntime) -> Result<(), Fail> {
     // the last of these reads is the one that finds the end
     let reads = input.len() / 16 + 2;
     for fails in 1..reads {
-        let (got, done) = printed(
-            alloc,
-            input.as_bytes(),
-            Manner::new(16, fails),
-            Manner::new(16, NEVER),
-        );
+        let (got, done) = printed(alloc, input.as_bytes(), (16, fails), (16, NEVER))?;
         assert!(rt;
             got.as_slice() == b"refused 93\n".as_slice(),
             "read {fails}"
@@ -422,22 +350,12 @@ fn failed_writes(rt: HostRuntime) -> Result<(), Fail> {
     let input = input(alloc, "")?;
     let want = zone(alloc, 7, 3600)?;
     for fails in 1..=want.len() / 16 {
-        let (got, done) = printed(
-            alloc,
-            input.as_bytes(),
-            Manner::new(16, NEVER),
-            Manner::new(16, fails),
-        );
+        let (got, done) = printed(alloc, input.as_bytes(), (16, NEVER), (16, fails))?;
         let front = &want.as_bytes()[..(fails - 1) * 16];
         assert!(rt; got.as_slice() == front, "write {fails}");
         assert!(rt; done == Err(ApplyFault::WriteFailed), "write {fails}");
     }
-    let (got, done) = printed(
-        alloc,
-        input.as_bytes(),
-        Manner::new(16, NEVER),
-        Manner::new(0, NEVER),
-    );
+    let (got, done) = printed(alloc, input.as_bytes(), (16, NEVER), (0, NEVER))?;
     assert!(rt; got.is_empty(), "a write that takes nothing");
     assert!(rt;
         done == Err(ApplyFault::WriteFailed),
@@ -449,15 +367,15 @@ fn failed_writes(rt: HostRuntime) -> Result<(), Fail> {
 #[test]
 fn sizes(rt: HostRuntime) -> Result<(), Fail> {
     let alloc = rt.alloc();
-    let manner = Manner::new(1_000_000, NEVER);
+    let manner = (1_000_000, NEVER);
     let mut input = vec![in alloc; b'\n'; 4_194_304]?;
-    let (got, _) = printed(alloc, &input, manner, manner);
+    let (got, _) = printed(alloc, &input, manner, manner)?;
     assert!(rt;
         got.as_slice() == b"refused 96\n".as_slice(),
         "4,194,304 octets"
     );
     input.push(b'\n')?;
-    let (got, _) = printed(alloc, &input, manner, manner);
+    let (got, _) = printed(alloc, &input, manner, manner)?;
     assert!(rt;
         got.as_slice() == b"refused 30 line 0\n".as_slice(),
         "one octet more"

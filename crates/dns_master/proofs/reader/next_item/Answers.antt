@@ -1,4 +1,6 @@
-use Rattle.std.proofs.Common.{◌≡◌, ◌∙◌, length, sym, ap, arith, length-drop, inl, inr, true, false, refl}
+use Rattle.std.proofs.Common.{◌≡◌, ◌∙◌, ◌+◌, ℕ, Err, length, sym, ap, arith, length-drop, inl, inr, true, false, refl}
+use Rattle.std.proofs.lemmas.Result.{err_from_is_err_and}
+use Rattle.dns_master.specs.declared.shape.ShapeFault.TheVariants.{QuoteOpen}
 use Rattle.dns_data.specs.Items.{ItemText}
 use Rattle.dns_master.specs.Entries.{from}
 use Rattle.dns_master.specs.Pieces.{line_len}
@@ -84,20 +86,24 @@ loop-octet-preserved-in-41-1 c =
       so_far = sym (at_close l.rest.now c.in-Some.after.now c.in-Some.octet l.depth l.outermost c.in-Some.ensures c.in-41.is c.if-depth-eq0-3.false) ∙ l.invariant.so_far;
     }
 
-pub returns-in_default-quoted_item-clause-exact : goal.returns-in_default-quoted_item-clause-exact
-returns-in_default-quoted_item-clause-exact c =
+pub returns-in_err-item-in-34-clause-exact : goal.returns-in_err-item-in-34-clause-exact
+returns-in_err-item-in-34-clause-exact c =
     let l = c.loop-octet in
-    sym l.invariant.so_far ∙ at_open_quote l.rest.now c.in-Some.after.now c.in-Some.octet l.depth l.outermost c.in-Some.ensures c.in-34.is _ _ refl refl c.in_default-quoted_item.ensures.item
+    let p = err_from_is_err_and c.from_residual.result c.from_residual.ensures.1 in
+    let told = c.in_err-item-in-34.ensures.item in
+    let left : length l.rest.now ≡ length c.in-Some.after.now + 1 = omega (arith, ap length c.in-Some.ensures) in
+    rw (p.1, p.2, told.0) (sym l.invariant.so_far ∙ at_open_quote l.rest.now c.in-Some.after.now c.in-Some.octet l.depth l.outermost c.in-Some.ensures c.in-34.is _ _ refl refl told.1
+    ∙ ap (λ (n : ℕ). Err (QuoteOpen n)) left)
 
 pub returns-in-34-clause-exact : goal.returns-in-34-clause-exact
 returns-in-34-clause-exact c =
     let l = c.loop-octet in
-    let item = c.in-Some-quoted_item.item in
-    let read = c.in-Some-quoted_item.ensures.item in
+    let item = c.in_ok-item-in-34.item in
+    let read = c.in_ok-item-in-34.ensures.item in
     let quoted : item.quoted ≡ true = ap (λ (i : ItemText). i.quoted) read.0 in
     let raw = ap (λ (i : ItemText). i.raw) read.0 in
     rw (c.new-in-34.ensures.rest, c.new-in-34.ensures.depth, c.new-in-34.ensures.outermost, quoted) (sym l.invariant.so_far
-    ∙ at_quoted l.rest.now c.in-Some.after.now c.in-Some.octet l.depth l.outermost c.in-Some.ensures c.in-34.is _ read.1.0 item.raw.now _ c.in-Some-quoted_item.behind.now refl raw refl read.1.1)
+    ∙ at_quoted l.rest.now c.in-Some.after.now c.in-Some.octet l.depth l.outermost c.in-Some.ensures c.in-34.is _ read.1.0 item.raw.now _ c.in_ok-item-in-34.behind.now refl raw refl read.1.1)
 
 pub returns-in_default-octet-clause-exact : goal.returns-in_default-octet-clause-exact
 returns-in_default-octet-clause-exact c =

@@ -1,0 +1,277 @@
+//! The records of a master file.
+
+ghost use Rattle.std.specs.Prelude.{◌≡◌, ◌<◌, ◌≤◌, List, [], length, map, Ok, IfOk};
+ghost use Rattle.std.specs.List.{AllByRecursion};
+ghost use Rattle.std.specs.Option.{option_copied};
+ghost use Rattle.dns_data.specs.declared.record.Record.{Record as RecordOf};
+ghost use Rattle.dns_data.specs.Items.{item_of};
+ghost use Rattle.dns_master.specs.declared.entry_fault.EntryFault.TheVariants.{NoOwner};
+ghost use Rattle.dns_master.specs.EntryFaults.{Tells};
+ghost use Rattle.dns_master.specs.Entries.{white_first};
+ghost use Rattle.dns_master.specs.Faults.{Gives};
+ghost use Rattle.dns_master.specs.InForce.{minimum_in, fitting_ttl, or_else, handed_in};
+ghost use Rattle.dns_master.specs.Files.{or_refused, file_fault_on_line, placed_file, file_of};
+ghost use Rattle.dns_master.specs.FileGrammar.{IsFile};
+ghost use Rattle.dns_master.specs.FileViews.{GivesFile};
+
+use crate::entry::{check_rest, read_entry};
+use crate::entry_fault::EntryFault;
+use crate::fault::MasterFault;
+use crate::shape::{ShapeFault, line_before};
+use crate::statement::{EntryItems, StatedRecord, Statement, read_statement};
+use dns_data::{Data, Record, Ttl};
+use dns_names::Name;
+use std::alloc::{AllocError, Global};
+
+/// The most octets of a master file.
+const FILE_MAX: usize = 4_194_304;
+
+/// Why a text has no records, while it is read. The numbers say how many octets are left from the place on.
+#[derive(Clone, Copy, Debug, PartialEq, Eq)]
+enum FileFault {
+    /// Its parentheses or quotes are wrong.
+    Shape(ShapeFault),
+    /// An entry is wrong, whose first item has so many octets left from it on.
+    Entry(usize, EntryFault),
+}
+
+impl FileFault {
+    /// The fault with its line in place of the octets that are left of the text.
+    fn on_line(self, text: &[u8]) -> MasterFault
+        ensures { result ≡ file_fault_on_line text.now self }
+    {
+        match self {
+            FileFault::Shape(fault) => fault.on_line(text),
+            FileFault::Entry(left, fault) => fault.on_line(line_before(text, left)),
+        }
+    }
+}
+
+impl From<AllocError> for FileFault {
+    ghost use Rattle.dns_master.specs.declared.file.FileFault.TheVariants.{Shape};
+    ghost use Rattle.dns_master.specs.declared.shape.ShapeFault.TheVariants.{NoMemory};
+
+    ghost from_gives = { λ _ e. e ≡ Shape NoMemory };
+
+    fn from(_e: AllocError) -> FileFault {
+        FileFault::Shape(ShapeFault::NoMemory)
+    }
+}
+
+impl From<ShapeFault> for FileFault {
+    ghost use Rattle.dns_master.specs.declared.file.FileFault.TheVariants.{Shape};
+
+    ghost from_gives = { λ f e. e ≡ Shape f };
+
+    fn from(fault: ShapeFault) -> FileFault {
+        FileFault::Shape(fault)
+    }
+}
+
+/// The TTL of so many seconds, where they are one.
+fn fitting_ttl(seconds: Option<u32>) -> Option<Ttl>
+    ensures { result ≡ fitting_ttl seconds }
+{
+    match seconds {
+        Some(seconds) => Ttl::new(seconds),
+        None => None,
+    }
+}
+
+/// The MINIMUM of an SOA, in seconds.
+fn minimum_in(rdata: &Data) -> Option<u32>
+    ensures { result ≡ minimum_in rdata.now }
+{
+    match rdata {
+        Data::Soa(soa) => Some(soa.fields().minimum.0),
+        _ => None,
+    }
+}
+
+/// The records that were read, and what is in force behind them. The owner in force is that of the last of them.
+#[derive(Debug, Drop)]
+struct FileRead {
+    origin: Name,
+    default_ttl: Option<Ttl>,
+    stated_ttl: Option<Ttl>,
+    /// The MINIMUM of the last SOA, in seconds.
+    minimum: Option<u32>,
+    records: Vec<Record>,
+}
+
+impl FileRead {
+    ghost use Rattle.dns_master.specs.FileViews.{force_of, last_owner, TakesStatement, TakesEntry};
+    ghost use Rattle.dns_master.specs.Files.{taken};
+
+    /// Before the first entry, where this origin is handed in.
+    fn new(alloc: Global, origin: &Name) -> Result<FileRead, AllocError>
+        ensures { IfOk result (λ file. (force_of file ≡ handed_in origin.now) × (file.records.items ≡ [])) }
+    {
+        Ok(FileRead {
+            origin: origin.try_copy(alloc)?,
+            default_ttl: None,
+            stated_ttl: None,
+            minimum: None,
+            records: Vec::new(alloc),
+        })
+    }
+
+    /// The owner in force.
+    fn owner(&self) -> Option<&Name>
+        ensures { option_copied result ≡ last_owner self.now.records.items }
+    {
+        match self.records.last() {
+            Some(record) => Some(&record.owner),
+            None => None,
+        }
+    }
+
+    /// The owner of a record that states this one, or none.
+    fn owner_or(&self, alloc: Global, own: Option<Name>) -> Result<Name, EntryFault>
+        ensures { Tells (λ owner. owner) result (or_refused NoOwner (or_else own (last_owner self.now.records.items))) }
+    {
+        if let Some(name) = own {
+            return Ok(name);
+        }
+        match self.owner() {
+            Some(name) => Ok(name.try_copy(alloc)?),
+            None => Err(EntryFault::NoOwner),
+        }
+    }
+
+    /// The TTL of a record that states none.
+    fn ttl_in_force(&self) -> Option<Ttl>
+        ensures { result ≡ or_else self.now.default_ttl (or_else self.now.stated_ttl (fitting_ttl self.now.minimum)) }
+    {
+        self.default_ttl
+            .or(self.stated_ttl)
+            .or(fitting_ttl(self.minimum))
+    }
+
+    /// Takes a record.
+    fn take_record(&mut self, alloc: Global, stated: StatedRecord) -> Result<(), EntryFault>
+        ensures { TakesStatement self.old self.new (Statement.Record stated) result }
+    {
+        let StatedRecord { owner, ttl, rdata } = stated;
+        let owner = self.owner_or(alloc, owner)?;
+        self.minimum = minimum_in(&rdata).or(self.minimum);
+        let Some(ttl) = ttl else {
+            let ttl = self.ttl_in_force().ok_or(EntryFault::NoTtl)?;
+            self.records.push(Record { owner, ttl, rdata })?;
+            return Ok(());
+        };
+        self.stated_ttl = Some(ttl);
+        self.records.push(Record { owner, ttl, rdata })?;
+        Ok(())
+    }
+
+    /// Takes what an entry states.
+    fn take(&mut self, alloc: Global, statement: Statement) -> Result<(), EntryFault>
+        ensures { TakesStatement self.old self.new statement result }
+    {
+        match statement {
+            Statement::Origin(name) => {
+                self.origin = name;
+                Ok(())
+            }
+            Statement::DefaultTtl(ttl) => {
+                self.default_ttl = Some(ttl);
+                Ok(())
+            }
+            Statement::Record(stated) => self.take_record(alloc, stated),
+        }
+    }
+
+    /// Takes an entry.
+    fn take_entry(&mut self, alloc: Global, entry: EntryItems) -> Result<(), EntryFault>
+        ensures { TakesEntry self.old self.new (taken (force_of self.old) entry.entry.white (map item_of entry.entry.items.now)) result }
+    {
+        let statement = read_statement(alloc, entry, &self.origin, self.owner())?;
+        self.take(alloc, statement)
+    }
+
+    /// The records.
+    fn into_records(self) -> Vec<Record>
+        ensures { result.items ≡ self.records.items }
+    {
+        self.records
+    }
+}
+
+/// Whether a text begins with white space.
+fn begins_white(text: &[u8]) -> bool
+    ensures { result ≡ white_first text.now }
+{
+    match text {
+        [] => false,
+        [octet, ..] => matches!(octet, b' ' | b'\t' | b'\r'),
+    }
+}
+
+/// The records of a text, or its first refusal, with the octets that are left there.
+fn placed_file(alloc: Global, text: &[u8], origin: &Name) -> Result<Vec<Record>, FileFault>
+    ensures { GivesFile (λ v. v.items) result (placed_file text.now origin.now) }
+{
+    let mut file = FileRead::new(alloc, origin)?;
+    let mut items = Vec::new(alloc);
+    let mut lefts = Vec::new(alloc);
+    let mut rest = text;
+    while !rest.is_empty() {
+        let white = begins_white(rest);
+        rest = read_entry(rest, &mut items, &mut lefts)?;
+        let Some(left) = lefts.first().copied() else {
+            continue;
+        };
+        let entry = EntryItems {
+            white,
+            items: &items,
+        };
+        if let Err(fault) = file.take_entry(alloc, entry) {
+            check_rest(rest, &mut items, &mut lefts)?;
+            return Err(FileFault::Entry(left, fault));
+        }
+    }
+    Ok(file.into_records())
+}
+
+/// The records of a text, or its first refusal.
+fn file_of(alloc: Global, text: &[u8], origin: &Name) -> Result<Vec<Record>, MasterFault>
+    ensures { Gives (λ v. v.items) result (file_of text.now origin.now) }
+{
+    if text.len() > FILE_MAX {
+        return Err(MasterFault::TooLarge);
+    }
+    match placed_file(alloc, text, origin) {
+        Ok(records) => Ok(records),
+        Err(fault) => Err(fault.on_line(text)),
+    }
+}
+
+/// A text has octets. Only proofs need it.
+fn notes_octets(text: &[u8])
+    ensures { AllByRecursion (λ o. o < 256) text.now }
+{
+    let _ = text;
+}
+
+/// Reads a master file (RFC 1035 section 5.1, with `$TTL` of RFC 2308 section 4): its records in order, one for each entry that
+/// is no directive, names relative to `origin` up to the first `$ORIGIN`.
+///
+/// Of several refusals the first of these is answered: `TooLarge` above 4,194,304 octets; `ParenOpen`, `ParenClose` and
+/// `QuoteOpen`, wherever in the text they are, as `tokens` has them; and then those of the first entry at fault, with the line
+/// of its first item: `NoOwner`; the leftmost item at fault, `DirectiveNotKept`, `BadTtl`, `ClassNotIn` or `Data`; an item that is
+/// missing, `EntryShort` before the type and `Data` behind it; a fault of the data as a whole, `Data`; `NoTtl`. `NoMemory`
+/// comes at the growth that was refused.
+pub fn read_file(alloc: Global, text: &[u8], origin: &Name) -> Result<Vec<Record>, MasterFault>
+    // What is read are the records of the text.
+    ensures found { IfOk result (λ v. IsFile text.now origin.now v.items) }
+    // A text without a fault is read, unless memory runs out.
+    ensures only { (records : List RecordOf) → IsFile text.now origin.now records → length text.now ≤ 4194304 → Gives (λ v. v.items) result (Ok records) }
+    // Which refusal it is.
+    ensures exact { Gives (λ v. v.items) result (file_of text.now origin.now) }
+{
+    notes_octets(text);
+    // the proof needs that the origin is a name
+    let _ = origin.labels();
+    file_of(alloc, text, origin)
+}
