@@ -2,7 +2,6 @@
 use Rattle.std.proofs.Common.{◌≡◌, ℕ, ◌+◌, ◌<◌, List, [], ◌∷◌, ◌++◌, length, take, get_or, Bool, true, false, cond, not, ◌||◌, ◌==◌, Option, Some, None, refl, sym, ap, subst, ◌∙◌, arith}
 use Rattle.std.specs.List.{AllByRecursion, filter, list_any}
 use Rattle.std.specs.FinMap.{get, find}
-use Rattle.std.proofs.lemmas.Bool.{eqb-true}
 use Rattle.std.proofs.lemmas.Bool.Decides.{nat_tests}
 use Rattle.std.proofs.lemmas.List.Folds.{list_any_more}
 use Rattle.dns_names.specs.Order.{same_name}
@@ -13,7 +12,7 @@ use Rattle.zone_core.specs.Updates.{acted_name}
 use Rattle.zone_core.specs.Effects.{effect, effects}
 pub use Rattle.zone_core.specs.Parts.{touched}
 use Rattle.zone_core.specs.Sites.{IsSite, Becomes, Grows}
-use Rattle.zone_core.proofs.SetLemmas.{name_is, name_self, get-part, same_sets, found_in_part, by_cases}
+use Rattle.zone_core.proofs.SetLemmas.{name_is, name_self, get-part, same_sets, by_cases}
 use Rattle.zone_core.proofs.RowLemmas.{get-set_of, each_in, set_of-filter, InOrder-filter, listing_of}
 use Rattle.zone_core.proofs.EffectLemmas.{effect_away}
 

@@ -1,7 +1,6 @@
 -- An operation reads and changes the records at its name, and no others.
-use Rattle.std.proofs.Common.{◌≡◌, ℕ, ◌+◌, ◌<◌, List, [], ◌∷◌, ◌++◌, length, take, get_or, map, Bool, true, false, cond, not, ◌&&◌, ◌||◌, ◌==◌, if◌then◌else◌, Option, Some, None, refl, sym, ap, subst, ◌∙◌}
+use Rattle.std.proofs.Common.{◌≡◌, ℕ, ◌+◌, ◌<◌, List, [], ◌∷◌, ◌++◌, length, take, get_or, map, Bool, true, false, cond, not, ◌&&◌, ◌||◌, ◌==◌, if◌then◌else◌, Option, Some, None, refl, sym, ap, ◌∙◌}
 use Rattle.std.specs.Option.{option_map}
-use Rattle.std.specs.Ordering.{is_eq}
 use Rattle.std.specs.FinMap.{get, entries, find, get-entries, get-from_entries}
 use Rattle.std.proofs.lemmas.Bool.{and_parts}
 use Rattle.std.proofs.lemmas.List.{take_more}
@@ -16,7 +15,7 @@ use Rattle.zone_core.specs.declared.update.Operation.TheVariants.{Add, DeleteRrs
 use Rattle.zone_core.specs.Sets.{Records, Key, key_of, key_cmp, rank_of, same_key, listing, part, cut, has, at_name, at, put, given, with_ttl}
 use Rattle.zone_core.specs.Zones.{is_soa, is_cname, soa_at, first_of}
 use Rattle.zone_core.specs.Updates.{acted_name}
-use Rattle.zone_core.specs.Effects.{is_other_type, takes_over, add_soa, add_cname, add_other, is_misplaced, add, is_guarded, delete_rrset, goes, delete_name, key_at, is_other_ns, stays, delete_record, effect, effects}
+use Rattle.zone_core.specs.Effects.{is_other_type, takes_over, add_soa, add_cname, add_other, is_misplaced, add, is_guarded, goes, key_at, is_other_ns, stays, effect, effects}
 use Rattle.zone_core.proofs.SetLemmas.{name_is, name_self, name_other, key_is, get-part, get-cut, get-put, kept_by_cut, kept_by_put, same_sets, same_parts, same_has, found_in_part, key_other, by_cases}
 
 -- ---- TTLs

@@ -1,5 +1,5 @@
 -- Tests over the data that prerequisites give for a set.
-use Rattle.std.proofs.Common.{◌≡◌, ℕ, List, [], ◌∷◌, ◌++◌, map, Bool, true, false, not, Option, Some, None, refl, sym, ap, ◌∙◌}
+use Rattle.std.proofs.Common.{◌≡◌, ℕ, List, [], ◌∷◌, map, Bool, true, false, refl, sym, ap, ◌∙◌}
 use Rattle.std.specs.Prelude.{◌&&◌, ◌||◌}
 use Rattle.std.specs.List.{list_any, list_all, flat_map, filter}
 use Rattle.std.proofs.lemmas.List.Folds.{list_any-append, list_all-append}
@@ -8,7 +8,7 @@ use Rattle.dns_data.specs.declared.rdata.Data.{Data}
 use Rattle.dns_data.specs.declared.record_type.RecordType.{RecordType}
 use Rattle.zone_core.specs.declared.update.Prerequisite.{Prerequisite}
 use Rattle.zone_core.specs.Sets.{key_of, set_of, part, at, InOrder}
-use Rattle.zone_core.specs.Prerequisites.{same_data, given_for, all_among, data_in, are_data}
+use Rattle.zone_core.specs.Prerequisites.{same_data, given_for, all_among, are_data}
 use Rattle.zone_core.proofs.RowLemmas.{listing-part}
 
 any-map : {A B : Type 0} (p : B → Bool) (f : A → B) (xs : List A) → list_any p (map f xs) ≡ list_any (λ x. p (f x)) xs

@@ -1,27 +1,25 @@
 -- The SOA of a zone is its first record.
-use Rattle.std.proofs.Common.{◌≡◌, ℕ, zero, suc, ◌+◌, List, [], ◌∷◌, length, get_or, ◌<◌, Bool, true, false, cond, ◌&&◌, ◌==◌, Option, Some, None, refl, sym, ap, subst, ◌∙◌, arith}
+use Rattle.std.proofs.Common.{◌≡◌, ℕ, zero, suc, List, [], ◌∷◌, length, get_or, ◌<◌, Bool, true, false, cond, Option, Some, None, refl, sym, ap, subst, ◌∙◌, arith}
 use Rattle.std.specs.declared.cmp.Ordering.{Ordering}
 use Rattle.std.specs.declared.cmp.Ordering.TheVariants.{Less, Equal, Greater}
-use Rattle.std.specs.Ordering.{nat_cmp, ordering_then, ordering_reverse, is_eq, is_lt, is_le}
-use Rattle.std.specs.List.{AllByRecursion, filter}
+use Rattle.std.specs.Ordering.{nat_cmp, ordering_then, is_eq, is_lt, is_le}
+use Rattle.std.specs.List.{filter}
 use Rattle.std.specs.List.Sorted.{IsStrictlySortedBy}
-use Rattle.std.specs.FinMap.{find, get}
+use Rattle.std.specs.FinMap.{find}
 use Rattle.std.specs.Cmp.Lexicographic.{slice_cmp}
 use Rattle.std.proofs.lemmas.Bool.{false_from_ne_true}
 use Rattle.std.proofs.lemmas.Bool.Decides.{nat_tests}
 use Rattle.dns_data.specs.Text.{data_text}
-use Rattle.dns_names.specs.Labels.{IsWithin, is_within}
-use Rattle.dns_names.specs.Order.{canonical_cmp, canonical_total, same_name}
+use Rattle.dns_names.specs.Order.{canonical_cmp}
 use Rattle.dns_names.proofs.NameLemmas.{is_within-Decides}
 use Rattle.dns_data.specs.declared.record.Record.{Record}
-use Rattle.dns_data.specs.declared.record_type.RecordType.{RecordType}
 use Rattle.dns_data.specs.declared.record_type.RecordType.TheVariants as types
 use Rattle.dns_data.specs.Rdata.{type_of}
 use Rattle.dns_data.proofs.RecordOrderLemmas.{one_rank}
-use Rattle.zone_core.specs.Sets.{Records, Key, key_of, key_cmp, rank_of, keyed, record_order, set_of, listing, InOrder, IsIn, part, at}
-use Rattle.zone_core.specs.Zones.{ZoneOf, IsZone, IsSoaOf, soa_at, first_of}
+use Rattle.zone_core.specs.Sets.{key_of, key_cmp, rank_of, keyed, record_order, set_of, IsIn, at}
+use Rattle.zone_core.specs.Zones.{ZoneOf, IsSoaOf, soa_at, first_of}
 use Rattle.zone_core.specs.Views.{zone_in, AreOfZone}
-use Rattle.zone_core.proofs.SetLemmas.{name_is, name_self}
+use Rattle.zone_core.proofs.SetLemmas.{name_self}
 use Rattle.zone_core.proofs.RowLemmas.{get-set_of, first_in, found_has, listing-part}
 use Rattle.zone_core.proofs.WithinLemmas.{not_before}
 

@@ -1,6 +1,6 @@
 -- An update reads the records at its names alone.
-use Rattle.std.proofs.Common.{◌≡◌, ℕ, zero, suc, List, [], ◌∷◌, map, Bool, true, false, cond, not, ◌&&◌, ◌||◌, if◌then◌else◌, Option, Some, None, refl, sym, ap, subst, ◌∙◌}
-use Rattle.std.specs.List.{AllByRecursion, list_any, flat_map}
+use Rattle.std.proofs.Common.{◌≡◌, ℕ, suc, List, [], ◌∷◌, Bool, true, false, cond, not, ◌||◌, if◌then◌else◌, Option, Some, None, refl, sym, ap, ◌∙◌}
+use Rattle.std.specs.List.{AllByRecursion, flat_map}
 use Rattle.std.specs.Option.{option_or, option_map}
 use Rattle.std.specs.FinMap.{get}
 use Rattle.std.proofs.lemmas.Bool.{and_parts}
@@ -10,11 +10,10 @@ use Rattle.dns_data.specs.declared.record_type.RecordType.{RecordType}
 use Rattle.dns_data.specs.Rdata.{type_of}
 use Rattle.zone_core.specs.declared.rcode.Rcode.{Rcode}
 use Rattle.zone_core.specs.declared.rcode.Rcode.TheVariants.{NxDomain, YxDomain, NxRrset, YxRrset}
-use Rattle.zone_core.specs.declared.verdict.Failed.{Failed}
 use Rattle.zone_core.specs.declared.update.Prerequisite.{Prerequisite}
 use Rattle.zone_core.specs.declared.update.Prerequisite.TheVariants.{RrsetExists, RrsetEquals, RrsetAbsent, NameUsed, NameUnused}
 use Rattle.zone_core.specs.declared.update.Operation.{Operation}
-use Rattle.zone_core.specs.Sets.{Records, Key, rank_of, part, minus, same_ttl, has, at_name, at}
+use Rattle.zone_core.specs.Sets.{Records, Key, part, minus, same_ttl, at_name, at}
 use Rattle.zone_core.specs.Updates.{tested_name, acted_name}
 use Rattle.zone_core.specs.Prerequisites.{fails, set_fails, given_for, are_data, first_failed, verdict, failed}
 use Rattle.zone_core.specs.Effects.{effect, effects}
@@ -93,11 +92,10 @@ effects_on origin (op ∷ ops) w a b all same = effects_on origin ops w (effect 
 
 all_touch : (w : Key → Bool) (ops : List Operation) → ((k : Key) → touched ops k ≡ true → w k ≡ true) → AllByRecursion (λ op. (k : Key) → k.0 ≡ acted_name op → w k ≡ true) ops
 all_touch w [] wide = tt
-all_touch w (op ∷ ops) wide =
-    (
-      λ k name. let here : at_name (acted_name op) k ≡ true = rw name (name_self (acted_name op)) in wide k (ap (λ t. t || touched ops k) here),
-      all_touch w ops (λ k e. wide k (second (at_name (acted_name op) k) (touched ops k) e))
-    )
+all_touch w (op ∷ ops) wide = (
+  λ k name. let here : at_name (acted_name op) k ≡ true = rw name (name_self (acted_name op)) in wide k (ap (λ t. t || touched ops k) here),
+  all_touch w ops (λ k e. wide k (second (at_name (acted_name op) k) (touched ops k) e)),
+)
   where
     second : (x y : Bool) → y ≡ true → (x || y) ≡ true
     second true y e = refl
@@ -124,8 +122,7 @@ operations_read origin set ops =
     let w = touched ops in
     let z = part set w in
     let whole : SameOn w z set = λ k e. found_in_part set w k e in
-    let after : SameOn w (effects origin z ops) (effects origin set ops) = effects_on origin ops w z set (all_touch w ops (λ k e. e)) whole in
-    (
+    let after : SameOn w (effects origin z ops) (effects origin set ops) = effects_on origin ops w z set (all_touch w ops (λ k e. e)) whole in (
       minus_alike w z (effects origin z ops) set (effects origin set ops) whole after (λ k e. (sym (effects_away origin z ops k e), sym (effects_away origin set ops k e))),
-      minus_alike w (effects origin z ops) z (effects origin set ops) set after whole (λ k e. (effects_away origin z ops k e, effects_away origin set ops k e))
+      minus_alike w (effects origin z ops) z (effects origin set ops) set after whole (λ k e. (effects_away origin z ops k e, effects_away origin set ops k e)),
     )

@@ -1,22 +1,21 @@
 -- A record that is put into a row in record order, and TTLs that are set in one.
-use Rattle.std.proofs.Common.{◌≡◌, ℕ, zero, suc, ◌+◌, ◌-◌, ◌<◌, ◌≤◌, List, [], ◌∷◌, ◌++◌, length, take, drop, get_or, map, Bool, true, false, cond, not, ◌&&◌, ◌==◌, if◌then◌else◌, Option, Some, None, inl, inr, refl, sym, ap, subst, ◌∙◌, arith}
+use Rattle.std.proofs.Common.{◌≡◌, ℕ, zero, suc, ◌<◌, ◌≤◌, List, [], ◌∷◌, length, drop, get_or, map, Bool, true, false, cond, not, ◌&&◌, ◌==◌, if◌then◌else◌, Option, Some, None, inl, inr, refl, sym, ap, subst, ◌∙◌, arith}
 use Rattle.std.specs.declared.cmp.Ordering.{Ordering}
 use Rattle.std.specs.declared.cmp.Ordering.TheVariants.{Less, Equal, Greater}
 use Rattle.std.specs.Ordering.{is_lt, is_eq, ordering_reverse}
 use Rattle.std.specs.Prelude.{slice_get}
-use Rattle.std.specs.List.{AllByRecursion, AllWithin, filter, insert as insert_at}
+use Rattle.std.specs.List.{AllByRecursion, filter, insert as insert_at}
 use Rattle.std.specs.List.Sorted.{IsStrictlySortedBy, IsPartitionPoint, IsPartitionedBy}
-use Rattle.std.specs.FinMap.{get, find, entries, from_entries, entries-insert, put as put_entry}
+use Rattle.std.specs.FinMap.{get, find, from_entries, entries-insert, put as put_entry}
 use Rattle.std.specs.FinMap.Entries.{by_order}
 use Rattle.std.proofs.lemmas.Bool.{cases_lt}
 use Rattle.dns_data.specs.declared.record.Record.{Record}
 use Rattle.dns_data.specs.declared.record_type.RecordType.{RecordType}
 use Rattle.dns_data.specs.RecordOrder.{key_total, record_order_total}
-use Rattle.dns_data.specs.Rdata.{type_of}
 use Rattle.dns_names.specs.Order.{same_name}
-use Rattle.zone_core.specs.Sets.{Records, Key, key_of, key_cmp, rank_of, same_key, keyed, set_of, record_order, put, cut, at, with_ttl, given, InOrder}
+use Rattle.zone_core.specs.Sets.{Records, key_of, key_cmp, rank_of, same_key, keyed, set_of, record_order, put, cut, at, with_ttl, given, InOrder}
 use Rattle.zone_core.specs.Sites.{IsSite, Becomes, with_type_ttl}
-use Rattle.zone_core.proofs.SetLemmas.{same_sets, get-put, get-cut, key_other, key_is, key_self, is_tied, name_self, by_cases}
+use Rattle.zone_core.proofs.SetLemmas.{same_sets, get-put, get-cut, key_other, key_self, name_self, by_cases}
 use Rattle.zone_core.proofs.RowLemmas.{entries_of, row_of, get-set_of, found_has, found_key}
 use Rattle.zone_core.proofs.RangeLemmas.{pair_order}
 

@@ -4,7 +4,7 @@ use Rattle.std.specs.declared.cmp.Ordering.{Ordering}
 use Rattle.std.specs.declared.cmp.Ordering.TheVariants.{Less, Equal, Greater}
 use Rattle.std.specs.Ordering.{nat_cmp, ordering_then, ordering_index, is_lt, is_le, is_eq, ordering_reverse, on, then_cmp}
 use Rattle.std.specs.Cmp.{IsTotalOrder, on_total, then_total, nat_cmp_total}
-use Rattle.std.specs.List.{All, AllByRecursion, AllWithin, filter}
+use Rattle.std.specs.List.{All, filter}
 use Rattle.std.specs.List.Sorted.{IsSortedBy, IsStrictlySortedBy, IsPartitionPoint, IsPartitionedBy, IsNonDecreasingBy}
 use Rattle.std.proofs.lemmas.Bool.Decides.{nat_tests}
 use Rattle.std.proofs.lemmas.List.{take-append-drop, take_all}
@@ -14,7 +14,7 @@ use Rattle.dns_names.specs.Order.{canonical_cmp, canonical_total, same_name}
 use Rattle.dns_data.specs.declared.record.Record.{Record}
 use Rattle.dns_data.specs.declared.record_type.RecordType.{RecordType}
 use Rattle.dns_data.specs.Rdata.{type_of}
-use Rattle.zone_core.specs.Sets.{Key, key_of, rank_of, record_order, InOrder, at}
+use Rattle.zone_core.specs.Sets.{key_of, rank_of, record_order, InOrder, at}
 use Rattle.zone_core.specs.Views.{set_order}
 
 -- ---- places of a row in order

@@ -1,11 +1,11 @@
 -- Rows of records in record order, and the sets that they stand for.
-use Rattle.std.proofs.Common.{◌≡◌, ◌↔◌, ℕ, suc, List, [], ◌∷◌, Bool, true, false, cond, not, ◌&&◌, ◌==◌, ◌||◌, map, length, arith, Option, Some, None, refl, sym, ap, ◌∙◌, subst}
+use Rattle.std.proofs.Common.{◌≡◌, ℕ, suc, List, [], ◌∷◌, Bool, true, false, cond, not, ◌&&◌, ◌==◌, ◌||◌, map, length, arith, Option, Some, None, refl, sym, ap, ◌∙◌, subst}
 use Rattle.std.specs.declared.cmp.Ordering.{Ordering}
 use Rattle.std.specs.declared.cmp.Ordering.TheVariants.{Less, Equal, Greater}
 use Rattle.std.specs.Ordering.{is_eq, is_lt}
-use Rattle.std.specs.List.{AllByRecursion, filter, list_any, Contains}
+use Rattle.std.specs.List.{AllByRecursion, filter, list_any}
 use Rattle.std.specs.List.Sorted.{IsStrictlySortedBy}
-use Rattle.std.specs.FinMap.{get, entries, len, len-entries, empty, from_entries, from_sorted, entries_sorted, entries-from_sorted, get-from_sorted, get-from_entries, get-entries, find, is_sorted, same_entries_map}
+use Rattle.std.specs.FinMap.{get, entries, len, len-entries, from_sorted, entries_sorted, entries-from_sorted, get-from_sorted, get-from_entries, find, is_sorted, same_entries_map}
 use Rattle.std.specs.FinMap.Entries.{below_all}
 use Rattle.std.proofs.lemmas.List.Kept.{IsStrictlySortedBy-filter}
 use Rattle.std.proofs.lemmas.Bool.{ne_eqb}
@@ -13,7 +13,7 @@ use lib.Dec.{T}
 use Rattle.dns_data.specs.declared.record.Record.{Record}
 use Rattle.dns_data.specs.RecordOrder.{key_total}
 use Rattle.zone_core.specs.Sets.{Records, Key, key_of, key_cmp, record_order, same_key, keyed, set_of, listing, InOrder, IsIn, part, count, has}
-use Rattle.zone_core.proofs.SetLemmas.{one_key, same_sets, get-part, is_tied, key_self, key_is, key_other}
+use Rattle.zone_core.proofs.SetLemmas.{same_sets, get-part, is_tied, key_self, key_is, key_other}
 
 -- ---- rows in order
 

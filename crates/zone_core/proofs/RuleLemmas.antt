@@ -1,5 +1,5 @@
 -- What the rules of adding and deleting make of a row of the records at one name.
-use Rattle.std.proofs.Common.{◌≡◌, ℕ, zero, suc, ◌≤◌, List, [], ◌∷◌, ◌++◌, length, take, drop, get_or, set, map, Bool, true, false, not, ◌&&◌, ◌||◌, ◌==◌, if◌then◌else◌, refl, sym, ap, subst, ◌∙◌}
+use Rattle.std.proofs.Common.{◌≡◌, ℕ, zero, suc, ◌≤◌, List, [], ◌∷◌, ◌++◌, length, take, drop, map, Bool, true, false, not, ◌&&◌, ◌||◌, ◌==◌, if◌then◌else◌, refl, sym, ap, subst, ◌∙◌}
 use Rattle.std.specs.Ordering.{is_lt}
 use Rattle.std.specs.List.{AllByRecursion, filter, list_any, insert as insert_at}
 use Rattle.std.specs.List.Sorted.{IsPartitionPoint, IsPartitionedBy, IsStrictlySortedBy}
@@ -10,12 +10,12 @@ use Rattle.dns_data.specs.declared.record_type.RecordType.{RecordType}
 use Rattle.dns_data.specs.declared.record_type.RecordType.TheVariants as types
 use Rattle.dns_data.specs.declared.rdata.Data.{Data}
 use Rattle.dns_data.specs.Rdata.{type_of}
-use Rattle.zone_core.specs.Sets.{Records, Key, key_of, key_cmp, rank_of, same_key, set_of, record_order, put, cut, has, at, at_name, with_ttl, InOrder}
+use Rattle.zone_core.specs.Sets.{Records, key_of, rank_of, same_key, set_of, record_order, put, cut, has, at, at_name, with_ttl, InOrder}
 use Rattle.zone_core.specs.Zones.{soa_at}
 use Rattle.zone_core.specs.Prerequisites.{same_data}
 use Rattle.zone_core.specs.Effects.{add_soa, add_cname, add_other, takes_over, is_other_type, is_guarded, delete_rrset, delete_record, stays, key_at, is_other_ns}
 use Rattle.zone_core.specs.Sites.{IsSite, Becomes, with_type_ttl}
-use Rattle.zone_core.proofs.SiteLemmas.{filter_site, cut_site, has_site, same_site, at_here, other_here, name_here, key_here, ns_here, nothing_kept}
+use Rattle.zone_core.proofs.SiteLemmas.{cut_site, has_site, same_site, at_here, other_here, name_here, key_here, ns_here, nothing_kept}
 use Rattle.zone_core.proofs.PutLemmas.{put_row, put_again, new_of, parted, ttl_site}
 
 -- one row in the place of another, and one set

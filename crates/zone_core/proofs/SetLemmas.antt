@@ -1,5 +1,5 @@
 -- What is found in a set that was made from another, and what a test finds in two sets.
-use Rattle.std.proofs.Common.{◌≡◌, ℕ, suc, List, [], ◌∷◌, length, Bool, true, false, cond, not, ◌&&◌, ◌==◌, nat_lt, map, arith, Option, Some, None, refl, sym, ap, ◌∙◌, subst}
+use Rattle.std.proofs.Common.{◌≡◌, ℕ, suc, List, [], ◌∷◌, length, Bool, true, false, cond, not, ◌&&◌, ◌==◌, nat_lt, arith, Option, Some, None, refl, sym, ap, ◌∙◌, subst}
 use Rattle.std.specs.declared.cmp.Ordering.{Ordering}
 use Rattle.std.specs.declared.cmp.Ordering.TheVariants.{Less, Equal, Greater}
 use Rattle.std.specs.Ordering.{nat_cmp, ordering_then, is_eq, is_lt}
@@ -7,14 +7,14 @@ use Rattle.std.specs.FinMap.Entries.{below_all}
 use lib.Dec.{T}
 use Rattle.std.specs.Cmp.{tied_itself}
 use Rattle.std.specs.Cmp.Lexicographic.{slice_cmp}
-use Rattle.std.specs.FinMap.{entries, entries_sorted, is_sorted, get-entries, find, len, len-entries, IsAntisymmetric, nat_cmp-IsAntisymmetric, slice_cmp-IsAntisymmetric, get, empty, insert, remove, get-empty, get-insert, get-remove, get-retain_keys, same_map, empty_of_len, len-empty}
-use Rattle.std.proofs.lemmas.Bool.{both_ways, true_from_ne_false, false_from_ne_true, and_parts, eqb-true, not-false}
+use Rattle.std.specs.FinMap.{entries, entries_sorted, is_sorted, get-entries, find, len, len-entries, IsAntisymmetric, nat_cmp-IsAntisymmetric, slice_cmp-IsAntisymmetric, get, empty, remove, get-empty, get-insert, get-remove, get-retain_keys, same_map, empty_of_len, len-empty}
+use Rattle.std.proofs.lemmas.Bool.{both_ways, true_from_ne_false, false_from_ne_true, eqb-true, not-false}
 use Rattle.std.proofs.lemmas.Bool.Decides.{nat_tests}
 use Rattle.dns_names.specs.Order.{canonical_cmp, canonical_total, same_name}
 use Rattle.dns_names.proofs.NameLemmas.{same_name-Decides}
 use Rattle.dns_data.specs.declared.record.Record.{Record}
 use Rattle.dns_data.specs.RecordOrder.{key_total}
-use Rattle.zone_core.specs.Sets.{Records, Key, key_of, key_cmp, same_key, part, cut, count, has, put, same_ttl, minus}
+use Rattle.zone_core.specs.Sets.{Records, Key, key_of, key_cmp, same_key, part, cut, count, has, put}
 
 -- ---- tests
 

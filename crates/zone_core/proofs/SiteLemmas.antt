@@ -1,7 +1,6 @@
 -- Rows of the records at one name: tests of a record, where the owner is known, are tests of its key.
-use Rattle.std.proofs.Common.{◌≡◌, ℕ, List, [], ◌∷◌, length, Bool, true, false, cond, not, ◌&&◌, ◌||◌, ◌==◌, map, Option, Some, None, refl, sym, ap, subst, ◌∙◌}
+use Rattle.std.proofs.Common.{◌≡◌, ℕ, List, [], ◌∷◌, Bool, true, false, cond, not, ◌&&◌, ◌||◌, ◌==◌, Some, refl, sym, ap, ◌∙◌}
 use Rattle.std.specs.List.{AllByRecursion, filter, list_any, find}
-use Rattle.std.specs.Option.{option_map}
 use Rattle.std.specs.declared.cmp.Ordering.{Ordering}
 use Rattle.std.specs.declared.cmp.Ordering.TheVariants.{Less, Equal, Greater}
 use Rattle.std.specs.Ordering.{is_eq, ordering_then, nat_cmp}
@@ -12,8 +11,8 @@ use Rattle.dns_data.specs.declared.record_type.RecordType.{RecordType}
 use Rattle.dns_data.specs.declared.record_type.RecordType.TheVariants as types
 use Rattle.dns_data.specs.declared.rdata.Data.{Data}
 use Rattle.dns_data.specs.Rdata.{type_of}
-use Rattle.zone_core.specs.Sets.{Records, Key, key_of, rank_of, same_key, set_of, listing, part, cut, has, at, at_name, InOrder}
-use Rattle.zone_core.specs.Zones.{is_soa, is_cname, soa_at, first_of}
+use Rattle.zone_core.specs.Sets.{Key, key_of, rank_of, same_key, set_of, cut, has, at, at_name}
+use Rattle.zone_core.specs.Zones.{is_soa, soa_at, first_of}
 use Rattle.zone_core.specs.Prerequisites.{same_data}
 use Rattle.zone_core.specs.Effects.{is_other_type, is_other_ns, key_at, goes, is_guarded}
 use Rattle.zone_core.specs.Sites.{IsSite, Becomes}

@@ -1,10 +1,10 @@
 -- A set in which nothing is wrong is a zone's.
-use Rattle.std.proofs.Common.{◌≡◌, ◌<◌, ◌≤◌, ℕ, zero, suc, List, length, Bool, true, false, not, ◌&&◌, ◌||◌, ◌==◌, nat_lt, if◌then◌else◌, Option, Some, None, refl, sym, ap, subst, ◌∙◌, arith}
+use Rattle.std.proofs.Common.{◌≡◌, ◌<◌, ℕ, zero, suc, List, length, Bool, true, false, not, ◌&&◌, ◌||◌, ◌==◌, nat_lt, if◌then◌else◌, Option, Some, None, refl, sym, ap, ◌∙◌, arith}
 use Rattle.std.specs.List.{AllByRecursion}
 use Rattle.std.specs.FinMap.{get}
-use Rattle.std.proofs.lemmas.Bool.{and_parts, eqb-true, false_from_ne_true, not-false}
+use Rattle.std.proofs.lemmas.Bool.{and_parts, eqb-true, false_from_ne_true}
 use Rattle.std.proofs.lemmas.Bool.Decides.{nat_tests}
-use Rattle.dns_names.specs.Labels.{IsWithin, IsBelow, is_within}
+use Rattle.dns_names.specs.Labels.{IsWithin, is_within}
 use Rattle.dns_names.specs.Order.{same_name}
 use Rattle.dns_names.proofs.NameLemmas.{is_within-Decides}
 use Rattle.dns_data.specs.declared.record.Record.{Record}
@@ -14,9 +14,9 @@ use Rattle.dns_data.specs.Rdata.{type_of, IsRecord}
 use Rattle.dns_data.proofs.RecordOrderLemmas.{one_rank}
 use Rattle.zone_core.specs.declared.fault.ZoneFault.{ZoneFault}
 use Rattle.zone_core.specs.Sets.{Records, Key, key_of, rank_of, set_of, InOrder, IsIn, count, has, at_name, at}
-use Rattle.zone_core.specs.Zones.{ZoneOf, IsZone, IsSoaOf, IsOriginNs, AreKept, fault_in, is_soa, is_cname, is_outside, is_twin, is_crowded}
-use Rattle.zone_core.specs.Views.{zone_in, AreOfZone, set_ttl, even_rows}
-use Rattle.zone_core.proofs.SetLemmas.{name_is, name_self, key_is, has_found, some_found, one_found, two_found}
+use Rattle.zone_core.specs.Zones.{IsZone, AreKept, fault_in, is_soa, is_cname, is_outside, is_twin, is_crowded}
+use Rattle.zone_core.specs.Views.{AreOfZone, set_ttl, even_rows}
+use Rattle.zone_core.proofs.SetLemmas.{name_is, name_self, has_found, some_found, one_found, two_found}
 use Rattle.zone_core.proofs.RowLemmas.{get-set_of, found_has, found_key, in_has}
 use Rattle.zone_core.proofs.FaultLemmas.{fault_by}
 use Rattle.zone_core.proofs.EvenLemmas.{even_all, even_order, ttl_beside}

@@ -2,7 +2,6 @@
 use Rattle.std.specs.Prelude.{ℕ, List, refl}
 use Rattle.std.specs.Coded.{Coded, code_by, coded×, coded_ℕ, coded_list}
 use Rattle.std.specs.FinMap as map
-use Rattle.dns_data.specs.declared.record.Record.{Record}
 use Rattle.dns_data.specs.contracts.record.Record as of_record
 use Rattle.zone_core.specs.Sets.{Records, Key}
 use Rattle.zone_core.specs.Zones.{ZoneOf}

@@ -1,20 +1,17 @@
 -- What operations do to the records of a zone (RFC 2136 sections 2.5 and 3.4.2).
-use Rattle.std.specs.Prelude.{◌≡◌, ℕ, List, [], ◌∷◌, Bool, false, not, ◌&&◌, ◌||◌, ◌==◌, if◌then◌else◌, Option, Some, None}
+use Rattle.std.specs.Prelude.{ℕ, List, [], ◌∷◌, Bool, false, not, ◌&&◌, ◌||◌, ◌==◌, if◌then◌else◌, Option, Some, None}
 use Rattle.dns_names.specs.Order.{same_name}
 use Rattle.dns_data.specs.declared.record.Record.{Record}
 use Rattle.dns_data.specs.declared.record_type.RecordType.{RecordType}
 use Rattle.dns_data.specs.declared.record_type.RecordType.TheVariants as types
 use Rattle.dns_data.specs.declared.rdata.Data.{Data}
-use Rattle.dns_data.specs.declared.rdata.Data.TheVariants.{Soa}
-use Rattle.dns_data.specs.declared.soa.SoaFields.{SoaFields}
 use Rattle.dns_data.specs.Rdata.{type_of}
 use Rattle.dns_data.specs.Text.{data_text}
 use Rattle.zone_core.specs.declared.update.Operation.{Operation}
 use Rattle.zone_core.specs.declared.update.Operation.TheVariants.{Add, DeleteRrset, DeleteName, DeleteRecord}
-use Rattle.zone_core.specs.Serials.{serial_sum, is_less}
+use Rattle.zone_core.specs.Serials.{is_less}
 use Rattle.zone_core.specs.Sets.{Records, Key, key_of, rank_of, same_key, cut, has, at_name, at, put, with_ttl}
-use Rattle.zone_core.specs.Zones.{ZoneOf, is_soa, is_cname, soa_at, serial_in, serial_at}
-use Rattle.zone_core.specs.Updates.{UpdateOf}
+use Rattle.zone_core.specs.Zones.{is_soa, is_cname, soa_at, serial_in}
 
 -- ---- adding (RFC 2136 section 3.4.2.2)
 

@@ -1,10 +1,9 @@
 -- What prerequisites test (RFC 2136 sections 2.4 and 3.2).
-use Rattle.std.specs.Prelude.{ℕ, suc, List, [], ◌∷◌, map, Bool, not, ◌&&◌, ◌==◌, if◌then◌else◌, Option, Some, None, Result, Ok, Err}
+use Rattle.std.specs.Prelude.{ℕ, suc, List, [], ◌∷◌, map, Bool, ◌&&◌, ◌==◌, if◌then◌else◌, Option, Some, None, Result, Ok, Err}
 use Rattle.std.specs.List.{list_any, list_all, flat_map}
 use Rattle.std.specs.Option.{option_or, option_map}
 use Rattle.std.specs.Ordering.{is_eq}
 use Rattle.dns_names.specs.Order.{same_name}
-use Rattle.dns_data.specs.declared.record.Record.{Record}
 use Rattle.dns_data.specs.declared.rdata.Data.{Data}
 use Rattle.dns_data.specs.declared.record_type.RecordType.{RecordType}
 use Rattle.dns_data.specs.Rdata.{type_of}
@@ -15,8 +14,6 @@ use Rattle.zone_core.specs.declared.update.Prerequisite.{Prerequisite}
 use Rattle.zone_core.specs.declared.update.Prerequisite.TheVariants.{RrsetExists, RrsetEquals, RrsetAbsent, NameUsed, NameUnused}
 use Rattle.zone_core.specs.declared.verdict.Failed.{Failed}
 use Rattle.zone_core.specs.Sets.{Records, rank_of, listing, part, has, at_name, at}
-use Rattle.zone_core.specs.Zones.{ZoneOf}
-use Rattle.zone_core.specs.Updates.{UpdateOf}
 
 -- the code with which a test by itself fails (RFC 2136 sections 2.4.1, 2.4.3, 2.4.4 and 2.4.5)
 abbrev pub fails : Records → Prerequisite → Option Rcode

@@ -1,10 +1,8 @@
 -- An update: prerequisites and operations (RFC 2136 sections 2.4 and 2.5).
-use Rattle.std.specs.Prelude.{◌≡◌, ℕ, ◌≤◌, List, length, Bool, not, ◌||◌, nat_lt, if◌then◌else◌, Option, Some, None, Result, Ok, Err, true, false}
+use Rattle.std.specs.Prelude.{ℕ, ◌≤◌, List, length, Bool, not, ◌||◌, nat_lt, if◌then◌else◌, Option, Result, Ok, Err, false}
 use Rattle.std.specs.List.{filter, AllByRecursion, position}
 use Rattle.std.specs.Option.{option_map, option_or}
 use Rattle.dns_names.specs.Labels.{IsName, IsWithin, is_within}
-use Rattle.dns_data.specs.declared.record.Record.{Record}
-use Rattle.dns_data.specs.declared.rdata.Data.{Data}
 use Rattle.dns_data.specs.Rdata.{IsRecord, IsRdata}
 use Rattle.zone_core.specs.declared.update.Prerequisite.{Prerequisite}
 use Rattle.zone_core.specs.declared.update.Prerequisite.TheVariants.{RrsetExists, RrsetEquals, RrsetAbsent, NameUsed, NameUnused}
@@ -15,7 +13,7 @@ use Rattle.zone_core.specs.declared.update.ItemList.TheVariants as lists
 use Rattle.zone_core.specs.declared.update.Place.{Place}
 use Rattle.zone_core.specs.declared.fault.UpdateFault.{UpdateFault}
 use Rattle.zone_core.specs.declared.fault.UpdateFault.TheVariants.{TooManyItems, TwoSoa}
-use Rattle.zone_core.specs.Sets.{Key, key_of}
+use Rattle.zone_core.specs.Sets.{key_of}
 use Rattle.zone_core.specs.Zones.{is_soa}
 
 -- prerequisites and operations

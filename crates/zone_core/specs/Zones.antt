@@ -1,7 +1,6 @@
 -- What a zone is: an origin and a set of records (RFC 1034 section 4.2, RFC 1035 section 5.2, RFC 2181 section 5.2).
 use Rattle.std.specs.Prelude.{◌≡◌, ℕ, ◌<◌, List, [], ◌∷◌, length, map, reverse, Bool, not, ◌&&◌, ◌||◌, ◌==◌, nat_lt, min, if◌then◌else◌, Option, Some, None, Result, Ok, Err}
-use Rattle.std.specs.List.{list_any}
-use Rattle.std.specs.FinMap.{get, len, entries, from_entries}
+use Rattle.std.specs.FinMap.{get, entries, from_entries}
 use Rattle.std.specs.Option.{option_map_or}
 use Rattle.dns_names.specs.Labels.{IsWithin, IsBelow, is_within}
 use Rattle.dns_names.specs.Order.{same_name}
@@ -13,7 +12,7 @@ use Rattle.dns_data.specs.declared.soa.SoaFields.{SoaFields}
 use Rattle.dns_data.specs.Rdata.{type_of, IsRecord}
 use Rattle.zone_core.specs.declared.fault.ZoneFault.{ZoneFault}
 use Rattle.zone_core.specs.declared.fault.ZoneFault.TheVariants.{RootOrigin, OutOfZone, SoaNotAtOrigin, NoSoa, TwoSoa, NoOriginNs, TwoCnames, CnameAndOther}
-use Rattle.zone_core.specs.Sets.{Records, Key, key_of, rank_of, set_of, listing, keyed, IsIn, part, count, has, at_name, at}
+use Rattle.zone_core.specs.Sets.{Records, Key, key_of, rank_of, set_of, listing, IsIn, part, count, has, at_name, at}
 
 -- an origin and a set of records
 pub record ZoneOf : Type 0 where

@@ -5,11 +5,9 @@ ghost use Rattle.zone_core.specs.Parts.{VerdictsReadTheirNames, OperationsReadTh
 /// The prerequisites of an update read the records at their names, and no others.
 pub fn verdicts_read_their_names()
     ensures { VerdictsReadTheirNames }
-{
-}
+{}
 
 /// The operations of an update read and change the records at their names, and no others.
 pub fn operations_read_their_names()
     ensures { OperationsReadTheirNames }
-{
-}
+{}

@@ -49,11 +49,18 @@ fn record(alloc: Global, line: &str) -> Result<Record, Fail> {
     })
 }
 
-/// Records by their lines.
-fn records(alloc: Global, lines: &[&str]) -> Result<Vec<Record>, Fail> {
+/// Records by their lines, with a bar between them; `SOA` and `NS` are those of the examples.
+fn records(alloc: Global, lines: &str) -> Result<Vec<Record>, Fail> {
     let mut records = Vec::new(alloc);
-    for line in lines {
-        records.push(record(alloc, line)?)?;
+    for line in lines.split('|') {
+        let line = match line {
+            "SOA" => ZONE[0],
+            "NS" => ZONE[1],
+            line => line,
+        };
+        if !line.is_empty() {
+            records.push(record(alloc, line)?)?;
+        }
     }
     Ok(records)
 }
@@ -78,8 +85,8 @@ fn lines(alloc: Global, records: &[Record]) -> Result<String, AllocError> {
 
 /// The zone `example.org.` of the examples, and more records.
 fn zone(alloc: Global, more: &[&str]) -> Result<Zone, Fail> {
-    let mut all = records(alloc, &ZONE)?;
-    for line in more {
+    let mut all = Vec::new(alloc);
+    for line in ZONE.iter().chain(more) {
         all.push(record(alloc, line)?)?;
     }
     Ok(Zone::build(alloc, name(alloc, "example.org.")?, all)?)
@@ -88,73 +95,61 @@ fn zone(alloc: Global, more: &[&str]) -> Result<Zone, Fail> {
 #[test]
 fn zones_that_are_built(rt: HostRuntime) -> Result<(), Fail> {
     let alloc = rt.alloc();
-    let soa = ZONE[0];
-    let ns = ZONE[1];
-    let rows: [(&str, &[&str], Result<&str, u8>, &str); 15] = [
-        (".", &[soa, ns], Err(50), "the root"),
-        ("example.org.", &[], Err(41), "no record"),
+    let rows: [(&str, &str, Result<&str, u8>, &str); 15] = [
+        (".", "SOA|NS", Err(50), "the root"),
+        ("example.org.", "", Err(41), "no record"),
         (
             "example.org.",
-            &[ns, "a.example.org. 60 A 192.0.2.1"],
+            "NS|a.example.org. 60 A 192.0.2.1",
             Err(41),
             "no SOA",
         ),
-        ("example.org.", &[soa], Err(44), "no NS"),
+        ("example.org.", "SOA", Err(44), "no NS"),
         (
             "example.org.",
-            &[soa, "a.example.org. 60 NS ns1.example.org."],
+            "SOA|a.example.org. 60 NS ns1.example.org.",
             Err(44),
             "an NS below the origin alone",
         ),
         (
             "example.org.",
-            &[soa, ns, "badexample.org. 60 A 192.0.2.1"],
+            "SOA|NS|badexample.org. 60 A 192.0.2.1",
             Err(47),
             "a suffix of the text that is none of the labels",
         ),
         (
             "example.org.",
-            &[soa, ns, "example.org. 60 DS 1 5 1 ab"],
+            "SOA|NS|example.org. 60 DS 1 5 1 ab",
             Err(47),
             "a DS at the origin",
         ),
         (
             "example.org.",
-            &[ns, "a.example.org. 60 SOA a. b. 1 1 1 1 1"],
+            "NS|a.example.org. 60 SOA a. b. 1 1 1 1 1",
             Err(43),
             "an SOA below the origin, which goes before none at it",
         ),
         (
             "example.org.",
-            &[soa, ns, "example.org. 60 SOA a. b. 1 1 1 1 1"],
+            "SOA|NS|example.org. 60 SOA a. b. 1 1 1 1 1",
             Err(42),
             "two SOA records",
         ),
         (
             "example.org.",
-            &[
-                soa,
-                ns,
-                "c.example.org. 60 CNAME a.",
-                "c.example.org. 60 CNAME b.",
-            ],
+            "SOA|NS|c.example.org. 60 CNAME a.|c.example.org. 60 CNAME b.",
             Err(46),
             "two CNAME records",
         ),
         (
             "example.org.",
-            &[
-                soa,
-                ns,
-                "c.example.org. 60 CNAME a.",
-                "c.example.org. 60 A 192.0.2.1",
-            ],
+            "SOA|NS|c.example.org. 60 CNAME a.|c.example.org. 60 A 192.0.2.1",
             Err(45),
             "a CNAME and an A",
         ),
         (
             "example.org.",
-            &[ns, soa],
+            "NS|SOA",
             Ok(
                 "example.org. 3600 SOA ns1.example.org. admin.example.org. 7 3600 600 86400 60|example.org. 3600 NS ns1.example.org.",
             ),
@@ -162,13 +157,7 @@ fn zones_that_are_built(rt: HostRuntime) -> Result<(), Fail> {
         ),
         (
             "example.org.",
-            &[
-                soa,
-                ns,
-                "a.example.org. 60 A 192.0.2.1",
-                "a.example.org. 30 A 192.0.2.1",
-                "a.example.org. 90 A 192.0.2.1",
-            ],
+            "SOA|NS|a.example.org. 60 A 192.0.2.1|a.example.org. 30 A 192.0.2.1|a.example.org. 90 A 192.0.2.1",
             Ok(
                 "example.org. 3600 SOA ns1.example.org. admin.example.org. 7 3600 600 86400 60|example.org. 3600 NS ns1.example.org.|a.example.org. 90 A 192.0.2.1",
             ),
@@ -176,13 +165,7 @@ fn zones_that_are_built(rt: HostRuntime) -> Result<(), Fail> {
         ),
         (
             "example.org.",
-            &[
-                soa,
-                ns,
-                "a.example.org. 90 A 192.0.2.1",
-                "a.example.org. 60 A 192.0.2.2",
-                "a.example.org. 30 TXT x",
-            ],
+            "SOA|NS|a.example.org. 90 A 192.0.2.1|a.example.org. 60 A 192.0.2.2|a.example.org. 30 TXT x",
             Ok(
                 "example.org. 3600 SOA ns1.example.org. admin.example.org. 7 3600 600 86400 60|example.org. 3600 NS ns1.example.org.|a.example.org. 60 A 192.0.2.1|a.example.org. 60 A 192.0.2.2|a.example.org. 30 TXT \"x\"",
             ),
@@ -190,12 +173,7 @@ fn zones_that_are_built(rt: HostRuntime) -> Result<(), Fail> {
         ),
         (
             "example.org.",
-            &[
-                soa,
-                ns,
-                "d.example.org. 60 DS 1 5 1 ab",
-                "example.org. 60 A 192.0.2.1",
-            ],
+            "SOA|NS|d.example.org. 60 DS 1 5 1 ab|example.org. 60 A 192.0.2.1",
             Ok(
                 "example.org. 3600 SOA ns1.example.org. admin.example.org. 7 3600 600 86400 60|example.org. 60 A 192.0.2.1|example.org. 3600 NS ns1.example.org.|d.example.org. 60 DS 1 5 1 ab",
             ),

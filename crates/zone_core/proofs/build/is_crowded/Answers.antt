@@ -1,4 +1,4 @@
-use Rattle.std.proofs.Common.{◌≡◌, sym, refl}
+use Rattle.std.proofs.Common.{sym, refl}
 use Rattle.dns_data.specs.declared.record_type.RecordType.TheVariants.{Cname}
 use Rattle.zone_core.specs.Sets.{at, at_name}
 use Rattle.zone_core.proofs.RowLemmas.{count_is}

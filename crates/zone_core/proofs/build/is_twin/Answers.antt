@@ -1,4 +1,4 @@
-use Rattle.std.proofs.Common.{◌≡◌, nat_lt, length, sym, ap, ◌∙◌}
+use Rattle.std.proofs.Common.{nat_lt, length, sym, ap, ◌∙◌}
 use Rattle.dns_data.specs.declared.record_type.RecordType.TheVariants.{Cname}
 use Rattle.zone_core.specs.Sets.{at}
 use Rattle.zone_core.proofs.RowLemmas.{count_is}

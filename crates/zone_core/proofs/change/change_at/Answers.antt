@@ -1,4 +1,4 @@
-use Rattle.std.proofs.Common.{◌≡◌, sym, ap, subst, ◌∙◌}
+use Rattle.std.proofs.Common.{sym, ap, subst, ◌∙◌}
 use Rattle.zone_core.specs.Sets.{set_of, part, at_name, InOrder}
 use Rattle.zone_core.specs.Effects.{effects}
 use Rattle.zone_core.specs.Sites.{IsSite, Becomes}

@@ -1,7 +1,6 @@
-use Rattle.std.proofs.Common.{rules, not, ◌==◌}
+use Rattle.std.proofs.Common.{rules}
 use Rattle.dns_data.specs.declared.record.Record.{Record}
-use Rattle.zone_core.specs.Sets.{key_of, rank_of}
-use Rattle.zone_core.specs.Prerequisites.{same_data}
+use Rattle.zone_core.specs.Sets.{key_of}
 use Rattle.zone_core.specs.Effects.{is_guarded}
 use Rattle.zone_core.proofs.RetainLemmas.{retain_is}
 use Rattle.zone_core.proofs.effect.guarded.Goals as goal

@@ -1,4 +1,4 @@
-use Rattle.std.proofs.Common.{◌≡◌, ◌-◌, rules, length, drop, take}
+use Rattle.std.proofs.Common.{◌-◌, rules, length, drop, take}
 use Rattle.std.specs.Ordering.{is_lt}
 use Rattle.std.proofs.lemmas.List.Sorted.{IsPartitionPoint-from_clause}
 use Rattle.dns_names.specs.Labels.{is_within}

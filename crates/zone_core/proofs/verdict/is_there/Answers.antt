@@ -1,4 +1,4 @@
-use Rattle.std.proofs.Common.{◌≡◌, sym, refl, ◌∙◌}
+use Rattle.std.proofs.Common.{sym, refl, ◌∙◌}
 use Rattle.std.specs.List.{list_any}
 use Rattle.zone_core.specs.Prerequisites.{same_data, given_for}
 use Rattle.zone_core.proofs.GroupLemmas.{all_of_one}
