@@ -20,11 +20,10 @@ use Rattle.zone_core.proofs.SetLemmas.{name_is, name_self, name_other, key_is, g
 
 -- ---- TTLs
 
-pub retag : (Key → Bool) → ℕ → Key → Record → Record
+abbrev pub retag : (Key → Bool) → ℕ → Key → Record → Record
 retag test ttl k r = record r { ttl = if test k then ttl else r.ttl }
 
 find-given : (test : Key → Bool) (ttl : ℕ) (k : Key) (es : List (Key × Record)) → find key_cmp k (map (given test ttl) es) ≡ option_map (retag test ttl k) (find key_cmp k es)
-unfolding retag
 find-given test ttl k [] = refl
 find-given test ttl k (e ∷ es) = by_test (same_key k e.0) (λ t. ap (λ q. Some (retag test ttl q e.1)) (sym (key_is k e.0 t))) (find-given test ttl k es)
   where
@@ -36,8 +35,7 @@ find-given test ttl k (e ∷ es) = by_test (same_key k e.0) (λ t. ap (λ q. Som
 pub get-with_ttl : (a : Records) (test : Key → Bool) (ttl : ℕ) (k : Key) → get (with_ttl a test ttl) k ≡ option_map (retag test ttl k) (get a k)
 get-with_ttl a test ttl k = get-from_entries key_total (map (given test ttl) (entries a)) k ∙ find-given test ttl k (entries a) ∙ ap (option_map (retag test ttl k)) (sym (get-entries a k))
 
-untouched : (test : Key → Bool) (ttl : ℕ) (k : Key) (o : Option Record) → test k ≡ false → option_map (retag test ttl k) o ≡ o
-unfolding retag
+pub untouched : (test : Key → Bool) (ttl : ℕ) (k : Key) (o : Option Record) → test k ≡ false → option_map (retag test ttl k) o ≡ o
 untouched test ttl k None e = refl
 untouched test ttl k (Some r) e = ap (λ b. Some (record r { ttl = if b then ttl else r.ttl })) e
 

@@ -17,3 +17,5 @@ pub mod RuleLemmas
 pub mod EffectLemmas
 pub mod ChangeLemmas
 pub mod PartLemmas
+pub mod ZoneLemmas
+pub mod VersionLemmas

@@ -5,13 +5,16 @@ use Rattle.dns_data.specs.declared.record.Record.{Record}
 use Rattle.dns_data.specs.declared.record_type.RecordType.{RecordType}
 use Rattle.dns_data.specs.declared.record_type.RecordType.TheVariants as types
 use Rattle.dns_data.specs.declared.rdata.Data.{Data}
+use Rattle.dns_data.specs.declared.rdata.Data.TheVariants.{Soa}
+use Rattle.dns_data.specs.declared.soa.SoaFields.{SoaFields}
 use Rattle.dns_data.specs.Rdata.{type_of}
 use Rattle.dns_data.specs.Text.{data_text}
 use Rattle.zone_core.specs.declared.update.Operation.{Operation}
 use Rattle.zone_core.specs.declared.update.Operation.TheVariants.{Add, DeleteRrset, DeleteName, DeleteRecord}
-use Rattle.zone_core.specs.Serials.{is_less}
-use Rattle.zone_core.specs.Sets.{Records, Key, key_of, rank_of, same_key, cut, has, at_name, at, put, with_ttl}
-use Rattle.zone_core.specs.Zones.{is_soa, is_cname, soa_at, serial_in}
+use Rattle.zone_core.specs.Serials.{serial_sum, is_less}
+use Rattle.zone_core.specs.Sets.{Records, Key, key_of, rank_of, same_key, cut, has, at_name, at, put, with_ttl, is_same}
+use Rattle.zone_core.specs.Zones.{ZoneOf, is_soa, is_cname, soa_at, serial_in, serial_at}
+use Rattle.zone_core.specs.Updates.{UpdateOf}
 
 -- ---- adding (RFC 2136 section 3.4.2.2)
 
@@ -95,3 +98,34 @@ effect origin set (DeleteRecord name rdata) = delete_record origin set (key_at n
 abbrev pub effects : List (List ℕ) → Records → List Operation → Records
 effects origin set [] = set
 effects origin set (op ∷ ops) = effects origin (effect origin set op) ops
+
+-- ---- the serial (RFC 2136 section 3.6)
+
+-- the fields of an SOA with its serial one further (RFC 1982 section 3.1)
+abbrev pub next_soa : SoaFields → SoaFields
+next_soa soa = record soa { serial = record { 0 = serial_sum soa.serial.0 1 } }
+
+-- data of an SOA with its serial one further, and others as they are
+abbrev pub next_data : Data → Data
+next_data (Soa soa) = Soa (next_soa soa)
+next_data rdata = rdata
+
+-- an SOA with its serial one further
+abbrev pub next_version : Record → Record
+next_version r = record r { rdata = next_data r.rdata }
+
+-- the set with the next version of an SOA in its place, where there is one
+abbrev pub with_next : Records → Option Record → Records
+with_next set None = set
+with_next set (Some soa) = put (cut set (at soa.owner types.Soa)) (next_version soa)
+
+-- The records of an origin after operations took them from one set to another: where nothing changed, TTLs counted, they are
+-- those before; where an SOA was taken its serial stands; else it is one further.
+abbrev pub settled : List (List ℕ) → Records → Records → Records
+settled origin before after =
+    if is_same before after then before
+    else (if serial_at origin before == serial_at origin after then with_next after (soa_at origin after) else after)
+
+-- the zone after an update
+abbrev pub zone_after : ZoneOf → UpdateOf → ZoneOf
+zone_after zone update = record zone { records = settled zone.origin zone.records (effects zone.origin zone.records update.operations) }

@@ -10,3 +10,4 @@ pub mod Prerequisites
 pub mod Effects
 pub mod Sites
 pub mod Parts
+pub mod Versions

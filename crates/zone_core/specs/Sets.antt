@@ -94,3 +94,7 @@ same_ttl (Some r) (Some s) = r.ttl == s.ttl
 -- the records of one set that another has not, or has with another TTL
 abbrev pub minus : Records → Records → Records
 minus a b = part a (λ k. not (same_ttl (get a k) (get b k)))
+
+-- whether two sets have the same records with the same TTLs
+abbrev pub is_same : Records → Records → Bool
+is_same a b = (len (minus a b) == 0) && (len (minus b a) == 0)

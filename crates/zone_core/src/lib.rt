@@ -16,7 +16,10 @@ mod verdict;
 mod zone;
 
 pub use fault::{UpdateFault, ZoneFault};
-pub use laws::{operations_read_their_names, verdicts_read_their_names};
+pub use laws::{
+    operations_read_their_names, updates_advance_serials, updates_keep_zones,
+    verdicts_read_their_names,
+};
 pub use rcode::Rcode;
 pub use serial::{serial_add, serial_less};
 pub use update::{ItemList, Operation, Place, Prerequisite, Update};
