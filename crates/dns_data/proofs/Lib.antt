@@ -19,3 +19,4 @@ pub mod StringLemmas
 pub mod StringOrderLemmas
 pub mod TextLemmas
 pub mod TypeLemmas
+pub mod WordLemmas

@@ -1,8 +1,12 @@
 -- The record types that are kept: what each is called, and its number.
-use Rattle.std.specs.Prelude.{◌≡◌, ℕ, List, codes}
+use Rattle.std.specs.Prelude.{◌≡◌, ℕ, List, [], ◌∷◌, codes}
 use Rattle.std.specs.Str.{str_to_ascii_lowercase}
 use Rattle.dns_data.specs.declared.record_type.RecordType.{RecordType}
 use Rattle.dns_data.specs.declared.record_type.RecordType.TheVariants.{A, Ns, Cname, Soa, Ptr, Mx, Txt, Aaaa, Srv, Ds}
+
+-- the types that are kept, by number (RFC 1035 section 3.2.2, RFC 2782, RFC 3596 section 2.1, RFC 4034 section 5)
+abbrev pub kept_types : List RecordType
+kept_types = A ∷ Ns ∷ Cname ∷ Soa ∷ Ptr ∷ Mx ∷ Txt ∷ Aaaa ∷ Srv ∷ Ds ∷ []
 
 -- RFC 1035 section 3.2.2, RFC 2782, RFC 3596 section 2.1, RFC 4034 section 5
 abbrev pub type_text : RecordType → List ℕ

@@ -5,10 +5,10 @@ use Rattle.std.specs.Str.{str_eq_ignore_ascii_case}
 use Rattle.dns_data.specs.declared.fault.DataFault.{DataFault}
 use Rattle.dns_data.specs.declared.fault.DataFault.TheVariants.{TypeNotKept}
 use Rattle.dns_data.specs.declared.record_type.RecordType.{RecordType}
-use Rattle.dns_data.specs.Types.{type_text, IsCalled}
+use Rattle.dns_data.specs.Types.{type_text, kept_types, IsCalled}
 use Rattle.dns_data.proofs.TypeLemmas as types
 use Rattle.dns_master.specs.declared.entry_fault.EntryFault.TheVariants.{Data}
-use Rattle.dns_master.specs.Fields.{kept_types, or_not_kept, type_of_text}
+use Rattle.dns_master.specs.Fields.{or_not_kept, type_of_text}
 
 abbrev named : List ℕ → Option RecordType
 named raw = find (λ t. str_eq_ignore_ascii_case (type_text t) raw) kept_types

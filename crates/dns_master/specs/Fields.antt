@@ -7,11 +7,10 @@ use Rattle.std.specs.Str.{str_eq_ignore_ascii_case}
 use Rattle.dns_data.specs.declared.fault.DataFault.{DataFault}
 use Rattle.dns_data.specs.declared.fault.DataFault.TheVariants.{TypeNotKept, QuotedItem}
 use Rattle.dns_data.specs.declared.record_type.RecordType.{RecordType}
-use Rattle.dns_data.specs.declared.record_type.RecordType.TheVariants as types
 use Rattle.dns_data.specs.Items.{ItemText}
 use Rattle.dns_data.specs.Numbers.{duration_of}
 use Rattle.dns_data.specs.Reading.{name_of}
-use Rattle.dns_data.specs.Types.{type_text}
+use Rattle.dns_data.specs.Types.{type_text, kept_types}
 use Rattle.dns_master.specs.declared.entry_fault.EntryFault.{EntryFault}
 use Rattle.dns_master.specs.declared.entry_fault.EntryFault.TheVariants.{ClassNotIn, BadTtl, Data, EntryShort}
 use Rattle.dns_master.specs.declared.field.Part.{Part}
@@ -39,10 +38,6 @@ ttl_of raw = in_ttl (duration_of 2147483647 raw)
 abbrev pub or_not_kept : Option RecordType → Result RecordType EntryFault
 or_not_kept None = Err (Data TypeNotKept)
 or_not_kept (Some record_type) = Ok record_type
-
--- the types that are kept (RFC 1035 section 3.2.2, RFC 2782, RFC 3596 section 2.1, RFC 4034 section 5)
-abbrev pub kept_types : List RecordType
-kept_types = types.A ∷ types.Ns ∷ types.Cname ∷ types.Soa ∷ types.Ptr ∷ types.Mx ∷ types.Txt ∷ types.Aaaa ∷ types.Srv ∷ types.Ds ∷ []
 
 -- the kept type that is called so, in either letter case
 abbrev pub type_of_text : List ℕ → Result RecordType EntryFault

@@ -13,7 +13,8 @@ use Rattle.grant_policy.specs.declared.action.Action.TheVariants as action
 use Rattle.grant_policy.specs.declared.effect.Effect.{Effect}
 use Rattle.grant_policy.specs.declared.effect.Effect.TheVariants.{Grant, Deny}
 use Rattle.grant_policy.specs.declared.rule.Rule.{Rule}
-use Rattle.grant_policy.specs.Words.{all_types, all_actions}
+use Rattle.dns_data.specs.Types.{kept_types}
+use Rattle.grant_policy.specs.Words.{all_actions}
 use Rattle.grant_policy.specs.Rules.{Question, Matches, matches}
 use Rattle.grant_policy.specs.Decisions.{Verdict, granted, denied, effect_by, decided, decision, NoneMatches, IsFirstMatch, IsDecision, IsDecidedBy, told, is_granted, has_right, has_right_to, HasRight}
 use Rattle.grant_policy.proofs.RuleLemmas.{matches-Decides}
@@ -56,17 +57,17 @@ some_passes {X} p (x ∷ xs) e = first (p x) refl (some_passes p xs) e
     first false is later e = later e
 
 -- a test that a type passes is one that some type passes
-some_type : (p : RecordType → Bool) (t : RecordType) → p t ≡ true → list_any p all_types ≡ true
-some_type p A e = list_any_at p all_types 0 A (lit< tt) e
-some_type p Ns e = list_any_at p all_types 1 A (lit< tt) e
-some_type p Cname e = list_any_at p all_types 2 A (lit< tt) e
-some_type p Soa e = list_any_at p all_types 3 A (lit< tt) e
-some_type p Ptr e = list_any_at p all_types 4 A (lit< tt) e
-some_type p Mx e = list_any_at p all_types 5 A (lit< tt) e
-some_type p Txt e = list_any_at p all_types 6 A (lit< tt) e
-some_type p Aaaa e = list_any_at p all_types 7 A (lit< tt) e
-some_type p Srv e = list_any_at p all_types 8 A (lit< tt) e
-some_type p Ds e = list_any_at p all_types 9 A (lit< tt) e
+some_type : (p : RecordType → Bool) (t : RecordType) → p t ≡ true → list_any p kept_types ≡ true
+some_type p A e = list_any_at p kept_types 0 A (lit< tt) e
+some_type p Ns e = list_any_at p kept_types 1 A (lit< tt) e
+some_type p Cname e = list_any_at p kept_types 2 A (lit< tt) e
+some_type p Soa e = list_any_at p kept_types 3 A (lit< tt) e
+some_type p Ptr e = list_any_at p kept_types 4 A (lit< tt) e
+some_type p Mx e = list_any_at p kept_types 5 A (lit< tt) e
+some_type p Txt e = list_any_at p kept_types 6 A (lit< tt) e
+some_type p Aaaa e = list_any_at p kept_types 7 A (lit< tt) e
+some_type p Srv e = list_any_at p kept_types 8 A (lit< tt) e
+some_type p Ds e = list_any_at p kept_types 9 A (lit< tt) e
 
 some_action : (p : Action → Bool) (a : Action) → p a ≡ true → list_any p all_actions ≡ true
 some_action p action.List e = list_any_at p all_actions 0 action.List (lit< tt) e
@@ -82,7 +83,7 @@ granted_by (denied id) e = absurd cc
 pub has_right-Decides : (rules : List Rule) (caller : List ℕ) (name : List (List ℕ)) → Decides (has_right rules caller name) (HasRight rules caller name)
 has_right-Decides rules caller name = (
   λ e.
-      let t = some_passes (has_right_to rules caller name) all_types e in
+      let t = some_passes (has_right_to rules caller name) kept_types e in
       let a = some_passes (λ (b : Action). is_granted (decision (record { caller = caller; name = name; record_type = t.0; action = b }) rules)) all_actions t.1 in
       let by = granted_by (decision (record { caller = caller; name = name; record_type = t.0; action = a.0 }) rules) a.1 in
       record { record_type = t.0; action = a.0; id = by.0; granting = by.1 },

@@ -29,7 +29,8 @@ use Rattle.grant_policy.specs.Words.{effect_text, scope_text, action_text, effec
 use Rattle.grant_policy.specs.Documents.{AreRules, HasOnly, IsPolicy, SpellsCallers, SpellsRule, SpellsRules, SpellsSelection, key_text, rule_keys}
 use Rattle.grant_policy.specs.Faults.{◌>>=◌}
 use Rattle.grant_policy.specs.Reading.{RuleData, IsNamedIn, AreNamedIn, free_id, free_rules, few, word_in, identifier_of, is_identifier, callers_of, type_of, named, name_in, selection_in, needed, rule_data, rule_in, rule_of, rules_of, has_only, known_keys, tables_of, rule_tables, policy_of}
-use Rattle.grant_policy.proofs.WordLemmas.{by_word, action_own, type_named}
+use Rattle.dns_data.proofs.WordLemmas.{by_word}
+use Rattle.grant_policy.proofs.WordLemmas.{action_own, type_named}
 use Rattle.grant_policy.proofs.RuleLemmas.{list_any-Decides}
 use Rattle.grant_policy.proofs.PolicyLaws.{ok, same_Ok, not_Err, bind_ok, ok_or_ok, word_ok, word_only, selection_found, selection_only, free_id_same, free_found, free_only, few_ok, few_only, none_before, free_are}
 

@@ -1,5 +1,5 @@
 -- Words that are read, and values that are told apart by a word or a number.
-use Rattle.std.proofs.Common.{◌≡◌, ◌↔◌, ℕ, Bool, true, false, cond, eqb, List, [], ◌∷◌, Option, Some, None, Result, Ok, Err, refl, sym, ap, subst, ◌∙◌}
+use Rattle.std.proofs.Common.{◌≡◌, ◌↔◌, ℕ, eqb, List, [], ◌∷◌, Option, Some, None, Result, Ok, Err, refl, sym, ap, subst, ◌∙◌}
 use Rattle.std.specs.Prelude.{bytes_eq}
 use Rattle.std.specs.Bool.{Decides}
 use Rattle.std.specs.List.{find}
@@ -10,27 +10,13 @@ use Rattle.std.proofs.lemmas.Bool.Decides.{Decides-eqb, Decides-like}
 use Rattle.std.proofs.lemmas.Slice.Eq.{bytes_eq-Decides}
 use Rattle.dns_data.specs.declared.record_type.RecordType.{RecordType}
 use Rattle.dns_data.specs.declared.record_type.RecordType.TheVariants.{A, Ns, Cname, Soa, Ptr, Mx, Txt, Aaaa, Srv, Ds}
-use Rattle.dns_data.specs.Types.{type_number, type_text, IsCalled}
+use Rattle.dns_data.specs.Types.{type_number, type_text, kept_types, IsCalled}
+use Rattle.dns_data.proofs.WordLemmas.{found_passes}
 use Rattle.grant_policy.specs.declared.action.Action.{Action}
 use Rattle.grant_policy.specs.declared.action.Action.TheVariants as action
-use Rattle.grant_policy.specs.Words.{action_text, action_of, all_types}
+use Rattle.grant_policy.specs.Words.{action_text, action_of}
 use Rattle.grant_policy.specs.Reading.{type_of}
 use Rattle.grant_policy.specs.Rules.{same_type, same_action}
-
-pub found_passes : {T : Type 0} (test : T → Bool) (all : List T) (t : T) → find test all ≡ Some t → test t ≡ true
-found_passes test [] t e = absurd cc
-found_passes {T} test (s ∷ all) t e = first_passes (test s) refl (found_passes test all t) e
-  where
-    first_passes : (b : Bool) → test s ≡ b → (find test all ≡ Some t → test t ≡ true) → cond b (Some s) (find test all) ≡ Some t → test t ≡ true
-    first_passes true p later e = let q : s ≡ t = cc in subst (λ (u : T). test u ≡ true) q p
-    first_passes false p later e = later e
-
--- what is found by its word is what has that word, where each is found by its own
-pub by_word : {T : Type 0} (text : T → List ℕ) (all : List T) → ((t : T) → find (λ s. bytes_eq (text s) (text t)) all ≡ Some t) → (word : List ℕ) (r : Option T) → r ≡ find (λ s. bytes_eq (text s) word) all → (t : T) → (r ≡ Some t) ↔ (text t ≡ word)
-by_word {T} text all own word r e t = (
-  λ found. (bytes_eq-Decides (text t) word).0 (found_passes (λ s. bytes_eq (text s) word) all t (sym e ∙ found)),
-  λ is. e ∙ subst (λ (w : List ℕ). find (λ s. bytes_eq (text s) w) all ≡ Some t) is (own t),
-)
 
 same_Some : {T : Type 0} (a b : T) → Some a ≡ Some b → a ≡ b
 same_Some a b e = cc
@@ -70,7 +56,7 @@ pub same_type-Decides : (a b : RecordType) → Decides (same_type a b) (a ≡ b)
 same_type-Decides a b =
     Decides-like _ (λ e. same_Some a b (sym (type_own a) ∙ ap by_number e ∙ type_own b)) (ap type_number) (Decides-eqb (type_number a) (type_number b))
 
-name_found : (t : RecordType) → find (λ u. bytes_eq (str_to_ascii_lowercase (type_text u)) (str_to_ascii_lowercase (type_text t))) all_types ≡ Some t
+name_found : (t : RecordType) → find (λ u. bytes_eq (str_to_ascii_lowercase (type_text u)) (str_to_ascii_lowercase (type_text t))) kept_types ≡ Some t
 name_found A = refl
 name_found Ns = refl
 name_found Cname = refl
@@ -85,8 +71,8 @@ name_found Ds = refl
 -- a text is read as the type that it is called
 pub type_named : (text : List ℕ) (t : RecordType) → (type_of text ≡ Some t) ↔ IsCalled t text
 type_named text t = (
-  λ found. sym ((bytes_eq-Decides _ _).0 (found_passes (λ u. str_eq_ignore_ascii_case (type_text u) text) all_types t found)),
-  λ called. subst (λ (k : List ℕ). find (λ u. bytes_eq (str_to_ascii_lowercase (type_text u)) k) all_types ≡ Some t) (sym called) (name_found t),
+  λ found. sym ((bytes_eq-Decides _ _).0 (found_passes (λ u. str_eq_ignore_ascii_case (type_text u) text) kept_types t found)),
+  λ called. subst (λ (k : List ℕ). find (λ u. bytes_eq (str_to_ascii_lowercase (type_text u)) k) kept_types ≡ Some t) (sym called) (name_found t),
 )
 
 -- what holds the same values is the same

@@ -9,7 +9,8 @@ use Rattle.grant_policy.specs.declared.decision.Decision.TheVariants as code
 use Rattle.grant_policy.specs.declared.effect.Effect.{Effect}
 use Rattle.grant_policy.specs.declared.effect.Effect.TheVariants.{Grant, Deny}
 use Rattle.grant_policy.specs.declared.rule.Rule.{Rule}
-use Rattle.grant_policy.specs.Words.{all_types, all_actions}
+use Rattle.dns_data.specs.Types.{kept_types}
+use Rattle.grant_policy.specs.Words.{all_actions}
 use Rattle.grant_policy.specs.Rules.{Question, Matches, matches, is_of}
 
 -- a grant by a rule, or a denial by a rule or by none
@@ -86,7 +87,7 @@ has_right_to rules caller name record_type =
 
 -- and for some type
 abbrev pub has_right : List Rule → List ℕ → List (List ℕ) → Bool
-has_right rules caller name = list_any (has_right_to rules caller name) all_types
+has_right rules caller name = list_any (has_right_to rules caller name) kept_types
 
 -- ---- cost
 

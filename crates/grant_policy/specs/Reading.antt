@@ -13,7 +13,7 @@ use Rattle.dns_names.specs.Labels.{IsName}
 use Rattle.dns_names.specs.Spelling.{SpellsAbsolute}
 use Rattle.dns_names.specs.Reading.{absolute_name}
 use Rattle.dns_data.specs.declared.record_type.RecordType.{RecordType}
-use Rattle.dns_data.specs.Types.{type_text}
+use Rattle.dns_data.specs.Types.{type_text, kept_types}
 use Rattle.grant_policy.specs.declared.callers.Callers.{Callers}
 use Rattle.grant_policy.specs.declared.callers.Callers.TheVariants.{Every, One}
 use Rattle.grant_policy.specs.declared.fault.PolicyFault.{PolicyFault}
@@ -24,7 +24,7 @@ use Rattle.grant_policy.specs.declared.fault.RuleKey.{RuleKey}
 use Rattle.grant_policy.specs.declared.fault.RuleKey.TheVariants as key
 use Rattle.grant_policy.specs.declared.rule.Rule.{Rule}
 use Rattle.grant_policy.specs.Identifiers.{is_identifier_octet}
-use Rattle.grant_policy.specs.Words.{effect_of, scope_of, action_of, all_types}
+use Rattle.grant_policy.specs.Words.{effect_of, scope_of, action_of}
 use Rattle.grant_policy.specs.Documents.{key_text, rule_keys}
 use Rattle.grant_policy.specs.Faults.{of_name, ◌>>=◌}
 
@@ -76,7 +76,7 @@ callers_of text = if bytes_eq text (codes "*") then Some Every else option_map O
 
 -- a type by its name, in either letter case
 abbrev pub type_of : List ℕ → Option RecordType
-type_of text = find (λ t. str_eq_ignore_ascii_case (type_text t) text) all_types
+type_of text = find (λ t. str_eq_ignore_ascii_case (type_text t) text) kept_types
 
 -- an absolute name
 abbrev pub named : ℕ → Result (List (List ℕ)) NameFault → Result (List (List ℕ)) PolicyFault

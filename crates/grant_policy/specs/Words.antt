@@ -1,8 +1,6 @@
 -- The words of a policy, and what each stands for.
 use Rattle.std.specs.Prelude.{ℕ, List, [], ◌∷◌, Option, codes, bytes_eq}
 use Rattle.std.specs.List.{find}
-use Rattle.dns_data.specs.declared.record_type.RecordType.{RecordType}
-use Rattle.dns_data.specs.declared.record_type.RecordType.TheVariants.{A, Ns, Cname, Soa, Ptr, Mx, Txt, Aaaa, Srv, Ds}
 use Rattle.grant_policy.specs.declared.effect.Effect.{Effect}
 use Rattle.grant_policy.specs.declared.effect.Effect.TheVariants.{Grant, Deny}
 use Rattle.grant_policy.specs.declared.scope.Scope.{Scope}
@@ -32,10 +30,6 @@ action_text action.Delegate = codes "delegate"
 -- the actions that there are
 abbrev pub all_actions : List Action
 all_actions = action.List ∷ action.Check ∷ action.Add ∷ action.Delete ∷ action.Delegate ∷ []
-
--- the record types that are kept (RFC 1035 section 3.2.2, RFC 2782, RFC 3596 section 2.1, RFC 4034 section 5)
-abbrev pub all_types : List RecordType
-all_types = A ∷ Ns ∷ Cname ∷ Soa ∷ Ptr ∷ Mx ∷ Txt ∷ Aaaa ∷ Srv ∷ Ds ∷ []
 
 -- ---- reading: a word only as it is written here
 

@@ -3,6 +3,7 @@ pub mod RowLemmas
 pub mod RangeLemmas
 pub mod WithinLemmas
 pub mod UpdateLemmas
+pub mod KindLemmas
 pub mod GroupLemmas
 pub mod HeadLemmas
 pub mod SortLemmas

@@ -6,6 +6,7 @@ pub mod Views
 pub mod Codes
 pub mod Rcodes
 pub mod Updates
+pub mod Kinds
 pub mod Prerequisites
 pub mod Effects
 pub mod Sites

@@ -6,6 +6,7 @@ mod build;
 mod change;
 mod effect;
 mod fault;
+mod kind;
 mod laws;
 mod notes;
 mod rcode;
@@ -16,6 +17,7 @@ mod verdict;
 mod zone;
 
 pub use fault::{UpdateFault, ZoneFault};
+pub use kind::{OperationKind, PrerequisiteKind};
 pub use laws::{
     operations_read_their_names, updates_advance_serials, updates_keep_zones,
     verdicts_read_their_names,

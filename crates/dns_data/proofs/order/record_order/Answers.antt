@@ -1,5 +1,4 @@
-use Rattle.std.proofs.Common.{◌≡◌, ◌≢◌, sym, ◌∙◌, Equal}
-use Rattle.dns_names.specs.Order.{canonical_cmp}
+use Rattle.std.proofs.Common.{◌≢◌, sym, ◌∙◌, Equal}
 use Rattle.dns_data.specs.RecordOrder.{data_order}
 use Rattle.dns_data.proofs.RecordOrderLemmas.{record_is, answers, differ_answers, decided}
 use Rattle.dns_data.proofs.order.record_order.Goals as goal

@@ -1,5 +1,6 @@
 use Rattle.grant_policy.specs.Words.{action_text, all_actions}
-use Rattle.grant_policy.proofs.WordLemmas.{by_word, action_own}
+use Rattle.dns_data.proofs.WordLemmas.{by_word}
+use Rattle.grant_policy.proofs.WordLemmas.{action_own}
 use Rattle.grant_policy.proofs.action.Action.read.Goals as goal
 
 pub returns-clause-found : goal.returns-clause-found

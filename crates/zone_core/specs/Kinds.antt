@@ -1,0 +1,40 @@
+-- The kinds of prerequisites and of operations, and what each is called in requests.
+use Rattle.std.specs.Prelude.{ℕ, List, codes}
+use Rattle.zone_core.specs.declared.kind.PrerequisiteKind.{PrerequisiteKind}
+use Rattle.zone_core.specs.declared.kind.PrerequisiteKind.TheVariants as tests
+use Rattle.zone_core.specs.declared.kind.OperationKind.{OperationKind}
+use Rattle.zone_core.specs.declared.kind.OperationKind.TheVariants as changes
+use Rattle.zone_core.specs.declared.update.Prerequisite.{Prerequisite}
+use Rattle.zone_core.specs.declared.update.Prerequisite.TheVariants.{RrsetExists, RrsetEquals, RrsetAbsent, NameUsed, NameUnused}
+use Rattle.zone_core.specs.declared.update.Operation.{Operation}
+use Rattle.zone_core.specs.declared.update.Operation.TheVariants.{Add, DeleteRrset, DeleteName, DeleteRecord}
+
+-- what a kind of prerequisite is called (RFC 2136 section 2.4)
+abbrev pub prerequisite_word : PrerequisiteKind → List ℕ
+prerequisite_word tests.RrsetExists = codes "rrset-exists"
+prerequisite_word tests.RrsetEquals = codes "rrset-equals"
+prerequisite_word tests.RrsetAbsent = codes "rrset-absent"
+prerequisite_word tests.NameUsed = codes "name-used"
+prerequisite_word tests.NameUnused = codes "name-unused"
+
+-- what a kind of operation is called (RFC 2136 section 2.5)
+abbrev pub operation_word : OperationKind → List ℕ
+operation_word changes.Add = codes "add"
+operation_word changes.DeleteRrset = codes "delete-rrset"
+operation_word changes.DeleteName = codes "delete-name"
+operation_word changes.DeleteRecord = codes "delete-record"
+
+-- the kind of a prerequisite
+abbrev pub prerequisite_kind : Prerequisite → PrerequisiteKind
+prerequisite_kind (RrsetExists name record_type) = tests.RrsetExists
+prerequisite_kind (RrsetEquals name rdata) = tests.RrsetEquals
+prerequisite_kind (RrsetAbsent name record_type) = tests.RrsetAbsent
+prerequisite_kind (NameUsed name) = tests.NameUsed
+prerequisite_kind (NameUnused name) = tests.NameUnused
+
+-- the kind of an operation
+abbrev pub operation_kind : Operation → OperationKind
+operation_kind (Add r) = changes.Add
+operation_kind (DeleteRrset name record_type) = changes.DeleteRrset
+operation_kind (DeleteName name) = changes.DeleteName
+operation_kind (DeleteRecord name rdata) = changes.DeleteRecord
