@@ -26,13 +26,18 @@ all_map : (P Q : Record → Type 0) → ((r : Record) → P r → Q r) → (rs :
 all_map P Q f [] all = tt
 all_map P Q f (r ∷ rs) all = (f r all.0, all_map P Q f rs all.1)
 
-pub difference : (rs : List Record) → InOrder rs → (s : Records) → set_of (filter (λ r. not (same_ttl (Some r) (get s (key_of r)))) rs) ≡ minus (set_of rs) s
-difference rs order s =
-    let p : Key → Bool = λ k. not (same_ttl (get (set_of rs) k) (get s k)) in
-    ap set_of (filter_all_agree (λ r. not (same_ttl (Some r) (get s (key_of r)))) (λ r. p (key_of r)) rs
-    (all_map (λ r. find key_cmp (key_of r) (keyed rs) ≡ Some r) (λ r. not (same_ttl (Some r) (get s (key_of r))) ≡ p (key_of r))
-    (λ r e. ap (λ o. not (same_ttl o (get s (key_of r)))) (sym (get-set_of rs (key_of r) ∙ e))) rs (each_in rs order)))
+-- what a test of a record, and of what another set has in its place, leaves of a row
+pub sifted : (test : Option Record → Option Record → Bool) (rs : List Record) → InOrder rs → (s : Records)
+    → set_of (filter (λ r. test (Some r) (get s (key_of r))) rs) ≡ part (set_of rs) (λ k. test (get (set_of rs) k) (get s k))
+sifted test rs order s =
+    let p : Key → Bool = λ k. test (get (set_of rs) k) (get s k) in
+    ap set_of (filter_all_agree (λ r. test (Some r) (get s (key_of r))) (λ r. p (key_of r)) rs
+    (all_map (λ r. find key_cmp (key_of r) (keyed rs) ≡ Some r) (λ r. test (Some r) (get s (key_of r)) ≡ p (key_of r))
+    (λ r e. ap (λ o. test o (get s (key_of r))) (sym (get-set_of rs (key_of r) ∙ e))) rs (each_in rs order)))
     ∙ set_of-filter p rs
+
+pub difference : (rs : List Record) → InOrder rs → (s : Records) → set_of (filter (λ r. not (same_ttl (Some r) (get s (key_of r)))) rs) ≡ minus (set_of rs) s
+difference rs order s = sifted (λ x y. not (same_ttl x y)) rs order s
 
 inner : (b : Bool) (x y : Option Record) → cond (not (same_ttl (cond b x None) (cond b y None))) (cond b x None) None ≡ cond b (cond (not (same_ttl x y)) x None) None
 inner true x y = refl

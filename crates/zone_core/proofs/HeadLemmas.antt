@@ -38,14 +38,14 @@ zero_tie (suc n) e = absurd (let f = rw (three n) at e in cc)
     three n = grind (arith, nat_tests)
 
 -- an owner that is not before the origin, and a type that is not before SOA
-parts_less : (a b c : Ordering) → is_lt a ≡ false → ordering_then (ordering_then a b) c ≡ Less → (a ≡ Equal) × (is_le b ≡ true)
+pub parts_less : (a b c : Ordering) → is_lt a ≡ false → ordering_then (ordering_then a b) c ≡ Less → (a ≡ Equal) × (is_le b ≡ true)
 parts_less Less b c h e = absurd cc
 parts_less Equal Less c h e = (refl, refl)
 parts_less Equal Equal c h e = (refl, refl)
 parts_less Equal Greater c h e = absurd cc
 parts_less Greater b c h e = absurd cc
 
-le_zero : (n : ℕ) → is_le (nat_cmp n 0) ≡ true → n ≡ 0
+pub le_zero : (n : ℕ) → is_le (nat_cmp n 0) ≡ true → n ≡ 0
 le_zero n e = by_order (nat_cmp n 0) e (no_less n) (zero_tie n)
   where
     by_order : (o : Ordering) → is_le o ≡ true → (o ≡ Less → ⊥) → (o ≡ Equal → n ≡ 0) → n ≡ 0

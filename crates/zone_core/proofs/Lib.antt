@@ -17,6 +17,9 @@ pub mod PutLemmas
 pub mod RuleLemmas
 pub mod EffectLemmas
 pub mod ChangeLemmas
+pub mod MergeLemmas
+pub mod OutcomeLemmas
 pub mod PartLemmas
 pub mod ZoneLemmas
 pub mod VersionLemmas
+pub mod SettleLemmas

@@ -21,13 +21,13 @@ use Rattle.zone_core.proofs.ZoneLemmas.{Keys, Heir, keys_of, zone_of_keys, keys_
 
 -- ---- serials
 
-is_less-Decides : (s t : ℕ) → Decides (is_less s t) (IsLess s t)
+pub is_less-Decides : (s t : ℕ) → Decides (is_less s t) (IsLess s t)
 is_less-Decides s t =
     let up = Decides-and (nat_lt s t) (nat_lt (t - s) (2 ^ 31)) (Decides-ltb s t) (Decides-ltb (t - s) (2 ^ 31)) in
     let down = Decides-and (nat_lt t s) (nat_lt (2 ^ 31) (s - t)) (Decides-ltb t s) (Decides-ltb (2 ^ 31) (s - t)) in
     Decides-or (nat_lt s t && nat_lt (t - s) (2 ^ 31)) (nat_lt t s && nat_lt (2 ^ 31) (s - t)) up down
 
-next_less : (s : ℕ) → s < 2 ^ 32 → IsLess s (serial_sum s 1)
+pub next_less : (s : ℕ) → s < 2 ^ 32 → IsLess s (serial_sum s 1)
 next_less s small = grind arith
 
 next_fits : (s : ℕ) → serial_sum s 1 < 2 ^ 32
@@ -35,16 +35,16 @@ next_fits s = grind arith
 
 -- ---- the next version of an SOA
 
-next_type : (d : Data) → type_of (next_data d) ≡ type_of d
+pub next_type : (d : Data) → type_of (next_data d) ≡ type_of d
 next_type (variants.Soa soa) = refl
 next_type d = refl
 
-next_is : (d : Data) → IsRdata d → IsRdata (next_data d)
+pub next_is : (d : Data) → IsRdata d → IsRdata (next_data d)
 next_is (variants.Soa soa) is =
     record { mname = is.mname; rname = is.rname; serial = next_fits soa.serial.0; refresh = is.refresh; retry = is.retry; expire = is.expire; minimum = is.minimum }
 next_is d is = is
 
-next_serial : (d : Data) → type_of d ≡ types.Soa → IsRdata d → (serial : ℕ) × (option_map_or (λ soa. soa.serial.0) (soa_in d) 0 ≡ serial) × (serial < 2 ^ 32) × (option_map_or (λ soa. soa.serial.0) (soa_in (next_data d)) 0 ≡ serial_sum serial 1)
+pub next_serial : (d : Data) → type_of d ≡ types.Soa → IsRdata d → (serial : ℕ) × (option_map_or (λ soa. soa.serial.0) (soa_in d) 0 ≡ serial) × (serial < 2 ^ 32) × (option_map_or (λ soa. soa.serial.0) (soa_in (next_data d)) 0 ≡ serial_sum serial 1)
 next_serial (variants.Soa soa) e is = (soa.serial.0, refl, is.serial, refl)
 next_serial d e is = absurd cc
 
@@ -57,20 +57,20 @@ module _ (origin : List (List ℕ)) (before after : Records) (z : Keys origin be
   abbrev soa : Record
   soa = k.soa_there.0
 
-  soa_key : key_of soa ≡ k.soa
+  pub soa_key : key_of soa ≡ k.soa
   soa_key = (k.rows.kept k.soa soa k.soa_there.1).0
 
-  soa_record : IsRecord soa
+  pub soa_record : IsRecord soa
   soa_record = (k.rows.kept k.soa soa k.soa_there.1).1
 
-  soa_type : type_of soa.rdata ≡ types.Soa
+  pub soa_type : type_of soa.rdata ≡ types.Soa
   soa_type = one_rank (type_of soa.rdata) types.Soa (ap (λ (q : Key). q.1) soa_key ∙ k.soa_type)
 
-  home : soa.owner ≡ origin
+  pub home : soa.owner ≡ origin
   home = ap (λ (q : Key). q.0) soa_key ∙ k.soa_origin
 
   -- the SOA is one further
-  next_keys : (n : Keys origin (with_next after (Some soa))) × (n.soa_there.0 ≡ next_version soa)
+  pub next_keys : (n : Keys origin (with_next after (Some soa))) × (n.soa_there.0 ≡ next_version soa)
   next_keys =
       keys_soa origin after k (next_version soa) (record { owner = soa_record.owner; ttl = soa_record.ttl; rdata = next_is soa.rdata soa_record.rdata })
       (subst (λ (q : Key). IsWithin q.0 origin) (sym soa_key) (k.rows.owners k.soa k.soa_there)) (next_type soa.rdata ∙ soa_type) home
@@ -82,10 +82,10 @@ module _ (origin : List (List ℕ)) (before after : Records) (z : Keys origin be
       either true x y = x
       either false x y = y
 
-  serial_before : serial_at origin before ≡ serial_in z.soa_there.0
+  pub serial_before : serial_at origin before ≡ serial_in z.soa_there.0
   serial_before = ap (λ o. option_map_or serial_in o 0) (soa_is origin before z)
 
-  serial_after : serial_at origin after ≡ serial_in soa
+  pub serial_after : serial_at origin after ≡ serial_in soa
   serial_after = ap (λ o. option_map_or serial_in o 0) (soa_is origin after k)
 
   one_further : serial_at origin before ≡ serial_at origin after → IsLess (serial_at origin before) (serial_at origin (with_next after (soa_at origin after)))
@@ -121,7 +121,7 @@ module _ (origin : List (List ℕ)) (before after : Records) (z : Keys origin be
       by_same true = inl refl
       by_same false = by_serial (serial_at origin before == serial_at origin after) refl
 
-heir_of : (zone : ZoneOf) (update : UpdateOf) (z : IsZone zone) → IsUpdate update → ActsWithin zone.origin update
+pub heir_of : (zone : ZoneOf) (update : UpdateOf) (z : IsZone zone) → IsUpdate update → ActsWithin zone.origin update
     → Heir zone.origin zone.records (keys_of zone.origin zone.records z) (effects zone.origin zone.records update.operations)
 heir_of zone update z is acts = effects_heir zone.origin zone.records (keys_of zone.origin zone.records z) update.operations is.operations acts.operations is.one_soa
 

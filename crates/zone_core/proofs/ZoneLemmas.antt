@@ -145,7 +145,7 @@ keys_cut origin set p z soa_stays ns ns_there ns_origin ns_type ns_stays =
 self : (n : ℕ) → (n == n) ≡ true
 self n = grind (arith, nat_tests)
 
-kind : (k : Key) (t : RecordType) → k.1 ≡ rank_of t → (k.1 == rank_of t) ≡ true
+pub kind : (k : Key) (t : RecordType) → k.1 ≡ rank_of t → (k.1 == rank_of t) ≡ true
 kind k t e = rw e (self (rank_of t))
 
 both_true : (a b : Bool) → a ≡ true → b ≡ true → (a && b) ≡ true
@@ -157,10 +157,10 @@ both_false true true f = absurd (f refl refl)
 both_false true false f = refl
 both_false false b f = refl
 
-at_is : (name : List (List ℕ)) (t : RecordType) (k : Key) → at name t k ≡ true → (k.0 ≡ name) × (k.1 ≡ rank_of t)
+pub at_is : (name : List (List ℕ)) (t : RecordType) (k : Key) → at name t k ≡ true → (k.0 ≡ name) × (k.1 ≡ rank_of t)
 at_is name t k e = let both = and_parts (same_name k.0 name) (k.1 == rank_of t) e in (name_is k.0 name both.0, eqb-true k.1 (rank_of t) both.1)
 
-at_has : (name : List (List ℕ)) (t : RecordType) (k : Key) → k.0 ≡ name → k.1 ≡ rank_of t → at name t k ≡ true
+pub at_has : (name : List (List ℕ)) (t : RecordType) (k : Key) → k.0 ≡ name → k.1 ≡ rank_of t → at name t k ≡ true
 at_has name t k e f = both_true (same_name k.0 name) (k.1 == rank_of t) (rw e (name_self name)) (kind k t f)
 
 -- SOA and NS are guarded

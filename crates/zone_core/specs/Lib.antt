@@ -10,5 +10,6 @@ pub mod Kinds
 pub mod Prerequisites
 pub mod Effects
 pub mod Sites
+pub mod Merges
 pub mod Parts
 pub mod Versions

@@ -30,6 +30,11 @@ listing set = map (λ e. e.1) (entries set)
 abbrev pub InOrder : List Record → Type 0
 InOrder rs = IsStrictlySortedBy record_order rs
 
+-- the records of a set, in record order
+pub record AreRows (rs : List Record) (whole : Records) : Type 0 where
+  pub order : InOrder rs
+  pub set : set_of rs ≡ whole
+
 -- whether two keys are one
 abbrev pub same_key : Key → Key → Bool
 same_key = eq_by_cmp key_cmp

@@ -1,6 +1,6 @@
 -- Zones as rows of records in record order.
-use Rattle.std.specs.Prelude.{ℕ, List, [], ◌∷◌, map}
-use Rattle.std.specs.List.{filter}
+use Rattle.std.specs.Prelude.{ℕ, List, [], ◌∷◌, length, map, Bool, not, ◌&&◌, ◌==◌}
+use Rattle.std.specs.List.{filter, list_any}
 use Rattle.std.specs.declared.cmp.Ordering.{Ordering}
 use Rattle.std.specs.Ordering.{nat_cmp, ordering_then}
 use Rattle.dns_names.specs.Order.{canonical_cmp}
@@ -8,7 +8,7 @@ use Rattle.dns_data.specs.declared.record.Record.{Record}
 use Rattle.dns_data.specs.declared.record_type.RecordType.{RecordType}
 use Rattle.dns_data.specs.Rdata.{type_of}
 use Rattle.zone_core.specs.Sets.{key_of, rank_of, set_of, InOrder}
-use Rattle.zone_core.specs.Zones.{ZoneOf, IsZone, beside, least_ttl}
+use Rattle.zone_core.specs.Zones.{ZoneOf, IsZone, is_soa, beside, least_ttl}
 
 -- the order of a record to the records of a set: by owner, and then by type
 abbrev pub set_order : List (List ℕ) → RecordType → Record → Ordering
@@ -22,6 +22,12 @@ zone_in origin rs = record { origin = origin; records = set_of rs }
 pub record AreOfZone (origin : List (List ℕ)) (rs : List Record) : Type 0 where
   pub order : InOrder rs
   pub zone : IsZone (zone_in origin rs)
+
+-- ---- a zone that is changed
+
+-- whether the serial goes one further: something is removed or added, and no SOA is (RFC 2136 section 3.6)
+abbrev pub advances : List Record → List Record → Bool
+advances removed added = not ((length removed == 0) && (length added == 0)) && not (list_any (λ r. is_soa (key_of r)) added)
 
 -- ---- a zone that is built
 

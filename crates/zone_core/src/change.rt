@@ -3,7 +3,7 @@
 ghost use Rattle.std.specs.Prelude.{◌≡◌, IfOk};
 ghost use Rattle.std.specs.List.{list_any};
 ghost use Rattle.dns_names.specs.Order.{same_name};
-ghost use Rattle.zone_core.specs.Sets.{set_of, listing, part, minus, at_name, InOrder};
+ghost use Rattle.zone_core.specs.Sets.{set_of, part, minus, at_name, InOrder, AreRows};
 ghost use Rattle.zone_core.specs.Updates.{acted_name};
 ghost use Rattle.zone_core.specs.Effects.{effects};
 ghost use Rattle.zone_core.specs.Sites.{Grows};
@@ -31,8 +31,8 @@ pub(crate) fn changes(
     operations: &[Operation],
 ) -> Result<Change, AllocError>
     requires { InOrder records.now }
-    ensures removed { IfOk result (λ c. c.removed.items ≡ listing (minus (set_of records.now) (effects origin.now (set_of records.now) operations.now))) }
-    ensures added { IfOk result (λ c. c.added.items ≡ listing (minus (effects origin.now (set_of records.now) operations.now) (set_of records.now))) }
+    ensures removed { IfOk result (λ c. AreRows c.removed.items (minus (set_of records.now) (effects origin.now (set_of records.now) operations.now))) }
+    ensures added { IfOk result (λ c. AreRows c.added.items (minus (effects origin.now (set_of records.now) operations.now) (set_of records.now))) }
 {
     let mut change = Change {
         removed: Vec::new(alloc),

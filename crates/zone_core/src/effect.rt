@@ -133,7 +133,7 @@ fn takes_over(site: &[Record], rr: &Record) -> bool
 }
 
 /// Whether there is a record of a type.
-fn has_some(site: &[Record], record_type: RecordType) -> bool
+pub(crate) fn has_some(site: &[Record], record_type: RecordType) -> bool
     ensures { result ≡ list_any (λ r. (key_of r).1 == rank_of record_type) site.now }
 {
     site.iter().any(|record| has_type(record, record_type))

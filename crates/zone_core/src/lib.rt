@@ -8,10 +8,13 @@ mod effect;
 mod fault;
 mod kind;
 mod laws;
+mod merge;
 mod notes;
+mod outcome;
 mod rcode;
 mod rows;
 mod serial;
+mod settle;
 mod update;
 mod verdict;
 mod zone;
@@ -22,6 +25,7 @@ pub use laws::{
     operations_read_their_names, updates_advance_serials, updates_keep_zones,
     verdicts_read_their_names,
 };
+pub use outcome::{Outcome, apply, apply_owned};
 pub use rcode::Rcode;
 pub use serial::{serial_add, serial_less};
 pub use update::{ItemList, Operation, Place, Prerequisite, Update};

@@ -1,7 +1,7 @@
 //! A zone.
 
 ghost use Rattle.std.specs.Prelude.{◌≡◌, Some, IfOk};
-ghost use Rattle.zone_core.specs.Sets.{set_of, listing, part, at_name, at, within, InOrder};
+ghost use Rattle.zone_core.specs.Sets.{set_of, listing, part, at_name, at, within, InOrder, AreRows};
 ghost use Rattle.zone_core.specs.Zones.{IsZone, IsSoaOf, soa_at, serial_of};
 ghost use Rattle.zone_core.specs.Views.{zone_in, AreOfZone};
 
@@ -43,6 +43,15 @@ impl Zone {
         ensures { result ≡ zone_in origin records.items }
     {
         Zone { origin, records }
+    }
+
+    /// The origin, and the records in record order.
+    pub(crate) fn into_parts(self) -> (Name, Vec<Record>)
+        ensures origin { result.0 ≡ self.origin }
+        ensures rows { AreRows result.1.items self.records }
+        ensures zone { IsZone self }
+    {
+        (self.origin, self.records)
     }
 
     /// The origin.

@@ -5,7 +5,7 @@ use Rattle.dns_names.specs.Order.{same_name}
 use Rattle.zone_core.specs.Sets.{set_of, part, minus}
 use Rattle.zone_core.specs.Updates.{acted_name}
 use Rattle.zone_core.specs.Effects.{effects}
-use Rattle.zone_core.proofs.ChangeLemmas.{touched, touch_none, touch_more, touch_again, all_removed, all_added, listed_so}
+use Rattle.zone_core.proofs.ChangeLemmas.{touched, touch_none, touch_more, touch_again, all_removed, all_added}
 use Rattle.zone_core.proofs.change.changes.Goals.{then-not-acts_at+in_ok-change, else-not-acts_at}
 use Rattle.zone_core.proofs.change.changes.Goals as goal
 
@@ -45,8 +45,10 @@ returns-clause-removed c =
     let a = set_of c.args.records.now in
     let ops = c.args.operations.now in
     let done = c.in_ok-in_order.ensures in
-    listed_so c.in_ok-in_order.field-0.items (minus a (effects o a ops)) done.order
-    (done.set ∙ c.loop-i.invariant.0 ∙ ap (λ xs. part (minus a (effects o a ops)) (touched xs)) (take_all c.loop-i.i ops c.loop-i-test.false) ∙ all_removed o a ops)
+    record {
+      order = done.order;
+      set = done.set ∙ c.loop-i.invariant.0 ∙ ap (λ xs. part (minus a (effects o a ops)) (touched xs)) (take_all c.loop-i.i ops c.loop-i-test.false) ∙ all_removed o a ops;
+    }
 
 pub returns-clause-added : goal.returns-clause-added
 returns-clause-added c =
@@ -54,5 +56,7 @@ returns-clause-added c =
     let a = set_of c.args.records.now in
     let ops = c.args.operations.now in
     let done = c.in_ok-in_order-2.ensures in
-    listed_so c.in_ok-in_order-2.field-0.items (minus (effects o a ops) a) done.order
-    (done.set ∙ c.loop-i.invariant.1 ∙ ap (λ xs. part (minus (effects o a ops) a) (touched xs)) (take_all c.loop-i.i ops c.loop-i-test.false) ∙ all_added o a ops)
+    record {
+      order = done.order;
+      set = done.set ∙ c.loop-i.invariant.1 ∙ ap (λ xs. part (minus (effects o a ops) a) (touched xs)) (take_all c.loop-i.i ops c.loop-i-test.false) ∙ all_added o a ops;
+    }

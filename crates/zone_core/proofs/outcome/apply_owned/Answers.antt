@@ -1,0 +1,38 @@
+use Rattle.std.proofs.Common.{◌≡◌, refl, sym, ap, subst, ◌∙◌}
+use Rattle.zone_core.specs.Sets.{minus, AreRows}
+use Rattle.zone_core.specs.Zones.{ZoneOf}
+use Rattle.zone_core.specs.Effects.{zone_after}
+use Rattle.zone_core.proofs.OutcomeLemmas.{of_zone}
+use Rattle.zone_core.proofs.outcome.apply_owned.Goals as goal
+
+pub of_rows-requires : goal.of_rows-requires
+of_rows-requires c =
+    let before = c.args.zone in
+    let after : ZoneOf = zone_after before c.args.update.now in
+    let is = c.in_ok-change.ensures.zone in
+    let parts = c.into_parts-origin.ensures in
+    (of_zone after is c.into_parts-origin.result.0 c.in_ok-rows.rows.items parts.origin
+    (c.in_ok-rows.ensures before.records after.records parts.zone.kept is.kept parts.rows
+    (subst (λ rs. AreRows rs (minus before.records after.records)) (sym c.deref.ensures.value) c.in_ok-change.ensures.removed)
+    (subst (λ rs. AreRows rs (minus after.records before.records)) (sym c.deref-2.ensures.value) c.in_ok-change.ensures.added))).0
+
+pub zone_is : (c : goal.After-of_rows) → c.of_rows.result ≡ zone_after c.args.zone c.args.update.now
+zone_is c =
+    let before = c.args.zone in
+    let after : ZoneOf = zone_after before c.args.update.now in
+    let is = c.in_ok-change.ensures.zone in
+    let parts = c.into_parts-origin.ensures in
+    c.of_rows.ensures
+    ∙ (of_zone after is c.into_parts-origin.result.0 c.in_ok-rows.rows.items parts.origin
+    (c.in_ok-rows.ensures before.records after.records parts.zone.kept is.kept parts.rows
+    (subst (λ rs. AreRows rs (minus before.records after.records)) (sym c.deref.ensures.value) c.in_ok-change.ensures.removed)
+    (subst (λ rs. AreRows rs (minus after.records before.records)) (sym c.deref-2.ensures.value) c.in_ok-change.ensures.added))).1
+
+pub returns-clause-zone : goal.returns-clause-zone
+returns-clause-zone c = zone_is c
+
+pub returns-clause-removed : goal.returns-clause-removed
+returns-clause-removed c = subst (λ (z : ZoneOf). AreRows c.in_ok-change.change.removed.items (minus c.args.zone.records z.records)) (sym (zone_is c)) c.in_ok-change.ensures.removed
+
+pub returns-clause-added : goal.returns-clause-added
+returns-clause-added c = subst (λ (z : ZoneOf). AreRows c.in_ok-change.change.added.items (minus z.records c.args.zone.records)) (sym (zone_is c)) c.in_ok-change.ensures.added
