@@ -107,7 +107,7 @@ module _ (name : List (List ℕ)) (a b : Records) (same : SameAt name a b) where
   unfolding Here
   has_alike p here = same_has a b p (λ k e. same k (here k e))
 
-  soa_alike : soa_at name a ≡ soa_at name b
+  pub soa_alike : soa_at name a ≡ soa_at name b
   unfolding Here
   soa_alike = ap (λ (s : Records). first_of (listing s)) (same_parts a b (at name types.Soa) (λ k e. same k (at_is types.Soa k e)))
 

@@ -23,3 +23,4 @@ pub mod PartLemmas
 pub mod ZoneLemmas
 pub mod VersionLemmas
 pub mod SettleLemmas
+pub mod NeedLemmas

@@ -25,7 +25,7 @@ use Rattle.zone_core.proofs.ChangeLemmas.{effects_away, same_ttl_self}
 -- ---- prerequisites
 
 -- two sets in which the same is found at the names that a test allows
-abbrev SameOn : (Key → Bool) → Records → Records → Type 0
+abbrev pub SameOn : (Key → Bool) → Records → Records → Type 0
 SameOn w a b = (k : Key) → w k ≡ true → get a k ≡ get b k
 
 module _ (a b : Records) where
@@ -68,7 +68,7 @@ module _ (a b : Records) where
       second true y e = refl
       second false y e = e
 
-  verdict_alike : (ps : List Prerequisite) → SameOn (tested ps) a b → verdict a ps ≡ verdict b ps
+  pub verdict_alike : (ps : List Prerequisite) → SameOn (tested ps) a b → verdict a ps ≡ verdict b ps
   verdict_alike ps same =
       λ j. option_or (first_alike (fails a) (fails b) 0 ps (all_alike (λ p. fails a p ≡ fails b p) fails_alike ps same) j)
       (first_alike (set_fails a ps) (set_fails b ps) 0 ps (all_alike (λ p. set_fails a ps p ≡ set_fails b ps p) (set_fails_alike ps) ps same) j)
@@ -86,11 +86,11 @@ effect_on origin op w a b here same k e =
     let differ : k.0 ≡ acted_name op → ⊥ = λ name. let f : true ≡ false = sym (rw name (name_self (acted_name op))) ∙ away in cc in
     effect_away origin a op k differ ∙ same k e ∙ sym (effect_away origin b op k differ))
 
-effects_on : (origin : List (List ℕ)) (ops : List Operation) (w : Key → Bool) (a b : Records) → AllByRecursion (λ op. (k : Key) → k.0 ≡ acted_name op → w k ≡ true) ops → SameOn w a b → SameOn w (effects origin a ops) (effects origin b ops)
+pub effects_on : (origin : List (List ℕ)) (ops : List Operation) (w : Key → Bool) (a b : Records) → AllByRecursion (λ op. (k : Key) → k.0 ≡ acted_name op → w k ≡ true) ops → SameOn w a b → SameOn w (effects origin a ops) (effects origin b ops)
 effects_on origin [] w a b all same = same
 effects_on origin (op ∷ ops) w a b all same = effects_on origin ops w (effect origin a op) (effect origin b op) all.1 (effect_on origin op w a b all.0 same)
 
-all_touch : (w : Key → Bool) (ops : List Operation) → ((k : Key) → touched ops k ≡ true → w k ≡ true) → AllByRecursion (λ op. (k : Key) → k.0 ≡ acted_name op → w k ≡ true) ops
+pub all_touch : (w : Key → Bool) (ops : List Operation) → ((k : Key) → touched ops k ≡ true → w k ≡ true) → AllByRecursion (λ op. (k : Key) → k.0 ≡ acted_name op → w k ≡ true) ops
 all_touch w [] wide = tt
 all_touch w (op ∷ ops) wide = (
   λ k name. let here : at_name (acted_name op) k ≡ true = rw name (name_self (acted_name op)) in wide k (ap (λ t. t || touched ops k) here),
@@ -105,7 +105,7 @@ not_there : (o : Option Record) → cond (not (same_ttl o o)) o None ≡ None
 not_there o = ap (λ t. cond (not t) o None) (same_ttl_self o)
 
 -- sets that differ alike where a test holds, and not elsewhere
-minus_alike : (w : Key → Bool) (a b c d : Records) → SameOn w a c → SameOn w b d → ((k : Key) → w k ≡ false → (get a k ≡ get b k) × (get c k ≡ get d k)) → minus a b ≡ minus c d
+pub minus_alike : (w : Key → Bool) (a b c d : Records) → SameOn w a c → SameOn w b d → ((k : Key) → w k ≡ false → (get a k ≡ get b k) × (get c k ≡ get d k)) → minus a b ≡ minus c d
 minus_alike w a b c d first second apart =
     same_sets (minus a b) (minus c d) (λ k.
     get-part a (λ j. not (same_ttl (get a j) (get b j))) k

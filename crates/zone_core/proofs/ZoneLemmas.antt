@@ -140,6 +140,9 @@ keys_cut origin set p z soa_stays ns ns_there ns_origin ns_type ns_stays =
       ns_type = ns_type;
     }
 
+pub keys_without : (origin : List (List ℕ)) (set : Records) (p : Key → Bool) (z : Keys origin set) → p z.soa ≡ false → p z.ns ≡ false → Keys origin (cut set p)
+keys_without origin set p z soa_stays ns_stays = keys_cut origin set p z soa_stays z.ns z.ns_there z.ns_origin z.ns_type ns_stays
+
 -- ---- tests of keys
 
 self : (n : ℕ) → (n == n) ≡ true
