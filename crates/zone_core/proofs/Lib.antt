@@ -24,3 +24,5 @@ pub mod ZoneLemmas
 pub mod VersionLemmas
 pub mod SettleLemmas
 pub mod NeedLemmas
+pub mod AccountLemmas
+pub mod LeaveLemmas

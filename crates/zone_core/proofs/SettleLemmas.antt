@@ -79,7 +79,7 @@ front_row s rows m are above =
 
 -- ---- what two sets differ in
 
-get-minus : (a b : Records) (j : Key) → get (minus a b) j ≡ cond (not (same_ttl (get a j) (get b j))) (get a j) None
+pub get-minus : (a b : Records) (j : Key) → get (minus a b) j ≡ cond (not (same_ttl (get a j) (get b j))) (get a j) None
 get-minus a b j = get-part a (λ i. not (same_ttl (get a i) (get b i))) j
 
 nothing : (b : Bool) → ◌≡◌ {A = Option Record} (cond b None None) None

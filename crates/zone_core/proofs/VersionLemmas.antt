@@ -16,7 +16,7 @@ use Rattle.zone_core.specs.Sets.{Records, Key, key_of, is_same}
 use Rattle.zone_core.specs.Zones.{ZoneOf, IsZone, soa_in, serial_in, soa_at, serial_at}
 use Rattle.zone_core.specs.Updates.{UpdateOf, IsUpdate, ActsWithin}
 use Rattle.zone_core.specs.Effects.{effects, next_data, next_version, with_next, settled, zone_after}
-use Rattle.zone_core.specs.Versions.{UpdatesKeepZones, UpdatesAdvance}
+use Rattle.zone_core.specs.Versions.{UpdatesKeepZones}
 use Rattle.zone_core.proofs.ZoneLemmas.{Keys, Heir, keys_of, zone_of_keys, keys_soa, soa_is, effects_heir}
 
 -- ---- serials
@@ -88,16 +88,17 @@ module _ (origin : List (List ℕ)) (before after : Records) (z : Keys origin be
   pub serial_after : serial_at origin after ≡ serial_in soa
   serial_after = ap (λ o. option_map_or serial_in o 0) (soa_is origin after k)
 
-  one_further : serial_at origin before ≡ serial_at origin after → IsLess (serial_at origin before) (serial_at origin (with_next after (soa_at origin after)))
+  pub one_further : serial_at origin before ≡ serial_at origin after
+      → IsLess (serial_at origin before) (serial_at origin (with_next after (soa_at origin after))) × (serial_at origin (with_next after (soa_at origin after)) ≡ serial_sum (serial_at origin before) 1)
   one_further same =
       let next = next_serial soa.rdata soa_type soa_record.rdata in
       let old : serial_at origin before ≡ next.0 = same ∙ serial_after ∙ next.1 in
       let new : serial_at origin (with_next after (soa_at origin after)) ≡ serial_sum next.0 1 =
       ap (λ o. serial_at origin (with_next after o)) (soa_is origin after k)
       ∙ ap (λ o. option_map_or serial_in o 0) (soa_is origin (with_next after (Some soa)) next_keys.0) ∙ ap serial_in next_keys.1 ∙ next.3 in
-      rw (old, new) (next_less next.0 next.2)
+      rw (old, new) (next_less next.0 next.2, refl)
 
-  greater : (serial_at origin before == serial_at origin after) ≡ false → IsLess (serial_at origin before) (serial_at origin after)
+  pub greater : (serial_at origin before == serial_at origin after) ≡ false → IsLess (serial_at origin before) (serial_at origin after)
   greater differ =
       (elim (heir.1) [
         | inl same ↦ absurd (let equal : (serial_at origin before == serial_at origin after) ≡ true = rw (serial_before, serial_after, same) (self (serial_in z.soa_there.0)) in let f : true ≡ false = sym equal ∙ differ in cc)
@@ -107,20 +108,6 @@ module _ (origin : List (List ℕ)) (before after : Records) (z : Keys origin be
       self : (n : ℕ) → (n == n) ≡ true
       self n = grind (arith, nat_tests)
 
-  abbrev Fine : Records → Type 0
-  Fine set = (set ≡ before) ⊎ IsLess (serial_at origin before) (serial_at origin set)
-
-  settled_serial : (settled origin before after ≡ before) ⊎ IsLess (serial_at origin before) (serial_at origin (settled origin before after))
-  settled_serial = by_same (is_same before after)
-    where
-      by_serial : (b : Bool) → (serial_at origin before == serial_at origin after) ≡ b → Fine (if b then with_next after (soa_at origin after) else after)
-      by_serial true e = inr (one_further (eqb-true (serial_at origin before) (serial_at origin after) e))
-      by_serial false e = inr (greater e)
-
-      by_same : (b : Bool) → Fine (if b then before else (if serial_at origin before == serial_at origin after then with_next after (soa_at origin after) else after))
-      by_same true = inl refl
-      by_same false = by_serial (serial_at origin before == serial_at origin after) refl
-
 pub heir_of : (zone : ZoneOf) (update : UpdateOf) (z : IsZone zone) → IsUpdate update → ActsWithin zone.origin update
     → Heir zone.origin zone.records (keys_of zone.origin zone.records z) (effects zone.origin zone.records update.operations)
 heir_of zone update z is acts = effects_heir zone.origin zone.records (keys_of zone.origin zone.records z) update.operations is.operations acts.operations is.one_soa
@@ -129,10 +116,3 @@ pub updates_keep : UpdatesKeepZones
 updates_keep zone update z is acts =
     zone_of_keys zone.origin (zone_after zone update).records z.not_root
     (settled_keys zone.origin zone.records (effects zone.origin zone.records update.operations) (keys_of zone.origin zone.records z) (heir_of zone update z is acts))
-
-pub updates_advance : UpdatesAdvance
-updates_advance zone update z is acts =
-    (elim (settled_serial zone.origin zone.records (effects zone.origin zone.records update.operations) (keys_of zone.origin zone.records z) (heir_of zone update z is acts)) [
-      | inl same ↦ inl (ap (λ (s : Records). record { origin = zone.origin; records = s }) same)
-      | inr less ↦ inr less
-    ])

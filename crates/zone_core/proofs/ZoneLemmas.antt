@@ -102,7 +102,7 @@ module _ (origin : List (List ℕ)) (set : Records) where
 
 -- ---- records that are taken away
 
-found_uncut : (set : Records) (p : Key → Bool) (k : Key) (r : Record) → get (cut set p) k ≡ Some r → (p k ≡ false) × (get set k ≡ Some r)
+pub found_uncut : (set : Records) (p : Key → Bool) (k : Key) (r : Record) → get (cut set p) k ≡ Some r → (p k ≡ false) × (get set k ≡ Some r)
 found_uncut set p k r e = by_test (p k) refl (sym (get-cut set p k) ∙ e)
   where
     by_test : (b : Bool) → p k ≡ b → cond b None (get set k) ≡ Some r → (p k ≡ false) × (get set k ≡ Some r)
@@ -151,7 +151,7 @@ self n = grind (arith, nat_tests)
 pub kind : (k : Key) (t : RecordType) → k.1 ≡ rank_of t → (k.1 == rank_of t) ≡ true
 kind k t e = rw e (self (rank_of t))
 
-both_true : (a b : Bool) → a ≡ true → b ≡ true → (a && b) ≡ true
+pub both_true : (a b : Bool) → a ≡ true → b ≡ true → (a && b) ≡ true
 both_true true b e f = f
 both_true false b e f = absurd cc
 
@@ -173,7 +173,7 @@ guards_soa n e = rw e refl
 guards_ns : (n : ℕ) → n ≡ rank_of types.Ns → is_guarded n ≡ true
 guards_ns n e = rw e refl
 
-no : (b : Bool) → b ≡ true → b ≡ false → ⊥
+pub no : (b : Bool) → b ≡ true → b ≡ false → ⊥
 no b e f = let g : true ≡ false = sym e ∙ f in cc
 
 -- ---- deletions
@@ -254,7 +254,7 @@ module _ (origin : List (List ℕ)) (set : Records) (z : Keys origin set) where
 
 -- ---- a record that is put
 
-found_put : (set : Records) (r : Record) (k : Key) (y : Record) → get (put set r) k ≡ Some y → ((k ≡ key_of r) × (y ≡ r)) ⊎ (get set k ≡ Some y)
+pub found_put : (set : Records) (r : Record) (k : Key) (y : Record) → get (put set r) k ≡ Some y → ((k ≡ key_of r) × (y ≡ r)) ⊎ (get set k ≡ Some y)
 found_put set r k y e = by_test (same_key k (key_of r)) refl (sym (get-put set r k) ∙ e)
   where
     by_test : (b : Bool) → same_key k (key_of r) ≡ b → cond b (Some r) (get set k) ≡ Some y → ((k ≡ key_of r) × (y ≡ r)) ⊎ (get set k ≡ Some y)
@@ -310,7 +310,7 @@ still_put set r k there = by_test (same_key k (key_of r)) refl
 
 -- ---- TTLs that are changed
 
-found_given : (set : Records) (test : Key → Bool) (ttl : ℕ) (k : Key) (y : Record) → get (with_ttl set test ttl) k ≡ Some y → (x : Record) × (get set k ≡ Some x) × (retag test ttl k x ≡ y)
+pub found_given : (set : Records) (test : Key → Bool) (ttl : ℕ) (k : Key) (y : Record) → get (with_ttl set test ttl) k ≡ Some y → (x : Record) × (get set k ≡ Some x) × (retag test ttl k x ≡ y)
 found_given set test ttl k y e = by_option (get set k) refl (sym (get-with_ttl set test ttl k) ∙ e)
   where
     by_option : (o : Option Record) → get set k ≡ o → option_map (retag test ttl k) o ≡ Some y → (x : Record) × (get set k ≡ Some x) × (retag test ttl k x ≡ y)
@@ -323,7 +323,7 @@ still_given set test ttl k there = (retag test ttl k there.0, get-with_ttl set t
 was_given : (set : Records) (test : Key → Bool) (ttl : ℕ) (k : Key) → There (with_ttl set test ttl) k → There set k
 was_given set test ttl k there = let found = found_given set test ttl k there.0 there.1 in (found.0, found.1)
 
-either_fits : (b : Bool) (m n : ℕ) → m ≤ 2147483647 → n ≤ 2147483647 → (if b then m else n) ≤ 2147483647
+pub either_fits : (b : Bool) (m n : ℕ) → m ≤ 2147483647 → n ≤ 2147483647 → (if b then m else n) ≤ 2147483647
 either_fits true m n h g = h
 either_fits false m n h g = g
 
@@ -373,10 +373,10 @@ soa_is origin set z =
     let one = z.soa_alone first.0 (first.1, found.1) (at_is origin types.Soa first.0 found.0).1 in
     first.2 ∙ sym found.1 ∙ ap (get set) one ∙ z.soa_there.1
 
-is_kind : (r : Record) (t : RecordType) → ((key_of r).1 == rank_of t) ≡ true → type_of r.rdata ≡ t
+pub is_kind : (r : Record) (t : RecordType) → ((key_of r).1 == rank_of t) ≡ true → type_of r.rdata ≡ t
 is_kind r t e = one_rank (type_of r.rdata) t (eqb-true (rank_of (type_of r.rdata)) (rank_of t) e)
 
-none_found : (set : Records) (p : Key → Bool) → has set p ≡ false → first_of (listing (part set p)) ≡ None
+pub none_found : (set : Records) (p : Key → Bool) → has set p ≡ false → first_of (listing (part set p)) ≡ None
 none_found set p e = ap (λ (es : List (Key × Record)). first_of (map (λ e. e.1) es)) (bare (entries (part set p)) (sym (len-entries (part set p)) ∙ eqb-true _ _ (opened (len (part set p) == 0) e)))
   where
     opened : (b : Bool) → not b ≡ false → b ≡ true
@@ -562,7 +562,7 @@ effect_kept origin set z (DeleteRrset name t) is inside e = keys_rrset origin se
 effect_kept origin set z (DeleteName name) is inside e = keys_name origin set z name
 effect_kept origin set z (DeleteRecord name rdata) is inside e = keys_record origin set z (key_at name rdata)
 
-effect_heir : (origin : List (List ℕ)) (set : Records) (z : Keys origin set) (op : Operation) → IsOperation op → IsWithin (acted_name op) origin → Heir origin set z (effect origin set op)
+pub effect_heir : (origin : List (List ℕ)) (set : Records) (z : Keys origin set) (op : Operation) → IsOperation op → IsWithin (acted_name op) origin → Heir origin set z (effect origin set op)
 effect_heir origin set z (Add r) is inside = keys_add origin set z r is inside
 effect_heir origin set z (DeleteRrset name t) is inside = let k = keys_rrset origin set z name t in (k.0, inl k.1)
 effect_heir origin set z (DeleteName name) is inside = let k = keys_name origin set z name in (k.0, inl k.1)

@@ -12,4 +12,5 @@ pub mod Effects
 pub mod Sites
 pub mod Merges
 pub mod Parts
+pub mod Accounts
 pub mod Versions

@@ -1,6 +1,7 @@
 //! Laws of the definitions. The functions do nothing: their contracts are the laws.
 
 ghost use Rattle.zone_core.specs.Parts.{VerdictsReadTheirNames, OperationsReadTheirNames, UpdatesNeedTheirPart};
+ghost use Rattle.zone_core.specs.Accounts.{UpdatesLeave};
 ghost use Rattle.zone_core.specs.Versions.{UpdatesKeepZones, UpdatesAdvance};
 
 /// The prerequisites of an update read the records at their names, and no others.
@@ -19,12 +20,19 @@ pub fn updates_need_their_part()
     ensures { UpdatesNeedTheirPart }
 {}
 
+/// A record that is no SOA is in the zone after an update exactly where an operation put it there and none later took it away, or
+/// it was there and none took it away (RFC 2136 section 3.4.2).
+pub fn updates_leave_records()
+    ensures { UpdatesLeave }
+{}
+
 /// The zone after an update within its origin is a zone (RFC 2136 sections 3.4.2 and 3.6).
 pub fn updates_keep_zones()
     ensures { UpdatesKeepZones }
 {}
 
-/// The zone after an update is the zone before, or its serial is greater (RFC 1982 section 3.2).
+/// The zone after an update within its origin is the zone before; or its SOA is one that the update adds, or its serial is one
+/// further (RFC 2136 section 3.6), and in both cases the serial is greater (RFC 1982 section 3.2).
 pub fn updates_advance_serials()
     ensures { UpdatesAdvance }
 {}

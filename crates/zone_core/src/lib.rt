@@ -23,7 +23,7 @@ pub use fault::{UpdateFault, ZoneFault};
 pub use kind::{OperationKind, PrerequisiteKind};
 pub use laws::{
     operations_read_their_names, updates_advance_serials, updates_keep_zones,
-    updates_need_their_part, verdicts_read_their_names,
+    updates_leave_records, updates_need_their_part, verdicts_read_their_names,
 };
 pub use outcome::{Outcome, apply, apply_owned};
 pub use rcode::Rcode;

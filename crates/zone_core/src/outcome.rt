@@ -4,6 +4,9 @@ ghost use Rattle.std.specs.Prelude.{◌≡◌, IfOk};
 ghost use Rattle.zone_core.specs.Sets.{minus, AreRows};
 ghost use Rattle.zone_core.specs.Updates.{ActsWithin};
 ghost use Rattle.zone_core.specs.Effects.{zone_after};
+ghost use Rattle.zone_core.specs.Zones.{IsZone};
+ghost use Rattle.zone_core.specs.Accounts.{Leaves};
+ghost use Rattle.zone_core.specs.Versions.{Advances};
 
 use crate::merge::merged;
 use crate::settle::update_change;
@@ -30,6 +33,12 @@ pub struct Outcome {
 pub fn apply(alloc: Global, zone: &Zone, update: &Update) -> Result<Outcome, AllocError>
     requires { ActsWithin zone.now.origin update.now }
     ensures zone { IfOk result (λ o. o.zone ≡ zone_after zone.now update.now) }
+    // What that is, in the words of the standard: a zone; but for its SOA, the records that an operation put there and none later
+    // took away, and those that were there and none took away; and a serial that is greater, unless nothing changed.
+    ensures kept { IfOk result (λ o. IsZone o.zone) }
+    ensures left { IfOk result (λ o. Leaves zone.now update.now o.zone) }
+    ensures serial { IfOk result (λ o. Advances zone.now update.now o.zone) }
+    // What has changed, each side in record order.
     ensures removed { IfOk result (λ o. AreRows o.removed.items (minus zone.now.records o.zone.records)) }
     ensures added { IfOk result (λ o. AreRows o.added.items (minus o.zone.records zone.now.records)) }
 {
@@ -40,6 +49,12 @@ pub fn apply(alloc: Global, zone: &Zone, update: &Update) -> Result<Outcome, All
 pub fn apply_owned(alloc: Global, zone: Zone, update: &Update) -> Result<Outcome, AllocError>
     requires { ActsWithin zone.origin update.now }
     ensures zone { IfOk result (λ o. o.zone ≡ zone_after zone update.now) }
+    // What that is, in the words of the standard: a zone; but for its SOA, the records that an operation put there and none later
+    // took away, and those that were there and none took away; and a serial that is greater, unless nothing changed.
+    ensures kept { IfOk result (λ o. IsZone o.zone) }
+    ensures left { IfOk result (λ o. Leaves zone update.now o.zone) }
+    ensures serial { IfOk result (λ o. Advances zone update.now o.zone) }
+    // What has changed, each side in record order.
     ensures removed { IfOk result (λ o. AreRows o.removed.items (minus zone.records o.zone.records)) }
     ensures added { IfOk result (λ o. AreRows o.added.items (minus o.zone.records zone.records)) }
 {

@@ -1,4 +1,4 @@
-use Rattle.zone_core.proofs.VersionLemmas.{updates_advance}
+use Rattle.zone_core.proofs.LeaveLemmas.{updates_advance}
 use Rattle.zone_core.proofs.laws.updates_advance_serials.Goals as goal
 
 pub returns : goal.returns

@@ -7,13 +7,12 @@ use Rattle.zone_core.specs.Sets.{set_of, minus, AreRows}
 use Rattle.zone_core.specs.Effects.{next_version, zone_after}
 use Rattle.zone_core.specs.Views.{advances}
 use Rattle.zone_core.specs.declared.change.Change.{Change}
-use Rattle.zone_core.proofs.VersionLemmas.{updates_keep}
 use Rattle.zone_core.proofs.SettleLemmas.{settled_change}
 use Rattle.zone_core.proofs.settle.update_change.Goals as goal
 
-pub returns-clause-zone : goal.returns-clause-zone
-returns-clause-zone c =
-    by_result c.with_serial.result (updates_keep c.args.zone.now c.args.update.now c.origin.ensures.zone c.operations.ensures.update c.requires)
+pub returns-clause-update : goal.returns-clause-update
+returns-clause-update c =
+    by_result c.with_serial.result c.operations.ensures.update
   where
     by_result : {A : Type 0} (r : Result Change AllocError) → A → IfOk r (λ _. A)
     by_result (Ok x) is = is
