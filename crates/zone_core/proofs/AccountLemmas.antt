@@ -16,15 +16,15 @@ use Rattle.dns_data.proofs.ApartLaws.{one_text}
 use Rattle.dns_data.proofs.RecordOrderLemmas.{one_rank}
 use Rattle.zone_core.specs.declared.update.Operation.{Operation}
 use Rattle.zone_core.specs.declared.update.Operation.TheVariants.{Add, DeleteRrset, DeleteName, DeleteRecord}
-use Rattle.zone_core.specs.Serials.{IsLess, is_less}
-use Rattle.zone_core.specs.Sets.{Records, Key, key_of, rank_of, same_key, IsIn, part, cut, has, at_name, at, put, with_ttl}
-use Rattle.zone_core.specs.Zones.{AreKept, is_soa, is_cname, serial_in, soa_at}
+use Rattle.zone_core.specs.Serials.{IsLess}
+use Rattle.zone_core.specs.Sets.{Records, Key, key_of, rank_of, same_key, IsIn, cut, has, at_name, at, put, with_ttl}
+use Rattle.zone_core.specs.Zones.{is_soa, is_cname, serial_in, soa_at}
 use Rattle.zone_core.specs.Updates.{IsOperation, acted_name}
 use Rattle.zone_core.specs.Effects.{is_other_type, takes_over, add_soa, add_cname, add_other, is_misplaced, add, is_guarded, delete_rrset, goes, delete_name, key_at, is_other_ns, stays, delete_record, effect, effects}
-use Rattle.zone_core.specs.Accounts.{Stands, IsIgnored, IsIgnoredAs, IsKept, Takes, TakesTtl, Puts, Stays, IsPut, IsLeft}
-use Rattle.zone_core.proofs.SetLemmas.{name_is, name_self, key_is, key_self, key_other, get-put, found_by_put, kept_by_put, kept_by_cut, none_there, some_is, some_found, has_nothing}
+use Rattle.zone_core.specs.Accounts.{Stands, IsIgnored, IsIgnoredAs, IsKept, Takes, TakesTtl, Puts, IsLeft}
+use Rattle.zone_core.proofs.SetLemmas.{name_is, name_self, key_is, key_self, get-put, found_by_put, kept_by_put, kept_by_cut, none_there, some_is, some_found, has_nothing}
 use Rattle.zone_core.proofs.EffectLemmas.{retag, get-with_ttl, untouched}
-use Rattle.zone_core.proofs.ZoneLemmas.{Keys, Heir, found_uncut, found_given, at_has, at_is, kind, both_true, no, is_kind, soa_is, none_found, effect_heir}
+use Rattle.zone_core.proofs.ZoneLemmas.{Keys, found_uncut, found_given, at_has, at_is, kind, both_true, no, is_kind, soa_is, none_found, effect_heir}
 use Rattle.zone_core.proofs.VersionLemmas.{is_less-Decides}
 
 -- ---- keys of records

@@ -1,5 +1,5 @@
 -- What an update leaves of a zone's records.
-use Rattle.std.proofs.Common.{◌≡◌, ◌≢◌, ◌↔◌, ◌⊎◌, inl, inr, ℕ, suc, List, [], ◌∷◌, Bool, true, false, cond, not, ◌&&◌, ◌==◌, if◌then◌else◌, Option, Some, None, refl, sym, ap, subst, ◌∙◌, arith}
+use Rattle.std.proofs.Common.{◌≡◌, ◌≢◌, inl, inr, ℕ, suc, List, [], ◌∷◌, Bool, true, false, cond, not, ◌==◌, if◌then◌else◌, Option, Some, None, refl, sym, ap, ◌∙◌, arith}
 use Rattle.std.specs.List.{Contains}
 use Rattle.std.specs.FinMap.{get, len, get-empty}
 use Rattle.std.proofs.lemmas.Bool.Decides.{nat_tests}
@@ -9,15 +9,14 @@ use Rattle.dns_data.specs.declared.record_type.RecordType.TheVariants as types
 use Rattle.dns_data.specs.Rdata.{type_of}
 use Rattle.dns_data.proofs.RecordOrderLemmas.{one_rank}
 use Rattle.zone_core.specs.Sets.{Records, Key, key_of, rank_of, IsIn, minus, cut, at, is_same, same_ttl}
-use Rattle.zone_core.specs.Zones.{ZoneOf, IsZone, IsSoaOf, AreKept, serial_in, soa_at, serial_at, serial_of}
+use Rattle.zone_core.specs.Zones.{ZoneOf, IsZone, IsSoaOf, AreKept, serial_in, soa_at, serial_at}
 use Rattle.zone_core.specs.Updates.{UpdateOf, IsUpdate, ActsWithin}
-use Rattle.zone_core.specs.Effects.{effect, effects, next_version, with_next, settled, zone_after}
-use Rattle.zone_core.specs.Accounts.{Puts, IsPut, IsLeft, UpdatesLeave}
+use Rattle.zone_core.specs.Effects.{effect, effects, next_version, with_next, settled}
+use Rattle.zone_core.specs.Accounts.{Puts, IsPut, UpdatesLeave}
 use Rattle.zone_core.specs.Versions.{Advances, UpdatesAdvance}
-use Rattle.zone_core.specs.Serials.{serial_sum, IsLess}
 use Rattle.zone_core.specs.declared.update.Operation.{Operation}
 use Rattle.zone_core.specs.declared.update.Operation.TheVariants.{Add, DeleteRrset, DeleteName, DeleteRecord}
-use Rattle.zone_core.proofs.SetLemmas.{same_sets, kept_by_put, kept_by_cut, empty_is, some_is}
+use Rattle.zone_core.proofs.SetLemmas.{kept_by_put, kept_by_cut, empty_is, some_is}
 use Rattle.zone_core.proofs.OutcomeLemmas.{one_record}
 use Rattle.zone_core.proofs.SettleLemmas.{get-minus}
 use Rattle.zone_core.proofs.ZoneLemmas.{Keys, Heir, keys_of, zone_of_keys, soa_is, at_is}

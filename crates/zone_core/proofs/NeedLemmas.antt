@@ -1,13 +1,12 @@
 -- An update does to the part of a zone at the origin and at its names what it does to the zone.
-use Rattle.std.proofs.Common.{◌≡◌, ℕ, List, Bool, true, false, cond, not, ◌||◌, ◌&&◌, ◌==◌, if◌then◌else◌, Option, Some, None, inl, inr, refl, sym, ap, subst, ◌∙◌}
+use Rattle.std.proofs.Common.{◌≡◌, ℕ, List, Bool, true, false, cond, not, ◌||◌, ◌&&◌, ◌==◌, if◌then◌else◌, Option, Some, None, refl, sym, ap, subst, ◌∙◌}
 use Rattle.std.specs.FinMap.{get, len}
 use Rattle.std.specs.Option.{option_map_or}
 use Rattle.std.proofs.lemmas.Bool.{false_from_ne_true}
-use Rattle.dns_names.specs.Order.{same_name}
 use Rattle.dns_data.specs.declared.record.Record.{Record}
 use Rattle.dns_data.specs.declared.record_type.RecordType.TheVariants as types
 use Rattle.zone_core.specs.declared.update.Operation.{Operation}
-use Rattle.zone_core.specs.Sets.{Records, Key, part, cut, put, at_name, at, minus, same_key, key_of, is_same}
+use Rattle.zone_core.specs.Sets.{Records, Key, part, cut, at_name, at, minus, same_key, key_of, is_same}
 use Rattle.zone_core.specs.Zones.{ZoneOf, IsZone, serial_in, soa_at, serial_at}
 use Rattle.zone_core.specs.Updates.{UpdateOf, IsUpdate, ActsWithin}
 use Rattle.zone_core.specs.Effects.{effects, next_version, with_next, settled, zone_after}
@@ -16,7 +15,7 @@ use Rattle.zone_core.proofs.SetLemmas.{name_self, get-part, get-cut, get-put, sa
 use Rattle.zone_core.proofs.EffectLemmas.{soa_alike}
 use Rattle.zone_core.proofs.ChangeLemmas.{effects_away}
 use Rattle.zone_core.proofs.PartLemmas.{SameOn, verdict_alike, effects_on, all_touch, minus_alike}
-use Rattle.zone_core.proofs.ZoneLemmas.{Keys, Heir, keys_of, zone_of_keys, keys_without, at_has, at_is, soa_is}
+use Rattle.zone_core.proofs.ZoneLemmas.{Keys, Heir, keys_of, zone_of_keys, keys_without, at_is, soa_is}
 use Rattle.zone_core.proofs.VersionLemmas.{heir_of, home}
 
 -- ---- a part of a zone

@@ -10,7 +10,7 @@ use Rattle.dns_data.specs.declared.record.Record.{Record}
 use Rattle.dns_data.specs.Rdata.{type_of}
 use Rattle.dns_data.proofs.ApartLaws.{one_text}
 use Rattle.dns_data.proofs.RecordOrderLemmas.{one_rank}
-use Rattle.zone_core.specs.Sets.{Records, Key, key_of, key_cmp, keyed, set_of, minus, part, same_ttl, InOrder, AreRows}
+use Rattle.zone_core.specs.Sets.{Records, Key, key_of, key_cmp, keyed, set_of, minus, same_ttl, InOrder, AreRows}
 use Rattle.zone_core.specs.Zones.{ZoneOf, IsZone, AreKept}
 use Rattle.zone_core.specs.Views.{zone_in, AreOfZone}
 use Rattle.zone_core.proofs.SetLemmas.{get-part, same_sets}

@@ -1,8 +1,8 @@
 -- What an update changes with the serial, from what its operations change.
-use Rattle.std.proofs.Common.{◌≡◌, ℕ, ◌+◌, ◌-◌, ◌<◌, ◌^◌, List, [], ◌∷◌, length, Bool, true, false, cond, not, ◌&&◌, ◌==◌, nat_lt, if◌then◌else◌, Option, Some, None, ◌⊎◌, inl, inr, refl, sym, ap, subst, ◌∙◌, arith}
+use Rattle.std.proofs.Common.{◌≡◌, ℕ, List, [], ◌∷◌, length, Bool, true, false, cond, not, ◌&&◌, ◌==◌, if◌then◌else◌, Option, Some, None, inl, inr, refl, sym, ap, subst, ◌∙◌, arith}
 use Rattle.std.specs.declared.cmp.Ordering.{Ordering}
 use Rattle.std.specs.declared.cmp.Ordering.TheVariants.{Less, Equal, Greater}
-use Rattle.std.specs.Ordering.{is_lt, is_eq, nat_cmp, ordering_reverse}
+use Rattle.std.specs.Ordering.{is_lt, nat_cmp, ordering_reverse}
 use Rattle.std.specs.List.{AllByRecursion, list_any}
 use Rattle.std.specs.List.Sorted.{IsStrictlySortedBy}
 use Rattle.std.specs.Option.{option_map_or}
@@ -11,24 +11,24 @@ use Rattle.std.specs.FinMap.{get, find, len, empty, get-empty}
 use Rattle.std.proofs.lemmas.Bool.{false_from_ne_true, eqb-true}
 use Rattle.std.proofs.lemmas.Bool.Decides.{nat_tests}
 use Rattle.dns_names.specs.Labels.{IsWithin}
-use Rattle.dns_names.specs.Order.{canonical_cmp, same_name}
+use Rattle.dns_names.specs.Order.{canonical_cmp}
 use Rattle.dns_names.proofs.NameLemmas.{is_within-Decides}
 use Rattle.dns_data.specs.declared.record.Record.{Record}
 use Rattle.dns_data.specs.declared.record_type.RecordType.TheVariants as types
 use Rattle.dns_data.specs.declared.soa.SoaFields.{SoaFields}
-use Rattle.dns_data.specs.Rdata.{type_of, IsRecord}
+use Rattle.dns_data.specs.Rdata.{type_of}
 use Rattle.dns_data.specs.Text.{data_text}
 use Rattle.dns_data.specs.RecordOrder.{record_order_total}
 use Rattle.dns_data.proofs.ApartLaws.{one_text}
 use Rattle.dns_data.proofs.RecordOrderLemmas.{one_rank}
 use Rattle.zone_core.specs.Serials.{IsLess, is_less}
-use Rattle.zone_core.specs.Sets.{Records, Key, key_of, key_cmp, rank_of, keyed, same_key, set_of, record_order, cut, put, at, has, minus, same_ttl, is_same, InOrder, AreRows}
+use Rattle.zone_core.specs.Sets.{Records, Key, key_of, key_cmp, rank_of, keyed, same_key, set_of, record_order, cut, put, at, has, minus, same_ttl, is_same, AreRows}
 use Rattle.zone_core.specs.declared.update.Operation.{Operation}
 use Rattle.zone_core.specs.Zones.{ZoneOf, IsZone, is_soa, soa_in, serial_in, soa_at, serial_at}
 use Rattle.zone_core.specs.Updates.{UpdateOf, IsUpdate, ActsWithin}
 use Rattle.zone_core.specs.Effects.{effects, next_data, next_version, with_next, settled, zone_after}
 use Rattle.zone_core.specs.Views.{advances}
-use Rattle.zone_core.proofs.SetLemmas.{key_is, key_self, key_other, one_key, name_self, get-part, get-put, get-cut, kept_by_put, found_by_put, kept_by_cut, gone_by_cut, same_sets, some_is, has_nothing, has_found, by_cases, empty_is}
+use Rattle.zone_core.proofs.SetLemmas.{key_is, key_self, one_key, get-part, get-put, kept_by_put, found_by_put, kept_by_cut, gone_by_cut, same_sets, some_is, has_nothing, has_found, empty_is}
 use Rattle.zone_core.proofs.RowLemmas.{get-set_of, each_in, has_is, len_of}
 use Rattle.zone_core.proofs.WithinLemmas.{not_before}
 use Rattle.zone_core.proofs.HeadLemmas.{parts_less, le_zero}

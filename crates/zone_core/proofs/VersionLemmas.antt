@@ -1,7 +1,6 @@
 -- The zone after an update is a zone, and is the one before or has a greater serial.
-use Rattle.std.proofs.Common.{◌≡◌, ℕ, ◌-◌, ◌<◌, ◌^◌, List, Bool, true, false, ◌&&◌, ◌==◌, nat_lt, if◌then◌else◌, Some, ◌⊎◌, inl, inr, refl, sym, ap, subst, ◌∙◌, arith}
+use Rattle.std.proofs.Common.{◌≡◌, ℕ, ◌-◌, ◌<◌, ◌^◌, List, Bool, true, false, ◌&&◌, ◌==◌, nat_lt, if◌then◌else◌, Some, inl, inr, refl, sym, ap, subst, ◌∙◌, arith}
 use Rattle.std.specs.Option.{option_map_or}
-use Rattle.std.proofs.lemmas.Bool.{eqb-true}
 use Rattle.std.proofs.lemmas.Bool.Decides.{nat_tests, Decides-ltb, Decides-and, Decides-or}
 use Rattle.std.specs.Bool.{Decides}
 use Rattle.dns_data.specs.declared.record.Record.{Record}

@@ -10,7 +10,7 @@ use Rattle.zone_core.specs.Serials.{IsLess}
 use Rattle.zone_core.specs.Sets.{Records, IsIn}
 use Rattle.zone_core.specs.Zones.{ZoneOf, IsZone, serial_in}
 use Rattle.zone_core.specs.Updates.{UpdateOf, IsUpdate, ActsWithin}
-use Rattle.zone_core.specs.Effects.{effect, effects, zone_after}
+use Rattle.zone_core.specs.Effects.{effect, zone_after}
 
 -- a record of a set that has this owner and type
 abbrev pub Stands : Records → List (List ℕ) → RecordType → Record → Type 0

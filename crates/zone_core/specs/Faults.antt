@@ -4,6 +4,8 @@ use Rattle.zone_core.specs.declared.fault.ZoneFault.{ZoneFault}
 use Rattle.zone_core.specs.declared.fault.ZoneFault.TheVariants as zones
 use Rattle.zone_core.specs.declared.fault.UpdateFault.{UpdateFault}
 use Rattle.zone_core.specs.declared.fault.UpdateFault.TheVariants as updates
+use Rattle.zone_core.specs.declared.fault.DelegationFault.{DelegationFault}
+use Rattle.zone_core.specs.declared.fault.DelegationFault.TheVariants as delegations
 
 -- the published number of a zone's refusal
 abbrev pub zone_fault_number : ZoneFault → ℕ
@@ -22,6 +24,14 @@ abbrev pub update_fault_number : UpdateFault → ℕ
 update_fault_number updates.TooManyItems = 89
 update_fault_number updates.TwoSoa = 92
 
+-- the published number of a delegation's refusal
+abbrev pub delegation_fault_number : DelegationFault → ℕ
+delegation_fault_number delegations.NoServer = 40
+delegation_fault_number delegations.GlueMissing = 48
+delegation_fault_number delegations.NotBelowOrigin = 49
+delegation_fault_number delegations.TooManyItems = 89
+delegation_fault_number delegations.NoMemory = 99
+
 -- what a call refused with is the refusal of the definition; want of memory says nothing of the definition
 abbrev pub Refuses : {Y : Type 0} → ZoneFault → Result Y ZoneFault → Type 0
 Refuses zones.NoMemory built = Unit {0}
@@ -31,3 +41,12 @@ Refuses fault built = built ≡ Err fault
 abbrev pub Gives : {X Y : Type 0} → (X → Y) → Result X ZoneFault → Result Y ZoneFault → Type 0
 Gives view (Ok x) built = built ≡ Ok (view x)
 Gives view (Err e) built = Refuses e built
+
+-- the same of a delegation
+abbrev pub RefusesDelegation : {Y : Type 0} → DelegationFault → Result Y DelegationFault → Type 0
+RefusesDelegation delegations.NoMemory made = Unit {0}
+RefusesDelegation fault made = made ≡ Err fault
+
+abbrev pub GivesDelegation : {X Y : Type 0} → (X → Y) → Result X DelegationFault → Result Y DelegationFault → Type 0
+GivesDelegation view (Ok x) made = made ≡ Ok (view x)
+GivesDelegation view (Err e) made = RefusesDelegation e made

@@ -14,3 +14,4 @@ pub mod Merges
 pub mod Parts
 pub mod Accounts
 pub mod Versions
+pub mod Delegations

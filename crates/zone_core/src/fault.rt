@@ -102,3 +102,50 @@ impl UpdateFault {
         }
     }
 }
+
+/// Why a delegation is no update.
+#[derive(Clone, Copy, Debug, PartialEq, Eq, Error)]
+pub enum DelegationFault {
+    /// The child is not below the origin (RFC 1034 section 4.2).
+    #[error("the child is not below the origin of the zone")]
+    NotBelowOrigin,
+    /// No server is named.
+    #[error("a delegation names at least one server")]
+    NoServer,
+    /// A server within the child has no address, without which it can't be reached (RFC 1034 section 4.2.1).
+    #[error("a server within the child has no address")]
+    GlueMissing,
+    /// More than 256 operations.
+    #[error("a delegation makes at most 256 operations")]
+    TooManyItems,
+    /// Memory ran out. This says nothing of the request.
+    #[error("out of memory")]
+    NoMemory,
+}
+
+impl DelegationFault {
+    ghost use Rattle.zone_core.specs.Faults.{delegation_fault_number};
+
+    /// The published number of the refusal: 40, 48, 49, 89, or 99 for want of memory.
+    pub const fn number(self) -> u8
+        ensures { result ≡ delegation_fault_number self }
+    {
+        match self {
+            DelegationFault::NoServer => 40,
+            DelegationFault::GlueMissing => 48,
+            DelegationFault::NotBelowOrigin => 49,
+            DelegationFault::TooManyItems => 89,
+            DelegationFault::NoMemory => 99,
+        }
+    }
+}
+
+impl From<AllocError> for DelegationFault {
+    ghost use Rattle.zone_core.specs.declared.fault.DelegationFault.TheVariants.{NoMemory};
+
+    ghost from_gives = { λ _ e. e ≡ NoMemory };
+
+    fn from(_e: AllocError) -> DelegationFault {
+        DelegationFault::NoMemory
+    }
+}

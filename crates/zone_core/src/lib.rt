@@ -4,6 +4,7 @@
 
 mod build;
 mod change;
+mod delegation;
 mod effect;
 mod fault;
 mod kind;
@@ -19,7 +20,8 @@ mod update;
 mod verdict;
 mod zone;
 
-pub use fault::{UpdateFault, ZoneFault};
+pub use delegation::{ChildServer, DelegationRequest, delegation_update};
+pub use fault::{DelegationFault, UpdateFault, ZoneFault};
 pub use kind::{OperationKind, PrerequisiteKind};
 pub use laws::{
     operations_read_their_names, updates_advance_serials, updates_keep_zones,

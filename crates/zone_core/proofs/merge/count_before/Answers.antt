@@ -1,4 +1,4 @@
-use Rattle.std.proofs.Common.{not, ap, ◌∙◌, ◌≡◌, is_lt}
+use Rattle.std.proofs.Common.{not, ◌∙◌, is_lt}
 use Rattle.dns_data.specs.declared.record.Record.{Record}
 use Rattle.zone_core.specs.Sets.{record_order}
 use Rattle.zone_core.proofs.MergeLemmas.{count_is}

@@ -1,0 +1,73 @@
+-- Delegations (RFC 1034 section 4.2.1): a child zone, its servers, and the addresses of those within it.
+use Rattle.std.specs.Prelude.{ℕ, List, [], ◌∷◌, ◌++◌, length, map, Bool, not, ◌&&◌, ◌==◌, if◌then◌else◌, Result, Ok, Err}
+use Rattle.std.specs.List.{list_any, flat_map}
+use Rattle.std.specs.declared.net.ip_addr.IpAddr.{IpAddr}
+use Rattle.std.specs.declared.net.ip_addr.IpAddr.TheVariants as addresses
+use Rattle.dns_names.specs.Labels.{is_within}
+use Rattle.dns_names.specs.Order.{same_name}
+use Rattle.dns_data.specs.declared.record_type.RecordType.TheVariants as types
+use Rattle.dns_data.specs.declared.rdata.Data.{Data}
+use Rattle.dns_data.specs.declared.rdata.Data.TheVariants as variants
+use Rattle.zone_core.specs.declared.delegation.ChildServer.{ChildServer}
+use Rattle.zone_core.specs.declared.delegation.DelegationRequest.{DelegationRequest}
+use Rattle.zone_core.specs.declared.fault.DelegationFault.{DelegationFault}
+use Rattle.zone_core.specs.declared.fault.DelegationFault.TheVariants.{NotBelowOrigin, NoServer, GlueMissing, TooManyItems}
+use Rattle.zone_core.specs.declared.fault.UpdateFault.{UpdateFault}
+use Rattle.zone_core.specs.declared.update.Operation.{Operation}
+use Rattle.zone_core.specs.declared.update.Operation.TheVariants.{Add, DeleteRrset}
+use Rattle.zone_core.specs.Updates.{UpdateOf, update_of}
+
+-- whether a name is below another: within it, and not equal
+abbrev pub is_below : List (List ℕ) → List (List ℕ) → Bool
+is_below name top = is_within name top && not (same_name name top)
+
+-- the data of an address (RFC 1035 section 3.4.1, RFC 3596 section 2.2)
+abbrev pub address_data : IpAddr → Data
+address_data (addresses.V4 address) = variants.A address
+address_data (addresses.V6 address) = variants.Aaaa address
+
+-- a server within the child, which needs glue (RFC 1034 section 4.2.1)
+abbrev pub needs_glue : List (List ℕ) → ChildServer → Bool
+needs_glue child server = is_within server.name child
+
+-- one of them without an address
+abbrev pub lacks_glue : List (List ℕ) → ChildServer → Bool
+lacks_glue child server = needs_glue child server && (length server.addresses.items == 0)
+
+-- the addresses that a server within the child had are deleted
+abbrev pub glue_deletions : List (List ℕ) → ChildServer → List Operation
+glue_deletions child server = if needs_glue child server then DeleteRrset server.name types.A ∷ DeleteRrset server.name types.Aaaa ∷ [] else []
+
+-- each server is one of the child's
+abbrev pub server_addition : List (List ℕ) → ℕ → ChildServer → Operation
+server_addition child ttl server = Add (record { owner = child; ttl = ttl; rdata = variants.Ns server.name })
+
+-- an address of a server
+abbrev pub address_addition : List (List ℕ) → ℕ → IpAddr → Operation
+address_addition name ttl address = Add (record { owner = name; ttl = ttl; rdata = address_data address })
+
+-- the addresses of a server within the child
+abbrev pub glue_additions : List (List ℕ) → ℕ → ChildServer → List Operation
+glue_additions child ttl server = if needs_glue child server then map (address_addition server.name ttl) server.addresses.items else []
+
+-- The operations that make a delegation: the child's servers are deleted, and the glue of those that are named now and are
+-- within it; then the servers are added, and then their glue. Other glue stays, and so does the DS of the child.
+abbrev pub delegation_operations : DelegationRequest → List Operation
+delegation_operations request =
+    DeleteRrset request.child types.Ns
+    ∷ (flat_map (glue_deletions request.child) request.servers.items
+    ++ (map (server_addition request.child request.ttl) request.servers.items ++ flat_map (glue_additions request.child request.ttl) request.servers.items))
+
+-- an update, unless it has too many operations
+abbrev pub unless_too_many : Result UpdateOf UpdateFault → Result UpdateOf DelegationFault
+unless_too_many (Ok update) = Ok update
+unless_too_many (Err fault) = Err TooManyItems
+
+-- The update of a request, or the first refusal: the child is not below the origin; no server is named; a server within the
+-- child has no address; there are too many operations.
+abbrev pub delegation_of : List (List ℕ) → DelegationRequest → Result UpdateOf DelegationFault
+delegation_of origin request =
+    if not (is_below request.child origin) then Err NotBelowOrigin
+    else (if length request.servers.items == 0 then Err NoServer
+    else (if list_any (lacks_glue request.child) request.servers.items then Err GlueMissing
+    else unless_too_many (update_of [] (delegation_operations request))))

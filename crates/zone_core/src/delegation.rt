@@ -1,0 +1,248 @@
+//! Delegations (RFC 1034 section 4.2.1).
+
+ghost use Rattle.std.specs.Prelude.{◌≡◌, ◌++◌, ℕ, map, IfOk};
+ghost use Rattle.std.specs.List.{list_any, flat_map};
+ghost use Rattle.zone_core.specs.Faults.{GivesDelegation};
+ghost use Rattle.zone_core.specs.Delegations.{is_below, address_data, needs_glue, lacks_glue, glue_deletions, server_addition, address_addition, glue_additions, delegation_operations, delegation_of};
+
+use crate::fault::DelegationFault;
+use crate::update::{Operation, Update};
+use dns_data::{Data, Record, RecordType, Ttl};
+use dns_names::Name;
+use std::alloc::{AllocError, Global};
+use std::net::IpAddr;
+
+/// A server of a child zone, and its addresses. Those of a server that is not within the child are left aside.
+#[derive(Debug, Drop)]
+pub struct ChildServer {
+    pub name: Name,
+    pub addresses: Vec<IpAddr>,
+}
+
+/// What makes a name below the origin the top of a zone of its own: its servers, with the TTL of all records that are added.
+#[derive(Debug, Drop)]
+pub struct DelegationRequest {
+    pub child: Name,
+    pub ttl: Ttl,
+    pub servers: Vec<ChildServer>,
+}
+
+/// The update that makes a delegation in a zone of this origin. It deletes the NS set of the child, and the A and AAAA sets of
+/// those of the servers that are within the child; then it adds an NS for each server, and an A or AAAA for each address of
+/// those (their glue, RFC 1034 section 4.2.1), in the order of the request. Other glue stays, and so does a DS.
+///
+/// The refusals, of which the first is answered: `NotBelowOrigin`, `NoServer`, `GlueMissing`, `TooManyItems` above 256
+/// operations. `NoMemory` comes at the growth that was refused.
+pub fn delegation_update(
+    alloc: Global,
+    origin: &Name,
+    request: &DelegationRequest,
+) -> Result<Update, DelegationFault>
+    ensures { GivesDelegation (λ update. update) result (delegation_of origin.now request.now) }
+{
+    if !is_below(&request.child, origin) {
+        return Err(DelegationFault::NotBelowOrigin);
+    }
+    if request.servers.is_empty() {
+        return Err(DelegationFault::NoServer);
+    }
+    if some_lacks_glue(&request.child, &request.servers) {
+        return Err(DelegationFault::GlueMissing);
+    }
+    let operations = delegation_operations(alloc, request)?;
+    match Update::build(Vec::new(alloc), operations) {
+        Ok(update) => Ok(update),
+        Err(_) => Err(DelegationFault::TooManyItems),
+    }
+}
+
+/// Whether a name is below another.
+fn is_below(name: &Name, top: &Name) -> bool
+    ensures { result ≡ is_below name.now top.now }
+{
+    name.is_within(top) && name != top
+}
+
+/// Whether a server is within the child.
+fn needs_glue(child: &Name, server: &ChildServer) -> bool
+    ensures { result ≡ needs_glue child.now server.now }
+{
+    server.name.is_within(child)
+}
+
+/// Whether a server is within the child and has no address.
+fn lacks_glue(child: &Name, server: &ChildServer) -> bool
+    ensures { result ≡ lacks_glue child.now server.now }
+{
+    needs_glue(child, server) && server.addresses.is_empty()
+}
+
+/// Whether some server is within the child and has no address.
+fn some_lacks_glue(child: &Name, servers: &[ChildServer]) -> bool
+    ensures { result ≡ list_any (lacks_glue child.now) servers.now }
+{
+    servers.iter().any(|server| lacks_glue(child, server))
+}
+
+/// The deletion of a set.
+fn deletion(alloc: Global, name: &Name, record_type: RecordType) -> Result<Operation, AllocError>
+    ensures { IfOk result (λ op. op ≡ Operation.DeleteRrset name.now record_type) }
+{
+    Ok(Operation::DeleteRrset {
+        name: name.try_copy(alloc)?,
+        record_type,
+    })
+}
+
+/// Operations, and those that delete the glue of a server, if it is within the child.
+fn with_deletions(
+    alloc: Global,
+    mut operations: Vec<Operation>,
+    child: &Name,
+    server: &ChildServer,
+) -> Result<Vec<Operation>, AllocError>
+    ensures { IfOk result (λ ops. ops.items ≡ operations.items ++ glue_deletions child.now server.now) }
+{
+    if needs_glue(child, server) {
+        operations.push(deletion(alloc, &server.name, RecordType::A)?)?;
+        operations.push(deletion(alloc, &server.name, RecordType::Aaaa)?)?;
+    }
+    Ok(operations)
+}
+
+/// The addition of a server of the child.
+fn server_addition(
+    alloc: Global,
+    child: &Name,
+    ttl: Ttl,
+    server: &ChildServer,
+) -> Result<Operation, AllocError>
+    ensures { IfOk result (λ op. op ≡ server_addition child.now ttl server.now) }
+{
+    Ok(Operation::Add(Record {
+        owner: child.try_copy(alloc)?,
+        ttl,
+        rdata: Data::Ns(server.name.try_copy(alloc)?),
+    }))
+}
+
+/// The data of an address.
+fn address_data(address: IpAddr) -> Data
+    ensures { result ≡ address_data address }
+{
+    match address {
+        IpAddr::V4(address) => Data::A(address),
+        IpAddr::V6(address) => Data::Aaaa(address),
+    }
+}
+
+/// The addition of an address.
+fn address_addition(
+    alloc: Global,
+    name: &Name,
+    ttl: Ttl,
+    address: IpAddr,
+) -> Result<Operation, AllocError>
+    ensures { IfOk result (λ op. op ≡ address_addition name.now ttl address) }
+{
+    Ok(Operation::Add(Record {
+        owner: name.try_copy(alloc)?,
+        ttl,
+        rdata: address_data(address),
+    }))
+}
+
+/// Operations, and those that add addresses.
+fn with_addresses(
+    alloc: Global,
+    mut operations: Vec<Operation>,
+    name: &Name,
+    ttl: Ttl,
+    addresses: &[IpAddr],
+) -> Result<Vec<Operation>, AllocError>
+    ensures { IfOk result (λ ops. ops.items ≡ operations.items ++ map (address_addition name.now ttl) addresses.now) }
+{
+    for address in addresses {
+        operations.push(address_addition(alloc, name, ttl, *address)?)?;
+    }
+    Ok(operations)
+}
+
+/// Operations, and those that add the glue of a server, if it is within the child.
+fn with_glue(
+    alloc: Global,
+    operations: Vec<Operation>,
+    child: &Name,
+    ttl: Ttl,
+    server: &ChildServer,
+) -> Result<Vec<Operation>, AllocError>
+    ensures { IfOk result (λ ops. ops.items ≡ operations.items ++ glue_additions child.now ttl server.now) }
+{
+    if !needs_glue(child, server) {
+        return Ok(operations);
+    }
+    with_addresses(alloc, operations, &server.name, ttl, &server.addresses)
+}
+
+/// Operations, and those that delete the glue of servers.
+fn with_all_deletions(
+    alloc: Global,
+    mut operations: Vec<Operation>,
+    child: &Name,
+    servers: &[ChildServer],
+) -> Result<Vec<Operation>, AllocError>
+    ensures { IfOk result (λ ops. ops.items ≡ operations.items ++ flat_map (glue_deletions child.now) servers.now) }
+{
+    for server in servers {
+        operations = with_deletions(alloc, operations, child, server)?;
+    }
+    Ok(operations)
+}
+
+/// Operations, and those that add servers.
+fn with_servers(
+    alloc: Global,
+    mut operations: Vec<Operation>,
+    child: &Name,
+    ttl: Ttl,
+    servers: &[ChildServer],
+) -> Result<Vec<Operation>, AllocError>
+    ensures { IfOk result (λ ops. ops.items ≡ operations.items ++ map (server_addition child.now ttl) servers.now) }
+{
+    for server in servers {
+        operations.push(server_addition(alloc, child, ttl, server)?)?;
+    }
+    Ok(operations)
+}
+
+/// Operations, and those that add the glue of servers.
+fn with_all_glue(
+    alloc: Global,
+    mut operations: Vec<Operation>,
+    child: &Name,
+    ttl: Ttl,
+    servers: &[ChildServer],
+) -> Result<Vec<Operation>, AllocError>
+    ensures { IfOk result (λ ops. ops.items ≡ operations.items ++ flat_map (glue_additions child.now ttl) servers.now) }
+{
+    for server in servers {
+        operations = with_glue(alloc, operations, child, ttl, server)?;
+    }
+    Ok(operations)
+}
+
+/// The operations that make a delegation.
+fn delegation_operations(
+    alloc: Global,
+    request: &DelegationRequest,
+) -> Result<Vec<Operation>, AllocError>
+    ensures { IfOk result (λ ops. ops.items ≡ delegation_operations request.now) }
+{
+    let child = &request.child;
+    let ttl = request.ttl;
+    let mut operations = Vec::new(alloc);
+    operations.push(deletion(alloc, child, RecordType::Ns)?)?;
+    operations = with_all_deletions(alloc, operations, child, &request.servers)?;
+    operations = with_servers(alloc, operations, child, ttl, &request.servers)?;
+    with_all_glue(alloc, operations, child, ttl, &request.servers)
+}
