@@ -24,5 +24,6 @@ pub mod ZoneLemmas
 pub mod VersionLemmas
 pub mod SettleLemmas
 pub mod NeedLemmas
+pub mod GatherLemmas
 pub mod AccountLemmas
 pub mod LeaveLemmas

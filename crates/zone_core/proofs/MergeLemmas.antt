@@ -159,6 +159,15 @@ joined r (x ∷ xs) ys order others above = by_test (is_lt (record_order x r)) r
     )
     by_test false e more rest = others
 
+-- what is found in two rows behind each other
+pub found_append : (k : Key) (xs ys : List Record) → find key_cmp k (keyed (xs ++ ys)) ≡ option_or (find key_cmp k (keyed xs)) (find key_cmp k (keyed ys))
+found_append k [] ys = refl
+found_append k (x ∷ xs) ys = either (is_eq (key_cmp k (key_of x))) _ _ _ (found_append k xs ys)
+  where
+    either : (b : Bool) (o p q : Option Record) → q ≡ option_or o p → cond b (Some x) q ≡ option_or (cond b (Some x) o) p
+    either true o p q e = refl
+    either false o p q e = e
+
 -- ---- rows out of which those that pass a test go
 
 module _ (goes : Record → Bool) where
@@ -232,15 +241,6 @@ module _ (goes : Record → Bool) where
       above_next : (x : Record) → record_order x r ≡ Less → (b : Bool) → Above x (merged rs (filter goes rs) (behind r come)) → Above x (cond b (merged rs (filter goes rs) (behind r come)) (r ∷ merged rs (filter goes rs) (behind r come)))
       above_next x less true rest = rest
       above_next x less false rest = (less, rest)
-
-  -- what is found in two rows behind each other
-  found_append : (k : Key) (xs ys : List Record) → find key_cmp k (keyed (xs ++ ys)) ≡ option_or (find key_cmp k (keyed xs)) (find key_cmp k (keyed ys))
-  found_append k [] ys = refl
-  found_append k (x ∷ xs) ys = either (is_eq (key_cmp k (key_of x))) _ _ _ (found_append k xs ys)
-    where
-      either : (b : Bool) (o p q : Option Record) → q ≡ option_or o p → cond b (Some x) q ≡ option_or (cond b (Some x) o) p
-      either true o p q e = refl
-      either false o p q e = e
 
   or_assoc : (a b c : Option Record) → option_or a (option_or b c) ≡ option_or (option_or a b) c
   or_assoc None b c = refl

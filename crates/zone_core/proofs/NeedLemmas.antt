@@ -32,6 +32,10 @@ keys_part origin set w z wide =
     subst (Keys origin) (sym (part_is_cut set w))
     (keys_without origin set (λ k. not (w k)) z (ap not (wide z.soa z.soa_origin)) (ap not (wide z.ns z.ns_origin)))
 
+-- a part that has the records at the origin is a zone
+pub part_is_zone : (zone : ZoneOf) (w : Key → Bool) → IsZone zone → ((k : Key) → k.0 ≡ zone.origin → w k ≡ true) → IsZone (part_of zone w)
+part_is_zone zone w z wide = zone_of_keys zone.origin (part zone.records w) z.not_root (keys_part zone.origin zone.records w (keys_of zone.origin zone.records z) wide)
+
 -- ---- the next version of the SOA
 
 next_on : (w : Key → Bool) (a b : Records) (soa : Option Record) → SameOn w a b → SameOn w (with_next a soa) (with_next b soa)
@@ -148,7 +152,7 @@ module _ (zone : ZoneOf) (update : UpdateOf) (w : Key → Bool) (z : IsZone zone
   whole_keys = keys_of zone.origin zone.records z
 
   part_zone : IsZone (part_of zone w)
-  part_zone = zone_of_keys zone.origin less z.not_root (keys_part zone.origin zone.records w whole_keys at_origin)
+  part_zone = part_is_zone zone w z at_origin
 
   settled_alike : SameOn w (zone_after (part_of zone w) update).records (zone_after zone update).records
   settled_alike = settled_on zone.origin w less (effects zone.origin less ops) zone.records (effects zone.origin zone.records ops) at_origin there after alike

@@ -4,7 +4,9 @@ ghost use Rattle.std.specs.Prelude.{◌≡◌, Some, IfOk};
 ghost use Rattle.zone_core.specs.Sets.{set_of, listing, part, at_name, at, within, InOrder, AreRows};
 ghost use Rattle.zone_core.specs.Zones.{IsZone, IsSoaOf, soa_at, serial_of};
 ghost use Rattle.zone_core.specs.Views.{zone_in, AreOfZone};
+ghost use Rattle.zone_core.specs.Parts.{part_of, at_names};
 
+use crate::merge::with_copies;
 use crate::rows;
 use dns_data::{Data, Record, RecordType};
 use dns_names::Name;
@@ -109,6 +111,19 @@ impl Zone {
         ensures { result.now ≡ listing (part self.now.records (within name.now)) }
     {
         rows::within(&self.records, name)
+    }
+
+    /// The zone that has those records of this one that are at its origin or at one of some names, in memory of its own. It is
+    /// all that an update at these names reads. The only error is want of memory.
+    pub fn part(&self, alloc: Global, names: &[Name]) -> Result<Zone, AllocError>
+        ensures { IfOk result (λ zone. zone ≡ part_of self.now (at_names self.now.origin names.now)) }
+    {
+        let origin = self.origin().try_copy(alloc)?;
+        let mut records = rows::copied(alloc, self.records_at(&self.origin))?;
+        for name in names {
+            records = with_copies(alloc, records, self.records_at(name))?;
+        }
+        Ok(Zone::of_rows(origin, rows::in_order(records)?))
     }
 
     /// An equal zone in memory of its own. The only error is want of memory.
