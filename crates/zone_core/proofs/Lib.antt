@@ -25,5 +25,6 @@ pub mod VersionLemmas
 pub mod SettleLemmas
 pub mod NeedLemmas
 pub mod GatherLemmas
+pub mod MetLemmas
 pub mod AccountLemmas
 pub mod LeaveLemmas

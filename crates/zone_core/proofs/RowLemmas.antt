@@ -160,7 +160,7 @@ some_in_run p rs seen bare order is e = ap not (e ∙ ap (λ (xs : List Record).
 
 -- ---- records that are in a row
 
-choice : {P : Type 0} (t : Bool) (r x : Record) (o : Option Record) → cond t (Some r) o ≡ Some x → (t ≡ true → r ≡ x → P) → (t ≡ false → o ≡ Some x → P) → P
+pub choice : {P : Type 0} (t : Bool) (r x : Record) (o : Option Record) → cond t (Some r) o ≡ Some x → (t ≡ true → r ≡ x → P) → (t ≡ false → o ≡ Some x → P) → P
 choice true r x o e here later = here refl cc
 choice false r x o e here later = later refl e
 

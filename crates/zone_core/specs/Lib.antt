@@ -13,5 +13,6 @@ pub mod Sites
 pub mod Merges
 pub mod Parts
 pub mod Accounts
+pub mod Met
 pub mod Versions
 pub mod Delegations

@@ -1,9 +1,10 @@
 //! Whether the prerequisites of an update hold (RFC 2136 section 3.2).
 
-ghost use Rattle.std.specs.Prelude.{◌≡◌};
+ghost use Rattle.std.specs.Prelude.{◌≡◌, ◌↔◌, Ok};
 ghost use Rattle.std.specs.Option.{option_copied, option_to_list};
 ghost use Rattle.std.specs.List.{list_any, list_all, flat_map};
 ghost use Rattle.zone_core.specs.Sets.{set_of, part, at, InOrder};
+ghost use Rattle.zone_core.specs.Met.{AreMet};
 ghost use Rattle.zone_core.specs.Prerequisites.{fails, set_fails, same_data, given_for, are_data, first_failed, verdict, failure};
 
 use crate::rcode::Rcode;
@@ -26,10 +27,19 @@ pub struct Failed {
 /// and then sets that are given whole, each named by its first item (RFC 2136 section 3.2). A name outside the zone has no
 /// records in it: `Update::outside` tells of such names.
 pub fn holds(zone: &Zone, update: &Update) -> Result<(), Failed>
-    ensures { failure result ≡ verdict zone.now.records update.now.prerequisites }
+    // All hold exactly where all are met.
+    ensures met { (result ≡ Ok tt) ↔ AreMet zone.now.records update.now.prerequisites }
+    // Else which one fails, and how.
+    ensures exact { failure result ≡ verdict zone.now.records update.now.prerequisites }
 {
-    let records = zone.records();
-    let prerequisites = update.prerequisites();
+    verdict(zone.records(), update.prerequisites())
+}
+
+/// The first prerequisite that does not hold among records.
+fn verdict(records: &[Record], prerequisites: &[Prerequisite]) -> Result<(), Failed>
+    requires { InOrder records.now }
+    ensures { failure result ≡ verdict (set_of records.now) prerequisites.now }
+{
     if let Some(failed) = first_failed(records, prerequisites) {
         return Err(failed);
     }

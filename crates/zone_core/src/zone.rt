@@ -70,6 +70,7 @@ impl Zone {
         ensures value { result.now ≡ listing self.now.records }
         ensures order { InOrder result.now }
         ensures set { set_of result.now ≡ self.now.records }
+        ensures zone { IsZone self.now }
     {
         &self.records
     }
