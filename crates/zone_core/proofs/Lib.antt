@@ -26,5 +26,6 @@ pub mod SettleLemmas
 pub mod NeedLemmas
 pub mod GatherLemmas
 pub mod MetLemmas
+pub mod NameListLemmas
 pub mod AccountLemmas
 pub mod LeaveLemmas

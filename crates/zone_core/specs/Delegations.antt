@@ -1,13 +1,19 @@
 -- Delegations (RFC 1034 section 4.2.1): a child zone, its servers, and the addresses of those within it.
-use Rattle.std.specs.Prelude.{ℕ, List, [], ◌∷◌, ◌++◌, length, map, Bool, not, ◌&&◌, ◌==◌, if◌then◌else◌, Result, Ok, Err}
-use Rattle.std.specs.List.{list_any, flat_map}
+use Rattle.std.specs.Prelude.{◌≡◌, ◌↔◌, ℕ, List, [], ◌∷◌, ◌++◌, length, map, Bool, not, ◌&&◌, ◌||◌, ◌==◌, if◌then◌else◌, Result, Ok, Err}
+use Rattle.std.specs.List.{AllByRecursion, Contains, list_any, filter, flat_map}
+use Rattle.std.specs.List.Sorted.{IsStrictlySortedBy}
 use Rattle.std.specs.declared.net.ip_addr.IpAddr.{IpAddr}
 use Rattle.std.specs.declared.net.ip_addr.IpAddr.TheVariants as addresses
 use Rattle.dns_names.specs.Labels.{is_within}
-use Rattle.dns_names.specs.Order.{same_name}
+use Rattle.dns_names.specs.Order.{canonical_cmp, same_name}
+use Rattle.dns_data.specs.declared.record.Record.{Record}
 use Rattle.dns_data.specs.declared.record_type.RecordType.TheVariants as types
 use Rattle.dns_data.specs.declared.rdata.Data.{Data}
 use Rattle.dns_data.specs.declared.rdata.Data.TheVariants as variants
+use Rattle.zone_core.specs.declared.report.Glue.{Glue}
+use Rattle.zone_core.specs.declared.report.Glue.TheVariants as glues
+use Rattle.zone_core.specs.declared.report.DelegatedServer.{DelegatedServer}
+use Rattle.zone_core.specs.declared.report.Delegation.{Delegation}
 use Rattle.zone_core.specs.declared.delegation.ChildServer.{ChildServer}
 use Rattle.zone_core.specs.declared.delegation.DelegationRequest.{DelegationRequest}
 use Rattle.zone_core.specs.declared.fault.DelegationFault.{DelegationFault}
@@ -15,6 +21,7 @@ use Rattle.zone_core.specs.declared.fault.DelegationFault.TheVariants.{NotBelowO
 use Rattle.zone_core.specs.declared.fault.UpdateFault.{UpdateFault}
 use Rattle.zone_core.specs.declared.update.Operation.{Operation}
 use Rattle.zone_core.specs.declared.update.Operation.TheVariants.{Add, DeleteRrset}
+use Rattle.zone_core.specs.Sets.{key_of, rank_of, set_of, has, at}
 use Rattle.zone_core.specs.Updates.{UpdateOf, update_of}
 
 -- whether a name is below another: within it, and not equal
@@ -71,3 +78,46 @@ delegation_of origin request =
     else (if length request.servers.items == 0 then Err NoServer
     else (if list_any (lacks_glue request.child) request.servers.items then Err GlueMissing
     else unless_too_many (update_of [] (delegation_operations request))))
+
+-- ---- the delegations in a zone
+
+-- the names of a list in canonical order (RFC 4034 section 6.1), each once
+pub record AreNamesOf (names all : List (List (List ℕ))) : Type 0 where
+  pub order : IsStrictlySortedBy canonical_cmp names
+  pub members : (name : List (List ℕ)) → Contains names name ↔ Contains all name
+
+-- the owner of an NS below the origin, where the zone is cut (RFC 2181 section 6)
+abbrev pub cut_owner : List (List ℕ) → Record → List (List (List ℕ))
+cut_owner origin r = if ((key_of r).1 == rank_of types.Ns) && is_below r.owner origin then r.owner ∷ [] else []
+
+-- the owners of all of them
+abbrev pub cut_owners : List (List ℕ) → List Record → List (List (List ℕ))
+cut_owners origin rs = flat_map (cut_owner origin) rs
+
+-- the server that an NS names
+abbrev pub server_in : Data → List (List (List ℕ))
+server_in (variants.Ns server) = server ∷ []
+server_in rdata = []
+
+-- the servers of a child among records
+abbrev pub server_names : List (List ℕ) → List Record → List (List (List ℕ))
+server_names child rs = flat_map (λ r. server_in r.rdata) (filter (λ r. at child types.Ns (key_of r)) rs)
+
+-- What there is of a server's glue among records: none is needed outside the child, and within it an A or AAAA is there or not.
+abbrev pub glue_of : List Record → List (List ℕ) → List (List ℕ) → Glue
+glue_of rs child server =
+    if not (is_within server child) then glues.Outside
+    else (if has (set_of rs) (at server types.A) || has (set_of rs) (at server types.Aaaa) then glues.Listed else glues.Unlisted)
+
+-- a server of a child, with its glue
+abbrev pub server_of : List Record → List (List ℕ) → List (List ℕ) → DelegatedServer
+server_of rs child server = record { name = server; glue = glue_of rs child server }
+
+-- a delegation that records make: its servers in canonical order, each with its glue
+abbrev pub IsDelegation : List Record → Delegation → Type 0
+IsDelegation rs d = (names : List (List (List ℕ))) × AreNamesOf names (server_names d.child rs) × (d.servers.items ≡ map (server_of rs d.child) names)
+
+-- the delegations that records make, in the canonical order of the children, which are the cuts
+pub record AreDelegations (origin : List (List ℕ)) (rs : List Record) (ds : List Delegation) : Type 0 where
+  pub children : AreNamesOf (map (λ d. d.child) ds) (cut_owners origin rs)
+  pub each : AllByRecursion (IsDelegation rs) ds

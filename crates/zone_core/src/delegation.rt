@@ -57,7 +57,7 @@ pub fn delegation_update(
 }
 
 /// Whether a name is below another.
-fn is_below(name: &Name, top: &Name) -> bool
+pub(crate) fn is_below(name: &Name, top: &Name) -> bool
     ensures { result ≡ is_below name.now top.now }
 {
     name.is_within(top) && name != top

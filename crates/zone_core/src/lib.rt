@@ -13,6 +13,7 @@ mod merge;
 mod notes;
 mod outcome;
 mod rcode;
+mod report;
 mod rows;
 mod serial;
 mod settle;
@@ -29,6 +30,7 @@ pub use laws::{
 };
 pub use outcome::{Outcome, apply, apply_owned};
 pub use rcode::Rcode;
+pub use report::{DelegatedServer, Delegation, Glue, cuts, delegation_report};
 pub use serial::{serial_add, serial_less};
 pub use update::{ItemList, Operation, Place, Prerequisite, Update};
 pub use verdict::{Failed, holds};

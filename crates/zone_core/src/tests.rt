@@ -846,3 +846,73 @@ fn delegations_that_are_refused(rt: HostRuntime) -> Result<(), Fail> {
     assert_eq!(rt; made.err().map(|fault| fault.number()), Some(89));
     Ok(())
 }
+
+/// Records with delegations, the cuts, and the report: children with a bar between them, each with its servers and their glue.
+const REPORTS: [(&[&str], &str, &str); 4] = [
+    (
+        &[],
+        "",
+        "no delegation: the servers of the origin make no cut",
+    ),
+    (
+        &[
+            "p.example.org. 60 NS ns1.p.example.org.",
+            "p.example.org. 60 NS ns.example.net.",
+            "ns1.p.example.org. 60 A 192.0.2.53",
+        ],
+        "p.example.org. ns.example.net. outside ns1.p.example.org. listed",
+        "servers in canonical order, org behind net",
+    ),
+    (
+        &[
+            "q.example.org. 60 NS q.example.org.",
+            "q.example.org. 60 NS a.b.q.example.org.",
+            "a.b.q.example.org. 60 AAAA 2001:db8::1",
+            "p.example.org. 60 NS ns1.q.example.org.",
+        ],
+        "p.example.org. ns1.q.example.org. outside|q.example.org. q.example.org. unlisted a.b.q.example.org. listed",
+        "a child that is its own server, an IPv6 address, and a server in another child",
+    ),
+    (
+        &[
+            "a.p.example.org. 60 NS b.p.example.org.",
+            "p.example.org. 60 NS a.p.example.org.",
+            "a.p.example.org. 60 TXT x",
+        ],
+        "p.example.org. a.p.example.org. unlisted|a.p.example.org. b.p.example.org. outside",
+        "a cut below a cut; a record of another type is no glue",
+    ),
+];
+
+/// What there is of glue, in a word.
+fn glue(glue: Glue) -> &'static str {
+    match glue {
+        Glue::Outside => "outside",
+        Glue::Listed => "listed",
+        Glue::Unlisted => "unlisted",
+    }
+}
+
+#[test]
+fn delegations_that_are_reported(rt: HostRuntime) -> Result<(), Fail> {
+    let alloc = rt.alloc();
+    for (more, want, why) in REPORTS {
+        let zone = zone(alloc, more)?;
+        let report = delegation_report(alloc, zone.origin(), zone.records())?;
+        let mut text = String::new(alloc);
+        for (i, delegation) in report.iter().enumerate() {
+            if i > 0 {
+                text.push_str("|")?;
+            }
+            text.push_str(delegation.child.text(alloc)?.as_str())?;
+            for server in &delegation.servers {
+                let name = server.name.text(alloc)?;
+                write!(text, " {} {}", name.as_str(), glue(server.glue))?;
+            }
+        }
+        assert_eq!(rt; text.as_str(), want, "{why}");
+        let names = cuts(alloc, zone.origin(), zone.records())?;
+        assert_eq!(rt; names.len(), report.len(), "{why}");
+    }
+    Ok(())
+}

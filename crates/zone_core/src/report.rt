@@ -1,0 +1,172 @@
+//! The delegations in a zone: where it is cut (RFC 2181 section 6), and the servers of each child.
+
+ghost use Rattle.std.specs.Prelude.{◌≡◌, ◌++◌, ◌&&◌, ◌==◌, IfOk};
+ghost use Rattle.std.specs.List.{flat_map};
+ghost use Rattle.dns_data.specs.declared.record_type.RecordType.TheVariants.{Ns};
+ghost use Rattle.zone_core.specs.Sets.{key_of, rank_of, InOrder};
+ghost use Rattle.zone_core.specs.Delegations.{is_below, AreNamesOf, cut_owner, cut_owners, server_in, server_names, glue_of, server_of, IsDelegation, AreDelegations};
+
+use crate::delegation::is_below;
+use crate::rows::{has_set, has_type, of_set};
+use dns_data::{Data, Record, RecordType};
+use dns_names::Name;
+use std::alloc::{AllocError, Global};
+
+/// What there is of a server's addresses, its glue (RFC 1034 section 4.2.1).
+#[derive(Clone, Copy, Debug, PartialEq, Eq)]
+pub enum Glue {
+    /// The server is not within the child, and needs none.
+    Outside,
+    /// An A or AAAA of the server is there.
+    Listed,
+    /// The server is within the child, and there is none.
+    Unlisted,
+}
+
+/// A server of a child zone, and what there is of its glue.
+#[derive(Debug, Drop)]
+pub struct DelegatedServer {
+    pub name: Name,
+    pub glue: Glue,
+}
+
+/// A child zone and its servers, in canonical order.
+#[derive(Debug, Drop)]
+pub struct Delegation {
+    pub child: Name,
+    pub servers: Vec<DelegatedServer>,
+}
+
+/// Names in canonical order (RFC 4034 section 6.1), each once. The only error is want of memory.
+fn ordered(mut names: Vec<Name>) -> Result<Vec<Name>, AllocError>
+    ensures { IfOk result (λ ordered. AreNamesOf ordered.items names.items) }
+{
+    names.sort()?;
+    names.dedup();
+    Ok(names)
+}
+
+/// Whether a zone of this origin is cut at the owner of a record.
+fn is_cut(origin: &Name, rr: &Record) -> bool
+    ensures { result ≡ (((key_of rr.now).1 == rank_of Ns) && is_below rr.now.owner origin.now) }
+{
+    has_type(rr, RecordType::Ns) && is_below(&rr.owner, origin)
+}
+
+/// Names, and the owner of a record, if a zone of this origin is cut there.
+fn with_cut(
+    alloc: Global,
+    mut names: Vec<Name>,
+    origin: &Name,
+    rr: &Record,
+) -> Result<Vec<Name>, AllocError>
+    ensures { IfOk result (λ all. all.items ≡ names.items ++ cut_owner origin.now rr.now) }
+{
+    if is_cut(origin, rr) {
+        names.push(rr.owner.try_copy(alloc)?)?;
+    }
+    Ok(names)
+}
+
+/// The cuts that records of a zone of this origin make: the names below the origin that own an NS (RFC 2181 section 6), in
+/// canonical order. The only error is want of memory.
+pub fn cuts(alloc: Global, origin: &Name, records: &[Record]) -> Result<Vec<Name>, AllocError>
+    ensures { IfOk result (λ names. AreNamesOf names.items (cut_owners origin.now records.now)) }
+{
+    let mut names = Vec::new(alloc);
+    for record in records {
+        names = with_cut(alloc, names, origin, record)?;
+    }
+    ordered(names)
+}
+
+/// Names, and the server that data name, if they are those of an NS.
+fn with_server(alloc: Global, mut names: Vec<Name>, rdata: &Data) -> Result<Vec<Name>, AllocError>
+    ensures { IfOk result (λ all. all.items ≡ names.items ++ server_in rdata.now) }
+{
+    if let Data::Ns(server) = rdata {
+        names.push(server.try_copy(alloc)?)?;
+    }
+    Ok(names)
+}
+
+/// The servers of a child among records in record order.
+fn server_names(alloc: Global, records: &[Record], child: &Name) -> Result<Vec<Name>, AllocError>
+    requires { InOrder records.now }
+    ensures { IfOk result (λ names. AreNamesOf names.items (server_names child.now records.now)) }
+{
+    let set = of_set(records, child, RecordType::Ns);
+    let mut names = Vec::new(alloc);
+    for record in set {
+        names = with_server(alloc, names, &record.rdata)?;
+    }
+    ordered(names)
+}
+
+/// What there is of a server's glue among records in record order.
+fn glue_of(records: &[Record], child: &Name, server: &Name) -> Glue
+    requires { InOrder records.now }
+    ensures { result ≡ glue_of records.now child.now server.now }
+{
+    if !server.is_within(child) {
+        Glue::Outside
+    } else if has_set(records, server, RecordType::A)
+        || has_set(records, server, RecordType::Aaaa)
+    {
+        Glue::Listed
+    } else {
+        Glue::Unlisted
+    }
+}
+
+/// A server of a child, with its glue.
+fn server_of(
+    alloc: Global,
+    records: &[Record],
+    child: &Name,
+    server: &Name,
+) -> Result<DelegatedServer, AllocError>
+    requires { InOrder records.now }
+    ensures { IfOk result (λ s. s ≡ server_of records.now child.now server.now) }
+{
+    Ok(DelegatedServer {
+        name: server.try_copy(alloc)?,
+        glue: glue_of(records, child, server),
+    })
+}
+
+/// The delegation of a child.
+fn delegation_of(alloc: Global, records: &[Record], child: &Name) -> Result<Delegation, AllocError>
+    requires { InOrder records.now }
+    ensures child { IfOk result (λ d. d.child ≡ child.now) }
+    ensures servers { IfOk result (IsDelegation records.now) }
+{
+    let names = server_names(alloc, records, child)?;
+    let mut servers = Vec::with_capacity(alloc, names.len())?;
+    for name in &names {
+        servers.push(server_of(alloc, records, child, name)?)?;
+    }
+    Ok(Delegation {
+        child: child.try_copy(alloc)?,
+        servers,
+    })
+}
+
+/// The delegations that records of a zone of this origin make, in the canonical order of the children: each with its servers
+/// in that order, and what there is of their glue among these records. The records stand in record order, as those of a zone
+/// do, and what is left of them. The only error is want of memory.
+pub fn delegation_report(
+    alloc: Global,
+    origin: &Name,
+    records: &[Record],
+) -> Result<Vec<Delegation>, AllocError>
+    requires { InOrder records.now }
+    ensures { IfOk result (λ ds. AreDelegations origin.now records.now ds.items) }
+{
+    let children = cuts(alloc, origin, records)?;
+    let mut delegations = Vec::with_capacity(alloc, children.len())?;
+    for child in &children {
+        delegations.push(delegation_of(alloc, records, child)?)?;
+    }
+    Ok(delegations)
+}
