@@ -1,0 +1,6 @@
+pub mod Faults
+pub mod ItemLines
+pub mod Reading
+pub mod Views
+pub mod Lists
+pub mod Texts
