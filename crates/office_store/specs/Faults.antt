@@ -13,7 +13,7 @@ use Rattle.office_store.specs.declared.fault.ItemsFault.TheVariants.{BadLine, Up
 use Rattle.office_store.specs.declared.item_fault.ItemFault.{ItemFault}
 use Rattle.office_store.specs.declared.item_fault.ItemFault.TheVariants as entries
 
--- the published number of a refusal
+-- the published number of a refusal: 97 for a line, those of updates (89 and 92), and 99 for want of memory
 abbrev pub fault_number : ItemsFault → ℕ
 fault_number (BadLine line) = 97
 fault_number (Update fault) = update_fault_number fault

@@ -2,5 +2,4 @@ pub mod Faults
 pub mod ItemLines
 pub mod Reading
 pub mod Views
-pub mod Lists
 pub mod Texts

@@ -55,6 +55,7 @@ ttl_at item = unquoted item >>? λ raw. result_ok (duration_of 2147483647 raw)
 abbrev pub type_named : List ℕ → Option RecordType
 type_named raw = find (λ t. str_eq_ignore_ascii_case (type_text t) raw) kept_types
 
+-- a type
 abbrev pub type_at : ItemText → Option RecordType
 type_at item = unquoted item >>? type_named
 
@@ -105,17 +106,19 @@ operation_of changes.DeleteRrset texts = set_at texts >>? λ s. Some (DeleteRrse
 operation_of changes.DeleteName texts = name_alone texts >>? λ name. Some (DeleteName name)
 operation_of changes.DeleteRecord texts = datum_at texts >>? λ d. Some (DeleteRecord d.0 d.1)
 
--- the kinds that there are
+-- the kinds of prerequisites that there are (RFC 2136 section 2.4)
 abbrev pub prerequisite_kinds : List PrerequisiteKind
 prerequisite_kinds = tests.RrsetExists ∷ tests.RrsetEquals ∷ tests.RrsetAbsent ∷ tests.NameUsed ∷ tests.NameUnused ∷ []
 
+-- the kinds of operations that there are (RFC 2136 section 2.5)
 abbrev pub operation_kinds : List OperationKind
 operation_kinds = changes.Add ∷ changes.DeleteRrset ∷ changes.DeleteName ∷ changes.DeleteRecord ∷ []
 
--- the kind of this word, as it is written
+-- the kind of prerequisite that is called so, as it is written
 abbrev pub prerequisite_named : List ℕ → Option PrerequisiteKind
 prerequisite_named word = find (λ kind. bytes_eq (prerequisite_word kind) word) prerequisite_kinds
 
+-- the kind of operation that is called so, as it is written
 abbrev pub operation_named : List ℕ → Option OperationKind
 operation_named word = find (λ kind. bytes_eq (operation_word kind) word) operation_kinds
 
@@ -141,15 +144,16 @@ pub record EntryLine : Type 0 where
   pub line : ℕ
   pub items : List ItemText
 
--- the two lists of items
+-- no prerequisites and no operations
 abbrev pub no_items : UpdateOf
 no_items = record { prerequisites = []; operations = [] }
 
+-- an item alone, in its list
 abbrev pub one_item : UpdateItem → UpdateOf
 one_item (items.Prerequisite p) = record { prerequisites = p ∷ []; operations = [] }
 one_item (items.Operation op) = record { prerequisites = []; operations = op ∷ [] }
 
--- the lists of items behind those of others
+-- two lists behind two others, each behind its own
 abbrev pub behind : UpdateOf → UpdateOf → UpdateOf
 behind front back = record { prerequisites = front.prerequisites ++ back.prerequisites; operations = front.operations ++ back.operations }
 

@@ -18,12 +18,15 @@ use Rattle.zone_core.specs.Updates.{UpdateOf}
 
 -- ---- fields, as they are printed
 
+-- a name and a type
 abbrev pub set_items : List (List ℕ) → RecordType → List ItemText
 set_items name record_type = plain (name_text name) ∷ plain (type_text record_type) ∷ []
 
+-- a name, a type and data of it
 abbrev pub datum_items : List (List ℕ) → Data → List ItemText
 datum_items name rdata = plain (name_text name) ∷ plain (type_text (type_of rdata)) ∷ data_items rdata
 
+-- a name, a TTL in seconds, a type and data of it
 abbrev pub record_items : Record → List ItemText
 record_items r = plain (name_text r.owner) ∷ plain (decimal r.ttl) ∷ plain (type_text (type_of r.rdata)) ∷ data_items r.rdata
 
@@ -44,18 +47,21 @@ change_items (DeleteRrset name record_type) = set_items name record_type
 change_items (DeleteName name) = plain (name_text name) ∷ []
 change_items (DeleteRecord name rdata) = datum_items name rdata
 
+-- the word of a prerequisite, and what is printed behind it
 abbrev pub prerequisite_items : Prerequisite → List ItemText
 prerequisite_items p = plain (prerequisite_word (prerequisite_kind p)) ∷ test_items p
 
+-- the word of an operation, and what is printed behind it
 abbrev pub operation_items : Operation → List ItemText
 operation_items op = plain (operation_word (operation_kind op)) ∷ change_items op
 
 -- ---- lines
 
--- items with one space between them, and the line's end
+-- the items of a prerequisite with one space between them, and the line's end
 abbrev pub prerequisite_line : Prerequisite → List ℕ
 prerequisite_line p = items_text (prerequisite_items p) ++ 10 ∷ []
 
+-- the items of an operation with one space between them, and the line's end
 abbrev pub operation_line : Operation → List ℕ
 operation_line op = items_text (operation_items op) ++ 10 ∷ []
 

@@ -1,8 +1,10 @@
--- The entries of tokens.
+-- What the calls of the reader take and answer: tokens by their entries, and the lists of items.
 use Rattle.std.specs.Prelude.{ℕ, List, [], ◌∷◌, map, Bool, true, false, ◌==◌}
 use Rattle.dns_data.specs.Items.{ItemText, item_of}
 use Rattle.dns_master.specs.declared.token.Token.{Token}
 use Rattle.dns_master.specs.Tokens.{TokenText}
+use Rattle.zone_core.specs.Updates.{UpdateOf}
+use Rattle.office_store.specs.declared.reading.ItemLists.{ItemLists}
 use Rattle.office_store.specs.Reading.{EntryLine}
 
 -- the items of tokens, without their places
@@ -23,3 +25,7 @@ before more t es = (record { line = t.line; items = t.item ∷ [] }) ∷ es
 abbrev pub gathered : List TokenText → List EntryLine
 gathered [] = []
 gathered (t ∷ ts) = before (goes_on t.entry ts) t (gathered ts)
+
+-- the prerequisites and the operations that were read
+abbrev pub lists_view : ItemLists → UpdateOf
+lists_view lists = record { prerequisites = lists.prerequisites.items; operations = lists.operations.items }

@@ -7,8 +7,7 @@ ghost use Rattle.zone_core.specs.Updates.{UpdateOf, IsUpdate, update_of};
 ghost use Rattle.office_store.specs.ItemLines.{IsUpdateText};
 ghost use Rattle.office_store.specs.Faults.{Gives, of_shape, of_updates};
 ghost use Rattle.office_store.specs.Reading.{update_item, no_items, behind, one_item, or_bad_line, lists_in, lists_of, items_of};
-ghost use Rattle.office_store.specs.Lists.{lists_view};
-ghost use Rattle.office_store.specs.Views.{entry_of, gathered};
+ghost use Rattle.office_store.specs.Views.{entry_of, gathered, lists_view};
 
 use crate::fault::ItemsFault;
 use crate::item::{UpdateItem, read_item};

@@ -1,8 +1,7 @@
 use Rattle.std.proofs.Common.{◌≡◌, ◌≤◌, ◌-◌, map, length, drop}
 use Rattle.dns_master.specs.Tokens.{token_of}
 use Rattle.office_store.specs.Reading.{lists_in}
-use Rattle.office_store.specs.Views.{gathered}
-use Rattle.office_store.specs.Lists.{lists_view}
+use Rattle.office_store.specs.Views.{gathered, lists_view}
 use Rattle.office_store.proofs.GatherLemmas.{then_lists}
 use Rattle.office_store.proofs.reading.read_lists.Given as goal
 
