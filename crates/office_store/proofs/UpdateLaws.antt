@@ -123,7 +123,3 @@ text_only text update h =
 pub given : (P : UpdateOf → Type 0) (r read : Result UpdateOf ItemsFault) → ((u : UpdateOf) → read ≡ Ok u → P u) → Gives (λ u. u) r read → IfOk r P
 given P (Ok x) read all h = all x h
 given P (Err e) read all h = tt
-
-pub both : (P Q : UpdateOf → Type 0) (r : Result UpdateOf ItemsFault) → IfOk r P → IfOk r Q → IfOk r (λ u. P u × Q u)
-both P Q (Ok x) h k = (h, k)
-both P Q (Err e) h k = tt

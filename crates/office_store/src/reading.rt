@@ -151,8 +151,10 @@ fn notes_octets(text: &[u8])
 /// the text it is, as `dns_master::tokens` has it; `BadLine` with the line of the first item of the first entry that is no item;
 /// `Update` with `TooManyItems`, and then with `TwoSoa`. `NoMemory` comes at the growth that was refused.
 pub fn read_items(alloc: Global, text: &[u8]) -> Result<Update, ItemsFault>
-    // What is read is an update whose items the text has.
-    ensures found { IfOk result (λ update. IsUpdateText text.now update × IsUpdate update) }
+    // The text has the items of what is read.
+    ensures found { IfOk result (IsUpdateText text.now) }
+    // What is read is an update.
+    ensures update { IfOk result IsUpdate }
     // A text that has the items of two lists is read as the update of these lists, or refused as they are, unless memory runs out.
     ensures only { (update : UpdateOf) → IsUpdateText text.now update → Gives (λ u. u) result (of_updates (update_of update.prerequisites update.operations)) }
     // Which refusal it is.
