@@ -9,7 +9,7 @@ use Rattle.dns_master.specs.declared.entry_fault.EntryFault.{EntryFault}
 use Rattle.dns_master.specs.declared.entry_fault.EntryFault.TheVariants as faults
 use Rattle.dns_master.specs.declared.field.Part.{Part}
 use Rattle.dns_master.specs.declared.field.Part.TheVariants as parts
-use Rattle.dns_master.specs.declared.field.Read.{Read}
+use Rattle.dns_master.specs.declared.field.TtlAndClass.{TtlAndClass}
 use Rattle.dns_master.specs.EntryFaults.{◌>>=◌, RefusesEntry}
 use Rattle.dns_master.specs.Fields.{LeadText, part_of, with_part, lead_of}
 
@@ -19,7 +19,7 @@ items_from items i d h =
     let next : suc i ≡ i + 1 = omega arith in
     drop-map item_of i items ∙ ap (map item_of) (drop-cons items i d h) ∙ ap (λ (xs : List ItemText). item_of (get_or items i d) ∷ xs) (sym (drop-map item_of (suc i) items) ∙ ap (λ (n : ℕ). drop n (map item_of items)) next)
 
-module _ (items : List Item) (i : ℕ) (d : Item) (read first : Read) (h : i < length items) (so_far : lead_of first (map item_of items) ≡ lead_of read (drop i (map item_of items))) where
+module _ (items : List Item) (i : ℕ) (d : Item) (read first : TtlAndClass) (h : i < length items) (so_far : lead_of first (map item_of items) ≡ lead_of read (drop i (map item_of items))) where
   behind : List ItemText
   behind = drop (i + 1) (map item_of items)
 
@@ -29,7 +29,7 @@ module _ (items : List Item) (i : ℕ) (d : Item) (read first : Read) (h : i < l
   abbrev after : Result Part EntryFault → Result LeadText EntryFault
   after r = r >>= λ part. with_part part (drop (i + 1) (map item_of items)) (λ next. lead_of next (drop (i + 1) (map item_of items)))
 
-  pub lead_more : (part : Part) (next : Read) → part_of read (item_of (get_or items i d)) ≡ Ok part → part ≡ parts.More next → lead_of first (map item_of items) ≡ lead_of next (drop (i + 1) (map item_of items))
+  pub lead_more : (part : Part) (next : TtlAndClass) → part_of read (item_of (get_or items i d)) ≡ Ok part → part ≡ parts.More next → lead_of first (map item_of items) ≡ lead_of next (drop (i + 1) (map item_of items))
   lead_more part next e m = step ∙ ap after (e ∙ ap (λ (p : Part). Ok p) m)
 
   pub lead_ends : (part : Part) (ttl : Option ℕ) (t : RecordType) → part_of read (item_of (get_or items i d)) ≡ Ok part → part ≡ parts.«Type» ttl t → lead_of first (map item_of items) ≡ Ok (ttl, t, drop (i + 1) (map item_of items))

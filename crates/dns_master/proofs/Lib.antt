@@ -15,6 +15,8 @@ pub mod FileLemmas
 pub mod GrammarLaws
 pub mod FoundLaws
 pub mod ByteLaws
+pub mod FilledLaws
+pub mod TokenLaws
 pub mod CutLaws
 pub mod FileLaws
 pub mod CleanLaws

@@ -7,7 +7,7 @@ use Rattle.dns_master.specs.Pieces.{Piece, LineEnd, White, Quoted, Plain, Placed
 use Rattle.dns_master.specs.Grammar.{ArePieces}
 use Rattle.dns_master.specs.Entries.{◌>>=◌, Found, Entry, Split, with_entry, add, end_of, is_white_piece, begins_white, at_piece, split, white_first, entries}
 use Rattle.dns_master.specs.Reader.{text_of}
-use Rattle.dns_master.proofs.EntryLemmas.{white_begins}
+use Rattle.dns_master.proofs.EntryLemmas.{white_begins, from_end}
 use Rattle.dns_master.proofs.GrammarLaws.{pieces_once}
 use Rattle.dns_master.proofs.CleanLaws.{runs_are, CleanAt, Clean}
 
@@ -194,3 +194,8 @@ lines_read line lines some h =
       ap (λ (r : Result Split ShapeFault). r >>= λ x. Ok (with_entry (white_first text) x.first x.others)) read,
       one_entry (white_first text) s.found.first s.found.others line lines white some.some s.first s.others,
     )
+
+-- also where there are none
+pub all_lines_read : (lines : List (List ItemText)) → AllByRecursion CleanLine lines → (es : List Entry) × (entries (flat_map line_text lines) ≡ Ok es) × AreLines es lines
+all_lines_read [] h = ([], ap (λ (r : Result Split ShapeFault). r >>= λ s. Ok (with_entry false s.first s.others)) (from_end 0 0), tt)
+all_lines_read (line ∷ lines) h = lines_read line lines h.0 h.1

@@ -20,7 +20,7 @@ use Rattle.dns_master.specs.declared.entry_fault.EntryFault.{EntryFault}
 use Rattle.dns_master.specs.declared.entry_fault.EntryFault.TheVariants.{ClassNotIn, Data}
 use Rattle.dns_master.specs.declared.field.Part.{Part}
 use Rattle.dns_master.specs.declared.field.Part.TheVariants as parts
-use Rattle.dns_master.specs.declared.field.Read.{Read}
+use Rattle.dns_master.specs.declared.field.TtlAndClass.{TtlAndClass}
 use Rattle.dns_master.specs.EntryFaults.{◌>>=◌}
 use Rattle.dns_master.specs.Fields.{LeadText, unquoted, ttl_of, in_ttl, type_of_text, begins_with_digit, is_other_class, part_in, part_of, with_part, lead_of}
 use Rattle.dns_master.specs.EntryGrammar.{IsWord, SpellsTtl, IsClassOrNone, AreTtlAndClass}
@@ -146,7 +146,7 @@ and_none true b e = e
 and_none false b e = refl
 
 -- an item that is called as a type is that type
-pub part_type : (read : Read) (raw : List ℕ) (t : RecordType) → IsCalled t raw → part_of read (plain raw) ≡ Ok (parts.«Type» read.ttl t)
+pub part_type : (read : TtlAndClass) (raw : List ℕ) (t : RecordType) → IsCalled t raw → part_of read (plain raw) ≡ Ok (parts.«Type» read.ttl t)
 part_type read raw t h =
     let digit : begins_with_digit raw ≡ false = sym (digit_first raw) ∙ ap begins_with_digit h ∙ type_no_digit t in
     let class = neither (str_eq_ignore_ascii_case raw (codes "IN")) (is_other_class raw) (class_by_case raw (type_text t) h ∙ type_no_class t) in
@@ -174,7 +174,7 @@ not_yet false b e = (refl, e)
 not_yet true b e = absurd cc
 
 -- a TTL where none was read, the class where none was read, or the type
-abbrev pub IsPart : Read → List ℕ → Part → Type 0
+abbrev pub IsPart : TtlAndClass → List ℕ → Part → Type 0
 IsPart read raw part =
     ((read.ttl ≡ None) × ((ttl : ℕ) × SpellsTtl ttl raw × (part ≡ parts.More (record { ttl = Some ttl; has_class = read.has_class }))))
     ⊎ (((read.has_class ≡ false) × IsWord (codes "IN") raw × (part ≡ parts.More (record { ttl = read.ttl; has_class = true })))
@@ -183,7 +183,7 @@ IsPart read raw part =
 ok_same : {A : Type 0} (x y : A) → ◌≡◌ {A = Result A EntryFault} (Ok x) (Ok y) → y ≡ x
 ok_same x y e = cc
 
-raw_part : (read : Read) (raw : List ℕ) (part : Part) → part_in read raw ≡ Ok part → IsPart read raw part
+raw_part : (read : TtlAndClass) (raw : List ℕ) (part : Part) → part_in read raw ≡ Ok part → IsPart read raw part
 raw_part read raw part =
     let Reads : Result Part EntryFault → Type 0 = λ r. r ≡ Ok part → IsPart read raw part in
     cond_both (not (is_some read.ttl) && begins_with_digit raw) (ttl_of raw >>= λ ttl. Ok (parts.More (record { ttl = Some ttl; has_class = read.has_class }))) _ Reads
@@ -196,7 +196,7 @@ raw_part read raw part =
     (λ _. cond_both (not read.has_class && is_other_class raw) (Err ClassNotIn) _ Reads (λ is e. absurd cc)
     (λ _ e. let s = step_ok (type_of_text raw) (λ t. Ok (parts.«Type» read.ttl t)) part e in inr (inr (s.0, (type_read raw s.0).0 s.1, ok_same _ _ s.2)))))
 
-pub part_found : (read : Read) (item : ItemText) (part : Part) → part_of read item ≡ Ok part → (raw : List ℕ) × (item ≡ plain raw) × IsPart read raw part
+pub part_found : (read : TtlAndClass) (item : ItemText) (part : Part) → part_of read item ≡ Ok part → (raw : List ℕ) × (item ≡ plain raw) × IsPart read raw part
 part_found read item part e =
     let s = step_ok (unquoted item) (part_in read) part e in
     (s.0, unquoted_is item s.0 s.1, raw_part read s.0 part s.2)
@@ -230,7 +230,7 @@ follow_class None None raw lead h f = one_class raw lead h f
 follow_class None (Some ttl) raw lead h f = (plain raw ∷ [], [], f.0, ap (λ (l : List ItemText). plain raw ∷ l) f.1, f.2, inl (one_class raw [] h refl, refl))
 
 -- TTL, class and type that were read
-pub record LeadRead (read : Read) (items : List ItemText) (x : LeadText) : Type 0 where
+pub record LeadRead (read : TtlAndClass) (items : List ItemText) (x : LeadText) : Type 0 where
   pub lead : List ItemText
   pub kind : List ℕ
   pub items_are : items ≡ lead ++ plain kind ∷ x.2
@@ -240,7 +240,7 @@ pub record LeadRead (read : Read) (items : List ItemText) (x : LeadText) : Type 
 abbrev more_of : List ItemText → Part → Result LeadText EntryFault
 more_of items part = with_part part items (λ next. lead_of next items)
 
-pub lead_found : (read : Read) (items : List ItemText) (x : LeadText) → lead_of read items ≡ Ok x → LeadRead read items x
+pub lead_found : (read : TtlAndClass) (items : List ItemText) (x : LeadText) → lead_of read items ≡ Ok x → LeadRead read items x
 lead_found read [] x e = absurd cc
 lead_found read (item ∷ items) x e =
     let s = step_ok (part_of read item) (more_of items) x e in

@@ -17,7 +17,7 @@ use Rattle.dns_data.proofs.FieldLaws.{AreBytes, name_found, name_only}
 use Rattle.dns_data.proofs.DataLaws.{data_found, data_only}
 use Rattle.dns_master.specs.declared.entry_fault.EntryFault.{EntryFault}
 use Rattle.dns_master.specs.declared.entry_fault.EntryFault.TheVariants.{DirectiveNotKept}
-use Rattle.dns_master.specs.declared.field.Read.{Read}
+use Rattle.dns_master.specs.declared.field.TtlAndClass.{TtlAndClass}
 use Rattle.dns_master.specs.declared.statement.StatedRecord.{StatedRecord}
 use Rattle.dns_master.specs.declared.statement.Statement.{Statement}
 use Rattle.dns_master.specs.declared.statement.Statement.TheVariants.{Origin, DefaultTtl, Record}
@@ -115,7 +115,7 @@ fields_bytes lead kind fields items e bytes = (All-parts (λ item. IsBytes item.
 
 record_found : (origin : Labels) (owner : Option Labels) (white : Bool) (items : List ItemText) (s : Statement) → IsName origin → AreBytes items → record_of origin owner white items ≡ Ok s → (stated : StatedRecord) × (s ≡ Record stated) × StatesRecord origin white items stated
 record_found origin owner white items s is bytes e =
-    let start : Read = record { ttl = None; has_class = false } in
+    let start : TtlAndClass = record { ttl = None; has_class = false } in
     let a = step_ok (owner_of origin owner white items) _ s e in
     let b = step_ok (lead_of start (behind_owner white items)) _ s a.2 in
     let d = step_ok (of_datas (data_of b.0.1 (Some origin) b.0.2)) _ s b.2 in
@@ -202,7 +202,7 @@ abbrev pub HasOwner : Option Labels → Option Labels → Type 0
 HasOwner None None = ⊥
 HasOwner own owner = Unit {0}
 
-abbrev start : Read
+abbrev start : TtlAndClass
 start = record { ttl = None; has_class = false }
 
 after_owner : (origin : Labels) (owner : Option Labels) (white : Bool) (items lead fields : List ItemText) (kind : List ℕ) (own : Option Labels) (stated : StatedRecord) → IsName origin

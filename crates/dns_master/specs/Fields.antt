@@ -15,7 +15,7 @@ use Rattle.dns_master.specs.declared.entry_fault.EntryFault.{EntryFault}
 use Rattle.dns_master.specs.declared.entry_fault.EntryFault.TheVariants.{ClassNotIn, BadTtl, Data, EntryShort}
 use Rattle.dns_master.specs.declared.field.Part.{Part}
 use Rattle.dns_master.specs.declared.field.Part.TheVariants as parts
-use Rattle.dns_master.specs.declared.field.Read.{Read}
+use Rattle.dns_master.specs.declared.field.TtlAndClass.{TtlAndClass}
 use Rattle.dns_master.specs.declared.field.Lead.{Lead}
 use Rattle.dns_master.specs.EntryFaults.{◌>>=◌, of_datas}
 
@@ -54,14 +54,14 @@ is_other_class raw =
 
 -- What an item between the owner and the data is: while no TTL was read, one that begins with a digit is a TTL; while no class
 -- was read, one that names a class is it; any other stands in the type's place.
-abbrev pub part_in : Read → List ℕ → Result Part EntryFault
+abbrev pub part_in : TtlAndClass → List ℕ → Result Part EntryFault
 part_in read raw =
     if not (is_some read.ttl) && begins_with_digit raw then (ttl_of raw >>= λ ttl. Ok (parts.More (record { ttl = Some ttl; has_class = read.has_class })))
     else (if not read.has_class && str_eq_ignore_ascii_case raw (codes "IN") then Ok (parts.More (record { ttl = read.ttl; has_class = true }))
     else (if not read.has_class && is_other_class raw then Err ClassNotIn
     else (type_of_text raw >>= λ t. Ok (parts.«Type» read.ttl t))))
 
-abbrev pub part_of : Read → ItemText → Result Part EntryFault
+abbrev pub part_of : TtlAndClass → ItemText → Result Part EntryFault
 part_of read item = unquoted item >>= part_in read
 
 -- the TTL if there is one, the type, and the items of the data
@@ -69,12 +69,12 @@ abbrev pub LeadText : Type 0
 LeadText = Option ℕ × RecordType × List ItemText
 
 -- what an item does, before these items
-abbrev pub with_part : Part → List ItemText → (Read → Result LeadText EntryFault) → Result LeadText EntryFault
+abbrev pub with_part : Part → List ItemText → (TtlAndClass → Result LeadText EntryFault) → Result LeadText EntryFault
 with_part (parts.More next) items more = more next
 with_part (parts.«Type» ttl t) items more = Ok (ttl, t, items)
 
 -- TTL and class, each at most once and in either order, and then the type (RFC 1035 section 5.1)
-abbrev pub lead_of : Read → List ItemText → Result LeadText EntryFault
+abbrev pub lead_of : TtlAndClass → List ItemText → Result LeadText EntryFault
 lead_of read [] = Err EntryShort
 lead_of read (item ∷ items) = part_of read item >>= λ part. with_part part items (λ next. lead_of next items)
 

@@ -74,9 +74,9 @@ fn is_other_class(raw: &[u8]) -> bool
         || raw.eq_ignore_ascii_case(b"CS")
 }
 
-/// What was read between the owner and the type.
+/// The TTL, and whether the class, was read between the owner and the type.
 #[derive(Clone, Copy, Debug)]
-pub(crate) struct Read {
+pub(crate) struct TtlAndClass {
     pub ttl: Option<Ttl>,
     pub has_class: bool,
 }
@@ -85,7 +85,7 @@ pub(crate) struct Read {
 #[derive(Clone, Copy, Debug)]
 pub(crate) enum Part {
     /// A TTL or the class, with which this was read.
-    More(Read),
+    More(TtlAndClass),
     /// The type, and the TTL that was read before it.
     Type {
         ttl: Option<Ttl>,
@@ -94,18 +94,18 @@ pub(crate) enum Part {
 }
 
 /// What the next item is.
-fn next_part(read: Read, item: Item) -> Result<Part, EntryFault>
+fn next_part(read: TtlAndClass, item: Item) -> Result<Part, EntryFault>
     ensures { Tells (λ part. part) result (part_of read (item_of item.entry)) }
 {
     let raw = unquoted(item)?;
-    let Read { ttl, has_class } = read;
+    let TtlAndClass { ttl, has_class } = read;
     if ttl.is_none() && begins_with_digit(raw) {
         let ttl = Some(read_ttl(raw)?);
-        return Ok(Part::More(Read { ttl, has_class }));
+        return Ok(Part::More(TtlAndClass { ttl, has_class }));
     }
     if !has_class && is_class_in(raw) {
         let has_class = true;
-        return Ok(Part::More(Read { ttl, has_class }));
+        return Ok(Part::More(TtlAndClass { ttl, has_class }));
     }
     if !has_class && is_other_class(raw) {
         return Err(EntryFault::ClassNotIn);
@@ -123,13 +123,28 @@ pub(crate) struct Lead {
     pub len: usize,
 }
 
+impl Lead {
+    /// So many items with this type, and with this TTL if there is one.
+    fn new(ttl: Option<Ttl>, record_type: RecordType, len: usize) -> Lead
+        ensures ttl { result.ttl ≡ ttl }
+        ensures record_type { result.record_type ≡ record_type }
+        ensures len { result.len ≡ len }
+    {
+        Lead {
+            ttl,
+            record_type,
+            len,
+        }
+    }
+}
+
 /// TTL, class and type: while no TTL was read, an item that begins with a digit is one, and while no class was read, an item
 /// that names one is it. Any other item stands in the type's place.
 pub(crate) fn read_lead(items: &[Item]) -> Result<Lead, EntryFault>
     ensures within { IfOk result (λ lead. lead.len ≤ length items.now) }
     ensures exact { Tells (lead_before (map item_of items.now)) result (lead_of (record { ttl = None; has_class = false }) (map item_of items.now)) }
 {
-    let mut read = Read {
+    let mut read = TtlAndClass {
         ttl: None,
         has_class: false,
     };
@@ -137,12 +152,7 @@ pub(crate) fn read_lead(items: &[Item]) -> Result<Lead, EntryFault>
         match next_part(read, *item)? {
             Part::More(next) => read = next,
             Part::Type { ttl, record_type } => {
-                let len = i + 1;
-                return Ok(Lead {
-                    ttl,
-                    record_type,
-                    len,
-                });
+                return Ok(Lead::new(ttl, record_type, i + 1));
             }
         }
     }

@@ -28,6 +28,7 @@ pub(crate) enum Statement {
     Origin(Name),
     /// `$TTL`: the TTL of records that state none.
     DefaultTtl(Ttl),
+    /// A record.
     Record(StatedRecord),
 }
 

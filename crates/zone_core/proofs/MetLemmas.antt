@@ -1,10 +1,10 @@
 -- The verdict is that all prerequisites hold exactly where all are met.
-use Rattle.std.proofs.Common.{◌≡◌, ◌≢◌, ◌↔◌, ◌⊎◌, ℕ, zero, suc, ◌<◌, List, [], ◌∷◌, ◌++◌, length, map, Bool, true, false, cond, not, ◌&&◌, ◌||◌, ◌==◌, if◌then◌else◌, Option, Some, None, Result, Ok, Err, inl, inr, refl, sym, ap, subst, ◌∙◌, arith}
+use Rattle.std.proofs.Common.{◌≡◌, ◌↔◌, ◌⊎◌, ℕ, zero, suc, List, [], ◌∷◌, ◌++◌, map, Bool, true, false, cond, ◌&&◌, ◌||◌, ◌==◌, if◌then◌else◌, Option, Some, None, Result, Ok, Err, inl, inr, refl, sym, ap, subst, ◌∙◌, arith}
 use Rattle.std.specs.List.{AllByRecursion, Contains, list_any, list_all, flat_map, filter}
 use Rattle.std.specs.Option.{option_or, option_map}
 use Rattle.std.specs.Ordering.{is_eq}
 use Rattle.std.specs.FinMap.{get, find}
-use Rattle.std.proofs.lemmas.Bool.{and_parts, eqb-true, false_from_ne_true, true_from_ne_false}
+use Rattle.std.proofs.lemmas.Bool.{and_parts, eqb-true, false_from_ne_true}
 use Rattle.dns_names.specs.Order.{same_name}
 use Rattle.dns_data.specs.declared.record.Record.{Record}
 use Rattle.dns_data.specs.declared.record_type.RecordType.{RecordType}
@@ -17,13 +17,13 @@ use Rattle.zone_core.specs.declared.rcode.Rcode.TheVariants.{NxDomain, YxDomain,
 use Rattle.zone_core.specs.declared.verdict.Failed.{Failed}
 use Rattle.zone_core.specs.declared.update.Prerequisite.{Prerequisite}
 use Rattle.zone_core.specs.declared.update.Prerequisite.TheVariants.{RrsetExists, RrsetEquals, RrsetAbsent, NameUsed, NameUnused}
-use Rattle.zone_core.specs.Sets.{Records, Key, key_of, key_cmp, rank_of, keyed, set_of, listing, part, has, at_name, at, IsIn, InOrder}
+use Rattle.zone_core.specs.Sets.{Records, Key, key_of, key_cmp, rank_of, keyed, set_of, part, has, at_name, at, IsIn, InOrder}
 use Rattle.zone_core.specs.Zones.{AreKept}
 use Rattle.zone_core.specs.Updates.{IsPrerequisite}
 use Rattle.zone_core.specs.Prerequisites.{fails, same_data, given_for, all_among, data_in, are_data, set_fails, first_failed, failed, verdict, failure}
 use Rattle.zone_core.specs.Accounts.{Stands}
 use Rattle.zone_core.specs.Met.{HasData, IsMet, AreMet}
-use Rattle.zone_core.proofs.SetLemmas.{name_is, name_self, is_tied, key_is, some_is, has_found, some_found, none_there, has_nothing}
+use Rattle.zone_core.proofs.SetLemmas.{name_is, name_self, is_tied, has_found, some_found}
 use Rattle.zone_core.proofs.RowLemmas.{get-set_of, each_in, listing-part, choice}
 use Rattle.zone_core.proofs.ZoneLemmas.{at_has, at_is, kind, no, both_true}
 

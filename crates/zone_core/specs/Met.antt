@@ -2,7 +2,6 @@
 use Rattle.std.specs.Prelude.{◌≡◌, ◌≢◌, ◌↔◌, ℕ, List}
 use Rattle.std.specs.List.{AllByRecursion, Contains}
 use Rattle.dns_data.specs.declared.record.Record.{Record}
-use Rattle.dns_data.specs.declared.record_type.RecordType.{RecordType}
 use Rattle.dns_data.specs.declared.rdata.Data.{Data}
 use Rattle.dns_data.specs.Rdata.{type_of}
 use Rattle.zone_core.specs.declared.update.Prerequisite.{Prerequisite}

@@ -214,9 +214,7 @@ fn ttls(rt: HostRuntime) -> Result<(), Fail> {
 }
 
 /// RFC 1035 section 5.3, and what it says of the zone ISI.EDU.
-#[test]
-fn example_of_the_standard(rt: HostRuntime) -> Result<(), Fail> {
-    let text = "\
+const EXAMPLE: &str = "\
 @   IN  SOA     VENERA      Action\\.domains (
                                  20     ; SERIAL
                                  7200   ; REFRESH
@@ -238,7 +236,9 @@ VENERA  A       10.1.0.52
 VAXA    A       10.2.0.27
         A       128.9.0.33
 ";
-    let want = "\
+
+/// Its records.
+const EXAMPLE_RECORDS: &str = "\
 isi.edu. 60 IN SOA venera.isi.edu. action\\.domains.isi.edu. 20 7200 600 3600000 60
 isi.edu. 60 IN NS a.isi.edu.
 isi.edu. 60 IN NS venera.isi.edu.
@@ -251,258 +251,330 @@ venera.isi.edu. 60 IN A 128.9.0.32
 vaxa.isi.edu. 60 IN A 10.2.0.27
 vaxa.isi.edu. 60 IN A 128.9.0.33
 ";
-    match listed(rt.alloc(), "isi.edu.", text.as_bytes())? {
-        Ok(got) => assert!(rt; got.as_str() == want, "{got}"),
+
+#[test]
+fn example_of_the_standard(rt: HostRuntime) -> Result<(), Fail> {
+    match listed(rt.alloc(), "isi.edu.", EXAMPLE.as_bytes())? {
+        Ok(got) => assert!(rt; got.as_str() == EXAMPLE_RECORDS, "{got}"),
         Err(fault) => assert!(rt; false, "{fault}"),
     }
     Ok(())
 }
 
-/// A refusal of data, at line 1.
-fn at_data(fault: DataFault) -> MasterFault {
-    MasterFault::Data { line: 1, fault }
-}
+/// A text, its refusal, and the reason.
+type RefusedRow = (&'static str, MasterFault, &'static str);
 
-/// A refusal of a name, at line 1.
-fn at_name(fault: NameFault) -> MasterFault {
-    at_data(DataFault::Name(fault))
+/// Texts of one line.
+const REFUSALS_OF_ONE_LINE: [RefusedRow; 39] = [
+    (
+        "www A 192.0.2.5 )",
+        MasterFault::ParenClose(1),
+        "a parenthesis closed",
+    ),
+    (
+        "www A 192.0.2.5 (",
+        MasterFault::ParenOpen(1),
+        "a parenthesis open",
+    ),
+    ("t 1 TXT \"a", MasterFault::QuoteOpen(1), "a quote open"),
+    (" A 192.0.2.5", MasterFault::NoOwner(1), "no owner before"),
+    ("www A 192.0.2.5", MasterFault::NoTtl(1), "no TTL in force"),
+    (
+        "www 1 CH A 192.0.2.5",
+        MasterFault::ClassNotIn(1),
+        "class CH",
+    ),
+    (
+        "www hs 1 A 192.0.2.5",
+        MasterFault::ClassNotIn(1),
+        "class HS",
+    ),
+    (
+        "www CS",
+        MasterFault::ClassNotIn(1),
+        "class CS before what is missing",
+    ),
+    (
+        "$INCLUDE x",
+        MasterFault::DirectiveNotKept(1),
+        "another directive",
+    ),
+    ("$", MasterFault::DirectiveNotKept(1), "a dollar alone"),
+    (
+        "$TTL x",
+        MasterFault::BadTtl(1),
+        "no TTL behind the directive",
+    ),
+    (
+        "www 2147483648 A 192.0.2.5",
+        MasterFault::BadTtl(1),
+        "a TTL of 32 bits",
+    ),
+    (
+        "www 1x A 192.0.2.5",
+        MasterFault::BadTtl(1),
+        "a digit begins a TTL",
+    ),
+    (
+        "$TTL 1 2",
+        MasterFault::Data {
+            line: 1,
+            fault: DataFault::FieldExtra,
+        },
+        "a further item",
+    ),
+    (
+        "$ORIGIN a b",
+        MasterFault::Data {
+            line: 1,
+            fault: DataFault::FieldExtra,
+        },
+        "a further item",
+    ),
+    ("$TTL", MasterFault::EntryShort(1), "the TTL is missing"),
+    ("$ORIGIN", MasterFault::EntryShort(1), "the name is missing"),
+    ("www 300", MasterFault::EntryShort(1), "the type is missing"),
+    ("www IN", MasterFault::EntryShort(1), "the type is missing"),
+    ("www", MasterFault::EntryShort(1), "only an owner"),
+    (
+        "www 300 A",
+        MasterFault::Data {
+            line: 1,
+            fault: DataFault::FieldMissing,
+        },
+        "the data are missing",
+    ),
+    (
+        "@ SOA ns1 admin 1 1 1 1 4294967296",
+        MasterFault::Data {
+            line: 1,
+            fault: DataFault::NumberRange,
+        },
+        "a minimum of 33 bits",
+    ),
+    (
+        "www 300 IN CAA 0 issue \"ca.example.net\"",
+        MasterFault::Data {
+            line: 1,
+            fault: DataFault::TypeNotKept,
+        },
+        "another type, before its data",
+    ),
+    (
+        "www 300 DNSKEY x",
+        MasterFault::Data {
+            line: 1,
+            fault: DataFault::TypeNotKept,
+        },
+        "another type",
+    ),
+    (
+        "www 300 400 A 192.0.2.5",
+        MasterFault::Data {
+            line: 1,
+            fault: DataFault::TypeNotKept,
+        },
+        "a second TTL",
+    ),
+    (
+        "www IN 300 IN A 192.0.2.5",
+        MasterFault::Data {
+            line: 1,
+            fault: DataFault::TypeNotKept,
+        },
+        "a second class",
+    ),
+    (
+        "www 300 NS a..b",
+        MasterFault::Data {
+            line: 1,
+            fault: DataFault::Name(NameFault::EmptyLabel),
+        },
+        "a bad name in the data",
+    ),
+    (
+        "a..b 300 A 192.0.2.5",
+        MasterFault::Data {
+            line: 1,
+            fault: DataFault::Name(NameFault::EmptyLabel),
+        },
+        "a bad owner",
+    ),
+    (
+        "$ORIGIN a\\25",
+        MasterFault::Data {
+            line: 1,
+            fault: DataFault::Name(NameFault::BadEscape),
+        },
+        "a bad origin",
+    ),
+    (
+        "www 300 NS \"x.\"",
+        MasterFault::Data {
+            line: 1,
+            fault: DataFault::QuotedItem,
+        },
+        "a quoted name",
+    ),
+    (
+        "\"www\" 300 A 192.0.2.5",
+        MasterFault::Data {
+            line: 1,
+            fault: DataFault::QuotedItem,
+        },
+        "a quoted owner",
+    ),
+    (
+        "\"$TTL\" 300",
+        MasterFault::Data {
+            line: 1,
+            fault: DataFault::QuotedItem,
+        },
+        "a quoted directive is an owner",
+    ),
+    (
+        "$TTL \"300\"",
+        MasterFault::Data {
+            line: 1,
+            fault: DataFault::QuotedItem,
+        },
+        "a quoted TTL",
+    ),
+    (
+        "www \"300\" A 192.0.2.5",
+        MasterFault::Data {
+            line: 1,
+            fault: DataFault::QuotedItem,
+        },
+        "a quoted TTL",
+    ),
+    (
+        "www 300 \"IN\" A 192.0.2.5",
+        MasterFault::Data {
+            line: 1,
+            fault: DataFault::QuotedItem,
+        },
+        "a quoted class",
+    ),
+    (
+        "www 300 \"A\" 192.0.2.5",
+        MasterFault::Data {
+            line: 1,
+            fault: DataFault::QuotedItem,
+        },
+        "a quoted type",
+    ),
+    (
+        "www 300 A 192.0.2.5 x",
+        MasterFault::Data {
+            line: 1,
+            fault: DataFault::FieldExtra,
+        },
+        "a further item",
+    ),
+    (
+        "t 1 TXT a\\",
+        MasterFault::Data {
+            line: 1,
+            fault: DataFault::Name(NameFault::BadEscape),
+        },
+        "a backslash at the text's end",
+    ),
+    (
+        "@ SOA ns h 1 2 3 4 2147483648",
+        MasterFault::NoTtl(1),
+        "the minimum is no TTL",
+    ),
+];
+
+/// Texts with several faults, of which one is answered.
+const ORDER_OF_REFUSALS: [RefusedRow; 10] = [
+    (
+        "a\nb 1 A x\n)",
+        MasterFault::ParenClose(3),
+        "parentheses before any entry",
+    ),
+    (
+        "a\n\"b",
+        MasterFault::QuoteOpen(2),
+        "quotes before any entry",
+    ),
+    (
+        "a 1 A 192.0.2.5\n\nb 1 A x\nc 1 A y",
+        MasterFault::Data {
+            line: 3,
+            fault: DataFault::BadAddress,
+        },
+        "the first entry at fault",
+    ),
+    (
+        "a 1 MX (\n x\n y z)",
+        MasterFault::Data {
+            line: 1,
+            fault: DataFault::BadNumber,
+        },
+        "the line of the entry's first item",
+    ),
+    (
+        "(\n a 1\n)",
+        MasterFault::EntryShort(2),
+        "the first item stands on the second line",
+    ),
+    (
+        " 1x CH A",
+        MasterFault::NoOwner(1),
+        "no owner goes before all items",
+    ),
+    (
+        "a..b 1x",
+        MasterFault::Data {
+            line: 1,
+            fault: DataFault::Name(NameFault::EmptyLabel),
+        },
+        "the leftmost item",
+    ),
+    (
+        "a 1x CH",
+        MasterFault::BadTtl(1),
+        "an item at fault before a missing one",
+    ),
+    (
+        "a A x",
+        MasterFault::Data {
+            line: 1,
+            fault: DataFault::BadAddress,
+        },
+        "the data before the TTL",
+    ),
+    (
+        "$ORIGIN a..b c",
+        MasterFault::Data {
+            line: 1,
+            fault: DataFault::Name(NameFault::EmptyLabel),
+        },
+        "the name before a further item",
+    ),
+];
+
+/// Compares the refusals that the rows list with those that are answered.
+fn compare_refusals(rt: &impl Abort, alloc: Global, rows: &[RefusedRow]) -> Result<(), Fail> {
+    for (text, want, why) in rows {
+        match listed(alloc, "example.org.", text.as_bytes())? {
+            Ok(got) => assert!(rt; false, "{why}: {got}"),
+            Err(fault) => assert!(rt; fault == *want, "{why}: {fault}"),
+        }
+    }
+    Ok(())
 }
 
 #[test]
 fn refusals_of_one_line(rt: HostRuntime) -> Result<(), Fail> {
-    let rows = [
-        (
-            "www A 192.0.2.5 )",
-            MasterFault::ParenClose(1),
-            "a parenthesis closed",
-        ),
-        (
-            "www A 192.0.2.5 (",
-            MasterFault::ParenOpen(1),
-            "a parenthesis open",
-        ),
-        ("t 1 TXT \"a", MasterFault::QuoteOpen(1), "a quote open"),
-        (" A 192.0.2.5", MasterFault::NoOwner(1), "no owner before"),
-        ("www A 192.0.2.5", MasterFault::NoTtl(1), "no TTL in force"),
-        (
-            "www 1 CH A 192.0.2.5",
-            MasterFault::ClassNotIn(1),
-            "class CH",
-        ),
-        (
-            "www hs 1 A 192.0.2.5",
-            MasterFault::ClassNotIn(1),
-            "class HS",
-        ),
-        (
-            "www CS",
-            MasterFault::ClassNotIn(1),
-            "class CS before what is missing",
-        ),
-        (
-            "$INCLUDE x",
-            MasterFault::DirectiveNotKept(1),
-            "another directive",
-        ),
-        ("$", MasterFault::DirectiveNotKept(1), "a dollar alone"),
-        (
-            "$TTL x",
-            MasterFault::BadTtl(1),
-            "no TTL behind the directive",
-        ),
-        (
-            "www 2147483648 A 192.0.2.5",
-            MasterFault::BadTtl(1),
-            "a TTL of 32 bits",
-        ),
-        (
-            "www 1x A 192.0.2.5",
-            MasterFault::BadTtl(1),
-            "a digit begins a TTL",
-        ),
-        ("$TTL 1 2", at_data(DataFault::FieldExtra), "a further item"),
-        (
-            "$ORIGIN a b",
-            at_data(DataFault::FieldExtra),
-            "a further item",
-        ),
-        ("$TTL", MasterFault::EntryShort(1), "the TTL is missing"),
-        ("$ORIGIN", MasterFault::EntryShort(1), "the name is missing"),
-        ("www 300", MasterFault::EntryShort(1), "the type is missing"),
-        ("www IN", MasterFault::EntryShort(1), "the type is missing"),
-        ("www", MasterFault::EntryShort(1), "only an owner"),
-        (
-            "www 300 A",
-            at_data(DataFault::FieldMissing),
-            "the data are missing",
-        ),
-        (
-            "@ SOA ns1 admin 1 1 1 1 4294967296",
-            at_data(DataFault::NumberRange),
-            "a minimum of 33 bits",
-        ),
-        (
-            "www 300 IN CAA 0 issue \"ca.example.net\"",
-            at_data(DataFault::TypeNotKept),
-            "another type, before its data",
-        ),
-        (
-            "www 300 DNSKEY x",
-            at_data(DataFault::TypeNotKept),
-            "another type",
-        ),
-        (
-            "www 300 400 A 192.0.2.5",
-            at_data(DataFault::TypeNotKept),
-            "a second TTL",
-        ),
-        (
-            "www IN 300 IN A 192.0.2.5",
-            at_data(DataFault::TypeNotKept),
-            "a second class",
-        ),
-        (
-            "www 300 NS a..b",
-            at_name(NameFault::EmptyLabel),
-            "a bad name in the data",
-        ),
-        (
-            "a..b 300 A 192.0.2.5",
-            at_name(NameFault::EmptyLabel),
-            "a bad owner",
-        ),
-        (
-            "$ORIGIN a\\25",
-            at_name(NameFault::BadEscape),
-            "a bad origin",
-        ),
-        (
-            "www 300 NS \"x.\"",
-            at_data(DataFault::QuotedItem),
-            "a quoted name",
-        ),
-        (
-            "\"www\" 300 A 192.0.2.5",
-            at_data(DataFault::QuotedItem),
-            "a quoted owner",
-        ),
-        (
-            "\"$TTL\" 300",
-            at_data(DataFault::QuotedItem),
-            "a quoted directive is an owner",
-        ),
-        (
-            "$TTL \"300\"",
-            at_data(DataFault::QuotedItem),
-            "a quoted TTL",
-        ),
-        (
-            "www \"300\" A 192.0.2.5",
-            at_data(DataFault::QuotedItem),
-            "a quoted TTL",
-        ),
-        (
-            "www 300 \"IN\" A 192.0.2.5",
-            at_data(DataFault::QuotedItem),
-            "a quoted class",
-        ),
-        (
-            "www 300 \"A\" 192.0.2.5",
-            at_data(DataFault::QuotedItem),
-            "a quoted type",
-        ),
-        (
-            "www 300 A 192.0.2.5 x",
-            at_data(DataFault::FieldExtra),
-            "a further item",
-        ),
-        (
-            "t 1 TXT a\\",
-            at_name(NameFault::BadEscape),
-            "a backslash at the text's end",
-        ),
-        (
-            "@ SOA ns h 1 2 3 4 2147483648",
-            MasterFault::NoTtl(1),
-            "the minimum is no TTL",
-        ),
-    ];
-    for (text, want, why) in rows {
-        match listed(rt.alloc(), "example.org.", text.as_bytes())? {
-            Ok(got) => assert!(rt; false, "{why}: {got}"),
-            Err(fault) => assert!(rt; fault == want, "{why}: {fault}"),
-        }
-    }
-    Ok(())
+    compare_refusals(&rt, rt.alloc(), &REFUSALS_OF_ONE_LINE)
 }
 
 #[test]
 fn order_of_refusals(rt: HostRuntime) -> Result<(), Fail> {
-    let rows = [
-        (
-            "a\nb 1 A x\n)",
-            MasterFault::ParenClose(3),
-            "parentheses before any entry",
-        ),
-        (
-            "a\n\"b",
-            MasterFault::QuoteOpen(2),
-            "quotes before any entry",
-        ),
-        (
-            "a 1 A 192.0.2.5\n\nb 1 A x\nc 1 A y",
-            MasterFault::Data {
-                line: 3,
-                fault: DataFault::BadAddress,
-            },
-            "the first entry at fault",
-        ),
-        (
-            "a 1 MX (\n x\n y z)",
-            MasterFault::Data {
-                line: 1,
-                fault: DataFault::BadNumber,
-            },
-            "the line of the entry's first item",
-        ),
-        (
-            "(\n a 1\n)",
-            MasterFault::EntryShort(2),
-            "the first item stands on the second line",
-        ),
-        (
-            " 1x CH A",
-            MasterFault::NoOwner(1),
-            "no owner goes before all items",
-        ),
-        (
-            "a..b 1x",
-            at_name(NameFault::EmptyLabel),
-            "the leftmost item",
-        ),
-        (
-            "a 1x CH",
-            MasterFault::BadTtl(1),
-            "an item at fault before a missing one",
-        ),
-        (
-            "a A x",
-            at_data(DataFault::BadAddress),
-            "the data before the TTL",
-        ),
-        (
-            "$ORIGIN a..b c",
-            at_name(NameFault::EmptyLabel),
-            "the name before a further item",
-        ),
-    ];
-    for (text, want, why) in rows {
-        match listed(rt.alloc(), "example.org.", text.as_bytes())? {
-            Ok(got) => assert!(rt; false, "{why}: {got}"),
-            Err(fault) => assert!(rt; fault == want, "{why}: {fault}"),
-        }
-    }
-    Ok(())
+    compare_refusals(&rt, rt.alloc(), &ORDER_OF_REFUSALS)
 }
 
 #[test]
@@ -536,7 +608,14 @@ fn long_strings(rt: HostRuntime) -> Result<(), Fail> {
     text.push_str("\\000")?;
     match listed(alloc, "example.org.", text.as_bytes())? {
         Ok(_) => assert!(rt; false, "256 octets"),
-        Err(fault) => assert!(rt; fault == at_data(DataFault::StringTooLong), "{fault}"),
+        Err(fault) => assert!(rt;
+            fault
+                == MasterFault::Data {
+                    line: 1,
+                    fault: DataFault::StringTooLong
+                },
+            "{fault}"
+        ),
     }
     Ok(())
 }

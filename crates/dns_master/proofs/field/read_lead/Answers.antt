@@ -11,7 +11,7 @@ returns-in_err-next-clause-exact c =
 pub returns-in-Type-clause-exact : goal.returns-in-Type-clause-exact
 returns-in-Type-clause-exact c =
     let l = c.loop-i in
-    lead_ends c.args.items.now l.i _ l.read _ c.loop-i-test.true l.invariant c.in_ok-next.field-0 c.in-Type.ttl c.in-Type.record_type c.in_ok-next.ensures c.in-Type.is
+    rw (c.new.ensures.ttl, c.new.ensures.record_type, c.new.ensures.len) (lead_ends c.args.items.now l.i _ l.read _ c.loop-i-test.true l.invariant c.in_ok-next.field-0 c.in-Type.ttl c.in-Type.record_type c.in_ok-next.ensures c.in-Type.is)
 
 pub loop-i-preserved : goal.loop-i-preserved
 loop-i-preserved c =

@@ -1,4 +1,4 @@
-use Rattle.std.proofs.Common.{◌≡◌, map, sym, ap, subst, ◌∙◌}
+use Rattle.std.proofs.Common.{map, sym, ap, subst, ◌∙◌}
 use Rattle.std.proofs.lemmas.List.{take_all}
 use Rattle.zone_core.specs.Delegations.{server_of, server_names, AreNamesOf}
 use Rattle.zone_core.proofs.report.delegation_of.Goals as goal

@@ -1,4 +1,4 @@
-use Rattle.std.proofs.Common.{◌≡◌, ◌∙◌}
+use Rattle.std.proofs.Common.{◌∙◌}
 use Rattle.zone_core.specs.Prerequisites.{verdict}
 use Rattle.zone_core.proofs.MetLemmas.{met_answer}
 use Rattle.zone_core.proofs.verdict.holds.Goals as goal

@@ -1,4 +1,4 @@
-use Rattle.std.proofs.Common.{◌≡◌, sym, ap, ◌∙◌}
+use Rattle.std.proofs.Common.{ap, ◌∙◌}
 use Rattle.std.proofs.lemmas.List.{take_all}
 use Rattle.zone_core.specs.Sets.{set_of, listing, part, at_name}
 use Rattle.zone_core.specs.Zones.{ZoneOf}
