@@ -1,1 +1,2 @@
+pub mod FootprintLaws
 pub mod FootprintLemmas
