@@ -1,12 +1,12 @@
 -- Whether a policy permits an update: whether it grants each point that the update asks for.
-use Rattle.std.specs.Prelude.{◌≡◌, ℕ, ◌<◌, List, [], ◌∷◌, Option, Some, None, option_map, slice_get}
+use Rattle.std.specs.Prelude.{◌≡◌, ℕ, ◌+◌, ◌*◌, ◌<◌, List, [], ◌∷◌, length, count_by, Option, Some, None, option_map, slice_get}
 use Rattle.std.specs.List.{AllByRecursion}
 use Rattle.std.specs.Option.{option_or}
 use Rattle.dns_data.specs.declared.record_type.RecordType.{RecordType}
 use Rattle.grant_policy.specs.declared.action.Action.{Action}
 use Rattle.grant_policy.specs.declared.rule.Rule.{Rule}
 use Rattle.grant_policy.specs.Rules.{Question}
-use Rattle.grant_policy.specs.Decisions.{Verdict, granted, denied, decision, told}
+use Rattle.grant_policy.specs.Decisions.{Verdict, granted, denied, decision, told, concerns}
 use Rattle.zone_core.specs.declared.update.Place.{Place}
 use Rattle.zone_core.specs.Updates.{UpdateOf, tested_name, acted_name}
 use Rattle.office_core.specs.declared.permission.Denial.{Denial}
@@ -64,3 +64,10 @@ point_denial rules caller (Some p) = denial_at p.place (decision (question calle
 abbrev pub first_denial : List Rule → List ℕ → List Point → Option DenialOf
 first_denial rules caller [] = None
 first_denial rules caller (p ∷ ps) = option_or (point_denial rules caller (Some p)) (first_denial rules caller ps)
+
+-- ---- cost
+
+-- the look-ups of the decision of a point: two for each name from its name to the root, and one for each rule of the caller or
+-- of every caller whose name is one of these
+abbrev pub point_cost : List Rule → List ℕ → Point → ℕ
+point_cost rules caller p = 2 * (length p.name + 1) + count_by (concerns caller p.name) rules

@@ -1,12 +1,13 @@
 //! Whether a policy permits an update.
 
-ghost use Rattle.std.specs.Prelude.{◌≡◌, ◌↔◌, None, IfSome, option_map};
+ghost use Rattle.std.specs.Prelude.{◌≡◌, ◌↔◌, ◌+◌, ◌≤◌, None, IfSome, option_map, sum_by};
+ghost use Rattle.std.specs.Option.{option_to_list};
 ghost use Rattle.dns_data.specs.Types.{kept_types};
 ghost use Rattle.zone_core.specs.Updates.{tested_name, acted_name};
 ghost use Rattle.zone_core.specs.declared.update.ItemList.TheVariants as lists;
 ghost use Rattle.office_core.specs.Footprints.{point_of, points_at, points_from, prerequisite_action, operation_action, footprint};
 ghost use Rattle.office_core.specs.Items.{item_name, item_action};
-ghost use Rattle.office_core.specs.Permissions.{denial_of, rule_of, point_denial, first_denial, IsPermitted, IsFirstDenial};
+ghost use Rattle.office_core.specs.Permissions.{denial_of, rule_of, point_cost, point_denial, first_denial, IsPermitted, IsFirstDenial};
 
 use crate::item::Item;
 use dns_data::RecordType;
@@ -48,6 +49,8 @@ pub fn denied<'a>(
     ensures first { IfSome result (λ denial. IsFirstDenial policy.now caller.now (footprint origin.now update.now) (denial_of denial)) }
     // The same by a definition that computes.
     ensures exact { option_map denial_of result ≡ first_denial policy.now caller.now (footprint origin.now update.now) }
+    // No more look-ups are made than to decide each of its points.
+    ensures cost { look_ups.new.count ≤ look_ups.old.count + sum_by (point_cost policy.now caller.now) (footprint origin.now update.now) }
 {
     first_denied(policy, caller, origin, update, look_ups)
 }
@@ -60,7 +63,8 @@ fn first_denied<'a>(
     update: &Update,
     look_ups: &mut LookUps,
 ) -> Option<Denial<'a>>
-    ensures { option_map denial_of result ≡ first_denial policy.now caller.now (footprint origin.now update.now) }
+    ensures denial { option_map denial_of result ≡ first_denial policy.now caller.now (footprint origin.now update.now) }
+    ensures cost { look_ups.new.count ≤ look_ups.old.count + sum_by (point_cost policy.now caller.now) (footprint origin.now update.now) }
 {
     match denied_prerequisite(policy, caller, update.prerequisites(), look_ups) {
         Some(denial) => Some(denial),
@@ -75,7 +79,8 @@ fn denied_prerequisite<'a>(
     prerequisites: &[Prerequisite],
     look_ups: &mut LookUps,
 ) -> Option<Denial<'a>>
-    ensures { option_map denial_of result ≡ first_denial policy.now caller.now (points_from tested_name prerequisite_action lists.Prerequisites 0 prerequisites.now) }
+    ensures denial { option_map denial_of result ≡ first_denial policy.now caller.now (points_from tested_name prerequisite_action lists.Prerequisites 0 prerequisites.now) }
+    ensures cost { look_ups.new.count ≤ look_ups.old.count + sum_by (point_cost policy.now caller.now) (points_from tested_name prerequisite_action lists.Prerequisites 0 prerequisites.now) }
 {
     let list = ItemList::Prerequisites;
     for (item, prerequisite) in prerequisites.iter().enumerate() {
@@ -97,7 +102,8 @@ fn denied_operation<'a>(
     operations: &[Operation],
     look_ups: &mut LookUps,
 ) -> Option<Denial<'a>>
-    ensures { option_map denial_of result ≡ first_denial policy.now caller.now (points_from acted_name (operation_action origin.now) lists.Operations 0 operations.now) }
+    ensures denial { option_map denial_of result ≡ first_denial policy.now caller.now (points_from acted_name (operation_action origin.now) lists.Operations 0 operations.now) }
+    ensures cost { look_ups.new.count ≤ look_ups.old.count + sum_by (point_cost policy.now caller.now) (points_from acted_name (operation_action origin.now) lists.Operations 0 operations.now) }
 {
     let list = ItemList::Operations;
     for (item, operation) in operations.iter().enumerate() {
@@ -120,7 +126,8 @@ fn denied_item<'a>(
     record_types: &[RecordType],
     look_ups: &mut LookUps,
 ) -> Option<Denial<'a>>
-    ensures { option_map denial_of result ≡ first_denial policy.now caller.now (points_at place (item_name item.entry) (item_action item.entry) record_types.now) }
+    ensures denial { option_map denial_of result ≡ first_denial policy.now caller.now (points_at place (item_name item.entry) (item_action item.entry) record_types.now) }
+    ensures cost { look_ups.new.count ≤ look_ups.old.count + sum_by (point_cost policy.now caller.now) (points_at place (item_name item.entry) (item_action item.entry) record_types.now) }
 {
     for record_type in record_types {
         let denial = denied_point(policy, caller, place, item, *record_type, look_ups);
@@ -140,7 +147,8 @@ fn denied_point<'a>(
     record_type: RecordType,
     look_ups: &mut LookUps,
 ) -> Option<Denial<'a>>
-    ensures { option_map denial_of result ≡ point_denial policy.now caller.now (point_of place (item_name item.entry) (item_action item.entry) record_type) }
+    ensures denial { option_map denial_of result ≡ point_denial policy.now caller.now (point_of place (item_name item.entry) (item_action item.entry) record_type) }
+    ensures cost { look_ups.new.count ≤ look_ups.old.count + sum_by (point_cost policy.now caller.now) (option_to_list (point_of place (item_name item.entry) (item_action item.entry) record_type)) }
 {
     let action = item.asks(record_type)?;
     match decide(policy, caller, item.name(), record_type, action, look_ups) {
