@@ -5,7 +5,6 @@
 //! the zone's origin alone, never from a zone's records.
 
 ghost use Rattle.std.specs.Prelude.{◌≡◌, ◌↔◌, Some};
-ghost use Rattle.dns_data.specs.declared.record_type.RecordType.{RecordType as RecordTypeOf};
 ghost use Rattle.grant_policy.specs.declared.action.Action.{Action as ActionOf};
 ghost use Rattle.grant_policy.specs.Rules.{same_type};
 ghost use Rattle.office_core.specs.Footprints.{PrerequisiteAsks, OperationAsks, tests_type, changes_type, delegates, is_deleted_with, change_of, prerequisite_action, operation_action};

@@ -2,7 +2,6 @@
 
 ghost use Rattle.std.specs.Prelude.{◌≡◌, ◌↔◌, ◌+◌, ◌≤◌, None, IfSome, option_map, sum_by};
 ghost use Rattle.std.specs.Option.{option_to_list};
-ghost use Rattle.dns_data.specs.Types.{kept_types};
 ghost use Rattle.zone_core.specs.Updates.{tested_name, acted_name};
 ghost use Rattle.zone_core.specs.declared.update.ItemList.TheVariants as lists;
 ghost use Rattle.office_core.specs.Footprints.{point_of, points_at, points_from, prerequisite_action, operation_action, footprint};
