@@ -1,0 +1,4 @@
+pub mod FootprintLaws
+pub mod FootprintLemmas
+pub mod PermissionLemmas
+pub mod PermissionLaws

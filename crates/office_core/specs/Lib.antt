@@ -1,0 +1,3 @@
+pub mod Footprints
+pub mod Items
+pub mod Permissions
