@@ -30,18 +30,6 @@ refused_before made next refusal e = ap (λ m. m >>= next) e
 pub given_before : {A B : Type 0} (made : Result A Refusal) (next : A → Result B Refusal) (a : A) → made ≡ Ok a → (made >>= next) ≡ next a
 given_before made next a e = ap (λ m. m >>= next) e
 
--- a step that is refused, of steps that read nothing
-pub gives_refused : {A B C D : Type 0} (seen : C → A) (view : D → B) (first : Result A Refusal) (next : A → Result B Refusal) (e : LineFault) → Gives seen (Err e) first → Gives view (Err e) (first >>= next)
-gives_refused seen view first next (Refused refusal) given = refused_before first next refusal given
-gives_refused seen view first next NoMemory given = tt
-gives_refused seen view first next ReadFailed given = absurd given
-
-pub gives_next : {A B D : Type 0} (view : D → B) (first : Result A Refusal) (next : A → Result B Refusal) (a : A) (result : Result D LineFault) → first ≡ Ok a → Gives view result (next a) → Gives view result (first >>= next)
-gives_next view first next a (Ok x) e given = given_before first next a e ∙ given
-gives_next view first next a (Err (Refused refusal)) e given = given_before first next a e ∙ given
-gives_next view first next a (Err NoMemory) e given = tt
-gives_next view first next a (Err ReadFailed) e given = absurd given
-
 -- ---- words, the input, and what is made of them
 
 module _ {A X Y : Type 0} (view : X → Y) (left : Option (List ℕ)) (first : Result A Refusal) (next : A → List ℕ → Result Y Refusal) (before after : ℕ) where

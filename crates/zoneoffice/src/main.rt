@@ -32,7 +32,7 @@ use crate::words::{Job, WordsFault, read_words};
 use dns_master::Counted;
 use std::alloc::{AllocError, Global};
 use std::env;
-use std::io::{self, Read, Write};
+use std::io::{self, ErrorKind, Read, Write};
 use std::marker::Brand;
 use std::process::ExitCode;
 use std::sync::ledger::{Blank, Ledger};
@@ -137,11 +137,14 @@ fn told(rt: &HostRuntime, words: &[&str]) -> ExitCode {
             let _ = rt.eprint(text);
             ExitCode::from(2)
         }
-        Err(WordsFault::NoMemory) => {
-            let _ = rt.print(NO_MEMORY_LINE);
-            ExitCode::FAILURE
-        }
+        Err(WordsFault::NoMemory) => no_memory(rt),
     }
+}
+
+/// Tells that there is no memory for the words.
+fn no_memory(rt: &HostRuntime) -> ExitCode {
+    let _ = rt.print(NO_MEMORY_LINE);
+    ExitCode::FAILURE
 }
 
 /// Words as they are borrowed.
@@ -161,15 +164,15 @@ fn given_words(rt: &HostRuntime) -> io::Result<Vec<String>> {
 }
 
 fn main(rt: HostRuntime) -> ExitCode {
-    let Ok(words) = given_words(&rt) else {
-        let _ = rt.eprintln("the words of the command line are not to be read");
-        return ExitCode::from(2);
-    };
-    match borrowed(rt.alloc(), &words) {
-        Ok(words) => told(&rt, &words),
+    match given_words(&rt) {
+        Ok(words) => match borrowed(rt.alloc(), &words) {
+            Ok(words) => told(&rt, &words),
+            Err(_) => no_memory(&rt),
+        },
+        Err(fault) if fault.kind() == ErrorKind::OutOfMemory => no_memory(&rt),
         Err(_) => {
-            let _ = rt.print(NO_MEMORY_LINE);
-            ExitCode::FAILURE
+            let _ = rt.eprintln("the words of the command line are no texts");
+            ExitCode::from(2)
         }
     }
 }
