@@ -10,7 +10,7 @@ mod effect;
 mod fault;
 mod identifier;
 mod ids;
-pub mod laws;
+mod laws;
 mod look_ups;
 mod policy;
 mod reading;
@@ -28,6 +28,10 @@ pub use decision::Decision;
 pub use effect::Effect;
 pub use fault::{Place, PolicyFault, RuleKey};
 pub use identifier::{Identifier, IdentifierFault};
+pub use laws::{
+    a_rule_at_the_end_changes_no_decision_of_a_rule, a_rule_is_named_where_it_decided,
+    closing_denies_where_no_rule_matches, each_question_has_one_decision, no_rules_deny_everything,
+};
 pub use look_ups::LookUps;
 pub use policy::Policy;
 pub use reading::read_policy;

@@ -1,11 +1,8 @@
 //! Of which types and actions a rule speaks.
 
-ghost use Rattle.std.specs.Prelude.{◌≡◌, ◌↔◌, ◌==◌, List, Option, Some, None, IsTrue, option_map, bytes_eq};
-ghost use Rattle.std.specs.List.{list_any};
+ghost use Rattle.std.specs.Prelude.{◌≡◌, ◌↔◌, List, Option, Some, None, IsTrue, option_map};
 ghost use Rattle.dns_data.specs.declared.record_type.RecordType.{RecordType as RecordTypeOf};
-ghost use Rattle.dns_data.specs.Types.{type_number};
 ghost use Rattle.grant_policy.specs.declared.action.Action.{Action as ActionOf};
-ghost use Rattle.grant_policy.specs.Words.{action_text};
 
 use crate::action::Action;
 use dns_data::RecordType;
@@ -49,18 +46,9 @@ impl Types {
     {
         match &self.listed {
             None => true,
-            Some(listed) => has_type(listed, record_type),
+            Some(listed) => listed.contains(&record_type),
         }
     }
-}
-
-/// Whether a type is in a list.
-fn has_type(listed: &[RecordType], record_type: RecordType) -> bool
-    ensures { result ≡ list_any (λ one. type_number one == type_number record_type) listed.now }
-{
-    listed
-        .iter()
-        .any(|one| one.number() == record_type.number())
 }
 
 /// The actions of which a rule speaks: every one, or those that are listed.
@@ -101,16 +89,7 @@ impl Actions {
     {
         match &self.listed {
             None => true,
-            Some(listed) => has_action(listed, action),
+            Some(listed) => listed.contains(&action),
         }
     }
-}
-
-/// Whether an action is in a list.
-fn has_action(listed: &[Action], action: Action) -> bool
-    ensures { result ≡ list_any (λ one. bytes_eq (action_text one) (action_text action)) listed.now }
-{
-    listed
-        .iter()
-        .any(|one| one.text().as_bytes() == action.text().as_bytes())
 }

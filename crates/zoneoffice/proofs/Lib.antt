@@ -1,7 +1,9 @@
+pub mod CommandLemmas
 pub mod DeviceLemmas
 pub mod EffectLemmas
 pub mod EntryLemmas
 pub mod FaultLemmas
+pub mod JobLemmas
 pub mod LineLemmas
 pub mod MapLemmas
 pub mod MemberLemmas
@@ -10,6 +12,7 @@ pub mod RecordLineLemmas
 pub mod ReplyLemmas
 pub mod SerialLemmas
 pub mod SoundLemmas
+pub mod StepLemmas
 pub mod UpdateLemmas
 pub mod VersionLemmas
 pub mod ZoneLemmas

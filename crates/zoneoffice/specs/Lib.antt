@@ -10,3 +10,9 @@ pub mod Effects
 pub mod Views
 pub mod Device
 pub mod Apply
+pub mod Refusals
+pub mod LineFaults
+pub mod Replies
+pub mod Canon
+pub mod Rights
+pub mod Words

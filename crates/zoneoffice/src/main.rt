@@ -3,21 +3,36 @@
 
 ghost use Rattle.std.specs.Prelude.{◌≡◌, ◌<◌, ℕ};
 ghost use Rattle.zoneoffice.specs.Apply.{Applied};
+ghost use Rattle.zoneoffice.specs.Replies.{Answered};
 
 mod apply;
+mod canon;
+mod device;
 mod fault;
 mod key;
+mod line_fault;
 mod lines;
+mod policy_file;
 mod record_lines;
 mod records;
+mod refusal;
+mod rights;
 mod serial;
+mod task;
+mod words;
 mod zone;
 
 use crate::apply::apply;
+use crate::canon::Canon;
 use crate::fault::ApplyFault;
+use crate::line_fault::{JobFault, NO_MEMORY_LINE};
+use crate::policy_file::PolicyFile;
+use crate::task::Task;
+use crate::words::{Job, WordsFault, read_words};
 use dns_master::Counted;
-use std::alloc::Global;
-use std::io::{Read, Write};
+use std::alloc::{AllocError, Global};
+use std::env;
+use std::io::{self, ErrorKind, Read, Write};
 use std::marker::Brand;
 use std::process::ExitCode;
 use std::sync::ledger::{Blank, Ledger};
@@ -44,7 +59,39 @@ fn run<R: Read + Drop, W: Write + Drop, A: Ledger, B: Ledger>(
     (sink.into_inner(), done)
 }
 
-fn main(rt: HostRuntime) -> ExitCode {
+/// Does a task with a reader and a writer of std, and hands the writer back.
+fn answer<T: Task, R: Read + Drop, W: Write + Drop, A: Ledger, B: Ledger>(
+    alloc: Global,
+    task: T,
+    reader: R,
+    writer: W,
+    reads: Blank,
+    writes: Blank,
+) -> (W, Result<(), JobFault>)
+    requires reads_name { reads.name ≡ A.name }
+    requires reads_parts { reads.parts ≡ A.parts }
+    requires reads_some { 0 < reads.parts }
+    requires writes_name { writes.name ≡ B.name }
+    requires writes_parts { writes.parts ≡ B.parts }
+    requires writes_some { 0 < writes.parts }
+    ensures { (failed_reads : ℕ) × (failed_writes : ℕ) × Answered (R.remaining reader) (T.answer task) (W.contents writer) (W.contents result.0) result.1 0 failed_reads 0 failed_writes }
+{
+    let mut source: Counted<R, A> = Counted::new(reader, reads);
+    let mut sink: Counted<W, B> = Counted::new(writer, writes);
+    let outcome = task.run(alloc, &mut source, &mut sink);
+    (sink.into_inner(), outcome)
+}
+
+/// The exit status of a job: 0 where it went through, and else 1.
+fn status<E: Drop>(done: Result<(), E>) -> ExitCode {
+    match done {
+        Ok(()) => ExitCode::SUCCESS,
+        Err(_) => ExitCode::FAILURE,
+    }
+}
+
+/// Does the job `apply` with standard input and output.
+fn do_apply(rt: &HostRuntime) -> ExitCode {
     let (_, done) = run::<_, _, Brand, Brand>(
         rt.alloc(),
         rt.stdin(),
@@ -52,9 +99,81 @@ fn main(rt: HostRuntime) -> ExitCode {
         Blank::new(1),
         Blank::new(1),
     );
-    match done {
-        Ok(()) => ExitCode::SUCCESS,
-        Err(_) => ExitCode::FAILURE,
+    status(done)
+}
+
+/// Does a task with a reader, and standard output.
+fn do_task<T: Task, R: Read + Drop>(rt: &HostRuntime, task: T, reader: R) -> ExitCode {
+    let (_, done) = answer::<_, _, _, Brand, Brand>(
+        rt.alloc(),
+        task,
+        reader,
+        rt.stdout(),
+        Blank::new(1),
+        Blank::new(1),
+    );
+    status(done)
+}
+
+/// Does a job.
+fn do_job(rt: &HostRuntime, job: Job<'_>) -> ExitCode {
+    match job {
+        Job::Apply => do_apply(rt),
+        Job::Canon { origin } => do_task(rt, Canon { origin }, rt.stdin()),
+        Job::Rights { policy, asked } => do_task(rt, asked, PolicyFile::open(rt, policy)),
+    }
+}
+
+/// Does the job that words ask for, and tells where they ask for none: help on standard output, with status 0, and what is wrong
+/// with them on standard error, with status 2.
+fn told(rt: &HostRuntime, words: &[&str]) -> ExitCode {
+    match read_words(rt.alloc(), words) {
+        Ok(job) => do_job(rt, job),
+        Err(WordsFault::Help(text)) => {
+            let _ = rt.print(text);
+            ExitCode::SUCCESS
+        }
+        Err(WordsFault::Misused(text)) => {
+            let _ = rt.eprint(text);
+            ExitCode::from(2)
+        }
+        Err(WordsFault::NoMemory) => no_memory(rt),
+    }
+}
+
+/// Tells that there is no memory for the words.
+fn no_memory(rt: &HostRuntime) -> ExitCode {
+    let _ = rt.print(NO_MEMORY_LINE);
+    ExitCode::FAILURE
+}
+
+/// Words as they are borrowed.
+fn borrowed(alloc: Global, words: &[String]) -> Result<Vec<&str>, AllocError> {
+    let mut texts = Vec::new(alloc);
+    for word in words {
+        texts.push(word.as_str())?;
+    }
+    Ok(texts)
+}
+
+/// The words behind the program's name.
+fn given_words(rt: &HostRuntime) -> io::Result<Vec<String>> {
+    let mut words = env::args(rt)?;
+    let _ = words.next();
+    Ok(words.collect(rt.alloc())?)
+}
+
+fn main(rt: HostRuntime) -> ExitCode {
+    match given_words(&rt) {
+        Ok(words) => match borrowed(rt.alloc(), &words) {
+            Ok(words) => told(&rt, &words),
+            Err(_) => no_memory(&rt),
+        },
+        Err(fault) if fault.kind() == ErrorKind::OutOfMemory => no_memory(&rt),
+        Err(_) => {
+            let _ = rt.eprintln("the words of the command line are no texts");
+            ExitCode::from(2)
+        }
     }
 }
 

@@ -1,5 +1,9 @@
 //! Worked examples: their expected texts come from the standards and not from the program.
 
+mod canon;
+mod rights;
+mod words;
+
 use crate::apply::text_after;
 use crate::fault::{ApplyFault, RefusalLine, ZoneFault};
 use crate::run;

@@ -51,6 +51,39 @@ fn places(rt: HostRuntime) -> Result<(), Fail> {
     Ok(())
 }
 
+/// A caller, a type and an action that are asked of a rule of lists, whether it grants, and the reason.
+const LISTS: [(&str, RecordType, Action, bool, &str); 5] = [
+    ("admin", RecordType::Ds, Action::Delegate, true, "all fits"),
+    (
+        "admins",
+        RecordType::Ds,
+        Action::Delegate,
+        false,
+        "a longer caller",
+    ),
+    (
+        "Admin",
+        RecordType::Ds,
+        Action::Delegate,
+        false,
+        "capitals count",
+    ),
+    (
+        "admin",
+        RecordType::A,
+        Action::Delegate,
+        false,
+        "another type",
+    ),
+    (
+        "admin",
+        RecordType::Ns,
+        Action::Add,
+        false,
+        "another action",
+    ),
+];
+
 #[test]
 fn lists(rt: HostRuntime) -> Result<(), Fail> {
     let alloc = rt.alloc();
@@ -63,38 +96,7 @@ fn lists(rt: HostRuntime) -> Result<(), Fail> {
     let mut rules = Vec::new(alloc);
     rules.push(one)?;
     let policy = Policy::build(alloc, rules)?;
-    let rows = [
-        ("admin", RecordType::Ds, Action::Delegate, true, "all fits"),
-        (
-            "admins",
-            RecordType::Ds,
-            Action::Delegate,
-            false,
-            "a longer caller",
-        ),
-        (
-            "Admin",
-            RecordType::Ds,
-            Action::Delegate,
-            false,
-            "capitals count",
-        ),
-        (
-            "admin",
-            RecordType::A,
-            Action::Delegate,
-            false,
-            "another type",
-        ),
-        (
-            "admin",
-            RecordType::Ns,
-            Action::Add,
-            false,
-            "another action",
-        ),
-    ];
-    for (caller, record_type, action, granted, why) in rows {
+    for (caller, record_type, action, granted, why) in LISTS {
         let got = ask(alloc, &policy, caller, "a.org.", record_type, action)?;
         assert!(rt; got.0 == granted, "{why}");
     }

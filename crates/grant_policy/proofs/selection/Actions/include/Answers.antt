@@ -1,9 +1,14 @@
-use Rattle.std.proofs.lemmas.Bool.Decides.{Decides-at}
+use Rattle.std.proofs.Common.{rules}
+use Rattle.std.specs.Bool.{Decides}
+use Rattle.std.specs.List.{Contains}
+use Rattle.std.proofs.lemmas.Bool.Decides.{same_from_decides}
 use Rattle.grant_policy.specs.Rules.{same_action}
 use Rattle.grant_policy.proofs.WordLemmas.{same_action-Decides}
 use Rattle.grant_policy.proofs.RuleLemmas.{list_any-Decides}
 use Rattle.grant_policy.proofs.selection.Actions.include.Goals as goal
 
-pub returns-in-Some-clause-test : goal.returns-in-Some-clause-test
-returns-in-Some-clause-test c =
-    rw (← c.self.view_is, c.in-Some.is) (Decides-at _ _ c.has_action.ensures (rw c.deref.ensures.value (list_any-Decides same_action same_action-Decides c.args.action _)))
+pub returns-in-Some-clause-value : goal.returns-in-Some-clause-value
+returns-in-Some-clause-value c =
+    let listed = c.in-Some.listed.items in
+    let told : Decides c.contains.result (Contains listed c.args.action) = search rules in
+    rw (← c.self.view_is, c.in-Some.is) (same_from_decides _ _ told (list_any-Decides same_action same_action-Decides c.args.action listed))

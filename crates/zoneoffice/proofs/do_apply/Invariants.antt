@@ -1,4 +1,4 @@
-use Rattle.zoneoffice.proofs.main.Given as goal
+use Rattle.zoneoffice.proofs.do_apply.Given as goal
 
 abbrev pub ghosts-run-A-Ledger : goal.ghosts-run-A-Ledger
 ghosts-run-A-Ledger a = record { name = a.reads.name; parts = a.reads.parts }
