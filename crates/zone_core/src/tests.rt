@@ -8,7 +8,6 @@ use crate::{Operation, Prerequisite, Update, UpdateFault, Zone};
 use dns_data::{Data, Item, Record, RecordType, Ttl, read_data, record_line};
 use dns_names::Name;
 use std::alloc::{AllocError, Global};
-use std::slice;
 use std::test::Fail;
 
 /// The zone of the examples, a record a line: owner, TTL, type and data.
