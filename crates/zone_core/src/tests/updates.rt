@@ -1,9 +1,11 @@
 //! Prerequisites, updates, and the zones after them.
 
 use super::{lines, name, records, update_of, update_with, zone_with};
-use crate::{ItemList, Place, Zone, apply, apply_owned, holds, serial_add, serial_less};
+use crate::{
+    ItemList, Outcome, Place, Update, Zone, apply, apply_owned, holds, serial_add, serial_less,
+};
 use dns_data::{Data, Record};
-use std::alloc::Global;
+use std::alloc::{AllocError, Global};
 use std::slice;
 use std::test::Fail;
 
@@ -372,22 +374,49 @@ fn changed_lines(alloc: Global, records: &[Record]) -> Result<String, Fail> {
     Ok(text)
 }
 
+/// What an update makes of a zone, if it is within it.
+fn applied(alloc: Global, zone: &Zone, update: &Update) -> Result<Option<Outcome>, AllocError> {
+    match update.outside(zone.origin()) {
+        Some(_) => Ok(None),
+        None => Ok(Some(apply(alloc, zone, update)?)),
+    }
+}
+
+/// The same of a zone that is needed no more.
+fn applied_owned(
+    alloc: Global,
+    zone: Zone,
+    update: &Update,
+) -> Result<Option<Outcome>, AllocError> {
+    match update.outside(zone.origin()) {
+        Some(_) => Ok(None),
+        None => Ok(Some(apply_owned(alloc, zone, update)?)),
+    }
+}
+
+/// Whether operations change these records of a zone.
+fn changes_so(
+    alloc: Global,
+    zone: &Zone,
+    acts: &str,
+    removed: &str,
+    added: &str,
+) -> Result<bool, Fail> {
+    let update = update_of(alloc, acts)?;
+    let Some(outcome) = applied(alloc, zone, &update)? else {
+        return Ok(false);
+    };
+    let gone = changed_lines(alloc, &outcome.removed)?;
+    let come = changed_lines(alloc, &outcome.added)?;
+    Ok(gone.as_str() == removed && come.as_str() == added)
+}
+
 #[test]
 fn what_updates_change(rt: HostRuntime) -> Result<(), Fail> {
     let alloc = rt.alloc();
     let zone = zone_with(alloc, &MORE)?;
     for (acts, removed, added, why) in CHANGES {
-        let outcome = apply(alloc, &zone, &update_of(alloc, acts)?)?;
-        assert_eq!(rt;
-            changed_lines(alloc, &outcome.removed)?.as_str(),
-            removed,
-            "{why}"
-        );
-        assert_eq!(rt;
-            changed_lines(alloc, &outcome.added)?.as_str(),
-            added,
-            "{why}"
-        );
+        assert!(rt; changes_so(alloc, &zone, acts, removed, added)?, "{why}");
     }
     Ok(())
 }
@@ -402,7 +431,7 @@ fn the_zone_after_an_update(rt: HostRuntime) -> Result<(), Fail> {
         alloc,
         "add www.example.org. 300 CNAME ns1.example.org.|add www.example.org. 300 A 192.0.2.5|add www.example.org. 600 CNAME ns2.example.org.|delete-record example.org. NS ns1.example.org.|delete-record example.org. NS ns2.example.org.",
     )?;
-    let outcome = apply_owned(alloc, zone_with(alloc, &[])?, &update)?;
+    let outcome = applied_owned(alloc, zone_with(alloc, &[])?, &update)?.expect(&rt, "within");
     assert_eq!(rt;
         changed_lines(alloc, outcome.zone.records())?.as_str(),
         "8|example.org. 3600 NS ns2.example.org.|ns1.example.org. 3600 A 192.0.2.1|www.example.org. 600 CNAME ns2.example.org."
@@ -412,7 +441,8 @@ fn the_zone_after_an_update(rt: HostRuntime) -> Result<(), Fail> {
         let soa = format!(in alloc; "example.org. 60 SOA a. b. {before} 1 1 1 1")?;
         let records = records(alloc, format!(in alloc; "{soa}|NS")?.as_str())?;
         let zone = Zone::build(alloc, name(alloc, "example.org.")?, records)?;
-        assert_eq!(rt; apply(alloc, &zone, &update)?.zone.serial(), after);
+        let outcome = applied(alloc, &zone, &update)?.expect(&rt, "within");
+        assert_eq!(rt; outcome.zone.serial(), after);
     }
     Ok(())
 }
