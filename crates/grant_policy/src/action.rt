@@ -14,7 +14,7 @@ pub enum Action {
     Add,
     /// To delete one, or all.
     Delete,
-    /// To change what makes a delegation: NS and DS below the origin.
+    /// To change what makes a delegation: NS below the origin, and DS.
     Delegate,
 }
 
