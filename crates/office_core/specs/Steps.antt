@@ -1,0 +1,28 @@
+-- What one call of `step` does, over any table.
+use Rattle.std.specs.Prelude.{◌≡◌, ℕ, ◌+◌, List, Option, Some}
+use Rattle.grant_policy.specs.declared.rule.Rule.{Rule}
+use Rattle.office_core.specs.declared.fault.TableFault.TheVariants as faults
+use Rattle.office_core.specs.declared.request.Request.{Request}
+use Rattle.office_core.specs.declared.reply.Reply.{Reply}
+use Rattle.office_core.specs.declared.reply.Reply.TheVariants.{Servfail}
+use Rattle.office_core.specs.Replies.{reply_of}
+use Rattle.office_core.specs.States.{State}
+use Rattle.office_core.specs.Machine.{step}
+use Rattle.office_core.specs.Tables.{CountsFault}
+
+-- what a request is answered from a state, and the state after it: a step of the machine; or the table failed or memory ran out,
+-- and nothing changed
+abbrev pub Steps : List Rule → State → List ℕ → Request → Reply → State → Type 0
+Steps rules s caller request (Servfail fault) after = after ≡ s
+Steps rules s caller request reply after = (reply_of reply ≡ Some (step rules s caller request).reply) × (after ≡ (step rules s caller request).after)
+
+-- what a crash leaves behind a reply: the state after the request; where the table failed or memory ran out, that or the one
+-- before it
+abbrev pub Leaves : (State → State → Type 0) → List Rule → State → List ℕ → Request → Reply → Type 0
+Leaves leaves rules s caller request (Servfail fault) = leaves s (step rules s caller request).after
+Leaves leaves rules s caller request reply = leaves (step rules s caller request).after (step rules s caller request).after
+
+-- a reply for a failure of the table is one where its count rose by one, and it did for no other reply
+abbrev pub CountsReply : ℕ → ℕ → Reply → Type 0
+CountsReply before after (Servfail fault) = CountsFault before after fault
+CountsReply before after reply = after ≡ before
