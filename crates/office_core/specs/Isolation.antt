@@ -17,7 +17,7 @@ use Rattle.office_core.specs.Permissions.{IsGranted}
 use Rattle.office_core.specs.Replies.{ReplyOf}
 use Rattle.office_core.specs.States.{State, Held, AreZones}
 use Rattle.office_core.specs.Machine.{made}
-use Rattle.office_core.specs.Runs.{Answer, turn, answers}
+use Rattle.office_core.specs.Runs.{Answer, turn, answers, HaveUpdates}
 
 -- ---- a caller by itself
 
@@ -94,16 +94,16 @@ OthersMayNot rules caller =
 abbrev pub CallersAreAlone : Type 0
 CallersAreAlone =
     (rules : List Rule) (caller : List ℕ) (s : State) (calls : List Call)
-    → AreZones s → HasNoSoaRight rules caller s → OthersStayAway rules caller s calls → IsToldAlone rules caller s calls
+    → AreZones s → HaveUpdates calls → HasNoSoaRight rules caller s → OthersStayAway rules caller s calls → IsToldAlone rules caller s calls
 
 -- It is enough that it sees no SOA, and others do no harm by adding an SOA at an origin.
 abbrev pub BlindCallersAreAlone : Type 0
 BlindCallersAreAlone =
     (rules : List Rule) (caller : List ℕ) (s : State) (calls : List Call)
-    → AreZones s → SeesNoSoa rules caller s → OthersStayQuiet rules caller s calls → IsToldAlone rules caller s calls
+    → AreZones s → HaveUpdates calls → SeesNoSoa rules caller s → OthersStayQuiet rules caller s calls → IsToldAlone rules caller s calls
 
 -- By the policy alone, whatever is requested.
 abbrev pub PoliciesKeepAlone : Type 0
 PoliciesKeepAlone =
     (rules : List Rule) (caller : List ℕ) (s : State) (calls : List Call)
-    → AreZones s → SeesNoSoa rules caller s → OthersMayNot rules caller → IsToldAlone rules caller s calls
+    → AreZones s → HaveUpdates calls → SeesNoSoa rules caller s → OthersMayNot rules caller → IsToldAlone rules caller s calls
