@@ -1,5 +1,5 @@
 -- What is kept of an update that is answered by what it reads of its zone: the machine's own turn.
-use Rattle.std.proofs.Common.{◌≡◌, ℕ, List, ◌∷◌, [], ◌++◌, map, length, Bool, true, false, cond, ◌&&◌, ◌||◌, ◌==◌, if◌then◌else◌, Option, Some, None, option_map, Result, Ok, Err, refl, sym, ap, subst, ◌∙◌}
+use Rattle.std.proofs.Common.{◌≡◌, ℕ, List, ◌∷◌, [], ◌++◌, map, length, Bool, true, false, ◌&&◌, ◌||◌, ◌==◌, if◌then◌else◌, Option, Some, None, option_map, Result, Ok, Err, refl, sym, ap, subst, ◌∙◌}
 use Rattle.std.specs.List.{list_any}
 use Rattle.std.specs.Option.{option_or}
 use Rattle.std.specs.Result.{IsErr}
@@ -10,10 +10,8 @@ use Rattle.dns_names.specs.Order.{same_name}
 use Rattle.dns_data.specs.declared.record.Record.{Record}
 use Rattle.grant_policy.specs.declared.rule.Rule.{Rule}
 use Rattle.zone_core.specs.declared.update.Place.{Place}
-use Rattle.zone_core.specs.declared.update.Prerequisite.{Prerequisite}
-use Rattle.zone_core.specs.declared.update.Operation.{Operation}
 use Rattle.zone_core.specs.declared.verdict.Failed.{Failed}
-use Rattle.zone_core.specs.Sets.{Records, Key, listing, part, minus, is_same, at_name}
+use Rattle.zone_core.specs.Sets.{Records, Key, listing, minus, is_same, at_name}
 use Rattle.zone_core.specs.Zones.{ZoneOf, IsZone}
 use Rattle.zone_core.specs.Updates.{UpdateOf, IsUpdate, ActsWithin, tested_name, acted_name, first_outside}
 use Rattle.zone_core.specs.Effects.{zone_after}
@@ -30,9 +28,9 @@ use Rattle.office_core.specs.declared.reply.UpdateReply.{UpdateReply}
 use Rattle.office_core.specs.declared.reply.UpdateReply.TheVariants.{NoError, NotAuth, NotZone, Failed as FailedReply}
 use Rattle.office_core.specs.Replies.{to_update}
 use Rattle.office_core.specs.States.{ChangeOf, Held, State, AreZones, zone_held, part_at}
-use Rattle.office_core.specs.Machine.{Turn, is_nothing, outside_reply, denied_reply, failed_reply, zone_refusal, refusal, change_of, with_change, held_after, hold, keep, answered}
-use Rattle.office_core.specs.Tables.{AdditionOf, held_with, committed, FitsHeld, FitsChange, Fits}
-use Rattle.office_core.specs.Steps.{LeavesTurn, held_in, change_made, Makes, MakesAt, addition_of}
+use Rattle.office_core.specs.Machine.{Turn, is_nothing, denied_reply, failed_reply, zone_refusal, refusal, change_of, with_change, held_after, hold, keep, answered}
+use Rattle.office_core.specs.Tables.{AdditionOf, held_with, committed, FitsHeld}
+use Rattle.office_core.specs.Steps.{LeavesTurn, Commits, held_in, change_made, Makes, MakesAt, addition_of}
 
 same_Some : {T : Type 0} (a b : T) → Some a ≡ Some b → a ≡ b
 same_Some a b e = cc
@@ -78,12 +76,6 @@ same_state s origin held is = λ i. record s { zones = λ o. each o i }
     each o = by_name o (same_name o origin) refl
 
 -- ---- what is kept of an update
-
--- an addition fits a state, and is what the machine keeps in its turn, which is answered by a reply
-pub record Commits (s : State) (turn : Turn) (a : AdditionOf) (reply : UpdateReply) : Type 0 where
-  pub fits : Fits s a
-  pub replied : turn.reply ≡ to_update reply
-  pub after : turn.after ≡ committed a s
 
 module _ (rules : List Rule) (s : State) (caller id : List ℕ) (origin : List (List ℕ)) (update : UpdateOf) (names : List (List (List ℕ))) (zones : AreZones s) (fresh : s.receipts caller id ≡ None) (is : IsUpdate update) (named : names ≡ map tested_name update.prerequisites ++ map acted_name update.operations) where
   abbrev Told : Option UpdateReply → UpdateReply → Option ChangeOf → Type 0
@@ -204,10 +196,22 @@ module _ (rules : List Rule) (s : State) (caller id : List ℕ) (origin : List (
       of_zone held e reply change (subst (λ w. Makes w update (zone_refusal rules caller w.origin update (held_in w)) reply change) (same_Some zone (less held e) same) makes)
 
   -- what is answered by the part of a zone that an update reads, and what is kept of it then, are the machine's
-  pub commits : (zone : Option ZoneOf) → zone ≡ part_at s origin names → (reply : UpdateReply) (change : Option ChangeOf) → MakesAt rules caller update zone reply change → Commits s (answered s caller id origin update (refusal rules caller origin update (s.zones origin))) (addition_of caller id origin update reply change) reply
-  commits zone same reply change makes = by_held (s.zones origin) refl zone same reply change makes
+  pub commits : (zone : Option ZoneOf) → zone ≡ part_at s origin names → (reply : UpdateReply) (change : Option ChangeOf) → MakesAt rules caller update zone reply change → (a : AdditionOf) → a ≡ addition_of caller id origin update reply change → Commits s (answered s caller id origin update (refusal rules caller origin update (s.zones origin))) a reply
+  commits zone same reply change makes a of =
+      subst (λ x. Commits s (answered s caller id origin update (refusal rules caller origin update (s.zones origin))) x reply) (sym of)
+      (by_held (s.zones origin) refl zone same reply change makes)
 
--- an update whose answer was a fault
-pub leaves_err : (leaves : State → State → Type 0) (s : State) (turn : Turn) (r : Result Reply TableFault) → IsErr r → leaves s turn.after → LeavesTurn leaves s turn r
-leaves_err leaves s turn (Ok reply) is left = absurd cc
-leaves_err leaves s turn (Err fault) is left = left
+-- ---- what a commit leaves
+
+module _ (s : State) (turn : Turn) (a : AdditionOf) (reply : UpdateReply) (k : Commits s turn a reply) where
+  -- one that was made
+  pub taken : (holds : State → Type 0) → holds (committed a s) → (Some (to_update reply) ≡ Some turn.reply) × holds turn.after
+  taken holds made = (ap Some (sym k.replied), subst holds (sym k.after) made)
+
+  pub left : (leaves : State → State → Type 0) → leaves (committed a s) (committed a s) → leaves turn.after turn.after
+  left leaves kept = subst (λ (t : State). leaves t t) (sym k.after) kept
+
+  -- one that failed
+  pub left_by_err : (leaves : State → State → Type 0) (r : Result Reply TableFault) → IsErr r → leaves s (committed a s) → LeavesTurn leaves s turn r
+  left_by_err leaves (Ok answer) is crash = absurd cc
+  left_by_err leaves (Err fault) is crash = subst (leaves s) (sym k.after) crash

@@ -11,10 +11,10 @@ use Rattle.office_core.specs.declared.reply.Reply.{Reply}
 use Rattle.office_core.specs.declared.reply.Reply.TheVariants.{Servfail}
 use Rattle.office_core.specs.declared.reply.UpdateReply.{UpdateReply}
 use Rattle.office_core.specs.declared.reply.UpdateReply.TheVariants.{NoError, NotAuth}
-use Rattle.office_core.specs.Replies.{reply_of}
+use Rattle.office_core.specs.Replies.{reply_of, to_update}
 use Rattle.office_core.specs.States.{ChangeOf, Held, State}
 use Rattle.office_core.specs.Machine.{Turn, step, zone_refusal, change_of, receipt}
-use Rattle.office_core.specs.Tables.{CountsFault, AdditionOf}
+use Rattle.office_core.specs.Tables.{CountsFault, AdditionOf, Fits, committed}
 
 -- What a request is answered from a state, and that the state after it is held: a step of the machine; or the table failed or
 -- memory ran out, and nothing changed.
@@ -72,3 +72,9 @@ MakesAt rules caller update (Some zone) reply change = Makes zone update (zone_r
 -- what is kept of an update: its receipt, and the change that it made
 abbrev pub addition_of : List ℕ → List ℕ → List (List ℕ) → UpdateOf → UpdateReply → Option ChangeOf → AdditionOf
 addition_of caller id origin update reply change = record { caller = caller; id = id; receipt = receipt origin update reply; change = change }
+
+-- an addition fits a state, and is what the machine keeps in its turn, which is answered by a reply
+pub record Commits (s : State) (turn : Turn) (a : AdditionOf) (reply : UpdateReply) : Type 0 where
+  pub fits : Fits s a
+  pub replied : turn.reply ≡ to_update reply
+  pub after : turn.after ≡ committed a s

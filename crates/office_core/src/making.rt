@@ -6,7 +6,7 @@ ghost use Rattle.office_core.specs.Replies.{reply_of};
 ghost use Rattle.office_core.specs.States.{State};
 ghost use Rattle.office_core.specs.Tables.{Counts, change_in, addition_in};
 ghost use Rattle.office_core.specs.Machine.{again, answered, updated, refusal, zone_refusal};
-ghost use Rattle.office_core.specs.Steps.{IsAnswer, Takes, LeavesTurn, Makes, MakesAt, held_in, addition_of};
+ghost use Rattle.office_core.specs.Steps.{IsAnswer, Takes, LeavesTurn, Commits, Makes, MakesAt, held_in, addition_of};
 
 use crate::fault::TableFault;
 use crate::permission::denied;
@@ -68,13 +68,34 @@ fn first_reply<T: ZoneTable>(
     ensures answers { IfOk result IsAnswer }
     ensures counts { Counts (T.failures table.old) (T.failures table.new) result }
 {
+    let (reply, addition) = prepared(alloc, table, policy, caller, id, origin, update)?;
+    table.commit(alloc, addition)?;
+    // nothing takes memory behind a commit
+    Ok(Reply::Update(reply))
+}
+
+/// The reply to an update that has no receipt, and what is to be kept of it.
+fn prepared<T: ZoneTable>(
+    alloc: Global,
+    table: &mut T,
+    policy: &Policy,
+    caller: &Identifier,
+    id: &Identifier,
+    origin: &Name,
+    update: &Update,
+) -> Result<(UpdateReply, Addition), TableFault>
+    requires fresh { T.is_honest table.old → (s : State) → T.holds table.old s → s.receipts caller.now id.now ≡ None }
+    ensures commits { T.is_honest table.new → IfOk result (λ r. (s : State) → T.holds table.new s → Commits s (answered s caller.now id.now origin.now update.now (refusal policy.now caller.now origin.now update.now (s.zones origin.now))) (addition_in r.1) r.0) }
+    ensures same { (s : State) → T.holds table.old s → T.holds table.new s }
+    ensures crash { (s t : State) → T.leaves table.old s t → T.leaves table.new s t }
+    ensures honest { T.is_honest table.new → T.is_honest table.old }
+    ensures counts { Counts (T.failures table.old) (T.failures table.new) result }
+{
     let names = item_names(alloc, update)?;
     let part = table.part(alloc, origin, &names)?;
     let (reply, change) = made_at(alloc, policy, caller, part, update)?;
     let addition = addition(alloc, caller, id, origin, update, &reply, change)?;
-    table.commit(alloc, addition)?;
-    // nothing takes memory behind a commit
-    Ok(Reply::Update(reply))
+    Ok((reply, addition))
 }
 
 /// What is kept of an update: its receipt, and the change that it made. The only error is want of memory.
