@@ -29,3 +29,7 @@ pub mod MetLemmas
 pub mod NameListLemmas
 pub mod AccountLemmas
 pub mod LeaveLemmas
+pub mod OwnLemmas
+pub mod OriginLemmas
+pub mod ListedLemmas
+pub mod SightLemmas

@@ -12,6 +12,7 @@ pub mod Effects
 pub mod Sites
 pub mod Merges
 pub mod Parts
+pub mod Sight
 pub mod Accounts
 pub mod Met
 pub mod Versions
