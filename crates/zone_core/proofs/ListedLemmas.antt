@@ -71,6 +71,12 @@ filtered a owns f =
     sym (listing_of (filter f (listing a)) (InOrder-filter f (listing a) rows.0))
     ∙ ap (λ (s : Records). listing s) (sifted (λ x y. passes f x) (listing a) rows.0 a ∙ ap (λ (s : Records). part s (found_by f s)) rows.1)
 
+pub part_own : (a : Records) (p : Key → Bool) → AreOwn a → AreOwn (part a p)
+part_own a p owns k r e = owns k r (found_of_part a p k r e).1
+
+pub part_same : (a b : Records) (p : Key → Bool) (k : Key) → get a k ≡ get b k → get (part a p) k ≡ get (part b p) k
+part_same a b p k e = get-part a p k ∙ ap (λ (o : Option Record). cond (p k) o None) e ∙ sym (get-part b p k)
+
 pub minus_own : (a b : Records) → AreOwn a → AreOwn (minus a b)
 minus_own a b owns k r e = owns k r (found_of_part a (λ j. not (same_ttl (get a j) (get b j))) k r e).1
 

@@ -21,13 +21,13 @@ use Rattle.zone_core.specs.Zones.{AreKept, is_soa, is_cname, soa_at, first_of}
 use Rattle.zone_core.specs.Updates.{acted_name}
 use Rattle.zone_core.specs.Prerequisites.{fails, set_fails, given_for, are_data, failed, first_failed, verdict}
 use Rattle.zone_core.specs.Effects.{is_other_type, takes_over, add_soa, add_cname, add_other, is_misplaced, add, is_guarded, goes, key_at, is_other_ns, stays, effect, effects, settled}
-use Rattle.zone_core.specs.Sight.{LookAlike, TestsSeen, IsQuiet, PassesSeen, VerdictsLookAlike, UpdatesLookAlike, QuietUpdatesLookAlike, ListingsLookAlike, ChangesLookAlike, QuietChangesShowNothing}
+use Rattle.zone_core.specs.Sight.{LookAlike, TestsSeen, IsQuiet, PassesSeen, VerdictsLookAlike, UpdatesLookAlike, QuietUpdatesLookAlike, ListingsLookAlike, PartsLookAlike, ChangesLookAlike, QuietChangesShowNothing}
 use Rattle.zone_core.proofs.SetLemmas.{by_cases, name_is, name_self, get-part, get-cut, get-put, same_sets, same_parts, same_has, none_there, has_wider}
 use Rattle.zone_core.proofs.EffectLemmas.{retag, get-with_ttl, effect_away}
 use Rattle.zone_core.proofs.ZoneLemmas.{at_is, kind, no, both_true}
 use Rattle.zone_core.proofs.OwnLemmas.{AreOwn, own, effects_own, effects_kept, same_is}
 use Rattle.zone_core.proofs.OriginLemmas.{either, of_soa, home, rank, effect_soa, soa_added, settled_other, updated_soa}
-use Rattle.zone_core.proofs.ListedLemmas.{passes, found_by, filtered, minus_own, minus_same, minus_none, bare, bare_own, nothing_listed}
+use Rattle.zone_core.proofs.ListedLemmas.{passes, found_by, filtered, part_own, part_same, minus_own, minus_same, minus_none, bare, bare_own, nothing_listed}
 
 -- two choices by equal tests, whose sides are equal to f
 chosen : {A B : Type 0} (f : A → B) (b c : Bool) (x y u v : A) → b ≡ c → (b ≡ true → f x ≡ f u) → (b ≡ false → f y ≡ f v) → f (cond b x y) ≡ f (cond c u v)
@@ -236,6 +236,10 @@ module _ (Seen : List (List ℕ) → Type 0) where
 
   pub listings_look_alike : ListingsLookAlike Seen
   listings_look_alike origin a b kept also alike f passed = rows_alike Seen origin f passed a b (own a kept) (own b also) alike.same
+
+  pub parts_look_alike : PartsLookAlike Seen
+  parts_look_alike origin a b kept also alike test f passed =
+      rows_alike Seen origin f passed (part a test) (part b test) (part_own a test (own a kept)) (part_own b test (own b also)) (λ k sees off. part_same a b test k (alike.same k sees off))
 
   pub changes_look_alike : ChangesLookAlike Seen
   changes_look_alike origin a b c d kept also first second f passed =

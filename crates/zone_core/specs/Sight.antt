@@ -10,7 +10,7 @@ use Rattle.zone_core.specs.declared.update.Prerequisite.{Prerequisite}
 use Rattle.zone_core.specs.declared.update.Prerequisite.TheVariants.{RrsetExists, RrsetEquals, RrsetAbsent, NameUsed, NameUnused}
 use Rattle.zone_core.specs.declared.update.Operation.{Operation}
 use Rattle.zone_core.specs.declared.update.Operation.TheVariants.{Add, DeleteRrset, DeleteName, DeleteRecord}
-use Rattle.zone_core.specs.Sets.{Records, Key, key_of, listing, has, at, minus}
+use Rattle.zone_core.specs.Sets.{Records, Key, key_of, listing, part, has, at, minus}
 use Rattle.zone_core.specs.Zones.{AreKept}
 use Rattle.zone_core.specs.Updates.{IsOperation, acted_name}
 use Rattle.zone_core.specs.Prerequisites.{verdict}
@@ -68,6 +68,12 @@ module _ (Seen : List (List ℕ) → Type 0) where
   ListingsLookAlike =
       (origin : List (List ℕ)) (a b : Records) → AreKept a → AreKept b → LookAlike Seen origin a b
       → (f : Record → Bool) → PassesSeen Seen origin f → filter f (listing a) ≡ filter f (listing b)
+
+  -- of a part of a set too
+  abbrev pub PartsLookAlike : Type 0
+  PartsLookAlike =
+      (origin : List (List ℕ)) (a b : Records) → AreKept a → AreKept b → LookAlike Seen origin a b
+      → (test : Key → Bool) (f : Record → Bool) → PassesSeen Seen origin f → filter f (listing (part a test)) ≡ filter f (listing (part b test))
 
   -- and changes, to the records that are seen
   abbrev pub ChangesLookAlike : Type 0

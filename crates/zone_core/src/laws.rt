@@ -2,7 +2,7 @@
 
 ghost use Rattle.std.specs.Prelude.{◌≡◌, ℕ, List, Bool, true};
 ghost use Rattle.zone_core.specs.Parts.{VerdictsReadTheirNames, OperationsReadTheirNames, UpdatesNeedTheirPart};
-ghost use Rattle.zone_core.specs.Sight.{VerdictsLookAlike, UpdatesLookAlike, QuietUpdatesLookAlike, ListingsLookAlike, ChangesLookAlike, QuietChangesShowNothing};
+ghost use Rattle.zone_core.specs.Sight.{VerdictsLookAlike, UpdatesLookAlike, QuietUpdatesLookAlike, ListingsLookAlike, PartsLookAlike, ChangesLookAlike, QuietChangesShowNothing};
 ghost use Rattle.zone_core.specs.Accounts.{UpdatesLeave};
 ghost use Rattle.zone_core.specs.Versions.{UpdatesKeepZones, UpdatesAdvance};
 
@@ -55,9 +55,11 @@ pub fn quiet_updates_look_alike()
     ensures { (seen : List (List ℕ) → Bool) → QuietUpdatesLookAlike (λ name. seen name ≡ true) }
 {}
 
-/// Lists of the records at some names, without the SOA at the origin, are equal for two zones that look alike there.
+/// Lists of the records at some names, without the SOA at the origin, are equal for two zones that look alike there; and so are
+/// those of a part of each.
 pub fn listings_look_alike()
-    ensures { (seen : List (List ℕ) → Bool) → ListingsLookAlike (λ name. seen name ≡ true) }
+    ensures whole { (seen : List (List ℕ) → Bool) → ListingsLookAlike (λ name. seen name ≡ true) }
+    ensures part { (seen : List (List ℕ) → Bool) → PartsLookAlike (λ name. seen name ≡ true) }
 {}
 
 /// Changes show of the records at some names, without the SOA at the origin, the same for zones that look alike there before and
