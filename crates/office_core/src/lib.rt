@@ -1,14 +1,24 @@
-//! The machine: what an update asks for, and whether a policy permits it.
+//! The machine: what is asked of the office, who may ask it, and what is replied and kept.
 #![tactic(auto)]
 
+mod fault;
 mod footprint;
 mod item;
 mod laws;
 mod permission;
+mod receipt;
+mod reply;
+mod request;
+mod table;
 
+pub use fault::TableFault;
 pub use footprint::{operation_asks, prerequisite_asks};
 pub use laws::footprints_are_asked_in_order;
 pub use permission::{Denial, denied};
+pub use receipt::{Addition, Change, Receipt};
+pub use reply::{NumberedChange, Reply, Right, UpdateReply};
+pub use request::{Call, Request};
+pub use table::ZoneTable;
 
 #[cfg(test)]
 mod tests;

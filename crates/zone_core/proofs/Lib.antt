@@ -19,6 +19,7 @@ pub mod EffectLemmas
 pub mod ChangeLemmas
 pub mod MergeLemmas
 pub mod OutcomeLemmas
+pub mod ChangedLemmas
 pub mod PartLemmas
 pub mod ZoneLemmas
 pub mod VersionLemmas

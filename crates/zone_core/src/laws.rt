@@ -4,6 +4,7 @@ ghost use Rattle.std.specs.Prelude.{◌≡◌, ℕ, List, Bool, true};
 ghost use Rattle.zone_core.specs.Parts.{VerdictsReadTheirNames, OperationsReadTheirNames, UpdatesNeedTheirPart};
 ghost use Rattle.zone_core.specs.Sight.{VerdictsLookAlike, UpdatesLookAlike, QuietUpdatesLookAlike, ListingsLookAlike, PartsLookAlike, ChangesLookAlike, QuietChangesShowNothing};
 ghost use Rattle.zone_core.specs.Accounts.{UpdatesLeave};
+ghost use Rattle.zone_core.specs.Changes.{ChangesMake, SameSetsAreOne};
 ghost use Rattle.zone_core.specs.Versions.{UpdatesKeepZones, UpdatesAdvance};
 
 /// The prerequisites of an update read the records at their names, and no others.
@@ -67,4 +68,14 @@ pub fn listings_look_alike()
 pub fn changes_look_alike()
     ensures alike { (seen : List (List ℕ) → Bool) → ChangesLookAlike (λ name. seen name ≡ true) }
     ensures quiet { (seen : List (List ℕ) → Bool) → QuietChangesShowNothing (λ name. seen name ≡ true) }
+{}
+
+/// What two zones differ in fits the one, and made to it, it gives the other.
+pub fn changes_make_the_zone_after()
+    ensures { ChangesMake }
+{}
+
+/// Sets of records differ in nothing exactly where they are one.
+pub fn equal_sets_are_one()
+    ensures { SameSetsAreOne }
 {}

@@ -1,0 +1,109 @@
+-- Isolation: a caller's replies are those that it would get alone, as long as others change nothing at its own names.
+use Rattle.std.specs.Prelude.{◌≡◌, ◌≢◌, ◌⊎◌, ℕ, List, [], ◌∷◌, map, bytes_eq, Some}
+use Rattle.std.specs.List.{filter, AllByRecursion}
+use Rattle.dns_data.specs.declared.record_type.RecordType.{RecordType}
+use Rattle.dns_data.specs.declared.record_type.RecordType.TheVariants as types
+use Rattle.grant_policy.specs.declared.action.Action.{Action}
+use Rattle.grant_policy.specs.declared.action.Action.TheVariants as action
+use Rattle.grant_policy.specs.declared.rule.Rule.{Rule}
+use Rattle.grant_policy.specs.Decisions.{HasRight}
+use Rattle.zone_core.specs.declared.update.Operation.{Operation}
+use Rattle.zone_core.specs.Updates.{acted_name}
+use Rattle.zone_core.specs.Sight.{IsQuiet}
+use Rattle.office_core.specs.declared.request.Request.{Request}
+use Rattle.office_core.specs.declared.request.Request.TheVariants as requests
+use Rattle.office_core.specs.declared.request.Call.{Call}
+use Rattle.office_core.specs.Permissions.{IsGranted}
+use Rattle.office_core.specs.Replies.{ReplyOf}
+use Rattle.office_core.specs.States.{State, Held, AreZones}
+use Rattle.office_core.specs.Machine.{made}
+use Rattle.office_core.specs.Runs.{Answer, turn, answers, HaveUpdates}
+
+-- ---- a caller by itself
+
+-- the requests of a caller
+abbrev pub asked_by : List ℕ → List Call → List Call
+asked_by caller calls = filter (λ call. bytes_eq call.caller caller) calls
+
+-- the replies to it
+abbrev pub told_to : List ℕ → List Answer → List ReplyOf
+told_to caller all = map (λ a. a.reply) (filter (λ a. bytes_eq a.caller caller) all)
+
+-- its replies among all calls are those to its calls alone
+abbrev pub IsToldAlone : List Rule → List ℕ → State → List Call → Type 0
+IsToldAlone rules caller s calls = told_to caller (answers rules s calls) ≡ told_to caller (answers rules s (asked_by caller calls))
+
+-- ---- what it may do
+
+-- its own names: those at which some action with some type is granted to it
+abbrev pub IsOwn : List Rule → List ℕ → List (List ℕ) → Type 0
+IsOwn rules caller name = HasRight rules caller name
+
+-- it has no right on the SOA at the origin of a zone
+abbrev pub HasNoSoaRight : List Rule → List ℕ → State → Type 0
+HasNoSoaRight rules caller s =
+    (origin : List (List ℕ)) (held : Held) → s.zones origin ≡ Some held → (asked : Action) → ¬ IsGranted rules caller origin types.Soa asked
+
+-- it may neither list nor check the SOA at the origin of a zone, whatever else it may do with it
+pub record IsBlindAt (rules : List Rule) (caller : List ℕ) (origin : List (List ℕ)) : Type 0 where
+  pub unlisted : ¬ IsGranted rules caller origin types.Soa action.List
+  pub unchecked : ¬ IsGranted rules caller origin types.Soa action.Check
+
+abbrev pub SeesNoSoa : List Rule → List ℕ → State → Type 0
+SeesNoSoa rules caller s = (origin : List (List ℕ)) (held : Held) → s.zones origin ≡ Some held → IsBlindAt rules caller origin
+
+-- ---- what others do
+
+-- the origin that a request names
+abbrev pub origin_of : Request → List (List ℕ)
+origin_of (requests.Update origin id update) = origin
+origin_of (requests.List origin) = origin
+origin_of (requests.ListWithin origin top) = origin
+origin_of (requests.File origin) = origin
+origin_of (requests.Delegations origin) = origin
+origin_of (requests.Changes origin from) = origin
+origin_of (requests.Rights name record_type asked) = name
+
+-- each operation that is made for another caller acts at a name that is not the caller's own
+abbrev pub OthersStayAway : List Rule → List ℕ → State → List Call → Type 0
+OthersStayAway rules caller s [] = Unit {0}
+OthersStayAway rules caller s (call ∷ calls) =
+    (call.caller ≢ caller → AllByRecursion (λ op. ¬ IsOwn rules caller (acted_name op)) (made rules s call.caller call.request))
+    × OthersStayAway rules caller (turn rules s call).after calls
+
+-- the same, but others may add an SOA at a zone's origin, whoever's own name that is
+abbrev pub OthersStayQuiet : List Rule → List ℕ → State → List Call → Type 0
+OthersStayQuiet rules caller s [] = Unit {0}
+OthersStayQuiet rules caller s (call ∷ calls) =
+    (call.caller ≢ caller → AllByRecursion (IsQuiet (IsOwn rules caller) (origin_of call.request)) (made rules s call.caller call.request))
+    × OthersStayQuiet rules caller (turn rules s call).after calls
+
+-- an action that changes records
+abbrev pub ChangesRecords : Action → Type 0
+ChangesRecords asked = (asked ≡ action.Add) ⊎ ((asked ≡ action.Delete) ⊎ (asked ≡ action.Delegate))
+
+-- the policy grants no other caller to change records at a name of the caller's own
+abbrev pub OthersMayNot : List Rule → List ℕ → Type 0
+OthersMayNot rules caller =
+    (other : List ℕ) (name : List (List ℕ)) (record_type : RecordType) (asked : Action)
+    → other ≢ caller → IsOwn rules caller name → ChangesRecords asked → ¬ IsGranted rules other name record_type asked
+
+-- ---- the laws
+
+-- A caller that has no right on an SOA is told what it would be told alone, where others stay away from its names.
+abbrev pub CallersAreAlone : Type 0
+CallersAreAlone =
+    (rules : List Rule) (caller : List ℕ) (s : State) (calls : List Call)
+    → AreZones s → HaveUpdates calls → HasNoSoaRight rules caller s → OthersStayAway rules caller s calls → IsToldAlone rules caller s calls
+
+-- It is enough that it sees no SOA, and others do no harm by adding an SOA at an origin.
+abbrev pub BlindCallersAreAlone : Type 0
+BlindCallersAreAlone =
+    (rules : List Rule) (caller : List ℕ) (s : State) (calls : List Call)
+    → AreZones s → HaveUpdates calls → SeesNoSoa rules caller s → OthersStayQuiet rules caller s calls → IsToldAlone rules caller s calls
+
+-- By the policy alone, whatever is requested.
+abbrev pub PoliciesKeepAlone : Type 0
+PoliciesKeepAlone =
+    (rules : List Rule) (caller : List ℕ) (s : State) (calls : List Call)
+    → AreZones s → HaveUpdates calls → SeesNoSoa rules caller s → OthersMayNot rules caller → IsToldAlone rules caller s calls

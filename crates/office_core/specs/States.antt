@@ -1,0 +1,49 @@
+-- The state of the office: its zones with their changes, and the receipts of what it answered.
+use Rattle.std.specs.Prelude.{◌≡◌, ℕ, List, Option, Some, option_map}
+use Rattle.dns_data.specs.declared.record.Record.{Record}
+use Rattle.zone_core.specs.Sets.{Records, Key, listing, part, within}
+use Rattle.zone_core.specs.Zones.{ZoneOf, IsZone}
+use Rattle.zone_core.specs.Updates.{UpdateOf}
+use Rattle.zone_core.specs.Parts.{part_of, at_names}
+use Rattle.office_core.specs.declared.receipt.Receipt.{Receipt}
+
+-- a change of a zone: the records that went and those that came, with their TTLs, each side in record order
+pub record ChangeOf : Type 0 where
+  pub removed : List Record
+  pub added : List Record
+
+-- what is held of an origin: the records of its zone, and the changes of the zone, the oldest first
+pub record Held : Type 0 where
+  pub records : Records
+  pub changes : List ChangeOf
+
+-- what is held of each origin, and the receipt of each caller and identifier, where there is one
+pub record State : Type 0 where
+  pub zones : List (List ℕ) → Option Held
+  pub receipts : List ℕ → List ℕ → Option Receipt
+
+-- the zone that is held of an origin
+abbrev pub zone_held : List (List ℕ) → Held → ZoneOf
+zone_held origin held = record { origin = origin; records = held.records }
+
+-- the zone of an origin, where there is one
+abbrev pub zone_at : State → List (List ℕ) → Option ZoneOf
+zone_at s origin = option_map (zone_held origin) (s.zones origin)
+
+-- what is held of each origin is a zone
+abbrev pub AreZones : State → Type 0
+AreZones s = (origin : List (List ℕ)) (held : Held) → s.zones origin ≡ Some held → IsZone (zone_held origin held)
+
+-- ---- what is read of it
+
+-- the part of a zone that has the records at its origin and at some names
+abbrev pub part_at : State → List (List ℕ) → List (List (List ℕ)) → Option ZoneOf
+part_at s origin names = option_map (λ zone. part_of zone (at_names origin names)) (zone_at s origin)
+
+-- the records of a zone within a name, in record order
+abbrev pub subtree_at : State → List (List ℕ) → List (List ℕ) → Option (List Record)
+subtree_at s origin top = option_map (λ zone. listing (part zone.records (within top))) (zone_at s origin)
+
+-- the changes of a zone, the oldest first
+abbrev pub changes_at : State → List (List ℕ) → Option (List ChangeOf)
+changes_at s origin = option_map (λ held. held.changes) (s.zones origin)

@@ -1,0 +1,39 @@
+-- What one call of `step` does, over any table.
+use Rattle.std.specs.Prelude.{◌≡◌, ℕ, List, Option, Some, Result, Ok, Err}
+use Rattle.grant_policy.specs.declared.rule.Rule.{Rule}
+use Rattle.office_core.specs.declared.fault.TableFault.{TableFault}
+use Rattle.office_core.specs.declared.request.Request.{Request}
+use Rattle.office_core.specs.declared.reply.Reply.{Reply}
+use Rattle.office_core.specs.declared.reply.Reply.TheVariants.{Servfail}
+use Rattle.office_core.specs.Replies.{reply_of}
+use Rattle.office_core.specs.States.{State}
+use Rattle.office_core.specs.Machine.{Turn, step}
+use Rattle.office_core.specs.Tables.{CountsFault}
+
+-- What a request is answered from a state, and that the state after it is held: a step of the machine; or the table failed or
+-- memory ran out, and nothing changed.
+abbrev pub Steps : (State → Type 0) → List Rule → State → List ℕ → Request → Reply → Type 0
+Steps holds rules s caller request (Servfail fault) = holds s
+Steps holds rules s caller request reply = (reply_of reply ≡ Some (step rules s caller request).reply) × holds (step rules s caller request).after
+
+-- what a crash leaves behind a reply: the state after the request; where the table failed or memory ran out, that or the one
+-- before it
+abbrev pub Leaves : (State → State → Type 0) → List Rule → State → List ℕ → Request → Reply → Type 0
+Leaves leaves rules s caller request (Servfail fault) = leaves s (step rules s caller request).after
+Leaves leaves rules s caller request reply = leaves (step rules s caller request).after (step rules s caller request).after
+
+-- a reply for a failure of the table is one where its count rose by one, and it did for no other reply
+abbrev pub CountsReply : ℕ → ℕ → Reply → Type 0
+CountsReply before after (Servfail fault) = CountsFault before after fault
+CountsReply before after reply = after ≡ before
+
+-- ---- inside a step
+
+-- the same of a part of a step, which answers a fault by itself
+abbrev pub Takes : (State → Type 0) → State → Turn → Result Reply TableFault → Type 0
+Takes holds s turn (Ok reply) = (reply_of reply ≡ Some turn.reply) × holds turn.after
+Takes holds s turn (Err fault) = holds s
+
+abbrev pub LeavesTurn : (State → State → Type 0) → State → Turn → Result Reply TableFault → Type 0
+LeavesTurn leaves s turn (Ok reply) = leaves turn.after turn.after
+LeavesTurn leaves s turn (Err fault) = leaves s turn.after

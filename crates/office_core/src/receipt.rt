@@ -1,0 +1,48 @@
+//! What a table keeps beside its zones.
+
+ghost use Rattle.std.specs.Prelude.{◌≡◌, IfOk};
+
+use crate::reply::UpdateReply;
+use dns_data::Record;
+use dns_names::Name;
+use grant_policy::Identifier;
+use std::alloc::{AllocError, Global};
+use zone_core::Update;
+
+/// A change of a zone: the records that went and those that came, with their TTLs, each side in record order.
+#[derive(Debug, Drop)]
+pub struct Change {
+    pub removed: Vec<Record>,
+    pub added: Vec<Record>,
+}
+
+/// The receipt of an update that was answered: the update, the origin of the zone that it is of, and the reply.
+#[derive(Debug, Drop)]
+pub struct Receipt {
+    pub origin: Name,
+    pub update: Update,
+    pub reply: UpdateReply,
+}
+
+/// What is added to a table at once: the receipt of an update of a caller's under an identifier, and the change that it made of
+/// the zone, if it made one.
+#[derive(Debug, Drop)]
+pub struct Addition {
+    pub caller: Identifier,
+    pub id: Identifier,
+    pub receipt: Receipt,
+    pub change: Option<Change>,
+}
+
+impl Receipt {
+    /// An equal receipt in memory of its own. The only error is want of memory.
+    pub fn try_copy(&self, alloc: Global) -> Result<Receipt, AllocError>
+        ensures { IfOk result (λ copy. copy ≡ self.now) }
+    {
+        Ok(Receipt {
+            origin: self.origin.try_copy(alloc)?,
+            update: self.update.try_copy(alloc)?,
+            reply: self.reply.try_copy(alloc)?,
+        })
+    }
+}

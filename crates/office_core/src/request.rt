@@ -1,0 +1,43 @@
+//! What callers ask of the office.
+
+use dns_data::RecordType;
+use dns_names::Name;
+use grant_policy::{Action, Identifier};
+use zone_core::Update;
+
+/// A request.
+#[derive(Debug, Drop)]
+pub enum Request {
+    /// To update the zone of an origin (RFC 2136 section 2), under an identifier of the caller's choice. A delegation is
+    /// requested by the update that it becomes.
+    Update {
+        origin: Name,
+        id: Identifier,
+        update: Update,
+    },
+    /// To list the records of a zone.
+    List { origin: Name },
+    /// To list the records of a zone that are within a name.
+    ListWithin { origin: Name, top: Name },
+    /// To list the records of a zone as a master file (RFC 1035 section 5.1).
+    File { origin: Name },
+    /// To tell the delegations in a zone.
+    Delegations { origin: Name },
+    /// To tell the changes of a zone, from this number on.
+    Changes { origin: Name, from: u32 },
+    /// To tell what the policy decides of the records of a type at a name.
+    Rights {
+        name: Name,
+        record_type: RecordType,
+        action: Action,
+    },
+}
+
+/// A caller's request.
+#[derive(Debug, Drop)]
+pub struct Call {
+    /// Who asks.
+    pub caller: Identifier,
+    /// What is asked.
+    pub request: Request,
+}

@@ -1,0 +1,71 @@
+//! One step of the machine.
+
+ghost use Rattle.std.specs.Prelude.{◌≡◌, ◌↔◌, Option, None, Some, List, map, option_map, IfOk, OnOk, OnErr, IsTrue};
+ghost use Rattle.std.specs.List.{list_any};
+ghost use Rattle.zone_core.specs.Sets.{listing, InOrder};
+ghost use Rattle.zone_core.specs.Parts.{Covers, at_names};
+ghost use Rattle.grant_policy.specs.Decisions.{decision};
+ghost use Rattle.office_core.specs.Permissions.{question};
+ghost use Rattle.office_core.specs.Replies.{reply_of, right_of, numbered_of};
+ghost use Rattle.office_core.specs.States.{State, Held};
+ghost use Rattle.office_core.specs.Tables.{Counts, change_in};
+ghost use Rattle.office_core.specs.Machine.{Turn, told, of_zone, may_list, listed, list_reply, list_within_reply, file_reply, delegations_reply, changes_reply, changes_from, seen_of, zone_refusal, again, updated};
+ghost use Rattle.office_core.specs.Steps.{Steps, Leaves, CountsReply, Takes, LeavesTurn};
+
+use crate::fault::TableFault;
+use crate::permission::denied;
+use crate::receipt::{Addition, Change, Receipt};
+use crate::reply::{NumberedChange, Reply, Right, UpdateReply};
+use crate::request::Request;
+use crate::table::ZoneTable;
+use dns_data::{Record, RecordType};
+use dns_names::Name;
+use grant_policy::{Action, Decision, Identifier, LookUps, Policy, decide};
+use std::alloc::{AllocError, Global};
+use zone_core::{Update, Zone, apply_owned, delegation_report, holds};
+
+/// What the office replies to a request of a caller, and what it keeps.
+///
+/// An update is answered by its receipt, where the caller's identifier has one: by the reply that was kept, or, if it is not the
+/// same update of the same zone, by `IdReused`. Otherwise it is refused by the first that applies: there is no such zone, a name
+/// is outside it, the policy denies what an item asks for, a prerequisite does not hold; or it is made whole. Its receipt is
+/// kept with the change that it made, in one commit, which is the last call of the table.
+///
+/// Any other request is answered by what the caller may list, and changes nothing. `Servfail` comes where a call of the table
+/// failed, or memory ran out, and then nothing has changed.
+pub fn step<T: ZoneTable>(
+    alloc: Global,
+    table: &mut T,
+    policy: &Policy,
+    caller: &Identifier,
+    request: &Request,
+) -> Reply
+    // Where the store has kept its word, the reply and the state after it are those of the machine.
+    ensures step { T.is_honest table.new → (s : State) → T.holds table.old s → Steps (T.holds table.new) policy.now s caller.now request.now result }
+    // A crash leaves the state before the request or the one after it; behind a reply of the machine, the one after it.
+    ensures crash { T.is_honest table.new → (s : State) → T.holds table.old s → T.leaves table.old s s → Leaves (T.leaves table.new) policy.now s caller.now request.now result }
+    // A store that has kept its word had kept it before.
+    ensures honest { T.is_honest table.new → T.is_honest table.old }
+    // A failure of the table is told only where the table counted it.
+    ensures counts { CountsReply (T.failures table.old) (T.failures table.new) result }
+{
+    let answer = match request {
+        Request::Update { origin, id, update } =>
+            update_reply(alloc, table, policy, caller, id, origin, update),
+        Request::List { origin } => list(alloc, table, policy, caller, origin),
+        Request::ListWithin { origin, top } =>
+            list_within(alloc, table, policy, caller, origin, top),
+        Request::File { origin } => file(alloc, table, policy, caller, origin),
+        Request::Delegations { origin } => delegations(alloc, table, policy, caller, origin),
+        Request::Changes { origin, from } => changes(alloc, table, policy, caller, origin, *from),
+        Request::Rights {
+            name,
+            record_type,
+            action,
+        } => right(alloc, policy, caller, name, *record_type, *action),
+    };
+    match answer {
+        Ok(reply) => reply,
+        Err(fault) => Reply::Servfail(fault),
+    }
+}
