@@ -2,3 +2,6 @@ pub mod FootprintLaws
 pub mod FootprintLemmas
 pub mod PermissionLemmas
 pub mod PermissionLaws
+pub mod OwnNameLemmas
+pub mod SameLemmas
+pub mod IsolationLemmas
