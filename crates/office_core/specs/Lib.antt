@@ -9,3 +9,5 @@ pub mod Tables
 pub mod Steps
 pub mod Runs
 pub mod Isolation
+pub mod Memory
+pub mod Promises

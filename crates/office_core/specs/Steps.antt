@@ -1,13 +1,19 @@
 -- What one call of `step` does, over any table.
-use Rattle.std.specs.Prelude.{◌≡◌, ℕ, List, Option, Some, Result, Ok, Err}
+use Rattle.std.specs.Prelude.{◌≡◌, ℕ, List, [], if◌then◌else◌, Option, Some, None, Result, Ok, Err}
 use Rattle.grant_policy.specs.declared.rule.Rule.{Rule}
+use Rattle.zone_core.specs.Sets.{Records, is_same}
+use Rattle.zone_core.specs.Zones.{ZoneOf}
+use Rattle.zone_core.specs.Updates.{UpdateOf}
+use Rattle.zone_core.specs.Effects.{zone_after}
 use Rattle.office_core.specs.declared.fault.TableFault.{TableFault}
 use Rattle.office_core.specs.declared.request.Request.{Request}
 use Rattle.office_core.specs.declared.reply.Reply.{Reply}
 use Rattle.office_core.specs.declared.reply.Reply.TheVariants.{Servfail}
+use Rattle.office_core.specs.declared.reply.UpdateReply.{UpdateReply}
+use Rattle.office_core.specs.declared.reply.UpdateReply.TheVariants.{NoError}
 use Rattle.office_core.specs.Replies.{reply_of}
-use Rattle.office_core.specs.States.{State}
-use Rattle.office_core.specs.Machine.{Turn, step}
+use Rattle.office_core.specs.States.{ChangeOf, Held, State}
+use Rattle.office_core.specs.Machine.{Turn, step, change_of}
 use Rattle.office_core.specs.Tables.{CountsFault}
 
 -- What a request is answered from a state, and that the state after it is held: a step of the machine; or the table failed or
@@ -37,3 +43,18 @@ Takes holds s turn (Err fault) = holds s
 abbrev pub LeavesTurn : (State → State → Type 0) → State → Turn → Result Reply TableFault → Type 0
 LeavesTurn leaves s turn (Ok reply) = leaves turn.after turn.after
 LeavesTurn leaves s turn (Err fault) = leaves s turn.after
+
+-- ---- inside an update
+
+-- the change that an update makes of a set, if it makes one
+abbrev pub change_made : Records → Records → Option ChangeOf
+change_made before after = if is_same before after then None else Some (change_of before after)
+
+-- what an update of a zone is answered, and what it changes: nothing where it is refused
+abbrev pub Makes : ZoneOf → UpdateOf → Option UpdateReply → UpdateReply → Option ChangeOf → Type 0
+Makes zone update (Some refused) reply change = (reply ≡ refused) × (change ≡ None)
+Makes zone update None reply change = (reply ≡ NoError) × (change ≡ change_made zone.records (zone_after zone update).records)
+
+-- what is held of an origin, where its changes say nothing
+abbrev pub held_in : ZoneOf → Held
+held_in zone = record { records = zone.records; changes = [] }

@@ -5,10 +5,14 @@ mod fault;
 mod footprint;
 mod item;
 mod laws;
+mod making;
 mod permission;
+mod reading;
 mod receipt;
 mod reply;
 mod request;
+mod runs;
+mod steps;
 mod table;
 
 pub use fault::TableFault;
@@ -18,6 +22,8 @@ pub use permission::{Denial, denied};
 pub use receipt::{Addition, Change, Receipt};
 pub use reply::{NumberedChange, Reply, Right, UpdateReply};
 pub use request::{Call, Request};
+pub use runs::run;
+pub use steps::step;
 pub use table::ZoneTable;
 
 #[cfg(test)]

@@ -1,6 +1,8 @@
 //! What a table keeps beside its zones.
 
 ghost use Rattle.std.specs.Prelude.{◌≡◌, IfOk};
+ghost use Rattle.office_core.specs.Machine.{is_nothing};
+ghost use Rattle.office_core.specs.Tables.{change_in};
 
 use crate::reply::UpdateReply;
 use dns_data::Record;
@@ -32,6 +34,15 @@ pub struct Addition {
     pub id: Identifier,
     pub receipt: Receipt,
     pub change: Option<Change>,
+}
+
+impl Change {
+    /// Whether it has no record.
+    pub fn is_nothing(&self) -> bool
+        ensures { result ≡ is_nothing (change_in self.now) }
+    {
+        self.removed.is_empty() && self.added.is_empty()
+    }
 }
 
 impl Receipt {

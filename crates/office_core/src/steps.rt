@@ -1,28 +1,17 @@
 //! One step of the machine.
 
-ghost use Rattle.std.specs.Prelude.{◌≡◌, ◌↔◌, Option, None, Some, List, map, option_map, IfOk, OnOk, OnErr, IsTrue};
-ghost use Rattle.std.specs.List.{list_any};
-ghost use Rattle.zone_core.specs.Sets.{listing, InOrder};
-ghost use Rattle.zone_core.specs.Parts.{Covers, at_names};
-ghost use Rattle.grant_policy.specs.Decisions.{decision};
-ghost use Rattle.office_core.specs.Permissions.{question};
-ghost use Rattle.office_core.specs.Replies.{reply_of, right_of, numbered_of};
-ghost use Rattle.office_core.specs.States.{State, Held};
-ghost use Rattle.office_core.specs.Tables.{Counts, change_in};
-ghost use Rattle.office_core.specs.Machine.{Turn, told, of_zone, may_list, listed, list_reply, list_within_reply, file_reply, delegations_reply, changes_reply, changes_from, seen_of, zone_refusal, again, updated};
-ghost use Rattle.office_core.specs.Steps.{Steps, Leaves, CountsReply, Takes, LeavesTurn};
+ghost use Rattle.std.specs.Prelude.{◌≡◌};
+ghost use Rattle.office_core.specs.States.{State};
+ghost use Rattle.office_core.specs.Steps.{Steps, Leaves, CountsReply};
 
 use crate::fault::TableFault;
-use crate::permission::denied;
-use crate::receipt::{Addition, Change, Receipt};
-use crate::reply::{NumberedChange, Reply, Right, UpdateReply};
+use crate::making::update_reply;
+use crate::reading::{changes, delegations, file, list, list_within, right};
+use crate::reply::Reply;
 use crate::request::Request;
 use crate::table::ZoneTable;
-use dns_data::{Record, RecordType};
-use dns_names::Name;
-use grant_policy::{Action, Decision, Identifier, LookUps, Policy, decide};
-use std::alloc::{AllocError, Global};
-use zone_core::{Update, Zone, apply_owned, delegation_report, holds};
+use grant_policy::{Identifier, Policy};
+use std::alloc::Global;
 
 /// What the office replies to a request of a caller, and what it keeps.
 ///
@@ -62,7 +51,7 @@ pub fn step<T: ZoneTable>(
             name,
             record_type,
             action,
-        } => right(alloc, policy, caller, name, *record_type, *action),
+        } => right(alloc, policy, caller, name, *record_type, *action).map_err(TableFault::from),
     };
     match answer {
         Ok(reply) => reply,
