@@ -1,21 +1,17 @@
 -- Sets in which each record stands under its own key, under operations.
-use Rattle.std.proofs.Common.{◌≡◌, ℕ, List, [], ◌∷◌, Bool, true, false, cond, not, ◌&&◌, ◌==◌, Option, Some, None, inl, inr, refl, sym, ap, subst, ◌∙◌, if◌then◌else◌}
+use Rattle.std.proofs.Common.{◌≡◌, ℕ, List, [], ◌∷◌, Bool, true, false, ◌&&◌, Some, inl, inr, sym, ap, subst, ◌∙◌, if◌then◌else◌}
 use Rattle.std.specs.List.{AllByRecursion}
-use Rattle.std.specs.FinMap.{get, len}
-use Rattle.std.proofs.lemmas.Bool.{and_parts, eqb-true}
+use Rattle.std.specs.FinMap.{get}
 use Rattle.dns_names.specs.Order.{same_name}
 use Rattle.dns_data.specs.declared.record.Record.{Record}
 use Rattle.dns_data.specs.declared.record_type.RecordType.TheVariants as types
 use Rattle.dns_data.specs.Rdata.{type_of, IsRecord}
-use Rattle.dns_data.proofs.ApartLaws.{one_text}
-use Rattle.dns_data.proofs.RecordOrderLemmas.{one_rank}
 use Rattle.zone_core.specs.declared.update.Operation.{Operation}
 use Rattle.zone_core.specs.declared.update.Operation.TheVariants.{Add, DeleteRrset, DeleteName, DeleteRecord}
-use Rattle.zone_core.specs.Sets.{Records, Key, key_of, rank_of, same_key, cut, has, at_name, at, put, with_ttl, same_ttl, minus, is_same}
+use Rattle.zone_core.specs.Sets.{Records, Key, key_of, rank_of, same_key, cut, has, at_name, at, put, with_ttl}
 use Rattle.zone_core.specs.Zones.{AreKept, is_soa, is_cname, soa_at}
 use Rattle.zone_core.specs.Updates.{IsOperation}
 use Rattle.zone_core.specs.Effects.{is_other_type, takes_over, add_soa, add_cname, add_other, is_misplaced, is_guarded, goes, key_at, stays, effect, effects}
-use Rattle.zone_core.proofs.SetLemmas.{by_cases, get-part, none_in_empty}
 use Rattle.zone_core.proofs.EffectLemmas.{retag}
 use Rattle.zone_core.proofs.ZoneLemmas.{found_uncut, found_put, found_given, either_fits}
 
@@ -98,31 +94,3 @@ given_record test k r x is was = record { owner = was.owner; ttl = either_fits (
 
 pub effects_kept : (origin : List (List ℕ)) (set : Records) (ops : List Operation) → AllByRecursion IsOperation ops → AreKept set → AreKept (effects origin set ops)
 effects_kept origin set ops all = hold_effects IsRecord given_record origin set ops (brings_records ops all)
-
--- ---- sets that are the same
-
--- a key and a TTL are those of one record
-one_record : (k : Key) (r s : Record) → (key_of r ≡ k) × IsRecord r → (key_of s ≡ k) × IsRecord s → r.ttl ≡ s.ttl → r ≡ s
-one_record k r s first second ttls =
-    let keys : key_of r ≡ key_of s = first.0 ∙ sym second.0 in
-    let owners : r.owner ≡ s.owner = ap (λ (q : Key). q.0) keys in
-    let rdatas : r.rdata ≡ s.rdata = one_text r.rdata s.rdata first.1.rdata second.1.rdata (one_rank (type_of r.rdata) (type_of s.rdata) (ap (λ (q : Key). q.1) keys)) (ap (λ (q : Key). q.2) keys) in
-    λ i. record { owner = owners i; ttl = ttls i; rdata = rdatas i }
-
-module _ (a b : Records) (kept : AreKept a) (also : AreKept b) where
-  same_found : (k : Key) (x y : Option Record) → get a k ≡ x → get b k ≡ y → same_ttl x y ≡ true → x ≡ y
-  same_found k None None e f same = refl
-  same_found k None (Some s) e f same = absurd cc
-  same_found k (Some r) None e f same = absurd cc
-  same_found k (Some r) (Some s) e f same = ap (λ (x : Record). Some x) (one_record k r s (kept k r e) (also k s f) (eqb-true r.ttl s.ttl same))
-
-not_minus : (a b : Records) (k : Key) → (len (minus a b) == 0) ≡ true → same_ttl (get a k) (get b k) ≡ false → get a k ≡ None
-not_minus a b k e differ =
-    sym (get-part a (λ j. not (same_ttl (get a j) (get b j))) k ∙ ap (λ t. cond (not t) (get a k) None) differ) ∙ none_in_empty (minus a b) k e
-
-pub same_is : (a b : Records) → AreKept a → AreKept b → is_same a b ≡ true → (k : Key) → get a k ≡ get b k
-same_is a b kept also same k =
-    let parts = and_parts (len (minus a b) == 0) (len (minus b a) == 0) same in
-    by_cases (same_ttl (get a k) (get b k)) (get a k ≡ get b k) (same_found a b kept also k (get a k) (get b k) refl refl) (λ e.
-    by_cases (same_ttl (get b k) (get a k)) (get a k ≡ get b k) (λ f. sym (same_found b a also kept k (get b k) (get a k) refl refl f)) (λ f.
-    not_minus a b k parts.0 e ∙ sym (not_minus b a k parts.1 f)))

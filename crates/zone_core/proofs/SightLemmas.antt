@@ -25,9 +25,10 @@ use Rattle.zone_core.specs.Sight.{LookAlike, TestsSeen, IsQuiet, PassesSeen, Ver
 use Rattle.zone_core.proofs.SetLemmas.{by_cases, name_is, name_self, get-part, get-cut, get-put, same_sets, same_parts, same_has, none_there, has_wider}
 use Rattle.zone_core.proofs.EffectLemmas.{retag, get-with_ttl, effect_away}
 use Rattle.zone_core.proofs.ZoneLemmas.{at_is, kind, no, both_true}
-use Rattle.zone_core.proofs.OwnLemmas.{AreOwn, own, effects_own, effects_kept, same_is}
+use Rattle.zone_core.proofs.OwnLemmas.{own, effects_own, effects_kept}
 use Rattle.zone_core.proofs.OriginLemmas.{either, of_soa, home, rank, effect_soa, soa_added, settled_other, updated_soa}
-use Rattle.zone_core.proofs.ListedLemmas.{passes, found_by, filtered, part_own, part_same, minus_own, minus_same, minus_none, bare, bare_own, nothing_listed}
+use Rattle.zone_core.proofs.ChangedLemmas.{kept_in_part, one_set}
+use Rattle.zone_core.proofs.ListedLemmas.{passes, found_by, filtered, part_same, minus_kept, minus_same, minus_none, bare, bare_kept, nothing_listed}
 
 -- two choices by equal tests, whose sides are equal to f
 chosen : {A B : Type 0} (f : A → B) (b c : Bool) (x y u v : A) → b ≡ c → (b ≡ true → f x ≡ f u) → (b ≡ false → f y ≡ f v) → f (cond b x y) ≡ f (cond c u v)
@@ -191,24 +192,24 @@ module _ (Seen : List (List ℕ) → Type 0) (origin : List (List ℕ)) where
 
 module _ (Seen : List (List ℕ) → Type 0) (origin : List (List ℕ)) (f : Record → Bool) (passed : PassesSeen Seen origin f) where
   -- what is found and passes is seen
-  sees : (a : Records) → AreOwn a → (k : Key) (o : Option Record) → get a k ≡ o → passes f o ≡ true → Seen k.0 × (of_soa origin k ≡ false)
-  sees a owns k None e t = absurd cc
-  sees a owns k (Some r) e t = let key = (owns k r e).0 in subst (λ (q : Key). Seen q.0 × (of_soa origin q ≡ false)) key (passed r t)
+  sees : (a : Records) → AreKept a → (k : Key) (o : Option Record) → get a k ≡ o → passes f o ≡ true → Seen k.0 × (of_soa origin k ≡ false)
+  sees a kept k None e t = absurd cc
+  sees a kept k (Some r) e t = let key = (kept k r e).0 in subst (λ (q : Key). Seen q.0 × (of_soa origin q ≡ false)) key (passed r t)
 
-  parts_alike : (a b : Records) → AreOwn a → AreOwn b → ((k : Key) → Seen k.0 → of_soa origin k ≡ false → get a k ≡ get b k) → part a (found_by f a) ≡ part b (found_by f b)
-  parts_alike a b owns also same =
+  parts_alike : (a b : Records) → AreKept a → AreKept b → ((k : Key) → Seen k.0 → of_soa origin k ≡ false → get a k ≡ get b k) → part a (found_by f a) ≡ part b (found_by f b)
+  parts_alike a b kept also same =
       same_sets (part a (found_by f a)) (part b (found_by f b)) (λ k. get-part a (found_by f a) k ∙ at_key k ∙ sym (get-part b (found_by f b) k))
     where
       at_key : (k : Key) → cond (found_by f a k) (get a k) None ≡ cond (found_by f b k) (get b k) None
       at_key k =
           by_cases (found_by f a k) (cond (found_by f a k) (get a k) None ≡ cond (found_by f b k) (get b k) None)
-          (λ e. let seen = sees a owns k (get a k) refl e in ap (λ (o : Option Record). cond (passes f o) o None) (same k seen.0 seen.1)) (λ e.
+          (λ e. let seen = sees a kept k (get a k) refl e in ap (λ (o : Option Record). cond (passes f o) o None) (same k seen.0 seen.1)) (λ e.
           by_cases (found_by f b k) (cond (found_by f a k) (get a k) None ≡ cond (found_by f b k) (get b k) None)
           (λ g. let seen = sees b also k (get b k) refl g in ap (λ (o : Option Record). cond (passes f o) o None) (same k seen.0 seen.1))
           (λ g. ap (λ t. cond t (get a k) None) e ∙ sym (ap (λ t. cond t (get b k) None) g)))
 
-  rows_alike : (a b : Records) → AreOwn a → AreOwn b → ((k : Key) → Seen k.0 → of_soa origin k ≡ false → get a k ≡ get b k) → filter f (listing a) ≡ filter f (listing b)
-  rows_alike a b owns also same = filtered a owns f ∙ ap (λ (s : Records). listing s) (parts_alike a b owns also same) ∙ sym (filtered b also f)
+  rows_alike : (a b : Records) → AreKept a → AreKept b → ((k : Key) → Seen k.0 → of_soa origin k ≡ false → get a k ≡ get b k) → filter f (listing a) ≡ filter f (listing b)
+  rows_alike a b kept also same = filtered a kept f ∙ ap (λ (s : Records). listing s) (parts_alike a b kept also same) ∙ sym (filtered b also f)
 
 -- ---- the laws
 
@@ -220,7 +221,7 @@ module _ (Seen : List (List ℕ) → Type 0) where
   updates_look_alike origin a b kept also alike ops are seen =
       let made = effects_alike Seen origin a b alike ops seen in
       let other : (z : Records) → AreKept z → (k : Key) → of_soa origin k ≡ false → get (settled origin z (effects origin z ops)) k ≡ get (effects origin z ops) k =
-      λ z is k off. settled_other origin z (effects origin z ops) (effects_own origin z ops (own z is)) k off (λ e. same_is z (effects origin z ops) is (effects_kept origin z ops are is) e k) in
+      λ z is k off. settled_other origin z (effects origin z ops) (effects_own origin z ops (own z is)) k off (λ e. one_set z (effects origin z ops) is (effects_kept origin z ops are is) e k) in
       record {
         same = λ k sees off. other a kept k off ∙ made.same k sees off ∙ sym (other b also k off);
         soa = updated_soa origin a ops (own a kept) ∙ alike.soa ∙ sym (updated_soa origin b ops (own b also));
@@ -235,18 +236,18 @@ module _ (Seen : List (List ℕ) → Type 0) where
       }
 
   pub listings_look_alike : ListingsLookAlike Seen
-  listings_look_alike origin a b kept also alike f passed = rows_alike Seen origin f passed a b (own a kept) (own b also) alike.same
+  listings_look_alike origin a b kept also alike f passed = rows_alike Seen origin f passed a b kept also alike.same
 
   pub parts_look_alike : PartsLookAlike Seen
   parts_look_alike origin a b kept also alike test f passed =
-      rows_alike Seen origin f passed (part a test) (part b test) (part_own a test (own a kept)) (part_own b test (own b also)) (λ k sees off. part_same a b test k (alike.same k sees off))
+      rows_alike Seen origin f passed (part a test) (part b test) (kept_in_part a test kept) (kept_in_part b test also) (λ k sees off. part_same a b test k (alike.same k sees off))
 
   pub changes_look_alike : ChangesLookAlike Seen
   changes_look_alike origin a b c d kept also first second f passed =
-      rows_alike Seen origin f passed (minus a c) (minus b d) (minus_own a c (own a kept)) (minus_own b d (own b also)) (λ k sees off.
+      rows_alike Seen origin f passed (minus a c) (minus b d) (minus_kept a c kept) (minus_kept b d also) (λ k sees off.
       minus_same a b c d k (first.same k sees off) (second.same k sees off))
 
   pub quiet_changes_show_nothing : QuietChangesShowNothing Seen
   quiet_changes_show_nothing origin a b kept alike f passed =
-      rows_alike Seen origin f passed (minus a b) bare (minus_own a b (own a kept)) bare_own (λ k sees off. minus_none a b k (alike.same k sees off))
+      rows_alike Seen origin f passed (minus a b) bare (minus_kept a b kept) bare_kept (λ k sees off. minus_none a b k (alike.same k sees off))
       ∙ ap (filter f) nothing_listed
