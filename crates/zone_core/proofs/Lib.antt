@@ -8,6 +8,7 @@ pub mod GroupLemmas
 pub mod HeadLemmas
 pub mod SortLemmas
 pub mod EvenLemmas
+pub mod BesideLemmas
 pub mod FaultLemmas
 pub mod WholeLemmas
 pub mod BuildLemmas

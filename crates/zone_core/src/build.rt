@@ -1,11 +1,11 @@
 //! Building zones.
 
 ghost use Rattle.std.specs.Prelude.{◌≡◌, ◌<◌, ◌==◌, ◌&&◌, reverse, map, not, Ok, IfOk, length, take, slice_index_or};
-ghost use Rattle.std.specs.List.{list_any};
+ghost use Rattle.std.specs.List.{list_any, position, position_or_len};
 ghost use Rattle.zone_core.specs.Faults.{Gives};
 ghost use Rattle.zone_core.specs.Sets.{key_of, set_of, count, at_name, InOrder};
 ghost use Rattle.zone_core.specs.Views.{set_ttl, given_ttls, even_rows};
-ghost use Rattle.zone_core.specs.Zones.{IsZone, built, zone_of, least_below, least_ttl, beside, fault_in, is_outside, is_soa, is_twin, is_crowded};
+ghost use Rattle.zone_core.specs.Zones.{IsZone, built, zone_of, least_below, beside, fault_in, is_outside, is_soa, is_twin, is_crowded};
 
 use crate::fault::ZoneFault;
 use crate::notes::notes_records;
@@ -76,10 +76,11 @@ fn set_ttl(records: &[Record], known: &[Ttl], i: usize) -> Ttl
     ensures { (d : Record) → result ≡ set_ttl records.now (slice_index_or records.now i d) }
 {
     let record = &records[i];
-    if i > 0 && are_beside(&records[i - 1], record) {
+    if i > 0 && are_beside(record, &records[i - 1]) {
         return known[i - 1];
     }
-    least_ttl(of_set(records, &record.owner, record.record_type()))
+    let others = &records[i + 1..];
+    least_below(record.ttl, &others[..count_beside(record, others)])
 }
 
 /// Whether two records are of one set.
@@ -89,12 +90,18 @@ fn are_beside(first: &Record, second: &Record) -> bool
     second.owner == first.owner && has_type(second, first.record_type())
 }
 
-/// The least TTL of records, of which there is one.
-fn least_ttl(records: &[Record]) -> Ttl
-    requires { 0 < length records.now }
-    ensures { result ≡ least_ttl records.now }
+/// The first of some records that is not of the set of one.
+fn first_apart(rr: &Record, records: &[Record]) -> Option<usize>
+    ensures { result ≡ position (λ r. not (beside (key_of rr.now) (key_of r))) records.now }
 {
-    least_below(records[0].ttl, &records[1..])
+    records.iter().position(|record| !are_beside(rr, record))
+}
+
+/// How many records are of the set of one, as far as they stand first.
+fn count_beside(rr: &Record, records: &[Record]) -> usize
+    ensures { result ≡ position_or_len (λ r. not (beside (key_of rr.now) (key_of r))) records.now }
+{
+    first_apart(rr, records).unwrap_or(records.len())
 }
 
 /// The least of a TTL and those of records.
