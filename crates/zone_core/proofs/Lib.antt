@@ -9,6 +9,7 @@ pub mod HeadLemmas
 pub mod SortLemmas
 pub mod EvenLemmas
 pub mod BesideLemmas
+pub mod AdjacentLemmas
 pub mod FaultLemmas
 pub mod WholeLemmas
 pub mod BuildLemmas

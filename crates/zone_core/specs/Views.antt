@@ -1,14 +1,14 @@
 -- Zones as rows of records in record order.
-use Rattle.std.specs.Prelude.{ℕ, List, [], ◌∷◌, length, map, Bool, not, ◌&&◌, ◌==◌}
+use Rattle.std.specs.Prelude.{ℕ, List, [], ◌∷◌, length, map, Bool, not, ◌&&◌, ◌||◌, ◌==◌}
 use Rattle.std.specs.List.{filter, list_any}
 use Rattle.std.specs.declared.cmp.Ordering.{Ordering}
 use Rattle.std.specs.Ordering.{nat_cmp, ordering_then}
-use Rattle.dns_names.specs.Order.{canonical_cmp}
+use Rattle.dns_names.specs.Order.{canonical_cmp, same_name}
 use Rattle.dns_data.specs.declared.record.Record.{Record}
 use Rattle.dns_data.specs.declared.record_type.RecordType.{RecordType}
 use Rattle.dns_data.specs.Rdata.{type_of}
 use Rattle.zone_core.specs.Sets.{key_of, rank_of, set_of, InOrder}
-use Rattle.zone_core.specs.Zones.{ZoneOf, IsZone, is_soa, beside, least_ttl}
+use Rattle.zone_core.specs.Zones.{ZoneOf, IsZone, is_soa, is_cname, beside, least_ttl}
 
 -- the order of a record to the records of a set: by owner, and then by type
 abbrev pub set_order : List (List ℕ) → RecordType → Record → Ordering
@@ -30,6 +30,14 @@ abbrev pub advances : List Record → List Record → Bool
 advances removed added = not ((length removed == 0) && (length added == 0)) && not (list_any (λ r. is_soa (key_of r)) added)
 
 -- ---- a zone that is built
+
+-- two CNAME records of one name
+abbrev pub are_twins : Record → Record → Bool
+are_twins r s = is_cname (key_of r) && beside (key_of r) (key_of s)
+
+-- a CNAME and another record of its name
+abbrev pub are_crowded : Record → Record → Bool
+are_crowded r s = (is_cname (key_of r) && not (is_cname (key_of s)) || is_cname (key_of s) && not (is_cname (key_of r))) && same_name s.owner r.owner
 
 -- the least TTL of the set of a record
 abbrev pub set_ttl : List Record → Record → ℕ

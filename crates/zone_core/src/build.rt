@@ -4,12 +4,12 @@ ghost use Rattle.std.specs.Prelude.{◌≡◌, ◌<◌, ◌==◌, ◌&&◌, reve
 ghost use Rattle.std.specs.List.{list_any, position, position_or_len};
 ghost use Rattle.zone_core.specs.Faults.{Gives};
 ghost use Rattle.zone_core.specs.Sets.{key_of, set_of, count, at_name, InOrder};
-ghost use Rattle.zone_core.specs.Views.{set_ttl, given_ttls, even_rows};
-ghost use Rattle.zone_core.specs.Zones.{IsZone, built, zone_of, least_below, beside, fault_in, is_outside, is_soa, is_twin, is_crowded};
+ghost use Rattle.zone_core.specs.Views.{set_ttl, given_ttls, even_rows, are_twins, are_crowded};
+ghost use Rattle.zone_core.specs.Zones.{IsZone, built, zone_of, least_below, beside, fault_in, is_outside, is_soa, is_cname, is_twin, is_crowded};
 
 use crate::fault::ZoneFault;
 use crate::notes::notes_records;
-use crate::rows::{at_name, has_set, has_type, in_order, of_set};
+use crate::rows::{has_set, has_type, in_order};
 use crate::zone::Zone;
 use dns_data::{Record, RecordType, Ttl};
 use dns_names::Name;
@@ -205,35 +205,49 @@ fn soas(records: &[Record]) -> usize
     soas
 }
 
-/// Whether a record is a CNAME beside another.
-fn is_twin(records: &[Record], rr: &Record) -> bool
-    requires { InOrder records.now }
-    ensures { result ≡ is_twin (set_of records.now) (key_of rr.now) }
+/// Whether two records are CNAME records of one name.
+fn are_twins(first: &Record, second: &Record) -> bool
+    ensures { result ≡ are_twins first.now second.now }
 {
-    has_type(rr, RecordType::Cname) && of_set(records, &rr.owner, RecordType::Cname).len() > 1
+    has_type(first, RecordType::Cname) && are_beside(first, second)
 }
 
-/// Whether a name has two CNAME records.
+/// Whether a name has two CNAME records, which then follow each other.
 fn some_twin(records: &[Record]) -> bool
     requires { InOrder records.now }
     ensures { result ≡ list_any (λ r. is_twin (set_of records.now) (key_of r)) records.now }
 {
-    records.iter().any(|record| is_twin(records, record))
+    for i in 1..records.len() {
+        if are_twins(&records[i - 1], &records[i]) {
+            return true;
+        }
+    }
+    false
 }
 
-/// Whether a record is a CNAME beside one of another type.
-fn is_crowded(records: &[Record], rr: &Record) -> bool
-    requires { InOrder records.now }
-    ensures { result ≡ is_crowded (set_of records.now) (key_of rr.now) }
+/// Whether only the first of two records is a CNAME.
+fn is_only_cname(first: &Record, second: &Record) -> bool
+    ensures { result ≡ (is_cname (key_of first.now) && not (is_cname (key_of second.now))) }
 {
-    has_type(rr, RecordType::Cname)
-        && of_set(records, &rr.owner, RecordType::Cname).len() < at_name(records, &rr.owner).len()
+    has_type(first, RecordType::Cname) && !has_type(second, RecordType::Cname)
 }
 
-/// Whether a name has a CNAME and another record.
+/// Whether two records are of one name, and only one of them is a CNAME.
+fn are_crowded(first: &Record, second: &Record) -> bool
+    ensures { result ≡ are_crowded first.now second.now }
+{
+    (is_only_cname(first, second) || is_only_cname(second, first)) && second.owner == first.owner
+}
+
+/// Whether a name has a CNAME and another record, of which two then follow each other.
 fn some_crowded(records: &[Record]) -> bool
     requires { InOrder records.now }
     ensures { result ≡ list_any (λ r. is_crowded (set_of records.now) (key_of r)) records.now }
 {
-    records.iter().any(|record| is_crowded(records, record))
+    for i in 1..records.len() {
+        if are_crowded(&records[i - 1], &records[i]) {
+            return true;
+        }
+    }
+    false
 }
