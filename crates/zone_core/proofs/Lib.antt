@@ -10,6 +10,7 @@ pub mod SortLemmas
 pub mod EvenLemmas
 pub mod BesideLemmas
 pub mod AdjacentLemmas
+pub mod PlaceLemmas
 pub mod FaultLemmas
 pub mod WholeLemmas
 pub mod BuildLemmas

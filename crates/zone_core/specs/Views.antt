@@ -1,6 +1,8 @@
 -- Zones as rows of records in record order.
-use Rattle.std.specs.Prelude.{ℕ, List, [], ◌∷◌, length, map, Bool, not, ◌&&◌, ◌||◌, ◌==◌}
-use Rattle.std.specs.List.{filter, list_any}
+use Rattle.std.specs.Prelude.{◌≡◌, ◌<◌, slice_index, slice_index_or, ℕ, List, [], ◌∷◌, length, map, Bool, not, ◌&&◌, ◌||◌, ◌==◌}
+use Rattle.std.specs.List.{filter, list_any, range_with_len}
+use Rattle.std.specs.List.Sorted.{IsPermutation}
+use denote.Ref.{Bor}
 use Rattle.std.specs.declared.cmp.Ordering.{Ordering}
 use Rattle.std.specs.Ordering.{nat_cmp, ordering_then}
 use Rattle.dns_names.specs.Order.{canonical_cmp, same_name}
@@ -52,3 +54,23 @@ given_ttls (r ∷ rs) (ttl ∷ ttls) = record r { ttl = ttl } ∷ given_ttls rs 
 -- each record with the least TTL of its set
 abbrev pub even_rows : List Record → List Record
 even_rows rs = given_ttls rs (map (set_ttl rs) rs)
+
+-- ---- records that are put in order
+
+-- the records of a row, each with the place where it stands
+abbrev pub ViewsOf : List Record → List (Bor Record × ℕ) → Type 0
+ViewsOf rs views = (map (λ v. v.0.now) views ≡ rs) × (map (λ v. v.1) views ≡ range_with_len 0 (length rs))
+
+-- the numbers below another, each once, in some order
+abbrev pub ArePlaces : ℕ → List ℕ → Type 0
+ArePlaces n places = IsPermutation (range_with_len 0 n) places
+
+-- for each place the one that has it as its source
+abbrev pub AreInverse : List ℕ → List ℕ → Type 0
+AreInverse sources places =
+    (length places ≡ length sources)
+    × ((i : ℕ) → i < length sources → (slice_index sources i < length sources) × (slice_index places (slice_index sources i) ≡ i))
+
+-- the records that stand at places, in their order
+abbrev pub AreTaken : List Record → List ℕ → List Record → Type 0
+AreTaken rs sources rows = (length rows ≡ length sources) × ((i : ℕ) (d : Record) → i < length sources → slice_index_or rows i d ≡ slice_index_or rs (slice_index sources i) d)

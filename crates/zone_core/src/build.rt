@@ -29,7 +29,7 @@ impl Zone {
         // Which zone it is, or which refusal.
         ensures exact { Gives (λ zone. zone) result (built origin records.items) }
     {
-        let records = even(alloc, in_order(reversed(records))?)?;
+        let records = even(alloc, in_order(alloc, reversed(records))?)?;
         notes_records(&records);
         match fault_in(&origin, &records) {
             Some(fault) => Err(fault),

@@ -124,7 +124,7 @@ impl Zone {
         for name in names {
             records = with_copies(alloc, records, self.records_at(name))?;
         }
-        Ok(Zone::of_rows(origin, rows::in_order(records)?))
+        Ok(Zone::of_rows(origin, rows::in_order(alloc, records)?))
     }
 
     /// An equal zone in memory of its own. The only error is want of memory.
