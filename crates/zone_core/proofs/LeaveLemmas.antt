@@ -1,49 +1,26 @@
 -- What an update leaves of a zone's records.
-use Rattle.std.proofs.Common.{◌≡◌, ◌≢◌, inl, inr, ℕ, suc, List, [], ◌∷◌, Bool, true, false, cond, not, ◌==◌, if◌then◌else◌, Option, Some, None, refl, sym, ap, ◌∙◌, arith}
+use Rattle.std.proofs.Common.{◌≡◌, ◌≢◌, inl, inr, ℕ, suc, List, [], ◌∷◌, Bool, true, false, ◌==◌, if◌then◌else◌, Some, refl, sym, ap, ◌∙◌, arith}
 use Rattle.std.specs.List.{Contains}
-use Rattle.std.specs.FinMap.{get, len, get-empty}
+use Rattle.std.specs.FinMap.{get}
 use Rattle.std.proofs.lemmas.Bool.Decides.{nat_tests}
-use Rattle.std.proofs.lemmas.Bool.{and_parts, eqb-true, false_from_ne_true}
+use Rattle.std.proofs.lemmas.Bool.{eqb-true, false_from_ne_true}
 use Rattle.dns_data.specs.declared.record.Record.{Record}
 use Rattle.dns_data.specs.declared.record_type.RecordType.TheVariants as types
 use Rattle.dns_data.specs.Rdata.{type_of}
 use Rattle.dns_data.proofs.RecordOrderLemmas.{one_rank}
-use Rattle.zone_core.specs.Sets.{Records, Key, key_of, rank_of, IsIn, minus, cut, at, is_same, same_ttl}
-use Rattle.zone_core.specs.Zones.{ZoneOf, IsZone, IsSoaOf, AreKept, serial_in, soa_at, serial_at}
+use Rattle.zone_core.specs.Sets.{Records, Key, key_of, rank_of, IsIn, cut, at, is_same}
+use Rattle.zone_core.specs.Zones.{ZoneOf, IsZone, IsSoaOf, serial_in, soa_at, serial_at}
 use Rattle.zone_core.specs.Updates.{UpdateOf, IsUpdate, ActsWithin}
 use Rattle.zone_core.specs.Effects.{effect, effects, next_version, with_next, settled}
 use Rattle.zone_core.specs.Accounts.{Puts, IsPut, UpdatesLeave}
 use Rattle.zone_core.specs.Versions.{Advances, UpdatesAdvance}
 use Rattle.zone_core.specs.declared.update.Operation.{Operation}
 use Rattle.zone_core.specs.declared.update.Operation.TheVariants.{Add, DeleteRrset, DeleteName, DeleteRecord}
-use Rattle.zone_core.proofs.SetLemmas.{kept_by_put, kept_by_cut, empty_is, some_is}
-use Rattle.zone_core.proofs.OutcomeLemmas.{one_record}
-use Rattle.zone_core.proofs.SettleLemmas.{get-minus}
+use Rattle.zone_core.proofs.SetLemmas.{kept_by_put, kept_by_cut}
+use Rattle.zone_core.proofs.ChangedLemmas.{one_set}
 use Rattle.zone_core.proofs.ZoneLemmas.{Keys, Heir, keys_of, zone_of_keys, soa_is, at_is}
 use Rattle.zone_core.proofs.VersionLemmas.{heir_of, next_type, soa_type, one_further, greater}
 use Rattle.zone_core.proofs.AccountLemmas.{left_effects}
-
--- sets that differ in nothing are one
-module _ (a b : Records) (kept : AreKept a) (also : AreKept b) (same : is_same a b ≡ true) where
-  none_less : (k : Key) → get (minus a b) k ≡ None
-  none_less k = ap (λ (s : Records). get s k) (empty_is (minus a b) (and_parts (len (minus a b) == 0) (len (minus b a) == 0) same).0) ∙ get-empty _ k
-
-  none_more : (k : Key) → get (minus b a) k ≡ None
-  none_more k = ap (λ (s : Records). get s k) (empty_is (minus b a) (and_parts (len (minus a b) == 0) (len (minus b a) == 0) same).1) ∙ get-empty _ k
-
-  one_set : (k : Key) → get a k ≡ get b k
-  one_set k = by_options (get a k) (get b k) refl refl
-    where
-      by_ttl : (r s : Record) → get a k ≡ Some r → get b k ≡ Some s → (t : Bool) → (r.ttl == s.ttl) ≡ t → r ≡ s
-      by_ttl r s e f true t = one_record a b kept also k r s e f (eqb-true r.ttl s.ttl t)
-      by_ttl r s e f false t =
-          absurd (some_is (minus a b) k r (get-minus a b k ∙ (λ i. cond (not (same_ttl (e i) (f i))) (e i) None) ∙ ap (λ b. cond (not b) (Some r) None) t) (none_less k))
-
-      by_options : (x y : Option Record) → get a k ≡ x → get b k ≡ y → x ≡ y
-      by_options None None e f = refl
-      by_options None (Some s) e f = absurd (some_is (minus b a) k s (get-minus b a k ∙ (λ i. cond (not (same_ttl (f i) (e i))) (f i) None)) (none_more k))
-      by_options (Some r) None e f = absurd (some_is (minus a b) k r (get-minus a b k ∙ (λ i. cond (not (same_ttl (e i) (f i))) (e i) None)) (none_less k))
-      by_options (Some r) (Some s) e f = ap (λ (x : Record). Some x) (by_ttl r s e f (r.ttl == s.ttl) refl)
 
 -- but for the SOA, the records of a settled set are those after
 module _ (origin : List (List ℕ)) (before after : Records) (z : Keys origin before) (heir : Heir origin before z after) (r : Record) (other : type_of r.rdata ≢ types.Soa) where

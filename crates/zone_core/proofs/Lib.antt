@@ -3,6 +3,7 @@ pub mod RowLemmas
 pub mod RangeLemmas
 pub mod WithinLemmas
 pub mod UpdateLemmas
+pub mod SameUpdateLemmas
 pub mod KindLemmas
 pub mod GroupLemmas
 pub mod HeadLemmas
@@ -22,6 +23,7 @@ pub mod EffectLemmas
 pub mod ChangeLemmas
 pub mod MergeLemmas
 pub mod OutcomeLemmas
+pub mod ChangedLemmas
 pub mod PartLemmas
 pub mod ZoneLemmas
 pub mod VersionLemmas

@@ -11,6 +11,7 @@ pub mod Prerequisites
 pub mod Effects
 pub mod Sites
 pub mod Merges
+pub mod Changes
 pub mod Parts
 pub mod Accounts
 pub mod Met

@@ -2,6 +2,8 @@
 
 ghost use Rattle.zone_core.specs.Parts.{VerdictsReadTheirNames, OperationsReadTheirNames, UpdatesNeedTheirPart};
 ghost use Rattle.zone_core.specs.Accounts.{UpdatesLeave};
+ghost use Rattle.zone_core.specs.Changes.{ChangesMake, SameSetsAreOne};
+ghost use Rattle.zone_core.specs.Updates.{EqualUpdatesAreOne};
 ghost use Rattle.zone_core.specs.Versions.{UpdatesKeepZones, UpdatesAdvance};
 
 /// The prerequisites of an update read the records at their names, and no others.
@@ -35,4 +37,19 @@ pub fn updates_keep_zones()
 /// further (RFC 2136 section 3.6), and in both cases the serial is greater (RFC 1982 section 3.2).
 pub fn updates_advance_serials()
     ensures { UpdatesAdvance }
+{}
+
+/// What two zones differ in fits the one, and made to it, it gives the other.
+pub fn changes_make_the_zone_after()
+    ensures { ChangesMake }
+{}
+
+/// Sets of records differ in nothing exactly where they are one.
+pub fn equal_sets_are_one()
+    ensures { SameSetsAreOne }
+{}
+
+/// Updates have equal items, in the same order, exactly where they are one.
+pub fn equal_updates_are_one()
+    ensures { EqualUpdatesAreOne }
 {}

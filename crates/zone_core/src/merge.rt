@@ -4,9 +4,9 @@ ghost use Rattle.std.specs.Prelude.{◌≡◌, List, ◌∷◌, ◌++◌, not, I
 ghost use Rattle.std.specs.List.{position, position_or_len};
 ghost use Rattle.std.specs.Ordering.{is_lt};
 ghost use Rattle.dns_data.specs.declared.record.Record.{Record as RecordOf};
-ghost use Rattle.zone_core.specs.Sets.{Records, record_order, minus, AreRows};
-ghost use Rattle.zone_core.specs.Zones.{AreKept};
+ghost use Rattle.zone_core.specs.Sets.{Records, record_order, AreRows};
 ghost use Rattle.zone_core.specs.Merges.{is_first, merged};
+ghost use Rattle.zone_core.specs.Changes.{changed, FitsIn};
 
 use dns_data::{Record, record_order};
 use std::alloc::{AllocError, Global};
@@ -77,15 +77,14 @@ impl<'a> Merging<'a> {
     }
 }
 
-/// The rows of a set, from those of another, and from what the other has more and what it has less. The only error is want
-/// of memory.
+/// The rows of a set after a change that fits it, from those before. The only error is want of memory.
 pub(crate) fn merged(
     alloc: Global,
     rows: Vec<Record>,
     removed: &[Record],
     added: &[Record],
 ) -> Result<Vec<Record>, AllocError>
-    ensures { (before after : Records) → AreKept before → AreKept after → AreRows rows.items before → AreRows removed.now (minus before after) → AreRows added.now (minus after before) → IfOk result (λ rs. AreRows rs.items after) }
+    ensures { (set : Records) → AreRows rows.items set → FitsIn set removed.now added.now → IfOk result (λ rs. AreRows rs.items (changed set removed.now added.now)) }
 {
     let len = rows.len().saturating_add(added.len());
     let mut merging = Merging {

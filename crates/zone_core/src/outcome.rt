@@ -8,7 +8,6 @@ ghost use Rattle.zone_core.specs.Zones.{IsZone};
 ghost use Rattle.zone_core.specs.Accounts.{Leaves};
 ghost use Rattle.zone_core.specs.Versions.{Advances};
 
-use crate::merge::merged;
 use crate::settle::update_change;
 use crate::update::Update;
 use crate::zone::Zone;
@@ -59,10 +58,9 @@ pub fn apply_owned(alloc: Global, zone: Zone, update: &Update) -> Result<Outcome
     ensures added { IfOk result (λ o. AreRows o.added.items (minus o.zone.records zone.records)) }
 {
     let change = update_change(alloc, &zone, update)?;
-    let (origin, rows) = zone.into_parts();
-    let rows = merged(alloc, rows, &change.removed, &change.added)?;
+    let after = zone.changed(alloc, &change.removed, &change.added)?;
     Ok(Outcome {
-        zone: Zone::of_rows(origin, rows),
+        zone: after,
         removed: change.removed,
         added: change.added,
     })

@@ -4,6 +4,7 @@ ghost use Rattle.std.specs.Prelude.{◌≡◌, ◌==◌, ◌&&◌, ◌∷◌, if
 ghost use Rattle.zone_core.specs.Sets.{minus, AreRows};
 ghost use Rattle.zone_core.specs.Updates.{IsUpdate, ActsWithin};
 ghost use Rattle.zone_core.specs.Effects.{next_data, next_version, zone_after};
+ghost use Rattle.zone_core.specs.Zones.{IsZone};
 ghost use Rattle.zone_core.specs.Views.{advances};
 
 use crate::change::{Change, changes};
@@ -66,7 +67,8 @@ pub(crate) fn update_change(
     update: &Update,
 ) -> Result<Change, AllocError>
     requires { ActsWithin zone.now.origin update.now }
-    // What holds of every update.
+    // What holds of every zone, and of every update.
+    ensures zone { IfOk result (λ _. IsZone zone.now) }
     ensures update { IfOk result (λ _. IsUpdate update.now) }
     ensures removed { IfOk result (λ c. AreRows c.removed.items (minus zone.now.records (zone_after zone.now update.now).records)) }
     ensures added { IfOk result (λ c. AreRows c.added.items (minus (zone_after zone.now update.now).records zone.now.records)) }

@@ -5,8 +5,9 @@ ghost use Rattle.zone_core.specs.Sets.{set_of, listing, part, at_name, at, withi
 ghost use Rattle.zone_core.specs.Zones.{IsZone, IsSoaOf, soa_at, serial_of};
 ghost use Rattle.zone_core.specs.Views.{zone_in, AreOfZone};
 ghost use Rattle.zone_core.specs.Parts.{part_of, at_names};
+ghost use Rattle.zone_core.specs.Changes.{changed, FitsIn};
 
-use crate::merge::with_copies;
+use crate::merge::{merged, with_copies};
 use crate::rows;
 use dns_data::{Data, Record, RecordType};
 use dns_names::Name;
@@ -125,6 +126,24 @@ impl Zone {
             records = with_copies(alloc, records, self.records_at(name))?;
         }
         Ok(Zone::of_rows(origin, rows::in_order(alloc, records)?))
+    }
+
+    /// The zone with a change made: without some of its records, and with others. The only error is want of memory.
+    pub fn changed(
+        self,
+        alloc: Global,
+        removed: &[Record],
+        added: &[Record],
+    ) -> Result<Zone, AllocError>
+        // The records that go are in the zone, and in the place of those that come nothing is left; each side stands in record order.
+        requires fits { FitsIn self.records removed.now added.now }
+        // What comes of it is a zone.
+        requires zone { IsZone (record self { records = changed self.records removed.now added.now }) }
+        ensures { IfOk result (λ zone. zone ≡ record self { records = changed self.records removed.now added.now }) }
+    {
+        let (origin, rows) = self.into_parts();
+        let rows = merged(alloc, rows, removed, added)?;
+        Ok(Zone::of_rows(origin, rows))
     }
 
     /// An equal zone in memory of its own. The only error is want of memory.

@@ -3,7 +3,8 @@ use Rattle.std.proofs.lemmas.List.{nil_from_length}
 use Rattle.std.proofs.lemmas.Result.{IfOk-weaker}
 use Rattle.zone_core.specs.Sets.{AreRows}
 use Rattle.zone_core.specs.Merges.{merged}
-use Rattle.zone_core.proofs.OutcomeLemmas.{merged_are}
+use Rattle.zone_core.specs.Changes.{changed}
+use Rattle.zone_core.proofs.ChangedLemmas.{changed_are}
 use Rattle.zone_core.proofs.merge.merged.Goals as goal
 
 pub loop-row-init : goal.loop-row-init
@@ -20,10 +21,10 @@ loop-row-preserved c =
     ∙ c.loop-row.invariant
 
 pub returns : goal.returns
-returns c before after kept also rows_are gone_are come_are =
+returns c set rows_are fits =
     let m = c.loop-row.merging in
     let it = c.loop-row.row-iterator.rest in
     let none : it.items ≡ [] = nil_from_length it.items (omega (arith, it.ok.0, c.in-None.ensures.steps.0)) in
-    IfOk-weaker c.with_copies.result (λ all. all.items ≡ m.rows.items ++ m.come.now) (λ rs. AreRows rs.items after)
-    (λ rs e. merged_are before after kept also c.args.rows.items c.args.removed.now c.args.added.now rows_are gone_are come_are rs.items
+    IfOk-weaker c.with_copies.result (λ all. all.items ≡ m.rows.items ++ m.come.now) (λ rs. AreRows rs.items (changed set c.args.removed.now c.args.added.now))
+    (λ rs e. changed_are set c.args.rows.items c.args.removed.now c.args.added.now rows_are fits rs.items
     (e ∙ ap (λ xs. m.rows.items ++ merged xs m.gone.now m.come.now) (sym none) ∙ c.loop-row.invariant)) c.with_copies.ensures
