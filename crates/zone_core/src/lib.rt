@@ -12,6 +12,7 @@ mod laws;
 mod merge;
 mod notes;
 mod outcome;
+mod places;
 mod rcode;
 mod report;
 mod rows;
