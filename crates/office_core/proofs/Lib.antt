@@ -5,3 +5,7 @@ pub mod PermissionLaws
 pub mod OwnNameLemmas
 pub mod SameLemmas
 pub mod IsolationLemmas
+pub mod NumberLemmas
+pub mod MakingLemmas
+pub mod CommitLemmas
+pub mod RunLemmas

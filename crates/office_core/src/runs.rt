@@ -2,10 +2,10 @@
 
 ghost use Rattle.std.specs.Prelude.{IfOk, OnErr};
 ghost use Rattle.office_core.specs.States.{State};
-ghost use Rattle.office_core.specs.Runs.{IsRun};
+ghost use Rattle.office_core.specs.Runs.{IsRun, HasUpdate, HaveUpdates};
 
 use crate::reply::Reply;
-use crate::request::Call;
+use crate::request::{Call, Request};
 use crate::steps::step;
 use crate::table::ZoneTable;
 use grant_policy::Policy;
@@ -23,11 +23,33 @@ pub fn run<T: ZoneTable>(
     // after them.
     ensures run { T.is_honest table.new → (s : State) → T.holds table.old s → IfOk result (λ replies. IsRun (T.holds table.new) policy.now s calls.now replies.items) }
     ensures refused { OnErr result ((s : State) → T.holds table.old s → T.holds table.new s) }
+    // What holds of all calls.
+    ensures updates { HaveUpdates calls.now }
 {
+    notes_calls(calls);
+    // no reply takes memory here behind a step: there is room for all
     let mut replies = Vec::with_capacity(alloc, calls.len())?;
     for call in calls {
         let reply = step(alloc, table, policy, &call.caller, &call.request);
         replies.push(reply)?;
     }
     Ok(replies)
+}
+
+/// What its type says of the update of a call, where it has one. It does nothing when it runs.
+fn notes_call(call: &Call)
+    ensures { HasUpdate call.now.request }
+{
+    if let Request::Update { update, .. } = &call.request {
+        let _ = update.operations();
+    }
+}
+
+/// The same of all calls.
+fn notes_calls(calls: &[Call])
+    ensures { HaveUpdates calls.now }
+{
+    for call in calls {
+        notes_call(call);
+    }
 }
