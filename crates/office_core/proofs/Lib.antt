@@ -2,6 +2,9 @@ pub mod FootprintLaws
 pub mod FootprintLemmas
 pub mod PermissionLemmas
 pub mod PermissionLaws
+pub mod OwnNameLemmas
+pub mod SameLemmas
+pub mod IsolationLemmas
 pub mod NumberLemmas
 pub mod MakingLemmas
 pub mod CommitLemmas

@@ -142,6 +142,10 @@ module _ (rules : List Rule) (caller : List ℕ) where
         λ p. both.1 (first.1 p.prerequisites, second.1 p.operations),
       )
 
+  -- where no point is denied, the update is permitted
+  pub none_permits : (origin : List (List ℕ)) (update : UpdateOf) → first_denial rules caller (footprint origin update) ≡ None → IsPermitted rules caller origin update
+  none_permits origin update e = (all_granted origin update).0 ((none_denied (footprint origin update)).0 e)
+
   seen_none : (r : Option Denial) → (r ≡ None) ↔ (option_map denial_of r ≡ None)
   seen_none None = (λ e. refl, λ e. refl)
   seen_none (Some d) = (λ e. absurd cc, λ e. absurd cc)

@@ -10,3 +10,4 @@ pub mod Steps
 pub mod Runs
 pub mod Isolation
 pub mod Memory
+pub mod Promises
