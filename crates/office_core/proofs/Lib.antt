@@ -2,3 +2,4 @@ pub mod FootprintLaws
 pub mod FootprintLemmas
 pub mod PermissionLemmas
 pub mod PermissionLaws
+pub mod ListLemmas
