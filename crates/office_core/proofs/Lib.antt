@@ -3,3 +3,7 @@ pub mod FootprintLemmas
 pub mod PermissionLemmas
 pub mod PermissionLaws
 pub mod ListLemmas
+pub mod MovedLemmas
+pub mod MadeLemmas
+pub mod PromiseLemmas
+pub mod CallLemmas
