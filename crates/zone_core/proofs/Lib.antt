@@ -3,6 +3,7 @@ pub mod RowLemmas
 pub mod RangeLemmas
 pub mod WithinLemmas
 pub mod UpdateLemmas
+pub mod SameUpdateLemmas
 pub mod KindLemmas
 pub mod GroupLemmas
 pub mod HeadLemmas

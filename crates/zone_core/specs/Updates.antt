@@ -1,8 +1,11 @@
 -- An update: prerequisites and operations (RFC 2136 sections 2.4 and 2.5).
-use Rattle.std.specs.Prelude.{ℕ, ◌≤◌, List, length, Bool, not, ◌||◌, nat_lt, if◌then◌else◌, Option, Result, Ok, Err, false}
+use Rattle.std.specs.Prelude.{◌≡◌, ◌↔◌, ℕ, ◌≤◌, List, length, Bool, true, false, not, ◌&&◌, ◌||◌, ◌==◌, nat_lt, if◌then◌else◌, Option, Result, Ok, Err}
 use Rattle.std.specs.List.{filter, AllByRecursion, position}
 use Rattle.std.specs.Option.{option_map, option_or}
+use Rattle.std.specs.Cmp.Lexicographic.{pointwise}
 use Rattle.dns_names.specs.Labels.{IsName, IsWithin, is_within}
+use Rattle.dns_names.specs.Order.{same_name}
+use Rattle.dns_data.specs.declared.record_type.RecordType.{RecordType}
 use Rattle.dns_data.specs.Rdata.{IsRecord, IsRdata}
 use Rattle.zone_core.specs.declared.update.Prerequisite.{Prerequisite}
 use Rattle.zone_core.specs.declared.update.Prerequisite.TheVariants.{RrsetExists, RrsetEquals, RrsetAbsent, NameUsed, NameUnused}
@@ -13,8 +16,9 @@ use Rattle.zone_core.specs.declared.update.ItemList.TheVariants as lists
 use Rattle.zone_core.specs.declared.update.Place.{Place}
 use Rattle.zone_core.specs.declared.fault.UpdateFault.{UpdateFault}
 use Rattle.zone_core.specs.declared.fault.UpdateFault.TheVariants.{TooManyItems, TwoSoa}
-use Rattle.zone_core.specs.Sets.{key_of}
+use Rattle.zone_core.specs.Sets.{key_of, rank_of}
 use Rattle.zone_core.specs.Zones.{is_soa}
+use Rattle.zone_core.specs.Prerequisites.{same_data}
 
 -- prerequisites and operations
 pub record UpdateOf : Type 0 where
@@ -89,3 +93,34 @@ abbrev pub first_outside : List (List ℕ) → UpdateOf → Option Place
 first_outside origin update =
     option_or (option_map (place_in lists.Prerequisites) (position (λ p. not (is_within (tested_name p) origin)) update.prerequisites))
     (option_map (place_in lists.Operations) (position (λ op. not (is_within (acted_name op) origin)) update.operations))
+
+-- ---- updates that are equal
+
+-- whether two types are one
+abbrev pub same_type : RecordType → RecordType → Bool
+same_type record_type other = rank_of record_type == rank_of other
+
+-- whether two prerequisites are equal
+abbrev pub same_prerequisite : Prerequisite → Prerequisite → Bool
+same_prerequisite (RrsetExists name record_type) (RrsetExists other other_type) = same_name name other && same_type record_type other_type
+same_prerequisite (RrsetEquals name rdata) (RrsetEquals other other_rdata) = same_name name other && same_data rdata other_rdata
+same_prerequisite (RrsetAbsent name record_type) (RrsetAbsent other other_type) = same_name name other && same_type record_type other_type
+same_prerequisite (NameUsed name) (NameUsed other) = same_name name other
+same_prerequisite (NameUnused name) (NameUnused other) = same_name name other
+same_prerequisite p q = false
+
+-- whether two operations are equal; the TTL of a record that is added counts
+abbrev pub same_operation : Operation → Operation → Bool
+same_operation (Add r) (Add s) = same_name r.owner s.owner && ((r.ttl == s.ttl) && same_data r.rdata s.rdata)
+same_operation (DeleteRrset name record_type) (DeleteRrset other other_type) = same_name name other && same_type record_type other_type
+same_operation (DeleteName name) (DeleteName other) = same_name name other
+same_operation (DeleteRecord name rdata) (DeleteRecord other other_rdata) = same_name name other && same_data rdata other_rdata
+same_operation op other = false
+
+-- whether two updates have equal prerequisites and operations, in the same order
+abbrev pub same_update : UpdateOf → UpdateOf → Bool
+same_update a b = pointwise same_prerequisite a.prerequisites b.prerequisites && pointwise same_operation a.operations b.operations
+
+-- updates are equal exactly where they are one
+abbrev pub EqualUpdatesAreOne : Type 0
+EqualUpdatesAreOne = (a b : UpdateOf) → IsUpdate a → IsUpdate b → (same_update a b ≡ true) ↔ (a ≡ b)

@@ -3,6 +3,7 @@
 ghost use Rattle.zone_core.specs.Parts.{VerdictsReadTheirNames, OperationsReadTheirNames, UpdatesNeedTheirPart};
 ghost use Rattle.zone_core.specs.Accounts.{UpdatesLeave};
 ghost use Rattle.zone_core.specs.Changes.{ChangesMake, SameSetsAreOne};
+ghost use Rattle.zone_core.specs.Updates.{EqualUpdatesAreOne};
 ghost use Rattle.zone_core.specs.Versions.{UpdatesKeepZones, UpdatesAdvance};
 
 /// The prerequisites of an update read the records at their names, and no others.
@@ -46,4 +47,9 @@ pub fn changes_make_the_zone_after()
 /// Sets of records differ in nothing exactly where they are one.
 pub fn equal_sets_are_one()
     ensures { SameSetsAreOne }
+{}
+
+/// Updates have equal items, in the same order, exactly where they are one.
+pub fn equal_updates_are_one()
+    ensures { EqualUpdatesAreOne }
 {}

@@ -1,9 +1,9 @@
 //! Updates: prerequisites and operations (RFC 2136 sections 2.4 and 2.5).
 
-ghost use Rattle.std.specs.Prelude.{◌≡◌, ◌↔◌, None, IfOk, length, not};
+ghost use Rattle.std.specs.Prelude.{◌≡◌, ◌↔◌, None, IfOk, IsTrue, length, not};
 ghost use Rattle.std.specs.List.{filter, position};
 ghost use Rattle.dns_names.specs.Labels.{is_within};
-ghost use Rattle.zone_core.specs.Updates.{tested_name, acted_name, adds_soa, update_of, IsUpdate, ActsWithin, first_outside};
+ghost use Rattle.zone_core.specs.Updates.{tested_name, acted_name, adds_soa, update_of, IsUpdate, ActsWithin, first_outside, same_update};
 
 use crate::fault::UpdateFault;
 use crate::notes::{notes_operations, notes_prerequisites};
@@ -219,6 +219,15 @@ impl Update {
         }
         let list = ItemList::Operations;
         operation_outside(&self.operations, origin).map(|item| Place { list, item })
+    }
+
+    /// Whether two updates have the same prerequisites and operations, in the same order.
+    pub fn is_same(&self, other: &Update) -> bool
+        ensures equal { IsTrue result ↔ (self.now ≡ other.now) }
+        // The same by a definition that computes.
+        ensures value { result ≡ same_update self.now other.now }
+    {
+        self.prerequisites == other.prerequisites && self.operations == other.operations
     }
 
     /// An equal update in memory of its own. The only error is want of memory.
