@@ -8,4 +8,5 @@ pub mod Machine
 pub mod Tables
 pub mod Steps
 pub mod Runs
+pub mod Memory
 pub mod Isolation

@@ -11,8 +11,8 @@ mod reading;
 mod receipt;
 mod reply;
 mod request;
-mod run;
-mod step;
+mod runs;
+mod steps;
 mod table;
 
 pub use fault::TableFault;
@@ -22,8 +22,8 @@ pub use permission::{Denial, denied};
 pub use receipt::{Addition, Change, Receipt};
 pub use reply::{NumberedChange, Reply, Right, UpdateReply};
 pub use request::{Call, Request};
-pub use run::run;
-pub use step::step;
+pub use runs::run;
+pub use steps::step;
 pub use table::ZoneTable;
 
 #[cfg(test)]

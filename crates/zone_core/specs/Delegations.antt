@@ -2,6 +2,7 @@
 use Rattle.std.specs.Prelude.{◌≡◌, ◌↔◌, ℕ, List, [], ◌∷◌, ◌++◌, length, map, Bool, not, ◌&&◌, ◌||◌, ◌==◌, if◌then◌else◌, Result, Ok, Err}
 use Rattle.std.specs.List.{AllByRecursion, Contains, list_any, filter, flat_map}
 use Rattle.std.specs.List.Sorted.{IsStrictlySortedBy}
+use Rattle.std.specs.FinMap.{keys, from_entries}
 use Rattle.std.specs.declared.net.ip_addr.IpAddr.{IpAddr}
 use Rattle.std.specs.declared.net.ip_addr.IpAddr.TheVariants as addresses
 use Rattle.dns_names.specs.Labels.{is_within}
@@ -81,7 +82,7 @@ delegation_of origin request =
 
 -- ---- the delegations in a zone
 
--- the names of a list in canonical order (RFC 4034 section 6.1), each once
+-- names are those of a list, in canonical order (RFC 4034 section 6.1), each once
 pub record AreNamesOf (names all : List (List (List ℕ))) : Type 0 where
   pub order : IsStrictlySortedBy canonical_cmp names
   pub members : (name : List (List ℕ)) → Contains names name ↔ Contains all name
@@ -121,3 +122,26 @@ IsDelegation rs d = (names : List (List (List ℕ))) × AreNamesOf names (server
 pub record AreDelegations (origin : List (List ℕ)) (rs : List Record) (ds : List Delegation) : Type 0 where
   pub children : AreNamesOf (map (λ d. d.child) ds) (cut_owners origin rs)
   pub each : AllByRecursion (IsDelegation rs) ds
+
+-- ---- the same by definitions that compute
+
+-- the names of a list in canonical order (RFC 4034 section 6.1), each once
+abbrev pub names_in_order : List (List (List ℕ)) → List (List (List ℕ))
+names_in_order names = keys (from_entries {R = canonical_cmp} (map (λ name. (name, tt {0})) names))
+
+-- a child zone and its servers
+pub record DelegationOf : Type 0 where
+  pub child : List (List ℕ)
+  pub servers : List DelegatedServer
+
+-- what the program sees of a delegation
+abbrev pub report_of : Delegation → DelegationOf
+report_of d = record { child = d.child; servers = d.servers.items }
+
+-- the delegation of a child that records make
+abbrev pub child_report : List Record → List (List ℕ) → DelegationOf
+child_report rs child = record { child = child; servers = map (server_of rs child) (names_in_order (server_names child rs)) }
+
+-- the delegations that records make
+abbrev pub report : List (List ℕ) → List Record → List DelegationOf
+report origin rs = map (child_report rs) (names_in_order (cut_owners origin rs))

@@ -1,10 +1,10 @@
 //! The delegations in a zone: where it is cut (RFC 2181 section 6), and the servers of each child.
 
-ghost use Rattle.std.specs.Prelude.{◌≡◌, ◌++◌, ◌&&◌, ◌==◌, IfOk};
+ghost use Rattle.std.specs.Prelude.{◌≡◌, ◌++◌, ◌&&◌, ◌==◌, map, IfOk};
 ghost use Rattle.std.specs.List.{flat_map};
 ghost use Rattle.dns_data.specs.declared.record_type.RecordType.TheVariants.{Ns};
 ghost use Rattle.zone_core.specs.Sets.{key_of, rank_of, InOrder};
-ghost use Rattle.zone_core.specs.Delegations.{is_below, AreNamesOf, cut_owner, cut_owners, server_in, server_names, glue_of, server_of, IsDelegation, AreDelegations};
+ghost use Rattle.zone_core.specs.Delegations.{is_below, AreNamesOf, cut_owner, cut_owners, server_in, server_names, glue_of, server_of, IsDelegation, AreDelegations, report_of, report};
 
 use crate::delegation::is_below;
 use crate::rows::{has_set, has_type, of_set};
@@ -161,7 +161,9 @@ pub fn delegation_report(
     records: &[Record],
 ) -> Result<Vec<Delegation>, AllocError>
     requires { InOrder records.now }
-    ensures { IfOk result (λ ds. AreDelegations origin.now records.now ds.items) }
+    ensures found { IfOk result (λ ds. AreDelegations origin.now records.now ds.items) }
+    // The same by a definition that computes.
+    ensures exact { IfOk result (λ ds. map report_of ds.items ≡ report origin.now records.now) }
 {
     let children = cuts(alloc, origin, records)?;
     let mut delegations = Vec::with_capacity(alloc, children.len())?;

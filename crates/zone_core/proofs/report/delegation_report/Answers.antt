@@ -4,6 +4,7 @@ use Rattle.std.proofs.lemmas.List.{take_all, take_more, map_push}
 use Rattle.dns_names.proofs.CutLemmas.{AllByRecursion-push}
 use Rattle.zone_core.specs.declared.report.Delegation.{Delegation}
 use Rattle.zone_core.specs.Delegations.{IsDelegation, AreNamesOf, cut_owners}
+use Rattle.zone_core.proofs.NameListLemmas.{report_is}
 use Rattle.zone_core.proofs.report.delegation_report.Goals as goal
 
 pub loop-child-preserved : goal.loop-child-preserved
@@ -22,11 +23,14 @@ loop-child-preserved c =
       subst (AllByRecursion (IsDelegation rs)) (sym grown) (AllByRecursion-push (IsDelegation rs) ds d c.loop-child.invariant.1 made.servers),
     )
 
-pub returns : goal.returns
-returns c =
+pub returns-clause-found : goal.returns-clause-found
+returns-clause-found c =
     let items = c.deref-child-items.result.now in
     let all = c.loop-child.invariant.0 ∙ take_all c.loop-child.child-index items c.loop-child-test.false ∙ c.deref-child-items.ensures.value in
     record {
       children = subst (λ ns. AreNamesOf ns (cut_owners c.args.origin.now c.args.records.now)) (sym all) c.in_ok-children.ensures;
       each = c.loop-child.invariant.1;
     }
+
+pub returns-clause-exact : goal.returns-clause-exact
+returns-clause-exact c = report_is c.args.origin.now c.args.records.now c.loop-child.delegations.items (returns-clause-found c)

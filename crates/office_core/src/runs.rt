@@ -6,7 +6,7 @@ ghost use Rattle.office_core.specs.Runs.{IsRun};
 
 use crate::reply::Reply;
 use crate::request::Call;
-use crate::step::step;
+use crate::steps::step;
 use crate::table::ZoneTable;
 use grant_policy::Policy;
 use std::alloc::{AllocError, Global};
