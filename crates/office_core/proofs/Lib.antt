@@ -1,4 +1,5 @@
 pub mod FootprintLaws
 pub mod FootprintLemmas
+pub mod MemoryLemmas
 pub mod PermissionLemmas
 pub mod PermissionLaws
