@@ -1,6 +1,7 @@
 //! The machine: what is asked of the office, who may ask it, and what is replied and kept.
 #![tactic(auto)]
 
+mod fail_table;
 mod fault;
 mod footprint;
 mod item;
@@ -16,6 +17,7 @@ mod runs;
 mod steps;
 mod table;
 
+pub use fail_table::{FailTable, TableCall};
 pub use fault::TableFault;
 pub use footprint::{operation_asks, prerequisite_asks};
 pub use laws::footprints_are_asked_in_order;
