@@ -1,5 +1,6 @@
 pub mod FootprintLaws
 pub mod FootprintLemmas
+pub mod MemoryLemmas
 pub mod PermissionLemmas
 pub mod PermissionLaws
 pub mod OwnNameLemmas
@@ -9,3 +10,9 @@ pub mod NumberLemmas
 pub mod MakingLemmas
 pub mod CommitLemmas
 pub mod RunLemmas
+pub mod AloneLemmas
+pub mod ListLemmas
+pub mod MovedLemmas
+pub mod MadeLemmas
+pub mod PromiseLemmas
+pub mod CallLemmas
