@@ -9,3 +9,4 @@ pub mod NumberLemmas
 pub mod MakingLemmas
 pub mod CommitLemmas
 pub mod RunLemmas
+pub mod AloneLemmas

@@ -2,7 +2,8 @@
 
 ghost use Rattle.std.specs.Prelude.{IfOk, OnErr};
 ghost use Rattle.office_core.specs.States.{State};
-ghost use Rattle.office_core.specs.Runs.{IsRun, HasUpdate, HaveUpdates};
+ghost use Rattle.office_core.specs.Runs.{IsRun, HasUpdate, HaveUpdates, kept, given};
+ghost use Rattle.office_core.specs.Isolation.{AreToldAlone};
 
 use crate::reply::Reply;
 use crate::request::{Call, Request};
@@ -22,11 +23,24 @@ pub fn run<T: ZoneTable>(
     // Where the store has kept its word, the replies are those of the machine to the calls that it answered, and so is the state
     // after them.
     ensures run { T.is_honest table.new → (s : State) → T.holds table.old s → IfOk result (λ replies. IsRun (T.holds table.new) policy.now s calls.now replies.items) }
+    // Each caller is told what it would be told alone, as far as the law of isolation goes.
+    ensures alone { T.is_honest table.new → (s : State) → T.holds table.old s → IfOk result (λ replies. AreToldAlone policy.now s (kept calls.now replies.items) (given calls.now replies.items)) }
     ensures refused { OnErr result ((s : State) → T.holds table.old s → T.holds table.new s) }
-    // What holds of all calls.
-    ensures updates { HaveUpdates calls.now }
 {
     notes_calls(calls);
+    replies_to(alloc, table, policy, calls)
+}
+
+/// The replies to calls.
+fn replies_to<T: ZoneTable>(
+    alloc: Global,
+    table: &mut T,
+    policy: &Policy,
+    calls: &[Call],
+) -> Result<Vec<Reply>, AllocError>
+    ensures run { T.is_honest table.new → (s : State) → T.holds table.old s → IfOk result (λ replies. IsRun (T.holds table.new) policy.now s calls.now replies.items) }
+    ensures refused { OnErr result ((s : State) → T.holds table.old s → T.holds table.new s) }
+{
     // no reply takes memory here behind a step: there is room for all
     let mut replies = Vec::with_capacity(alloc, calls.len())?;
     for call in calls {

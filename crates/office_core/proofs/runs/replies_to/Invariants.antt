@@ -2,7 +2,7 @@ use Rattle.std.proofs.Common.{◌≡◌, ◌≤◌, List, length, take, vec_len}
 use Rattle.std.specs.Vec.{vec_capacity}
 use Rattle.office_core.specs.States.{State}
 use Rattle.office_core.specs.Runs.{IsRun}
-use Rattle.office_core.proofs.runs.run.Given as goal
+use Rattle.office_core.proofs.runs.replies_to.Given as goal
 
 abbrev pub invariant-loop-call : goal.invariant-loop-call
 invariant-loop-call g l = record {
