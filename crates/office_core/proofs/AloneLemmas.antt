@@ -1,13 +1,15 @@
--- What a run tells each caller.
-use Rattle.std.proofs.Common.{◌≡◌, ℕ, List, [], ◌∷◌, ◌++◌, Option, Some, None, ap, ◌∙◌}
+-- What a run does, and what it tells each caller.
+use Rattle.std.proofs.Common.{◌≡◌, ℕ, List, [], ◌∷◌, ◌++◌, Option, Some, None, Result, Ok, Err, IfOk, ap, ◌∙◌}
 use Rattle.std.specs.List.{AllByRecursion}
 use Rattle.grant_policy.specs.declared.rule.Rule.{Rule}
 use Rattle.office_core.specs.declared.request.Call.{Call}
 use Rattle.office_core.specs.declared.reply.Reply.{Reply}
 use Rattle.office_core.specs.Replies.{ReplyOf, reply_of}
-use Rattle.office_core.specs.States.{State, AreZones}
+use Rattle.office_core.specs.States.{State, AreZones, AreReceipts}
 use Rattle.office_core.specs.Runs.{HasUpdate, HaveUpdates, one_kept, kept, given, IsRun}
 use Rattle.office_core.specs.Isolation.{told_to, AreToldAlone}
+use Rattle.office_core.specs.Promises.{CallsAreRight}
+use Rattle.office_core.proofs.CallLemmas.{calls_are_right}
 use Rattle.office_core.proofs.IsolationLemmas.{callers_are_alone, blind_callers_are_alone, policies_keep_alone}
 
 -- what is kept of calls has updates, where the calls have
@@ -28,3 +30,15 @@ run_alone holds rules s calls rs zones has run =
       by_sight = λ caller blind quiet. ap (told_to caller) run.as_machine ∙ blind_callers_are_alone rules caller s (kept calls rs) zones have blind quiet;
       by_policy = λ caller blind others. ap (told_to caller) run.as_machine ∙ policies_keep_alone rules caller s (kept calls rs) zones have blind others;
     }
+
+pub run_right : (rules : List Rule) (s : State) (calls : List Call) (rs : List Reply) → AreZones s → AreReceipts s → HaveUpdates calls → CallsAreRight rules s (kept calls rs)
+run_right rules s calls rs zones receipts has = calls_are_right rules s (kept calls rs) zones receipts (kept_have calls rs has)
+
+-- what follows of a value follows of an answer
+pub of_ok : {X E : Type 0} (P Q : X → Type 0) → ((x : X) → P x → Q x) → (r : Result X E) → IfOk r P → IfOk r Q
+of_ok P Q f (Ok x) p = f x p
+of_ok P Q f (Err e) p = tt
+
+pub all_ok : {X E : Type 0} (Q : X → Type 0) → ((x : X) → Q x) → (r : Result X E) → IfOk r Q
+all_ok Q f (Ok x) = f x
+all_ok Q f (Err e) = tt

@@ -10,3 +10,8 @@ pub mod MakingLemmas
 pub mod CommitLemmas
 pub mod RunLemmas
 pub mod AloneLemmas
+pub mod ListLemmas
+pub mod MovedLemmas
+pub mod MadeLemmas
+pub mod PromiseLemmas
+pub mod CallLemmas

@@ -1,5 +1,5 @@
 -- What the office promises of each request and of all of them, in words of its policy and its zones.
-use Rattle.std.specs.Prelude.{◌≡◌, ◌≢◌, ◌⊎◌, ◌↔◌, ℕ, List, [], ◌∷◌, ◌++◌, Option, Some, None}
+use Rattle.std.specs.Prelude.{◌≡◌, ◌≢◌, ◌⊎◌, ◌↔◌, ℕ, List, [], ◌∷◌, ◌++◌, Some, None}
 use Rattle.std.specs.List.{Contains, fold}
 use Rattle.dns_data.specs.declared.record.Record.{Record}
 use Rattle.dns_data.specs.declared.record_type.RecordType.TheVariants as types
@@ -22,8 +22,8 @@ use Rattle.office_core.specs.declared.request.Request.TheVariants as requests
 use Rattle.office_core.specs.Footprints.{Point, footprint}
 use Rattle.office_core.specs.Permissions.{DenialOf, IsGranted, IsPermitted, IsFirstDenial}
 use Rattle.office_core.specs.Replies.{ReplyOf, to_update, id_reused}
-use Rattle.office_core.specs.States.{ChangeOf, Held, State, AreZones, zone_held}
-use Rattle.office_core.specs.Machine.{Turn, step, listed, held_after, change_of, receipt}
+use Rattle.office_core.specs.States.{ChangeOf, Held, State, AreZones, AreReceipts, zone_held}
+use Rattle.office_core.specs.Machine.{Turn, listed, change_of, receipt}
 use Rattle.office_core.specs.Runs.{HaveUpdates, turn, state_after}
 
 -- ---- updates that are made
@@ -167,6 +167,6 @@ pub record CallsAreRight (rules : List Rule) (s : State) (calls : List Call) : T
   pub zones : (o : List (List ℕ)) (held : Held) → s.zones o ≡ Some held → ZoneIsRight rules s calls o held
   pub no_other : (o : List (List ℕ)) → s.zones o ≡ None → (state_after rules s calls).zones o ≡ None
 
--- Calls are answered right, from any state in which what is held are zones.
+-- Calls are answered right, from any state in which what is held are zones and receipts of updates.
 abbrev pub AllCallsAreRight : Type 0
-AllCallsAreRight = (rules : List Rule) (s : State) (calls : List Call) → AreZones s → HaveUpdates calls → CallsAreRight rules s calls
+AllCallsAreRight = (rules : List Rule) (s : State) (calls : List Call) → AreZones s → AreReceipts s → HaveUpdates calls → CallsAreRight rules s calls

@@ -3,6 +3,7 @@
 ghost use Rattle.std.specs.Prelude.{IfOk, OnErr};
 ghost use Rattle.office_core.specs.States.{State};
 ghost use Rattle.office_core.specs.Runs.{IsRun, HasUpdate, HaveUpdates, kept, given};
+ghost use Rattle.office_core.specs.Promises.{CallsAreRight};
 ghost use Rattle.office_core.specs.Isolation.{AreToldAlone};
 
 use crate::reply::Reply;
@@ -23,6 +24,8 @@ pub fn run<T: ZoneTable>(
     // Where the store has kept its word, the replies are those of the machine to the calls that it answered, and so is the state
     // after them.
     ensures run { T.is_honest table.new → (s : State) → T.holds table.old s → IfOk result (λ replies. IsRun (T.holds table.new) policy.now s calls.now replies.items) }
+    // What is promised of calls holds of them: what is made of them is permitted, made whole and in order, and nothing else is.
+    ensures promises { T.is_honest table.new → (s : State) → T.holds table.old s → IfOk result (λ replies. CallsAreRight policy.now s (kept calls.now replies.items)) }
     // Each caller is told what it would be told alone, as far as the law of isolation goes.
     ensures alone { T.is_honest table.new → (s : State) → T.holds table.old s → IfOk result (λ replies. AreToldAlone policy.now s (kept calls.now replies.items) (given calls.now replies.items)) }
     ensures refused { OnErr result ((s : State) → T.holds table.old s → T.holds table.new s) }

@@ -1,8 +1,19 @@
-use Rattle.std.specs.Prelude.{Ok, Err}
-use Rattle.std.proofs.Common.{◌≡◌, IfOk, Result}
-use Rattle.office_core.proofs.AloneLemmas.{run_alone}
+use Rattle.std.proofs.Common.{List}
+use Rattle.office_core.specs.Runs.{IsRun, kept, given}
+use Rattle.office_core.specs.Promises.{CallsAreRight}
+use Rattle.office_core.specs.Isolation.{AreToldAlone}
+use Rattle.office_core.proofs.AloneLemmas.{run_alone, run_right, of_ok, all_ok}
 use Rattle.office_core.proofs.runs.run.Goals as goal
 
--- src/runs.rt:17:1
+pub returns-clause-promises : goal.returns-clause-promises
+returns-clause-promises g c honest s holds =
+    all_ok (λ replies. CallsAreRight c.args.policy.now s (kept c.args.calls.now replies.items))
+    (λ replies. run_right c.args.policy.now s c.args.calls.now replies.items (g.met.T.ZoneTable.zones c.args.table.now s holds) (g.met.T.ZoneTable.receipts c.args.table.now s holds) c.notes_calls.ensures)
+    c.replies_to.result
+
 pub returns-clause-alone : goal.returns-clause-alone
-returns-clause-alone g c = ?
+returns-clause-alone g c honest s holds =
+    of_ok (λ replies. IsRun (g.T.ZoneTable.holds c.replies_to.new.table) c.args.policy.now s c.args.calls.now replies.items)
+    (λ replies. AreToldAlone c.args.policy.now s (kept c.args.calls.now replies.items) (given c.args.calls.now replies.items))
+    (λ replies run. run_alone (g.T.ZoneTable.holds c.replies_to.new.table) c.args.policy.now s c.args.calls.now replies.items (g.met.T.ZoneTable.zones c.args.table.now s holds) c.notes_calls.ensures run)
+    c.replies_to.result (c.replies_to.ensures.run honest s holds)
