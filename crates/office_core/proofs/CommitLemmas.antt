@@ -1,5 +1,5 @@
 -- What is kept of an update that is answered by what it reads of its zone: the machine's own turn.
-use Rattle.std.proofs.Common.{◌≡◌, ℕ, List, ◌∷◌, [], ◌++◌, map, length, Bool, true, false, cond, ◌&&◌, ◌||◌, ◌==◌, if◌then◌else◌, Option, Some, None, option_map, Result, Ok, Err, refl, sym, ap, subst, ◌∙◌}
+use Rattle.std.proofs.Common.{◌≡◌, ℕ, List, ◌∷◌, [], ◌++◌, map, length, Bool, true, false, ◌&&◌, ◌||◌, ◌==◌, if◌then◌else◌, Option, Some, None, option_map, Result, Ok, Err, refl, sym, ap, subst, ◌∙◌}
 use Rattle.std.specs.List.{list_any}
 use Rattle.std.specs.Option.{option_or}
 use Rattle.std.specs.Result.{IsErr}
@@ -10,10 +10,8 @@ use Rattle.dns_names.specs.Order.{same_name}
 use Rattle.dns_data.specs.declared.record.Record.{Record}
 use Rattle.grant_policy.specs.declared.rule.Rule.{Rule}
 use Rattle.zone_core.specs.declared.update.Place.{Place}
-use Rattle.zone_core.specs.declared.update.Prerequisite.{Prerequisite}
-use Rattle.zone_core.specs.declared.update.Operation.{Operation}
 use Rattle.zone_core.specs.declared.verdict.Failed.{Failed}
-use Rattle.zone_core.specs.Sets.{Records, Key, listing, part, minus, is_same, at_name}
+use Rattle.zone_core.specs.Sets.{Records, Key, listing, minus, is_same, at_name}
 use Rattle.zone_core.specs.Zones.{ZoneOf, IsZone}
 use Rattle.zone_core.specs.Updates.{UpdateOf, IsUpdate, ActsWithin, tested_name, acted_name, first_outside}
 use Rattle.zone_core.specs.Effects.{zone_after}
@@ -30,8 +28,8 @@ use Rattle.office_core.specs.declared.reply.UpdateReply.{UpdateReply}
 use Rattle.office_core.specs.declared.reply.UpdateReply.TheVariants.{NoError, NotAuth, NotZone, Failed as FailedReply}
 use Rattle.office_core.specs.Replies.{to_update}
 use Rattle.office_core.specs.States.{ChangeOf, Held, State, AreZones, zone_held, part_at}
-use Rattle.office_core.specs.Machine.{Turn, is_nothing, outside_reply, denied_reply, failed_reply, zone_refusal, refusal, change_of, with_change, held_after, hold, keep, answered}
-use Rattle.office_core.specs.Tables.{AdditionOf, held_with, committed, FitsHeld, FitsChange, Fits}
+use Rattle.office_core.specs.Machine.{Turn, is_nothing, denied_reply, failed_reply, zone_refusal, refusal, change_of, with_change, held_after, hold, keep, answered}
+use Rattle.office_core.specs.Tables.{AdditionOf, held_with, committed, FitsHeld, Fits}
 use Rattle.office_core.specs.Steps.{LeavesTurn, held_in, change_made, Makes, MakesAt, addition_of}
 
 same_Some : {T : Type 0} (a b : T) → Some a ≡ Some b → a ≡ b

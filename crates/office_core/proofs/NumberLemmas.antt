@@ -1,5 +1,5 @@
 -- Changes with their numbers, from a number on.
-use Rattle.std.proofs.Common.{◌≡◌, ℕ, suc, ◌+◌, List, [], ◌∷◌, ◌++◌, Bool, true, false, if◌then◌else◌, nat_le, refl, sym, ap, ◌∙◌, append_assoc, add-one}
+use Rattle.std.proofs.Common.{◌≡◌, ℕ, ◌+◌, List, [], ◌∷◌, ◌++◌, true, false, if◌then◌else◌, nat_le, refl, ap, ◌∙◌, append_assoc, add-one}
 use Rattle.std.specs.List.{filter}
 use Rattle.office_core.specs.Replies.{NumberedOf}
 use Rattle.office_core.specs.States.{ChangeOf}

@@ -7,7 +7,6 @@ use Rattle.office_core.specs.declared.reply.Reply.{Reply}
 use Rattle.office_core.specs.declared.reply.Reply.TheVariants.{Servfail}
 use Rattle.office_core.specs.Replies.{ReplyOf, reply_of}
 use Rattle.office_core.specs.States.{State}
-use Rattle.office_core.specs.Machine.{step}
 use Rattle.office_core.specs.Steps.{Steps}
 use Rattle.office_core.specs.Runs.{Answer, turn, answers, state_after, one_kept, one_given, kept, given, IsRun}
 

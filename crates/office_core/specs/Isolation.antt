@@ -7,7 +7,6 @@ use Rattle.grant_policy.specs.declared.action.Action.{Action}
 use Rattle.grant_policy.specs.declared.action.Action.TheVariants as action
 use Rattle.grant_policy.specs.declared.rule.Rule.{Rule}
 use Rattle.grant_policy.specs.Decisions.{HasRight}
-use Rattle.zone_core.specs.declared.update.Operation.{Operation}
 use Rattle.zone_core.specs.Updates.{acted_name}
 use Rattle.zone_core.specs.Sight.{IsQuiet}
 use Rattle.office_core.specs.declared.request.Request.{Request}

@@ -1,5 +1,5 @@
 -- What a table in memory holds.
-use Rattle.std.specs.Prelude.{◌≡◌, ◌≢◌, ℕ, List, [], map, Option, Some, None, option_map}
+use Rattle.std.specs.Prelude.{◌≢◌, ℕ, List, [], Option, None, option_map}
 use Rattle.std.specs.List.{AllPairs, find}
 use Rattle.dns_names.specs.Order.{same_name}
 use Rattle.zone_core.specs.Zones.{ZoneOf}

@@ -1,4 +1,4 @@
-use Rattle.std.proofs.Common.{◌≡◌, Some, option_map, sym, ap, subst, ◌∙◌}
+use Rattle.std.proofs.Common.{Some, option_map, sym, ap, subst, ◌∙◌}
 use Rattle.office_core.specs.States.{State}
 use Rattle.office_core.specs.Machine.{refusal, answered}
 use Rattle.office_core.specs.Tables.{AdditionOf, change_in, committed, Fits}

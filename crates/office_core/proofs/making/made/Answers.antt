@@ -1,4 +1,4 @@
-use Rattle.std.proofs.Common.{◌≡◌, sym, ap, option_map, ◌∙◌}
+use Rattle.std.proofs.Common.{sym, ap, option_map, ◌∙◌}
 use Rattle.office_core.specs.Tables.{change_in}
 use Rattle.office_core.proofs.MakingLemmas.{none_made, some_made, makes}
 use Rattle.office_core.proofs.making.made.Goals as goal

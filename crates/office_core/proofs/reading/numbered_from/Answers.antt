@@ -1,4 +1,4 @@
-use Rattle.std.proofs.Common.{◌≡◌, ◌+◌, ◌++◌, List, length, map, sym, ap, ◌∙◌, arith}
+use Rattle.std.proofs.Common.{◌+◌, ◌++◌, List, length, map, sym, ap, ◌∙◌, arith}
 use Rattle.office_core.specs.declared.receipt.Change.{Change}
 use Rattle.office_core.specs.Replies.{NumberedOf, numbered_of}
 use Rattle.office_core.specs.Machine.{numbered}

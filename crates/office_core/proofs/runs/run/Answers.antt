@@ -1,4 +1,3 @@
-use Rattle.std.proofs.Common.{List}
 use Rattle.office_core.specs.Runs.{IsRun, kept, given}
 use Rattle.office_core.specs.Promises.{CallsAreRight}
 use Rattle.office_core.specs.Isolation.{AreToldAlone}
