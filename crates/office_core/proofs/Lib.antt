@@ -1,5 +1,6 @@
 pub mod FootprintLaws
 pub mod FootprintLemmas
+pub mod MemoryLemmas
 pub mod PermissionLemmas
 pub mod PermissionLaws
 pub mod OwnNameLemmas

@@ -1,11 +1,13 @@
 //! The machine: what is asked of the office, who may ask it, and what is replied and kept.
 #![tactic(auto)]
 
+mod fail_table;
 mod fault;
 mod footprint;
 mod item;
 mod laws;
 mod making;
+mod memory;
 mod permission;
 mod reading;
 mod receipt;
@@ -15,11 +17,13 @@ mod runs;
 mod steps;
 mod table;
 
+pub use fail_table::{FailTable, TableCall};
 pub use fault::TableFault;
 pub use footprint::{operation_asks, prerequisite_asks};
 pub use laws::{
     callers_are_alone, calls_are_right, footprints_are_asked_in_order, lists_are_exact,
 };
+pub use memory::{MemTable, are_apart};
 pub use permission::{Denial, denied};
 pub use receipt::{Addition, Change, Receipt};
 pub use reply::{NumberedChange, Reply, Right, UpdateReply};

@@ -1,0 +1,7 @@
+use Rattle.std.proofs.Common.{subst}
+use Rattle.office_core.specs.Memory.{HoldsState}
+use Rattle.office_core.specs.States.{State}
+use Rattle.office_core.proofs.fail_table.FailTableZoneTable.receipt.Goals as goal
+
+pub returns-clause-same : goal.returns-clause-same
+returns-clause-same g c = subst (λ q. (s : State) → HoldsState q s → HoldsState c.receipt.new.self s) c.in_ok-call.ensures.table c.receipt.ensures.same

@@ -1,0 +1,18 @@
+use Rattle.std.proofs.Common.{Some, sym, ap, ◌∙◌}
+use Rattle.std.specs.List.{find}
+use Rattle.std.specs.Prelude.{option_map}
+use Rattle.zone_core.specs.Parts.{part_of, at_names}
+use Rattle.office_core.specs.Memory.{is_of, receipt_rows}
+use Rattle.office_core.proofs.MemoryLemmas.{of_origin, zone_told}
+use Rattle.office_core.proofs.memory.MemTableZoneTable.part.Goals as goal
+
+pub returns-clause-answer : goal.returns-clause-answer
+returns-clause-answer c = λ u s h.
+    let origin = c.args.origin.now in
+    let zones = c.self.inside.zones.items in
+    let held = c.in-Some.held.now in
+    let found = c.in-Some.ensures ∙ ap (find (is_of origin)) c.deref.ensures.value in
+    let told = zone_told c.args.self.now zones (receipt_rows c.self.inside.receipts) s origin (Some held) c.self.view_is h found in
+    let names = c.args.names.now in
+    ap Some (c.in_ok-part.ensures ∙ ap (λ q. part_of held.zone (at_names q names)) (of_origin zones origin held (sym found)))
+    ∙ ap (option_map (λ zone. part_of zone (at_names origin names))) told

@@ -1,0 +1,287 @@
+//! The table in memory.
+
+ghost use Rattle.std.specs.Prelude.{◌≡◌, ◌↔◌, ℕ, ◌<◌, List, [], length, IsTrue, IfOk, OnOk, OnErr, map, ◌&&◌, if◌then◌else◌, Some};
+ghost use Rattle.std.specs.Option.{option_copied};
+ghost use Rattle.std.specs.List.{find, position, list_any};
+ghost use Rattle.std.specs.BTreeMap.{is_at};
+ghost use Rattle.std.specs.Cmp.Lexicographic.{slice_cmp};
+ghost use Rattle.std.specs.Ordering.{nat_cmp};
+ghost use Rattle.dns_names.specs.Order.{same_name};
+ghost use Rattle.zone_core.specs.Zones.{IsZone};
+ghost use Rattle.office_core.specs.Tables.{change_in};
+ghost use Rattle.office_core.specs.Memory.{AreApart, state_of, is_of, receipt_in, IsPutAt, HoldsSame, HoldsChange, HasRoomAt, HoldsState};
+
+use crate::fault::TableFault;
+use crate::receipt::{Addition, Change, Receipt};
+use crate::table::ZoneTable;
+use dns_data::Record;
+use dns_names::Name;
+use grant_policy::Identifier;
+use std::alloc::{AllocError, Global};
+use std::collections::BTreeMap;
+use std::marker::Model;
+use zone_core::Zone;
+
+/// A zone, and its changes from the oldest on.
+#[derive(Drop)]
+struct HeldZone {
+    zone: Zone,
+    changes: Vec<Change>,
+}
+
+/// The receipts of each caller, each under its identifier.
+type Receipts = BTreeMap<Identifier, BTreeMap<Identifier, Receipt>>;
+
+/// A table in memory. It never answers `Store`.
+#[derive(Drop)]
+pub struct MemTable {
+    // zones are few: they are looked for one by one
+    zones: Vec<HeldZone>,
+    receipts: Receipts,
+}
+
+impl Model for MemTable {
+    ghost use Rattle.office_core.specs.Memory.{MemoryOf, memory_code, receipt_rows, EachIsZone};
+
+    ghost Value = { MemoryOf };
+
+    ghost coded = { memory_code };
+
+    ghost view = { λ t. record { zones = t.zones.items; receipts = receipt_rows t.receipts } };
+
+    ghost invariant = { λ t. EachIsZone t.zones.items };
+}
+
+/// Whether some zone has this origin.
+fn some_has(zones: &[Zone], origin: &Name) -> bool
+    ensures { result ≡ list_any (λ zone. same_name zone.origin origin.now) zones.now }
+{
+    zones.iter().any(|zone| zone.origin() == origin)
+}
+
+/// Whether no two zones have one origin.
+pub fn are_apart(zones: &[Zone]) -> bool
+    ensures { IsTrue result ↔ AreApart zones.now }
+{
+    for (i, zone) in zones.iter().enumerate() {
+        if some_has(&zones[i + 1..], zone.origin()) {
+            return false;
+        }
+    }
+    true
+}
+
+/// A zone of which no change is known.
+fn unchanged(alloc: Global, zone: Zone) -> HeldZone
+    ensures zone { result.zone ≡ zone }
+    ensures changes { result.changes.items ≡ [] }
+    ensures is_zone { IsZone zone }
+{
+    // that it is a zone is told by what it is asked
+    let _origin = zone.origin();
+    HeldZone {
+        zone,
+        changes: Vec::new(alloc),
+    }
+}
+
+/// The first zone of an origin, if there is one.
+fn held<'a>(zones: &'a [HeldZone], origin: &Name) -> Option<&'a HeldZone>
+    ensures { option_copied result ≡ find (is_of origin.now) zones.now }
+{
+    zones.iter().find(|held| held.zone.origin() == origin)
+}
+
+/// The place of the first zone of an origin, if there is one.
+fn place(zones: &[HeldZone], origin: &Name) -> Option<usize>
+    ensures { result ≡ position (is_of origin.now) zones.now }
+{
+    zones.iter().position(|held| held.zone.origin() == origin)
+}
+
+/// Makes room for one more change of the zone at a place. The only error is want of memory.
+fn make_room(zones: &mut [HeldZone], at: usize) -> Result<(), AllocError>
+    requires { at < length zones.old }
+    ensures same { IsPutAt zones.old zones.new at HoldsSame }
+    ensures room { OnOk result (HasRoomAt zones.new at) }
+{
+    zones[at].changes.reserve(1)
+}
+
+/// Puts a zone after a change, and the change, in the place of the zone before it.
+fn put(zones: &mut [HeldZone], at: usize, zone: Zone, change: Change)
+    requires inside { at < length zones.old }
+    requires room { HasRoomAt zones.old at }
+    ensures { IsPutAt zones.old zones.new at (HoldsChange zone change) }
+{
+    let held = &mut zones[at];
+    held.zone = zone;
+    let Ok(()) = held.changes.push(change) else {
+        unreachable!()
+    };
+}
+
+/// The receipt of a caller under an identifier, if there is one.
+fn receipt_of<'a>(
+    receipts: &'a Receipts,
+    caller: &Identifier,
+    id: &Identifier,
+) -> Option<&'a Receipt>
+    ensures { option_copied result ≡ receipt_in receipts.now caller.now id.now }
+{
+    receipts.get(caller)?.get(id)
+}
+
+/// Keeps the receipt of a caller under an identifier. The only error is want of memory.
+fn keep(
+    alloc: Global,
+    receipts: &mut Receipts,
+    caller: Identifier,
+    id: Identifier,
+    receipt: Receipt,
+) -> Result<(), AllocError>
+    ensures kept { OnOk result ((c i : List ℕ) → receipt_in receipts.new c i ≡ (if is_at (slice_cmp nat_cmp caller) c && is_at (slice_cmp nat_cmp id) i then Some receipt else receipt_in receipts.old c i)) }
+    ensures same { OnErr result ((c i : List ℕ) → receipt_in receipts.new c i ≡ receipt_in receipts.old c i) }
+{
+    match receipts.get_mut(&caller) {
+        Some(own) => {
+            own.insert(id, receipt)?;
+        }
+        None => {
+            let mut own = BTreeMap::new(alloc);
+            own.insert(id, receipt)?;
+            receipts.insert(caller, own)?;
+        }
+    }
+    Ok(())
+}
+
+/// Copies of records. The only error is want of memory.
+fn copied(alloc: Global, records: &[Record]) -> Result<Vec<Record>, AllocError>
+    ensures { IfOk result (λ rs. rs.items ≡ records.now) }
+{
+    let mut all = Vec::with_capacity(alloc, records.len())?;
+    for record in records {
+        all.push(record.try_copy(alloc)?)?;
+    }
+    Ok(all)
+}
+
+/// Copies of changes. The only error is want of memory.
+fn copied_changes(alloc: Global, changes: &[Change]) -> Result<Vec<Change>, AllocError>
+    ensures { IfOk result (λ cs. map change_in cs.items ≡ map change_in changes.now) }
+{
+    let mut all = Vec::with_capacity(alloc, changes.len())?;
+    for change in changes {
+        all.push(Change {
+            removed: copied(alloc, &change.removed)?,
+            added: copied(alloc, &change.added)?,
+        })?;
+    }
+    Ok(all)
+}
+
+impl MemTable {
+    /// A table of zones of which nothing was changed, and without receipts. The only error is want of memory.
+    pub fn new(alloc: Global, zones: Vec<Zone>) -> Result<MemTable, AllocError>
+        // No two zones have one origin, as `are_apart` tells.
+        requires apart { AreApart zones.items }
+        ensures { IfOk result (λ table. HoldsState table (state_of zones.items)) }
+    {
+        let mut held = Vec::with_capacity(alloc, zones.len())?;
+        for zone in zones {
+            held.push(unchanged(alloc, zone))?;
+        }
+        Ok(MemTable {
+            zones: held,
+            receipts: BTreeMap::new(alloc),
+        })
+    }
+}
+
+impl ZoneTable for MemTable {
+    ghost holds = { HoldsState };
+
+    ghost is_honest = { λ _. Unit {0} };
+
+    ghost leaves = { λ _ _ _. Unit {0} };
+
+    ghost failures = { λ _. 0 };
+
+    fn zone(&mut self, alloc: Global, origin: &Name) -> Result<Option<Zone>, TableFault> {
+        let Some(held) = held(&self.zones, origin) else {
+            return Ok(None);
+        };
+        Ok(Some(held.zone.try_copy(alloc)?))
+    }
+
+    fn part(
+        &mut self,
+        alloc: Global,
+        origin: &Name,
+        names: &[Name],
+    ) -> Result<Option<Zone>, TableFault> {
+        let Some(held) = held(&self.zones, origin) else {
+            return Ok(None);
+        };
+        Ok(Some(held.zone.part(alloc, names)?))
+    }
+
+    fn subtree(
+        &mut self,
+        alloc: Global,
+        origin: &Name,
+        top: &Name,
+    ) -> Result<Option<Vec<Record>>, TableFault> {
+        let Some(held) = held(&self.zones, origin) else {
+            return Ok(None);
+        };
+        Ok(Some(copied(alloc, held.zone.records_within(top))?))
+    }
+
+    fn receipt(
+        &mut self,
+        alloc: Global,
+        caller: &Identifier,
+        id: &Identifier,
+    ) -> Result<Option<Receipt>, TableFault> {
+        let Some(receipt) = receipt_of(&self.receipts, caller, id) else {
+            return Ok(None);
+        };
+        Ok(Some(receipt.try_copy(alloc)?))
+    }
+
+    fn changes(&mut self, alloc: Global, origin: &Name) -> Result<Option<Vec<Change>>, TableFault> {
+        let Some(held) = held(&self.zones, origin) else {
+            return Ok(None);
+        };
+        Ok(Some(copied_changes(alloc, &held.changes)?))
+    }
+
+    fn commit(&mut self, alloc: Global, addition: Addition) -> Result<(), TableFault> {
+        let Addition {
+            caller,
+            id,
+            receipt,
+            change,
+        } = addition;
+        let Some(change) = change else {
+            keep(alloc, &mut self.receipts, caller, id, receipt)?;
+            return Ok(());
+        };
+        let Some(at) = place(&self.zones, &receipt.origin) else {
+            unreachable!()
+        };
+        let zone = self.zones[at].zone.try_copy(alloc)?;
+        let zone = zone.changed(alloc, &change.removed, &change.added)?;
+        make_room(&mut self.zones, at)?;
+        keep(alloc, &mut self.receipts, caller, id, receipt)?;
+        // nothing takes memory behind this
+        put(&mut self.zones, at, zone, change);
+        Ok(())
+    }
+
+    ghost zones = { λ table s held. held.are_zones };
+
+    ghost weaker = { λ table s t left. left };
+}
