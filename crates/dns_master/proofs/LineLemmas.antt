@@ -1,6 +1,11 @@
 -- Lines of a text.
-use Rattle.std.proofs.Common.{◌≡◌, ℕ, zero, suc, ◌+◌, ◌≤◌, Bool, true, false, cond, eqb, List, [], ◌∷◌, length, take, drop, refl, ap, ◌∙◌, arith}
+use Rattle.std.proofs.Common.{◌≡◌, ℕ, zero, suc, ◌+◌, ◌-◌, ◌≤◌, Bool, true, false, cond, eqb, List, [], ◌∷◌, length, take, drop, Some, Result, Ok, Err, refl, ap, ◌∙◌, arith}
+use Rattle.std.proofs.lemmas.List.{length-take}
+use Rattle.dns_master.specs.declared.fault.MasterFault.{MasterFault}
+use Rattle.dns_master.specs.declared.shape.ShapeFault.{ShapeFault}
+use Rattle.dns_master.specs.declared.shape.ShapeFault.TheVariants as shapes
 use Rattle.dns_master.specs.Lines.{line_ends, line_at}
+use Rattle.dns_master.specs.Faults.{on_line, on_lines, fault_line}
 
 on_test : (b : Bool) (x y z : ℕ) → x ≡ y + z → cond b (suc x) x ≡ cond b (suc y) y + z
 on_test true x y z e = omega arith
@@ -26,3 +31,17 @@ pub counted_on : (text between : List ℕ) (at start line count : ℕ) → at �
 counted_on text between at start line count h marked is n =
     let ends : count ≡ line_ends (drop at (take start text)) = n ∙ ap line_ends is in
     omega (arith, ends, marked, line_split at start text h)
+
+pub line_at_within : (text : List ℕ) (start : ℕ) → line_at text start ≤ suc (length text)
+line_at_within text start = omega (arith, line_ends_within (take start text), length-take start text)
+
+-- the line of a fault of parentheses or quotes is one of the text
+told_within : (text : List ℕ) (fault : ShapeFault) (line : ℕ) → fault_line (on_line text fault) ≡ Some line → line ≤ suc (length text)
+told_within text (shapes.ParenOpen left) line e = let same : line_at text (length text - left) ≡ line = cc e in omega (arith, same, line_at_within text (length text - left))
+told_within text (shapes.ParenClose left) line e = let same : line_at text (length text - left) ≡ line = cc e in omega (arith, same, line_at_within text (length text - left))
+told_within text (shapes.QuoteOpen left) line e = let same : line_at text (length text - left) ≡ line = cc e in omega (arith, same, line_at_within text (length text - left))
+told_within text shapes.NoMemory line e = absurd (cc e)
+
+pub fault_line_within : {A : Type 0} (text : List ℕ) (read : Result A ShapeFault) (fault : MasterFault) (line : ℕ) → on_lines text read ≡ Err fault → fault_line fault ≡ Some line → line ≤ suc (length text)
+fault_line_within text (Ok x) fault line e is = absurd (cc e)
+fault_line_within text (Err shape) fault line e is = let same : on_line text shape ≡ fault = cc e in told_within text shape line (ap fault_line same ∙ is)

@@ -12,5 +12,9 @@ ended_line r = record_line r ++ 10 ∷ []
 abbrev pub origin_line : List (List ℕ) → List ℕ
 origin_line origin = codes "$ORIGIN " ++ name_text origin ++ 10 ∷ []
 
+-- the record lines of records, in their order
+abbrev pub records_text : List Record → List ℕ
+records_text records = flat_map ended_line records
+
 abbrev pub zone_text : List (List ℕ) → List Record → List ℕ
-zone_text origin records = origin_line origin ++ flat_map ended_line records
+zone_text origin records = origin_line origin ++ records_text records

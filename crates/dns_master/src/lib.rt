@@ -25,7 +25,7 @@ pub use laws::{
     printed_is_read,
 };
 pub use token::{Token, tokens};
-pub use zone_text::print_zone;
+pub use zone_text::{print_records, print_zone};
 
 #[cfg(test)]
 mod tests;

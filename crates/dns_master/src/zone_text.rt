@@ -1,8 +1,8 @@
-//! Printing a zone as a master file.
+//! Printing a zone as a master file, and records as lines.
 
 ghost use Rattle.std.specs.Prelude.{◌≡◌, ◌++◌, OnOk, string_bytes};
 ghost use Rattle.dns_master.specs.Device.{TextWritten, Drained};
-ghost use Rattle.dns_master.specs.ZoneText.{origin_line, ended_line, zone_text};
+ghost use Rattle.dns_master.specs.ZoneText.{origin_line, ended_line, records_text, zone_text};
 
 use crate::device::Sink;
 use crate::fault::MasterFault;
@@ -56,8 +56,38 @@ fn push_line(text: &mut String, rr: &Record) -> Result<(), AllocError>
     Ok(())
 }
 
-/// Prints a zone as a master file (RFC 1035 section 5.1): the line `$ORIGIN` and the origin, and then the record lines in the
-/// order in which the records stand here, each ended by a line feed. Some 65,536 octets go out at a time.
+/// Writes what was gathered, and then the record lines of records. Some 65,536 octets go out at a time.
+fn print_behind<W: Sink>(
+    mut text: String,
+    records: &[Record],
+    writer: &mut W,
+) -> Result<(), MasterFault>
+    ensures { TextWritten (W.contents writer.old) (W.contents writer.new) (string_bytes text ++ records_text records.now) result (W.failures writer.old) (W.failures writer.new) }
+{
+    for rr in records {
+        push_line(&mut text, rr)?;
+        drain(writer, &mut text)?;
+    }
+    write_text(writer, text.as_bytes())
+}
+
+/// Prints records: their record lines in the order in which they stand here, each ended by a line feed. Some 65,536 octets go
+/// out at a time.
+///
+/// `WriteFailed` comes only where the writer failed in this call, `NoMemory` at the growth that was refused, and then a front
+/// of the text went out.
+pub fn print_records<W: Sink>(
+    alloc: Global,
+    records: &[Record],
+    writer: &mut W,
+) -> Result<(), MasterFault>
+    ensures { TextWritten (W.contents writer.old) (W.contents writer.new) (records_text records.now) result (W.failures writer.old) (W.failures writer.new) }
+{
+    print_behind(String::new(alloc), records, writer)
+}
+
+/// Prints a zone as a master file (RFC 1035 section 5.1): the line `$ORIGIN` and the origin, and then its records, as
+/// `print_records` does.
 ///
 /// `WriteFailed` comes only where the writer failed in this call, `NoMemory` at the growth that was refused, and then a front
 /// of the text went out.
@@ -71,9 +101,5 @@ pub fn print_zone<W: Sink>(
 {
     let mut text = String::new(alloc);
     push_origin(&mut text, origin)?;
-    for rr in records {
-        push_line(&mut text, rr)?;
-        drain(writer, &mut text)?;
-    }
-    write_text(writer, text.as_bytes())
+    print_behind(text, records, writer)
 }

@@ -19,7 +19,7 @@ same_Some a b e = cc
 
 -- ---- members of lists
 
-abbrev In : {X : Type 0} → X → List X → Type 0
+abbrev pub In : {X : Type 0} → X → List X → Type 0
 In x [] = ⊥
 In x (y ∷ ys) = (y ≡ x) ⊎ In x ys
 
@@ -36,10 +36,10 @@ in_at [] k d lt = absurd (omega arith)
 in_at (x ∷ xs) zero d lt = inl refl
 in_at (x ∷ xs) (suc k) d lt = inr (in_at xs k d (omega arith))
 
-contained : {X : Type 0} (xs : List X) (x : X) → Contains xs x → In x xs
+pub contained : {X : Type 0} (xs : List X) (x : X) → Contains xs x → In x xs
 contained {X} xs x (k, lt, is) = subst (λ (y : X). In y xs) is (in_at xs k x lt)
 
-contains : {X : Type 0} (xs : List X) (x : X) → In x xs → Contains xs x
+pub contains : {X : Type 0} (xs : List X) (x : X) → In x xs → Contains xs x
 contains [] x i = absurd i
 contains (y ∷ ys) x (inl e) = (0, omega arith, e)
 contains (y ∷ ys) x (inr i) = let c = contains ys x i in (suc c.0, omega (arith, c.1), c.2)

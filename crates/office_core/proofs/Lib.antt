@@ -3,3 +3,16 @@ pub mod FootprintLemmas
 pub mod MemoryLemmas
 pub mod PermissionLemmas
 pub mod PermissionLaws
+pub mod OwnNameLemmas
+pub mod SameLemmas
+pub mod IsolationLemmas
+pub mod NumberLemmas
+pub mod MakingLemmas
+pub mod CommitLemmas
+pub mod RunLemmas
+pub mod AloneLemmas
+pub mod ListLemmas
+pub mod MovedLemmas
+pub mod MadeLemmas
+pub mod PromiseLemmas
+pub mod CallLemmas

@@ -41,7 +41,7 @@ each_type P all Srv = all.1.1.1.1.1.1.1.1.0
 each_type P all Ds = all.1.1.1.1.1.1.1.1.1.0
 
 module _ (rules : List Rule) (caller : List ℕ) where
-  abbrev Granted : Point → Type 0
+  abbrev pub Granted : Point → Type 0
   Granted p = IsGranted rules caller p.name p.record_type p.action
 
   abbrev verdict : Point → Verdict
@@ -49,7 +49,7 @@ module _ (rules : List Rule) (caller : List ℕ) where
 
   -- ---- the first denial
 
-  found_denial : (ps : List Point) (d : DenialOf) → first_denial rules caller ps ≡ Some d → IsFirstDenial rules caller ps d
+  pub found_denial : (ps : List Point) (d : DenialOf) → first_denial rules caller ps ≡ Some d → IsFirstDenial rules caller ps d
   found_denial [] d e = absurd cc
   found_denial (p ∷ ps) d e = by_verdict (verdict p) refl (found_denial ps d) e
     where
@@ -85,7 +85,7 @@ module _ (rules : List Rule) (caller : List ℕ) where
 
   -- ---- no denial
 
-  none_denied : (ps : List Point) → (first_denial rules caller ps ≡ None) ↔ AllByRecursion Granted ps
+  pub none_denied : (ps : List Point) → (first_denial rules caller ps ≡ None) ↔ AllByRecursion Granted ps
   none_denied [] = (λ e. tt, λ all. refl)
   none_denied (p ∷ ps) = (
     λ e. by_verdict (verdict p) refl (none_denied ps).0 e,
@@ -131,7 +131,7 @@ module _ (rules : List Rule) (caller : List ℕ) where
           λ all. both.1 (one.1 (λ t a e. all.0 t a ((told x t a).0 e)), rest.1 all.1),
         )
 
-  all_granted : (origin : List (List ℕ)) (update : UpdateOf) → AllByRecursion Granted (footprint origin update) ↔ IsPermitted rules caller origin update
+  pub all_granted : (origin : List (List ℕ)) (update : UpdateOf) → AllByRecursion Granted (footprint origin update) ↔ IsPermitted rules caller origin update
   all_granted origin update =
       let tests = points_from tested_name prerequisite_action lists.Prerequisites 0 update.prerequisites in
       let acts = points_from acted_name (operation_action origin) lists.Operations 0 update.operations in
@@ -141,6 +141,10 @@ module _ (rules : List Rule) (caller : List ℕ) where
         λ all. record { prerequisites = first.0 (both.0 all).0; operations = second.0 (both.0 all).1 },
         λ p. both.1 (first.1 p.prerequisites, second.1 p.operations),
       )
+
+  -- where no point is denied, the update is permitted
+  pub none_permits : (origin : List (List ℕ)) (update : UpdateOf) → first_denial rules caller (footprint origin update) ≡ None → IsPermitted rules caller origin update
+  none_permits origin update e = (all_granted origin update).0 ((none_denied (footprint origin update)).0 e)
 
   seen_none : (r : Option Denial) → (r ≡ None) ↔ (option_map denial_of r ≡ None)
   seen_none None = (λ e. refl, λ e. refl)

@@ -7,7 +7,6 @@ use Rattle.grant_policy.specs.declared.action.Action.{Action}
 use Rattle.grant_policy.specs.declared.action.Action.TheVariants as action
 use Rattle.grant_policy.specs.declared.rule.Rule.{Rule}
 use Rattle.grant_policy.specs.Decisions.{HasRight}
-use Rattle.zone_core.specs.declared.update.Operation.{Operation}
 use Rattle.zone_core.specs.Updates.{acted_name}
 use Rattle.zone_core.specs.Sight.{IsQuiet}
 use Rattle.office_core.specs.declared.request.Request.{Request}
@@ -89,6 +88,14 @@ OthersMayNot rules caller =
     → other ≢ caller → IsOwn rules caller name → ChangesRecords asked → ¬ IsGranted rules other name record_type asked
 
 -- ---- the laws
+
+-- What calls were answered tells each caller what it would be told alone: one that has no right on an SOA where others stay away
+-- from its names; one that sees no SOA where others are quiet at its names, or where the policy lets none of them change anything
+-- there.
+pub record AreToldAlone (rules : List Rule) (s : State) (calls : List Call) (given : List Answer) : Type 0 where
+  pub by_rights : (caller : List ℕ) → HasNoSoaRight rules caller s → OthersStayAway rules caller s calls → told_to caller given ≡ told_to caller (answers rules s (asked_by caller calls))
+  pub by_sight : (caller : List ℕ) → SeesNoSoa rules caller s → OthersStayQuiet rules caller s calls → told_to caller given ≡ told_to caller (answers rules s (asked_by caller calls))
+  pub by_policy : (caller : List ℕ) → SeesNoSoa rules caller s → OthersMayNot rules caller → told_to caller given ≡ told_to caller (answers rules s (asked_by caller calls))
 
 -- A caller that has no right on an SOA is told what it would be told alone, where others stay away from its names.
 abbrev pub CallersAreAlone : Type 0

@@ -8,5 +8,6 @@ pub mod Machine
 pub mod Tables
 pub mod Steps
 pub mod Runs
-pub mod Memory
 pub mod Isolation
+pub mod Memory
+pub mod Promises

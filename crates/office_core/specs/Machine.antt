@@ -13,7 +13,6 @@ use Rattle.grant_policy.specs.declared.rule.Rule.{Rule}
 use Rattle.grant_policy.specs.Decisions.{decision, is_granted}
 use Rattle.zone_core.specs.declared.update.Operation.{Operation}
 use Rattle.zone_core.specs.Sets.{Records, listing, part, within, minus, is_same}
-use Rattle.zone_core.specs.Zones.{ZoneOf}
 use Rattle.zone_core.specs.Updates.{UpdateOf, first_outside, same_update}
 use Rattle.zone_core.specs.Prerequisites.{verdict}
 use Rattle.zone_core.specs.Effects.{zone_after}

@@ -1,9 +1,9 @@
 -- The state of the office: its zones with their changes, and the receipts of what it answered.
 use Rattle.std.specs.Prelude.{◌≡◌, ℕ, List, Option, Some, option_map}
 use Rattle.dns_data.specs.declared.record.Record.{Record}
-use Rattle.zone_core.specs.Sets.{Records, Key, listing, part, within}
+use Rattle.zone_core.specs.Sets.{Records, listing, part, within}
 use Rattle.zone_core.specs.Zones.{ZoneOf, IsZone}
-use Rattle.zone_core.specs.Updates.{UpdateOf}
+use Rattle.zone_core.specs.Updates.{IsUpdate}
 use Rattle.zone_core.specs.Parts.{part_of, at_names}
 use Rattle.office_core.specs.declared.receipt.Receipt.{Receipt}
 
@@ -33,6 +33,10 @@ zone_at s origin = option_map (zone_held origin) (s.zones origin)
 -- what is held of each origin is a zone
 abbrev pub AreZones : State → Type 0
 AreZones s = (origin : List (List ℕ)) (held : Held) → s.zones origin ≡ Some held → IsZone (zone_held origin held)
+
+-- each receipt is of an update
+abbrev pub AreReceipts : State → Type 0
+AreReceipts s = (caller id : List ℕ) (receipt : Receipt) → s.receipts caller id ≡ Some receipt → IsUpdate receipt.update
 
 -- ---- what is read of it
 

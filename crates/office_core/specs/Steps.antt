@@ -10,11 +10,11 @@ use Rattle.office_core.specs.declared.request.Request.{Request}
 use Rattle.office_core.specs.declared.reply.Reply.{Reply}
 use Rattle.office_core.specs.declared.reply.Reply.TheVariants.{Servfail}
 use Rattle.office_core.specs.declared.reply.UpdateReply.{UpdateReply}
-use Rattle.office_core.specs.declared.reply.UpdateReply.TheVariants.{NoError}
+use Rattle.office_core.specs.declared.reply.UpdateReply.TheVariants.{NoError, NotAuth}
 use Rattle.office_core.specs.Replies.{reply_of}
 use Rattle.office_core.specs.States.{ChangeOf, Held, State}
-use Rattle.office_core.specs.Machine.{Turn, step, change_of}
-use Rattle.office_core.specs.Tables.{CountsFault}
+use Rattle.office_core.specs.Machine.{Turn, step, zone_refusal, change_of, receipt}
+use Rattle.office_core.specs.Tables.{CountsFault, AdditionOf}
 
 -- What a request is answered from a state, and that the state after it is held: a step of the machine; or the table failed or
 -- memory ran out, and nothing changed.
@@ -35,6 +35,11 @@ CountsReply before after reply = after ≡ before
 
 -- ---- inside a step
 
+-- a reply is one of the machine
+abbrev pub IsAnswer : Reply → Type 0
+IsAnswer (Servfail fault) = ⊥
+IsAnswer reply = Unit {0}
+
 -- the same of a part of a step, which answers a fault by itself
 abbrev pub Takes : (State → Type 0) → State → Turn → Result Reply TableFault → Type 0
 Takes holds s turn (Ok reply) = (reply_of reply ≡ Some turn.reply) × holds turn.after
@@ -46,6 +51,10 @@ LeavesTurn leaves s turn (Err fault) = leaves s turn.after
 
 -- ---- inside an update
 
+-- what is held of an origin, where its changes say nothing
+abbrev pub held_in : ZoneOf → Held
+held_in zone = record { records = zone.records; changes = [] }
+
 -- the change that an update makes of a set, if it makes one
 abbrev pub change_made : Records → Records → Option ChangeOf
 change_made before after = if is_same before after then None else Some (change_of before after)
@@ -55,6 +64,11 @@ abbrev pub Makes : ZoneOf → UpdateOf → Option UpdateReply → UpdateReply �
 Makes zone update (Some refused) reply change = (reply ≡ refused) × (change ≡ None)
 Makes zone update None reply change = (reply ≡ NoError) × (change ≡ change_made zone.records (zone_after zone update).records)
 
--- what is held of an origin, where its changes say nothing
-abbrev pub held_in : ZoneOf → Held
-held_in zone = record { records = zone.records; changes = [] }
+-- the same where there may be no zone
+abbrev pub MakesAt : List Rule → List ℕ → UpdateOf → Option ZoneOf → UpdateReply → Option ChangeOf → Type 0
+MakesAt rules caller update None reply change = (reply ≡ NotAuth) × (change ≡ None)
+MakesAt rules caller update (Some zone) reply change = Makes zone update (zone_refusal rules caller zone.origin update (held_in zone)) reply change
+
+-- what is kept of an update: its receipt, and the change that it made
+abbrev pub addition_of : List ℕ → List ℕ → List (List ℕ) → UpdateOf → UpdateReply → Option ChangeOf → AdditionOf
+addition_of caller id origin update reply change = record { caller = caller; id = id; receipt = receipt origin update reply; change = change }

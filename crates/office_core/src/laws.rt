@@ -1,10 +1,38 @@
 //! Laws of the definitions. The functions do nothing: their contracts are the laws.
 
 ghost use Rattle.office_core.specs.Footprints.{FootprintsAreAsked, FootprintsAreInOrder};
+ghost use Rattle.office_core.specs.Isolation.{CallersAreAlone, BlindCallersAreAlone, PoliciesKeepAlone};
+ghost use Rattle.office_core.specs.Promises.{ListsAreExact, AllCallsAreRight};
 
 /// The footprint of an update has exactly the points that its items ask for, each once and in order: those of prerequisites
 /// before those of operations, items by their numbers, and the points of an item by type number.
 pub fn footprints_are_asked_in_order()
     ensures points { FootprintsAreAsked }
     ensures order { FootprintsAreInOrder }
+{}
+
+/// A caller is told what it would be told if nobody else asked anything, as long as what others change is at none of its own names,
+/// those at which the policy grants it something. It must not see the SOA at the origin of a zone, whose serial shows that there
+/// were changes: it has no right on it, or at least may neither list nor check it, and then others may add an SOA there. And it is
+/// told so whatever is asked, where the policy grants no other caller to change records at its own names.
+pub fn callers_are_alone()
+    ensures rights { CallersAreAlone }
+    ensures sight { BlindCallersAreAlone }
+    ensures policy { PoliciesKeepAlone }
+{}
+
+/// What a caller may list of a zone is every record of it that the policy lets the caller list, no other, and in record order
+/// (RFC 4034 section 6).
+pub fn lists_are_exact()
+    ensures { ListsAreExact }
+{}
+
+/// Whatever is called, one call after the other. An update is made exactly where its identifier is new to the caller, its zone
+/// is there, its names are within the zone, the policy grants every point of it and its prerequisites are met; and then it is
+/// made whole (RFC 2136 section 3.4), the serial is greater where anything has changed (RFC 1982), what moved was granted, and
+/// the change is noted. Any other request changes no zone, a denial names the first point that is not granted, and a repeated
+/// update is told the reply that was kept. So a zone is the one at the start with the updates that were made of it, in order,
+/// and the noted changes lead from the one to the other.
+pub fn calls_are_right()
+    ensures { AllCallsAreRight }
 {}

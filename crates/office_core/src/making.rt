@@ -1,12 +1,12 @@
 //! Updates: whether they are made, and what is kept of them.
 
 ghost use Rattle.std.specs.Prelude.{◌≡◌, ◌++◌, None, Some, IfOk, map, option_map};
-ghost use Rattle.zone_core.specs.Updates.{tested_name, acted_name};
+ghost use Rattle.zone_core.specs.Updates.{tested_name, acted_name, IsUpdate, ActsWithin};
 ghost use Rattle.office_core.specs.Replies.{reply_of};
 ghost use Rattle.office_core.specs.States.{State};
-ghost use Rattle.office_core.specs.Tables.{Counts, change_in};
+ghost use Rattle.office_core.specs.Tables.{Counts, change_in, addition_in};
 ghost use Rattle.office_core.specs.Machine.{again, answered, updated, refusal, zone_refusal};
-ghost use Rattle.office_core.specs.Steps.{Takes, LeavesTurn, Makes, held_in};
+ghost use Rattle.office_core.specs.Steps.{IsAnswer, Takes, LeavesTurn, Makes, MakesAt, held_in, addition_of};
 
 use crate::fault::TableFault;
 use crate::permission::denied;
@@ -31,6 +31,7 @@ pub(crate) fn update_reply<T: ZoneTable>(
     ensures takes { T.is_honest table.new → (s : State) → T.holds table.old s → Takes (T.holds table.new) s (updated policy.now s caller.now id.now origin.now update.now (s.receipts caller.now id.now)) result }
     ensures crash { T.is_honest table.new → (s : State) → T.holds table.old s → T.leaves table.old s s → LeavesTurn (T.leaves table.new) s (updated policy.now s caller.now id.now origin.now update.now (s.receipts caller.now id.now)) result }
     ensures honest { T.is_honest table.new → T.is_honest table.old }
+    ensures answers { IfOk result IsAnswer }
     ensures counts { Counts (T.failures table.old) (T.failures table.new) result }
 {
     match table.receipt(alloc, caller, id)? {
@@ -64,31 +65,47 @@ fn first_reply<T: ZoneTable>(
     ensures takes { T.is_honest table.new → (s : State) → T.holds table.old s → Takes (T.holds table.new) s (answered s caller.now id.now origin.now update.now (refusal policy.now caller.now origin.now update.now (s.zones origin.now))) result }
     ensures crash { T.is_honest table.new → (s : State) → T.holds table.old s → T.leaves table.old s s → LeavesTurn (T.leaves table.new) s (answered s caller.now id.now origin.now update.now (refusal policy.now caller.now origin.now update.now (s.zones origin.now))) result }
     ensures honest { T.is_honest table.new → T.is_honest table.old }
+    ensures answers { IfOk result IsAnswer }
     ensures counts { Counts (T.failures table.old) (T.failures table.new) result }
 {
     let names = item_names(alloc, update)?;
-    let (reply, change) = match table.part(alloc, origin, &names)? {
-        Some(part) => made(alloc, policy, caller, part, update)?,
-        None => (UpdateReply::NotAuth, None),
-    };
-    let addition = Addition {
-        caller: caller.try_copy(alloc)?,
-        id: id.try_copy(alloc)?,
-        receipt: Receipt {
-            origin: origin.try_copy(alloc)?,
-            update: update.try_copy(alloc)?,
-            reply: reply.try_copy(alloc)?,
-        },
-        change,
-    };
+    let part = table.part(alloc, origin, &names)?;
+    let (reply, change) = made_at(alloc, policy, caller, part, update)?;
+    let addition = addition(alloc, caller, id, origin, update, &reply, change)?;
     table.commit(alloc, addition)?;
     // nothing takes memory behind a commit
     Ok(Reply::Update(reply))
 }
 
+/// What is kept of an update: its receipt, and the change that it made. The only error is want of memory.
+fn addition(
+    alloc: Global,
+    caller: &Identifier,
+    id: &Identifier,
+    origin: &Name,
+    update: &Update,
+    reply: &UpdateReply,
+    change: Option<Change>,
+) -> Result<Addition, AllocError>
+    ensures { IfOk result (λ a. addition_in a ≡ addition_of caller.now id.now origin.now update.now reply.now (option_map change_in change)) }
+{
+    let receipt = Receipt {
+        origin: origin.try_copy(alloc)?,
+        update: update.try_copy(alloc)?,
+        reply: reply.try_copy(alloc)?,
+    };
+    Ok(Addition {
+        caller: caller.try_copy(alloc)?,
+        id: id.try_copy(alloc)?,
+        receipt,
+        change,
+    })
+}
+
 /// The names of the items of an update: all that it reads beside the origin. The only error is want of memory.
 fn item_names(alloc: Global, update: &Update) -> Result<Vec<Name>, AllocError>
-    ensures { IfOk result (λ names. names.items ≡ map tested_name update.now.prerequisites ++ map acted_name update.now.operations) }
+    ensures update { IsUpdate update.now }
+    ensures names { IfOk result (λ names. names.items ≡ map tested_name update.now.prerequisites ++ map acted_name update.now.operations) }
 {
     let mut names = Vec::new(alloc);
     for prerequisite in update.prerequisites() {
@@ -98,6 +115,23 @@ fn item_names(alloc: Global, update: &Update) -> Result<Vec<Name>, AllocError>
         names.push(operation.name().try_copy(alloc)?)?;
     }
     Ok(names)
+}
+
+/// The reply to an update, by what it reads of its zone, where there is the zone, and what it changes, if it is made and changes
+/// something. The only error is want of memory.
+fn made_at(
+    alloc: Global,
+    policy: &Policy,
+    caller: &Identifier,
+    part: Option<Zone>,
+    update: &Update,
+) -> Result<(UpdateReply, Option<Change>), AllocError>
+    ensures { IfOk result (λ r. MakesAt policy.now caller.now update.now part r.0 (option_map change_in r.1)) }
+{
+    match part {
+        Some(zone) => made(alloc, policy, caller, zone, update),
+        None => Ok((UpdateReply::NotAuth, None)),
+    }
 }
 
 /// The reply to an update of a zone, and what it changes, if it is made and changes something. The only error is want of memory.
@@ -135,7 +169,9 @@ fn refusal(
     zone: &Zone,
     update: &Update,
 ) -> Result<Option<UpdateReply>, AllocError>
-    ensures { IfOk result (λ reply. reply ≡ zone_refusal policy.now caller.now zone.now.origin update.now (held_in zone.now)) }
+    // An update that is not refused acts within the zone.
+    ensures inside { IfOk result (λ reply. reply ≡ None → ActsWithin zone.now.origin update.now) }
+    ensures reply { IfOk result (λ reply. reply ≡ zone_refusal policy.now caller.now zone.now.origin update.now (held_in zone.now)) }
 {
     let origin = zone.origin();
     if let Some(place) = update.outside(origin) {

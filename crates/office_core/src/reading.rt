@@ -1,14 +1,14 @@
 //! Requests that change nothing.
 
-ghost use Rattle.std.specs.Prelude.{◌≡◌, Some, IfOk, map, nat_le};
+ghost use Rattle.std.specs.Prelude.{◌≡◌, ◌++◌, [], ◌∷◌, Some, IfOk, map, nat_le};
 ghost use Rattle.std.specs.List.{filter};
 ghost use Rattle.grant_policy.specs.Decisions.{decision};
 ghost use Rattle.office_core.specs.Permissions.{question};
 ghost use Rattle.office_core.specs.Replies.{reply_of, right_of, numbered_of, right};
 ghost use Rattle.office_core.specs.States.{State};
 ghost use Rattle.office_core.specs.Tables.{Counts, change_in};
-ghost use Rattle.office_core.specs.Machine.{told, of_zone, may_list, listed, list_reply, list_within_reply, file_reply, delegations_reply, changes_reply, seen, seen_of, numbered};
-ghost use Rattle.office_core.specs.Steps.{Takes, LeavesTurn};
+ghost use Rattle.office_core.specs.Machine.{told, of_zone, may_list, listed, list_reply, list_within_reply, file_reply, delegations_reply, changes_reply, if_some, seen, seen_of, numbered};
+ghost use Rattle.office_core.specs.Steps.{IsAnswer, Takes, LeavesTurn};
 
 use crate::fault::TableFault;
 use crate::receipt::Change;
@@ -21,12 +21,36 @@ use std::alloc::{AllocError, Global};
 use zone_core::delegation_report;
 
 /// Whether a caller may list a record.
-fn may_list(policy: &Policy, caller: &Identifier, record: &Record) -> bool
-    ensures { result ≡ may_list policy.now caller.now record.now }
+fn may_list(policy: &Policy, caller: &Identifier, rr: &Record) -> bool
+    ensures { result ≡ may_list policy.now caller.now rr.now }
 {
-    let record_type = record.record_type();
+    let record_type = rr.record_type();
     let mut look_ups = LookUps::new();
-    decide(policy, caller, &record.owner, record_type, Action::List, &mut look_ups).is_granted()
+    decide(
+        policy,
+        caller,
+        &rr.owner,
+        record_type,
+        Action::List,
+        &mut look_ups,
+    )
+    .is_granted()
+}
+
+/// Records, and a copy of one more, if the caller may list it. The only error is want of memory.
+fn with_listed(
+    alloc: Global,
+    mut all: Vec<Record>,
+    policy: &Policy,
+    caller: &Identifier,
+    rr: &Record,
+) -> Result<Vec<Record>, AllocError>
+    ensures { IfOk result (λ rs. rs.items ≡ all.items ++ listed policy.now caller.now (rr.now ∷ [])) }
+{
+    if may_list(policy, caller, rr) {
+        all.push(rr.try_copy(alloc)?)?;
+    }
+    Ok(all)
 }
 
 /// Copies of the records that a caller may list. The only error is want of memory.
@@ -40,9 +64,7 @@ fn listed(
 {
     let mut all = Vec::new(alloc);
     for record in records {
-        if may_list(policy, caller, record) {
-            all.push(record.try_copy(alloc)?)?;
-        }
+        all = with_listed(alloc, all, policy, caller, record)?;
     }
     Ok(all)
 }
@@ -58,6 +80,7 @@ pub(crate) fn list<T: ZoneTable>(
     ensures takes { T.is_honest table.new → (s : State) → T.holds table.old s → Takes (T.holds table.new) s (told s (of_zone (s.zones origin.now) (list_reply policy.now caller.now))) result }
     ensures crash { T.is_honest table.new → (s : State) → T.holds table.old s → T.leaves table.old s s → LeavesTurn (T.leaves table.new) s (told s (of_zone (s.zones origin.now) (list_reply policy.now caller.now))) result }
     ensures honest { T.is_honest table.new → T.is_honest table.old }
+    ensures answers { IfOk result IsAnswer }
     ensures counts { Counts (T.failures table.old) (T.failures table.new) result }
 {
     let Some(zone) = table.zone(alloc, origin)? else {
@@ -79,6 +102,7 @@ pub(crate) fn list_within<T: ZoneTable>(
     ensures takes { T.is_honest table.new → (s : State) → T.holds table.old s → Takes (T.holds table.new) s (told s (of_zone (s.zones origin.now) (list_within_reply policy.now caller.now origin.now top.now))) result }
     ensures crash { T.is_honest table.new → (s : State) → T.holds table.old s → T.leaves table.old s s → LeavesTurn (T.leaves table.new) s (told s (of_zone (s.zones origin.now) (list_within_reply policy.now caller.now origin.now top.now))) result }
     ensures honest { T.is_honest table.new → T.is_honest table.old }
+    ensures answers { IfOk result IsAnswer }
     ensures counts { Counts (T.failures table.old) (T.failures table.new) result }
 {
     let Some(records) = table.subtree(alloc, origin, top)? else {
@@ -102,6 +126,7 @@ pub(crate) fn file<T: ZoneTable>(
     ensures takes { T.is_honest table.new → (s : State) → T.holds table.old s → Takes (T.holds table.new) s (told s (of_zone (s.zones origin.now) (file_reply policy.now caller.now origin.now))) result }
     ensures crash { T.is_honest table.new → (s : State) → T.holds table.old s → T.leaves table.old s s → LeavesTurn (T.leaves table.new) s (told s (of_zone (s.zones origin.now) (file_reply policy.now caller.now origin.now))) result }
     ensures honest { T.is_honest table.new → T.is_honest table.old }
+    ensures answers { IfOk result IsAnswer }
     ensures counts { Counts (T.failures table.old) (T.failures table.new) result }
 {
     let Some(zone) = table.zone(alloc, origin)? else {
@@ -123,6 +148,7 @@ pub(crate) fn delegations<T: ZoneTable>(
     ensures takes { T.is_honest table.new → (s : State) → T.holds table.old s → Takes (T.holds table.new) s (told s (of_zone (s.zones origin.now) (delegations_reply policy.now caller.now origin.now))) result }
     ensures crash { T.is_honest table.new → (s : State) → T.holds table.old s → T.leaves table.old s s → LeavesTurn (T.leaves table.new) s (told s (of_zone (s.zones origin.now) (delegations_reply policy.now caller.now origin.now))) result }
     ensures honest { T.is_honest table.new → T.is_honest table.old }
+    ensures answers { IfOk result IsAnswer }
     ensures counts { Counts (T.failures table.old) (T.failures table.new) result }
 {
     let Some(zone) = table.zone(alloc, origin)? else {
@@ -147,6 +173,23 @@ fn seen_of(
     })
 }
 
+/// Changes, and what the caller sees of one more, if it sees some record of it. The only error is want of memory.
+fn with_seen(
+    alloc: Global,
+    mut all: Vec<Change>,
+    policy: &Policy,
+    caller: &Identifier,
+    change: &Change,
+) -> Result<Vec<Change>, AllocError>
+    ensures { IfOk result (λ cs. map change_in cs.items ≡ map change_in all.items ++ if_some (seen_of policy.now caller.now (change_in change.now))) }
+{
+    let seen = seen_of(alloc, policy, caller, change)?;
+    if !seen.is_nothing() {
+        all.push(seen)?;
+    }
+    Ok(all)
+}
+
 /// What a caller sees of changes: of each the records that it may list; changes of which it sees nothing are left out. The only
 /// error is want of memory.
 fn seen(
@@ -159,10 +202,27 @@ fn seen(
 {
     let mut all = Vec::new(alloc);
     for change in changes {
-        let seen = seen_of(alloc, policy, caller, change)?;
-        if !seen.is_nothing() {
-            all.push(seen)?;
-        }
+        all = with_seen(alloc, all, policy, caller, change)?;
+    }
+    Ok(all)
+}
+
+/// Numbered changes, and one more, if its number is not below a least one. The only error is want of memory.
+fn with_numbered(
+    mut all: Vec<NumberedChange>,
+    from: u32,
+    number: u64,
+    change: Change,
+) -> Result<Vec<NumberedChange>, AllocError>
+    ensures { IfOk result (λ cs. map numbered_of cs.items ≡ map numbered_of all.items ++ filter (λ c. nat_le from c.number) (numbered number (change_in change ∷ []))) }
+{
+    let change = NumberedChange {
+        number,
+        removed: change.removed,
+        added: change.added,
+    };
+    if number >= u64::from(from) {
+        all.push(change)?;
     }
     Ok(all)
 }
@@ -179,13 +239,7 @@ fn numbered_from(
     let mut number: u64 = 0;
     for change in changes {
         number += 1;
-        if number >= u64::from(from) {
-            all.push(NumberedChange {
-                number,
-                removed: change.removed,
-                added: change.added,
-            })?;
-        }
+        all = with_numbered(all, from, number, change)?;
     }
     Ok(all)
 }
@@ -202,6 +256,7 @@ pub(crate) fn changes<T: ZoneTable>(
     ensures takes { T.is_honest table.new → (s : State) → T.holds table.old s → Takes (T.holds table.new) s (told s (of_zone (s.zones origin.now) (changes_reply policy.now caller.now from))) result }
     ensures crash { T.is_honest table.new → (s : State) → T.holds table.old s → T.leaves table.old s s → LeavesTurn (T.leaves table.new) s (told s (of_zone (s.zones origin.now) (changes_reply policy.now caller.now from))) result }
     ensures honest { T.is_honest table.new → T.is_honest table.old }
+    ensures answers { IfOk result IsAnswer }
     ensures counts { Counts (T.failures table.old) (T.failures table.new) result }
 {
     let Some(changes) = table.changes(alloc, origin)? else {

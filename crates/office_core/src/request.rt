@@ -16,15 +16,27 @@ pub enum Request {
         update: Update,
     },
     /// To list the records of a zone.
-    List { origin: Name },
+    List {
+        origin: Name,
+    },
     /// To list the records of a zone that are within a name.
-    ListWithin { origin: Name, top: Name },
+    ListWithin {
+        origin: Name,
+        top: Name,
+    },
     /// To list the records of a zone as a master file (RFC 1035 section 5.1).
-    File { origin: Name },
+    File {
+        origin: Name,
+    },
     /// To tell the delegations in a zone.
-    Delegations { origin: Name },
+    Delegations {
+        origin: Name,
+    },
     /// To tell the changes of a zone, from this number on.
-    Changes { origin: Name, from: u32 },
+    Changes {
+        origin: Name,
+        from: u32,
+    },
     /// To tell what the policy decides of the records of a type at a name.
     Rights {
         name: Name,

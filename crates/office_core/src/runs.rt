@@ -1,11 +1,13 @@
 //! Runs of the machine.
 
 ghost use Rattle.std.specs.Prelude.{IfOk, OnErr};
-ghost use Rattle.office_core.specs.States.{State};
-ghost use Rattle.office_core.specs.Runs.{IsRun};
+ghost use Rattle.office_core.specs.States.{State, AreReceipts};
+ghost use Rattle.office_core.specs.Runs.{IsRun, HasUpdate, HaveUpdates, kept, given};
+ghost use Rattle.office_core.specs.Promises.{CallsAreRight};
+ghost use Rattle.office_core.specs.Isolation.{AreToldAlone};
 
 use crate::reply::Reply;
-use crate::request::Call;
+use crate::request::{Call, Request};
 use crate::steps::step;
 use crate::table::ZoneTable;
 use grant_policy::Policy;
@@ -22,12 +24,49 @@ pub fn run<T: ZoneTable>(
     // Where the store has kept its word, the replies are those of the machine to the calls that it answered, and so is the state
     // after them.
     ensures run { T.is_honest table.new → (s : State) → T.holds table.old s → IfOk result (λ replies. IsRun (T.holds table.new) policy.now s calls.now replies.items) }
+    // What is promised of calls holds of them: what is made of them is permitted, made whole and in order, and nothing else is.
+    ensures promises { T.is_honest table.new → (s : State) → T.holds table.old s → AreReceipts s → IfOk result (λ replies. CallsAreRight policy.now s (kept calls.now replies.items)) }
+    // Each caller is told what it would be told alone, as far as the law of isolation goes.
+    ensures alone { T.is_honest table.new → (s : State) → T.holds table.old s → IfOk result (λ replies. AreToldAlone policy.now s (kept calls.now replies.items) (given calls.now replies.items)) }
     ensures refused { OnErr result ((s : State) → T.holds table.old s → T.holds table.new s) }
 {
+    notes_calls(calls);
+    replies_to(alloc, table, policy, calls)
+}
+
+/// The replies to calls.
+fn replies_to<T: ZoneTable>(
+    alloc: Global,
+    table: &mut T,
+    policy: &Policy,
+    calls: &[Call],
+) -> Result<Vec<Reply>, AllocError>
+    ensures run { T.is_honest table.new → (s : State) → T.holds table.old s → IfOk result (λ replies. IsRun (T.holds table.new) policy.now s calls.now replies.items) }
+    ensures refused { OnErr result ((s : State) → T.holds table.old s → T.holds table.new s) }
+{
+    // no reply takes memory here behind a step: there is room for all
     let mut replies = Vec::with_capacity(alloc, calls.len())?;
     for call in calls {
         let reply = step(alloc, table, policy, &call.caller, &call.request);
         replies.push(reply)?;
     }
     Ok(replies)
+}
+
+/// What its type says of the update of a call, where it has one. It does nothing when it runs.
+fn notes_call(call: &Call)
+    ensures { HasUpdate call.now.request }
+{
+    if let Request::Update { update, .. } = &call.request {
+        let _ = update.operations();
+    }
+}
+
+/// The same of all calls.
+fn notes_calls(calls: &[Call])
+    ensures { HaveUpdates calls.now }
+{
+    for call in calls {
+        notes_call(call);
+    }
 }

@@ -1,8 +1,10 @@
 //! One step of the machine.
 
-ghost use Rattle.std.specs.Prelude.{◌≡◌};
+ghost use Rattle.std.specs.Prelude.{IfOk};
 ghost use Rattle.office_core.specs.States.{State};
-ghost use Rattle.office_core.specs.Steps.{Steps, Leaves, CountsReply};
+ghost use Rattle.office_core.specs.Machine.{step};
+ghost use Rattle.office_core.specs.Tables.{Counts};
+ghost use Rattle.office_core.specs.Steps.{Steps, Leaves, CountsReply, Takes, LeavesTurn, IsAnswer};
 
 use crate::fault::TableFault;
 use crate::making::update_reply;
@@ -38,12 +40,34 @@ pub fn step<T: ZoneTable>(
     // A failure of the table is told only where the table counted it.
     ensures counts { CountsReply (T.failures table.old) (T.failures table.new) result }
 {
-    let answer = match request {
-        Request::Update { origin, id, update } =>
-            update_reply(alloc, table, policy, caller, id, origin, update),
+    match answer(alloc, table, policy, caller, request) {
+        Ok(reply) => reply,
+        Err(fault) => Reply::Servfail(fault),
+    }
+}
+
+/// The answer to a request of a caller, or why there is none.
+fn answer<T: ZoneTable>(
+    alloc: Global,
+    table: &mut T,
+    policy: &Policy,
+    caller: &Identifier,
+    request: &Request,
+) -> Result<Reply, TableFault>
+    ensures takes { T.is_honest table.new → (s : State) → T.holds table.old s → Takes (T.holds table.new) s (step policy.now s caller.now request.now) result }
+    ensures crash { T.is_honest table.new → (s : State) → T.holds table.old s → T.leaves table.old s s → LeavesTurn (T.leaves table.new) s (step policy.now s caller.now request.now) result }
+    ensures honest { T.is_honest table.new → T.is_honest table.old }
+    ensures answers { IfOk result IsAnswer }
+    ensures counts { Counts (T.failures table.old) (T.failures table.new) result }
+{
+    match request {
+        Request::Update { origin, id, update } => update_reply(
+            alloc, table, policy, caller, id, origin, update,
+        ),
         Request::List { origin } => list(alloc, table, policy, caller, origin),
-        Request::ListWithin { origin, top } =>
-            list_within(alloc, table, policy, caller, origin, top),
+        Request::ListWithin { origin, top } => list_within(
+            alloc, table, policy, caller, origin, top,
+        ),
         Request::File { origin } => file(alloc, table, policy, caller, origin),
         Request::Delegations { origin } => delegations(alloc, table, policy, caller, origin),
         Request::Changes { origin, from } => changes(alloc, table, policy, caller, origin, *from),
@@ -51,10 +75,6 @@ pub fn step<T: ZoneTable>(
             name,
             record_type,
             action,
-        } => right(alloc, policy, caller, name, *record_type, *action).map_err(TableFault::from),
-    };
-    match answer {
-        Ok(reply) => reply,
-        Err(fault) => Reply::Servfail(fault),
+        } => Ok(right(alloc, policy, caller, name, *record_type, *action)?),
     }
 }

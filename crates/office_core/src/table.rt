@@ -30,7 +30,9 @@ pub trait ZoneTable {
     /// The zone of an origin, where there is one.
     fn zone(&mut self, alloc: Global, origin: &Name) -> Result<Option<Zone>, TableFault>
         ensures answer { is_honest self.new → IfOk result (λ zone. (s : State) → holds self.old s → zone ≡ zone_at s origin.now) }
+        // It holds what it held; and where it answers, nothing else.
         ensures same { (s : State) → holds self.old s → holds self.new s }
+        ensures only { is_honest self.new → OnOk result ((s : State) → holds self.new s → holds self.old s) }
         ensures crash { (s t : State) → leaves self.old s t → leaves self.new s t }
         ensures honest { is_honest self.new → is_honest self.old }
         ensures counts { Counts (failures self.old) (failures self.new) result };
@@ -44,6 +46,7 @@ pub trait ZoneTable {
     ) -> Result<Option<Zone>, TableFault>
         ensures answer { is_honest self.new → IfOk result (λ zone. (s : State) → holds self.old s → zone ≡ part_at s origin.now names.now) }
         ensures same { (s : State) → holds self.old s → holds self.new s }
+        ensures only { is_honest self.new → OnOk result ((s : State) → holds self.new s → holds self.old s) }
         ensures crash { (s t : State) → leaves self.old s t → leaves self.new s t }
         ensures honest { is_honest self.new → is_honest self.old }
         ensures counts { Counts (failures self.old) (failures self.new) result };
@@ -57,6 +60,7 @@ pub trait ZoneTable {
     ) -> Result<Option<Vec<Record>>, TableFault>
         ensures answer { is_honest self.new → IfOk result (λ records. (s : State) → holds self.old s → option_map (λ rs. rs.items) records ≡ subtree_at s origin.now top.now) }
         ensures same { (s : State) → holds self.old s → holds self.new s }
+        ensures only { is_honest self.new → OnOk result ((s : State) → holds self.new s → holds self.old s) }
         ensures crash { (s t : State) → leaves self.old s t → leaves self.new s t }
         ensures honest { is_honest self.new → is_honest self.old }
         ensures counts { Counts (failures self.old) (failures self.new) result };
@@ -70,18 +74,16 @@ pub trait ZoneTable {
     ) -> Result<Option<Receipt>, TableFault>
         ensures answer { is_honest self.new → IfOk result (λ receipt. (s : State) → holds self.old s → receipt ≡ s.receipts caller.now id.now) }
         ensures same { (s : State) → holds self.old s → holds self.new s }
+        ensures only { is_honest self.new → OnOk result ((s : State) → holds self.new s → holds self.old s) }
         ensures crash { (s t : State) → leaves self.old s t → leaves self.new s t }
         ensures honest { is_honest self.new → is_honest self.old }
         ensures counts { Counts (failures self.old) (failures self.new) result };
 
     /// The changes of a zone, the oldest first, where there is the zone.
-    fn changes(
-        &mut self,
-        alloc: Global,
-        origin: &Name,
-    ) -> Result<Option<Vec<Change>>, TableFault>
+    fn changes(&mut self, alloc: Global, origin: &Name) -> Result<Option<Vec<Change>>, TableFault>
         ensures answer { is_honest self.new → IfOk result (λ changes. (s : State) → holds self.old s → option_map (λ cs. map change_in cs.items) changes ≡ changes_at s origin.now) }
         ensures same { (s : State) → holds self.old s → holds self.new s }
+        ensures only { is_honest self.new → OnOk result ((s : State) → holds self.new s → holds self.old s) }
         ensures crash { (s t : State) → leaves self.old s t → leaves self.new s t }
         ensures honest { is_honest self.new → is_honest self.old }
         ensures counts { Counts (failures self.old) (failures self.new) result };

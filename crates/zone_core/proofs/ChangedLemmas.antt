@@ -14,7 +14,7 @@ use lib.Dec.{T}
 use Rattle.dns_data.specs.declared.record.Record.{Record}
 use Rattle.dns_data.specs.RecordOrder.{key_total}
 use Rattle.zone_core.specs.Sets.{Records, Key, key_of, key_cmp, same_key, keyed, set_of, listing, part, cut, minus, is_same, same_ttl, InOrder, IsIn, AreRows}
-use Rattle.zone_core.specs.Zones.{AreKept}
+use Rattle.zone_core.specs.Zones.{ZoneOf, IsZone, AreKept}
 use Rattle.zone_core.specs.Merges.{merged}
 use Rattle.zone_core.specs.Changes.{without, changed, FitsIn, ChangesMake, SameSetsAreOne}
 use Rattle.zone_core.proofs.SetLemmas.{get-part, get-cut, kept_by_cut, same_sets, found_of_part, some_is, key_is, key_self, empty_is, empty_has}
@@ -259,3 +259,17 @@ self_same a =
 
 pub same_sets_are_one : SameSetsAreOne
 same_sets_are_one a b kept also = (λ same. same_sets a b (one_set a b kept also same), λ e. ap (is_same a) (sym e) ∙ self_same a)
+
+-- ---- zones of one origin
+
+module _ (before after : ZoneOf) (was : IsZone before) (is : IsZone after) (own : after.origin ≡ before.origin) (removed added : List Record) (gone : AreRows removed (minus before.records after.records)) (come : AreRows added (minus after.records before.records)) where
+  pub zone_fits : FitsIn before.records removed added
+  zone_fits = changes_fit before.records after.records was.kept is.kept removed added gone come
+
+  pub zone_gives : record before { records = changed before.records removed added } ≡ after
+  zone_gives =
+      let e = change_makes before.records after.records was.kept is.kept removed added gone come in
+      λ i. record { origin = sym own i; records = e i }
+
+  pub zone_made : IsZone (record before { records = changed before.records removed added })
+  zone_made = subst IsZone (sym zone_gives) is

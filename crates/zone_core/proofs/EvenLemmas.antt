@@ -1,5 +1,5 @@
 -- The least TTLs of the sets of a row.
-use Rattle.std.proofs.Common.{◌≡◌, ℕ, zero, suc, ◌+◌, ◌-◌, ◌<◌, List, [], ◌∷◌, ◌++◌, length, take, map, get_or, set, Bool, true, not, ◌==◌, refl, sym, ap, ◌∙◌, arith}
+use Rattle.std.proofs.Common.{◌≡◌, ℕ, zero, suc, ◌+◌, ◌-◌, ◌<◌, List, [], ◌∷◌, ◌++◌, length, take, map, get_or, set, true, ◌==◌, refl, sym, ap, ◌∙◌, arith}
 use Rattle.std.specs.List.{AllByRecursion, filter}
 use Rattle.std.specs.List.Sorted.{IsStrictlySortedBy}
 use Rattle.std.specs.FinMap.{entries, from_entries}
@@ -8,14 +8,13 @@ use Rattle.std.proofs.lemmas.Bool.{and_parts, eqb-true}
 use Rattle.std.proofs.lemmas.Bool.Decides.{nat_tests}
 use Rattle.std.proofs.lemmas.List.{get_or-map, get_or-take, length-take, take_more, map-append}
 use Rattle.std.proofs.lemmas.List.Elements.{filter_agree}
-use Rattle.std.proofs.lemmas.List.Folds.{list_any_at}
 use Rattle.dns_names.specs.Order.{same_name}
 use Rattle.dns_data.specs.declared.record.Record.{Record}
 use Rattle.zone_core.specs.Sets.{Records, Key, key_of, key_cmp, record_order, keyed, set_of, listing, part, InOrder}
 use Rattle.zone_core.specs.Zones.{beside, least_ttl, even, evened}
 use Rattle.zone_core.specs.Views.{set_ttl, given_ttls, even_rows}
 use Rattle.zone_core.proofs.SetLemmas.{name_is, name_self}
-use Rattle.zone_core.proofs.RowLemmas.{some_kept, entries_of, listing-part}
+use Rattle.zone_core.proofs.RowLemmas.{entries_of, listing-part}
 
 -- ---- TTLs in their places
 
@@ -67,16 +66,6 @@ beside_same j k e x =
 
 pub ttl_beside : (rs : List Record) (r s : Record) → beside (key_of r) (key_of s) ≡ true → set_ttl rs r ≡ set_ttl rs s
 ttl_beside rs r s e = ap least_ttl (filter_agree (λ x. beside (key_of r) (key_of x)) (λ x. beside (key_of s) (key_of x)) (λ x. beside_same (key_of r) (key_of s) e (key_of x)) rs)
-
-some_long : (n : ℕ) → not (n == 0) ≡ true → 0 < n
-some_long zero e = absurd cc
-some_long (suc n) e = omega arith
-
--- a record of a row is in its set
-pub own_set : (rs : List Record) (i : ℕ) (r : Record) → i < length rs → r ≡ get_or rs i r → 0 < length (filter (λ x. beside (key_of r) (key_of x)) rs)
-own_set rs i r below e =
-    let p : Record → Bool = λ x. beside (key_of r) (key_of x) in
-    some_long (length (filter p rs)) (some_kept p rs ∙ list_any_at p rs i r below (ap p (sym e) ∙ beside_self (key_of r)))
 
 -- some record of a row that has one
 pub one_of : (rs : List Record) (i : ℕ) → i < length rs → Record

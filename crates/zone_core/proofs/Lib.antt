@@ -9,6 +9,9 @@ pub mod GroupLemmas
 pub mod HeadLemmas
 pub mod SortLemmas
 pub mod EvenLemmas
+pub mod BesideLemmas
+pub mod AdjacentLemmas
+pub mod PlaceLemmas
 pub mod FaultLemmas
 pub mod WholeLemmas
 pub mod BuildLemmas
@@ -31,3 +34,7 @@ pub mod MetLemmas
 pub mod NameListLemmas
 pub mod AccountLemmas
 pub mod LeaveLemmas
+pub mod OwnLemmas
+pub mod OriginLemmas
+pub mod ListedLemmas
+pub mod SightLemmas

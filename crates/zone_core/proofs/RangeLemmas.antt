@@ -83,7 +83,7 @@ module _ (rs : List Record) (order : InOrder rs) where
 pub rest_is : {A : Type 0} (xs : List A) (n : ℕ) → take (length xs - n) (drop n xs) ≡ drop n xs
 rest_is xs n = take_all (length xs - n) (drop n xs) (omega (arith, length-drop n xs))
 
-filter_none : (s : Record → Bool) (xs : List Record) → All (λ x. s x ≡ false) xs → filter s xs ≡ []
+pub filter_none : (s : Record → Bool) (xs : List Record) → All (λ x. s x ≡ false) xs → filter s xs ≡ []
 filter_none s [] all = refl
 filter_none s (x ∷ xs) all = ap (λ b. cond b (x ∷ filter s xs) (filter s xs)) (all 0 x (omega arith)) ∙ filter_none s xs (λ k d below. all (suc k) d (omega arith))
 

@@ -1,14 +1,16 @@
 -- Zones as rows of records in record order.
-use Rattle.std.specs.Prelude.{ℕ, List, [], ◌∷◌, length, map, Bool, not, ◌&&◌, ◌==◌}
-use Rattle.std.specs.List.{filter, list_any}
+use Rattle.std.specs.Prelude.{◌≡◌, ◌<◌, slice_index, slice_index_or, ℕ, List, [], ◌∷◌, length, map, Bool, not, ◌&&◌, ◌||◌, ◌==◌}
+use Rattle.std.specs.List.{filter, list_any, range_with_len}
+use Rattle.std.specs.List.Sorted.{IsPermutation}
+use denote.Ref.{Bor}
 use Rattle.std.specs.declared.cmp.Ordering.{Ordering}
 use Rattle.std.specs.Ordering.{nat_cmp, ordering_then}
-use Rattle.dns_names.specs.Order.{canonical_cmp}
+use Rattle.dns_names.specs.Order.{canonical_cmp, same_name}
 use Rattle.dns_data.specs.declared.record.Record.{Record}
 use Rattle.dns_data.specs.declared.record_type.RecordType.{RecordType}
 use Rattle.dns_data.specs.Rdata.{type_of}
 use Rattle.zone_core.specs.Sets.{key_of, rank_of, set_of, InOrder}
-use Rattle.zone_core.specs.Zones.{ZoneOf, IsZone, is_soa, beside, least_ttl}
+use Rattle.zone_core.specs.Zones.{ZoneOf, IsZone, is_soa, is_cname, beside, least_ttl}
 
 -- the order of a record to the records of a set: by owner, and then by type
 abbrev pub set_order : List (List ℕ) → RecordType → Record → Ordering
@@ -31,6 +33,14 @@ advances removed added = not ((length removed == 0) && (length added == 0)) && n
 
 -- ---- a zone that is built
 
+-- two CNAME records of one name
+abbrev pub are_twins : Record → Record → Bool
+are_twins r s = is_cname (key_of r) && beside (key_of r) (key_of s)
+
+-- a CNAME and another record of its name
+abbrev pub are_crowded : Record → Record → Bool
+are_crowded r s = (is_cname (key_of r) && not (is_cname (key_of s)) || is_cname (key_of s) && not (is_cname (key_of r))) && same_name s.owner r.owner
+
 -- the least TTL of the set of a record
 abbrev pub set_ttl : List Record → Record → ℕ
 set_ttl rs r = least_ttl (filter (λ s. beside (key_of r) (key_of s)) rs)
@@ -44,3 +54,23 @@ given_ttls (r ∷ rs) (ttl ∷ ttls) = record r { ttl = ttl } ∷ given_ttls rs 
 -- each record with the least TTL of its set
 abbrev pub even_rows : List Record → List Record
 even_rows rs = given_ttls rs (map (set_ttl rs) rs)
+
+-- ---- records that are put in order
+
+-- the records of a row, each with the place where it stands
+abbrev pub ViewsOf : List Record → List (Bor Record × ℕ) → Type 0
+ViewsOf rs views = (map (λ v. v.0.now) views ≡ rs) × (map (λ v. v.1) views ≡ range_with_len 0 (length rs))
+
+-- the numbers below another, each once, in some order
+abbrev pub ArePlaces : ℕ → List ℕ → Type 0
+ArePlaces n places = IsPermutation (range_with_len 0 n) places
+
+-- for each place the one that has it as its source
+abbrev pub AreInverse : List ℕ → List ℕ → Type 0
+AreInverse sources places =
+    (length places ≡ length sources)
+    × ((i : ℕ) → i < length sources → (slice_index sources i < length sources) × (slice_index places (slice_index sources i) ≡ i))
+
+-- the records that stand at places, in their order
+abbrev pub AreTaken : List Record → List ℕ → List Record → Type 0
+AreTaken rs sources rows = (length rows ≡ length sources) × ((i : ℕ) (d : Record) → i < length sources → slice_index_or rows i d ≡ slice_index_or rs (slice_index sources i) d)

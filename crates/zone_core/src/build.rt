@@ -1,15 +1,15 @@
 //! Building zones.
 
 ghost use Rattle.std.specs.Prelude.{◌≡◌, ◌<◌, ◌==◌, ◌&&◌, reverse, map, not, Ok, IfOk, length, take, slice_index_or};
-ghost use Rattle.std.specs.List.{list_any};
+ghost use Rattle.std.specs.List.{list_any, position, position_or_len};
 ghost use Rattle.zone_core.specs.Faults.{Gives};
 ghost use Rattle.zone_core.specs.Sets.{key_of, set_of, count, at_name, InOrder};
-ghost use Rattle.zone_core.specs.Views.{set_ttl, given_ttls, even_rows};
-ghost use Rattle.zone_core.specs.Zones.{IsZone, built, zone_of, least_below, least_ttl, beside, fault_in, is_outside, is_soa, is_twin, is_crowded};
+ghost use Rattle.zone_core.specs.Views.{set_ttl, given_ttls, even_rows, are_twins, are_crowded};
+ghost use Rattle.zone_core.specs.Zones.{IsZone, built, zone_of, least_below, beside, fault_in, is_outside, is_soa, is_cname, is_twin, is_crowded};
 
 use crate::fault::ZoneFault;
 use crate::notes::notes_records;
-use crate::rows::{at_name, has_set, has_type, in_order, of_set};
+use crate::rows::{has_set, has_type, in_order};
 use crate::zone::Zone;
 use dns_data::{Record, RecordType, Ttl};
 use dns_names::Name;
@@ -29,7 +29,7 @@ impl Zone {
         // Which zone it is, or which refusal.
         ensures exact { Gives (λ zone. zone) result (built origin records.items) }
     {
-        let records = even(alloc, in_order(reversed(records))?)?;
+        let records = even(alloc, in_order(alloc, reversed(records))?)?;
         notes_records(&records);
         match fault_in(&origin, &records) {
             Some(fault) => Err(fault),
@@ -76,10 +76,11 @@ fn set_ttl(records: &[Record], known: &[Ttl], i: usize) -> Ttl
     ensures { (d : Record) → result ≡ set_ttl records.now (slice_index_or records.now i d) }
 {
     let record = &records[i];
-    if i > 0 && are_beside(&records[i - 1], record) {
+    if i > 0 && are_beside(record, &records[i - 1]) {
         return known[i - 1];
     }
-    least_ttl(of_set(records, &record.owner, record.record_type()))
+    let others = &records[i + 1..];
+    least_below(record.ttl, &others[..count_beside(record, others)])
 }
 
 /// Whether two records are of one set.
@@ -89,12 +90,18 @@ fn are_beside(first: &Record, second: &Record) -> bool
     second.owner == first.owner && has_type(second, first.record_type())
 }
 
-/// The least TTL of records, of which there is one.
-fn least_ttl(records: &[Record]) -> Ttl
-    requires { 0 < length records.now }
-    ensures { result ≡ least_ttl records.now }
+/// The first of some records that is not of the set of one.
+fn first_apart(rr: &Record, records: &[Record]) -> Option<usize>
+    ensures { result ≡ position (λ r. not (beside (key_of rr.now) (key_of r))) records.now }
 {
-    least_below(records[0].ttl, &records[1..])
+    records.iter().position(|record| !are_beside(rr, record))
+}
+
+/// How many records are of the set of one, as far as they stand first.
+fn count_beside(rr: &Record, records: &[Record]) -> usize
+    ensures { result ≡ position_or_len (λ r. not (beside (key_of rr.now) (key_of r))) records.now }
+{
+    first_apart(rr, records).unwrap_or(records.len())
 }
 
 /// The least of a TTL and those of records.
@@ -198,35 +205,49 @@ fn soas(records: &[Record]) -> usize
     soas
 }
 
-/// Whether a record is a CNAME beside another.
-fn is_twin(records: &[Record], rr: &Record) -> bool
-    requires { InOrder records.now }
-    ensures { result ≡ is_twin (set_of records.now) (key_of rr.now) }
+/// Whether two records are CNAME records of one name.
+fn are_twins(first: &Record, second: &Record) -> bool
+    ensures { result ≡ are_twins first.now second.now }
 {
-    has_type(rr, RecordType::Cname) && of_set(records, &rr.owner, RecordType::Cname).len() > 1
+    has_type(first, RecordType::Cname) && are_beside(first, second)
 }
 
-/// Whether a name has two CNAME records.
+/// Whether a name has two CNAME records, which then follow each other.
 fn some_twin(records: &[Record]) -> bool
     requires { InOrder records.now }
     ensures { result ≡ list_any (λ r. is_twin (set_of records.now) (key_of r)) records.now }
 {
-    records.iter().any(|record| is_twin(records, record))
+    for i in 1..records.len() {
+        if are_twins(&records[i - 1], &records[i]) {
+            return true;
+        }
+    }
+    false
 }
 
-/// Whether a record is a CNAME beside one of another type.
-fn is_crowded(records: &[Record], rr: &Record) -> bool
-    requires { InOrder records.now }
-    ensures { result ≡ is_crowded (set_of records.now) (key_of rr.now) }
+/// Whether only the first of two records is a CNAME.
+fn is_only_cname(first: &Record, second: &Record) -> bool
+    ensures { result ≡ (is_cname (key_of first.now) && not (is_cname (key_of second.now))) }
 {
-    has_type(rr, RecordType::Cname)
-        && of_set(records, &rr.owner, RecordType::Cname).len() < at_name(records, &rr.owner).len()
+    has_type(first, RecordType::Cname) && !has_type(second, RecordType::Cname)
 }
 
-/// Whether a name has a CNAME and another record.
+/// Whether two records are of one name, and only one of them is a CNAME.
+fn are_crowded(first: &Record, second: &Record) -> bool
+    ensures { result ≡ are_crowded first.now second.now }
+{
+    (is_only_cname(first, second) || is_only_cname(second, first)) && second.owner == first.owner
+}
+
+/// Whether a name has a CNAME and another record, of which two then follow each other.
 fn some_crowded(records: &[Record]) -> bool
     requires { InOrder records.now }
     ensures { result ≡ list_any (λ r. is_crowded (set_of records.now) (key_of r)) records.now }
 {
-    records.iter().any(|record| is_crowded(records, record))
+    for i in 1..records.len() {
+        if are_crowded(&records[i - 1], &records[i]) {
+            return true;
+        }
+    }
+    false
 }

@@ -44,8 +44,8 @@ pub(crate) fn changes(
         }
     }
     Ok(Change {
-        removed: in_order(change.removed)?,
-        added: in_order(change.added)?,
+        removed: in_order(alloc, change.removed)?,
+        added: in_order(alloc, change.added)?,
     })
 }
 

@@ -1,6 +1,8 @@
 //! Laws of the definitions. The functions do nothing: their contracts are the laws.
 
+ghost use Rattle.std.specs.Prelude.{◌≡◌, ℕ, List, Bool, true};
 ghost use Rattle.zone_core.specs.Parts.{VerdictsReadTheirNames, OperationsReadTheirNames, UpdatesNeedTheirPart};
+ghost use Rattle.zone_core.specs.Sight.{VerdictsLookAlike, UpdatesLookAlike, QuietUpdatesLookAlike, ListingsLookAlike, PartsLookAlike, ChangesLookAlike, QuietChangesShowNothing};
 ghost use Rattle.zone_core.specs.Accounts.{UpdatesLeave};
 ghost use Rattle.zone_core.specs.Changes.{ChangesMake, SameSetsAreOne};
 ghost use Rattle.zone_core.specs.Updates.{EqualUpdatesAreOne};
@@ -37,6 +39,36 @@ pub fn updates_keep_zones()
 /// further (RFC 2136 section 3.6), and in both cases the serial is greater (RFC 1982 section 3.2).
 pub fn updates_advance_serials()
     ensures { UpdatesAdvance }
+{}
+
+/// Whoever sees only the records at some names, and of the SOA at the origin only whether there is one, learns nothing of the
+/// rest of a zone from prerequisites that test these names: two zones that look alike there answer them alike.
+pub fn verdicts_look_alike()
+    ensures { (seen : List (List ℕ) → Bool) → VerdictsLookAlike (λ name. seen name ≡ true) }
+{}
+
+/// Two zones that look alike at some names look alike there after the same update at these names, whatever else they have.
+pub fn updates_look_alike()
+    ensures { (seen : List (List ℕ) → Bool) → UpdatesLookAlike (λ name. seen name ≡ true) }
+{}
+
+/// A zone looks the same at some names after an update that acts at other names alone, or that sets its SOA too.
+pub fn quiet_updates_look_alike()
+    ensures { (seen : List (List ℕ) → Bool) → QuietUpdatesLookAlike (λ name. seen name ≡ true) }
+{}
+
+/// Lists of the records at some names, without the SOA at the origin, are equal for two zones that look alike there; and so are
+/// those of a part of each.
+pub fn listings_look_alike()
+    ensures whole { (seen : List (List ℕ) → Bool) → ListingsLookAlike (λ name. seen name ≡ true) }
+    ensures part { (seen : List (List ℕ) → Bool) → PartsLookAlike (λ name. seen name ≡ true) }
+{}
+
+/// Changes show of the records at some names, without the SOA at the origin, the same for zones that look alike there before and
+/// after; and nothing where the zone after looks like the zone before.
+pub fn changes_look_alike()
+    ensures alike { (seen : List (List ℕ) → Bool) → ChangesLookAlike (λ name. seen name ≡ true) }
+    ensures quiet { (seen : List (List ℕ) → Bool) → QuietChangesShowNothing (λ name. seen name ≡ true) }
 {}
 
 /// What two zones differ in fits the one, and made to it, it gives the other.

@@ -12,6 +12,7 @@ mod laws;
 mod merge;
 mod notes;
 mod outcome;
+mod places;
 mod rcode;
 mod report;
 mod rows;
@@ -25,9 +26,10 @@ pub use delegation::{ChildServer, DelegationRequest, delegation_update};
 pub use fault::{DelegationFault, UpdateFault, ZoneFault};
 pub use kind::{OperationKind, PrerequisiteKind};
 pub use laws::{
-    changes_make_the_zone_after, equal_sets_are_one, equal_updates_are_one,
-    operations_read_their_names, updates_advance_serials, updates_keep_zones,
-    updates_leave_records, updates_need_their_part, verdicts_read_their_names,
+    changes_look_alike, changes_make_the_zone_after, equal_sets_are_one, equal_updates_are_one,
+    listings_look_alike, operations_read_their_names, quiet_updates_look_alike,
+    updates_advance_serials, updates_keep_zones, updates_leave_records, updates_look_alike,
+    updates_need_their_part, verdicts_look_alike, verdicts_read_their_names,
 };
 pub use outcome::{Outcome, apply, apply_owned};
 pub use rcode::Rcode;

@@ -10,6 +10,7 @@ ghost use Rattle.zone_core.specs.Sets.{key_of, rank_of, set_of, record_order, sa
 ghost use Rattle.zone_core.specs.Prerequisites.{same_data};
 ghost use Rattle.zone_core.specs.Views.{set_order};
 
+use crate::places::{arranged, sources};
 use dns_data::{Data, Record, RecordType, data_order, record_order};
 use dns_names::Name;
 use std::alloc::{AllocError, Global};
@@ -102,20 +103,13 @@ pub(crate) fn copied(alloc: Global, records: &[Record]) -> Result<Vec<Record>, A
 }
 
 /// The records in record order, and of those that are the same the first. The only error is want of memory.
-pub(crate) fn in_order(records: Vec<Record>) -> Result<Vec<Record>, AllocError>
+pub(crate) fn in_order(alloc: Global, records: Vec<Record>) -> Result<Vec<Record>, AllocError>
     ensures order { IfOk result (λ rows. InOrder rows.items) }
     ensures set { IfOk result (λ rows. set_of rows.items ≡ set_of records.items) }
 {
-    Ok(once(sorted(records)?))
-}
-
-/// The records in record order, in which those that are the same stay in theirs.
-fn sorted(mut records: Vec<Record>) -> Result<Vec<Record>, AllocError>
-    ensures order { IfOk result (λ rows. IsSorted record_order rows.items) }
-    ensures set { IfOk result (λ rows. set_of rows.items ≡ set_of records.items) }
-{
-    records.sort_by(|first, second| record_order(first, second))?;
-    Ok(records)
+    let places = sources(alloc, &records)?;
+    let rows = arranged(alloc, records, places)?;
+    Ok(once(rows))
 }
 
 /// The records, each once: of those that are the same the first.

@@ -1,5 +1,6 @@
 //! Worked examples: their expected values come from the standards and not from the code.
 
+mod changes;
 mod delegations;
 mod updates;
 mod zones;

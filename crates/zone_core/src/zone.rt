@@ -125,7 +125,7 @@ impl Zone {
         for name in names {
             records = with_copies(alloc, records, self.records_at(name))?;
         }
-        Ok(Zone::of_rows(origin, rows::in_order(records)?))
+        Ok(Zone::of_rows(origin, rows::in_order(alloc, records)?))
     }
 
     /// The zone with a change made: without some of its records, and with others. The only error is want of memory.

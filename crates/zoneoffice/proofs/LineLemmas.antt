@@ -1,103 +1,149 @@
--- Parts of a text between the octets that pass a test, one part after another.
-use Rattle.std.proofs.Common.{◌≡◌, ℕ, zero, suc, ◌+◌, ◌-◌, ◌<◌, ◌≤◌, Bool, true, false, cond, List, [], ◌∷◌, ◌++◌, length, get_or, take, drop, map, Option, Some, None, refl, sym, ap, ◌∙◌, append_assoc, arith, add-one, ◌⊎◌, inl, inr}
-use Rattle.std.specs.Prelude.{nat_lt, ◌==◌}
-use Rattle.std.specs.Option.{option_map}
-use Rattle.std.specs.List.{position_or_len, slice_split}
-use Rattle.std.proofs.lemmas.Bool.{cases_lt, lt-ltb, le-ltb, false_from_ne_true}
-use Rattle.zoneoffice.specs.Lines.{lines_of, is_divider, divided}
+-- The lines of a text, and the first of them.
+use Rattle.std.proofs.Common.{◌≡◌, ℕ, zero, suc, ◌<◌, ◌≤◌, List, [], ◌∷◌, ◌++◌, length, take, drop, true, false, Bool, ◌==◌, if◌then◌else◌, inl, inr, ◌⊎◌, refl, sym, ap, ◌∙◌, arith, append_assoc, append-nil}
+use Rattle.std.specs.List.{concat}
+use Rattle.std.proofs.lemmas.Bool.{eqb-true}
+use Rattle.memchr.specs.Find.{Nowhere, Passes, is_byte}
+use Rattle.zoneoffice.specs.Parts.{EndsLine, onto, lines_of}
+use Rattle.zoneoffice.specs.PartViews.{line_len}
 
--- no octet before this place passes
-abbrev pub NoneUpTo : (ℕ → Bool) → List ℕ → ℕ → Type 0
-NoneUpTo test xs n = (k : ℕ) → k < n → test (get_or xs k 0) ≡ false
+-- ---- lines, joined again
 
-parts_cut : (test : ℕ → Bool) (xs : List ℕ) (n : ℕ) → n < length xs → NoneUpTo test xs n → test (get_or xs n 0) ≡ true → slice_split test xs ≡ take n xs ∷ slice_split test (drop (suc n) xs)
-parts_cut test [] n lt before here = absurd (omega arith)
-parts_cut test (x ∷ xs) zero lt before here = rw here refl
-parts_cut test (x ∷ xs) (suc n) lt before here =
-    let one : test x ≡ false = before 0 (omega arith) in
-    rw (one, parts_cut test xs n (omega arith) (λ k l. before (suc k) (omega arith)) here) refl
+onto-joined : (o : ℕ) (ls : List (List ℕ)) → concat (onto o ls) ≡ o ∷ concat ls
+onto-joined o [] = refl
+onto-joined o (l ∷ ls) = refl
 
-pub parts_first : (test : ℕ → Bool) (xs : List ℕ) (n : ℕ) → n < length xs → NoneUpTo test xs n → test (get_or xs n 0) ≡ true → slice_split test xs ≡ take n xs ∷ slice_split test (drop (n + 1) xs)
-parts_first test xs n lt before here = rw add-one (parts_cut test xs n lt before here)
+pub lines-joined : (text : List ℕ) → concat (lines_of text) ≡ text
+lines-joined [] = refl
+lines-joined (o ∷ rest) =
+    elim (o == 10) as (λ b. concat (if b then (o ∷ []) ∷ lines_of rest else onto o (lines_of rest)) ≡ o ∷ rest) [
+      | true ↦ ap (λ (t : List ℕ). o ∷ t) (lines-joined rest)
+      | false ↦ onto-joined o (lines_of rest) ∙ ap (λ (t : List ℕ). o ∷ t) (lines-joined rest)
+    ]
 
-pub parts_none : (test : ℕ → Bool) (xs : List ℕ) → NoneUpTo test xs (length xs) → slice_split test xs ≡ xs ∷ []
-parts_none test [] before = refl
-parts_none test (x ∷ xs) before =
-    let one : test x ≡ false = before 0 (omega arith) in
-    rw (one, parts_none test xs (λ k l. before (suc k) (omega arith))) refl
+-- ---- the first line
 
--- one more of a list, from what is left of it
-pub taken : {A : Type 0} (front : List A) (x : A) (left rest total : List A) → left ≡ x ∷ rest → front ++ left ≡ total → (front ++ x ∷ []) ++ rest ≡ total
-taken {A} front x left rest total first so_far = append_assoc front (x ∷ []) rest ∙ ap (λ (xs : List A). front ++ xs) (sym first) ∙ so_far
+pub lines-first : (o : ℕ) (rest : List ℕ) → lines_of (o ∷ rest) ≡ take (line_len (o ∷ rest)) (o ∷ rest) ∷ lines_of (drop (line_len (o ∷ rest)) (o ∷ rest))
+lines-first o [] =
+    elim (o == 10) as (λ b. (if b then (o ∷ []) ∷ [] else (o ∷ []) ∷ []) ≡ take (if b then 1 else 1) (o ∷ []) ∷ lines_of (drop (if b then 1 else 1) (o ∷ []))) [ true ↦ refl | false ↦ refl ]
+lines-first o (p ∷ more) =
+    elim (o == 10) as (λ b. (if b then (o ∷ []) ∷ lines_of (p ∷ more) else onto o (lines_of (p ∷ more)))
+    ≡ take (if b then 1 else suc (line_len (p ∷ more))) (o ∷ p ∷ more) ∷ lines_of (drop (if b then 1 else suc (line_len (p ∷ more))) (o ∷ p ∷ more))) [
+      | true ↦ refl
+      | false ↦ ap (onto o) (lines-first p more)
+    ]
 
--- ---- lines
+-- the length of the first line goes to the first line end
+pub line_len-some : (text : List ℕ) (k : ℕ) → k < length text → Nowhere (Passes (is_byte 10) text) 0 k → Passes (is_byte 10) text k → line_len text ≡ suc k
+line_len-some [] k short none here = absurd (omega (arith, short))
+line_len-some (o ∷ rest) zero short none here = ap (λ b. if b then 1 else suc (line_len rest)) here
+line_len-some (o ∷ rest) (suc k) short none here =
+    let step : (b : Bool) → ((b ≡ true) → ⊥) → (if b then 1 else suc (line_len rest)) ≡ suc (suc k) = λ b. elim b as (λ b. ((b ≡ true) → ⊥) → (if b then 1 else suc (line_len rest)) ≡ suc (suc k)) [
+      | true ↦ λ no. absurd (no refl)
+      | false ↦ λ no. ap suc (line_len-some rest k (omega (arith, short)) (λ i low high is. none (suc i) (omega arith) (omega (arith, high)) is) here)
+    ] in
+    step (o == 10) (λ is. none 0 (omega arith) (omega arith) is)
 
-pub line_goes_on : (front : List (List ℕ)) (rest : List ℕ) (n : ℕ) (total : List (List ℕ)) → n < length rest → ((k : ℕ) → 0 ≤ k → k < n → ¬ ((get_or rest k 0 == 10) ≡ true)) → (get_or rest n 0 == 10) ≡ true
-    → front ++ lines_of rest ≡ total → (front ++ take n rest ∷ []) ++ lines_of (drop (n + 1) rest) ≡ total
-line_goes_on front rest n total lt before here so_far =
-    let cut = parts_first (λ octet. octet == 10) rest n lt (λ k l. false_from_ne_true _ (before k (omega arith) l)) here in
-    taken front (take n rest) (lines_of rest) (lines_of (drop (n + 1) rest)) total cut so_far
+pub line_len-none : (text : List ℕ) → Nowhere (Passes (is_byte 10) text) 0 (length text) → line_len text ≡ length text
+line_len-none [] none = refl
+line_len-none (o ∷ rest) none =
+    let step : (b : Bool) → ((b ≡ true) → ⊥) → (if b then 1 else suc (line_len rest)) ≡ suc (length rest) = λ b. elim b as (λ b. ((b ≡ true) → ⊥) → (if b then 1 else suc (line_len rest)) ≡ suc (length rest)) [
+      | true ↦ λ no. absurd (no refl)
+      | false ↦ λ no. ap suc (line_len-none rest (λ i low high is. none (suc i) (omega arith) (omega (arith, high)) is))
+    ] in
+    step (o == 10) (λ is. none 0 (omega arith) (omega arith) is)
 
-pub lines_end : (front : List (List ℕ)) (rest : List ℕ) (total : List (List ℕ)) → ((k : ℕ) → 0 ≤ k → k < length rest → ¬ ((get_or rest k 0 == 10) ≡ true))
-    → front ++ lines_of rest ≡ total → front ++ rest ∷ [] ≡ total
-lines_end front rest total before so_far =
-    ap (λ (ls : List (List ℕ)). front ++ ls) (sym (parts_none (λ octet. octet == 10) rest (λ k l. false_from_ne_true _ (before k (omega arith) l)))) ∙ so_far
+-- it has an octet where the text has one, and no more than the text
+pub line_len-some_octet : (text : List ℕ) → 0 < length text → 0 < line_len text
+line_len-some_octet [] some = some
+line_len-some_octet (o ∷ rest) some = elim (o == 10) as (λ b. 0 < (if b then 1 else suc (line_len rest))) [ true ↦ omega arith | false ↦ omega arith ]
 
--- ---- the divider
+pub line_len-within : (text : List ℕ) → line_len text ≤ length text
+line_len-within [] = omega arith
+line_len-within (o ∷ rest) = let ih = line_len-within rest in elim (o == 10) as (λ b. (if b then 1 else suc (line_len rest)) ≤ suc (length rest)) [ true ↦ omega arith | false ↦ omega (arith, ih) ]
 
-module _ {X : Type 0} (v : X → List ℕ) where
-  abbrev place : List X → ℕ
-  place xs = position_or_len (λ x. is_divider (v x)) xs
+-- ---- lines behind lines
 
-  behind : X → Option (List (List ℕ) × List (List ℕ)) → Option (List (List ℕ) × List (List ℕ))
-  behind x o = option_map (λ d. (v x ∷ d.0, d.1)) o
+ends-tail : (o : ℕ) (rest : List ℕ) → EndsLine (o ∷ rest) → ((rest ≡ []) × (o ≡ 10)) ⊎ ((front : List ℕ) × (rest ≡ front ++ 10 ∷ []))
+ends-tail o rest (inl none) = absurd (cc none)
+ends-tail o rest (inr ([], e)) = inl (cc e, cc e)
+ends-tail o rest (inr (p ∷ front, e)) = inr (front, cc e)
 
-  pub none_divides : (xs : List X) → length xs ≤ place xs → divided (map v xs) ≡ None
-  none_divides [] past = refl
-  none_divides (x ∷ xs) past = by (is_divider (v x)) refl (none_divides xs)
-    where
-      by : (b : Bool) → is_divider (v x) ≡ b → (length xs ≤ place xs → divided (map v xs) ≡ None) → divided (map v (x ∷ xs)) ≡ None
-      by true e later = let at : place (x ∷ xs) ≡ 0 = rw e refl in absurd (omega arith)
-      by false e later =
-          let at : place (x ∷ xs) ≡ 1 + place xs = rw e refl in
-          let rest = later (omega arith) in
-          rw (e, rest) refl
+onto-some : (o : ℕ) (ls : List (List ℕ)) → (l : List ℕ) × (more : List (List ℕ)) × (onto o ls ≡ l ∷ more)
+onto-some o [] = (o ∷ [], [], refl)
+onto-some o (l ∷ ls) = (o ∷ l, ls, refl)
 
-  divides_at : (xs : List X) (n : ℕ) → place xs ≡ n → n < length xs → divided (map v xs) ≡ Some (map v (take n xs), map v (drop (suc n) xs))
-  divides_at [] n is lt = absurd (omega arith)
-  divides_at (x ∷ xs) n is lt = by (is_divider (v x)) refl (divides_at xs)
-    where
-      by : (b : Bool) → is_divider (v x) ≡ b → ((m : ℕ) → place xs ≡ m → m < length xs → divided (map v xs) ≡ Some (map v (take m xs), map v (drop (suc m) xs))) → divided (map v (x ∷ xs)) ≡ Some (map v (take n (x ∷ xs)), map v (drop (suc n) (x ∷ xs)))
-      by true e later =
-          let at : place (x ∷ xs) ≡ 0 = rw e refl in
-          let zero_is : n ≡ 0 = omega arith in
-          rw (e, zero_is) refl
-      by false e later =
-          let at : place (x ∷ xs) ≡ 1 + place xs = rw e refl in
-          let n_is : n ≡ suc (n - 1) = omega arith in
-          let rest = later (n - 1) (omega arith) (omega arith) in
-          rw (e, n_is, rest) refl
+-- a text with an octet has a line
+lines-some : (o : ℕ) (rest : List ℕ) → (l : List ℕ) × (more : List (List ℕ)) × (lines_of (o ∷ rest) ≡ l ∷ more)
+lines-some o rest =
+    elim (o == 10) as (λ b. (l : List ℕ) × (more : List (List ℕ)) × ((if b then (o ∷ []) ∷ lines_of rest else onto o (lines_of rest)) ≡ l ∷ more)) [
+      | true ↦ (o ∷ [], lines_of rest, refl)
+      | false ↦ onto-some o (lines_of rest)
+    ]
 
-  pub first_divides : (xs : List X) (n : ℕ) → place xs ≡ n → n < length xs → divided (map v xs) ≡ Some (map v (take n xs), map v (drop (n + 1) xs))
-  first_divides xs n is lt = rw add-one (divides_at xs n is lt)
+ended-some : (front : List ℕ) → (l : List ℕ) × (more : List (List ℕ)) × (lines_of (front ++ 10 ∷ []) ≡ l ∷ more)
+ended-some [] = (10 ∷ [], [], refl)
+ended-some (o ∷ front) = lines-some o (front ++ 10 ∷ [])
 
-  -- what a search for the first divider answers
-  abbrev pub found_at : List X → Option ℕ
-  found_at xs = cond (nat_lt (place xs) (length xs)) (Some (place xs)) None
+onto-append : (o : ℕ) (ls more : List (List ℕ)) (l : List ℕ) (rest : List (List ℕ)) → ls ≡ l ∷ rest → onto o (ls ++ more) ≡ onto o ls ++ more
+onto-append o [] more l rest e = absurd (cc e)
+onto-append o (m ∷ ls) more l rest e = refl
 
-  pub divided_none : (xs : List X) → found_at xs ≡ None → divided (map v xs) ≡ None
-  divided_none xs e = by (cases_lt (place xs) (length xs))
-    where
-      by : (place xs < length xs) ⊎ (length xs ≤ place xs) → divided (map v xs) ≡ None
-      by (inl lt) = absurd (let t = lt-ltb _ _ lt in cc)
-      by (inr le) = none_divides xs le
+pub lines-append : (a b : List ℕ) → EndsLine a → lines_of (a ++ b) ≡ lines_of a ++ lines_of b
+lines-append [] b ends = refl
+lines-append (o ∷ rest) b ends = elim (ends-tail o rest ends) [
+  | inl last ↦ rw (last.0, last.1) refl
+  | inr more ↦
+      let behind = lines-append rest b (inr more) in
+      let some = ended-some more.0 in
+      elim (o == 10) as (λ t. (if t then (o ∷ []) ∷ lines_of (rest ++ b) else onto o (lines_of (rest ++ b))) ≡ (if t then (o ∷ []) ∷ lines_of rest else onto o (lines_of rest)) ++ lines_of b) [
+        | true ↦ ap (λ (ls : List (List ℕ)). (o ∷ []) ∷ ls) behind
+        | false ↦ ap (onto o) behind ∙ onto-append o (lines_of rest) (lines_of b) some.0 some.1 (ap lines_of more.1 ∙ some.2)
+      ]
+]
 
-  pub divided_some : (xs : List X) (n : ℕ) → found_at xs ≡ Some n → divided (map v xs) ≡ Some (map v (take n xs), map v (drop (n + 1) xs))
-  divided_some xs n e = by (cases_lt (place xs) (length xs))
-    where
-      by : (place xs < length xs) ⊎ (length xs ≤ place xs) → divided (map v xs) ≡ Some (map v (take n xs), map v (drop (n + 1) xs))
-      by (inl lt) =
-          let t = lt-ltb _ _ lt in
-          let is : place xs ≡ n = cc in
-          first_divides xs n is (omega arith)
-      by (inr le) = absurd (let t = le-ltb _ _ le in cc)
+-- ---- which lines end
+
+-- a line with its end
+abbrev pub IsEnded : List ℕ → Type 0
+IsEnded line = (front : List ℕ) × (line ≡ front ++ 10 ∷ [])
+
+-- each line but the last has its end
+abbrev pub AreEnded : List (List ℕ) → Type 0
+AreEnded [] = Unit {0}
+AreEnded (l ∷ []) = Unit {0}
+AreEnded (l ∷ m ∷ ls) = IsEnded l × AreEnded (m ∷ ls)
+
+ended-onto : (o : ℕ) (ls : List (List ℕ)) → AreEnded ls → AreEnded (onto o ls)
+ended-onto o [] ended = tt
+ended-onto o (l ∷ []) ended = tt
+ended-onto o (l ∷ m ∷ ls) ended = ((o ∷ ended.0.0, ap (λ (t : List ℕ). o ∷ t) ended.0.1), ended.1)
+
+ended-before : (l : List ℕ) (ls : List (List ℕ)) → IsEnded l → AreEnded ls → AreEnded (l ∷ ls)
+ended-before l [] end ended = tt
+ended-before l (m ∷ ls) end ended = (end, ended)
+
+pub lines-ended : (text : List ℕ) → AreEnded (lines_of text)
+lines-ended [] = tt
+lines-ended (o ∷ rest) =
+    let behind = lines-ended rest in
+    let step : (b : Bool) → (o == 10) ≡ b → AreEnded (if b then (o ∷ []) ∷ lines_of rest else onto o (lines_of rest)) = λ b. elim b as (λ b. (o == 10) ≡ b → AreEnded (if b then (o ∷ []) ∷ lines_of rest else onto o (lines_of rest))) [
+      | true ↦ λ is. ended-before (o ∷ []) (lines_of rest) ([], ap (λ (n : ℕ). n ∷ []) (eqb-true o 10 is)) behind
+      | false ↦ λ is. ended-onto o (lines_of rest) behind
+    ] in
+    step (o == 10) refl
+
+-- a line that has others behind it ends
+pub ended-at : (front : List (List ℕ)) (l m : List ℕ) (ls : List (List ℕ)) → AreEnded (front ++ l ∷ m ∷ ls) → IsEnded l
+ended-at [] l m ls ended = ended.0
+ended-at (x ∷ []) l m ls ended = ended.1.0
+ended-at (x ∷ y ∷ front) l m ls ended = ended-at (y ∷ front) l m ls ended.1
+
+ended-behind : (l text : List ℕ) → IsEnded l → EndsLine text → EndsLine (l ++ text)
+ended-behind l text end (inl none) = inr (end.0, rw none (append-nil l ∙ end.1))
+ended-behind l text end (inr more) = inr (l ++ more.0, ap (λ (t : List ℕ). l ++ t) more.1 ∙ sym (append_assoc l more.0 (10 ∷ [])))
+
+-- and lines that have another behind them make a text of lines
+pub ended-text : (front : List (List ℕ)) (l : List ℕ) (ls : List (List ℕ)) → AreEnded (front ++ l ∷ ls) → EndsLine (concat front)
+ended-text [] l ls ended = inl refl
+ended-text (x ∷ []) l ls ended = ended-behind x [] ended.0 (inl refl)
+ended-text (x ∷ y ∷ front) l ls ended = ended-behind x (concat (y ∷ front)) ended.0 (ended-text (y ∷ front) l ls ended.1)

@@ -1,71 +1,98 @@
--- What a call of `apply` reads, writes and answers.
-use Rattle.std.specs.Prelude.{◌≡◌, ℕ, ◌<◌, ◌≤◌, List, length, Option, Result, Ok, Err, ◌⊎◌}
-use Rattle.std.specs.Io.KnownBytes.{Appends}
+-- What `apply` prints: the records of a zone after an update (RFC 2136), of an input that is a master file, a line `--`, and items.
+use Rattle.std.specs.Prelude.{ℕ, ◌+◌, List, [], ◌++◌, find, count_by, ◌==◌, Option, Some, None, is_some, Result, Ok, Err}
+use Rattle.std.specs.Option.{option_map, option_or}
 use Rattle.dns_data.specs.declared.record.Record.{Record}
-use Rattle.zoneoffice.specs.declared.fault.ApplyFault.{ApplyFault}
-use Rattle.zoneoffice.specs.declared.fault.ApplyFault.TheVariants.{TooLarge, WriteFailed, ReadFailed, NoMemory}
-use Rattle.zoneoffice.specs.Device.{AppendsFront, IsAll}
-use Rattle.zoneoffice.specs.Faults.{refusal_line}
-use Rattle.zoneoffice.specs.Outcome.{ZoneOf, zone_given, addition_given, outcome, zone_text}
-use Rattle.zoneoffice.specs.Versions.{IsZone, IsVersionAfter}
-use Rattle.zoneoffice.specs.Effects.{IsEffect}
+use Rattle.dns_master.specs.Files.{file_of}
+use Rattle.dns_master.specs.ZoneText.{records_text}
+use Rattle.zone_core.specs.declared.fault.ZoneFault.TheVariants.{NoSoa}
+use Rattle.zone_core.specs.declared.rcode.Rcode.TheVariants.{NotZone}
+use Rattle.zone_core.specs.declared.update.Place.{Place}
+use Rattle.zone_core.specs.declared.verdict.Failed.{Failed}
+use Rattle.zone_core.specs.Sets.{listing}
+use Rattle.zone_core.specs.Zones.{ZoneOf, built, soa_in}
+use Rattle.zone_core.specs.Updates.{UpdateOf, first_outside}
+use Rattle.zone_core.specs.Prerequisites.{verdict}
+use Rattle.zone_core.specs.Effects.{zone_after}
+use Rattle.office_store.specs.declared.fault.ItemsFault.{ItemsFault}
+use Rattle.office_store.specs.declared.fault.ItemsFault.TheVariants.{BadLine}
+use Rattle.office_store.specs.Reading.{items_of}
+use Rattle.zoneoffice.specs.declared.refusal.Refusal.{Refusal}
+use Rattle.zoneoffice.specs.declared.refusal.Refusal.TheVariants.{NoDivider, Zone, Unmet}
+use Rattle.zoneoffice.specs.LineFaults.{◌>>=◌, or_refused, limited, of_masters, of_zones, of_items}
+use Rattle.zoneoffice.specs.Parts.{Parts, divided}
 
--- ---- reading
+-- ---- the zone before the update
 
--- what was known to be left, the answer, of which the octets are seen by view, and the reader's failures before and after
-abbrev pub InputRead : {X : Type 0} → (X → List ℕ) → Option (List ℕ) → Result X ApplyFault → ℕ → ℕ → Type 0
-InputRead view left (Ok input) before after = IsAll left (view input) × (length (view input) ≤ 4194304) × (after ≡ before)
-InputRead view left (Err TooLarge) before after = ((input : List ℕ) × IsAll left input × (4194304 < length input)) × (after ≡ before)
-InputRead view left (Err ReadFailed) before after = before < after
-InputRead view left (Err NoMemory) before after = after ≡ before
-InputRead view left (Err fault) before after = ⊥
+-- the first SOA of records
+abbrev pub first_soa : List Record → Option Record
+first_soa records = find (λ r. is_some (soa_in r.rdata)) records
 
--- ---- writing
+-- the origin of the zone of records: the owner of the first SOA
+abbrev pub origin_of : List Record → Option (List (List ℕ))
+origin_of records = option_map (λ r. r.owner) (first_soa records)
 
--- what the writer held before and after, the text, the answer, and the writer's failures before and after
-abbrev pub TextWritten : {X : Type 0} → Option (List ℕ) → Option (List ℕ) → List ℕ → Result X ApplyFault → ℕ → ℕ → Type 0
-TextWritten old new text (Ok x) before after = Appends old new text × (after ≡ before)
-TextWritten old new text (Err e) before after = (e ≡ WriteFailed) × AppendsFront old new text × (before < after)
+-- the zone of records, whose origin is told by them
+abbrev pub zone_of_records : List Record → Result ZoneOf Refusal
+zone_of_records records = or_refused (origin_of records) (Zone NoSoa) >>= λ origin. of_zones (built origin records)
 
--- What the writer held before and after, the refusal, the answer, and the writer's failures before and after: the line of the
--- refusal was written, or that of want of memory, and the answer is the one written; or the write failed.
-abbrev pub IsRefused : Option (List ℕ) → Option (List ℕ) → ApplyFault → Result (Unit {0}) ApplyFault → ℕ → ℕ → Type 0
-IsRefused old new fault (Ok x) before after = ⊥
-IsRefused old new fault (Err e) before after =
-    ((e ≡ fault) × Appends old new (refusal_line fault) × (after ≡ before))
-    ⊎ (((e ≡ NoMemory) × Appends old new (refusal_line NoMemory) × (after ≡ before))
-    ⊎ ((e ≡ WriteFailed) × ((text : List ℕ) × ((text ≡ refusal_line fault) ⊎ (text ≡ refusal_line NoMemory)) × AppendsFront old new text) × (before < after)))
+-- the records of a master file that is read relative to the root
+abbrev pub records_of : List ℕ → Result (List Record) Refusal
+records_of file = of_masters (file_of file [])
 
--- ---- both
+-- the zone of a master file
+abbrev pub zone_of_text : List ℕ → Result ZoneOf Refusal
+zone_of_text file = records_of file >>= zone_of_records
 
--- the texts that may be written for an input
-abbrev pub reply_text : Result ZoneOf ApplyFault → List ℕ
-reply_text (Ok zone) = zone_text zone
-reply_text (Err fault) = refusal_line fault
+-- ---- the update
 
--- the answer to an input of which the definition gives this outcome
-abbrev pub Answers : Option (List ℕ) → Result ZoneOf ApplyFault → Type 0
-Answers left result = (input : List ℕ) × IsAll left input × (outcome input ≡ result)
+-- how many line ends a text has
+abbrev pub line_ends : List ℕ → ℕ
+line_ends text = count_by (λ o. o == 10) text
 
--- the zone before the update, the addition, and the zone after it
-abbrev pub Updates : Option (List ℕ) → ZoneOf → Option Record → ZoneOf → Type 0
-Updates left before addition zone =
-    (input : List ℕ) × IsAll left input × (zone_given input ≡ Ok before) × (addition_given input ≡ Ok addition) × (outcome input ≡ Ok zone)
+-- what is read of items behind so many line ends, with the line of a fault counted in the whole input
+abbrev pub behind_lines : {A : Type 0} → ℕ → Result A ItemsFault → Result A ItemsFault
+behind_lines lines (Err (BadLine line)) = Err (BadLine (lines + line))
+behind_lines lines read = read
 
--- a text that is written where this was left to read, and the reader's failures are these before and after
-abbrev pub IsReply : Option (List ℕ) → ℕ → ℕ → List ℕ → Type 0
-IsReply left reads reads_after text =
-    (((result : Result ZoneOf ApplyFault) × Answers left result × (text ≡ reply_text result)) × (reads_after ≡ reads))
-    ⊎ (((text ≡ refusal_line ReadFailed) × (reads < reads_after))
-    ⊎ ((text ≡ refusal_line NoMemory) × (reads_after ≡ reads)))
+-- the update behind the divider
+abbrev pub update_behind : Parts → Result UpdateOf Refusal
+update_behind parts = of_items (behind_lines (line_ends (parts.file ++ parts.divider)) (items_of parts.items))
 
--- What was left to read, what the writer held before and after, the answer, the reader's failures before and after, and the
--- writer's failures before and after. A failed write leaves a front of what was to be written; else it is all written.
-abbrev pub Applied : Option (List ℕ) → Option (List ℕ) → Option (List ℕ) → Result (Unit {0}) ApplyFault → ℕ → ℕ → ℕ → ℕ → Type 0
-Applied left old new (Ok x) reads reads_after writes writes_after =
-    ((before : ZoneOf) × (addition : Option Record) × (zone : ZoneOf) × Updates left before addition zone × IsZone zone × IsEffect before addition zone × IsVersionAfter before zone
-    × Appends old new (zone_text zone)) × (reads_after ≡ reads) × (writes_after ≡ writes)
-Applied left old new (Err WriteFailed) reads reads_after writes writes_after = ((text : List ℕ) × IsReply left reads reads_after text × AppendsFront old new text) × (writes < writes_after)
-Applied left old new (Err ReadFailed) reads reads_after writes writes_after = Appends old new (refusal_line ReadFailed) × (reads < reads_after) × (writes_after ≡ writes)
-Applied left old new (Err NoMemory) reads reads_after writes writes_after = Appends old new (refusal_line NoMemory) × (reads_after ≡ reads) × (writes_after ≡ writes)
-Applied left old new (Err fault) reads reads_after writes writes_after = Answers left (Err fault) × Appends old new (refusal_line fault) × (reads_after ≡ reads) × (writes_after ≡ writes)
+-- ---- the zone after it
+
+-- an item whose name is not within the zone (RFC 2136 sections 3.2 and 3.4.1)
+abbrev pub not_zone : Place → Refusal
+not_zone place = Unmet NotZone place.item
+
+-- a prerequisite that does not hold (RFC 2136 section 3.2)
+abbrev pub not_met : Failed → Refusal
+not_met failed = Unmet failed.code failed.item
+
+-- the first item that refuses an update of a zone: names outside before prerequisites
+abbrev pub first_unmet : ZoneOf → UpdateOf → Option Refusal
+first_unmet zone update =
+    option_or (option_map not_zone (first_outside zone.origin update)) (option_map not_met (verdict zone.records update.prerequisites))
+
+-- the record lines of a zone, in record order
+abbrev pub zone_lines : ZoneOf → List ℕ
+zone_lines zone = records_text (listing zone.records)
+
+-- what stands for a refusal that there may be
+abbrev pub unless : {A : Type 0} → Option Refusal → A → Result A Refusal
+unless None x = Ok x
+unless (Some refusal) x = Err refusal
+
+-- the record lines of a zone after an update, or its first refusal
+abbrev pub updated : ZoneOf → UpdateOf → Result (List ℕ) Refusal
+updated zone update = unless (first_unmet zone update) (zone_lines (zone_after zone update))
+
+-- ---- all of it
+
+-- what is printed of an input, whatever its size
+abbrev pub text_after : List ℕ → Result (List ℕ) Refusal
+text_after input =
+    or_refused (divided input) NoDivider >>= λ parts. zone_of_text parts.file >>= λ zone. update_behind parts >>= λ update. updated zone update
+
+-- what is printed of an input
+abbrev pub apply_text : List ℕ → Result (List ℕ) Refusal
+apply_text input = limited input >>= text_after

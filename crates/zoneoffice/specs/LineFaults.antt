@@ -6,10 +6,12 @@ use Rattle.dns_master.specs.declared.fault.MasterFault.{MasterFault}
 use Rattle.dns_master.specs.declared.fault.MasterFault.TheVariants as masters
 use Rattle.zone_core.specs.declared.fault.ZoneFault.{ZoneFault}
 use Rattle.zone_core.specs.declared.fault.ZoneFault.TheVariants as zones
+use Rattle.office_store.specs.declared.fault.ItemsFault.{ItemsFault}
+use Rattle.office_store.specs.declared.fault.ItemsFault.TheVariants as items
 use Rattle.grant_policy.specs.declared.fault.PolicyFault.{PolicyFault}
 use Rattle.grant_policy.specs.declared.fault.PolicyFault.TheVariants as policies
 use Rattle.zoneoffice.specs.declared.refusal.Refusal.{Refusal}
-use Rattle.zoneoffice.specs.declared.refusal.Refusal.TheVariants.{Name, TooLarge, Master, Zone, Policy}
+use Rattle.zoneoffice.specs.declared.refusal.Refusal.TheVariants.{Name, TooLarge, Master, Zone, Policy, Items}
 use Rattle.zoneoffice.specs.declared.line_fault.LineFault.{LineFault}
 use Rattle.zoneoffice.specs.declared.line_fault.LineFault.TheVariants.{Refused, ReadFailed, NoMemory}
 use Rattle.zoneoffice.specs.Device.{IsAll}
@@ -29,7 +31,7 @@ or_refused None refusal = Err refusal
 abbrev pub limited : List ℕ → Result (List ℕ) Refusal
 limited input = if nat_lt 4194304 (length input) then Err TooLarge else Ok input
 
--- what a reader of names, master files, zones or policies makes
+-- what a reader of names, master files, zones, items or policies makes
 abbrev pub of_names : {A : Type 0} → Result A NameFault → Result A Refusal
 of_names (Ok x) = Ok x
 of_names (Err fault) = Err (Name fault)
@@ -45,6 +47,10 @@ of_masters (Err fault) = Err (master_refusal fault)
 abbrev pub of_zones : {A : Type 0} → Result A ZoneFault → Result A Refusal
 of_zones (Ok x) = Ok x
 of_zones (Err fault) = Err (Zone fault)
+
+abbrev pub of_items : {A : Type 0} → Result A ItemsFault → Result A Refusal
+of_items (Ok x) = Ok x
+of_items (Err fault) = Err (Items fault)
 
 abbrev pub of_policies : {A : Type 0} → Result A PolicyFault → Result A Refusal
 of_policies (Ok x) = Ok x
@@ -63,6 +69,10 @@ of_master fault = Refused (master_refusal fault)
 abbrev pub of_zone : ZoneFault → LineFault
 of_zone zones.NoMemory = NoMemory
 of_zone fault = Refused (Zone fault)
+
+abbrev pub of_item : ItemsFault → LineFault
+of_item items.NoMemory = NoMemory
+of_item fault = Refused (Items fault)
 
 abbrev pub of_policy : PolicyFault → LineFault
 of_policy policies.NoMemory = NoMemory

@@ -9,11 +9,13 @@ use Rattle.dns_master.specs.declared.fault.MasterFault.{MasterFault}
 use Rattle.dns_master.specs.declared.fault.MasterFault.TheVariants as of_master
 use Rattle.dns_master.specs.Faults.{fault_number as master_number, fault_line}
 use Rattle.zone_core.specs.Faults.{zone_fault_number}
+use Rattle.zone_core.specs.Rcodes.{rcode_number, rcode_text}
+use Rattle.office_store.specs.Faults.{fault_number as items_number, fault_line as items_line}
 use Rattle.grant_policy.specs.declared.fault.PolicyFault.{PolicyFault}
 use Rattle.grant_policy.specs.declared.fault.PolicyFault.TheVariants as of_policy
 use Rattle.grant_policy.specs.Faults.{fault_number as policy_number}
 use Rattle.zoneoffice.specs.declared.refusal.Refusal.{Refusal}
-use Rattle.zoneoffice.specs.declared.refusal.Refusal.TheVariants.{Name, TypeNotKept, NoCaller, NoAction, TooLarge, Master, Zone, Policy}
+use Rattle.zoneoffice.specs.declared.refusal.Refusal.TheVariants.{Name, TypeNotKept, NoCaller, NoAction, TooLarge, NoDivider, Master, Zone, Policy, Items, Unmet}
 
 -- ---- numbers: that of a refusal, and behind it that of the refusal within it
 
@@ -35,9 +37,12 @@ refusal_number TypeNotKept = 17
 refusal_number NoCaller = 54
 refusal_number NoAction = 54
 refusal_number TooLarge = 30
+refusal_number NoDivider = 96
 refusal_number (Master fault) = master_number fault
 refusal_number (Zone fault) = zone_fault_number fault
 refusal_number (Policy fault) = policy_number fault
+refusal_number (Items fault) = items_number fault
+refusal_number (Unmet code item) = rcode_number code
 
 abbrev pub refusal_numbers : Refusal → List ℕ
 refusal_numbers (Master fault) = master_numbers fault
@@ -54,12 +59,19 @@ dotted numbers = join_with_byte 46 (map decimal numbers)
 abbrev pub refusal_place : Refusal → Option ℕ
 refusal_place TooLarge = Some 0
 refusal_place (Master fault) = fault_line fault
+refusal_place (Items fault) = items_line fault
 refusal_place refusal = None
 
 abbrev pub place_text : Option ℕ → List ℕ
 place_text None = []
 place_text (Some line) = codes " line " ++ decimal line
 
+-- what is told of a refusal: its numbers, and the line that it is in; of an update that a zone does not take, the code of RFC 2136
+-- section 2.2 and the number of the item, from 0
+abbrev pub refusal_text : Refusal → List ℕ
+refusal_text (Unmet code item) = rcode_text code ++ codes " item " ++ decimal item
+refusal_text refusal = dotted (refusal_numbers refusal) ++ place_text (refusal_place refusal)
+
 -- the line that tells a refusal
 abbrev pub told_refusal : Refusal → List ℕ
-told_refusal refusal = codes "refused " ++ dotted (refusal_numbers refusal) ++ place_text (refusal_place refusal) ++ 10 ∷ []
+told_refusal refusal = codes "refused " ++ refusal_text refusal ++ 10 ∷ []

@@ -1,135 +1,182 @@
-//! One update of a zone, from octets to octets.
+//! A zone after an update.
 
-ghost use Rattle.std.specs.Prelude.{◌≡◌, map, string_bytes, IfOk};
-ghost use Rattle.zoneoffice.specs.Faults.{Gives, refusal_line};
-ghost use Rattle.zoneoffice.specs.Outcome.{zone_before, zone_after, text_after};
-ghost use Rattle.zoneoffice.specs.Views.{zone_of};
-ghost use Rattle.zoneoffice.specs.Apply.{InputRead, TextWritten, IsRefused, Applied};
+ghost use Rattle.std.specs.Prelude.{◌≡◌, ◌+◌, ◌<◌, ◌≤◌, ◌^◌, length, [], None, Ok, IfOk, option_map};
+ghost use Rattle.zone_core.specs.Updates.{ActsWithin};
+ghost use Rattle.zoneoffice.specs.LineFaults.{Gives, GivesOf};
+ghost use Rattle.zoneoffice.specs.Replies.{IsPrinted};
+ghost use Rattle.zoneoffice.specs.PartViews.{parts_in, records_in, update_in};
+ghost use Rattle.zoneoffice.specs.Apply.{origin_of, zone_of_records, records_of, line_ends, update_behind, first_unmet, zone_lines, updated, text_after, apply_text};
 
-use crate::fault::{ApplyFault, NO_MEMORY_LINE, READ_FAILED_LINE, RefusalLine};
-use crate::lines::{divided, lines};
-use crate::record_lines::{read_addition, read_records};
-use crate::records::text_of;
-use crate::zone::{Zone, build, origin_of, update};
-use dns_master::{Sink, Source};
-use std::alloc::{AllocError, Global};
+use crate::device::{ended, read_input, tell};
+use crate::line_fault::{JobFault, LineFault};
+use crate::parts::{InputParts, divided};
+use crate::refusal::Refusal;
+use crate::task::Task;
+use dns_data::{Data, Record};
+use dns_master::{Sink, Source, print_records, read_file};
+use dns_names::Name;
+use office_store::{ItemsFault, read_items};
+use std::alloc::Global;
+use zone_core::{Outcome, Rcode, Update, Zone, ZoneFault, apply_owned, holds};
 
-/// The most octets of an input.
-const INPUT_MAX: usize = 4_194_304;
+/// What was read of an input, whose octets are given back.
+#[derive(Drop)]
+struct InputRead {
+    /// The records of its master file.
+    records: Vec<Record>,
+    /// Its items, or why they are no update: that is told behind what is wrong with the records.
+    update: Result<Update, LineFault>,
+}
 
-/// How many octets are read at a time.
-const PIECE: usize = 65_536;
-
-/// All octets that a reader gives, or `TooLarge`, or `ReadFailed` where the reader failed.
-fn read_input<R: Source>(alloc: Global, reader: &mut R) -> Result<Vec<u8>, ApplyFault>
-    ensures { InputRead (λ input. input.items) (R.remaining reader.old) result (R.failures reader.old) (R.failures reader.new) }
+/// The name of the root.
+fn root(alloc: Global) -> Result<Name, LineFault>
+    ensures { Gives (λ name. name) result (Ok []) }
 {
-    let mut input = Vec::new(alloc);
-    let mut piece = vec![in alloc; 0u8; PIECE]?;
-    while input.len() <= INPUT_MAX {
-        let Ok(count) = reader.read_some(&mut piece) else {
-            return Err(ApplyFault::ReadFailed);
-        };
-        if count == 0 {
-            return Ok(input);
+    Ok(Name::read_absolute(alloc, b".")?)
+}
+
+/// The records of a master file, relative to the root.
+fn read_records(alloc: Global, file: &[u8]) -> Result<Vec<Record>, LineFault>
+    ensures { Gives (λ records. records.items) result (records_of file.now) }
+{
+    let root = root(alloc)?;
+    Ok(read_file(alloc, file, &root)?)
+}
+
+/// How many line ends a text has.
+fn line_ends(text: &[u8]) -> usize
+    ensures value { result ≡ line_ends text.now }
+    ensures within { result ≤ length text.now }
+{
+    text.iter().filter(|octet| **octet == b'\n').count()
+}
+
+/// The update behind the divider, or its refusal, whose line counts from that of the whole input.
+fn read_update(alloc: Global, parts: &InputParts<'_>) -> Result<Update, LineFault>
+    requires { length parts.now.file.now + length parts.now.divider.now + length parts.now.items.now < 2 ^ 63 }
+    ensures { Gives (λ update. update) result (update_behind (parts_in parts.now)) }
+{
+    match read_items(alloc, parts.items) {
+        Ok(update) => Ok(update),
+        Err(ItemsFault::BadLine(line)) => {
+            let lines = line_ends(parts.file) + line_ends(parts.divider);
+            Err(LineFault::from(ItemsFault::BadLine(lines + line)))
         }
-        input.extend_from_slice(&piece[..count])?;
+        Err(fault) => Err(LineFault::from(fault)),
     }
-    Err(ApplyFault::TooLarge)
 }
 
-/// Writes all octets, in as many pieces as the writer takes. The only error is `WriteFailed`.
-fn write_text<W: Sink>(writer: &mut W, text: &[u8]) -> Result<(), ApplyFault>
-    ensures { TextWritten (W.contents writer.old) (W.contents writer.new) text.now result (W.failures writer.old) (W.failures writer.new) }
+/// What stands in an input, whose octets are given back.
+fn read_parts(alloc: Global, input: Vec<u8>) -> Result<InputRead, LineFault>
+    ensures records { Gives (λ read. read.records.items) result (records_in input.items) }
+    ensures update { IfOk result (λ read. Gives (λ update. update) read.update (update_in input.items)) }
 {
-    let mut rest = text;
-    while !rest.is_empty() {
-        let Ok(count) = writer.write_some(rest) else {
-            return Err(ApplyFault::WriteFailed);
-        };
-        rest = &rest[count..];
-    }
-    Ok(())
-}
-
-/// The zone that the lines before the divider give.
-fn zone_before(alloc: Global, file: &[&[u8]]) -> Result<Zone, ApplyFault>
-    ensures { Gives zone_of result (zone_before (map (λ l. l.now) file.now)) }
-{
-    let records = read_records(alloc, file)?;
-    let origin = origin_of(alloc, &records)?;
-    build(alloc, origin, records)
-}
-
-/// The zone that an input gives, after its update.
-fn zone_after(alloc: Global, input: &[u8]) -> Result<Zone, ApplyFault>
-    ensures { Gives zone_of result (zone_after input.now) }
-{
-    let lines = lines(alloc, input)?;
-    let Some((file, item_lines)) = divided(&lines) else {
-        return Err(ApplyFault::NoDivider);
+    let Some(parts) = divided(&input) else {
+        return Err(LineFault::Refused(Refusal::NoDivider));
     };
-    let zone = zone_before(alloc, file)?;
-    let addition = read_addition(alloc, item_lines, file.len() + 1)?;
-    update(alloc, zone, addition)
+    let records = read_records(alloc, parts.file)?;
+    let update = read_update(alloc, &parts);
+    Ok(InputRead { records, update })
 }
 
-/// The record lines of the zone that an input gives, after its update.
-pub(crate) fn text_after(alloc: Global, input: &[u8]) -> Result<String, ApplyFault>
-    ensures { Gives (λ text. string_bytes text) result (text_after input.now) }
+/// The owner of the first SOA of records.
+fn origin_of(records: &[Record]) -> Option<&Name>
+    ensures { option_map (λ name. name.now) result ≡ origin_of records.now }
 {
-    let zone = zone_after(alloc, input)?;
-    Ok(text_of(alloc, &zone.records)?)
+    let soa = records
+        .iter()
+        .find(|record| matches!(record.rdata, Data::Soa(_)))?;
+    Some(&soa.owner)
 }
 
-/// The line that tells a refusal. The only error is want of memory.
-fn refusal_text(alloc: Global, fault: ApplyFault) -> Result<String, AllocError>
-    ensures { IfOk result (λ text. string_bytes text ≡ refusal_line fault) }
+/// The zone of records, whose origin is the owner of the first SOA.
+fn zone_of_records(alloc: Global, records: Vec<Record>) -> Result<Zone, LineFault>
+    ensures { Gives (λ zone. zone) result (zone_of_records records.items) }
 {
-    format!(in alloc; "{}", RefusalLine(fault))
+    let Some(origin) = origin_of(&records) else {
+        return Err(LineFault::Refused(Refusal::Zone(ZoneFault::NoSoa)));
+    };
+    let origin = origin.try_copy(alloc)?;
+    Ok(Zone::build(alloc, origin, records)?)
 }
 
-/// Reads a zone, a line `--` and at most one item, updates the zone, and writes its records.
-///
-/// The zone is given as lines `owner TTL IN type data` with absolute names and types A, NS and SOA; its origin is the owner
-/// of the first SOA. The item is a line `add NAME TTL TYPE DATA`. Blank lines are left aside. What is written is the record
-/// lines of the zone after the update (RFC 2136 section 3.4.2, RFC 1982), in record order, or one line `refused ..`.
-pub fn apply<R: Source, W: Sink>(
-    alloc: Global,
-    reader: &mut R,
-    writer: &mut W,
-) -> Result<(), ApplyFault>
-    ensures { Applied (R.remaining reader.old) (W.contents writer.old) (W.contents writer.new) result (R.failures reader.old) (R.failures reader.new) (W.failures writer.old) (W.failures writer.new) }
+/// The refusal of the first item that a zone does not take: of a name outside, or else of a prerequisite that does not hold.
+fn first_unmet(zone: &Zone, update: &Update) -> Option<Refusal>
+    ensures exact { result ≡ first_unmet zone.now update.now }
+    ensures inside { result ≡ None → ActsWithin zone.now.origin update.now }
 {
-    match read_input(alloc, reader) {
-        Ok(input) => match text_after(alloc, &input) {
-            Ok(text) => write_text(writer, text.as_bytes()),
-            Err(fault) => refuse(alloc, writer, fault),
-        },
-        Err(fault) => match fault {
-            // Told without memory, so that want of memory never hides it.
-            ApplyFault::ReadFailed => {
-                write_text(writer, READ_FAILED_LINE.as_bytes())?;
-                Err(fault)
-            }
-            _ => refuse(alloc, writer, fault),
-        },
+    if let Some(place) = update.outside(zone.origin()) {
+        return Some(Refusal::Unmet {
+            code: Rcode::NotZone,
+            item: place.item,
+        });
+    }
+    match holds(zone, update) {
+        Ok(()) => None,
+        Err(failed) => Some(Refusal::Unmet {
+            code: failed.code,
+            item: failed.item,
+        }),
     }
 }
 
-/// Writes the line that tells a refusal, and hands the refusal on: `NoMemory` where there is no memory for the line, and
-/// `WriteFailed` where the writer failed.
-fn refuse<W: Sink>(alloc: Global, writer: &mut W, fault: ApplyFault) -> Result<(), ApplyFault>
-    ensures { IsRefused (W.contents writer.old) (W.contents writer.new) fault result (W.failures writer.old) (W.failures writer.new) }
+/// A zone after an update.
+fn updated(alloc: Global, zone: Zone, update: &Update) -> Result<Zone, LineFault>
+    ensures { Gives zone_lines result (updated zone update.now) }
 {
-    match refusal_text(alloc, fault) {
-        Ok(text) => {
-            write_text(writer, text.as_bytes())?;
-            Err(fault)
-        }
-        Err(_) => {
-            write_text(writer, NO_MEMORY_LINE.as_bytes())?;
-            Err(ApplyFault::NoMemory)
+    if let Some(refusal) = first_unmet(&zone, update) {
+        return Err(LineFault::Refused(refusal));
+    }
+    let Outcome { zone, .. } = apply_owned(alloc, zone, update)?;
+    Ok(zone)
+}
+
+/// The zone that an input has after its update.
+fn zone_after(alloc: Global, input: Vec<u8>) -> Result<Zone, LineFault>
+    ensures { Gives zone_lines result (text_after input.items) }
+{
+    let InputRead { records, update } = read_parts(alloc, input)?;
+    let zone = zone_of_records(alloc, records)?;
+    updated(alloc, zone, &update?)
+}
+
+/// The zone that what a reader gives has after its update.
+fn read_updated<R: Source>(alloc: Global, reader: &mut R) -> Result<Zone, LineFault>
+    ensures { GivesOf zone_lines (R.remaining reader.old) apply_text result (R.failures reader.old) (R.failures reader.new) }
+{
+    let input = read_input(alloc, reader)?;
+    zone_after(alloc, input)
+}
+
+/// Prints the records of a zone. Where memory runs out, a line tells it behind what went out.
+fn print<W: Sink>(alloc: Global, zone: &Zone, writer: &mut W) -> Result<(), JobFault>
+    ensures { IsPrinted (W.contents writer.old) (W.contents writer.new) (zone_lines zone.now) result (W.failures writer.old) (W.failures writer.new) }
+{
+    let printed = print_records(alloc, zone.records(), writer);
+    ended(writer, printed)
+}
+
+/// The task `apply`: to read a master file (RFC 1035 section 5.1), a line `--` and items of an update, and to print the record
+/// lines of the zone after it (RFC 2136), in record order. The zone's origin is the owner of its first SOA. Otherwise one line
+/// tells the refusal that comes first: that the input is too large, that it has no divider, of the master file, of its records as
+/// a zone, of the items, of the first item with a name outside the zone, of the first prerequisite that does not hold.
+#[derive(Clone, Copy, Debug)]
+pub struct Apply;
+
+impl Task for Apply {
+    ghost use Rattle.zoneoffice.specs.Apply.{apply_text};
+
+    ghost answer = { λ _. apply_text };
+
+    fn run<R: Source, W: Sink>(
+        self,
+        alloc: Global,
+        reader: &mut R,
+        writer: &mut W,
+    ) -> Result<(), JobFault> {
+        match read_updated(alloc, reader) {
+            Ok(zone) => print(alloc, &zone, writer),
+            Err(fault) => tell(alloc, writer, fault),
         }
     }
 }

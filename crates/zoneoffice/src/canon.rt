@@ -7,11 +7,11 @@ ghost use Rattle.zoneoffice.specs.LineFaults.{Gives, GivesOf, of_names, of_maste
 ghost use Rattle.zoneoffice.specs.Replies.{IsPrinted};
 ghost use Rattle.zoneoffice.specs.Canon.{zone_of_file, zone_read, text_of_zone};
 
-use crate::device::{read_input, tell, tell_no_memory};
+use crate::device::{ended, read_input, tell};
 use crate::line_fault::{JobFault, LineFault};
 use crate::task::Task;
 use dns_data::Record;
-use dns_master::{MasterFault, Sink, Source, print_zone, read_file};
+use dns_master::{Sink, Source, print_zone, read_file};
 use dns_names::Name;
 use std::alloc::Global;
 use zone_core::Zone;
@@ -51,13 +51,8 @@ fn read_zone<R: Source>(alloc: Global, origin: &str, reader: &mut R) -> Result<Z
 fn print<W: Sink>(alloc: Global, zone: &Zone, writer: &mut W) -> Result<(), JobFault>
     ensures { IsPrinted (W.contents writer.old) (W.contents writer.new) (text_of_zone zone.now) result (W.failures writer.old) (W.failures writer.new) }
 {
-    match print_zone(alloc, zone.origin(), zone.records(), writer) {
-        Ok(()) => Ok(()),
-        Err(fault) => match fault {
-            MasterFault::WriteFailed => Err(JobFault::WriteFailed),
-            _ => tell_no_memory(writer),
-        },
-    }
+    let printed = print_zone(alloc, zone.origin(), zone.records(), writer);
+    ended(writer, printed)
 }
 
 /// The task `canon`: to read a master file (RFC 1035 section 5.1), to build its zone, and to print it: the line `$ORIGIN` and the

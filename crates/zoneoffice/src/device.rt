@@ -1,13 +1,14 @@
 //! Reading all of an input, and writing a text or the line of a fault.
 
-ghost use Rattle.std.specs.Prelude.{◌≡◌, string_bytes, IfOk};
+ghost use Rattle.std.specs.Prelude.{◌≡◌, ℕ, List, Option, string_bytes, IfOk};
+ghost use Rattle.dns_master.specs.Device.{TextWritten};
 ghost use Rattle.zoneoffice.specs.LineFaults.{GivesOf, limited};
 ghost use Rattle.zoneoffice.specs.Refusals.{told_refusal};
-ghost use Rattle.zoneoffice.specs.Replies.{IsSent, IsTold};
+ghost use Rattle.zoneoffice.specs.Replies.{IsSent, IsTold, IsPrinted};
 
 use crate::line_fault::{JobFault, LineFault, NO_MEMORY_LINE, READ_FAILED_LINE};
 use crate::refusal::{Refusal, RefusalLine};
-use dns_master::{DeviceFailed, Sink, Source};
+use dns_master::{DeviceFailed, MasterFault, Sink, Source};
 use std::alloc::{AllocError, Global};
 
 /// The most octets of an input.
@@ -54,11 +55,25 @@ fn refusal_text(alloc: Global, refusal: Refusal) -> Result<String, AllocError>
 }
 
 /// Tells want of memory, and hands it on.
-pub fn tell_no_memory<W: Sink>(writer: &mut W) -> Result<(), JobFault>
+fn tell_no_memory<W: Sink>(writer: &mut W) -> Result<(), JobFault>
     ensures { IsTold (W.contents writer.old) (W.contents writer.new) LineFault.NoMemory result (W.failures writer.old) (W.failures writer.new) }
 {
     write_text(writer, NO_MEMORY_LINE.as_bytes())?;
     Err(JobFault::Told(LineFault::NoMemory))
+}
+
+/// What came of a printing that `dns_master` did. Where memory ran out, a line tells it behind what went out.
+pub fn ended<W: Sink>(writer: &mut W, printed: Result<(), MasterFault>) -> Result<(), JobFault>
+    ensures { (old : Option (List ℕ)) (text : List ℕ) (failures : ℕ) → TextWritten old (W.contents writer.old) text printed failures (W.failures writer.old)
+        → IsPrinted old (W.contents writer.new) text result failures (W.failures writer.new) }
+{
+    match printed {
+        Ok(()) => Ok(()),
+        Err(fault) => match fault {
+            MasterFault::WriteFailed => Err(JobFault::WriteFailed),
+            _ => tell_no_memory(writer),
+        },
+    }
 }
 
 /// Tells a fault by its line, and hands it on: `NoMemory` where there is no memory for the line, and `WriteFailed` where the

@@ -1,7 +1,7 @@
 //! Why a job did not go through.
 
 ghost use Rattle.std.specs.Prelude.{◌≡◌};
-ghost use Rattle.zoneoffice.specs.LineFaults.{of_name, of_master, of_zone, of_policy};
+ghost use Rattle.zoneoffice.specs.LineFaults.{of_name, of_master, of_zone, of_item, of_policy};
 ghost use Rattle.zoneoffice.specs.declared.line_fault.LineFault.TheVariants.{NoMemory};
 ghost use Rattle.zoneoffice.specs.declared.line_fault.JobFault.TheVariants as job;
 
@@ -9,6 +9,7 @@ use crate::refusal::Refusal;
 use dns_master::{DeviceFailed, MasterFault};
 use dns_names::NameFault;
 use grant_policy::PolicyFault;
+use office_store::ItemsFault;
 use std::alloc::AllocError;
 use thiserror::Error;
 use zone_core::ZoneFault;
@@ -74,6 +75,17 @@ impl From<ZoneFault> for LineFault {
         match fault {
             ZoneFault::NoMemory => LineFault::NoMemory,
             fault => LineFault::Refused(Refusal::Zone(fault)),
+        }
+    }
+}
+
+impl From<ItemsFault> for LineFault {
+    ghost from_gives = { λ f e. e ≡ of_item f };
+
+    fn from(fault: ItemsFault) -> LineFault {
+        match fault {
+            ItemsFault::NoMemory => LineFault::NoMemory,
+            fault => LineFault::Refused(Refusal::Items(fault)),
         }
     }
 }

@@ -2,29 +2,22 @@
 #![tactic(auto)]
 
 ghost use Rattle.std.specs.Prelude.{◌≡◌, ◌<◌, ℕ};
-ghost use Rattle.zoneoffice.specs.Apply.{Applied};
 ghost use Rattle.zoneoffice.specs.Replies.{Answered};
 
 mod apply;
 mod canon;
 mod device;
-mod fault;
-mod key;
+mod laws;
 mod line_fault;
-mod lines;
+mod parts;
 mod policy_file;
-mod record_lines;
-mod records;
 mod refusal;
 mod rights;
-mod serial;
 mod task;
 mod words;
-mod zone;
 
-use crate::apply::apply;
+use crate::apply::Apply;
 use crate::canon::Canon;
-use crate::fault::ApplyFault;
 use crate::line_fault::{JobFault, NO_MEMORY_LINE};
 use crate::policy_file::PolicyFile;
 use crate::task::Task;
@@ -36,28 +29,6 @@ use std::io::{self, ErrorKind, Read, Write};
 use std::marker::Brand;
 use std::process::ExitCode;
 use std::sync::ledger::{Blank, Ledger};
-
-/// Runs `apply` on a reader and a writer of std, and hands the writer back.
-fn run<R: Read + Drop, W: Write + Drop, A: Ledger, B: Ledger>(
-    alloc: Global,
-    reader: R,
-    writer: W,
-    reads: Blank,
-    writes: Blank,
-) -> (W, Result<(), ApplyFault>)
-    requires reads_name { reads.name ≡ A.name }
-    requires reads_parts { reads.parts ≡ A.parts }
-    requires reads_some { 0 < reads.parts }
-    requires writes_name { writes.name ≡ B.name }
-    requires writes_parts { writes.parts ≡ B.parts }
-    requires writes_some { 0 < writes.parts }
-    ensures { (failed_reads : ℕ) × (failed_writes : ℕ) × Applied (R.remaining reader) (W.contents writer) (W.contents result.0) result.1 0 failed_reads 0 failed_writes }
-{
-    let mut source: Counted<R, A> = Counted::new(reader, reads);
-    let mut sink: Counted<W, B> = Counted::new(writer, writes);
-    let done = apply(alloc, &mut source, &mut sink);
-    (sink.into_inner(), done)
-}
 
 /// Does a task with a reader and a writer of std, and hands the writer back.
 fn answer<T: Task, R: Read + Drop, W: Write + Drop, A: Ledger, B: Ledger>(
@@ -82,27 +53,7 @@ fn answer<T: Task, R: Read + Drop, W: Write + Drop, A: Ledger, B: Ledger>(
     (sink.into_inner(), outcome)
 }
 
-/// The exit status of a job: 0 where it went through, and else 1.
-fn status<E: Drop>(done: Result<(), E>) -> ExitCode {
-    match done {
-        Ok(()) => ExitCode::SUCCESS,
-        Err(_) => ExitCode::FAILURE,
-    }
-}
-
-/// Does the job `apply` with standard input and output.
-fn do_apply(rt: &HostRuntime) -> ExitCode {
-    let (_, done) = run::<_, _, Brand, Brand>(
-        rt.alloc(),
-        rt.stdin(),
-        rt.stdout(),
-        Blank::new(1),
-        Blank::new(1),
-    );
-    status(done)
-}
-
-/// Does a task with a reader, and standard output.
+/// Does a task with a reader, and standard output. The exit status is 0 where it went through, and else 1.
 fn do_task<T: Task, R: Read + Drop>(rt: &HostRuntime, task: T, reader: R) -> ExitCode {
     let (_, done) = answer::<_, _, _, Brand, Brand>(
         rt.alloc(),
@@ -112,13 +63,16 @@ fn do_task<T: Task, R: Read + Drop>(rt: &HostRuntime, task: T, reader: R) -> Exi
         Blank::new(1),
         Blank::new(1),
     );
-    status(done)
+    match done {
+        Ok(()) => ExitCode::SUCCESS,
+        Err(_) => ExitCode::FAILURE,
+    }
 }
 
 /// Does a job.
 fn do_job(rt: &HostRuntime, job: Job<'_>) -> ExitCode {
     match job {
-        Job::Apply => do_apply(rt),
+        Job::Apply => do_task(rt, Apply, rt.stdin()),
         Job::Canon { origin } => do_task(rt, Canon { origin }, rt.stdin()),
         Job::Rights { policy, asked } => do_task(rt, asked, PolicyFile::open(rt, policy)),
     }

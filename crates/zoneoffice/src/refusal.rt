@@ -7,9 +7,10 @@ use dns_data::DataFault;
 use dns_master::MasterFault;
 use dns_names::NameFault;
 use grant_policy::PolicyFault;
+use office_store::ItemsFault;
 use std::fmt::{self, Display, Formatter, Write};
 use thiserror::Error;
-use zone_core::ZoneFault;
+use zone_core::{Rcode, ZoneFault};
 
 /// Why a job has no answer, however much memory there is and whatever devices do.
 #[derive(Clone, Copy, Debug, PartialEq, Eq, Error)]
@@ -29,6 +30,9 @@ pub enum Refusal {
     /// The input has more than 4,194,304 octets.
     #[error("the input has more than 4194304 octets")]
     TooLarge,
+    /// No line of the input is `--`.
+    #[error("no line of the input is --")]
+    NoDivider,
     /// The input is no master file.
     #[error("{0}")]
     Master(MasterFault),
@@ -38,10 +42,22 @@ pub enum Refusal {
     /// The input is no policy.
     #[error("{0}")]
     Policy(PolicyFault),
+    /// The items are no update. Lines count from that of the whole input.
+    #[error("{0}")]
+    Items(ItemsFault),
+    /// An item of the update has a name outside the zone (`NotZone`), or is a prerequisite that does not hold.
+    #[error("item {item} of the update is refused: {}", .code.text())]
+    Unmet {
+        /// The code of the reply (RFC 2136 section 2.2).
+        code: Rcode,
+        /// The number of the item in its list, from 0.
+        item: usize,
+    },
 }
 
 impl Refusal {
-    /// The published number of the refusal. The numbers of what it stands for are those of its own fault.
+    /// The published number of the refusal, and that of the code where an item is refused. The numbers of what it stands for are
+    /// those of its own fault.
     pub const fn number(self) -> u8
         ensures { result ≡ refusal_number self }
     {
@@ -50,9 +66,12 @@ impl Refusal {
             Refusal::TypeNotKept => 17,
             Refusal::NoCaller | Refusal::NoAction => 54,
             Refusal::TooLarge => 30,
+            Refusal::NoDivider => 96,
             Refusal::Master(fault) => fault.number(),
             Refusal::Zone(fault) => fault.number(),
             Refusal::Policy(fault) => fault.number(),
+            Refusal::Items(fault) => fault.number(),
+            Refusal::Unmet { code, .. } => code.number(),
         }
     }
 
@@ -63,6 +82,7 @@ impl Refusal {
         match self {
             Refusal::TooLarge => Some(0),
             Refusal::Master(fault) => fault.line(),
+            Refusal::Items(fault) => fault.line(),
             _ => None,
         }
     }
@@ -131,7 +151,8 @@ impl Display for Numbers {
     }
 }
 
-/// The line that tells a refusal: `refused`, its numbers, and the line that it is in where there is one.
+/// The line that tells a refusal: `refused`, its numbers, and the line that it is in where there is one; or the code and the
+/// number of an item.
 #[derive(Clone, Copy)]
 pub struct RefusalLine(pub Refusal);
 
@@ -139,6 +160,9 @@ impl Display for RefusalLine {
     ghost output = { λ l. Some (told_refusal l.0) };
 
     fn fmt<W: Write>(&self, f: &mut Formatter<W>) -> fmt::Result {
+        if let Refusal::Unmet { code, item } = self.0 {
+            return writeln!(f, "refused {} item {item}", code.text());
+        }
         match self.0.place() {
             None => writeln!(f, "refused {}", Numbers(self.0)),
             Some(line) => writeln!(f, "refused {} line {line}", Numbers(self.0)),

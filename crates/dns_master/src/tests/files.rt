@@ -593,29 +593,32 @@ fn sizes(rt: HostRuntime) -> Result<(), Fail> {
     Ok(())
 }
 
+/// A record whose data are one string of so many octets.
+fn text_of_one_string(alloc: Global, octets: usize) -> Result<String, AllocError> {
+    let mut text = String::new(alloc);
+    text.push_str("t 1 TXT ")?;
+    for _ in 0..octets {
+        text.push_str("\\000")?;
+    }
+    Ok(text)
+}
+
 #[test]
 fn long_strings(rt: HostRuntime) -> Result<(), Fail> {
     let alloc = rt.alloc();
-    let mut text = String::new(alloc);
-    text.push_str("t 1 TXT ")?;
-    for _ in 0..255 {
-        text.push_str("\\000")?;
-    }
-    match listed(alloc, "example.org.", text.as_bytes())? {
+    let longest = text_of_one_string(alloc, 255)?;
+    match listed(alloc, "example.org.", longest.as_bytes())? {
         Ok(got) => assert!(rt; got.len() == 1047, "255 octets"),
         Err(fault) => assert!(rt; false, "255 octets: {fault}"),
     }
-    text.push_str("\\000")?;
-    match listed(alloc, "example.org.", text.as_bytes())? {
+    let too_long = MasterFault::Data {
+        line: 1,
+        fault: DataFault::StringTooLong,
+    };
+    let longer = text_of_one_string(alloc, 256)?;
+    match listed(alloc, "example.org.", longer.as_bytes())? {
         Ok(_) => assert!(rt; false, "256 octets"),
-        Err(fault) => assert!(rt;
-            fault
-                == MasterFault::Data {
-                    line: 1,
-                    fault: DataFault::StringTooLong
-                },
-            "{fault}"
-        ),
+        Err(fault) => assert!(rt; fault == too_long, "{fault}"),
     }
     Ok(())
 }

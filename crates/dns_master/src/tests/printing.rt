@@ -2,7 +2,7 @@
 
 ghost use Rattle.std.specs.Prelude.{◌≡◌, ◌<◌};
 
-use crate::{Counted, MasterFault, Pieces, print_zone, read_file};
+use crate::{Counted, MasterFault, Pieces, print_records, print_zone, read_file};
 use dns_data::Record;
 use dns_names::Name;
 use std::alloc::{AllocError, Global};
@@ -45,6 +45,24 @@ fn written<L: Ledger>(
     (sink.into_inner().octets, done)
 }
 
+/// What a writer takes of records alone, in such a manner.
+fn lines_written<L: Ledger>(
+    alloc: Global,
+    records: &[Record],
+    manner: (usize, usize),
+    blank: Blank,
+) -> (Vec<u8>, Result<(), MasterFault>)
+    requires name { blank.name ≡ L.name }
+    requires parts { blank.parts ≡ L.parts }
+    requires some { 0 < blank.parts }
+{
+    let (most, fails) = manner;
+    let pieces = Pieces::new(Vec::new(alloc), most, fails);
+    let mut sink: Counted<Pieces, L> = Counted::new(pieces, blank);
+    let done = print_records(alloc, records, &mut sink);
+    (sink.into_inner().octets, done)
+}
+
 /// A zone, and how it is printed.
 const ZONE: &str = "\
 @ IN SOA VENERA Action\\.domains (
@@ -60,6 +78,7 @@ VENERA A 10.1.0.52
        A 128.9.0.32
 ";
 
+/// The line of the origin has 17 octets.
 const PRINTED: &str = "\
 $ORIGIN isi.edu.
 isi.edu. 60 IN SOA venera.isi.edu. action\\.domains.isi.edu. 20 7200 600 3600000 60
@@ -115,6 +134,34 @@ fn failed_writes(rt: HostRuntime) -> Result<(), Fail> {
         assert!(rt; got.as_slice() == &PRINTED.as_bytes()[..want], "{why}");
         assert!(rt; done == Err(MasterFault::WriteFailed), "{why}");
     }
+    Ok(())
+}
+
+#[test]
+fn records_alone(rt: HostRuntime) -> Result<(), Fail> {
+    let alloc = rt.alloc();
+    let origin = name(alloc, "isi.edu.")?;
+    let records = records(alloc, &origin, ZONE.as_bytes())?;
+    let lines = &PRINTED.as_bytes()[17..];
+    for most in [1, 7, 100_000] {
+        let (got, done) = lines_written::<Brand>(alloc, &records, (most, 0), Blank::new(1));
+        assert!(rt; got.as_slice() == lines, "pieces of {most}");
+        assert!(rt; done == Ok(()), "pieces of {most}");
+    }
+    for fails in 1..4 {
+        let (got, done) = lines_written::<Brand>(alloc, &records, (7, fails), Blank::new(1));
+        assert!(rt;
+            got.as_slice() == &lines[..(fails - 1) * 7],
+            "write {fails} fails"
+        );
+        assert!(rt;
+            done == Err(MasterFault::WriteFailed),
+            "write {fails} fails"
+        );
+    }
+    let (got, done) = lines_written::<Brand>(alloc, &[], (7, 1), Blank::new(1));
+    assert!(rt; got.is_empty(), "no record");
+    assert!(rt; done == Ok(()), "no record");
     Ok(())
 }
 

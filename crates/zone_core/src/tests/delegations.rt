@@ -1,7 +1,9 @@
 //! Delegations that are made, and those that are reported.
 
 use super::{name, update_of, zone_with};
-use crate::{ChildServer, DelegationRequest, Glue, cuts, delegation_report, delegation_update};
+use crate::{
+    ChildServer, DelegationRequest, Glue, Zone, cuts, delegation_report, delegation_update,
+};
 use dns_data::Ttl;
 use std::alloc::Global;
 use std::test::Fail;
@@ -156,26 +158,76 @@ fn glue(glue: Glue) -> &'static str {
     }
 }
 
+/// The report of a zone's delegations: children with a bar between them, each with its servers and their glue.
+fn report_text(alloc: Global, zone: &Zone) -> Result<String, Fail> {
+    let mut text = String::new(alloc);
+    let report = delegation_report(alloc, zone.origin(), zone.records())?;
+    for (i, delegation) in report.iter().enumerate() {
+        if i > 0 {
+            text.push_str("|")?;
+        }
+        text.push_str(delegation.child.text(alloc)?.as_str())?;
+        for server in &delegation.servers {
+            let name = server.name.text(alloc)?;
+            write!(text, " {} {}", name.as_str(), glue(server.glue))?;
+        }
+    }
+    Ok(text)
+}
+
 #[test]
 fn delegations_that_are_reported(rt: HostRuntime) -> Result<(), Fail> {
     let alloc = rt.alloc();
     for (more, want, why) in REPORTS {
         let zone = zone_with(alloc, more)?;
-        let report = delegation_report(alloc, zone.origin(), zone.records())?;
-        let mut text = String::new(alloc);
-        for (i, delegation) in report.iter().enumerate() {
-            if i > 0 {
-                text.push_str("|")?;
-            }
-            text.push_str(delegation.child.text(alloc)?.as_str())?;
-            for server in &delegation.servers {
-                let name = server.name.text(alloc)?;
-                write!(text, " {} {}", name.as_str(), glue(server.glue))?;
-            }
-        }
+        let text = report_text(alloc, &zone)?;
         assert_eq!(rt; text.as_str(), want, "{why}");
+        let children = text.split('|').filter(|child| !child.is_empty()).count();
         let names = cuts(alloc, zone.origin(), zone.records())?;
-        assert_eq!(rt; names.len(), report.len(), "{why}");
+        assert_eq!(rt; names.len(), children, "{why}");
+    }
+    Ok(())
+}
+
+/// Delegations, and the order of their children or servers in the report (RFC 4034 section 6.1).
+const REPORTS_IN_ORDER: [(&[&str], &str, &str); 3] = [
+    (
+        &[
+            "a.b.example.org. 60 NS a.",
+            "aa.example.org. 60 NS a.",
+            "b.example.org. 60 NS a.",
+            "z.a.example.org. 60 NS a.",
+        ],
+        "z.a.example.org. a. outside|aa.example.org. a. outside|b.example.org. a. outside|a.b.example.org. a. outside",
+        "children by their labels from the right",
+    ),
+    (
+        &[
+            "p.example.org. 60 NS a.b.",
+            "p.example.org. 60 NS ns.b.",
+            "p.example.org. 60 NS z.a.",
+            "p.example.org. 60 NS b.",
+        ],
+        "p.example.org. z.a. outside b. outside a.b. outside ns.b. outside",
+        "servers by their labels from the right",
+    ),
+    (
+        &[
+            "B.example.org. 60 NS A.",
+            "b.example.org. 60 NS a.",
+            "a.example.org. 60 NS b.",
+        ],
+        "a.example.org. b. outside|b.example.org. a. outside",
+        "each once, whatever the letter case",
+    ),
+];
+
+#[test]
+fn reports_in_canonical_order(rt: HostRuntime) -> Result<(), Fail> {
+    let alloc = rt.alloc();
+    for (more, want, why) in REPORTS_IN_ORDER {
+        let zone = zone_with(alloc, more)?;
+        assert_eq!(rt; report_text(alloc, &zone)?.as_str(), want, "{why}");
     }
     Ok(())
 }

@@ -9,100 +9,109 @@ use std::alloc::{AllocError, Global};
 use std::slice;
 use std::test::Fail;
 
+/// What prerequisites come to in the zone of the examples: the prerequisites; the code and the item of the first that fails,
+/// if there is one; the reason.
+type VerdictRow = (
+    &'static [&'static str],
+    Option<(&'static str, usize)>,
+    &'static str,
+);
+
+const VERDICTS: [VerdictRow; 16] = [
+    (&[], None, "no prerequisite"),
+    (&["rrset-exists example.org. NS"], None, "a set that exists"),
+    (
+        &["rrset-exists example.org. A"],
+        Some(("NXRRSET", 0)),
+        "one that does not",
+    ),
+    (
+        &["rrset-absent example.org. A"],
+        None,
+        "a set that is absent",
+    ),
+    (
+        &["rrset-absent example.org. NS"],
+        Some(("YXRRSET", 0)),
+        "one that is not",
+    ),
+    (&["name-used a.b.example.org."], None, "a name in use"),
+    (
+        &["name-used b.example.org."],
+        Some(("NXDOMAIN", 0)),
+        "RFC 2136 section 2.4.4: an empty non-terminal is not in use",
+    ),
+    (
+        &["name-unused b.example.org."],
+        None,
+        "a name that is not in use",
+    ),
+    (
+        &["name-unused a.b.example.org."],
+        Some(("YXDOMAIN", 0)),
+        "one that is",
+    ),
+    (
+        &[
+            "rrset-equals example.org. NS ns2.example.org.",
+            "rrset-equals example.org. NS ns1.example.org.",
+            "rrset-equals example.org. NS ns2.example.org.",
+        ],
+        None,
+        "a set in another order, with a repeat",
+    ),
+    (
+        &["rrset-equals example.org. NS ns1.example.org."],
+        Some(("NXRRSET", 0)),
+        "a part of a set",
+    ),
+    (
+        &[
+            "rrset-equals example.org. NS ns1.example.org.",
+            "rrset-equals example.org. NS ns2.example.org.",
+            "rrset-equals example.org. NS ns3.example.org.",
+        ],
+        Some(("NXRRSET", 0)),
+        "more than a set",
+    ),
+    (
+        &[
+            "rrset-equals example.org. NS ns1.example.org.",
+            "name-used b.example.org.",
+        ],
+        Some(("NXDOMAIN", 1)),
+        "tests by themselves go before sets that are given whole",
+    ),
+    (
+        &[
+            "name-used example.org.",
+            "rrset-equals a.b.example.org. A 192.0.2.9",
+            "rrset-equals example.org. NS ns1.example.org.",
+        ],
+        Some(("NXRRSET", 1)),
+        "the first item of the sets that are given whole",
+    ),
+    (
+        &[
+            "rrset-exists example.org. NS",
+            "name-unused b.example.org.",
+            "rrset-absent example.org. SOA",
+        ],
+        Some(("YXRRSET", 2)),
+        "the first that fails",
+    ),
+    (
+        &["name-used example.net."],
+        Some(("NXDOMAIN", 0)),
+        "a name outside the zone has no records in it",
+    ),
+];
+
 #[test]
 fn prerequisites_that_hold(rt: HostRuntime) -> Result<(), Fail> {
     let alloc = rt.alloc();
     let zone = zone_with(alloc, &["a.b.example.org. 60 A 192.0.2.2"])?;
-    let rows: [(&[&str], Option<(&str, usize)>, &str); 16] = [
-        (&[], None, "no prerequisite"),
-        (&["rrset-exists example.org. NS"], None, "a set that exists"),
-        (
-            &["rrset-exists example.org. A"],
-            Some(("NXRRSET", 0)),
-            "one that does not",
-        ),
-        (
-            &["rrset-absent example.org. A"],
-            None,
-            "a set that is absent",
-        ),
-        (
-            &["rrset-absent example.org. NS"],
-            Some(("YXRRSET", 0)),
-            "one that is not",
-        ),
-        (&["name-used a.b.example.org."], None, "a name in use"),
-        (
-            &["name-used b.example.org."],
-            Some(("NXDOMAIN", 0)),
-            "RFC 2136 section 2.4.4: an empty non-terminal is not in use",
-        ),
-        (
-            &["name-unused b.example.org."],
-            None,
-            "a name that is not in use",
-        ),
-        (
-            &["name-unused a.b.example.org."],
-            Some(("YXDOMAIN", 0)),
-            "one that is",
-        ),
-        (
-            &[
-                "rrset-equals example.org. NS ns2.example.org.",
-                "rrset-equals example.org. NS ns1.example.org.",
-                "rrset-equals example.org. NS ns2.example.org.",
-            ],
-            None,
-            "a set in another order, with a repeat",
-        ),
-        (
-            &["rrset-equals example.org. NS ns1.example.org."],
-            Some(("NXRRSET", 0)),
-            "a part of a set",
-        ),
-        (
-            &[
-                "rrset-equals example.org. NS ns1.example.org.",
-                "rrset-equals example.org. NS ns2.example.org.",
-                "rrset-equals example.org. NS ns3.example.org.",
-            ],
-            Some(("NXRRSET", 0)),
-            "more than a set",
-        ),
-        (
-            &[
-                "rrset-equals example.org. NS ns1.example.org.",
-                "name-used b.example.org.",
-            ],
-            Some(("NXDOMAIN", 1)),
-            "tests by themselves go before sets that are given whole",
-        ),
-        (
-            &[
-                "name-used example.org.",
-                "rrset-equals a.b.example.org. A 192.0.2.9",
-                "rrset-equals example.org. NS ns1.example.org.",
-            ],
-            Some(("NXRRSET", 1)),
-            "the first item of the sets that are given whole",
-        ),
-        (
-            &[
-                "rrset-exists example.org. NS",
-                "name-unused b.example.org.",
-                "rrset-absent example.org. SOA",
-            ],
-            Some(("YXRRSET", 2)),
-            "the first that fails",
-        ),
-        (
-            &["name-used example.net."],
-            Some(("NXDOMAIN", 0)),
-            "a name outside the zone has no records in it",
-        ),
-    ];
-    for (tests, want, why) in rows {
+    for (tests, want, why) in VERDICTS {
         let update = update_with(alloc, tests, &[])??;
         match (holds(&zone, &update), want) {
             (Ok(()), None) => {}
@@ -116,52 +125,65 @@ fn prerequisites_that_hold(rt: HostRuntime) -> Result<(), Fail> {
     Ok(())
 }
 
+/// An operation that adds an SOA.
+const SOA_IS_ADDED: &str = "add example.org. 60 SOA a. b. 8 1 1 1 1";
+
+/// The number of the refusal of an update, if it is refused.
+fn refusal(alloc: Global, tests: &[&str], acts: &[&str]) -> Result<Option<u8>, Fail> {
+    Ok(
+        update_with(alloc, tests, acts)?
+            .err()
+            .map(|fault| fault.number()),
+    )
+}
+
 #[test]
 fn updates_that_are_built(rt: HostRuntime) -> Result<(), Fail> {
     let alloc = rt.alloc();
-    let soa = "add example.org. 60 SOA a. b. 8 1 1 1 1";
-    assert_eq!(rt;
-        update_with(alloc, &[], &[soa, soa])?
-            .err()
-            .map(|fault| fault.number()),
-        Some(92)
-    );
-    assert!(rt; update_with(alloc, &[], &[soa])?.is_ok());
+    let soa = SOA_IS_ADDED;
     let test = "name-used a.";
     let act = "delete-name a.";
-    assert!(rt; update_with(alloc, &[test; 64], &[act; 256])?.is_ok());
+    assert_eq!(rt; refusal(alloc, &[], &[soa])?, None, "one SOA");
     assert_eq!(rt;
-        update_with(alloc, &[test; 65], &[act])?
-            .err()
-            .map(|fault| fault.number()),
-        Some(89)
+        refusal(alloc, &[], &[soa, soa])?,
+        Some(92),
+        "two SOA records"
     );
     assert_eq!(rt;
-        update_with(alloc, &[test], &[act; 257])?
-            .err()
-            .map(|fault| fault.number()),
-        Some(89)
+        refusal(alloc, &[test; 64], &[act; 256])?,
+        None,
+        "the most prerequisites and operations"
     );
+    assert_eq!(rt;
+        refusal(alloc, &[test; 65], &[act])?,
+        Some(89),
+        "a prerequisite more"
+    );
+    assert_eq!(rt;
+        refusal(alloc, &[test], &[act; 257])?,
+        Some(89),
+        "an operation more"
+    );
+    Ok(())
+}
+
+#[test]
+fn what_an_update_tells(rt: HostRuntime) -> Result<(), Fail> {
+    let alloc = rt.alloc();
     let origin = name(alloc, "example.org.")?;
-    let built = update_with(
-        alloc,
-        &["name-used example.org."],
-        &["delete-name a.example.org.", "delete-name example.net."],
-    )??;
+    let tests = ["name-used example.org."];
+    let acts = ["delete-name a.example.org.", "delete-name example.net."];
+    let built = update_with(alloc, &tests, &acts)??;
     let outside = Place {
         list: ItemList::Operations,
         item: 1,
     };
     assert!(rt; built.outside(&origin) == Some(outside));
     let copy = built.try_copy(alloc)?;
-    assert!(rt;
-        copy.prerequisites() == built.prerequisites() && copy.operations() == built.operations()
-    );
-    assert!(rt;
-        update_with(alloc, &["name-used a.example.org."], &[soa])??
-            .outside(&origin)
-            .is_none()
-    );
+    assert!(rt; copy.prerequisites() == built.prerequisites());
+    assert!(rt; copy.operations() == built.operations());
+    let within = update_with(alloc, &["name-used a.example.org."], &[SOA_IS_ADDED])??;
+    assert!(rt; within.outside(&origin).is_none());
     Ok(())
 }
 

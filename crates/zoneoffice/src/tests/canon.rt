@@ -1,20 +1,11 @@
 //! Zones in canonical form. The expected texts are written by hand, by RFC 1035 section 5.1 and the record order.
 
-use crate::answer;
+use super::{Manner, SOUND, written};
 use crate::canon::Canon;
 use crate::line_fault::{JobFault, LineFault};
 use crate::refusal::Refusal;
-use dns_master::Pieces;
 use std::alloc::{AllocError, Global};
-use std::marker::Brand;
-use std::sync::ledger::Blank;
 use std::test::Fail;
-
-/// The most octets that a device moves in a call, and the number of the call that fails, from 1, or 0.
-type Manner = (usize, usize);
-
-/// A device that never fails.
-const SOUND: Manner = (4096, 0);
 
 /// What `canon` writes for the word of an origin and an input, and how it went.
 fn printed(
@@ -24,19 +15,7 @@ fn printed(
     reading: Manner,
     writing: Manner,
 ) -> Result<(Vec<u8>, Result<(), JobFault>), AllocError> {
-    let (most, fails) = reading;
-    let reader = Pieces::new(Vec::from_slice(alloc, input)?, most, fails);
-    let (most, fails) = writing;
-    let page = Pieces::new(Vec::new(alloc), most, fails);
-    let (page, done) = answer::<_, _, _, Brand, Brand>(
-        alloc,
-        Canon { origin },
-        reader,
-        page,
-        Blank::new(1),
-        Blank::new(1),
-    );
-    Ok((page.octets, done))
+    written(alloc, Canon { origin }, input, reading, writing)
 }
 
 /// The master file of RFC 1035 section 5.3, and a few lines more.

@@ -1,12 +1,9 @@
 //! Questions to a policy: what is decided is taken from the policy by hand.
 
-use crate::answer;
+use super::SOUND;
 use crate::line_fault::{JobFault, LineFault};
 use crate::rights::QuestionWords;
-use dns_master::Pieces;
 use std::alloc::{AllocError, Global};
-use std::marker::Brand;
-use std::sync::ledger::Blank;
 use std::test::Fail;
 
 /// A policy of four rules.
@@ -26,18 +23,7 @@ fn written(
     policy: &str,
     fails: usize,
 ) -> Result<(Vec<u8>, Result<(), JobFault>), AllocError> {
-    let octets = Vec::from_slice(alloc, policy.as_bytes())?;
-    let reader = Pieces::new(octets, 4096, fails);
-    let page = Pieces::new(Vec::new(alloc), 4096, 0);
-    let (page, done) = answer::<_, _, _, Brand, Brand>(
-        alloc,
-        words,
-        reader,
-        page,
-        Blank::new(1),
-        Blank::new(1),
-    );
-    Ok((page.octets, done))
+    super::written(alloc, words, policy.as_bytes(), (4096, fails), SOUND)
 }
 
 /// Words, and what is written: caller, name, type, action, line, and why.

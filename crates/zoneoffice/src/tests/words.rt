@@ -16,46 +16,57 @@ fn words<'a>(alloc: Global, text: &'a str) -> Result<Vec<&'a str>, Fail> {
     Ok(words)
 }
 
+/// What the words of the rows ask of a policy.
+const ASKED: QuestionWords<'_> = QuestionWords {
+    caller: "c",
+    name: "n.",
+    record_type: "A",
+    action: "add",
+};
+
+/// Words, the job that they ask for, and the reason.
+type JobRow = (&'static str, Job<'static>, &'static str);
+
+const JOBS: [JobRow; 7] = [
+    ("", Job::Apply, "no word"),
+    ("apply", Job::Apply, "its name"),
+    (
+        "canon|--origin|o.",
+        Job::Canon { origin: "o." },
+        "an option",
+    ),
+    (
+        "canon|--origin=o.",
+        Job::Canon { origin: "o." },
+        "with a sign between",
+    ),
+    (
+        "canon|--origin|",
+        Job::Canon { origin: "" },
+        "a word without an octet",
+    ),
+    (
+        "rights|--policy|p q|--caller|c|n.|A|add",
+        Job::Rights {
+            policy: "p q",
+            asked: ASKED,
+        },
+        "options first",
+    ),
+    (
+        "rights|n.|A|--caller|c|add|--policy|p q",
+        Job::Rights {
+            policy: "p q",
+            asked: ASKED,
+        },
+        "options between",
+    ),
+];
+
 #[test]
 fn jobs(rt: HostRuntime) -> Result<(), Fail> {
     let alloc = rt.alloc();
-    let asked = QuestionWords {
-        caller: "c",
-        name: "n.",
-        record_type: "A",
-        action: "add",
-    };
-    let policy = "p q";
-    let rows = [
-        ("", Job::Apply, "no word"),
-        ("apply", Job::Apply, "its name"),
-        (
-            "canon|--origin|o.",
-            Job::Canon { origin: "o." },
-            "an option",
-        ),
-        (
-            "canon|--origin=o.",
-            Job::Canon { origin: "o." },
-            "with a sign between",
-        ),
-        (
-            "canon|--origin|",
-            Job::Canon { origin: "" },
-            "a word without an octet",
-        ),
-        (
-            "rights|--policy|p q|--caller|c|n.|A|add",
-            Job::Rights { policy, asked },
-            "options first",
-        ),
-        (
-            "rights|n.|A|--caller|c|add|--policy|p q",
-            Job::Rights { policy, asked },
-            "options between",
-        ),
-    ];
-    for (text, want, why) in rows {
+    for (text, want, why) in JOBS {
         let words = words(alloc, text)?;
         match read_words(alloc, &words) {
             Ok(job) => assert!(rt; job == want, "{why}"),

@@ -1,56 +1,41 @@
-use Rattle.std.proofs.Common.{◌≡◌, List, sym, subst, ◌∙◌}
-use Rattle.dns_data.specs.declared.record.Record.{Record}
+use Rattle.std.proofs.Common.{◌≡◌, refl, sym, subst, ◌∙◌}
 use Rattle.zone_core.specs.Sets.{minus, AreRows}
 use Rattle.zone_core.specs.Zones.{ZoneOf, IsZone}
-use Rattle.zone_core.specs.Updates.{UpdateOf, IsUpdate, ActsWithin}
 use Rattle.zone_core.specs.Accounts.{Leaves}
-use Rattle.zone_core.specs.Changes.{changed, FitsIn}
 use Rattle.zone_core.specs.Effects.{zone_after}
 use Rattle.zone_core.specs.Versions.{Advances}
-use Rattle.zone_core.proofs.ChangedLemmas.{changes_fit, change_makes}
+use Rattle.zone_core.proofs.ChangedLemmas.{zone_fits, zone_gives, zone_made}
 use Rattle.zone_core.proofs.LeaveLemmas.{updates_leave, updates_advance}
 use Rattle.zone_core.proofs.VersionLemmas.{updates_keep}
 use Rattle.zone_core.proofs.outcome.apply_owned.Goals as goal
 
-module _ (before : ZoneOf) (update : UpdateOf) (was : IsZone before) (is_update : IsUpdate update) (acts : ActsWithin before.origin update) (removed added gone come : List Record) (same : removed ≡ gone) (also : added ≡ come) (gone_are : AreRows gone (minus before.records (zone_after before update).records)) (come_are : AreRows come (minus (zone_after before update).records before.records)) where
-  is : IsZone (zone_after before update)
-  is = updates_keep before update was is_update acts
-
-  removed_are : AreRows removed (minus before.records (zone_after before update).records)
-  removed_are = subst (λ rs. AreRows rs (minus before.records (zone_after before update).records)) (sym same) gone_are
-
-  added_are : AreRows added (minus (zone_after before update).records before.records)
-  added_are = subst (λ rs. AreRows rs (minus (zone_after before update).records before.records)) (sym also) come_are
-
-  fits : FitsIn before.records removed added
-  fits = changes_fit before.records (zone_after before update).records was.kept is.kept removed added removed_are added_are
-
-  gives : record before { records = changed before.records removed added } ≡ zone_after before update
-  gives =
-      let e = change_makes before.records (zone_after before update).records was.kept is.kept removed added removed_are added_are in
-      λ i. record before { records = e i }
-
-  makes_zone : IsZone (record before { records = changed before.records removed added })
-  makes_zone = subst IsZone (sym gives) is
-
 pub changed-requires-clause-fits : goal.changed-requires-clause-fits
 changed-requires-clause-fits c =
+    let before = c.args.zone in
+    let after : ZoneOf = zone_after before c.args.update.now in
     let made = c.in_ok-change.ensures in
-    let change = c.in_ok-change.change in
-    fits c.args.zone c.args.update.now made.zone made.update c.requires c.deref.result.now c.deref-2.result.now change.removed.items change.added.items c.deref.ensures.value c.deref-2.ensures.value made.removed made.added
+    zone_fits before after made.zone (updates_keep before c.args.update.now made.zone made.update c.requires) refl c.deref.result.now c.deref-2.result.now
+    (subst (λ rs. AreRows rs (minus before.records after.records)) (sym c.deref.ensures.value) made.removed)
+    (subst (λ rs. AreRows rs (minus after.records before.records)) (sym c.deref-2.ensures.value) made.added)
 
 pub changed-requires-clause-zone : goal.changed-requires-clause-zone
 changed-requires-clause-zone c =
+    let before = c.args.zone in
+    let after : ZoneOf = zone_after before c.args.update.now in
     let made = c.in_ok-change.ensures in
-    let change = c.in_ok-change.change in
-    makes_zone c.args.zone c.args.update.now made.zone made.update c.requires c.deref.result.now c.deref-2.result.now change.removed.items change.added.items c.deref.ensures.value c.deref-2.ensures.value made.removed made.added
+    zone_made before after made.zone (updates_keep before c.args.update.now made.zone made.update c.requires) refl c.deref.result.now c.deref-2.result.now
+    (subst (λ rs. AreRows rs (minus before.records after.records)) (sym c.deref.ensures.value) made.removed)
+    (subst (λ rs. AreRows rs (minus after.records before.records)) (sym c.deref-2.ensures.value) made.added)
 
 zone_is : (c : goal.In_ok-after) → c.in_ok-after.after ≡ zone_after c.args.zone c.args.update.now
 zone_is c =
+    let before = c.args.zone in
+    let after : ZoneOf = zone_after before c.args.update.now in
     let made = c.in_ok-change.ensures in
-    let change = c.in_ok-change.change in
     c.in_ok-after.ensures
-    ∙ gives c.args.zone c.args.update.now made.zone made.update c.requires c.deref.result.now c.deref-2.result.now change.removed.items change.added.items c.deref.ensures.value c.deref-2.ensures.value made.removed made.added
+    ∙ zone_gives before after made.zone (updates_keep before c.args.update.now made.zone made.update c.requires) refl c.deref.result.now c.deref-2.result.now
+    (subst (λ rs. AreRows rs (minus before.records after.records)) (sym c.deref.ensures.value) made.removed)
+    (subst (λ rs. AreRows rs (minus after.records before.records)) (sym c.deref-2.ensures.value) made.added)
 
 pub returns-clause-zone : goal.returns-clause-zone
 returns-clause-zone c = zone_is c

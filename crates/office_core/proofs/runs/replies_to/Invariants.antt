@@ -1,0 +1,12 @@
+use Rattle.std.proofs.Common.{◌≡◌, ◌≤◌, length, take, vec_len}
+use Rattle.std.specs.Vec.{vec_capacity}
+use Rattle.office_core.specs.States.{State}
+use Rattle.office_core.specs.Runs.{IsRun}
+use Rattle.office_core.proofs.runs.replies_to.Given as goal
+
+abbrev pub invariant-loop-call : goal.invariant-loop-call
+invariant-loop-call g l = record {
+  len : vec_len l.replies ≡ l.call-index;
+  room : length l.calls ≤ vec_capacity l.replies;
+  run : g.T.ZoneTable.is_honest l.table → (s : State) → g.T.ZoneTable.holds l.fn.table s → IsRun (g.T.ZoneTable.holds l.table) l.policy s (take l.call-index l.calls) l.replies.items;
+}

@@ -1,0 +1,18 @@
+use Rattle.office_core.specs.Runs.{IsRun, kept, given}
+use Rattle.office_core.specs.Promises.{CallsAreRight}
+use Rattle.office_core.specs.Isolation.{AreToldAlone}
+use Rattle.office_core.proofs.AloneLemmas.{run_alone, run_right, of_ok, all_ok}
+use Rattle.office_core.proofs.runs.run.Goals as goal
+
+pub returns-clause-promises : goal.returns-clause-promises
+returns-clause-promises g c honest s holds receipts =
+    all_ok (λ replies. CallsAreRight c.args.policy.now s (kept c.args.calls.now replies.items))
+    (λ replies. run_right c.args.policy.now s c.args.calls.now replies.items (g.met.T.ZoneTable.zones c.args.table.now s holds) receipts c.notes_calls.ensures)
+    c.replies_to.result
+
+pub returns-clause-alone : goal.returns-clause-alone
+returns-clause-alone g c honest s holds =
+    of_ok (λ replies. IsRun (g.T.ZoneTable.holds c.replies_to.new.table) c.args.policy.now s c.args.calls.now replies.items)
+    (λ replies. AreToldAlone c.args.policy.now s (kept c.args.calls.now replies.items) (given c.args.calls.now replies.items))
+    (λ replies run. run_alone (g.T.ZoneTable.holds c.replies_to.new.table) c.args.policy.now s c.args.calls.now replies.items (g.met.T.ZoneTable.zones c.args.table.now s holds) c.notes_calls.ensures run)
+    c.replies_to.result (c.replies_to.ensures.run honest s holds)

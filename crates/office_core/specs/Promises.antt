@@ -1,0 +1,172 @@
+-- What the office promises of each request and of all of them, in words of its policy and its zones.
+use Rattle.std.specs.Prelude.{◌≡◌, ◌≢◌, ◌⊎◌, ◌↔◌, ℕ, List, [], ◌∷◌, ◌++◌, Some, None}
+use Rattle.std.specs.List.{Contains, fold}
+use Rattle.dns_data.specs.declared.record.Record.{Record}
+use Rattle.dns_data.specs.declared.record_type.RecordType.TheVariants as types
+use Rattle.dns_data.specs.Rdata.{type_of}
+use Rattle.grant_policy.specs.declared.action.Action.TheVariants as action
+use Rattle.grant_policy.specs.declared.rule.Rule.{Rule}
+use Rattle.zone_core.specs.Sets.{Records, InOrder, IsIn, listing, minus}
+use Rattle.zone_core.specs.Zones.{AreKept, soa_at}
+use Rattle.zone_core.specs.Updates.{UpdateOf, ActsWithin}
+use Rattle.zone_core.specs.Met.{AreMet}
+use Rattle.zone_core.specs.Effects.{next_version, zone_after}
+use Rattle.zone_core.specs.Versions.{Advances}
+use Rattle.zone_core.specs.Changes.{changed}
+use Rattle.office_core.specs.declared.receipt.Receipt.{Receipt}
+use Rattle.office_core.specs.declared.reply.UpdateReply.{UpdateReply}
+use Rattle.office_core.specs.declared.reply.UpdateReply.TheVariants.{NoError, Refused}
+use Rattle.office_core.specs.declared.request.Call.{Call}
+use Rattle.office_core.specs.declared.request.Request.{Request}
+use Rattle.office_core.specs.declared.request.Request.TheVariants as requests
+use Rattle.office_core.specs.Footprints.{Point, footprint}
+use Rattle.office_core.specs.Permissions.{DenialOf, IsGranted, IsPermitted, IsFirstDenial}
+use Rattle.office_core.specs.Replies.{ReplyOf, to_update, id_reused}
+use Rattle.office_core.specs.States.{ChangeOf, Held, State, AreZones, AreReceipts, zone_held}
+use Rattle.office_core.specs.Machine.{Turn, listed, change_of, receipt}
+use Rattle.office_core.specs.Runs.{HaveUpdates, turn, state_after}
+
+-- ---- updates that are made
+
+-- An update is made: its identifier is new to the caller, its zone is there, its names are within the zone, the policy permits it,
+-- and its prerequisites are met.
+pub record IsMade (rules : List Rule) (s : State) (caller id : List ℕ) (origin : List (List ℕ)) (update : UpdateOf) (held : Held) : Type 0 where
+  pub fresh : s.receipts caller id ≡ None
+  pub there : s.zones origin ≡ Some held
+  pub inside : ActsWithin origin update
+  pub permitted : IsPermitted rules caller origin update
+  pub met : AreMet held.records update.prerequisites
+
+-- the office's own change: the SOA at the origin, whose serial is one further
+pub record IsAdvance (origin : List (List ℕ)) (before after : Records) (r : Record) : Type 0 where
+  pub type : type_of r.rdata ≡ types.Soa
+  pub owner : r.owner ≡ origin
+  pub next : (soa : Record) × (soa_at origin before ≡ Some soa) × (soa_at origin after ≡ Some (next_version soa))
+
+-- a record went or came, its TTL counted
+abbrev pub HasMoved : Records → Records → Record → Type 0
+HasMoved before after r = IsIn r (minus before after) ⊎ IsIn r (minus after before)
+
+-- an update asks for an action with the records of this owner and type, and the policy grants it
+pub record IsAskedAndGranted (rules : List Rule) (caller : List ℕ) (origin : List (List ℕ)) (update : UpdateOf) (r : Record) : Type 0 where
+  pub point : Point
+  pub asked : Contains (footprint origin update) point
+  pub name : point.name ≡ r.owner
+  pub record_type : point.record_type ≡ type_of r.rdata
+  pub granted : IsGranted rules caller point.name point.record_type point.action
+
+-- the changes of a zone after one: where nothing moved they are those before, and else there is one more, with all that did
+abbrev pub IsNoted : Held → Held → Type 0
+IsNoted before after =
+    ((after.records ≡ before.records) × (after.changes ≡ before.changes))
+    ⊎ ((after.records ≢ before.records) × (after.changes ≡ before.changes ++ change_of before.records after.records ∷ []))
+
+-- An update that is made is made whole: the zone after it is that of the standard (RFC 2136 section 3.4), whose serial is greater if
+-- anything has changed (RFC 1982), and no other zone has changed; what moved was granted; and it is noted.
+pub record IsWhole (rules : List Rule) (s : State) (caller : List ℕ) (origin : List (List ℕ)) (update : UpdateOf) (held : Held) (made : Turn) : Type 0 where
+  pub reply : made.reply ≡ to_update NoError
+  pub after : Held
+  pub there : made.after.zones origin ≡ Some after
+  pub zone : zone_held origin after ≡ zone_after (zone_held origin held) update
+  pub others : (o : List (List ℕ)) → o ≢ origin → made.after.zones o ≡ s.zones o
+  pub serial : Advances (zone_held origin held) update (zone_held origin after)
+  pub moved : (r : Record) → HasMoved held.records after.records r → IsAdvance origin held.records after.records r ⊎ IsAskedAndGranted rules caller origin update r
+  pub noted : IsNoted held after
+
+-- ---- updates that are refused
+
+-- an update reaches the policy: its identifier is new, its zone is there, and its names are within it
+pub record IsJudged (s : State) (caller id : List ℕ) (origin : List (List ℕ)) (update : UpdateOf) : Type 0 where
+  pub fresh : s.receipts caller id ≡ None
+  pub held : Held
+  pub there : s.zones origin ≡ Some held
+  pub inside : ActsWithin origin update
+
+-- a reply tells this denial
+abbrev pub tells : DenialOf → ReplyOf
+tells denial = to_update (Refused denial.place denial.by)
+
+-- ---- a request
+
+-- What is promised of an update. A denial names the first point that is not granted, with the rule that denies it, or none where
+-- the closing default does.
+pub record UpdateIsRight (rules : List Rule) (s : State) (caller id : List ℕ) (origin : List (List ℕ)) (update : UpdateOf) (done : Turn) : Type 0 where
+  -- it is made exactly where it may be, and then whole
+  pub whole : (held : Held) → IsMade rules s caller id origin update held → IsWhole rules s caller origin update held done
+  pub only : s.receipts caller id ≡ None → done.reply ≡ to_update NoError → (held : Held) × IsMade rules s caller id origin update held
+  -- it is refused exactly where the policy denies a point of it
+  pub denied : s.receipts caller id ≡ None → (denial : DenialOf)
+      → (done.reply ≡ tells denial) ↔ (IsJudged s caller id origin update × IsFirstDenial rules caller (footprint origin update) denial)
+  -- a repeated one is told the reply that was kept, and another one under its identifier so
+  pub repeated : (kept : Receipt) → s.receipts caller id ≡ Some kept
+      → (done.after ≡ s) × (((kept.origin ≡ origin) × (kept.update ≡ update) × (done.reply ≡ to_update kept.reply))
+      ⊎ (¬ ((kept.origin ≡ origin) × (kept.update ≡ update)) × (done.reply ≡ id_reused)))
+  -- the reply to one that is new is kept
+  pub kept : s.receipts caller id ≡ None
+      → (reply : UpdateReply) × (done.reply ≡ to_update reply) × (done.after.receipts caller id ≡ Some (receipt origin update reply))
+
+-- What is promised of a request: of an update the above, and any other changes nothing. A zone changes only by an update of it that
+-- is made, and no receipt is ever lost.
+abbrev pub RequestIsRight : List Rule → State → List ℕ → Request → Turn → Type 0
+RequestIsRight rules s caller (requests.Update origin id update) done = UpdateIsRight rules s caller id origin update done
+RequestIsRight rules s caller request done = done.after ≡ s
+
+-- an update of this zone is made for the call
+abbrev pub MakesUpdate : List Rule → State → List ℕ → List (List ℕ) → Request → Type 0
+MakesUpdate rules s caller zone (requests.Update origin id update) = (origin ≡ zone) × ((held : Held) × IsMade rules s caller id origin update held)
+MakesUpdate rules s caller zone request = ⊥
+
+pub record TurnIsRight (rules : List Rule) (s : State) (caller : List ℕ) (request : Request) (done : Turn) : Type 0 where
+  pub request_is_right : RequestIsRight rules s caller request done
+  pub zones_stay : (o : List (List ℕ)) → (done.after.zones o ≡ s.zones o) ⊎ MakesUpdate rules s caller o request
+  pub receipts_stay : (c i : List ℕ) (kept : Receipt) → s.receipts c i ≡ Some kept → done.after.receipts c i ≡ Some kept
+
+-- ---- lists
+
+-- A caller's list has exactly the records that it may list, in record order (RFC 4034 section 6).
+pub record IsListOf (rules : List Rule) (caller : List ℕ) (set : Records) (rs : List Record) : Type 0 where
+  pub order : InOrder rs
+  pub exactly : (r : Record) → Contains rs r ↔ (IsIn r set × IsGranted rules caller r.owner (type_of r.rdata) action.List)
+
+-- what may be listed of a set is such a list
+abbrev pub ListsAreExact : Type 0
+ListsAreExact = (rules : List Rule) (caller : List ℕ) (set : Records) → AreKept set → IsListOf rules caller set (listed rules caller (listing set))
+
+-- ---- all requests
+
+-- this update of a zone is made for the call
+abbrev pub MakesThis : List Rule → State → List ℕ → List (List ℕ) → UpdateOf → Request → Type 0
+MakesThis rules s caller zone this (requests.Update origin id update) =
+    (update ≡ this) × ((origin ≡ zone) × ((held : Held) × IsMade rules s caller id origin update held))
+MakesThis rules s caller zone this request = ⊥
+
+-- the updates of a zone that are made for calls, in order
+abbrev pub AreMade : List Rule → State → List Call → List (List ℕ) → List UpdateOf → Type 0
+AreMade rules s [] zone updates = updates ≡ []
+AreMade rules s (call ∷ calls) zone updates =
+    ((update : UpdateOf) × (others : List UpdateOf) × (updates ≡ update ∷ others)
+    × MakesThis rules s call.caller zone update call.request × AreMade rules (turn rules s call).after calls zone others)
+    ⊎ (¬ MakesUpdate rules s call.caller zone call.request × AreMade rules (turn rules s call).after calls zone updates)
+
+-- What is promised of a zone over calls: it is the zone at the start with the updates that were made of it, in order; and the
+-- changes that were noted, made to it in order, lead from the one to the other.
+pub record ZoneIsRight (rules : List Rule) (s : State) (calls : List Call) (zone : List (List ℕ)) (held : Held) : Type 0 where
+  pub after : Held
+  pub there : (state_after rules s calls).zones zone ≡ Some after
+  pub updates : List UpdateOf
+  pub are_made : AreMade rules s calls zone updates
+  pub in_order : zone_held zone after ≡ fold zone_after (zone_held zone held) updates
+  pub noted : List ChangeOf
+  pub changes : after.changes ≡ held.changes ++ noted
+  pub lead : fold (λ set c. changed set c.removed c.added) held.records noted ≡ after.records
+
+-- What is promised of calls: each is answered right, and each zone that was there is right; no zone comes or goes.
+pub record CallsAreRight (rules : List Rule) (s : State) (calls : List Call) : Type 0 where
+  pub each : (front rest : List Call) (call : Call) → calls ≡ front ++ call ∷ rest
+      → TurnIsRight rules (state_after rules s front) call.caller call.request (turn rules (state_after rules s front) call)
+  pub zones : (o : List (List ℕ)) (held : Held) → s.zones o ≡ Some held → ZoneIsRight rules s calls o held
+  pub no_other : (o : List (List ℕ)) → s.zones o ≡ None → (state_after rules s calls).zones o ≡ None
+
+-- Calls are answered right, from any state in which what is held are zones and receipts of updates.
+abbrev pub AllCallsAreRight : Type 0
+AllCallsAreRight = (rules : List Rule) (s : State) (calls : List Call) → AreZones s → AreReceipts s → HaveUpdates calls → CallsAreRight rules s calls
