@@ -41,19 +41,7 @@ pub record MemoryOf : Type 0 where
   pub zones : List HeldZone
   pub receipts : List (List ℕ × List (List ℕ × Receipt))
 
--- the maps in which it keeps receipts
-abbrev pub Receipts : Type 0
-Receipts = BTreeMap (List ℕ) (BTreeMap (List ℕ) Receipt)
-
--- their entries
-abbrev pub receipt_rows : Receipts → List (List ℕ × List (List ℕ × Receipt))
-receipt_rows receipts = map (λ e. (e.0, e.1.entries)) receipts.entries
-
--- what is found in them
-abbrev pub receipt_in : Receipts → List ℕ → List ℕ → Option Receipt
-receipt_in receipts caller id = option_and_then (λ own. get (slice_cmp nat_cmp) own id) (get (slice_cmp nat_cmp) receipts caller)
-
--- it is stored as its parts
+-- such a table is stored as its parts
 abbrev pub memory_code : Coded MemoryOf
 memory_code =
     code_by (List HeldZone × List (List ℕ × List (List ℕ × Receipt)))
@@ -76,11 +64,31 @@ held_among zones origin = option_map held_of (find (is_of origin) zones)
 abbrev pub receipt_among : List (List ℕ × List (List ℕ × Receipt)) → List ℕ → List ℕ → Option Receipt
 receipt_among receipts caller id = option_and_then (lookup (is_at (slice_cmp nat_cmp id))) (lookup (is_at (slice_cmp nat_cmp caller)) receipts)
 
--- each of them is a zone
+-- each zone is one
 abbrev pub EachIsZone : List HeldZone → Type 0
 EachIsZone zones = AllByRecursion (λ held. IsZone held.zone) zones
 
--- one of them is another thing than it was
+-- The table holds a state: what is found of each origin, and under each caller and identifier, is what the state has.
+pub record HoldsState (m : MemoryOf) (s : State) : Type 0 where
+  pub zones : (origin : List (List ℕ)) → s.zones origin ≡ held_among m.zones origin
+  pub receipts : (caller id : List ℕ) → s.receipts caller id ≡ receipt_among m.receipts caller id
+  pub are_zones : AreZones s
+
+-- ---- how it is kept
+
+-- the maps in which it keeps receipts
+abbrev pub Receipts : Type 0
+Receipts = BTreeMap (List ℕ) (BTreeMap (List ℕ) Receipt)
+
+-- their entries
+abbrev pub receipt_rows : Receipts → List (List ℕ × List (List ℕ × Receipt))
+receipt_rows receipts = map (λ e. (e.0, e.1.entries)) receipts.entries
+
+-- what is found in them
+abbrev pub receipt_in : Receipts → List ℕ → List ℕ → Option Receipt
+receipt_in receipts caller id = option_and_then (λ own. get (slice_cmp nat_cmp) own id) (get (slice_cmp nat_cmp) receipts caller)
+
+-- one of some zones is another thing than it was
 pub record IsPutAt (zones after : List HeldZone) (at : ℕ) (Becomes : HeldZone → HeldZone → Type 0) : Type 0 where
   pub held : HeldZone
   pub put : after ≡ slice_set zones at held
@@ -94,12 +102,6 @@ HoldsSame before after = (after.zone ≡ before.zone) × (after.changes.items �
 abbrev pub HoldsChange : ZoneOf → Change → HeldZone → HeldZone → Type 0
 HoldsChange zone change before after = (after.zone ≡ zone) × (after.changes.items ≡ before.changes.items ++ change ∷ [])
 
--- one of them has room for one more change
+-- one of some zones has room for one more change
 abbrev pub HasRoomAt : List HeldZone → ℕ → Type 0
 HasRoomAt zones at = (d : HeldZone) → vec_len (slice_index_or zones at d).changes < vec_capacity (slice_index_or zones at d).changes
-
--- The table holds a state: what is found of each origin, and under each caller and identifier, is what the state has.
-pub record HoldsState (m : MemoryOf) (s : State) : Type 0 where
-  pub zones : (origin : List (List ℕ)) → s.zones origin ≡ held_among m.zones origin
-  pub receipts : (caller id : List ℕ) → s.receipts caller id ≡ receipt_among m.receipts caller id
-  pub are_zones : AreZones s

@@ -1,7 +1,11 @@
 //! Worked examples: what items ask for and what a policy permits is written here by hand.
 
+mod battery;
+mod failures;
 mod footprints;
+mod isolation;
 mod permissions;
+mod turns;
 
 use super::*;
 use dns_data::{Data, Item as DataItem, Record, RecordType, Ttl, read_data};
