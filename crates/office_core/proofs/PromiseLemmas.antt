@@ -54,6 +54,13 @@ module _ (s : State) (caller id : List ℕ) (r : Receipt) where
           some_none (s.receipts c i) kept there ((λ j. s.receipts (both.0 j) (both.1 j)) ∙ fresh)
       by_test false e = there
 
+  pub keep_others : (c i : List ℕ) → ((keep s caller id r).receipts c i ≡ s.receipts c i) ⊎ ((c ≡ caller) × (i ≡ id))
+  keep_others c i = by_test (bytes_eq c caller && bytes_eq i id) refl
+    where
+      by_test : (b : Bool) → (bytes_eq c caller && bytes_eq i id) ≡ b → ((if b then Some r else s.receipts c i) ≡ s.receipts c i) ⊎ ((c ≡ caller) × (i ≡ id))
+      by_test true e = inr ((Decides-and (bytes_eq c caller) (bytes_eq i id) (bytes_eq-Decides c caller) (bytes_eq-Decides i id)).0 e)
+      by_test false e = inl refl
+
   pub keep_each : (P : Receipt → Type 0) → P r → (c i : List ℕ) (kept : Receipt) → (s.receipts c i ≡ Some kept → P kept) → (keep s caller id r).receipts c i ≡ Some kept → P kept
   keep_each P own c i kept old e = by_test (bytes_eq c caller && bytes_eq i id) e
     where
@@ -188,6 +195,14 @@ module _ (rules : List Rule) (s : State) (zones : AreZones s) (receipts : AreRec
       by_refusal (Some reply) = keep_stays s caller id (receipt origin update reply) e c i kept there
       by_refusal None = keep_stays (hold s origin (option_map (held_after origin update) (s.zones origin))) caller id (receipt origin update NoError) e c i kept there
 
+  receipts_of_others : (o : Option Receipt) → (c i : List ℕ) → ((updated rules s caller id origin update o).after.receipts c i ≡ s.receipts c i) ⊎ ((c ≡ caller) × (i ≡ id))
+  receipts_of_others (Some old) c i = inl refl
+  receipts_of_others None c i = by_refusal refused
+    where
+      by_refusal : (r : Option UpdateReply) → ((answered s caller id origin update r).after.receipts c i ≡ s.receipts c i) ⊎ ((c ≡ caller) × (i ≡ id))
+      by_refusal (Some reply) = keep_others s caller id (receipt origin update reply) c i
+      by_refusal None = keep_others (hold s origin (option_map (held_after origin update) (s.zones origin))) caller id (receipt origin update NoError) c i
+
   pub receipts_after : (o : Option Receipt) → AreReceipts (updated rules s caller id origin update o).after
   receipts_after (Some old) = receipts
   receipts_after None = by_refusal refused
@@ -206,13 +221,14 @@ step_is_right rules s zones receipts caller (requests.Update origin id update) i
       request_is_right = update_is_right rules s zones receipts caller id origin update is o refl;
       zones_stay = zones_stay rules s zones receipts caller id origin update is o refl;
       receipts_stay = receipts_stay rules s zones receipts caller id origin update is o refl;
+      receipts_of_others = receipts_of_others rules s zones receipts caller id origin update is o;
     }
-step_is_right rules s zones receipts caller (requests.List origin) is = record { request_is_right = refl; zones_stay = λ o. inl refl; receipts_stay = λ c i kept e. e }
-step_is_right rules s zones receipts caller (requests.ListWithin origin top) is = record { request_is_right = refl; zones_stay = λ o. inl refl; receipts_stay = λ c i kept e. e }
-step_is_right rules s zones receipts caller (requests.File origin) is = record { request_is_right = refl; zones_stay = λ o. inl refl; receipts_stay = λ c i kept e. e }
-step_is_right rules s zones receipts caller (requests.Delegations origin) is = record { request_is_right = refl; zones_stay = λ o. inl refl; receipts_stay = λ c i kept e. e }
-step_is_right rules s zones receipts caller (requests.Changes origin from) is = record { request_is_right = refl; zones_stay = λ o. inl refl; receipts_stay = λ c i kept e. e }
-step_is_right rules s zones receipts caller (requests.Rights name record_type asked) is = record { request_is_right = refl; zones_stay = λ o. inl refl; receipts_stay = λ c i kept e. e }
+step_is_right rules s zones receipts caller (requests.List origin) is = record { request_is_right = refl; zones_stay = λ o. inl refl; receipts_stay = λ c i kept e. e; receipts_of_others = λ c i. inl refl }
+step_is_right rules s zones receipts caller (requests.ListWithin origin top) is = record { request_is_right = refl; zones_stay = λ o. inl refl; receipts_stay = λ c i kept e. e; receipts_of_others = λ c i. inl refl }
+step_is_right rules s zones receipts caller (requests.File origin) is = record { request_is_right = refl; zones_stay = λ o. inl refl; receipts_stay = λ c i kept e. e; receipts_of_others = λ c i. inl refl }
+step_is_right rules s zones receipts caller (requests.Delegations origin) is = record { request_is_right = refl; zones_stay = λ o. inl refl; receipts_stay = λ c i kept e. e; receipts_of_others = λ c i. inl refl }
+step_is_right rules s zones receipts caller (requests.Changes origin from) is = record { request_is_right = refl; zones_stay = λ o. inl refl; receipts_stay = λ c i kept e. e; receipts_of_others = λ c i. inl refl }
+step_is_right rules s zones receipts caller (requests.Rights name record_type asked) is = record { request_is_right = refl; zones_stay = λ o. inl refl; receipts_stay = λ c i kept e. e; receipts_of_others = λ c i. inl refl }
 
 -- a step keeps receipts of updates
 pub keeps_receipts : (rules : List Rule) (s : State) → AreZones s → AreReceipts s → (caller : List ℕ) (request : Request) → HasUpdate request → AreReceipts (step rules s caller request).after

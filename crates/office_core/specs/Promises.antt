@@ -105,8 +105,7 @@ pub record UpdateIsRight (rules : List Rule) (s : State) (caller id : List ℕ) 
   pub kept : s.receipts caller id ≡ None
       → (reply : UpdateReply) × (done.reply ≡ to_update reply) × (done.after.receipts caller id ≡ Some (receipt origin update reply))
 
--- What is promised of a request: of an update the above, and any other changes nothing. A zone changes only by an update of it that
--- is made, and no receipt is ever lost.
+-- What is promised of a request: of an update the above, and any other changes nothing.
 abbrev pub RequestIsRight : List Rule → State → List ℕ → Request → Turn → Type 0
 RequestIsRight rules s caller (requests.Update origin id update) done = UpdateIsRight rules s caller id origin update done
 RequestIsRight rules s caller request done = done.after ≡ s
@@ -116,10 +115,19 @@ abbrev pub MakesUpdate : List Rule → State → List ℕ → List (List ℕ) �
 MakesUpdate rules s caller zone (requests.Update origin id update) = (origin ≡ zone) × ((held : Held) × IsMade rules s caller id origin update held)
 MakesUpdate rules s caller zone request = ⊥
 
+-- the call gives a receipt: an update does, to its caller under its identifier
+abbrev pub GivesReceipt : List ℕ → List ℕ → List ℕ → Request → Type 0
+GivesReceipt caller c i (requests.Update origin id update) = (c ≡ caller) × (i ≡ id)
+-- and no other request gives one
+GivesReceipt caller c i request = ⊥
+
+-- What is promised of the answer to one request: it is right; a zone changes only by an update of it that is made; no receipt is
+-- ever lost, and none comes or changes but that of the update.
 pub record TurnIsRight (rules : List Rule) (s : State) (caller : List ℕ) (request : Request) (done : Turn) : Type 0 where
   pub request_is_right : RequestIsRight rules s caller request done
   pub zones_stay : (o : List (List ℕ)) → (done.after.zones o ≡ s.zones o) ⊎ MakesUpdate rules s caller o request
   pub receipts_stay : (c i : List ℕ) (kept : Receipt) → s.receipts c i ≡ Some kept → done.after.receipts c i ≡ Some kept
+  pub receipts_of_others : (c i : List ℕ) → (done.after.receipts c i ≡ s.receipts c i) ⊎ GivesReceipt caller c i request
 
 -- ---- lists
 
