@@ -1,18 +1,22 @@
 -- What the office promises of each request and of all of them, in words of its policy and its zones.
 use Rattle.std.specs.Prelude.{◌≡◌, ◌≢◌, ◌⊎◌, ◌↔◌, ℕ, List, [], ◌∷◌, ◌++◌, Some, None}
 use Rattle.std.specs.List.{Contains, fold}
+use Rattle.dns_names.specs.Labels.{IsWithin}
 use Rattle.dns_data.specs.declared.record.Record.{Record}
 use Rattle.dns_data.specs.declared.record_type.RecordType.TheVariants as types
 use Rattle.dns_data.specs.Rdata.{type_of}
 use Rattle.grant_policy.specs.declared.action.Action.TheVariants as action
 use Rattle.grant_policy.specs.declared.rule.Rule.{Rule}
-use Rattle.zone_core.specs.Sets.{Records, InOrder, IsIn, listing, minus}
+use Rattle.grant_policy.specs.Rules.{Question}
+use Rattle.grant_policy.specs.Decisions.{Verdict, IsDecision}
+use Rattle.zone_core.specs.Sets.{Records, InOrder, IsIn, listing, part, within, minus}
 use Rattle.zone_core.specs.Zones.{AreKept, soa_at}
 use Rattle.zone_core.specs.Updates.{UpdateOf, ActsWithin}
 use Rattle.zone_core.specs.Met.{AreMet}
 use Rattle.zone_core.specs.Effects.{next_version, zone_after}
 use Rattle.zone_core.specs.Versions.{Advances}
 use Rattle.zone_core.specs.Changes.{changed}
+use Rattle.zone_core.specs.Delegations.{report}
 use Rattle.office_core.specs.declared.receipt.Receipt.{Receipt}
 use Rattle.office_core.specs.declared.reply.UpdateReply.{UpdateReply}
 use Rattle.office_core.specs.declared.reply.UpdateReply.TheVariants.{NoError, Refused}
@@ -20,10 +24,10 @@ use Rattle.office_core.specs.declared.request.Call.{Call}
 use Rattle.office_core.specs.declared.request.Request.{Request}
 use Rattle.office_core.specs.declared.request.Request.TheVariants as requests
 use Rattle.office_core.specs.Footprints.{Point, footprint}
-use Rattle.office_core.specs.Permissions.{DenialOf, IsGranted, IsPermitted, IsFirstDenial}
-use Rattle.office_core.specs.Replies.{ReplyOf, to_update, id_reused}
+use Rattle.office_core.specs.Permissions.{DenialOf, question, IsGranted, IsPermitted, IsFirstDenial}
+use Rattle.office_core.specs.Replies.{ReplyOf, to_update, id_reused, not_auth, not_zone, records, file, delegations, changes, right}
 use Rattle.office_core.specs.States.{ChangeOf, Held, State, AreZones, AreReceipts, zone_held}
-use Rattle.office_core.specs.Machine.{Turn, listed, change_of, receipt}
+use Rattle.office_core.specs.Machine.{Turn, listed, changes_from, change_of, receipt}
 use Rattle.office_core.specs.Runs.{HaveUpdates, turn, state_after}
 
 -- ---- updates that are made
@@ -86,6 +90,36 @@ pub record IsJudged (s : State) (caller id : List ℕ) (origin : List (List ℕ)
 abbrev pub tells : DenialOf → ReplyOf
 tells denial = to_update (Refused denial.place denial.by)
 
+-- ---- lists
+
+-- A caller's list has exactly the records that it may list, in record order (RFC 4034 section 6).
+pub record IsListOf (rules : List Rule) (caller : List ℕ) (set : Records) (rs : List Record) : Type 0 where
+  pub order : InOrder rs
+  pub exactly : (r : Record) → Contains rs r ↔ (IsIn r set × IsGranted rules caller r.owner (type_of r.rdata) action.List)
+
+-- what may be listed of a set is such a list
+abbrev pub ListsAreExact : Type 0
+ListsAreExact = (rules : List Rule) (caller : List ℕ) (set : Records) → AreKept set → IsListOf rules caller set (listed rules caller (listing set))
+
+-- ---- what is read
+
+-- what is replied of a zone: that no zone of the origin is there, or else this of what is held
+abbrev pub IsOfZone : State → List (List ℕ) → (Held → ReplyOf → Type 0) → ReplyOf → Type 0
+IsOfZone s origin IsOf reply = ((s.zones origin ≡ None) × (reply ≡ not_auth)) ⊎ ((held : Held) × (s.zones origin ≡ Some held) × IsOf held reply)
+
+-- a reply tells the records of a set that the caller may list
+abbrev pub TellsList : List Rule → List ℕ → (List Record → ReplyOf) → Records → ReplyOf → Type 0
+TellsList rules caller told set reply = (rs : List Record) × IsListOf rules caller set rs × (reply ≡ told rs)
+
+-- and those within a name, or that the name is not within the origin
+abbrev pub TellsWithin : List Rule → List ℕ → List (List ℕ) → List (List ℕ) → Records → ReplyOf → Type 0
+TellsWithin rules caller origin top set reply =
+    (IsWithin top origin × TellsList rules caller records (part set (within top)) reply) ⊎ (¬ IsWithin top origin × (reply ≡ not_zone))
+
+-- a reply tells what the policy decides
+abbrev pub TellsDecision : List Rule → Question → ReplyOf → Type 0
+TellsDecision rules asked reply = (v : Verdict) × IsDecision asked rules v × (reply ≡ right v)
+
 -- ---- a request
 
 -- What is promised of an update. A denial names the first point that is not granted, with the rule that denies it, or none where
@@ -105,10 +139,19 @@ pub record UpdateIsRight (rules : List Rule) (s : State) (caller id : List ℕ) 
   pub kept : s.receipts caller id ≡ None
       → (reply : UpdateReply) × (done.reply ≡ to_update reply) × (done.after.receipts caller id ≡ Some (receipt origin update reply))
 
--- What is promised of a request: of an update the above, and any other changes nothing.
+-- What is promised of a request: of an update the above, and any other changes nothing and is replied what is read: the records
+-- that the caller may list, as a list, a master file or a report of their delegations; what it sees of the zone's changes; or
+-- what the policy decides of its right.
 abbrev pub RequestIsRight : List Rule → State → List ℕ → Request → Turn → Type 0
 RequestIsRight rules s caller (requests.Update origin id update) done = UpdateIsRight rules s caller id origin update done
-RequestIsRight rules s caller request done = done.after ≡ s
+RequestIsRight rules s caller (requests.List origin) done = (done.after ≡ s) × IsOfZone s origin (λ held. TellsList rules caller records held.records) done.reply
+RequestIsRight rules s caller (requests.ListWithin origin top) done = (done.after ≡ s) × IsOfZone s origin (λ held. TellsWithin rules caller origin top held.records) done.reply
+RequestIsRight rules s caller (requests.File origin) done = (done.after ≡ s) × IsOfZone s origin (λ held. TellsList rules caller (file origin) held.records) done.reply
+RequestIsRight rules s caller (requests.Delegations origin) done =
+    (done.after ≡ s) × IsOfZone s origin (λ held. TellsList rules caller (λ rs. delegations (report origin rs)) held.records) done.reply
+RequestIsRight rules s caller (requests.Changes origin from) done =
+    (done.after ≡ s) × IsOfZone s origin (λ held reply. reply ≡ changes (changes_from rules caller from held.changes)) done.reply
+RequestIsRight rules s caller (requests.Rights name record_type asked) done = (done.after ≡ s) × TellsDecision rules (question caller name record_type asked) done.reply
 
 -- an update of this zone is made for the call
 abbrev pub MakesUpdate : List Rule → State → List ℕ → List (List ℕ) → Request → Type 0
@@ -128,17 +171,6 @@ pub record TurnIsRight (rules : List Rule) (s : State) (caller : List ℕ) (requ
   pub zones_stay : (o : List (List ℕ)) → (done.after.zones o ≡ s.zones o) ⊎ MakesUpdate rules s caller o request
   pub receipts_stay : (c i : List ℕ) (kept : Receipt) → s.receipts c i ≡ Some kept → done.after.receipts c i ≡ Some kept
   pub receipts_of_others : (c i : List ℕ) → (done.after.receipts c i ≡ s.receipts c i) ⊎ GivesReceipt caller c i request
-
--- ---- lists
-
--- A caller's list has exactly the records that it may list, in record order (RFC 4034 section 6).
-pub record IsListOf (rules : List Rule) (caller : List ℕ) (set : Records) (rs : List Record) : Type 0 where
-  pub order : InOrder rs
-  pub exactly : (r : Record) → Contains rs r ↔ (IsIn r set × IsGranted rules caller r.owner (type_of r.rdata) action.List)
-
--- what may be listed of a set is such a list
-abbrev pub ListsAreExact : Type 0
-ListsAreExact = (rules : List Rule) (caller : List ℕ) (set : Records) → AreKept set → IsListOf rules caller set (listed rules caller (listing set))
 
 -- ---- all requests
 
