@@ -24,7 +24,7 @@ use Rattle.zone_core.proofs.ChangedLemmas.{same_sets_are_one, kept_in_part}
 use Rattle.zone_core.proofs.SameUpdateLemmas.{same_updates}
 use Rattle.office_core.specs.declared.receipt.Receipt.{Receipt}
 use Rattle.office_core.specs.declared.reply.UpdateReply.{UpdateReply}
-use Rattle.office_core.specs.declared.reply.UpdateReply.TheVariants.{NoError}
+use Rattle.office_core.specs.declared.reply.UpdateReply.TheVariants.{NoError, NotAuth, NotZone, Failed}
 use Rattle.office_core.specs.declared.request.Request.{Request}
 use Rattle.office_core.specs.declared.request.Request.TheVariants as requests
 use Rattle.office_core.specs.Permissions.{question}
@@ -32,10 +32,10 @@ use Rattle.office_core.specs.Replies.{ReplyOf, to_update, id_reused, not_zone, r
 use Rattle.office_core.specs.States.{Held, State, AreZones, AreReceipts, zone_held}
 use Rattle.office_core.specs.Machine.{Turn, listed, changes_from, of_zone, list_within_reply, changes_reply, step, refused_by, refusal, answered, updated, again, hold, keep, receipt, held_after, change_of}
 use Rattle.office_core.specs.Runs.{HasUpdate}
-use Rattle.office_core.specs.Promises.{IsMade, IsNoted, IsWhole, IsOfZone, TellsList, TellsWithin, UpdateIsRight, TurnIsRight}
+use Rattle.office_core.specs.Promises.{IsMade, IsNoted, IsWhole, IsOutside, IsFailing, IsOfZone, TellsList, TellsWithin, UpdateIsRight, TurnIsRight}
 use Rattle.office_core.proofs.ListLemmas.{lists_are_exact}
 use Rattle.office_core.proofs.MovedLemmas.{moved_right}
-use Rattle.office_core.proofs.MadeLemmas.{if_made, not_refused, told_apart, if_denied, is_denied}
+use Rattle.office_core.proofs.MadeLemmas.{if_made, not_refused, told_apart, if_denied, is_denied, is_unknown, is_outside, is_failing}
 
 pub same_Some : {T : Type 0} (a b : T) → Some a ≡ Some b → a ≡ b
 same_Some a b e = cc
@@ -123,6 +123,16 @@ module _ (rules : List Rule) (s : State) (zones : AreZones s) (receipts : AreRec
 
   -- a new one
   module _ (fresh : s.receipts caller id ≡ None) where
+    -- it is told a reply exactly where that is why it is refused
+    told_as : (reply : UpdateReply) → refused ≡ Some reply → (answer : UpdateReply) (Why : Type 0) → (refused ≡ Some answer) ↔ Why → (to_update reply ≡ to_update answer) ↔ Why
+    told_as reply e answer Why both = (
+      λ f. let same : reply ≡ answer = cc in both.0 (e ∙ ap (λ (x : UpdateReply). Some x) same),
+      λ why. ap to_update (same_Some reply answer (sym e ∙ both.1 why)),
+    )
+
+    not_told_as : refused ≡ None → (answer : UpdateReply) (Why : Type 0) → (refused ≡ Some answer) ↔ Why → (to_update NoError ≡ to_update answer → ⊥) → (to_update NoError ≡ to_update answer) ↔ Why
+    not_told_as e answer Why both differ = (λ f. absurd (differ f), λ why. some_none refused answer (both.1 why) e)
+
     when_refused : (reply : UpdateReply) → refused ≡ Some reply → Right (answered s caller id origin update (Some reply))
     when_refused reply e = record {
       whole = λ held m. some_none refused reply e (not_refused rules s zones caller id origin update is held m);
@@ -131,6 +141,9 @@ module _ (rules : List Rule) (s : State) (zones : AreZones s) (receipts : AreRec
         λ f. let same : reply ≡ refused_by denial = cc in if_denied rules s zones caller id origin update is fresh denial (e ∙ ap (λ (x : UpdateReply). Some x) same),
         λ both. ap to_update (same_Some reply (refused_by denial) (sym e ∙ is_denied rules s zones caller id origin update is denial both.0 both.1)),
       );
+      not_auth = λ new. told_as reply e NotAuth (s.zones origin ≡ None) (is_unknown rules s zones caller id origin update is);
+      not_zone = λ new place. told_as reply e (NotZone place) (IsOutside s origin update place) (is_outside rules s zones caller id origin update is place);
+      failed = λ new f. told_as reply e (Failed f) (IsFailing rules s caller origin update f) (is_failing rules s zones caller id origin update is f);
       repeated = λ kept there. some_none (s.receipts caller id) kept there fresh;
       kept = λ new. (reply, refl, keep_found s caller id (receipt origin update reply));
     }
@@ -143,6 +156,9 @@ module _ (rules : List Rule) (s : State) (zones : AreZones s) (receipts : AreRec
         λ f. absurd cc,
         λ both. some_none refused (refused_by denial) (is_denied rules s zones caller id origin update is denial both.0 both.1) e,
       );
+      not_auth = λ new. not_told_as e NotAuth (s.zones origin ≡ None) (is_unknown rules s zones caller id origin update is) (λ f. cc);
+      not_zone = λ new place. not_told_as e (NotZone place) (IsOutside s origin update place) (is_outside rules s zones caller id origin update is place) (λ f. cc);
+      failed = λ new f. not_told_as e (Failed f) (IsFailing rules s caller origin update f) (is_failing rules s zones caller id origin update is f) (λ g. cc);
       repeated = λ kept there. some_none (s.receipts caller id) kept there fresh;
       kept = λ new. (NoError, refl, keep_found (hold s origin (option_map (held_after origin update) (s.zones origin))) caller id (receipt origin update NoError));
     }
@@ -162,6 +178,9 @@ module _ (rules : List Rule) (s : State) (zones : AreZones s) (receipts : AreRec
     whole = λ held m. some_none (s.receipts caller id) old e m.fresh;
     only = λ new f. some_none (s.receipts caller id) old e new;
     denied = λ new denial. some_none (s.receipts caller id) old e new;
+    not_auth = λ new. some_none (s.receipts caller id) old e new;
+    not_zone = λ new place. some_none (s.receipts caller id) old e new;
+    failed = λ new f. some_none (s.receipts caller id) old e new;
     repeated = λ kept there. subst (Told old) (same_Some old kept (sym e ∙ there)) (refl, by_test (same_name old.origin origin && same_update old.update update) both);
     kept = λ new. some_none (s.receipts caller id) old e new;
   }

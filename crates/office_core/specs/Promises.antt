@@ -9,9 +9,12 @@ use Rattle.grant_policy.specs.declared.action.Action.TheVariants as action
 use Rattle.grant_policy.specs.declared.rule.Rule.{Rule}
 use Rattle.grant_policy.specs.Rules.{Question}
 use Rattle.grant_policy.specs.Decisions.{Verdict, IsDecision}
+use Rattle.zone_core.specs.declared.update.Place.{Place}
+use Rattle.zone_core.specs.declared.verdict.Failed.{Failed}
 use Rattle.zone_core.specs.Sets.{Records, InOrder, IsIn, listing, part, within, minus}
 use Rattle.zone_core.specs.Zones.{AreKept, soa_at}
-use Rattle.zone_core.specs.Updates.{UpdateOf, ActsWithin}
+use Rattle.zone_core.specs.Updates.{UpdateOf, ActsWithin, first_outside}
+use Rattle.zone_core.specs.Prerequisites.{verdict}
 use Rattle.zone_core.specs.Met.{AreMet}
 use Rattle.zone_core.specs.Effects.{next_version, zone_after}
 use Rattle.zone_core.specs.Versions.{Advances}
@@ -19,7 +22,7 @@ use Rattle.zone_core.specs.Changes.{changed}
 use Rattle.zone_core.specs.Delegations.{report}
 use Rattle.office_core.specs.declared.receipt.Receipt.{Receipt}
 use Rattle.office_core.specs.declared.reply.UpdateReply.{UpdateReply}
-use Rattle.office_core.specs.declared.reply.UpdateReply.TheVariants.{NoError, Refused}
+use Rattle.office_core.specs.declared.reply.UpdateReply.TheVariants as replies
 use Rattle.office_core.specs.declared.request.Call.{Call}
 use Rattle.office_core.specs.declared.request.Request.{Request}
 use Rattle.office_core.specs.declared.request.Request.TheVariants as requests
@@ -68,7 +71,7 @@ IsNoted before after =
 -- An update that is made is made whole: the zone after it is that of the standard (RFC 2136 section 3.4), whose serial is greater if
 -- anything has changed (RFC 1982), and no other zone has changed; what moved was granted; and it is noted.
 pub record IsWhole (rules : List Rule) (s : State) (caller : List ℕ) (origin : List (List ℕ)) (update : UpdateOf) (held : Held) (made : Turn) : Type 0 where
-  pub reply : made.reply ≡ to_update NoError
+  pub reply : made.reply ≡ to_update replies.NoError
   pub after : Held
   pub there : made.after.zones origin ≡ Some after
   pub zone : zone_held origin after ≡ zone_after (zone_held origin held) update
@@ -88,7 +91,22 @@ pub record IsJudged (s : State) (caller id : List ℕ) (origin : List (List ℕ)
 
 -- a reply tells this denial
 abbrev pub tells : DenialOf → ReplyOf
-tells denial = to_update (Refused denial.place denial.by)
+tells denial = to_update (replies.Refused denial.place denial.by)
+
+-- ---- updates that are not made for another reason
+
+-- the zone of an update is there, and this is the first item of the update whose name is not within it
+abbrev pub IsOutside : State → List (List ℕ) → UpdateOf → Place → Type 0
+IsOutside s origin update place = (held : Held) × (s.zones origin ≡ Some held) × (first_outside origin update ≡ Some place)
+
+-- an update fails: its zone is there, its names are within the zone, the policy permits it, and its prerequisites are not met,
+-- with this place and code (RFC 2136 section 3.2)
+pub record IsFailing (rules : List Rule) (s : State) (caller : List ℕ) (origin : List (List ℕ)) (update : UpdateOf) (failed : Failed) : Type 0 where
+  pub held : Held
+  pub there : s.zones origin ≡ Some held
+  pub inside : ActsWithin origin update
+  pub permitted : IsPermitted rules caller origin update
+  pub unmet : verdict held.records update.prerequisites ≡ Some failed
 
 -- ---- lists
 
@@ -127,10 +145,15 @@ TellsDecision rules asked reply = (v : Verdict) × IsDecision asked rules v × (
 pub record UpdateIsRight (rules : List Rule) (s : State) (caller id : List ℕ) (origin : List (List ℕ)) (update : UpdateOf) (done : Turn) : Type 0 where
   -- it is made exactly where it may be, and then whole
   pub whole : (held : Held) → IsMade rules s caller id origin update held → IsWhole rules s caller origin update held done
-  pub only : s.receipts caller id ≡ None → done.reply ≡ to_update NoError → (held : Held) × IsMade rules s caller id origin update held
+  pub only : s.receipts caller id ≡ None → done.reply ≡ to_update replies.NoError → (held : Held) × IsMade rules s caller id origin update held
   -- it is refused exactly where the policy denies a point of it
   pub denied : s.receipts caller id ≡ None → (denial : DenialOf)
       → (done.reply ≡ tells denial) ↔ (IsJudged s caller id origin update × IsFirstDenial rules caller (footprint origin update) denial)
+  -- it is told that there is no zone exactly where there is none, that a name is outside it exactly where one is, and that a
+  -- prerequisite fails exactly where all but that is right
+  pub not_auth : s.receipts caller id ≡ None → (done.reply ≡ to_update replies.NotAuth) ↔ (s.zones origin ≡ None)
+  pub not_zone : s.receipts caller id ≡ None → (place : Place) → (done.reply ≡ to_update (replies.NotZone place)) ↔ IsOutside s origin update place
+  pub failed : s.receipts caller id ≡ None → (f : Failed) → (done.reply ≡ to_update (replies.Failed f)) ↔ IsFailing rules s caller origin update f
   -- a repeated one is told the reply that was kept, and another one under its identifier so
   pub repeated : (kept : Receipt) → s.receipts caller id ≡ Some kept
       → (done.after ≡ s) × (((kept.origin ≡ origin) × (kept.update ≡ update) × (done.reply ≡ to_update kept.reply))
