@@ -20,7 +20,7 @@ use Rattle.office_core.specs.Footprints.{Point, footprint}
 use Rattle.office_core.specs.Permissions.{DenialOf, question, IsPermitted, IsFirstDenial, denial_at, first_denial}
 use Rattle.office_core.specs.States.{Held, State, AreZones}
 use Rattle.office_core.specs.Machine.{refused_by, refusal}
-use Rattle.office_core.specs.Promises.{IsMade, IsJudged}
+use Rattle.office_core.specs.Promises.{IsMade, IsJudged, IsOutside, IsFailing}
 use Rattle.office_core.proofs.PermissionLaws.{found_denial, none_denied, all_granted}
 
 -- ---- the first that applies
@@ -40,6 +40,24 @@ never_made None None None e = cc
 never_made None None (Some f) e = cc
 never_made None (Some d) v e = cc
 never_made (Some p) d v e = cc
+
+never_unknown : (o : Option Place) (d : Option DenialOf) (v : Option Failed) → first_of_three o d v ≡ Some replies.NotAuth → ⊥
+never_unknown None None None e = cc
+never_unknown None None (Some f) e = cc
+never_unknown None (Some d) v e = cc
+never_unknown (Some p) d v e = cc
+
+names_apply : (o : Option Place) (d : Option DenialOf) (v : Option Failed) (place : Place) → (first_of_three o d v ≡ Some (replies.NotZone place)) ↔ (o ≡ Some place)
+names_apply None None None place = (λ e. absurd cc, λ e. absurd cc)
+names_apply None None (Some f) place = (λ e. absurd cc, λ e. absurd cc)
+names_apply None (Some d) v place = (λ e. absurd cc, λ e. absurd cc)
+names_apply (Some p) d v place = (λ e. cc, λ e. cc)
+
+tests_apply : (o : Option Place) (d : Option DenialOf) (v : Option Failed) (failed : Failed) → (first_of_three o d v ≡ Some (replies.Failed failed)) ↔ ((o ≡ None) × (d ≡ None) × (v ≡ Some failed))
+tests_apply None None None failed = (λ e. absurd cc, λ all. let f = all.2 in absurd cc)
+tests_apply None None (Some f) failed = (λ e. (refl, refl, cc), λ all. let same = all.2 in cc)
+tests_apply None (Some d) v failed = (λ e. absurd cc, λ all. let f = all.1 in absurd cc)
+tests_apply (Some p) d v failed = (λ e. absurd cc, λ all. let f = all.0 in absurd cc)
 
 policy_applies : (o : Option Place) (d : Option DenialOf) (v : Option Failed) (denial : DenialOf) → first_of_three o d v ≡ Some (refused_by denial) → (o ≡ None) × (d ≡ Some denial)
 policy_applies None None None denial e = absurd cc
@@ -147,3 +165,34 @@ module _ (rules : List Rule) (s : State) (zones : AreZones s) (caller id : List 
       let inside : first_outside origin update ≡ None = inside_is.1 j.inside in
       let first : first_denial rules caller (footprint origin update) ≡ Some denial = first_found rules caller (footprint origin update) denial f in
       ap (refusal rules caller origin update) j.there ∙ (λ i. first_of_three (inside i) (first i) (verdict j.held.records update.prerequisites))
+
+  -- what else is refused
+  pub is_unknown : (refusal rules caller origin update (s.zones origin) ≡ Some replies.NotAuth) ↔ (s.zones origin ≡ None)
+  is_unknown = (by_zone (s.zones origin), λ none. ap (refusal rules caller origin update) none)
+    where
+      by_zone : (o : Option Held) → refusal rules caller origin update o ≡ Some replies.NotAuth → o ≡ None
+      by_zone None e = refl
+      by_zone (Some held) e = absurd (never_unknown outside denial_is (verdict held.records update.prerequisites) e)
+
+  pub is_outside : (place : Place) → (refusal rules caller origin update (s.zones origin) ≡ Some (replies.NotZone place)) ↔ IsOutside s origin update place
+  is_outside place = (
+    by_zone (s.zones origin) refl,
+    λ all. ap (refusal rules caller origin update) all.1 ∙ (names_apply outside denial_is (verdict all.0.records update.prerequisites) place).1 all.2,
+  )
+    where
+      by_zone : (o : Option Held) → s.zones origin ≡ o → refusal rules caller origin update o ≡ Some (replies.NotZone place) → IsOutside s origin update place
+      by_zone None there e = absurd cc
+      by_zone (Some held) there e = (held, there, (names_apply outside denial_is (verdict held.records update.prerequisites) place).0 e)
+
+  pub is_failing : (failed : Failed) → (refusal rules caller origin update (s.zones origin) ≡ Some (replies.Failed failed)) ↔ IsFailing rules s caller origin update failed
+  is_failing failed = (
+    by_zone (s.zones origin) refl,
+    λ f. ap (refusal rules caller origin update) f.there
+        ∙ (tests_apply outside denial_is (verdict f.held.records update.prerequisites) failed).1 (inside_is.1 f.inside, (none_first rules caller origin update).1 f.permitted, f.unmet),
+  )
+    where
+      by_zone : (o : Option Held) → s.zones origin ≡ o → refusal rules caller origin update o ≡ Some (replies.Failed failed) → IsFailing rules s caller origin update failed
+      by_zone None there e = absurd cc
+      by_zone (Some held) there e =
+          let all = (tests_apply outside denial_is (verdict held.records update.prerequisites) failed).0 e in
+          record { held = held; there = there; inside = inside_is.0 all.0; permitted = (none_first rules caller origin update).0 all.1; unmet = all.2 }

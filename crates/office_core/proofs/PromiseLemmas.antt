@@ -5,30 +5,37 @@ use Rattle.std.specs.Bool.{Decides}
 use Rattle.std.proofs.lemmas.Bool.{cond-true, cond-false}
 use Rattle.std.proofs.lemmas.Bool.Decides.{Decides-and}
 use Rattle.std.proofs.lemmas.Slice.Eq.{bytes_eq-Decides}
+use Rattle.dns_names.specs.Labels.{IsWithin, is_within}
 use Rattle.dns_names.specs.Order.{same_name}
-use Rattle.dns_names.proofs.NameLemmas.{same_name-Decides}
+use Rattle.dns_names.proofs.NameLemmas.{same_name-Decides, is_within-Decides}
+use Rattle.dns_data.specs.declared.record.Record.{Record}
 use Rattle.grant_policy.specs.declared.rule.Rule.{Rule}
-use Rattle.zone_core.specs.Sets.{is_same}
-use Rattle.zone_core.specs.Zones.{IsZone}
+use Rattle.grant_policy.specs.Decisions.{decision}
+use Rattle.grant_policy.proofs.DecisionLaws.{decision_found}
+use Rattle.zone_core.specs.Sets.{Records, listing, part, within, is_same}
+use Rattle.zone_core.specs.Zones.{AreKept, IsZone}
+use Rattle.zone_core.specs.Delegations.{report}
 use Rattle.zone_core.specs.Updates.{UpdateOf, IsUpdate, same_update}
 use Rattle.zone_core.proofs.SetLemmas.{by_cases, name_is, name_self, name_other}
 use Rattle.zone_core.proofs.ZoneLemmas.{no}
 use Rattle.zone_core.proofs.VersionLemmas.{updates_keep}
 use Rattle.zone_core.proofs.LeaveLemmas.{updates_advance}
-use Rattle.zone_core.proofs.ChangedLemmas.{same_sets_are_one}
+use Rattle.zone_core.proofs.ChangedLemmas.{same_sets_are_one, kept_in_part}
 use Rattle.zone_core.proofs.SameUpdateLemmas.{same_updates}
 use Rattle.office_core.specs.declared.receipt.Receipt.{Receipt}
 use Rattle.office_core.specs.declared.reply.UpdateReply.{UpdateReply}
-use Rattle.office_core.specs.declared.reply.UpdateReply.TheVariants.{NoError}
+use Rattle.office_core.specs.declared.reply.UpdateReply.TheVariants.{NoError, NotAuth, NotZone, Failed}
 use Rattle.office_core.specs.declared.request.Request.{Request}
 use Rattle.office_core.specs.declared.request.Request.TheVariants as requests
-use Rattle.office_core.specs.Replies.{to_update, id_reused}
+use Rattle.office_core.specs.Permissions.{question}
+use Rattle.office_core.specs.Replies.{ReplyOf, to_update, id_reused, not_zone, records, file, delegations, changes}
 use Rattle.office_core.specs.States.{Held, State, AreZones, AreReceipts, zone_held}
-use Rattle.office_core.specs.Machine.{Turn, step, refused_by, refusal, answered, updated, again, hold, keep, receipt, held_after, change_of}
+use Rattle.office_core.specs.Machine.{Turn, listed, changes_from, of_zone, list_within_reply, changes_reply, step, refused_by, refusal, answered, updated, again, hold, keep, receipt, held_after, change_of}
 use Rattle.office_core.specs.Runs.{HasUpdate}
-use Rattle.office_core.specs.Promises.{IsMade, IsNoted, IsWhole, UpdateIsRight, TurnIsRight}
+use Rattle.office_core.specs.Promises.{IsMade, IsNoted, IsWhole, IsOutside, IsFailing, IsOfZone, TellsList, TellsWithin, UpdateIsRight, TurnIsRight}
+use Rattle.office_core.proofs.ListLemmas.{lists_are_exact}
 use Rattle.office_core.proofs.MovedLemmas.{moved_right}
-use Rattle.office_core.proofs.MadeLemmas.{if_made, not_refused, told_apart, if_denied, is_denied}
+use Rattle.office_core.proofs.MadeLemmas.{if_made, not_refused, told_apart, if_denied, is_denied, is_unknown, is_outside, is_failing}
 
 pub same_Some : {T : Type 0} (a b : T) → Some a ≡ Some b → a ≡ b
 same_Some a b e = cc
@@ -116,6 +123,16 @@ module _ (rules : List Rule) (s : State) (zones : AreZones s) (receipts : AreRec
 
   -- a new one
   module _ (fresh : s.receipts caller id ≡ None) where
+    -- it is told a reply exactly where that is why it is refused
+    told_as : (reply : UpdateReply) → refused ≡ Some reply → (answer : UpdateReply) (Why : Type 0) → (refused ≡ Some answer) ↔ Why → (to_update reply ≡ to_update answer) ↔ Why
+    told_as reply e answer Why both = (
+      λ f. let same : reply ≡ answer = cc in both.0 (e ∙ ap (λ (x : UpdateReply). Some x) same),
+      λ why. ap to_update (same_Some reply answer (sym e ∙ both.1 why)),
+    )
+
+    not_told_as : refused ≡ None → (answer : UpdateReply) (Why : Type 0) → (refused ≡ Some answer) ↔ Why → (to_update NoError ≡ to_update answer → ⊥) → (to_update NoError ≡ to_update answer) ↔ Why
+    not_told_as e answer Why both differ = (λ f. absurd (differ f), λ why. some_none refused answer (both.1 why) e)
+
     when_refused : (reply : UpdateReply) → refused ≡ Some reply → Right (answered s caller id origin update (Some reply))
     when_refused reply e = record {
       whole = λ held m. some_none refused reply e (not_refused rules s zones caller id origin update is held m);
@@ -124,6 +141,9 @@ module _ (rules : List Rule) (s : State) (zones : AreZones s) (receipts : AreRec
         λ f. let same : reply ≡ refused_by denial = cc in if_denied rules s zones caller id origin update is fresh denial (e ∙ ap (λ (x : UpdateReply). Some x) same),
         λ both. ap to_update (same_Some reply (refused_by denial) (sym e ∙ is_denied rules s zones caller id origin update is denial both.0 both.1)),
       );
+      not_auth = λ new. told_as reply e NotAuth (s.zones origin ≡ None) (is_unknown rules s zones caller id origin update is);
+      not_zone = λ new place. told_as reply e (NotZone place) (IsOutside s origin update place) (is_outside rules s zones caller id origin update is place);
+      failed = λ new f. told_as reply e (Failed f) (IsFailing rules s caller origin update f) (is_failing rules s zones caller id origin update is f);
       repeated = λ kept there. some_none (s.receipts caller id) kept there fresh;
       kept = λ new. (reply, refl, keep_found s caller id (receipt origin update reply));
     }
@@ -136,6 +156,9 @@ module _ (rules : List Rule) (s : State) (zones : AreZones s) (receipts : AreRec
         λ f. absurd cc,
         λ both. some_none refused (refused_by denial) (is_denied rules s zones caller id origin update is denial both.0 both.1) e,
       );
+      not_auth = λ new. not_told_as e NotAuth (s.zones origin ≡ None) (is_unknown rules s zones caller id origin update is) (λ f. cc);
+      not_zone = λ new place. not_told_as e (NotZone place) (IsOutside s origin update place) (is_outside rules s zones caller id origin update is place) (λ f. cc);
+      failed = λ new f. not_told_as e (Failed f) (IsFailing rules s caller origin update f) (is_failing rules s zones caller id origin update is f) (λ g. cc);
       repeated = λ kept there. some_none (s.receipts caller id) kept there fresh;
       kept = λ new. (NoError, refl, keep_found (hold s origin (option_map (held_after origin update) (s.zones origin))) caller id (receipt origin update NoError));
     }
@@ -155,6 +178,9 @@ module _ (rules : List Rule) (s : State) (zones : AreZones s) (receipts : AreRec
     whole = λ held m. some_none (s.receipts caller id) old e m.fresh;
     only = λ new f. some_none (s.receipts caller id) old e new;
     denied = λ new denial. some_none (s.receipts caller id) old e new;
+    not_auth = λ new. some_none (s.receipts caller id) old e new;
+    not_zone = λ new place. some_none (s.receipts caller id) old e new;
+    failed = λ new f. some_none (s.receipts caller id) old e new;
     repeated = λ kept there. subst (Told old) (same_Some old kept (sym e ∙ there)) (refl, by_test (same_name old.origin origin && same_update old.update update) both);
     kept = λ new. some_none (s.receipts caller id) old e new;
   }
@@ -212,6 +238,33 @@ module _ (rules : List Rule) (s : State) (zones : AreZones s) (receipts : AreRec
       by_refusal None c i kept e =
           keep_each (hold s origin (option_map (held_after origin update) (s.zones origin))) caller id (receipt origin update NoError) (λ x. IsUpdate x.update) is c i kept (receipts c i kept) e
 
+-- ---- what is read
+
+module _ (rules : List Rule) (s : State) (zones : AreZones s) (caller : List ℕ) where
+  -- what is read of what is held, where it is right of each zone
+  of_zone_right : (origin : List (List ℕ)) (IsOf : Held → ReplyOf → Type 0) (reads : Held → ReplyOf) → ((held : Held) → IsZone (zone_held origin held) → IsOf held (reads held))
+      → IsOfZone s origin IsOf (of_zone (s.zones origin) reads)
+  of_zone_right origin IsOf reads each = by_zone (s.zones origin) refl
+    where
+      by_zone : (o : Option Held) → s.zones origin ≡ o → IsOfZone s origin IsOf (of_zone o reads)
+      by_zone None e = inl (e, refl)
+      by_zone (Some held) e = inr (held, e, each held (zones origin held e))
+
+  tells_list : (told : List Record → ReplyOf) (set : Records) → AreKept set → TellsList rules caller told set (told (listed rules caller (listing set)))
+  tells_list told set kept = (listed rules caller (listing set), lists_are_exact rules caller set kept, refl)
+
+  tells_within : (origin top : List (List ℕ)) (held : Held) → AreKept held.records → TellsWithin rules caller origin top held.records (list_within_reply rules caller origin top held)
+  tells_within origin top held kept = by_test (is_within top origin) (is_within-Decides top origin)
+    where
+      by_test : (b : Bool) → Decides b (IsWithin top origin)
+          → TellsWithin rules caller origin top held.records (if b then records (listed rules caller (listing (part held.records (within top)))) else not_zone)
+      by_test true d = inl (d.0 refl, tells_list records (part held.records (within top)) (kept_in_part held.records (within top) kept))
+      by_test false d = inr (λ inside. let f : false ≡ true = d.1 inside in cc, refl)
+
+  tells_all : (told : List Record → ReplyOf) (origin : List (List ℕ)) → IsOfZone s origin (λ held. TellsList rules caller told held.records) (of_zone (s.zones origin) (λ held. told (listed rules caller (listing held.records))))
+  tells_all told origin =
+      of_zone_right origin (λ held. TellsList rules caller told held.records) (λ held. told (listed rules caller (listing held.records))) (λ held zone. tells_list told held.records zone.kept)
+
 -- ---- a request
 
 pub step_is_right : (rules : List Rule) (s : State) → AreZones s → AreReceipts s → (caller : List ℕ) (request : Request) → HasUpdate request → TurnIsRight rules s caller request (step rules s caller request)
@@ -223,12 +276,12 @@ step_is_right rules s zones receipts caller (requests.Update origin id update) i
       receipts_stay = receipts_stay rules s zones receipts caller id origin update is o refl;
       receipts_of_others = receipts_of_others rules s zones receipts caller id origin update is o;
     }
-step_is_right rules s zones receipts caller (requests.List origin) is = record { request_is_right = refl; zones_stay = λ o. inl refl; receipts_stay = λ c i kept e. e; receipts_of_others = λ c i. inl refl }
-step_is_right rules s zones receipts caller (requests.ListWithin origin top) is = record { request_is_right = refl; zones_stay = λ o. inl refl; receipts_stay = λ c i kept e. e; receipts_of_others = λ c i. inl refl }
-step_is_right rules s zones receipts caller (requests.File origin) is = record { request_is_right = refl; zones_stay = λ o. inl refl; receipts_stay = λ c i kept e. e; receipts_of_others = λ c i. inl refl }
-step_is_right rules s zones receipts caller (requests.Delegations origin) is = record { request_is_right = refl; zones_stay = λ o. inl refl; receipts_stay = λ c i kept e. e; receipts_of_others = λ c i. inl refl }
-step_is_right rules s zones receipts caller (requests.Changes origin from) is = record { request_is_right = refl; zones_stay = λ o. inl refl; receipts_stay = λ c i kept e. e; receipts_of_others = λ c i. inl refl }
-step_is_right rules s zones receipts caller (requests.Rights name record_type asked) is = record { request_is_right = refl; zones_stay = λ o. inl refl; receipts_stay = λ c i kept e. e; receipts_of_others = λ c i. inl refl }
+step_is_right rules s zones receipts caller (requests.List origin) is = record { request_is_right = (refl, tells_all rules s zones caller records origin); zones_stay = λ o. inl refl; receipts_stay = λ c i kept e. e; receipts_of_others = λ c i. inl refl }
+step_is_right rules s zones receipts caller (requests.ListWithin origin top) is = record { request_is_right = (refl, of_zone_right rules s zones caller origin (λ held. TellsWithin rules caller origin top held.records) (list_within_reply rules caller origin top) (λ held zone. tells_within rules s zones caller origin top held zone.kept)); zones_stay = λ o. inl refl; receipts_stay = λ c i kept e. e; receipts_of_others = λ c i. inl refl }
+step_is_right rules s zones receipts caller (requests.File origin) is = record { request_is_right = (refl, tells_all rules s zones caller (file origin) origin); zones_stay = λ o. inl refl; receipts_stay = λ c i kept e. e; receipts_of_others = λ c i. inl refl }
+step_is_right rules s zones receipts caller (requests.Delegations origin) is = record { request_is_right = (refl, tells_all rules s zones caller (λ rs. delegations (report origin rs)) origin); zones_stay = λ o. inl refl; receipts_stay = λ c i kept e. e; receipts_of_others = λ c i. inl refl }
+step_is_right rules s zones receipts caller (requests.Changes origin from) is = record { request_is_right = (refl, of_zone_right rules s zones caller origin (λ held reply. reply ≡ changes (changes_from rules caller from held.changes)) (changes_reply rules caller from) (λ held zone. refl)); zones_stay = λ o. inl refl; receipts_stay = λ c i kept e. e; receipts_of_others = λ c i. inl refl }
+step_is_right rules s zones receipts caller (requests.Rights name record_type asked) is = record { request_is_right = (refl, (decision (question caller name record_type asked) rules, decision_found (question caller name record_type asked) rules, refl)); zones_stay = λ o. inl refl; receipts_stay = λ c i kept e. e; receipts_of_others = λ c i. inl refl }
 
 -- a step keeps receipts of updates
 pub keeps_receipts : (rules : List Rule) (s : State) → AreZones s → AreReceipts s → (caller : List ℕ) (request : Request) → HasUpdate request → AreReceipts (step rules s caller request).after

@@ -1,29 +1,36 @@
 -- What the office promises of each request and of all of them, in words of its policy and its zones.
 use Rattle.std.specs.Prelude.{◌≡◌, ◌≢◌, ◌⊎◌, ◌↔◌, ℕ, List, [], ◌∷◌, ◌++◌, Some, None}
 use Rattle.std.specs.List.{Contains, fold}
+use Rattle.dns_names.specs.Labels.{IsWithin}
 use Rattle.dns_data.specs.declared.record.Record.{Record}
 use Rattle.dns_data.specs.declared.record_type.RecordType.TheVariants as types
 use Rattle.dns_data.specs.Rdata.{type_of}
 use Rattle.grant_policy.specs.declared.action.Action.TheVariants as action
 use Rattle.grant_policy.specs.declared.rule.Rule.{Rule}
-use Rattle.zone_core.specs.Sets.{Records, InOrder, IsIn, listing, minus}
+use Rattle.grant_policy.specs.Rules.{Question}
+use Rattle.grant_policy.specs.Decisions.{Verdict, IsDecision}
+use Rattle.zone_core.specs.declared.update.Place.{Place}
+use Rattle.zone_core.specs.declared.verdict.Failed.{Failed}
+use Rattle.zone_core.specs.Sets.{Records, InOrder, IsIn, listing, part, within, minus}
 use Rattle.zone_core.specs.Zones.{AreKept, soa_at}
-use Rattle.zone_core.specs.Updates.{UpdateOf, ActsWithin}
+use Rattle.zone_core.specs.Updates.{UpdateOf, ActsWithin, first_outside}
+use Rattle.zone_core.specs.Prerequisites.{verdict}
 use Rattle.zone_core.specs.Met.{AreMet}
 use Rattle.zone_core.specs.Effects.{next_version, zone_after}
 use Rattle.zone_core.specs.Versions.{Advances}
 use Rattle.zone_core.specs.Changes.{changed}
+use Rattle.zone_core.specs.Delegations.{report}
 use Rattle.office_core.specs.declared.receipt.Receipt.{Receipt}
 use Rattle.office_core.specs.declared.reply.UpdateReply.{UpdateReply}
-use Rattle.office_core.specs.declared.reply.UpdateReply.TheVariants.{NoError, Refused}
+use Rattle.office_core.specs.declared.reply.UpdateReply.TheVariants as replies
 use Rattle.office_core.specs.declared.request.Call.{Call}
 use Rattle.office_core.specs.declared.request.Request.{Request}
 use Rattle.office_core.specs.declared.request.Request.TheVariants as requests
 use Rattle.office_core.specs.Footprints.{Point, footprint}
-use Rattle.office_core.specs.Permissions.{DenialOf, IsGranted, IsPermitted, IsFirstDenial}
-use Rattle.office_core.specs.Replies.{ReplyOf, to_update, id_reused}
+use Rattle.office_core.specs.Permissions.{DenialOf, question, IsGranted, IsPermitted, IsFirstDenial}
+use Rattle.office_core.specs.Replies.{ReplyOf, to_update, id_reused, not_auth, not_zone, records, file, delegations, changes, right}
 use Rattle.office_core.specs.States.{ChangeOf, Held, State, AreZones, AreReceipts, zone_held}
-use Rattle.office_core.specs.Machine.{Turn, listed, change_of, receipt}
+use Rattle.office_core.specs.Machine.{Turn, listed, changes_from, change_of, receipt}
 use Rattle.office_core.specs.Runs.{HaveUpdates, turn, state_after}
 
 -- ---- updates that are made
@@ -64,7 +71,7 @@ IsNoted before after =
 -- An update that is made is made whole: the zone after it is that of the standard (RFC 2136 section 3.4), whose serial is greater if
 -- anything has changed (RFC 1982), and no other zone has changed; what moved was granted; and it is noted.
 pub record IsWhole (rules : List Rule) (s : State) (caller : List ℕ) (origin : List (List ℕ)) (update : UpdateOf) (held : Held) (made : Turn) : Type 0 where
-  pub reply : made.reply ≡ to_update NoError
+  pub reply : made.reply ≡ to_update replies.NoError
   pub after : Held
   pub there : made.after.zones origin ≡ Some after
   pub zone : zone_held origin after ≡ zone_after (zone_held origin held) update
@@ -84,7 +91,52 @@ pub record IsJudged (s : State) (caller id : List ℕ) (origin : List (List ℕ)
 
 -- a reply tells this denial
 abbrev pub tells : DenialOf → ReplyOf
-tells denial = to_update (Refused denial.place denial.by)
+tells denial = to_update (replies.Refused denial.place denial.by)
+
+-- ---- updates that are not made for another reason
+
+-- the zone of an update is there, and this is the first item of the update whose name is not within it
+abbrev pub IsOutside : State → List (List ℕ) → UpdateOf → Place → Type 0
+IsOutside s origin update place = (held : Held) × (s.zones origin ≡ Some held) × (first_outside origin update ≡ Some place)
+
+-- an update fails: its zone is there, its names are within the zone, the policy permits it, and its prerequisites are not met,
+-- with this place and code (RFC 2136 section 3.2)
+pub record IsFailing (rules : List Rule) (s : State) (caller : List ℕ) (origin : List (List ℕ)) (update : UpdateOf) (failed : Failed) : Type 0 where
+  pub held : Held
+  pub there : s.zones origin ≡ Some held
+  pub inside : ActsWithin origin update
+  pub permitted : IsPermitted rules caller origin update
+  pub unmet : verdict held.records update.prerequisites ≡ Some failed
+
+-- ---- lists
+
+-- A caller's list has exactly the records that it may list, in record order (RFC 4034 section 6).
+pub record IsListOf (rules : List Rule) (caller : List ℕ) (set : Records) (rs : List Record) : Type 0 where
+  pub order : InOrder rs
+  pub exactly : (r : Record) → Contains rs r ↔ (IsIn r set × IsGranted rules caller r.owner (type_of r.rdata) action.List)
+
+-- what may be listed of a set is such a list
+abbrev pub ListsAreExact : Type 0
+ListsAreExact = (rules : List Rule) (caller : List ℕ) (set : Records) → AreKept set → IsListOf rules caller set (listed rules caller (listing set))
+
+-- ---- what is read
+
+-- what is replied of a zone: that no zone of the origin is there, or else this of what is held
+abbrev pub IsOfZone : State → List (List ℕ) → (Held → ReplyOf → Type 0) → ReplyOf → Type 0
+IsOfZone s origin IsOf reply = ((s.zones origin ≡ None) × (reply ≡ not_auth)) ⊎ ((held : Held) × (s.zones origin ≡ Some held) × IsOf held reply)
+
+-- a reply tells the records of a set that the caller may list
+abbrev pub TellsList : List Rule → List ℕ → (List Record → ReplyOf) → Records → ReplyOf → Type 0
+TellsList rules caller told set reply = (rs : List Record) × IsListOf rules caller set rs × (reply ≡ told rs)
+
+-- and those within a name, or that the name is not within the origin
+abbrev pub TellsWithin : List Rule → List ℕ → List (List ℕ) → List (List ℕ) → Records → ReplyOf → Type 0
+TellsWithin rules caller origin top set reply =
+    (IsWithin top origin × TellsList rules caller records (part set (within top)) reply) ⊎ (¬ IsWithin top origin × (reply ≡ not_zone))
+
+-- a reply tells what the policy decides
+abbrev pub TellsDecision : List Rule → Question → ReplyOf → Type 0
+TellsDecision rules asked reply = (v : Verdict) × IsDecision asked rules v × (reply ≡ right v)
 
 -- ---- a request
 
@@ -93,10 +145,15 @@ tells denial = to_update (Refused denial.place denial.by)
 pub record UpdateIsRight (rules : List Rule) (s : State) (caller id : List ℕ) (origin : List (List ℕ)) (update : UpdateOf) (done : Turn) : Type 0 where
   -- it is made exactly where it may be, and then whole
   pub whole : (held : Held) → IsMade rules s caller id origin update held → IsWhole rules s caller origin update held done
-  pub only : s.receipts caller id ≡ None → done.reply ≡ to_update NoError → (held : Held) × IsMade rules s caller id origin update held
+  pub only : s.receipts caller id ≡ None → done.reply ≡ to_update replies.NoError → (held : Held) × IsMade rules s caller id origin update held
   -- it is refused exactly where the policy denies a point of it
   pub denied : s.receipts caller id ≡ None → (denial : DenialOf)
       → (done.reply ≡ tells denial) ↔ (IsJudged s caller id origin update × IsFirstDenial rules caller (footprint origin update) denial)
+  -- it is told that there is no zone exactly where there is none, that a name is outside it exactly where one is, and that a
+  -- prerequisite fails exactly where all but that is right
+  pub not_auth : s.receipts caller id ≡ None → (done.reply ≡ to_update replies.NotAuth) ↔ (s.zones origin ≡ None)
+  pub not_zone : s.receipts caller id ≡ None → (place : Place) → (done.reply ≡ to_update (replies.NotZone place)) ↔ IsOutside s origin update place
+  pub failed : s.receipts caller id ≡ None → (f : Failed) → (done.reply ≡ to_update (replies.Failed f)) ↔ IsFailing rules s caller origin update f
   -- a repeated one is told the reply that was kept, and another one under its identifier so
   pub repeated : (kept : Receipt) → s.receipts caller id ≡ Some kept
       → (done.after ≡ s) × (((kept.origin ≡ origin) × (kept.update ≡ update) × (done.reply ≡ to_update kept.reply))
@@ -105,10 +162,19 @@ pub record UpdateIsRight (rules : List Rule) (s : State) (caller id : List ℕ) 
   pub kept : s.receipts caller id ≡ None
       → (reply : UpdateReply) × (done.reply ≡ to_update reply) × (done.after.receipts caller id ≡ Some (receipt origin update reply))
 
--- What is promised of a request: of an update the above, and any other changes nothing.
+-- What is promised of a request: of an update the above, and any other changes nothing and is replied what is read: the records
+-- that the caller may list, as a list, a master file or a report of their delegations; what it sees of the zone's changes; or
+-- what the policy decides of its right.
 abbrev pub RequestIsRight : List Rule → State → List ℕ → Request → Turn → Type 0
 RequestIsRight rules s caller (requests.Update origin id update) done = UpdateIsRight rules s caller id origin update done
-RequestIsRight rules s caller request done = done.after ≡ s
+RequestIsRight rules s caller (requests.List origin) done = (done.after ≡ s) × IsOfZone s origin (λ held. TellsList rules caller records held.records) done.reply
+RequestIsRight rules s caller (requests.ListWithin origin top) done = (done.after ≡ s) × IsOfZone s origin (λ held. TellsWithin rules caller origin top held.records) done.reply
+RequestIsRight rules s caller (requests.File origin) done = (done.after ≡ s) × IsOfZone s origin (λ held. TellsList rules caller (file origin) held.records) done.reply
+RequestIsRight rules s caller (requests.Delegations origin) done =
+    (done.after ≡ s) × IsOfZone s origin (λ held. TellsList rules caller (λ rs. delegations (report origin rs)) held.records) done.reply
+RequestIsRight rules s caller (requests.Changes origin from) done =
+    (done.after ≡ s) × IsOfZone s origin (λ held reply. reply ≡ changes (changes_from rules caller from held.changes)) done.reply
+RequestIsRight rules s caller (requests.Rights name record_type asked) done = (done.after ≡ s) × TellsDecision rules (question caller name record_type asked) done.reply
 
 -- an update of this zone is made for the call
 abbrev pub MakesUpdate : List Rule → State → List ℕ → List (List ℕ) → Request → Type 0
@@ -128,17 +194,6 @@ pub record TurnIsRight (rules : List Rule) (s : State) (caller : List ℕ) (requ
   pub zones_stay : (o : List (List ℕ)) → (done.after.zones o ≡ s.zones o) ⊎ MakesUpdate rules s caller o request
   pub receipts_stay : (c i : List ℕ) (kept : Receipt) → s.receipts c i ≡ Some kept → done.after.receipts c i ≡ Some kept
   pub receipts_of_others : (c i : List ℕ) → (done.after.receipts c i ≡ s.receipts c i) ⊎ GivesReceipt caller c i request
-
--- ---- lists
-
--- A caller's list has exactly the records that it may list, in record order (RFC 4034 section 6).
-pub record IsListOf (rules : List Rule) (caller : List ℕ) (set : Records) (rs : List Record) : Type 0 where
-  pub order : InOrder rs
-  pub exactly : (r : Record) → Contains rs r ↔ (IsIn r set × IsGranted rules caller r.owner (type_of r.rdata) action.List)
-
--- what may be listed of a set is such a list
-abbrev pub ListsAreExact : Type 0
-ListsAreExact = (rules : List Rule) (caller : List ℕ) (set : Records) → AreKept set → IsListOf rules caller set (listed rules caller (listing set))
 
 -- ---- all requests
 
