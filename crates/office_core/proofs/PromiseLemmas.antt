@@ -30,9 +30,9 @@ use Rattle.office_core.specs.declared.request.Request.TheVariants as requests
 use Rattle.office_core.specs.Permissions.{question}
 use Rattle.office_core.specs.Replies.{ReplyOf, to_update, id_reused, not_zone, records, file, delegations, changes}
 use Rattle.office_core.specs.States.{Held, State, AreZones, AreReceipts, zone_held}
-use Rattle.office_core.specs.Machine.{Turn, listed, changes_from, of_zone, list_within_reply, changes_reply, step, refused_by, refusal, answered, updated, again, hold, keep, receipt, held_after, change_of}
+use Rattle.office_core.specs.Machine.{Turn, listed, changes_from, of_zone, list_within_reply, changes_reply, told, step, refused_by, refusal, answered, updated, again, hold, keep, receipt, held_after, change_of}
 use Rattle.office_core.specs.Runs.{HasUpdate}
-use Rattle.office_core.specs.Promises.{IsMade, IsNoted, IsWhole, IsOutside, IsFailing, IsOfZone, TellsList, TellsWithin, UpdateIsRight, TurnIsRight}
+use Rattle.office_core.specs.Promises.{IsMade, IsNoted, IsWhole, IsOutside, IsFailing, IsOfZone, TellsList, TellsWithin, UpdateIsRight, RequestIsRight, TurnIsRight}
 use Rattle.office_core.proofs.ListLemmas.{lists_are_exact}
 use Rattle.office_core.proofs.MovedLemmas.{moved_right}
 use Rattle.office_core.proofs.MadeLemmas.{if_made, not_refused, told_apart, if_denied, is_denied, is_unknown, is_outside, is_failing}
@@ -267,6 +267,10 @@ module _ (rules : List Rule) (s : State) (zones : AreZones s) (caller : List ℕ
 
 -- ---- a request
 
+-- what only reads is right where its reply is
+reads_right : {reply : ReplyOf} (rules : List Rule) (s : State) (caller : List ℕ) (request : Request) → RequestIsRight rules s caller request (told s reply) → TurnIsRight rules s caller request (told s reply)
+reads_right rules s caller request is = record { request_is_right = is; zones_stay = λ o. inl refl; receipts_stay = λ c i kept e. e; receipts_of_others = λ c i. inl refl }
+
 pub step_is_right : (rules : List Rule) (s : State) → AreZones s → AreReceipts s → (caller : List ℕ) (request : Request) → HasUpdate request → TurnIsRight rules s caller request (step rules s caller request)
 step_is_right rules s zones receipts caller (requests.Update origin id update) is =
     let o = s.receipts caller id in
@@ -276,12 +280,18 @@ step_is_right rules s zones receipts caller (requests.Update origin id update) i
       receipts_stay = receipts_stay rules s zones receipts caller id origin update is o refl;
       receipts_of_others = receipts_of_others rules s zones receipts caller id origin update is o;
     }
-step_is_right rules s zones receipts caller (requests.List origin) is = record { request_is_right = (refl, tells_all rules s zones caller records origin); zones_stay = λ o. inl refl; receipts_stay = λ c i kept e. e; receipts_of_others = λ c i. inl refl }
-step_is_right rules s zones receipts caller (requests.ListWithin origin top) is = record { request_is_right = (refl, of_zone_right rules s zones caller origin (λ held. TellsWithin rules caller origin top held.records) (list_within_reply rules caller origin top) (λ held zone. tells_within rules s zones caller origin top held zone.kept)); zones_stay = λ o. inl refl; receipts_stay = λ c i kept e. e; receipts_of_others = λ c i. inl refl }
-step_is_right rules s zones receipts caller (requests.File origin) is = record { request_is_right = (refl, tells_all rules s zones caller (file origin) origin); zones_stay = λ o. inl refl; receipts_stay = λ c i kept e. e; receipts_of_others = λ c i. inl refl }
-step_is_right rules s zones receipts caller (requests.Delegations origin) is = record { request_is_right = (refl, tells_all rules s zones caller (λ rs. delegations (report origin rs)) origin); zones_stay = λ o. inl refl; receipts_stay = λ c i kept e. e; receipts_of_others = λ c i. inl refl }
-step_is_right rules s zones receipts caller (requests.Changes origin from) is = record { request_is_right = (refl, of_zone_right rules s zones caller origin (λ held reply. reply ≡ changes (changes_from rules caller from held.changes)) (changes_reply rules caller from) (λ held zone. refl)); zones_stay = λ o. inl refl; receipts_stay = λ c i kept e. e; receipts_of_others = λ c i. inl refl }
-step_is_right rules s zones receipts caller (requests.Rights name record_type asked) is = record { request_is_right = (refl, (decision (question caller name record_type asked) rules, decision_found (question caller name record_type asked) rules, refl)); zones_stay = λ o. inl refl; receipts_stay = λ c i kept e. e; receipts_of_others = λ c i. inl refl }
+step_is_right rules s zones receipts caller (requests.List origin) is =
+    reads_right rules s caller (requests.List origin) (refl, tells_all rules s zones caller records origin)
+step_is_right rules s zones receipts caller (requests.ListWithin origin top) is =
+    reads_right rules s caller (requests.ListWithin origin top) (refl, of_zone_right rules s zones caller origin (λ held. TellsWithin rules caller origin top held.records) (list_within_reply rules caller origin top) (λ held zone. tells_within rules s zones caller origin top held zone.kept))
+step_is_right rules s zones receipts caller (requests.File origin) is =
+    reads_right rules s caller (requests.File origin) (refl, tells_all rules s zones caller (file origin) origin)
+step_is_right rules s zones receipts caller (requests.Delegations origin) is =
+    reads_right rules s caller (requests.Delegations origin) (refl, tells_all rules s zones caller (λ rs. delegations (report origin rs)) origin)
+step_is_right rules s zones receipts caller (requests.Changes origin from) is =
+    reads_right rules s caller (requests.Changes origin from) (refl, of_zone_right rules s zones caller origin (λ held reply. reply ≡ changes (changes_from rules caller from held.changes)) (changes_reply rules caller from) (λ held zone. refl))
+step_is_right rules s zones receipts caller (requests.Rights name record_type asked) is =
+    reads_right rules s caller (requests.Rights name record_type asked) (refl, (decision (question caller name record_type asked) rules, decision_found (question caller name record_type asked) rules, refl))
 
 -- a step keeps receipts of updates
 pub keeps_receipts : (rules : List Rule) (s : State) → AreZones s → AreReceipts s → (caller : List ℕ) (request : Request) → HasUpdate request → AreReceipts (step rules s caller request).after

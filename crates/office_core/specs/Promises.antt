@@ -149,8 +149,8 @@ pub record UpdateIsRight (rules : List Rule) (s : State) (caller id : List ℕ) 
   -- it is refused exactly where the policy denies a point of it
   pub denied : s.receipts caller id ≡ None → (denial : DenialOf)
       → (done.reply ≡ tells denial) ↔ (IsJudged s caller id origin update × IsFirstDenial rules caller (footprint origin update) denial)
-  -- it is told that there is no zone exactly where there is none, that a name is outside it exactly where one is, and that a
-  -- prerequisite fails exactly where all but that is right
+  -- it is told that there is no zone, which item has a name outside it or which prerequisite fails, each exactly where that is so
+  -- and no earlier test refuses it
   pub not_auth : s.receipts caller id ≡ None → (done.reply ≡ to_update replies.NotAuth) ↔ (s.zones origin ≡ None)
   pub not_zone : s.receipts caller id ≡ None → (place : Place) → (done.reply ≡ to_update (replies.NotZone place)) ↔ IsOutside s origin update place
   pub failed : s.receipts caller id ≡ None → (f : Failed) → (done.reply ≡ to_update (replies.Failed f)) ↔ IsFailing rules s caller origin update f
