@@ -147,7 +147,7 @@ fn failures(rt: HostRuntime) -> Result<(), Fail> {
         )?;
         let got = reply_text(alloc, &reply)?;
         let want = wanted(alloc, told)?;
-        assert!(rt; got.as_str() == want.as_str(), "{why}");
+        assert!(rt; got.as_str() == want.as_str(), "{why}: {}", got.as_str());
         let turns: [Turn; 2] = [
             ("admin", "list example.org.", held, why),
             ("admin", asked, again, why),
