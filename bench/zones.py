@@ -4,7 +4,10 @@
   rel    $ORIGIN and $TTL once, relative names, an owner stated once
   paren  as rel, with SOA and TXT over several lines, and comments in them
   mixed  as paren, with $ORIGIN and $TTL for each department, comments, blank lines, units and capitals
+
+    python3 zones.py STYLE OCTETS > FILE
 """
+import sys
 
 ORIGIN = "example.org."
 STYLES = ("plain", "rel", "paren", "mixed")
@@ -106,3 +109,7 @@ def zone(octets, style):
             return "".join(parts)
         parts.append(part)
         size += len(part)
+
+
+if __name__ == "__main__":
+    sys.stdout.write(zone(int(sys.argv[2]), sys.argv[1]))
