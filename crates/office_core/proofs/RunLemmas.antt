@@ -1,14 +1,17 @@
 -- One more call of a run.
 use Rattle.std.proofs.Common.{◌≡◌, ℕ, ◌+◌, ◌<◌, List, [], ◌∷◌, ◌++◌, length, take, get_or, Option, Some, None, refl, sym, ap, subst, ◌∙◌, append_assoc, arith, length-append}
+use Rattle.std.specs.Prelude.{sum_by}
 use Rattle.std.proofs.lemmas.List.{append-nil, take_more}
+use Rattle.std.proofs.lemmas.List.Sums.{sum_by-append}
 use Rattle.grant_policy.specs.declared.rule.Rule.{Rule}
 use Rattle.office_core.specs.declared.request.Call.{Call}
 use Rattle.office_core.specs.declared.reply.Reply.{Reply}
+use Rattle.office_core.specs.declared.fault.TableFault.TheVariants.{Store, NoMemory}
 use Rattle.office_core.specs.declared.reply.Reply.TheVariants.{Servfail}
 use Rattle.office_core.specs.Replies.{ReplyOf, reply_of}
 use Rattle.office_core.specs.States.{State}
-use Rattle.office_core.specs.Steps.{Steps}
-use Rattle.office_core.specs.Runs.{Answer, turn, answers, state_after, one_kept, one_given, kept, given, IsRun}
+use Rattle.office_core.specs.Steps.{Steps, CountsReply}
+use Rattle.office_core.specs.Runs.{Answer, turn, answers, state_after, one_kept, one_given, kept, given, IsRun, failures_told}
 
 same_Some : {T : Type 0} (a b : T) → Some a ≡ Some b → a ≡ b
 same_Some a b e = cc
@@ -77,3 +80,18 @@ module _ (rules : List Rule) where
       let taken : take (i + 1) calls ≡ take i calls ++ call ∷ [] = take_more calls i call low ∙ ap (λ (x : Call). take i calls ++ x ∷ []) (sym is) in
       subst (λ cs. IsRun after rules s cs all) (sym taken)
       (subst (λ l. IsRun after rules s (take i calls ++ call ∷ []) l) (sym more) (run_more before after s (take i calls) rs call r run steps))
+
+-- ---- failures
+
+-- a step tells a failure where the table counted one
+one_told : (before after : ℕ) (r : Reply) → CountsReply before after r → after ≡ before + failures_told r
+one_told before after (Servfail Store) e = e
+one_told before after (Servfail NoMemory) e = omega (arith, e)
+one_told before after r e = omega (arith, e)
+
+-- and so do all steps with one more
+pub counts_next : (first before after : ℕ) (rs all : List Reply) (r : Reply) → before ≡ first + sum_by failures_told rs → all ≡ rs ++ r ∷ [] → CountsReply before after r → after ≡ first + sum_by failures_told all
+counts_next first before after rs all r told more one =
+    let last : after ≡ before + failures_told r = one_told before after r one in
+    let sum : sum_by failures_told all ≡ sum_by failures_told rs + (0 + failures_told r) = ap (sum_by failures_told) more ∙ sum_by-append failures_told rs (r ∷ []) in
+    omega (arith, told, last, sum)

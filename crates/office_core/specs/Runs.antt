@@ -6,7 +6,9 @@ use Rattle.zone_core.specs.Updates.{IsUpdate}
 use Rattle.office_core.specs.declared.request.Request.{Request}
 use Rattle.office_core.specs.declared.request.Request.TheVariants as requests
 use Rattle.office_core.specs.declared.request.Call.{Call}
+use Rattle.office_core.specs.declared.fault.TableFault.TheVariants.{Store}
 use Rattle.office_core.specs.declared.reply.Reply.{Reply}
+use Rattle.office_core.specs.declared.reply.Reply.TheVariants.{Servfail}
 use Rattle.office_core.specs.Replies.{ReplyOf, reply_of}
 use Rattle.office_core.specs.States.{State}
 use Rattle.office_core.specs.Machine.{Turn, step}
@@ -68,3 +70,8 @@ pub record IsRun (holds : State → Type 0) (rules : List Rule) (s : State) (cal
   pub each_replied : length rs ≡ length calls
   pub as_machine : given calls rs ≡ answers rules s (kept calls rs)
   pub held : holds (state_after rules s (kept calls rs))
+
+-- how many failures of the table a reply tells
+abbrev pub failures_told : Reply → ℕ
+failures_told (Servfail Store) = 1
+failures_told reply = 0

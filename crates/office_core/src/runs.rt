@@ -1,8 +1,8 @@
 //! Runs of the machine.
 
-ghost use Rattle.std.specs.Prelude.{IfOk, OnErr};
+ghost use Rattle.std.specs.Prelude.{◌≡◌, ◌+◌, IfOk, OnErr, sum_by};
 ghost use Rattle.office_core.specs.States.{State, AreReceipts};
-ghost use Rattle.office_core.specs.Runs.{IsRun, HasUpdate, HaveUpdates, kept, given};
+ghost use Rattle.office_core.specs.Runs.{IsRun, HasUpdate, HaveUpdates, kept, given, failures_told};
 ghost use Rattle.office_core.specs.Promises.{CallsAreRight};
 ghost use Rattle.office_core.specs.Isolation.{AreToldAlone};
 
@@ -28,7 +28,13 @@ pub fn run<T: ZoneTable>(
     ensures promises { T.is_honest table.new → (s : State) → T.holds table.old s → AreReceipts s → IfOk result (λ replies. CallsAreRight policy.now s (kept calls.now replies.items)) }
     // Each caller is told what it would be told alone, as far as the law of isolation goes.
     ensures alone { T.is_honest table.new → (s : State) → T.holds table.old s → IfOk result (λ replies. AreToldAlone policy.now s (kept calls.now replies.items) (given calls.now replies.items)) }
+    // A store that has kept its word had kept it before.
+    ensures honest { T.is_honest table.new → T.is_honest table.old }
+    // As many failures of the table are told as the table counted.
+    ensures counts { IfOk result (λ replies. T.failures table.new ≡ T.failures table.old + sum_by failures_told replies.items) }
+    // Where there is no list of replies the table is as it was.
     ensures refused { OnErr result ((s : State) → T.holds table.old s → T.holds table.new s) }
+    ensures uncounted { OnErr result (T.failures table.new ≡ T.failures table.old) }
 {
     notes_calls(calls);
     replies_to(alloc, table, policy, calls)
@@ -42,7 +48,10 @@ fn replies_to<T: ZoneTable>(
     calls: &[Call],
 ) -> Result<Vec<Reply>, AllocError>
     ensures run { T.is_honest table.new → (s : State) → T.holds table.old s → IfOk result (λ replies. IsRun (T.holds table.new) policy.now s calls.now replies.items) }
+    ensures honest { T.is_honest table.new → T.is_honest table.old }
+    ensures counts { IfOk result (λ replies. T.failures table.new ≡ T.failures table.old + sum_by failures_told replies.items) }
     ensures refused { OnErr result ((s : State) → T.holds table.old s → T.holds table.new s) }
+    ensures uncounted { OnErr result (T.failures table.new ≡ T.failures table.old) }
 {
     // no reply takes memory here behind a step: there is room for all
     let mut replies = Vec::with_capacity(alloc, calls.len())?;
