@@ -24,6 +24,7 @@ pub mod ChangeLemmas
 pub mod MergeLemmas
 pub mod OutcomeLemmas
 pub mod ChangedLemmas
+pub mod RebuiltLemmas
 pub mod PartLemmas
 pub mod ZoneLemmas
 pub mod VersionLemmas

@@ -13,6 +13,7 @@ pub mod Sites
 pub mod Merges
 pub mod Changes
 pub mod Parts
+pub mod Rebuilt
 pub mod Sight
 pub mod Accounts
 pub mod Met

@@ -5,6 +5,7 @@ ghost use Rattle.zone_core.specs.Parts.{VerdictsReadTheirNames, OperationsReadTh
 ghost use Rattle.zone_core.specs.Sight.{VerdictsLookAlike, UpdatesLookAlike, QuietUpdatesLookAlike, ListingsLookAlike, PartsLookAlike, ChangesLookAlike, QuietChangesShowNothing};
 ghost use Rattle.zone_core.specs.Accounts.{UpdatesLeave};
 ghost use Rattle.zone_core.specs.Changes.{ChangesMake, SameSetsAreOne};
+ghost use Rattle.zone_core.specs.Rebuilt.{ZonesAreRebuilt};
 ghost use Rattle.zone_core.specs.Updates.{EqualUpdatesAreOne};
 ghost use Rattle.zone_core.specs.Versions.{UpdatesKeepZones, UpdatesAdvance};
 
@@ -84,4 +85,9 @@ pub fn equal_sets_are_one()
 /// Updates have equal items, in the same order, exactly where they are one.
 pub fn equal_updates_are_one()
     ensures { EqualUpdatesAreOne }
+{}
+
+/// The records of a zone, in whatever order and however often they come, are built as that zone.
+pub fn zones_are_built_of_their_records()
+    ensures { ZonesAreRebuilt }
 {}

@@ -30,6 +30,7 @@ pub use laws::{
     listings_look_alike, operations_read_their_names, quiet_updates_look_alike,
     updates_advance_serials, updates_keep_zones, updates_leave_records, updates_look_alike,
     updates_need_their_part, verdicts_look_alike, verdicts_read_their_names,
+    zones_are_built_of_their_records,
 };
 pub use outcome::{Outcome, apply, apply_owned};
 pub use rcode::Rcode;
