@@ -23,7 +23,7 @@ has_each P [] x all i = absurd i
 has_each P (y ∷ ys) x all (inl e) = subst P e all.0
 has_each P (y ∷ ys) x all (inr i) = has_each P ys x all.1 i
 
-in_filter : {X : Type 0} (p : X → Bool) (xs : List X) (x : X) → In x (filter p xs) ↔ (In x xs × (p x ≡ true))
+pub in_filter : {X : Type 0} (p : X → Bool) (xs : List X) (x : X) → In x (filter p xs) ↔ (In x xs × (p x ≡ true))
 in_filter p [] x = (λ i. absurd i, λ both. absurd both.0)
 in_filter {X} p (y ∷ ys) x = by_test (p y) refl (in_filter p ys x)
   where
@@ -53,7 +53,7 @@ in_listing set kept r =
 
 -- ---- the law
 
-if_granted : (v : Verdict) → (is_granted v ≡ true) ↔ ((id : List ℕ) × (v ≡ granted id))
+pub if_granted : (v : Verdict) → (is_granted v ≡ true) ↔ ((id : List ℕ) × (v ≡ granted id))
 if_granted (granted id) = (λ e. (id, refl), λ g. refl)
 if_granted (denied by) = (λ e. absurd cc, λ g. let e = g.1 in absurd cc)
 

@@ -1,37 +1,37 @@
 -- What a table in memory finds, and what it holds once something was put in.
-use Rattle.std.proofs.Common.{◌≡◌, ◌≢◌, ℕ, zero, drop, suc, ◌+◌, ◌-◌, ◌<◌, ◌≤◌, List, [], ◌∷◌, ◌++◌, length, get_or, map, Bool, true, false, cond, ◌&&◌, nat_lt, arith, Option, Some, None, Result, Ok, Err, refl, sym, ap, ◌∙◌, subst, append_assoc, Vec, Global}
+use Rattle.std.proofs.Common.{◌≡◌, ℕ, zero, suc, ◌<◌, ◌≤◌, List, [], ◌∷◌, ◌++◌, length, get_or, map, Bool, true, false, cond, ◌&&◌, nat_lt, arith, Option, Some, None, Result, Ok, Err, refl, sym, ap, ◌∙◌, subst, append_assoc, Vec, Global}
 use Rattle.std.specs.Prelude.{OnErr, option_map, option_and_then, bytes_eq}
 use Rattle.std.proofs.Math.ListN.{set}
-use Rattle.std.specs.List.{AllByRecursion, find, position, position_or_len, list_any}
+use Rattle.std.specs.List.{AllByRecursion, find, position, position_or_len}
 use Rattle.std.specs.Map.{lookup}
 use Rattle.std.specs.BTreeMap.{BTreeMap, get, is_at}
 use Rattle.std.specs.Cmp.Lexicographic.{slice_cmp}
 use Rattle.std.specs.Ordering.{nat_cmp}
 use Rattle.std.proofs.lemmas.Bool.{ltb-false}
 use Rattle.std.specs.Cmp.{both_ways}
-use Rattle.std.proofs.lemmas.List.{append-nil, set-set, map-append, drop_more, get_or-drop, get_or_default, length-drop, length-set, with_items_is}
+use Rattle.std.proofs.lemmas.List.{append-nil, set-set, map-append, get_or_default, length-set, with_items_is}
 use Rattle.std.proofs.lemmas.Grind.{get_or-set_at}
 use Rattle.std.specs.Vec.{with_items}
 use Rattle.dns_data.specs.declared.record.Record.{Record}
-use Rattle.std.proofs.lemmas.List.Folds.{find_at, find-set, find_past, list_any_at, Any-from_list_any}
+use Rattle.std.proofs.lemmas.List.Folds.{find_at, find-set, find_past}
 use Rattle.std.proofs.lemmas.List.Quantifiers.{position-Some}
-use Rattle.std.proofs.lemmas.List.Kept.{AllPairs-cons}
 use Rattle.std.proofs.lemmas.Map.Made.{lookup-map_values}
 use Rattle.std.proofs.lemmas.Map.Text.{is_eq-slice_cmp}
 use Rattle.std.proofs.lemmas.Option.{slice_get-get_or, slice_get_past}
 use Rattle.std.proofs.lemmas.Slice.Eq.{bytes_eq-Decides}
 use Rattle.dns_names.specs.Order.{same_name}
 use Rattle.zone_core.proofs.SetLemmas.{by_cases, name_is, name_self, name_other}
-use Rattle.zone_core.specs.Changes.{FitsIn, changed}
+use Rattle.zone_core.specs.Changes.{changed}
+use Rattle.zone_core.specs.Updates.{IsUpdate}
 use Rattle.zone_core.specs.Zones.{ZoneOf, IsZone}
 use Rattle.office_core.specs.declared.receipt.Change.{Change}
 use Rattle.office_core.specs.declared.receipt.Receipt.{Receipt}
 use Rattle.office_core.specs.declared.receipt.Addition.{Addition}
 use Rattle.office_core.specs.declared.memory.HeldZone.{HeldZone}
-use Rattle.office_core.specs.States.{ChangeOf, Held, State, zone_held, zone_at, changes_at}
+use Rattle.office_core.specs.States.{Held, State, zone_held, zone_at, changes_at}
 use Rattle.office_core.specs.Machine.{keep}
 use Rattle.office_core.specs.Tables.{with_change_of, Fits, FitsChange, FitsHeld, addition_in, change_in, committed, held_with}
-use Rattle.office_core.specs.Memory.{MemoryOf, AreApart, IsPutAt, HoldsSame, HoldsChange, Receipts, EachIsZone, HoldsState, held_among, held_of, is_of, receipt_among, receipt_in, receipt_rows, zone_among, without_changes, state_of}
+use Rattle.office_core.specs.Memory.{MemoryOf, IsPutAt, HoldsSame, HoldsChange, Receipts, EachIsZone, IsMemory, HoldsState, state_in, held_among, held_of, is_of, receipt_among, receipt_in, receipt_rows, zone_among, without_changes, state_of}
 
 -- ---- lists
 
@@ -171,6 +171,10 @@ pub room_same : (zones after : List HeldZone) (origin : List (List ℕ)) (at : �
     → (o : List (List ℕ)) → held_among after o ≡ held_among zones o
 room_same zones after origin at place p o = ap (λ q. held_among q o) p.put ∙ held_same zones origin at p.held place p.becomes.0 p.becomes.1 o
 
+pub room_are_zones : (zones after : List HeldZone) (at : ℕ) → EachIsZone zones → at < length zones → IsPutAt zones after at HoldsSame → EachIsZone after
+room_are_zones zones after at all inside p =
+    subst EachIsZone (sym p.put) (all_set (λ h. IsZone h.zone) zones at p.held all (subst IsZone (sym p.becomes.0) (all_at (λ h. IsZone h.zone) zones at p.held all inside)))
+
 -- what is put twice
 twice : (zones room after : List HeldZone) (at : ℕ) (B C : HeldZone → HeldZone → Type 0) → IsPutAt zones room at B → (q : IsPutAt room after at C) → after ≡ set zones at q.held
 twice zones room after at B C p q = q.put ∙ ap (λ r. set r at q.held) p.put ∙ set-set zones at p.held q.held
@@ -255,23 +259,20 @@ same_rows m n same c i = rows_are n c i ∙ same c i ∙ sym (rows_are m c i)
 -- ---- states
 
 -- what is held by what is found
-pub holds_found : (m : MemoryOf) (s : State) → EachIsZone m.zones → ((origin : List (List ℕ)) → s.zones origin ≡ held_among m.zones origin)
+pub holds_found : (m : MemoryOf) (s : State) → IsMemory m → ((origin : List (List ℕ)) → s.zones origin ≡ held_among m.zones origin)
     → ((caller id : List ℕ) → s.receipts caller id ≡ receipt_among m.receipts caller id) → HoldsState m s
 holds_found m s all zones receipts = record {
   zones = zones;
   receipts = receipts;
-  are_zones = λ origin held e. each_found m.zones origin held all (sym (zones origin) ∙ e);
+  are_zones = λ origin held e. each_found m.zones origin held all.zones (sym (zones origin) ∙ e);
+  are_receipts = λ caller id receipt e. all.receipts caller id receipt (sym (receipts caller id) ∙ e);
 }
 
--- the state that a table holds
-abbrev pub state_in : MemoryOf → State
-state_in m = record { zones = held_among m.zones; receipts = receipt_among m.receipts }
-
-pub holds_itself : (m : MemoryOf) → EachIsZone m.zones → HoldsState m (state_in m)
+pub holds_itself : (m : MemoryOf) → IsMemory m → HoldsState m (state_in m)
 holds_itself m all = holds_found m (state_in m) all (λ origin. refl) (λ caller id. refl)
 
 -- what fits each state that is held fits what is found
-pub fits_found : (m : MemoryOf) (a : Addition) (c : Change) (h : HeldZone) → EachIsZone m.zones → (Unit {0} → (s : State) → HoldsState m s → Fits s (addition_in a))
+pub fits_found : (m : MemoryOf) (a : Addition) (c : Change) (h : HeldZone) → IsMemory m → (Unit {0} → (s : State) → HoldsState m s → Fits s (addition_in a))
     → a.change ≡ Some c → find (is_of a.receipt.origin) m.zones ≡ Some h → FitsHeld a.receipt.origin (held_of h) (change_in c)
 fits_found m a c h all fits is found =
     let origin = a.receipt.origin in
@@ -286,7 +287,7 @@ pub fits_zone : (origin : List (List ℕ)) (h : HeldZone) (c : Change) → h.zon
 fits_zone origin h c is fits = subst IsZone (λ i. record { origin = sym is i; records = changed h.zone.records c.removed.items c.added.items }) fits.zone
 
 -- its zone is there
-pub has_place : (m : MemoryOf) (a : Addition) (c : Change) → EachIsZone m.zones → (Unit {0} → (s : State) → HoldsState m s → Fits s (addition_in a))
+pub has_place : (m : MemoryOf) (a : Addition) (c : Change) → IsMemory m → (Unit {0} → (s : State) → HoldsState m s → Fits s (addition_in a))
     → a.change ≡ Some c → position (is_of a.receipt.origin) m.zones ≡ None → ⊥
 has_place m a c all fits is none =
     let origin = a.receipt.origin in
@@ -314,6 +315,35 @@ pub receipt_told : (m : MemoryOf) (zones : List HeldZone) (receipts : Receipts) 
 receipt_told m zones receipts s caller id o is h found =
     found ∙ sym (rows_are receipts caller id) ∙ ap (λ q. receipt_among q.receipts caller id) is ∙ sym (h.receipts caller id)
 
+-- ---- receipts
+
+-- without receipts there are none that are not of updates
+pub no_receipts : (m : MemoryOf) → EachIsZone m.zones → m.receipts ≡ [] → IsMemory m
+no_receipts m all none = record {
+  zones = all;
+  receipts = λ caller id receipt e. (let bad : None ≡ Some receipt = ap (λ rs. receipt_among rs caller id) (sym none) ∙ e in cc);
+}
+
+-- what was of updates is, where the same is found
+pub same_receipts : (m n : MemoryOf) → EachIsZone n.zones → ((c i : List ℕ) → receipt_among n.receipts c i ≡ receipt_among m.receipts c i) → IsMemory m → IsMemory n
+same_receipts m n all same is = record {
+  zones = all;
+  receipts = λ caller id receipt e. is.receipts caller id receipt (sym (same caller id) ∙ e);
+}
+
+-- and with one more of an update
+pub one_receipt : (m n : MemoryOf) (caller id : List ℕ) (receipt : Receipt) → EachIsZone n.zones
+    → ((c i : List ℕ) → receipt_among n.receipts c i ≡ cond (bytes_eq c caller && bytes_eq i id) (Some receipt) (receipt_among m.receipts c i))
+    → IsUpdate receipt.update → IsMemory m → IsMemory n
+one_receipt m n caller id receipt all kept update is = record {
+  zones = all;
+  receipts = λ c i r e. by_cases (bytes_eq c caller && bytes_eq i id) (IsUpdate r.update)
+      (λ t. let here : Some receipt ≡ Some r = rw t at (sym (kept c i) ∙ e) in let same : receipt ≡ r = cc in subst (λ q. IsUpdate q.update) same update)
+      (λ f. let there : receipt_among m.receipts c i ≡ Some r = rw f at (sym (kept c i) ∙ e) in is.receipts c i r there);
+}
+
+-- ---- what is held behind a call
+
 -- what is found stays
 pub holds_same : (m n : MemoryOf) (s : State) → ((o : List (List ℕ)) → held_among n.zones o ≡ held_among m.zones o)
     → ((c i : List ℕ) → receipt_among n.receipts c i ≡ receipt_among m.receipts c i) → HoldsState m s → HoldsState n s
@@ -321,10 +351,11 @@ holds_same m n s zones receipts h = record {
   zones = λ o. h.zones o ∙ sym (zones o);
   receipts = λ c i. h.receipts c i ∙ sym (receipts c i);
   are_zones = h.are_zones;
+  are_receipts = h.are_receipts;
 }
 
 -- a change is made, and a receipt kept
-pub holds_change : (m n : MemoryOf) (s : State) (a : Addition) (c : Change) → a.change ≡ Some c → EachIsZone n.zones
+pub holds_change : (m n : MemoryOf) (s : State) (a : Addition) (c : Change) → a.change ≡ Some c → IsMemory n
     → ((o : List (List ℕ)) → held_among n.zones o ≡ cond (same_name o a.receipt.origin) (option_map (held_with (change_in c)) (held_among m.zones a.receipt.origin)) (held_among m.zones o))
     → ((c i : List ℕ) → receipt_among n.receipts c i ≡ cond (bytes_eq c a.caller && bytes_eq i a.id) (Some a.receipt) (receipt_among m.receipts c i))
     → HoldsState m s → HoldsState n (committed (addition_in a) s)
@@ -336,16 +367,14 @@ holds_change m n s a c is all zones receipts h =
     (λ caller id. (λ k. cond (bytes_eq caller a.caller && bytes_eq id a.id) (Some a.receipt) (h.receipts caller id k)) ∙ sym (receipts caller id)))
 
 -- a receipt is kept, and no change made
-pub holds_receipt : (m n : MemoryOf) (s : State) (a : Addition) → a.change ≡ None → n.zones ≡ m.zones
+pub holds_receipt : (m n : MemoryOf) (s : State) (a : Addition) → a.change ≡ None → IsMemory n → n.zones ≡ m.zones
     → ((c i : List ℕ) → receipt_among n.receipts c i ≡ cond (bytes_eq c a.caller && bytes_eq i a.id) (Some a.receipt) (receipt_among m.receipts c i))
     → HoldsState m s → HoldsState n (committed (addition_in a) s)
-holds_receipt m n s a is zones receipts h =
+holds_receipt m n s a is all zones receipts h =
     subst (λ q. HoldsState n (keep (with_change_of s a.receipt.origin (option_map change_in q)) a.caller a.id a.receipt)) (sym is)
-    (record {
-      zones = λ o. h.zones o ∙ ap (λ zs. held_among zs o) (sym zones);
-      receipts = λ caller id. (λ k. cond (bytes_eq caller a.caller && bytes_eq id a.id) (Some a.receipt) (h.receipts caller id k)) ∙ sym (receipts caller id);
-      are_zones = h.are_zones;
-    })
+    (holds_found n (keep s a.caller a.id a.receipt) all
+    (λ o. h.zones o ∙ ap (λ zs. held_among zs o) (sym zones))
+    (λ caller id. (λ k. cond (bytes_eq caller a.caller && bytes_eq id a.id) (Some a.receipt) (h.receipts caller id k)) ∙ sym (receipts caller id)))
 
 -- ---- a new table
 
@@ -373,7 +402,7 @@ zones_in_pairs (z ∷ zones) origin =
     by_cases (same_name z.origin origin) (option_map without_changes (zone_among (z ∷ zones) origin) ≡ held_pair (map fresh (z ∷ zones)) origin) (λ t. rw t refl) (λ f. rw f (zones_in_pairs zones origin))
 
 -- zones of which nothing was changed and nothing answered
-pub holds_fresh : (m : MemoryOf) (zones : List ZoneOf) → EachIsZone m.zones → map is_fresh m.zones ≡ map fresh zones → m.receipts ≡ [] → HoldsState m (state_of zones)
+pub holds_fresh : (m : MemoryOf) (zones : List ZoneOf) → IsMemory m → map is_fresh m.zones ≡ map fresh zones → m.receipts ≡ [] → HoldsState m (state_of zones)
 holds_fresh m zones all same none =
     holds_found m (state_of zones) all (λ origin. zones_in_pairs zones origin ∙ ap (λ ps. held_pair ps origin) (sym same) ∙ sym (held_in_pairs m.zones origin))
     (λ caller id. sym (ap (λ rs. receipt_among rs caller id) none))
@@ -389,31 +418,3 @@ more_fresh held h zone before rest all is none first e =
 -- all are taken
 pub all_fresh : (held : List HeldZone) (rest : List ZoneOf) (all : List (ZoneOf × List Change)) → rest ≡ [] → map is_fresh held ++ map fresh rest ≡ all → map is_fresh held ≡ all
 all_fresh held rest all none e = sym (append-nil (map is_fresh held)) ∙ ap (λ q. map is_fresh held ++ map fresh q) (sym none) ∙ e
-
--- ---- names that are apart
-
--- a zone whose origin none behind it has
-pub apart_cons : (z : ZoneOf) (zones : List ZoneOf) → list_any (λ other. same_name other.origin z.origin) zones ≡ false → AreApart zones → AreApart (z ∷ zones)
-apart_cons z zones none apart = AllPairs-cons (λ a b. a.origin ≢ b.origin) z zones others apart where
-  others : (k : ℕ) (d : ZoneOf) → k < length zones → z.origin ≢ (get_or zones k d).origin
-  others k d lt e =
-      let same : same_name (get_or zones k d).origin z.origin ≡ true = subst (λ q. same_name q z.origin ≡ true) e (name_self z.origin) in
-      let some : list_any (λ other. same_name other.origin z.origin) zones ≡ true = list_any_at (λ other. same_name other.origin z.origin) zones k d lt same in
-      let bad : true ≡ false = sym some ∙ none in cc
-
--- zones from a place on, where the one there is apart from those behind it
-pub apart_more : (zones : List ZoneOf) (i : ℕ) (z : ZoneOf) → i < length zones → z ≡ get_or zones i z
-    → list_any (λ other. same_name other.origin z.origin) (drop (i + 1) zones) ≡ false → AreApart (drop (i + 1) zones) → AreApart (drop i zones)
-apart_more zones i z lt here none apart = subst AreApart (sym (drop_more zones i z lt ∙ ap (λ q. q ∷ drop (i + 1) zones) (sym here))) (apart_cons z (drop (i + 1) zones) none apart)
-
--- a zone whose origin one behind it has
-pub not_apart : (zones : List ZoneOf) (i : ℕ) (z : ZoneOf) → i < length zones → z ≡ get_or zones i z
-    → list_any (λ other. same_name other.origin z.origin) (drop (i + 1) zones) ≡ true → AreApart zones → ⊥
-not_apart zones i z lt here some apart =
-    let any = Any-from_list_any (λ (other : ZoneOf). same_name other.origin z.origin) (drop (i + 1) zones) some in
-    let k = any.0 in
-    let inside : i + 1 + k < length zones = omega (arith, any.2, length-drop (i + 1) zones) in
-    let there : get_or zones (i + 1 + k) z ≡ get_or (drop (i + 1) zones) k z = sym (get_or-drop (i + 1) zones k z) in
-    let found : get_or (drop (i + 1) zones) k z ≡ any.1 = get_or_default (drop (i + 1) zones) k z any.1 any.2 ∙ any.3 in
-    let origin : (get_or zones (i + 1 + k) z).origin ≡ z.origin = ap (λ q. q.origin) (there ∙ found) ∙ name_is any.1.origin z.origin any.4 in
-    apart i (i + 1 + k) z (omega arith) inside (ap (λ q. q.origin) (sym here) ∙ sym origin)

@@ -28,12 +28,13 @@ use Rattle.office_core.specs.declared.reply.UpdateReply.TheVariants.{NoError, No
 use Rattle.office_core.specs.declared.request.Request.{Request}
 use Rattle.office_core.specs.declared.request.Request.TheVariants as requests
 use Rattle.office_core.specs.Permissions.{question}
-use Rattle.office_core.specs.Replies.{ReplyOf, to_update, id_reused, not_zone, records, file, delegations, changes}
+use Rattle.office_core.specs.Replies.{ReplyOf, to_update, id_reused, not_zone, records, file, delegations}
 use Rattle.office_core.specs.States.{Held, State, AreZones, AreReceipts, zone_held}
 use Rattle.office_core.specs.Machine.{Turn, listed, changes_from, of_zone, list_within_reply, changes_reply, told, step, refused_by, refusal, answered, updated, again, hold, keep, receipt, held_after, change_of}
 use Rattle.office_core.specs.Runs.{HasUpdate}
-use Rattle.office_core.specs.Promises.{IsMade, IsNoted, IsWhole, IsOutside, IsFailing, IsOfZone, TellsList, TellsWithin, UpdateIsRight, RequestIsRight, TurnIsRight}
+use Rattle.office_core.specs.Promises.{IsMade, IsNoted, IsWhole, IsOutside, IsFailing, IsOfZone, TellsList, TellsWithin, TellsChanges, UpdateIsRight, RequestIsRight, TurnIsRight}
 use Rattle.office_core.proofs.ListLemmas.{lists_are_exact}
+use Rattle.office_core.proofs.ToldLemmas.{changes_are_exact}
 use Rattle.office_core.proofs.MovedLemmas.{moved_right}
 use Rattle.office_core.proofs.MadeLemmas.{if_made, not_refused, told_apart, if_denied, is_denied, is_unknown, is_outside, is_failing}
 
@@ -289,7 +290,11 @@ step_is_right rules s zones receipts caller (requests.File origin) is =
 step_is_right rules s zones receipts caller (requests.Delegations origin) is =
     reads_right rules s caller (requests.Delegations origin) (refl, tells_all rules s zones caller (λ rs. delegations (report origin rs)) origin)
 step_is_right rules s zones receipts caller (requests.Changes origin from) is =
-    reads_right rules s caller (requests.Changes origin from) (refl, of_zone_right rules s zones caller origin (λ held reply. reply ≡ changes (changes_from rules caller from held.changes)) (changes_reply rules caller from) (λ held zone. refl))
+    reads_right rules s caller (requests.Changes origin from) (
+      refl,
+      of_zone_right rules s zones caller origin (λ held. TellsChanges rules caller from held.changes) (changes_reply rules caller from)
+          (λ held zone. (changes_from rules caller from held.changes, changes_are_exact rules caller from held.changes, refl)),
+    )
 step_is_right rules s zones receipts caller (requests.Rights name record_type asked) is =
     reads_right rules s caller (requests.Rights name record_type asked) (refl, (decision (question caller name record_type asked) rules, decision_found (question caller name record_type asked) rules, refl))
 

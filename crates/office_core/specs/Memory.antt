@@ -1,7 +1,7 @@
 -- What a table in memory holds.
-use Rattle.std.specs.Prelude.{◌≡◌, ◌≢◌, ℕ, ◌<◌, List, [], ◌∷◌, ◌++◌, slice_index_or, slice_set, vec_len, vec_capacity, map, Bool, Option, Some, None, option_map, option_and_then, refl}
+use Rattle.std.specs.Prelude.{◌≡◌, ℕ, ◌<◌, List, [], ◌∷◌, ◌++◌, slice_index_or, slice_set, vec_len, vec_capacity, map, Bool, Option, None, option_map, option_and_then, refl}
 use Rattle.std.specs.Coded.{Coded, code_by, coded×, coded_ℕ, coded_list}
-use Rattle.std.specs.List.{AllByRecursion, AllPairs, find}
+use Rattle.std.specs.List.{AllByRecursion, find}
 use Rattle.std.specs.Map.{lookup}
 use Rattle.std.specs.BTreeMap.{BTreeMap, get, is_at}
 use Rattle.std.specs.Cmp.Lexicographic.{slice_cmp}
@@ -13,14 +13,10 @@ use Rattle.office_core.specs.declared.receipt.Receipt.{Receipt}
 use Rattle.office_core.specs.declared.memory.HeldZone.{HeldZone}
 use Rattle.office_core.specs.contracts.receipt.Receipt as of_receipt
 use Rattle.office_core.specs.contracts.memory.HeldZone as of_held
-use Rattle.office_core.specs.States.{Held, State, AreZones}
+use Rattle.office_core.specs.States.{Held, State, AreZones, AreReceipts}
 use Rattle.office_core.specs.Tables.{change_in}
 
 -- ---- zones
-
--- no two zones have one origin
-abbrev pub AreApart : List ZoneOf → Type 0
-AreApart zones = AllPairs (λ a b. a.origin ≢ b.origin) zones
 
 -- the first zone of an origin
 abbrev pub zone_among : List ZoneOf → List (List ℕ) → Option ZoneOf
@@ -64,15 +60,25 @@ held_among zones origin = option_map held_of (find (is_of origin) zones)
 abbrev pub receipt_among : List (List ℕ × List (List ℕ × Receipt)) → List ℕ → List ℕ → Option Receipt
 receipt_among receipts caller id = option_and_then (lookup (is_at (slice_cmp nat_cmp id))) (lookup (is_at (slice_cmp nat_cmp caller)) receipts)
 
+-- the state that is found in it
+abbrev pub state_in : MemoryOf → State
+state_in m = record { zones = held_among m.zones; receipts = receipt_among m.receipts }
+
 -- each zone is one
 abbrev pub EachIsZone : List HeldZone → Type 0
 EachIsZone zones = AllByRecursion (λ held. IsZone held.zone) zones
+
+-- what holds of every such table: it has zones, and receipts of updates
+pub record IsMemory (m : MemoryOf) : Type 0 where
+  pub zones : EachIsZone m.zones
+  pub receipts : AreReceipts (state_in m)
 
 -- The table holds a state: what is found of each origin, and under each caller and identifier, is what the state has.
 pub record HoldsState (m : MemoryOf) (s : State) : Type 0 where
   pub zones : (origin : List (List ℕ)) → s.zones origin ≡ held_among m.zones origin
   pub receipts : (caller id : List ℕ) → s.receipts caller id ≡ receipt_among m.receipts caller id
   pub are_zones : AreZones s
+  pub are_receipts : AreReceipts s
 
 -- ---- how it is kept
 

@@ -1,6 +1,6 @@
 -- What the office promises of each request and of all of them, in words of its policy and its zones.
-use Rattle.std.specs.Prelude.{◌≡◌, ◌≢◌, ◌⊎◌, ◌↔◌, ℕ, List, [], ◌∷◌, ◌++◌, Some, None}
-use Rattle.std.specs.List.{Contains, fold}
+use Rattle.std.specs.Prelude.{◌≡◌, ◌≢◌, ◌⊎◌, ◌↔◌, ℕ, suc, ◌+◌, ◌<◌, ◌≤◌, List, [], ◌∷◌, ◌++◌, Some, None, slice_get}
+use Rattle.std.specs.List.{AllPairs, Contains, fold}
 use Rattle.dns_names.specs.Labels.{IsWithin}
 use Rattle.dns_data.specs.declared.record.Record.{Record}
 use Rattle.dns_data.specs.declared.record_type.RecordType.TheVariants as types
@@ -28,7 +28,7 @@ use Rattle.office_core.specs.declared.request.Request.{Request}
 use Rattle.office_core.specs.declared.request.Request.TheVariants as requests
 use Rattle.office_core.specs.Footprints.{Point, footprint}
 use Rattle.office_core.specs.Permissions.{DenialOf, question, IsGranted, IsPermitted, IsFirstDenial}
-use Rattle.office_core.specs.Replies.{ReplyOf, to_update, id_reused, not_auth, not_zone, records, file, delegations, changes, right}
+use Rattle.office_core.specs.Replies.{ReplyOf, NumberedOf, to_update, id_reused, not_auth, not_zone, records, file, delegations, changes, right}
 use Rattle.office_core.specs.States.{ChangeOf, Held, State, AreZones, AreReceipts, zone_held}
 use Rattle.office_core.specs.Machine.{Turn, listed, changes_from, change_of, receipt}
 use Rattle.office_core.specs.Runs.{HaveUpdates, turn, state_after}
@@ -119,6 +119,48 @@ pub record IsListOf (rules : List Rule) (caller : List ℕ) (set : Records) (rs 
 abbrev pub ListsAreExact : Type 0
 ListsAreExact = (rules : List Rule) (caller : List ℕ) (set : Records) → AreKept set → IsListOf rules caller set (listed rules caller (listing set))
 
+-- ---- changes
+
+-- so many of a list have a property
+abbrev pub SoMany : {X : Type 0} → (X → Type 0) → List X → ℕ → Type 0
+SoMany P [] n = n ≡ 0
+SoMany P (x ∷ xs) n = ((m : ℕ) × P x × (n ≡ suc m) × SoMany P xs m) ⊎ (¬ P x × SoMany P xs n)
+
+-- one of a list has a property, and so many before it do
+abbrev pub IsNth : {X : Type 0} → (X → Type 0) → List X → ℕ → X → Type 0
+IsNth {X} P xs n x = (before : List X) × (after : List X) × (xs ≡ before ++ x ∷ after) × P x × SoMany P before n
+
+-- a caller may list a record
+abbrev pub MayList : List Rule → List ℕ → Record → Type 0
+MayList rules caller r = IsGranted rules caller r.owner (type_of r.rdata) action.List
+
+-- it sees something of a change: it may list some record that went or came
+abbrev pub SeesSome : List Rule → List ℕ → ChangeOf → Type 0
+SeesSome rules caller c = (r : Record) × (Contains c.removed r ⊎ Contains c.added r) × MayList rules caller r
+
+-- of some records these are shown to it: those that it may list, in their order, and no other
+abbrev pub AreShown : List Rule → List ℕ → List Record → List Record → Type 0
+AreShown rules caller rs shown = (k : ℕ) (r : Record) → (slice_get shown k ≡ Some r) ↔ IsNth (MayList rules caller) rs k r
+
+-- A change as a caller is told it: it sees something of it; its number is its place, from 1 on, among those of which it does; and
+-- of each side it has what it may list.
+pub record IsToldAs (rules : List Rule) (caller : List ℕ) (cs : List ChangeOf) (n : NumberedOf) : Type 0 where
+  pub change : ChangeOf
+  pub earlier : ℕ
+  pub place : IsNth (SeesSome rules caller) cs earlier change
+  pub number : n.number ≡ earlier + 1
+  pub removed : AreShown rules caller change.removed n.removed
+  pub added : AreShown rules caller change.added n.added
+
+-- A caller is told these changes from a number on: exactly those that it is told so, in the order of their numbers.
+pub record AreToldFrom (rules : List Rule) (caller : List ℕ) (from : ℕ) (cs : List ChangeOf) (ns : List NumberedOf) : Type 0 where
+  pub order : AllPairs (λ a b. a.number < b.number) ns
+  pub exactly : (n : NumberedOf) → Contains ns n ↔ ((from ≤ n.number) × IsToldAs rules caller cs n)
+
+-- what is told of changes is told so
+abbrev pub ChangesAreExact : Type 0
+ChangesAreExact = (rules : List Rule) (caller : List ℕ) (from : ℕ) (cs : List ChangeOf) → AreToldFrom rules caller from cs (changes_from rules caller from cs)
+
 -- ---- what is read
 
 -- what is replied of a zone: that no zone of the origin is there, or else this of what is held
@@ -133,6 +175,10 @@ TellsList rules caller told set reply = (rs : List Record) × IsListOf rules cal
 abbrev pub TellsWithin : List Rule → List ℕ → List (List ℕ) → List (List ℕ) → Records → ReplyOf → Type 0
 TellsWithin rules caller origin top set reply =
     (IsWithin top origin × TellsList rules caller records (part set (within top)) reply) ⊎ (¬ IsWithin top origin × (reply ≡ not_zone))
+
+-- a reply tells what the caller sees of changes, from a number on
+abbrev pub TellsChanges : List Rule → List ℕ → ℕ → List ChangeOf → ReplyOf → Type 0
+TellsChanges rules caller from cs reply = (ns : List NumberedOf) × AreToldFrom rules caller from cs ns × (reply ≡ changes ns)
 
 -- a reply tells what the policy decides
 abbrev pub TellsDecision : List Rule → Question → ReplyOf → Type 0
@@ -173,7 +219,7 @@ RequestIsRight rules s caller (requests.File origin) done = (done.after ≡ s) �
 RequestIsRight rules s caller (requests.Delegations origin) done =
     (done.after ≡ s) × IsOfZone s origin (λ held. TellsList rules caller (λ rs. delegations (report origin rs)) held.records) done.reply
 RequestIsRight rules s caller (requests.Changes origin from) done =
-    (done.after ≡ s) × IsOfZone s origin (λ held reply. reply ≡ changes (changes_from rules caller from held.changes)) done.reply
+    (done.after ≡ s) × IsOfZone s origin (λ held. TellsChanges rules caller from held.changes) done.reply
 RequestIsRight rules s caller (requests.Rights name record_type asked) done = (done.after ≡ s) × TellsDecision rules (question caller name record_type asked) done.reply
 
 -- an update of this zone is made for the call

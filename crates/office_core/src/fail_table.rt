@@ -131,5 +131,7 @@ impl<L: Ledger> ZoneTable for FailTable<L> {
 
     ghost zones = { λ table s held. held.are_zones };
 
+    ghost receipts = { λ table s held. held.are_receipts };
+
     ghost weaker = { λ table s t left. left };
 }

@@ -2,7 +2,7 @@
 
 ghost use Rattle.office_core.specs.Footprints.{FootprintsAreAsked, FootprintsAreInOrder};
 ghost use Rattle.office_core.specs.Isolation.{CallersAreAlone, BlindCallersAreAlone, PoliciesKeepAlone};
-ghost use Rattle.office_core.specs.Promises.{ListsAreExact, AllCallsAreRight};
+ghost use Rattle.office_core.specs.Promises.{ListsAreExact, ChangesAreExact, AllCallsAreRight};
 
 /// The footprint of an update has exactly the points that its items ask for, each once and in order: those of prerequisites
 /// before those of operations, items by their numbers, and the points of an item by type number.
@@ -25,6 +25,13 @@ pub fn callers_are_alone()
 /// (RFC 4034 section 6).
 pub fn lists_are_exact()
     ensures { ListsAreExact }
+{}
+
+/// What a caller is told of the changes of a zone, from a number on, is every change of which it may list some record, and no other:
+/// by its number, which counts from 1 those of which it may, in their order, and of each side the records that it may list, in
+/// theirs.
+pub fn changes_are_exact()
+    ensures { ChangesAreExact }
 {}
 
 /// Whatever is called, one call after the other. An update is made exactly where its identifier is new to the caller, its zone

@@ -21,9 +21,10 @@ pub use fail_table::{FailTable, TableCall};
 pub use fault::TableFault;
 pub use footprint::{operation_asks, prerequisite_asks};
 pub use laws::{
-    callers_are_alone, calls_are_right, footprints_are_asked_in_order, lists_are_exact,
+    callers_are_alone, calls_are_right, changes_are_exact, footprints_are_asked_in_order,
+    lists_are_exact,
 };
-pub use memory::{MemTable, are_apart};
+pub use memory::MemTable;
 pub use permission::{Denial, denied};
 pub use receipt::{Addition, Change, Receipt};
 pub use reply::{NumberedChange, Reply, Right, UpdateReply};

@@ -1,15 +1,15 @@
 //! The table in memory.
 
-ghost use Rattle.std.specs.Prelude.{◌≡◌, ◌↔◌, ℕ, ◌<◌, List, [], length, IsTrue, IfOk, OnOk, OnErr, map, ◌&&◌, if◌then◌else◌, Some};
+ghost use Rattle.std.specs.Prelude.{◌≡◌, ℕ, ◌<◌, List, [], length, IfOk, OnOk, OnErr, map, ◌&&◌, if◌then◌else◌, Some};
 ghost use Rattle.std.specs.Option.{option_copied};
-ghost use Rattle.std.specs.List.{find, position, list_any};
+ghost use Rattle.std.specs.List.{find, position};
 ghost use Rattle.std.specs.BTreeMap.{is_at};
 ghost use Rattle.std.specs.Cmp.Lexicographic.{slice_cmp};
 ghost use Rattle.std.specs.Ordering.{nat_cmp};
-ghost use Rattle.dns_names.specs.Order.{same_name};
+ghost use Rattle.zone_core.specs.Updates.{IsUpdate};
 ghost use Rattle.zone_core.specs.Zones.{IsZone};
 ghost use Rattle.office_core.specs.Tables.{change_in};
-ghost use Rattle.office_core.specs.Memory.{AreApart, state_of, is_of, receipt_in, IsPutAt, HoldsSame, HoldsChange, HasRoomAt, HoldsState};
+ghost use Rattle.office_core.specs.Memory.{state_of, is_of, receipt_in, IsPutAt, HoldsSame, HoldsChange, HasRoomAt, HoldsState};
 
 use crate::fault::TableFault;
 use crate::receipt::{Addition, Change, Receipt};
@@ -41,7 +41,7 @@ pub struct MemTable {
 }
 
 impl Model for MemTable {
-    ghost use Rattle.office_core.specs.Memory.{MemoryOf, memory_code, receipt_rows, EachIsZone};
+    ghost use Rattle.office_core.specs.Memory.{MemoryOf, memory_code, receipt_rows, IsMemory};
 
     ghost Value = { MemoryOf };
 
@@ -49,26 +49,7 @@ impl Model for MemTable {
 
     ghost view = { λ t. record { zones = t.zones.items; receipts = receipt_rows t.receipts } };
 
-    ghost invariant = { λ t. EachIsZone t.zones.items };
-}
-
-/// Whether some zone has this origin.
-fn some_has(zones: &[Zone], origin: &Name) -> bool
-    ensures { result ≡ list_any (λ zone. same_name zone.origin origin.now) zones.now }
-{
-    zones.iter().any(|zone| zone.origin() == origin)
-}
-
-/// Whether no two zones have one origin.
-pub fn are_apart(zones: &[Zone]) -> bool
-    ensures { IsTrue result ↔ AreApart zones.now }
-{
-    for (i, zone) in zones.iter().enumerate() {
-        if some_has(&zones[i + 1..], zone.origin()) {
-            return false;
-        }
-    }
-    true
+    ghost invariant = { λ t. IsMemory (record { zones = t.zones.items; receipts = receipt_rows t.receipts }) };
 }
 
 /// A zone of which no change is known.
@@ -132,6 +113,13 @@ fn receipt_of<'a>(
     receipts.get(caller)?.get(id)
 }
 
+/// What its type says of the update of a receipt. It does nothing when it runs.
+fn notes_receipt(receipt: &Receipt)
+    ensures { IsUpdate receipt.now.update }
+{
+    let _ = receipt.update.operations();
+}
+
 /// Keeps the receipt of a caller under an identifier. The only error is want of memory.
 fn keep(
     alloc: Global,
@@ -182,10 +170,9 @@ fn copied_changes(alloc: Global, changes: &[Change]) -> Result<Vec<Change>, Allo
 }
 
 impl MemTable {
-    /// A table of zones of which nothing was changed, and without receipts. The only error is want of memory.
+    /// A table of zones of which nothing was changed, and without receipts. Of zones with the same origin the first counts. The
+    /// only error is want of memory.
     pub fn new(alloc: Global, zones: Vec<Zone>) -> Result<MemTable, AllocError>
-        // No two zones have one origin, as `are_apart` tells.
-        requires apart { AreApart zones.items }
         ensures { IfOk result (λ table. HoldsState table (state_of zones.items)) }
     {
         let mut held = Vec::with_capacity(alloc, zones.len())?;
@@ -265,6 +252,7 @@ impl ZoneTable for MemTable {
             receipt,
             change,
         } = addition;
+        notes_receipt(&receipt);
         let Some(change) = change else {
             keep(alloc, &mut self.receipts, caller, id, receipt)?;
             return Ok(());
@@ -282,6 +270,8 @@ impl ZoneTable for MemTable {
     }
 
     ghost zones = { λ table s held. held.are_zones };
+
+    ghost receipts = { λ table s held. held.are_receipts };
 
     ghost weaker = { λ table s t left. left };
 }

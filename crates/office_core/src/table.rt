@@ -2,7 +2,7 @@
 
 ghost use Rattle.std.specs.Prelude.{◌≡◌, ℕ, ◌+◌, List, Option, map, option_map, IfOk, OnOk, OnErr};
 ghost use Rattle.dns_data.specs.declared.record.Record.{Record};
-ghost use Rattle.office_core.specs.States.{State, AreZones, zone_at, part_at, subtree_at, changes_at};
+ghost use Rattle.office_core.specs.States.{State, AreZones, AreReceipts, zone_at, part_at, subtree_at, changes_at};
 ghost use Rattle.office_core.specs.Tables.{Counts, Fits, addition_in, change_in, committed};
 
 use crate::fault::TableFault;
@@ -101,6 +101,9 @@ pub trait ZoneTable {
 
     // What is held of each origin is a zone.
     ghost zones: { (table : Self) (s : State) → holds table s → AreZones s };
+
+    // Each receipt that is held is of an update.
+    ghost receipts: { (table : Self) (s : State) → holds table s → AreReceipts s };
 
     // What a crash leaves for sure it leaves also among two.
     ghost weaker: { (table : Self) (s t : State) → leaves table s s → leaves table s t };

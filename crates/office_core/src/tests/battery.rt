@@ -57,14 +57,6 @@ fn soa(alloc: Global, serial: &str) -> Result<String, AllocError> {
     )
 }
 
-/// A table in memory of some zones, unless two of these have one origin.
-fn table_of(alloc: Global, zones: Vec<Zone>) -> Result<Option<MemTable>, AllocError> {
-    if !are_apart(&zones) {
-        return Ok(None);
-    }
-    Ok(Some(MemTable::new(alloc, zones)?))
-}
-
 /// A table in memory of the zone of the examples at serial 7.
 pub(super) fn table(alloc: Global) -> Result<MemTable, Fail> {
     let mut records = Vec::new(alloc);
@@ -74,7 +66,7 @@ pub(super) fn table(alloc: Global) -> Result<MemTable, Fail> {
     }
     let mut zones = Vec::new(alloc);
     zones.push(Zone::build(alloc, name(alloc, "example.org.")?, records)?)?;
-    Ok(table_of(alloc, zones)?.ok_or("one zone alone is apart")?)
+    Ok(MemTable::new(alloc, zones)?)
 }
 
 // ---- what is asked
@@ -85,7 +77,7 @@ pub(super) fn identifier(alloc: Global, text: &str) -> Result<Identifier, Fail> 
 }
 
 /// An update by its items, with bars between them.
-fn update(alloc: Global, items: &str) -> Result<Update, Fail> {
+pub(super) fn update(alloc: Global, items: &str) -> Result<Update, Fail> {
     let mut prerequisites = Vec::new(alloc);
     let mut operations = Vec::new(alloc);
     for item in items.split('|') {

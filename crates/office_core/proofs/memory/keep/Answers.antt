@@ -1,4 +1,4 @@
-use Rattle.std.proofs.Common.{◌≡◌, cond, List, [], ℕ, Some, None, refl, sym, ap, ◌∙◌, subst}
+use Rattle.std.proofs.Common.{cond, Some, refl, sym, ap, ◌∙◌, subst}
 use Rattle.std.specs.Prelude.{IsSome, option_and_then}
 use Rattle.std.specs.BTreeMap.{get, is_at}
 use Rattle.std.specs.Cmp.Lexicographic.{slice_cmp}

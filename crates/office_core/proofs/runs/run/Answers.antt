@@ -5,9 +5,10 @@ use Rattle.office_core.proofs.AloneLemmas.{run_alone, run_right, of_ok, all_ok}
 use Rattle.office_core.proofs.runs.run.Goals as goal
 
 pub returns-clause-promises : goal.returns-clause-promises
-returns-clause-promises g c honest s holds receipts =
+returns-clause-promises g c honest s holds =
     all_ok (λ replies. CallsAreRight c.args.policy.now s (kept c.args.calls.now replies.items))
-    (λ replies. run_right c.args.policy.now s c.args.calls.now replies.items (g.met.T.ZoneTable.zones c.args.table.now s holds) receipts c.notes_calls.ensures)
+    (λ replies. run_right c.args.policy.now s c.args.calls.now replies.items (g.met.T.ZoneTable.zones c.args.table.now s holds)
+    (g.met.T.ZoneTable.receipts c.args.table.now s holds) c.notes_calls.ensures)
     c.replies_to.result
 
 pub returns-clause-alone : goal.returns-clause-alone

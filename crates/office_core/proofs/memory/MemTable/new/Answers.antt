@@ -2,8 +2,8 @@ use Rattle.std.proofs.Common.{◌≡◌, ◌++◌, [], map, sym, ap, ◌∙◌, 
 use Rattle.std.proofs.lemmas.List.{nil_from_length}
 use Rattle.std.specs.Vec.Iter.{into_iter_items}
 use Rattle.zone_core.specs.Zones.{IsZone}
-use Rattle.office_core.specs.Memory.{EachIsZone, receipt_rows}
-use Rattle.office_core.proofs.MemoryLemmas.{is_fresh, fresh, all_fresh, all_push, holds_fresh, more_fresh}
+use Rattle.office_core.specs.Memory.{EachIsZone, MemoryOf, receipt_rows}
+use Rattle.office_core.proofs.MemoryLemmas.{is_fresh, fresh, all_fresh, all_push, holds_fresh, more_fresh, no_receipts}
 use Rattle.office_core.proofs.memory.MemTable.new.Goals as goal
 
 pub loop-zone-preserved : goal.loop-zone-preserved
@@ -24,5 +24,6 @@ returns c =
     let it = c.loop-zone.zone-iterator.rest in
     let none : it.items ≡ [] = nil_from_length it.items (omega (arith, it.ok.0, c.in-None.ensures.steps.0)) in
     let taken = all_fresh held it.items (map fresh c.args.zones.items) none c.loop-zone.invariant.zones in
-    holds_fresh (record { zones = held; receipts = receipt_rows c.new.result }) c.args.zones.items c.loop-zone.invariant.are_zones taken
-    (ap (map (λ e. (e.0, e.1.entries))) c.new.ensures.empty)
+    let memory : MemoryOf = record { zones = held; receipts = receipt_rows c.new.result } in
+    let empty = ap (map (λ e. (e.0, e.1.entries))) c.new.ensures.empty in
+    holds_fresh memory c.args.zones.items (no_receipts memory c.loop-zone.invariant.are_zones empty) taken empty

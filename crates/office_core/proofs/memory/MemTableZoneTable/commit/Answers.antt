@@ -8,7 +8,7 @@ use Rattle.zone_core.specs.Zones.{IsZone}
 use Rattle.office_core.specs.Memory.{EachIsZone, HasRoomAt, HoldsChange, HoldsSame, HoldsState, IsPutAt, MemoryOf, held_among, is_of, receipt_rows}
 use Rattle.office_core.specs.States.{State}
 use Rattle.office_core.specs.Tables.{Fits, addition_in}
-use Rattle.office_core.proofs.MemoryLemmas.{IsChangedAt, fits_found, fits_zone, found_at, has_place, holds_change, holds_receipt, holds_same, kept_rows, made_are_zones, made_zones, moved, of_origin, on_err, put_items, room_same, same_rows}
+use Rattle.office_core.proofs.MemoryLemmas.{IsChangedAt, fits_found, fits_zone, found_at, has_place, holds_change, holds_receipt, holds_same, kept_rows, made_are_zones, made_zones, moved, of_origin, on_err, one_receipt, put_items, room_are_zones, room_same, same_receipts, same_rows}
 use Rattle.office_core.proofs.memory.MemTableZoneTable.commit.Goals as goal
 
 pub returns-in_err-keep-clause-failed : goal.returns-in_err-keep-clause-failed
@@ -23,7 +23,8 @@ returns-in_default-clause-made c = λ u s h.
     let a = c.args.addition in
     let old : MemoryOf = record { zones = c.self.inside.zones.items; receipts = receipt_rows c.self.inside.receipts } in
     let new : MemoryOf = record { zones = c.self.inside.zones.items; receipts = receipt_rows c.keep.new.receipts } in
-    holds_receipt old new s a c.in_default.is refl (kept_rows c.self.inside.receipts c.keep.new.receipts a.caller a.id a.receipt c.in_ok-keep.ensures.kept)
+    let kept = kept_rows c.self.inside.receipts c.keep.new.receipts a.caller a.id a.receipt c.in_ok-keep.ensures.kept in
+    holds_receipt old new s a c.in_default.is (one_receipt old new a.caller a.id a.receipt c.self.invariant.zones kept c.notes_receipt.ensures c.self.invariant) refl kept
     (subst (λ q. HoldsState q s) (sym c.self.view_is) h)
 
 pub unreachable-requires : goal.unreachable-requires
@@ -114,6 +115,36 @@ put-requires-clause-room c =
     let items = put_items c.self.inside.zones zones room at HoldsSame with_room refl in
     subst (λ q. HasRoomAt q at) (sym (c.deref_mut-2.ensures.value ∙ items)) c.in_ok-make_room.ensures.room
 
+pub invariant_of-self : goal.invariant_of-self
+invariant_of-self c =
+    let old : MemoryOf = record { zones = c.self.inside.zones.items; receipts = receipt_rows c.self.inside.receipts } in
+    let new : MemoryOf = record { zones = c.self.inside.zones.items; receipts = receipt_rows c.keep.new.receipts } in
+    same_receipts old new c.self.invariant.zones (same_rows c.self.inside.receipts c.keep.new.receipts c.in_err-keep.ensures.same) c.self.invariant
+
+pub invariant_of-self-in_default : goal.invariant_of-self-in_default
+invariant_of-self-in_default c =
+    let a = c.args.addition in
+    let old : MemoryOf = record { zones = c.self.inside.zones.items; receipts = receipt_rows c.self.inside.receipts } in
+    let new : MemoryOf = record { zones = c.self.inside.zones.items; receipts = receipt_rows c.keep.new.receipts } in
+    one_receipt old new a.caller a.id a.receipt c.self.invariant.zones
+    (kept_rows c.self.inside.receipts c.keep.new.receipts a.caller a.id a.receipt c.in_ok-keep.ensures.kept) c.notes_receipt.ensures c.self.invariant
+
+pub invariant_of-self-in_err-keep-2 : goal.invariant_of-self-in_err-keep-2
+invariant_of-self-in_err-keep-2 c =
+    let origin = c.args.addition.receipt.origin in
+    let zones = c.self.inside.zones.items in
+    let at = c.in-Some-place.at in
+    let held = c.index.result.now in
+    let place : position (is_of origin) zones ≡ Some at = sym (c.in-Some-place.ensures ∙ ap (position (is_of origin)) c.deref.ensures.value) in
+    let inside : at < length zones = (position-Some (is_of origin) zones at held place).0 in
+    let room = c.make_room.new.zones in
+    let with_room : IsPutAt zones room at HoldsSame = subst (λ q. IsPutAt q room at HoldsSame) c.deref_mut.ensures.value c.make_room.ensures.same in
+    let items = put_items c.self.inside.zones zones room at HoldsSame with_room refl in
+    let old : MemoryOf = record { zones = zones; receipts = receipt_rows c.self.inside.receipts } in
+    let new : MemoryOf = record { zones = (with_items c.self.inside.zones room).items; receipts = receipt_rows c.keep-2.new.receipts } in
+    same_receipts old new (subst EachIsZone (sym items) (room_are_zones zones room at c.self.invariant.zones inside with_room))
+    (same_rows c.self.inside.receipts c.keep-2.new.receipts c.in_err-keep-2.ensures.same) c.self.invariant
+
 pub invariant_of-self-2 : goal.invariant_of-self-2
 invariant_of-self-2 c =
     let a = c.args.addition in
@@ -138,8 +169,10 @@ invariant_of-self-2 c =
     let is_zone = subst IsZone (sym c.in_ok-zone-2.ensures) (moved (λ z r s. IsZone (record { origin = z.origin; records = changed z.records r s })) c.in_ok-zone.zone held.zone
     c.deref-2.result.now change.removed.items c.deref-3.result.now change.added.items c.in_ok-zone.ensures c.deref-2.ensures.value c.deref-3.ensures.value
     (fits_zone origin held change (of_origin zones origin held found) fits)) in
-    let are_zones : EachIsZone after = made_are_zones zones room after at change zone c.self.invariant with_room changed_there is_zone in
-    subst EachIsZone (sym all_items) are_zones
+    let are_zones : EachIsZone after = made_are_zones zones room after at change zone c.self.invariant.zones with_room changed_there is_zone in
+    let new : MemoryOf = record { zones = (with_items (with_items c.self.inside.zones room) after).items; receipts = receipt_rows c.keep-2.new.receipts } in
+    one_receipt old new a.caller a.id a.receipt (subst EachIsZone (sym all_items) are_zones)
+    (kept_rows c.self.inside.receipts c.keep-2.new.receipts a.caller a.id a.receipt c.in_ok-keep-2.ensures.kept) c.notes_receipt.ensures c.self.invariant
 
 pub returns-clause-made : goal.returns-clause-made
 returns-clause-made c = λ u s h.
@@ -165,7 +198,7 @@ returns-clause-made c = λ u s h.
     let is_zone = subst IsZone (sym c.in_ok-zone-2.ensures) (moved (λ z r s. IsZone (record { origin = z.origin; records = changed z.records r s })) c.in_ok-zone.zone held.zone
     c.deref-2.result.now change.removed.items c.deref-3.result.now change.added.items c.in_ok-zone.ensures c.deref-2.ensures.value c.deref-3.ensures.value
     (fits_zone origin held change (of_origin zones origin held found) fits)) in
-    let are_zones : EachIsZone after = made_are_zones zones room after at change zone c.self.invariant with_room changed_there is_zone in
+    let are_zones : EachIsZone after = made_are_zones zones room after at change zone c.self.invariant.zones with_room changed_there is_zone in
     let inside : at < length zones = (position-Some (is_of origin) zones at held place).0 in
     let zone_is : IsChangedAt zones at change zone = λ d.
     let before : c.in_ok-zone.zone ≡ (get_or zones at d).zone = c.in_ok-zone.ensures ∙ ap (λ q. q.zone) (c.index.ensures ∙ get_or_default zones at held d inside) in
@@ -173,6 +206,8 @@ returns-clause-made c = λ u s h.
     let come = c.deref-3.ensures.value in
     c.in_ok-zone-2.ensures ∙ (λ i. record { origin = (before i).origin; records = changed (before i).records (gone i) (come i) }) in
     let new : MemoryOf = record { zones = (with_items (with_items c.self.inside.zones room) after).items; receipts = receipt_rows c.keep-2.new.receipts } in
-    holds_change old new s a change c.in-Some.is (subst EachIsZone (sym all_items) are_zones)
+    let kept = kept_rows c.self.inside.receipts c.keep-2.new.receipts a.caller a.id a.receipt c.in_ok-keep-2.ensures.kept in
+    let is = one_receipt old new a.caller a.id a.receipt (subst EachIsZone (sym all_items) are_zones) kept c.notes_receipt.ensures c.self.invariant in
+    holds_change old new s a change c.in-Some.is is
     (λ o. ap (λ q. held_among q o) all_items ∙ made_zones zones room after origin at change zone place with_room changed_there zone_is o)
-    (kept_rows c.self.inside.receipts c.keep-2.new.receipts a.caller a.id a.receipt c.in_ok-keep-2.ensures.kept) (subst (λ q. HoldsState q s) (sym c.self.view_is) h)
+    kept (subst (λ q. HoldsState q s) (sym c.self.view_is) h)
