@@ -1,0 +1,14 @@
+pub mod Apart
+pub mod Tree
+pub mod Texts
+pub mod Effects
+pub mod Values
+pub mod Statements
+pub mod Parts
+pub mod Commits
+pub mod Asks
+pub mod RowLemmas
+pub mod Selections
+pub mod Last
+pub mod Creations
+pub mod Whole

@@ -1,0 +1,179 @@
+-- What each statement of a writing does to all rows.
+use Rattle.std.proofs.Common.{◌≡◌, ◌≢◌, ℕ, ℤ, ◌^◌, nat_le, Bool, true, false, not, ◌&&◌, List, [], ◌∷◌, ◌++◌, map, filter, drop, codes, Some, Ok, refl, sym, ap, subst, ◌∙◌, arith}
+use Rattle.std.specs.List.{list_all}
+use Rattle.sqlite_value.specs.declared.value.Value.TheVariants.{Int, Null, Text}
+use Rattle.sqlite_value.specs.Order.{Row}
+use Rattle.sqlite_trees.specs.Tree.{Trees}
+use Rattle.sqlite_sql.specs.Program.{overlay}
+use Rattle.sqlite_sql.specs.Term.{holds}
+use Rattle.sqlite_rules.specs.Edit.{IsNoIndex}
+use Rattle.sqlite_rules.specs.Cast.{cast_row}
+use Rattle.sqlite.specs.State.{State, Executes}
+use Rattle.office_tables.specs.Rows.{RecordRowOf, ReceiptRowOf, ChangeRowOf, RowsOf, same_key}
+use Rattle.office_tables.specs.Tables.{meta, zones, records, receipts, changes, meta_columns, zones_columns, records_columns, receipts_columns, changes_columns, office_schema, stored_version, stored_zone, stored_record, stored_receipt, stored_change}
+use Rattle.office_tables.specs.Stores.{IsReadableRow, Stores}
+use Rattle.office_tables.specs.Holds.{AreRows, Reads}
+use Rattle.office_tables.specs.Parts.{with_version, with_zone, with_record, with_receipt, with_change, without_record}
+use Rattle.std.proofs.Common.{bytes_eq}
+use Rattle.std.specs.Ordering.{int_eq}
+use Rattle.std.proofs.lemmas.Cmp.{int_eq_equiv}
+use Rattle.office_tables.proofs.Texts as the
+use Rattle.office_tables.proofs.Texts.{by_key}
+use Rattle.office_tables.proofs.Effects.{inserts, deletes}
+use Rattle.office_tables.proofs.Values.{bytes_eq_sym, same_text, same_number, and_true, cast_null, cast_int, hits, filter_stored, stores_last}
+
+pub plainly : (tree : ℕ) → nat_le (2 ^ 31) tree ≡ false → (db : Trees) → overlay db [] tree ≡ db tree
+plainly tree low db = rw low refl
+
+free_of_index_0 : IsNoIndex office_schema 0
+free_of_index_0 = ((λ e. omega arith), ((λ e. omega arith), ((λ e. omega arith), ((λ e. omega arith), ((λ e. omega arith), tt)))))
+
+free_of_index_1 : IsNoIndex office_schema 1
+free_of_index_1 = ((λ e. omega arith), ((λ e. omega arith), ((λ e. omega arith), ((λ e. omega arith), ((λ e. omega arith), tt)))))
+
+free_of_index_3 : IsNoIndex office_schema 3
+free_of_index_3 = ((λ e. omega arith), ((λ e. omega arith), ((λ e. omega arith), ((λ e. omega arith), ((λ e. omega arith), tt)))))
+
+free_of_index_6 : IsNoIndex office_schema 6
+free_of_index_6 = ((λ e. omega arith), ((λ e. omega arith), ((λ e. omega arith), ((λ e. omega arith), ((λ e. omega arith), tt)))))
+
+free_of_index_8 : IsNoIndex office_schema 8
+free_of_index_8 = ((λ e. omega arith), ((λ e. omega arith), ((λ e. omega arith), ((λ e. omega arith), ((λ e. omega arith), tt)))))
+
+cast_meta : (k : ℤ) → cast_row meta (Null ∷ stored_version k) ≡ Null ∷ stored_version k
+cast_meta k = rw (cast_null, cast_int k) refl
+
+pub inserts_meta : (old new : State) (k : ℤ) (count : ℕ) (rows : RowsOf) → IsReadableRow (stored_version k) → Executes the.insert_meta_text (stored_version k) old new (Ok count) → Reads old.now rows → Reads new.now (with_version k rows)
+inserts_meta old new k count rows readable ran h =
+    let it = inserts (codes "meta") 0 meta_columns ([]) 0 refl (plainly 0 refl) the.insert_meta_text (stored_version k) old new h.schema the.insert_meta_plain count ran
+    the.terms_1 2 (stored_version k) (map stored_version rows.versions) readable the.insert_meta_is refl (cast_meta k) h.tables.versions in
+    record {
+      schema = it.0.schema;
+      tables = record {
+        versions = stores_last stored_version rows.versions k (new.now.trees 0) it.1;
+        zones = rw (it.0.others 1 (omega arith) free_of_index_1) h.tables.zones;
+        records = rw (it.0.others 3 (omega arith) free_of_index_3) h.tables.records;
+        receipts = rw (it.0.others 6 (omega arith) free_of_index_6) h.tables.receipts;
+        changes = rw (it.0.others 8 (omega arith) free_of_index_8) h.tables.changes;
+      };
+    }
+
+cast_zones : (k : List ℕ) → cast_row zones (Null ∷ stored_zone k) ≡ Null ∷ stored_zone k
+cast_zones k = rw cast_null refl
+
+pub inserts_zones : (old new : State) (k : List ℕ) (count : ℕ) (rows : RowsOf) → IsReadableRow (stored_zone k) → Executes the.insert_zones_text (stored_zone k) old new (Ok count) → Reads old.now rows → Reads new.now (with_zone k rows)
+inserts_zones old new k count rows readable ran h =
+    let it = inserts (codes "zones") 1 zones_columns (1 ∷ []) 1 refl (plainly 1 refl) the.insert_zones_text (stored_zone k) old new h.schema the.insert_zones_plain count ran
+    the.terms_1 2 (stored_zone k) (map stored_zone rows.zones) readable the.insert_zones_is refl (cast_zones k) h.tables.zones in
+    record {
+      schema = it.0.schema;
+      tables = record {
+        versions = rw (it.0.others 0 (omega arith) free_of_index_0) h.tables.versions;
+        zones = stores_last stored_zone rows.zones k (new.now.trees 1) it.1;
+        records = rw (it.0.others 3 (omega arith) free_of_index_3) h.tables.records;
+        receipts = rw (it.0.others 6 (omega arith) free_of_index_6) h.tables.receipts;
+        changes = rw (it.0.others 8 (omega arith) free_of_index_8) h.tables.changes;
+      };
+    }
+
+cast_records : (k : RecordRowOf) → cast_row records (Null ∷ stored_record k) ≡ Null ∷ stored_record k
+cast_records k = rw (cast_null, cast_int k.record_type, cast_int k.ttl) refl
+
+pub inserts_records : (old new : State) (k : RecordRowOf) (count : ℕ) (rows : RowsOf) → IsReadableRow (stored_record k) → Executes the.insert_records_text (stored_record k) old new (Ok count) → Reads old.now rows → Reads new.now (with_record k rows)
+inserts_records old new k count rows readable ran h =
+    let it = inserts (codes "records") 3 records_columns (1 ∷ 2 ∷ 3 ∷ 4 ∷ []) 2 refl (plainly 3 refl) the.insert_records_text (stored_record k) old new h.schema the.insert_records_plain count ran
+    the.terms_6 7 (stored_record k) (map stored_record rows.records) readable the.insert_records_is refl (cast_records k) h.tables.records in
+    record {
+      schema = it.0.schema;
+      tables = record {
+        versions = rw (it.0.others 0 (omega arith) free_of_index_0) h.tables.versions;
+        zones = rw (it.0.others 1 (omega arith) free_of_index_1) h.tables.zones;
+        records = stores_last stored_record rows.records k (new.now.trees 3) it.1;
+        receipts = rw (it.0.others 6 (omega arith) free_of_index_6) h.tables.receipts;
+        changes = rw (it.0.others 8 (omega arith) free_of_index_8) h.tables.changes;
+      };
+    }
+
+cast_receipts : (k : ReceiptRowOf) → cast_row receipts (Null ∷ stored_receipt k) ≡ Null ∷ stored_receipt k
+cast_receipts k = rw cast_null refl
+
+pub inserts_receipts : (old new : State) (k : ReceiptRowOf) (count : ℕ) (rows : RowsOf) → IsReadableRow (stored_receipt k) → Executes the.insert_receipts_text (stored_receipt k) old new (Ok count) → Reads old.now rows → Reads new.now (with_receipt k rows)
+inserts_receipts old new k count rows readable ran h =
+    let it = inserts (codes "receipts") 6 receipts_columns (1 ∷ 2 ∷ []) 3 refl (plainly 6 refl) the.insert_receipts_text (stored_receipt k) old new h.schema the.insert_receipts_plain count ran
+    the.terms_5 6 (stored_receipt k) (map stored_receipt rows.receipts) readable the.insert_receipts_is refl (cast_receipts k) h.tables.receipts in
+    record {
+      schema = it.0.schema;
+      tables = record {
+        versions = rw (it.0.others 0 (omega arith) free_of_index_0) h.tables.versions;
+        zones = rw (it.0.others 1 (omega arith) free_of_index_1) h.tables.zones;
+        records = rw (it.0.others 3 (omega arith) free_of_index_3) h.tables.records;
+        receipts = stores_last stored_receipt rows.receipts k (new.now.trees 6) it.1;
+        changes = rw (it.0.others 8 (omega arith) free_of_index_8) h.tables.changes;
+      };
+    }
+
+cast_changes : (k : ChangeRowOf) → cast_row changes (Null ∷ stored_change k) ≡ Null ∷ stored_change k
+cast_changes k = rw (cast_null, cast_int k.number, cast_int k.side, cast_int k.record_type, cast_int k.ttl) refl
+
+pub inserts_changes : (old new : State) (k : ChangeRowOf) (count : ℕ) (rows : RowsOf) → IsReadableRow (stored_change k) → Executes the.insert_changes_text (stored_change k) old new (Ok count) → Reads old.now rows → Reads new.now (with_change k rows)
+inserts_changes old new k count rows readable ran h =
+    let it = inserts (codes "changes") 8 changes_columns (1 ∷ 2 ∷ 3 ∷ 4 ∷ 5 ∷ 6 ∷ []) 4 refl (plainly 8 refl) the.insert_changes_text (stored_change k) old new h.schema the.insert_changes_plain count ran
+    the.terms_7 8 (stored_change k) (map stored_change rows.changes) readable the.insert_changes_is refl (cast_changes k) h.tables.changes in
+    record {
+      schema = it.0.schema;
+      tables = record {
+        versions = rw (it.0.others 0 (omega arith) free_of_index_0) h.tables.versions;
+        zones = rw (it.0.others 1 (omega arith) free_of_index_1) h.tables.zones;
+        records = rw (it.0.others 3 (omega arith) free_of_index_3) h.tables.records;
+        receipts = rw (it.0.others 6 (omega arith) free_of_index_6) h.tables.receipts;
+        changes = stores_last stored_change rows.changes k (new.now.trees 8) it.1;
+      };
+    }
+
+key_test : (params r : Row) → list_all (holds (params ∷ r ∷ [])) by_key ≡ hits by_key params (drop 1 r)
+key_test params [] = refl
+key_test params (v ∷ body) = refl
+
+int_eq_sym : (a b : ℤ) → int_eq a b ≡ int_eq b a
+int_eq_sym a b = int_eq_equiv.symm a b
+
+-- the parameters of a deletion
+abbrev pub key_of : RecordRowOf → Row
+key_of k = Text k.origin ∷ Text k.owner ∷ Int k.record_type ∷ Text k.rdata ∷ []
+
+key_hits : (k r : RecordRowOf) → hits by_key (key_of k) (stored_record r) ≡ same_key k r
+key_hits k r = rw (same_text r.origin k.origin, same_text r.owner k.owner, same_number r.record_type k.record_type, same_text r.rdata k.rdata, and_true (bytes_eq r.rdata k.rdata)) (rw (bytes_eq_sym r.origin k.origin, bytes_eq_sym r.owner k.owner, int_eq_sym r.record_type k.record_type, bytes_eq_sym r.rdata k.rdata) refl)
+
+pub deletes_record : (old new : State) (k : RecordRowOf) (count : ℕ) (rows : RowsOf) → Executes the.delete_record_text (key_of k) old new (Ok count) → Reads old.now rows → Reads new.now (without_record k rows)
+deletes_record old new k count rows ran h =
+    let it = deletes (codes "records") 3 records_columns (1 ∷ 2 ∷ 3 ∷ 4 ∷ []) 2 refl (plainly 3 refl) the.delete_record_text (key_of k) old new h.schema the.delete_record_plain count ran
+    by_key (hits by_key (key_of k)) (map stored_record rows.records) the.delete_record_is (key_test (key_of k)) h.tables.records in
+    record {
+      schema = it.0.schema;
+      tables = record {
+        versions = rw (it.0.others 0 (omega arith) free_of_index_0) h.tables.versions;
+        zones = rw (it.0.others 1 (omega arith) free_of_index_1) h.tables.zones;
+        records = subst (Stores (new.now.trees 3)) (filter_stored stored_record (λ x. not (hits by_key (key_of k) x)) (λ r. not (same_key k r)) (λ r. ap not (key_hits k r)) rows.records) it.1;
+        receipts = rw (it.0.others 6 (omega arith) free_of_index_6) h.tables.receipts;
+        changes = rw (it.0.others 8 (omega arith) free_of_index_8) h.tables.changes;
+      };
+    }
+
+none_left : (xs : List Row) → filter (λ x. false) xs ≡ []
+none_left [] = refl
+none_left (x ∷ xs) = none_left xs
+
+pub deletes_meta : (old new : State) (count : ℕ) (rows : RowsOf) → Executes the.delete_meta_text [] old new (Ok count) → Reads old.now rows → Reads new.now (record rows { versions = [] })
+deletes_meta old new count rows ran h =
+    let it = deletes (codes "meta") 0 meta_columns [] 0 refl (plainly 0 refl) the.delete_meta_text [] old new h.schema the.delete_meta_plain count ran
+    [] (λ x. true) (map stored_version rows.versions) the.delete_meta_is (λ r. refl) h.tables.versions in
+    record {
+      schema = it.0.schema;
+      tables = record {
+        versions = subst (Stores (new.now.trees 0)) (none_left (map stored_version rows.versions)) it.1;
+        zones = rw (it.0.others 1 (omega arith) free_of_index_1) h.tables.zones;
+        records = rw (it.0.others 3 (omega arith) free_of_index_3) h.tables.records;
+        receipts = rw (it.0.others 6 (omega arith) free_of_index_6) h.tables.receipts;
+        changes = rw (it.0.others 8 (omega arith) free_of_index_8) h.tables.changes;
+      };
+    }

@@ -1,0 +1,447 @@
+-- What each text means.
+use Rattle.std.proofs.Common.{◌≡◌, Bool, true, false, ℕ, pos, negsuc, List, [], ◌∷◌, codes, Some, None, Ok, Err, Result, refl, slice_get}
+use Rattle.sqlite_value.specs.declared.keys.Collation.TheVariants.{Binary}
+use Rattle.sqlite_value.specs.declared.keys.Key.{Key}
+use Rattle.sqlite_value.specs.declared.value.Value.TheVariants.{Null, Int}
+use Rattle.sqlite_value.specs.Keys.{plain}
+use Rattle.sqlite_schema.specs.declared.schema.Index.{Index}
+use Rattle.sqlite_sql.specs.Term.{Term, lit, col, op2}
+use Rattle.sqlite_sql.specs.Query.{Query, inner, end}
+use Rattle.sqlite_sql.specs.declared.ops.BinaryOp.TheVariants.{Compare}
+use Rattle.sqlite_sql.specs.declared.ops.CompareOp.TheVariants.{Eq, Ge, Lt}
+use Rattle.sqlite_schema.specs.declared.command.Command.TheVariants.{Insert, Select, CreateTable, CreateIndex, Delete}
+use Rattle.sqlite_schema.specs.declared.command.Source.TheVariants.{Values}
+use Rattle.sqlite_resolve.specs.Compile.{table_defined_by, index_defined_by}
+use Rattle.sqlite_tied.specs.Compute.{everything}
+use Rattle.sqlite.specs.Listing.{understood, reads_listing}
+use Rattle.sqlite.proofs.Callers.{IsPlain, command_of, statement_of}
+use Rattle.office_tables.specs.Tables.{keyed, meta_columns, zones_columns, records_columns, receipts_columns, changes_columns, records, records_by_key, no_schema, with_meta, with_zones, with_records, with_records_by_key, with_receipts, office_schema}
+
+abbrev pub is_param : ℕ → ℕ → Term
+is_param column param = op2 (Compare Eq Binary) (col 1 column) (col 0 param)
+
+-- a SELECT from one table
+abbrev pub select_by : List (Term × Key) → Term → ℕ → List Term → List Term → Query
+select_by order limit tree filter project = record {
+  from = inner tree end;
+  filter = filter;
+  group = None;
+  project = project;
+  distinct = false;
+  collations = [];
+  order = order;
+  limit = limit;
+  offset = lit (Int (pos 0));
+}
+
+-- the same, of all rows that pass
+abbrev pub select_from : ℕ → List Term → List Term → Query
+select_from = select_by [] (lit (Int (negsuc 0)))
+
+abbrev pub by_first : List Term
+by_first = is_param 1 0 ∷ []
+
+abbrev pub by_two : List Term
+by_two = is_param 1 0 ∷ is_param 2 1 ∷ []
+
+abbrev pub by_owner_key : List Term
+by_owner_key = is_param 1 0 ∷ is_param 6 1 ∷ []
+
+abbrev pub by_range : List Term
+by_range = is_param 1 0 ∷ op2 (Compare Ge Binary) (col 1 6) (col 0 1) ∷ op2 (Compare Lt Binary) (col 1 6) (col 0 2) ∷ []
+
+abbrev pub by_key : List Term
+by_key = is_param 1 0 ∷ is_param 2 1 ∷ is_param 3 2 ∷ is_param 4 3 ∷ []
+
+abbrev pub the_rowid : List Term
+the_rowid = col 1 0 ∷ []
+
+abbrev pub columns_1 : List Term
+columns_1 = col 1 1 ∷ []
+
+abbrev pub terms_1 : List Term
+terms_1 = lit Null ∷ col 0 0 ∷ []
+
+abbrev pub columns_5 : List Term
+columns_5 = col 1 1 ∷ col 1 2 ∷ col 1 3 ∷ col 1 4 ∷ col 1 5 ∷ []
+
+abbrev pub terms_5 : List Term
+terms_5 = lit Null ∷ col 0 0 ∷ col 0 1 ∷ col 0 2 ∷ col 0 3 ∷ col 0 4 ∷ []
+
+abbrev pub columns_6 : List Term
+columns_6 = col 1 1 ∷ col 1 2 ∷ col 1 3 ∷ col 1 4 ∷ col 1 5 ∷ col 1 6 ∷ []
+
+abbrev pub terms_6 : List Term
+terms_6 = lit Null ∷ col 0 0 ∷ col 0 1 ∷ col 0 2 ∷ col 0 3 ∷ col 0 4 ∷ col 0 5 ∷ []
+
+abbrev pub columns_7 : List Term
+columns_7 = col 1 1 ∷ col 1 2 ∷ col 1 3 ∷ col 1 4 ∷ col 1 5 ∷ col 1 6 ∷ col 1 7 ∷ []
+
+abbrev pub terms_7 : List Term
+terms_7 = lit Null ∷ col 0 0 ∷ col 0 1 ∷ col 0 2 ∷ col 0 3 ∷ col 0 4 ∷ col 0 5 ∷ col 0 6 ∷ []
+
+abbrev pub insert_meta_text : List ℕ
+insert_meta_text = codes "INSERT INTO meta VALUES (?1)"
+
+pub insert_meta_is : command_of (understood office_schema insert_meta_text) ≡ Insert 0 (Values terms_1 2)
+unfolding understood everything
+insert_meta_is = refl
+
+pub insert_meta_plain : IsPlain (understood office_schema insert_meta_text)
+unfolding understood everything
+insert_meta_plain = (refl, refl)
+
+abbrev pub insert_zones_text : List ℕ
+insert_zones_text = codes "INSERT INTO zones VALUES (?1)"
+
+pub insert_zones_is : command_of (understood office_schema insert_zones_text) ≡ Insert 1 (Values terms_1 2)
+unfolding understood everything
+insert_zones_is = refl
+
+pub insert_zones_plain : IsPlain (understood office_schema insert_zones_text)
+unfolding understood everything
+insert_zones_plain = (refl, refl)
+
+abbrev pub insert_records_text : List ℕ
+insert_records_text = codes "INSERT INTO records VALUES (?1, ?2, ?3, ?4, ?5, ?6)"
+
+pub insert_records_is : command_of (understood office_schema insert_records_text) ≡ Insert 2 (Values terms_6 7)
+unfolding understood everything
+insert_records_is = refl
+
+pub insert_records_plain : IsPlain (understood office_schema insert_records_text)
+unfolding understood everything
+insert_records_plain = (refl, refl)
+
+abbrev pub insert_receipts_text : List ℕ
+insert_receipts_text = codes "INSERT INTO receipts VALUES (?1, ?2, ?3, ?4, ?5)"
+
+pub insert_receipts_is : command_of (understood office_schema insert_receipts_text) ≡ Insert 3 (Values terms_5 6)
+unfolding understood everything
+insert_receipts_is = refl
+
+pub insert_receipts_plain : IsPlain (understood office_schema insert_receipts_text)
+unfolding understood everything
+insert_receipts_plain = (refl, refl)
+
+abbrev pub insert_changes_text : List ℕ
+insert_changes_text = codes "INSERT INTO changes VALUES (?1, ?2, ?3, ?4, ?5, ?6, ?7)"
+
+pub insert_changes_is : command_of (understood office_schema insert_changes_text) ≡ Insert 4 (Values terms_7 8)
+unfolding understood everything
+insert_changes_is = refl
+
+pub insert_changes_plain : IsPlain (understood office_schema insert_changes_text)
+unfolding understood everything
+insert_changes_plain = (refl, refl)
+
+abbrev pub delete_record_text : List ℕ
+delete_record_text = codes "DELETE FROM records WHERE origin = ?1 AND owner = ?2 AND type = ?3 AND data = ?4"
+
+pub delete_record_is : command_of (understood office_schema delete_record_text) ≡ Delete 2 (record { lets = []; body = select_from 3 by_key the_rowid })
+unfolding understood everything
+delete_record_is = refl
+
+pub delete_record_plain : IsPlain (understood office_schema delete_record_text)
+unfolding understood everything
+delete_record_plain = (refl, refl)
+
+abbrev pub delete_meta_text : List ℕ
+delete_meta_text = codes "DELETE FROM meta"
+
+pub delete_meta_is : command_of (understood office_schema delete_meta_text) ≡ Delete 0 (record { lets = []; body = select_from 0 [] the_rowid })
+unfolding understood everything
+delete_meta_is = refl
+
+pub delete_meta_plain : IsPlain (understood office_schema delete_meta_text)
+unfolding understood everything
+delete_meta_plain = (refl, refl)
+
+abbrev pub zone_text : List ℕ
+zone_text = codes "SELECT origin FROM zones WHERE origin = ?1"
+
+pub zone_is : (command_of (understood office_schema zone_text) ≡ Select (record { lets = []; body = select_from 1 by_first columns_1 }) (codes "origin" ∷ [])) × (reads_listing office_schema zone_text ≡ false)
+unfolding understood everything
+zone_is = (refl, refl)
+
+pub zone_plain : IsPlain (understood office_schema zone_text)
+unfolding understood everything
+zone_plain = (refl, refl)
+
+abbrev pub records_of_text : List ℕ
+records_of_text = codes "SELECT origin, owner, type, data, ttl, owner_key FROM records WHERE origin = ?1"
+
+pub records_of_is : (command_of (understood office_schema records_of_text) ≡ Select (record { lets = []; body = select_from 3 by_first columns_6 }) (codes "origin" ∷ codes "owner" ∷ codes "type" ∷ codes "data" ∷ codes "ttl" ∷ codes "owner_key" ∷ [])) × (reads_listing office_schema records_of_text ≡ false)
+unfolding understood everything
+records_of_is = (refl, refl)
+
+pub records_of_plain : IsPlain (understood office_schema records_of_text)
+unfolding understood everything
+records_of_plain = (refl, refl)
+
+abbrev pub records_at_text : List ℕ
+records_at_text = codes "SELECT origin, owner, type, data, ttl, owner_key FROM records WHERE origin = ?1 AND owner_key = ?2"
+
+pub records_at_is : (command_of (understood office_schema records_at_text) ≡ Select (record { lets = []; body = select_from 3 by_owner_key columns_6 }) (codes "origin" ∷ codes "owner" ∷ codes "type" ∷ codes "data" ∷ codes "ttl" ∷ codes "owner_key" ∷ [])) × (reads_listing office_schema records_at_text ≡ false)
+unfolding understood everything
+records_at_is = (refl, refl)
+
+pub records_at_plain : IsPlain (understood office_schema records_at_text)
+unfolding understood everything
+records_at_plain = (refl, refl)
+
+abbrev pub records_between_text : List ℕ
+records_between_text = codes "SELECT origin, owner, type, data, ttl, owner_key FROM records WHERE origin = ?1 AND owner_key >= ?2 AND owner_key < ?3"
+
+pub records_between_is : (command_of (understood office_schema records_between_text) ≡ Select (record { lets = []; body = select_from 3 by_range columns_6 }) (codes "origin" ∷ codes "owner" ∷ codes "type" ∷ codes "data" ∷ codes "ttl" ∷ codes "owner_key" ∷ [])) × (reads_listing office_schema records_between_text ≡ false)
+unfolding understood everything
+records_between_is = (refl, refl)
+
+pub records_between_plain : IsPlain (understood office_schema records_between_text)
+unfolding understood everything
+records_between_plain = (refl, refl)
+
+abbrev pub receipts_of_text : List ℕ
+receipts_of_text = codes "SELECT caller, id, origin, request, reply FROM receipts WHERE caller = ?1 AND id = ?2"
+
+pub receipts_of_is : (command_of (understood office_schema receipts_of_text) ≡ Select (record { lets = []; body = select_from 6 by_two columns_5 }) (codes "caller" ∷ codes "id" ∷ codes "origin" ∷ codes "request" ∷ codes "reply" ∷ [])) × (reads_listing office_schema receipts_of_text ≡ false)
+unfolding understood everything
+receipts_of_is = (refl, refl)
+
+pub receipts_of_plain : IsPlain (understood office_schema receipts_of_text)
+unfolding understood everything
+receipts_of_plain = (refl, refl)
+
+abbrev pub changes_of_text : List ℕ
+changes_of_text = codes "SELECT origin, number, side, owner, type, data, ttl FROM changes WHERE origin = ?1"
+
+pub changes_of_is : (command_of (understood office_schema changes_of_text) ≡ Select (record { lets = []; body = select_from 8 by_first columns_7 }) (codes "origin" ∷ codes "number" ∷ codes "side" ∷ codes "owner" ∷ codes "type" ∷ codes "data" ∷ codes "ttl" ∷ [])) × (reads_listing office_schema changes_of_text ≡ false)
+unfolding understood everything
+changes_of_is = (refl, refl)
+
+pub changes_of_plain : IsPlain (understood office_schema changes_of_text)
+unfolding understood everything
+changes_of_plain = (refl, refl)
+
+abbrev pub last_query : Query
+last_query = select_by ((col 1 2, record { collation = Binary; descending = true }) ∷ []) (lit (Int (pos 1))) 8 by_first (col 1 2 ∷ [])
+
+abbrev pub last_text : List ℕ
+last_text = codes "SELECT number FROM changes WHERE origin = ?1 ORDER BY number DESC LIMIT 1"
+
+pub last_is : (command_of (understood office_schema last_text) ≡ Select (record { lets = []; body = last_query }) (codes "number" ∷ [])) × (reads_listing office_schema last_text ≡ false)
+unfolding understood everything
+last_is = (refl, refl)
+
+pub last_plain : IsPlain (understood office_schema last_text)
+unfolding understood everything
+last_plain = (refl, refl)
+
+abbrev pub rowids_meta_text : List ℕ
+rowids_meta_text = codes "SELECT rowid FROM meta"
+
+pub rowids_meta_is : (command_of (understood office_schema rowids_meta_text) ≡ Select (record { lets = []; body = select_from 0 [] the_rowid }) (codes "rowid" ∷ [])) × (reads_listing office_schema rowids_meta_text ≡ false)
+unfolding understood everything
+rowids_meta_is = (refl, refl)
+
+pub rowids_meta_plain : IsPlain (understood office_schema rowids_meta_text)
+unfolding understood everything
+rowids_meta_plain = (refl, refl)
+
+abbrev pub all_meta_text : List ℕ
+all_meta_text = codes "SELECT version FROM meta"
+
+pub all_meta_is : (command_of (understood office_schema all_meta_text) ≡ Select (record { lets = []; body = select_from 0 [] columns_1 }) (codes "version" ∷ [])) × (reads_listing office_schema all_meta_text ≡ false)
+unfolding understood everything
+all_meta_is = (refl, refl)
+
+pub all_meta_plain : IsPlain (understood office_schema all_meta_text)
+unfolding understood everything
+all_meta_plain = (refl, refl)
+
+abbrev pub rowids_zones_text : List ℕ
+rowids_zones_text = codes "SELECT rowid FROM zones"
+
+pub rowids_zones_is : (command_of (understood office_schema rowids_zones_text) ≡ Select (record { lets = []; body = select_from 1 [] the_rowid }) (codes "rowid" ∷ [])) × (reads_listing office_schema rowids_zones_text ≡ false)
+unfolding understood everything
+rowids_zones_is = (refl, refl)
+
+pub rowids_zones_plain : IsPlain (understood office_schema rowids_zones_text)
+unfolding understood everything
+rowids_zones_plain = (refl, refl)
+
+abbrev pub all_zones_text : List ℕ
+all_zones_text = codes "SELECT origin FROM zones"
+
+pub all_zones_is : (command_of (understood office_schema all_zones_text) ≡ Select (record { lets = []; body = select_from 1 [] columns_1 }) (codes "origin" ∷ [])) × (reads_listing office_schema all_zones_text ≡ false)
+unfolding understood everything
+all_zones_is = (refl, refl)
+
+pub all_zones_plain : IsPlain (understood office_schema all_zones_text)
+unfolding understood everything
+all_zones_plain = (refl, refl)
+
+abbrev pub rowids_records_text : List ℕ
+rowids_records_text = codes "SELECT rowid FROM records"
+
+pub rowids_records_is : (command_of (understood office_schema rowids_records_text) ≡ Select (record { lets = []; body = select_from 3 [] the_rowid }) (codes "rowid" ∷ [])) × (reads_listing office_schema rowids_records_text ≡ false)
+unfolding understood everything
+rowids_records_is = (refl, refl)
+
+pub rowids_records_plain : IsPlain (understood office_schema rowids_records_text)
+unfolding understood everything
+rowids_records_plain = (refl, refl)
+
+abbrev pub all_records_text : List ℕ
+all_records_text = codes "SELECT origin, owner, type, data, ttl, owner_key FROM records"
+
+pub all_records_is : (command_of (understood office_schema all_records_text) ≡ Select (record { lets = []; body = select_from 3 [] columns_6 }) (codes "origin" ∷ codes "owner" ∷ codes "type" ∷ codes "data" ∷ codes "ttl" ∷ codes "owner_key" ∷ [])) × (reads_listing office_schema all_records_text ≡ false)
+unfolding understood everything
+all_records_is = (refl, refl)
+
+pub all_records_plain : IsPlain (understood office_schema all_records_text)
+unfolding understood everything
+all_records_plain = (refl, refl)
+
+abbrev pub rowids_receipts_text : List ℕ
+rowids_receipts_text = codes "SELECT rowid FROM receipts"
+
+pub rowids_receipts_is : (command_of (understood office_schema rowids_receipts_text) ≡ Select (record { lets = []; body = select_from 6 [] the_rowid }) (codes "rowid" ∷ [])) × (reads_listing office_schema rowids_receipts_text ≡ false)
+unfolding understood everything
+rowids_receipts_is = (refl, refl)
+
+pub rowids_receipts_plain : IsPlain (understood office_schema rowids_receipts_text)
+unfolding understood everything
+rowids_receipts_plain = (refl, refl)
+
+abbrev pub all_receipts_text : List ℕ
+all_receipts_text = codes "SELECT caller, id, origin, request, reply FROM receipts"
+
+pub all_receipts_is : (command_of (understood office_schema all_receipts_text) ≡ Select (record { lets = []; body = select_from 6 [] columns_5 }) (codes "caller" ∷ codes "id" ∷ codes "origin" ∷ codes "request" ∷ codes "reply" ∷ [])) × (reads_listing office_schema all_receipts_text ≡ false)
+unfolding understood everything
+all_receipts_is = (refl, refl)
+
+pub all_receipts_plain : IsPlain (understood office_schema all_receipts_text)
+unfolding understood everything
+all_receipts_plain = (refl, refl)
+
+abbrev pub rowids_changes_text : List ℕ
+rowids_changes_text = codes "SELECT rowid FROM changes"
+
+pub rowids_changes_is : (command_of (understood office_schema rowids_changes_text) ≡ Select (record { lets = []; body = select_from 8 [] the_rowid }) (codes "rowid" ∷ [])) × (reads_listing office_schema rowids_changes_text ≡ false)
+unfolding understood everything
+rowids_changes_is = (refl, refl)
+
+pub rowids_changes_plain : IsPlain (understood office_schema rowids_changes_text)
+unfolding understood everything
+rowids_changes_plain = (refl, refl)
+
+abbrev pub all_changes_text : List ℕ
+all_changes_text = codes "SELECT origin, number, side, owner, type, data, ttl FROM changes"
+
+pub all_changes_is : (command_of (understood office_schema all_changes_text) ≡ Select (record { lets = []; body = select_from 8 [] columns_7 }) (codes "origin" ∷ codes "number" ∷ codes "side" ∷ codes "owner" ∷ codes "type" ∷ codes "data" ∷ codes "ttl" ∷ [])) × (reads_listing office_schema all_changes_text ≡ false)
+unfolding understood everything
+all_changes_is = (refl, refl)
+
+pub all_changes_plain : IsPlain (understood office_schema all_changes_text)
+unfolding understood everything
+all_changes_plain = (refl, refl)
+
+abbrev pub create_meta_text : List ℕ
+create_meta_text = codes "CREATE TABLE meta(version INTEGER NOT NULL) STRICT"
+
+pub create_meta_is : (command_of (understood no_schema create_meta_text) ≡ CreateTable) × (statement_of create_meta_text (understood no_schema create_meta_text) ≡ create_meta_text)
+unfolding understood everything
+create_meta_is = (refl, refl)
+
+pub create_meta_plain : IsPlain (understood no_schema create_meta_text)
+unfolding understood everything
+create_meta_plain = (refl, refl)
+
+pub create_meta_defines : table_defined_by create_meta_text ≡ Ok (keyed (codes "meta") 0 meta_columns [])
+unfolding understood everything
+create_meta_defines = refl
+
+abbrev pub create_zones_text : List ℕ
+create_zones_text = codes "CREATE TABLE zones(origin TEXT NOT NULL PRIMARY KEY) STRICT"
+
+pub create_zones_is : (command_of (understood with_meta create_zones_text) ≡ CreateTable) × (statement_of create_zones_text (understood with_meta create_zones_text) ≡ create_zones_text)
+unfolding understood everything
+create_zones_is = (refl, refl)
+
+pub create_zones_plain : IsPlain (understood with_meta create_zones_text)
+unfolding understood everything
+create_zones_plain = (refl, refl)
+
+pub create_zones_defines : table_defined_by create_zones_text ≡ Ok (keyed (codes "zones") 0 zones_columns (1 ∷ []))
+unfolding understood everything
+create_zones_defines = refl
+
+abbrev pub create_records_text : List ℕ
+create_records_text = codes "CREATE TABLE records(origin TEXT NOT NULL, owner TEXT NOT NULL, type INTEGER NOT NULL, data TEXT NOT NULL, ttl INTEGER NOT NULL, owner_key BLOB NOT NULL, PRIMARY KEY(origin, owner, type, data)) STRICT"
+
+pub create_records_is : (command_of (understood with_zones create_records_text) ≡ CreateTable) × (statement_of create_records_text (understood with_zones create_records_text) ≡ create_records_text)
+unfolding understood everything
+create_records_is = (refl, refl)
+
+pub create_records_plain : IsPlain (understood with_zones create_records_text)
+unfolding understood everything
+create_records_plain = (refl, refl)
+
+pub create_records_defines : table_defined_by create_records_text ≡ Ok (keyed (codes "records") 0 records_columns (1 ∷ 2 ∷ 3 ∷ 4 ∷ []))
+unfolding understood everything
+create_records_defines = refl
+
+abbrev pub create_receipts_text : List ℕ
+create_receipts_text = codes "CREATE TABLE receipts(caller TEXT NOT NULL, id TEXT NOT NULL, origin TEXT NOT NULL, request TEXT NOT NULL, reply TEXT NOT NULL, PRIMARY KEY(caller, id)) STRICT"
+
+pub create_receipts_is : (command_of (understood with_records_by_key create_receipts_text) ≡ CreateTable) × (statement_of create_receipts_text (understood with_records_by_key create_receipts_text) ≡ create_receipts_text)
+unfolding understood everything
+create_receipts_is = (refl, refl)
+
+pub create_receipts_plain : IsPlain (understood with_records_by_key create_receipts_text)
+unfolding understood everything
+create_receipts_plain = (refl, refl)
+
+pub create_receipts_defines : table_defined_by create_receipts_text ≡ Ok (keyed (codes "receipts") 0 receipts_columns (1 ∷ 2 ∷ []))
+unfolding understood everything
+create_receipts_defines = refl
+
+abbrev pub create_changes_text : List ℕ
+create_changes_text = codes "CREATE TABLE changes(origin TEXT NOT NULL, number INTEGER NOT NULL, side INTEGER NOT NULL, owner TEXT NOT NULL, type INTEGER NOT NULL, data TEXT NOT NULL, ttl INTEGER NOT NULL, PRIMARY KEY(origin, number, side, owner, type, data)) STRICT"
+
+pub create_changes_is : (command_of (understood with_receipts create_changes_text) ≡ CreateTable) × (statement_of create_changes_text (understood with_receipts create_changes_text) ≡ create_changes_text)
+unfolding understood everything
+create_changes_is = (refl, refl)
+
+pub create_changes_plain : IsPlain (understood with_receipts create_changes_text)
+unfolding understood everything
+create_changes_plain = (refl, refl)
+
+pub create_changes_defines : table_defined_by create_changes_text ≡ Ok (keyed (codes "changes") 0 changes_columns (1 ∷ 2 ∷ 3 ∷ 4 ∷ 5 ∷ 6 ∷ []))
+unfolding understood everything
+create_changes_defines = refl
+
+abbrev pub create_index_text : List ℕ
+create_index_text = codes "CREATE INDEX records_by_key ON records(origin, owner_key)"
+
+pub create_index_is : (command_of (understood with_records create_index_text) ≡ CreateIndex 2) × (statement_of create_index_text (understood with_records create_index_text) ≡ create_index_text)
+unfolding understood everything
+create_index_is = (refl, refl)
+
+pub create_index_plain : IsPlain (understood with_records create_index_text)
+unfolding understood everything
+create_index_plain = (refl, refl)
+
+pub create_index_defines : index_defined_by records create_index_text ≡ Ok (record records_by_key { tree = 0 })
+unfolding understood everything
+create_index_defines = refl
+
+abbrev pub index_of : List ℕ → ℕ → ℕ → List ℕ → Bool → Index
+index_of name tree table columns is_unique = record { name = name; tree = tree; table = table; columns = columns; order = plain; is_unique = is_unique }
+
+pub indexes_are : office_schema.indexes
+    ≡ index_of (codes "sqlite_autoindex_zones_1") 2 1 (1 ∷ []) true ∷ index_of (codes "sqlite_autoindex_records_1") 4 3 (1 ∷ 2 ∷ 3 ∷ 4 ∷ []) true ∷ records_by_key ∷ index_of (codes "sqlite_autoindex_receipts_1") 7 6 (1 ∷ 2 ∷ []) true
+      ∷ index_of (codes "sqlite_autoindex_changes_1") 9 8 (1 ∷ 2 ∷ 3 ∷ 4 ∷ 5 ∷ 6 ∷ []) true ∷ []
+unfolding everything
+indexes_are = refl
