@@ -13,9 +13,9 @@ use Rattle.zone_core.specs.Zones.{ZoneOf, built, soa_in}
 use Rattle.zone_core.specs.Updates.{UpdateOf, first_outside}
 use Rattle.zone_core.specs.Prerequisites.{verdict}
 use Rattle.zone_core.specs.Effects.{zone_after}
-use Rattle.office_store.specs.declared.fault.ItemsFault.{ItemsFault}
-use Rattle.office_store.specs.declared.fault.ItemsFault.TheVariants.{BadLine}
-use Rattle.office_store.specs.Reading.{items_of}
+use Rattle.office_rows.specs.declared.fault.ItemsFault.{ItemsFault}
+use Rattle.office_rows.specs.declared.fault.ItemsFault.TheVariants.{BadLine}
+use Rattle.office_rows.specs.Reading.{items_of}
 use Rattle.zoneoffice.specs.declared.refusal.Refusal.{Refusal}
 use Rattle.zoneoffice.specs.declared.refusal.Refusal.TheVariants.{NoDivider, Zone, Unmet}
 use Rattle.zoneoffice.specs.LineFaults.{◌>>=◌, or_refused, limited, of_masters, of_zones, of_items}

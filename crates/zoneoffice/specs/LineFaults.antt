@@ -6,8 +6,8 @@ use Rattle.dns_master.specs.declared.fault.MasterFault.{MasterFault}
 use Rattle.dns_master.specs.declared.fault.MasterFault.TheVariants as masters
 use Rattle.zone_core.specs.declared.fault.ZoneFault.{ZoneFault}
 use Rattle.zone_core.specs.declared.fault.ZoneFault.TheVariants as zones
-use Rattle.office_store.specs.declared.fault.ItemsFault.{ItemsFault}
-use Rattle.office_store.specs.declared.fault.ItemsFault.TheVariants as items
+use Rattle.office_rows.specs.declared.fault.ItemsFault.{ItemsFault}
+use Rattle.office_rows.specs.declared.fault.ItemsFault.TheVariants as items
 use Rattle.grant_policy.specs.declared.fault.PolicyFault.{PolicyFault}
 use Rattle.grant_policy.specs.declared.fault.PolicyFault.TheVariants as policies
 use Rattle.zoneoffice.specs.declared.refusal.Refusal.{Refusal}

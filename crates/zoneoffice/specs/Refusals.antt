@@ -10,7 +10,7 @@ use Rattle.dns_master.specs.declared.fault.MasterFault.TheVariants as of_master
 use Rattle.dns_master.specs.Faults.{fault_number as master_number, fault_line}
 use Rattle.zone_core.specs.Faults.{zone_fault_number}
 use Rattle.zone_core.specs.Rcodes.{rcode_number, rcode_text}
-use Rattle.office_store.specs.Faults.{fault_number as items_number, fault_line as items_line}
+use Rattle.office_rows.specs.Faults.{fault_number as items_number, fault_line as items_line}
 use Rattle.grant_policy.specs.declared.fault.PolicyFault.{PolicyFault}
 use Rattle.grant_policy.specs.declared.fault.PolicyFault.TheVariants as of_policy
 use Rattle.grant_policy.specs.Faults.{fault_number as policy_number}

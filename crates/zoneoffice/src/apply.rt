@@ -15,7 +15,7 @@ use crate::task::Task;
 use dns_data::{Data, Record};
 use dns_master::{Sink, Source, print_records, read_file};
 use dns_names::Name;
-use office_store::{ItemsFault, read_items};
+use office_rows::{ItemsFault, read_items};
 use std::alloc::Global;
 use zone_core::{Outcome, Rcode, Update, Zone, ZoneFault, apply_owned, holds};
 

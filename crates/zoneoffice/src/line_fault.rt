@@ -9,7 +9,7 @@ use crate::refusal::Refusal;
 use dns_master::{DeviceFailed, MasterFault};
 use dns_names::NameFault;
 use grant_policy::PolicyFault;
-use office_store::ItemsFault;
+use office_rows::ItemsFault;
 use std::alloc::AllocError;
 use thiserror::Error;
 use zone_core::ZoneFault;

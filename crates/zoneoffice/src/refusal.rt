@@ -7,7 +7,7 @@ use dns_data::DataFault;
 use dns_master::MasterFault;
 use dns_names::NameFault;
 use grant_policy::PolicyFault;
-use office_store::ItemsFault;
+use office_rows::ItemsFault;
 use std::fmt::{self, Display, Formatter, Write};
 use thiserror::Error;
 use zone_core::{Rcode, ZoneFault};

@@ -4,7 +4,7 @@ use crate::refusal::{Refusal, RefusalLine};
 use dns_data::DataFault;
 use dns_master::MasterFault;
 use dns_names::NameFault;
-use office_store::ItemsFault;
+use office_rows::ItemsFault;
 use std::test::Fail;
 use zone_core::{Rcode, UpdateFault, ZoneFault};
 

@@ -1,0 +1,248 @@
+-- Replies in words: what is written is read, and what is read was written so.
+use Rattle.std.proofs.Common.{◌≡◌, ℕ, zero, suc, ◌+◌, ◌-◌, ◌^◌, ◌<◌, ◌≤◌, Bool, true, false, cond, eqb, leb, not, ◌&&◌, ◌||◌, List, [], ◌∷◌, ◌++◌, length, map, Option, Some, None, Result, Ok, Err, refl, sym, ap, subst, ◌∙◌, arith, eqb-true}
+use Rattle.std.proofs.lemmas.Bool.{agree_below_at, leb-true, le-leb, lt-ltb, and_parts, and_from}
+use Rattle.std.proofs.lemmas.Str.{IsUtf8-from_ascii}
+use Rattle.std.specs.Prelude.{nat_le, nat_lt, decimal, slice_index, bytes_eq, IfSome, IsUtf8}
+use Rattle.std.specs.Char.{is_ascii_alphanumeric}
+use Rattle.std.specs.Int.{is_in_range}
+use Rattle.std.specs.List.{AllByRecursion, list_all}
+use Rattle.std.specs.Option.{option_to_list}
+use Rattle.std.specs.Str.Parse.{digits_value}
+use Rattle.dns_data.specs.declared.item.Item.{Item}
+use Rattle.dns_data.specs.Items.{ItemText, item_of, plain, items_text}
+use Rattle.dns_data.specs.Numbers.{is_number}
+use Rattle.dns_data.proofs.NumberLaws.{is_numeral, decimal_is_number}
+use Rattle.dns_master.specs.Pieces.{ends_item}
+use Rattle.dns_master.proofs.CleanLaws.{runs, Clean, number_clean}
+use Rattle.dns_master.proofs.LineLaws.{CleanLine}
+use Rattle.grant_policy.specs.Identifiers.{IsIdentifier, is_identifier_octet}
+use Rattle.zone_core.specs.declared.rcode.Rcode.{Rcode}
+use Rattle.zone_core.specs.declared.rcode.Rcode.TheVariants as rcodes
+use Rattle.zone_core.specs.declared.update.ItemList.{ItemList}
+use Rattle.zone_core.specs.declared.update.ItemList.TheVariants as lists
+use Rattle.zone_core.specs.declared.update.Place.{Place}
+use Rattle.zone_core.specs.declared.verdict.Failed.{Failed as Failure}
+use Rattle.zone_core.specs.Rcodes.{rcode_text}
+use Rattle.zone_core.specs.Updates.{place_in}
+use Rattle.office_core.specs.declared.reply.UpdateReply.{UpdateReply}
+use Rattle.office_core.specs.declared.reply.UpdateReply.TheVariants.{NoError, NotAuth, NotZone, Refused, Failed}
+use Rattle.office_rows.specs.declared.row_fault.RowFault.{RowFault}
+use Rattle.office_rows.specs.declared.row_fault.RowFault.TheVariants.{BadRow}
+use Rattle.office_rows.specs.ReplyWords.{list_word, place_words, failed_word, words_of, reply_words, IsReply}
+use Rattle.office_rows.specs.RowFaults.{◌>>=◌, canonical}
+use Rattle.office_rows.specs.RowReading.{or_bad, fields_of, is_identifier, identifier_in, code_named, list_named, number_named, reply_alone, reply_with, reply_at, denied_by, reply_of, reply_in}
+use Rattle.office_rows.proofs.RowSteps.{done, step_ok, canonical_again, canonical_ok}
+use Rattle.office_rows.proofs.FieldsLaws.{fields_read}
+
+-- ---- single words
+
+pub identifier_read : (id : List ℕ) → IsIdentifier id → identifier_in id ≡ Ok id
+identifier_read id is =
+    ap (λ (b : Bool). cond b (done id) (Err BadRow))
+    (and_from (nat_lt 0 (length id)) (nat_le (length id) 64 && list_all is_identifier_octet id) (lt-ltb 0 (length id) is.not_empty)
+    (and_from (nat_le (length id) 64) (list_all is_identifier_octet id) (le-leb (length id) 64 is.short) is.octets))
+
+code_read : (code : Rcode) → code_named (rcode_text code) ≡ Some code
+code_read rcodes.NoError = refl
+code_read rcodes.FormErr = refl
+code_read rcodes.ServFail = refl
+code_read rcodes.NxDomain = refl
+code_read rcodes.NotImp = refl
+code_read rcodes.Refused = refl
+code_read rcodes.YxDomain = refl
+code_read rcodes.YxRrset = refl
+code_read rcodes.NxRrset = refl
+code_read rcodes.NotAuth = refl
+code_read rcodes.NotZone = refl
+
+list_read : (list : ItemList) → list_named (list_word list) ≡ Some list
+list_read lists.Prerequisites = refl
+list_read lists.Operations = refl
+
+number_read : (n : ℕ) → n < 2 ^ 64 → number_named (decimal n) ≡ Some n
+number_read n h =
+    let number = decimal_is_number n h in
+    let small : n ≤ 2 ^ 64 - 1 = omega arith in
+    let fits : nat_le (digits_value 10 (decimal n)) (2 ^ 64 - 1) ≡ true = ap (λ (m : ℕ). nat_le m (2 ^ 64 - 1)) number.1 ∙ le-leb n (2 ^ 64 - 1) small in
+    ap (λ (b : Bool). cond b (Some (digits_value 10 (decimal n))) None) (and_from (is_number (decimal n)) (nat_le (digits_value 10 (decimal n)) (2 ^ 64 - 1)) (is_numeral (decimal n) number.0) fits)
+    ∙ ap (λ (m : ℕ). Some m) number.1
+
+-- ---- replies by their words
+
+abbrev at_item : Option ItemList → Rcode → List ℕ → Result UpdateReply RowFault
+at_item list code item = or_bad (number_named item) >>= λ n. Ok (reply_with code list n)
+
+item_read : (code : Rcode) (list : List ℕ) (n : ℕ) → n < 2 ^ 64 → reply_of (rcode_text code ∷ list ∷ decimal n ∷ []) ≡ Ok (reply_with code (list_named list) n)
+item_read code list n h =
+    ap (λ o. or_bad o >>= λ c. at_item (list_named list) c (decimal n)) (code_read code)
+    ∙ ap (λ o. or_bad o >>= λ m. done (reply_with code (list_named list) m)) (number_read n h)
+
+rule_read : (place : Place) (rule : List ℕ) → place.item < 2 ^ 64 → IsIdentifier rule → reply_of (rcode_text rcodes.Refused ∷ list_word place.list ∷ decimal place.item ∷ rule ∷ []) ≡ Ok (Refused place (Some rule))
+rule_read place rule h is =
+    ap (λ r. r >>= λ id. reply_at (rcode_text rcodes.Refused) (list_word place.list) (decimal place.item) >>= λ reply. denied_by reply id) (identifier_read rule is)
+    ∙ ap (λ r. r >>= λ reply. denied_by reply rule) (item_read rcodes.Refused (list_word place.list) place.item h)
+    ∙ ap (λ o. denied_by (reply_with rcodes.Refused o place.item) rule) (list_read place.list)
+
+failed_read : (code : Rcode) (n : ℕ) → reply_with code (list_named (failed_word code)) n ≡ Failed (record { code = code; item = n })
+failed_read rcodes.NoError n = refl
+failed_read rcodes.FormErr n = refl
+failed_read rcodes.ServFail n = refl
+failed_read rcodes.NxDomain n = refl
+failed_read rcodes.NotImp n = refl
+failed_read rcodes.Refused n = refl
+failed_read rcodes.YxDomain n = refl
+failed_read rcodes.YxRrset n = refl
+failed_read rcodes.NxRrset n = refl
+failed_read rcodes.NotAuth n = refl
+failed_read rcodes.NotZone n = refl
+
+-- the words of a reply say it
+words_read : (reply : UpdateReply) → IsReply reply → reply_of (words_of reply) ≡ Ok reply
+words_read NoError is = refl
+words_read NotAuth is = refl
+words_read (NotZone place) is =
+    item_read rcodes.NotZone (list_word place.list) place.item is
+    ∙ ap (λ o. done (reply_with rcodes.NotZone o place.item)) (list_read place.list)
+words_read (Refused place None) is =
+    item_read rcodes.Refused (list_word place.list) place.item is.0
+    ∙ ap (λ o. done (reply_with rcodes.Refused o place.item)) (list_read place.list)
+words_read (Refused place (Some rule)) is = rule_read place rule is.0 is.1
+words_read (Failed failure) is =
+    item_read failure.code (failed_word failure.code) failure.item is
+    ∙ ap done (failed_read failure.code failure.item)
+
+-- ---- words are items of a line
+
+code_clean : (code : Rcode) → Clean (plain (rcode_text code))
+code_clean rcodes.NoError = refl
+code_clean rcodes.FormErr = refl
+code_clean rcodes.ServFail = refl
+code_clean rcodes.NxDomain = refl
+code_clean rcodes.NotImp = refl
+code_clean rcodes.Refused = refl
+code_clean rcodes.YxDomain = refl
+code_clean rcodes.YxRrset = refl
+code_clean rcodes.NxRrset = refl
+code_clean rcodes.NotAuth = refl
+code_clean rcodes.NotZone = refl
+
+list_clean : (list : ItemList) → Clean (plain (list_word list))
+list_clean lists.Prerequisites = refl
+list_clean lists.Operations = refl
+
+failed_clean : (code : Rcode) → Clean (plain (failed_word code))
+failed_clean rcodes.NoError = refl
+failed_clean rcodes.FormErr = refl
+failed_clean rcodes.ServFail = refl
+failed_clean rcodes.NxDomain = refl
+failed_clean rcodes.NotImp = refl
+failed_clean rcodes.Refused = refl
+failed_clean rcodes.YxDomain = refl
+failed_clean rcodes.YxRrset = refl
+failed_clean rcodes.NxRrset = refl
+failed_clean rcodes.NotAuth = refl
+failed_clean rcodes.NotZone = refl
+
+place_clean : (place : Place) → place.item < 2 ^ 64 → AllByRecursion Clean (map plain (place_words place))
+place_clean place h = (list_clean place.list, (number_clean place.item h, tt))
+
+-- an octet of an identifier is of ASCII, and is ordinary in a line
+either : {P : Type 0} (a b : Bool) → (a || b) ≡ true → (a ≡ true → P) → (b ≡ true → P) → P
+either true b e f g = f refl
+either false b e f g = g e
+
+in_range : (low high o : ℕ) → (leb low o && leb o high) ≡ true → o ≤ high
+in_range low high o e = leb-true o high (and_parts (leb low o) (leb o high) e).1
+
+pub octet_below : (o : ℕ) → is_identifier_octet o ≡ true → o < 128
+octet_below o e =
+    either (is_ascii_alphanumeric o) (eqb o 45 || (eqb o 95 || eqb o 46)) e
+    (λ a. either (is_in_range 48 57 o || is_in_range 65 90 o) (is_in_range 97 122 o) a
+    (λ b. either (is_in_range 48 57 o) (is_in_range 65 90 o) b (λ c. let h = in_range 48 57 o c in omega arith) (λ c. let h = in_range 65 90 o c in omega arith))
+    (λ b. let h = in_range 97 122 o b in omega arith))
+    (λ a. either (eqb o 45) (eqb o 95 || eqb o 46) a (λ b. let h = eqb-true o 45 b in omega arith)
+    (λ b. either (eqb o 95) (eqb o 46) b (λ c. let h = eqb-true o 95 c in omega arith) (λ c. let h = eqb-true o 46 c in omega arith)))
+
+abbrev ordinary : ℕ → Bool
+ordinary o = not (ends_item o) && not (eqb o 92)
+
+octet_ordinary : (o : ℕ) → is_identifier_octet o ≡ true → ordinary o ≡ true
+octet_ordinary o e =
+    let either : (not (is_identifier_octet o) || ordinary o) ≡ true = agree_below_at (λ n. not (is_identifier_octet n) || ordinary n) (λ n. true) 128 o refl (octet_below o e) in
+    rw e at either
+
+not_true : (b : Bool) → not b ≡ true → b ≡ false
+not_true false e = refl
+not_true true e = absurd cc
+
+octets_run : (text : List ℕ) → list_all is_identifier_octet text ≡ true → runs ends_item false text ≡ true
+octets_run [] e = refl
+octets_run (o ∷ rest) e =
+    let p = and_parts (is_identifier_octet o) (list_all is_identifier_octet rest) e in
+    let q = and_parts (not (ends_item o)) (not (eqb o 92)) (octet_ordinary o p.0) in
+    and_from (not (ends_item o)) (runs ends_item (eqb o 92) rest) q.0 (subst (λ (t : Bool). runs ends_item t rest ≡ true) (sym (not_true (eqb o 92) q.1)) (octets_run rest p.1))
+
+rule_clean : (rule : List ℕ) → IsIdentifier rule → Clean (plain rule)
+rule_clean [] is = absurd (let none = is.not_empty in omega arith)
+rule_clean (o ∷ rule) is = octets_run (o ∷ rule) is.octets
+
+words_clean : (reply : UpdateReply) → IsReply reply → CleanLine (map plain (words_of reply))
+words_clean NoError is = record { some = omega arith; clean = (code_clean rcodes.NoError, tt) }
+words_clean NotAuth is = record { some = omega arith; clean = (code_clean rcodes.NotAuth, tt) }
+words_clean (NotZone place) is = record { some = omega arith; clean = (code_clean rcodes.NotZone, place_clean place is) }
+words_clean (Refused place None) is = record { some = omega arith; clean = (code_clean rcodes.Refused, place_clean place is.0) }
+words_clean (Refused place (Some rule)) is =
+    record { some = omega arith; clean = (code_clean rcodes.Refused, (list_clean place.list, (number_clean place.item is.0, (rule_clean rule is.1, tt)))) }
+words_clean (Failed failure) is =
+    record { some = omega arith; clean = (code_clean failure.code, (failed_clean failure.code, (number_clean failure.item is, tt))) }
+
+-- ---- the words of a reply
+
+raws : (words : List (List ℕ)) → map (λ i. i.raw) (map plain words) ≡ words
+raws [] = refl
+raws (word ∷ words) = ap (λ (l : List (List ℕ)). word ∷ l) (raws words)
+
+abbrev in_words : List ℕ → List (List ℕ) → Result UpdateReply RowFault
+in_words text words = reply_of words >>= λ reply. canonical (reply_words reply) text reply
+
+pub reply_read : (reply : UpdateReply) → IsReply reply → reply_in (reply_words reply) ≡ Ok reply
+reply_read reply is =
+    let text = reply_words reply in
+    ap (λ r. r >>= λ items. in_words text (map (λ i. i.raw) items)) (fields_read (map plain (words_of reply)) (words_clean reply is))
+    ∙ ap (in_words text) (raws (words_of reply))
+    ∙ ap (λ r. r >>= λ x. canonical (reply_words x) text x) (words_read reply is)
+    ∙ canonical_again text reply
+
+pub reply_found : (text : List ℕ) (reply : UpdateReply) → reply_in text ≡ Ok reply → text ≡ reply_words reply
+reply_found text reply e =
+    let s = step_ok (fields_of text) (λ items. in_words text (map (λ i. i.raw) items)) reply e in
+    let t = step_ok (reply_of (map (λ i. i.raw) s.0)) (λ x. canonical (reply_words x) text x) reply s.2 in
+    let same = canonical_ok (reply_words t.0) text t.0 reply t.2 in
+    sym same.0 ∙ ap reply_words same.1
+
+-- other numbers of words are none
+pub reply_none : (xs : List Item) → (length xs ≡ 1 → ⊥) → (length xs ≡ 3 → ⊥) → (length xs ≡ 4 → ⊥) → reply_of (map (λ i. i.raw) (map item_of xs)) ≡ Err BadRow
+reply_none [] one three four = refl
+reply_none (a ∷ []) one three four = absurd (one refl)
+reply_none (a ∷ b ∷ []) one three four = refl
+reply_none (a ∷ b ∷ d ∷ []) one three four = absurd (three refl)
+reply_none (a ∷ b ∷ d ∷ e ∷ []) one three four = absurd (four refl)
+reply_none (a ∷ b ∷ d ∷ e ∷ f ∷ words) one three four = refl
+
+-- a reply whose spelling is another
+pub reply_bad : (text spelled : List ℕ) (fields : List ItemText) (reply : UpdateReply) (differs : Bool) → fields_of text ≡ Ok fields → reply_of (map (λ i. i.raw) fields) ≡ Ok reply → spelled ≡ reply_words reply → differs ≡ not (bytes_eq spelled text) → differs ≡ true
+    → reply_in text ≡ Err BadRow
+reply_bad text spelled fields reply differs f r is d t =
+    ap (λ x. x >>= λ items. in_words text (map (λ i. i.raw) items)) f
+    ∙ ap (λ x. x >>= λ y. canonical (reply_words y) text y) r
+    ∙ ap (λ (b : Bool). cond b (done reply) (Err BadRow)) (ap (λ (s : List ℕ). bytes_eq s text) (sym is) ∙ not_true (bytes_eq spelled text) (sym d ∙ t))
+
+-- ---- identifiers are text
+
+octet_at : (text : List ℕ) → list_all is_identifier_octet text ≡ true → (i : ℕ) → slice_index text i < 128
+octet_at [] e i = omega arith
+octet_at (o ∷ text) e zero = octet_below o (and_parts (is_identifier_octet o) (list_all is_identifier_octet text) e).0
+octet_at (o ∷ text) e (suc i) = octet_at text (and_parts (is_identifier_octet o) (list_all is_identifier_octet text) e).1 i
+
+pub identifier_is_text : (id : List ℕ) → IsIdentifier id → IsUtf8 id
+identifier_is_text id is = IsUtf8-from_ascii id (octet_at id is.octets)

@@ -1,0 +1,12 @@
+pub mod Faults
+pub mod ItemLines
+pub mod Reading
+pub mod Views
+pub mod Texts
+pub mod RowFaults
+pub mod RecordRows
+pub mod ReplyWords
+pub mod ReceiptRows
+pub mod ChangeRows
+pub mod Contents
+pub mod RowReading

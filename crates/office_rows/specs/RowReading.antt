@@ -1,0 +1,183 @@
+-- What rows say. A text is read only in its one spelling: what it is read as is spelled again, and compared with it.
+use Rattle.std.specs.Prelude.{ℕ, ◌^◌, ◌-◌, ℤ, pos, negsuc, List, [], ◌∷◌, length, map, Bool, ◌&&◌, ◌==◌, nat_le, nat_lt, if◌then◌else◌, Option, Some, None, Result, Ok, Err, bytes_eq}
+use Rattle.std.specs.List.{find, list_all}
+use Rattle.std.specs.Ordering.{int_eq}
+use Rattle.std.specs.Str.Parse.{digits_value}
+use Rattle.dns_names.specs.Keys.{key_of}
+use Rattle.dns_names.specs.Reading.{absolute_name}
+use Rattle.dns_names.specs.Spelling.{name_text}
+use Rattle.dns_data.specs.declared.rdata.Data.{Data}
+use Rattle.dns_data.specs.declared.record.Record.{Record}
+use Rattle.dns_data.specs.declared.record_type.RecordType.{RecordType}
+use Rattle.dns_data.specs.Items.{ItemText}
+use Rattle.dns_data.specs.Numbers.{is_number}
+use Rattle.dns_data.specs.Reading.{data_of}
+use Rattle.dns_data.specs.Text.{data_text}
+use Rattle.dns_data.specs.Types.{kept_types, type_number}
+use Rattle.dns_master.specs.declared.fault.MasterFault.{MasterFault}
+use Rattle.dns_master.specs.Tokens.{TokenText, tokens_of}
+use Rattle.grant_policy.specs.Identifiers.{is_identifier_octet}
+use Rattle.zone_core.specs.declared.rcode.Rcode.{Rcode}
+use Rattle.zone_core.specs.declared.rcode.Rcode.TheVariants as rcodes
+use Rattle.zone_core.specs.declared.update.ItemList.{ItemList}
+use Rattle.zone_core.specs.declared.update.ItemList.TheVariants as lists
+use Rattle.zone_core.specs.Rcodes.{rcode_text}
+use Rattle.zone_core.specs.Updates.{UpdateOf, place_in}
+use Rattle.zone_core.specs.Prerequisites.{failed}
+use Rattle.office_core.specs.declared.receipt.Receipt.{Receipt}
+use Rattle.office_core.specs.declared.reply.UpdateReply.{UpdateReply}
+use Rattle.office_core.specs.declared.reply.UpdateReply.TheVariants.{NoError, NotAuth, NotZone, Refused, Failed}
+use Rattle.office_tables.specs.Rows.{RecordRowOf, ReceiptRowOf, ChangeRowOf}
+use Rattle.office_rows.specs.declared.changes.ChangedRecord.{ChangedRecord}
+use Rattle.office_rows.specs.declared.row_fault.RowFault.{RowFault}
+use Rattle.office_rows.specs.declared.row_fault.RowFault.TheVariants.{BadRow}
+use Rattle.office_rows.specs.declared.side.Side.{Side}
+use Rattle.office_rows.specs.declared.side.Side.TheVariants as sides
+use Rattle.office_rows.specs.RowFaults.{◌>>=◌, of_names, of_datas, of_masters, of_updates_in, canonical}
+use Rattle.office_rows.specs.Reading.{items_of}
+use Rattle.office_rows.specs.Texts.{update_text}
+use Rattle.office_rows.specs.ReplyWords.{list_word, reply_words}
+
+-- what is found, or that a row is none
+abbrev pub or_bad : {A : Type 0} → Option A → Result A RowFault
+or_bad None = Err BadRow
+or_bad (Some x) = Ok x
+
+-- ---- columns
+
+-- a name
+abbrev pub name_in : List ℕ → Result (List (List ℕ)) RowFault
+name_in text = of_names (absolute_name text) >>= λ name. canonical (name_text name) text name
+
+-- the items of tokens
+abbrev pub fields_in : Result (List TokenText) MasterFault → Result (List ItemText) RowFault
+fields_in read = of_masters read >>= λ tokens. Ok (map (λ t. t.item) tokens)
+
+-- the items of a text (RFC 1035 section 5.1)
+abbrev pub fields_of : List ℕ → Result (List ItemText) RowFault
+fields_of text = fields_in (tokens_of text)
+
+-- a type by its number
+abbrev pub type_in : ℤ → Result RecordType RowFault
+type_in (pos n) = or_bad (find (λ t. type_number t == n) kept_types)
+type_in (negsuc n) = Err BadRow
+
+-- data of a type
+abbrev pub data_in : RecordType → List ℕ → Result Data RowFault
+data_in record_type text =
+    fields_of text >>= λ items. of_datas (data_of record_type None items) >>= λ rdata. canonical (data_text rdata) text rdata
+
+-- a TTL of 31 bits (RFC 2181 section 8)
+abbrev pub ttl_in : ℤ → Result ℕ RowFault
+ttl_in (pos n) = if nat_le n 2147483647 then Ok n else Err BadRow
+ttl_in (negsuc n) = Err BadRow
+
+-- an identifier
+abbrev pub is_identifier : List ℕ → Bool
+is_identifier text = nat_lt 0 (length text) && (nat_le (length text) 64 && list_all is_identifier_octet text)
+
+abbrev pub identifier_in : List ℕ → Result (List ℕ) RowFault
+identifier_in text = if is_identifier text then Ok text else Err BadRow
+
+-- a side
+abbrev pub side_in : ℤ → Result Side RowFault
+side_in n = if int_eq n (pos 0) then Ok sides.Removed else (if int_eq n (pos 1) then Ok sides.Added else Err BadRow)
+
+-- ---- records
+
+-- a record by its columns
+abbrev pub record_at : List ℕ → ℤ → List ℕ → ℤ → Result Record RowFault
+record_at owner record_type rdata ttl =
+    name_in owner >>= λ name. type_in record_type >>= λ t. ttl_in ttl >>= λ seconds. data_in t rdata >>= λ made.
+    Ok (record { owner = name; ttl = seconds; rdata = made })
+
+-- a record with this key of its owner
+abbrev pub with_key : List (List ℕ) → List ℕ → Record → Result (List (List ℕ) × Record) RowFault
+with_key origin key r = if bytes_eq (key_of r.owner) key then Ok (origin, r) else Err BadRow
+
+-- the origin and the record of a row
+abbrev pub record_in : RecordRowOf → Result (List (List ℕ) × Record) RowFault
+record_in row =
+    name_in row.origin >>= λ origin. record_at row.owner row.record_type row.rdata row.ttl >>= λ r. with_key origin row.owner_key r
+
+-- ---- replies
+
+-- the codes that there are (RFC 2136 section 2.2)
+abbrev pub all_codes : List Rcode
+all_codes =
+    rcodes.NoError ∷ rcodes.FormErr ∷ rcodes.ServFail ∷ rcodes.NxDomain ∷ rcodes.NotImp ∷ rcodes.Refused ∷ rcodes.YxDomain ∷ rcodes.YxRrset
+    ∷ rcodes.NxRrset ∷ rcodes.NotAuth ∷ rcodes.NotZone ∷ []
+
+-- the code that is called so
+abbrev pub code_named : List ℕ → Option Rcode
+code_named word = find (λ code. bytes_eq (rcode_text code) word) all_codes
+
+abbrev pub all_lists : List ItemList
+all_lists = lists.Prerequisites ∷ lists.Operations ∷ []
+
+-- the list that is called so
+abbrev pub list_named : List ℕ → Option ItemList
+list_named word = find (λ list. bytes_eq (list_word list) word) all_lists
+
+-- a number of 64 bits
+abbrev pub number_named : List ℕ → Option ℕ
+number_named word = if is_number word && nat_le (digits_value 10 word) (2 ^ 64 - 1) then Some (digits_value 10 word) else None
+
+-- a reply that is a code alone
+abbrev pub reply_alone : Rcode → Result UpdateReply RowFault
+reply_alone rcodes.NoError = Ok NoError
+reply_alone rcodes.NotAuth = Ok NotAuth
+reply_alone code = Err BadRow
+
+-- a reply with a code, a list, if a word was one, and the number of an item
+abbrev pub reply_with : Rcode → Option ItemList → ℕ → UpdateReply
+reply_with rcodes.NotZone (Some list) n = NotZone (place_in list n)
+reply_with rcodes.Refused (Some list) n = Refused (place_in list n) None
+reply_with code list n = Failed (failed n code)
+
+-- a reply of a code, a list and the number of an item
+abbrev pub reply_at : List ℕ → List ℕ → List ℕ → Result UpdateReply RowFault
+reply_at code list item = or_bad (code_named code) >>= λ c. or_bad (number_named item) >>= λ n. Ok (reply_with c (list_named list) n)
+
+-- a denial by a rule, where it was one by none
+abbrev pub denied_by : UpdateReply → List ℕ → Result UpdateReply RowFault
+denied_by (Refused place None) rule = Ok (Refused place (Some rule))
+denied_by reply rule = Err BadRow
+
+-- a reply by its words, whatever their spelling
+abbrev pub reply_of : List (List ℕ) → Result UpdateReply RowFault
+reply_of (code ∷ []) = or_bad (code_named code) >>= reply_alone
+reply_of (code ∷ list ∷ item ∷ []) = reply_at code list item
+reply_of (code ∷ list ∷ item ∷ rule ∷ []) = identifier_in rule >>= λ id. reply_at code list item >>= λ reply. denied_by reply id
+reply_of words = Err BadRow
+
+-- a reply
+abbrev pub reply_in : List ℕ → Result UpdateReply RowFault
+reply_in text = fields_of text >>= λ items. reply_of (map (λ i. i.raw) items) >>= λ reply. canonical (reply_words reply) text reply
+
+-- ---- receipts
+
+-- an update by its item lines
+abbrev pub request_in : List ℕ → Result UpdateOf RowFault
+request_in text = of_updates_in (items_of text) >>= λ update. canonical (update_text update) text update
+
+-- the caller, the identifier and the receipt of a row
+abbrev pub receipt_in : ReceiptRowOf → Result (List ℕ × (List ℕ × Receipt)) RowFault
+receipt_in row =
+    identifier_in row.caller >>= λ caller. identifier_in row.id >>= λ id. name_in row.origin >>= λ origin.
+    request_in row.request >>= λ update. reply_in row.reply >>= λ reply.
+    Ok (caller, (id, record { origin = origin; update = update; reply = reply }))
+
+-- ---- changes
+
+-- a number from 1 on
+abbrev pub number_in : ℤ → Result ℕ RowFault
+number_in (pos n) = if n == 0 then Err BadRow else Ok n
+number_in (negsuc n) = Err BadRow
+
+-- what a row has
+abbrev pub changed_in : ChangeRowOf → Result ChangedRecord RowFault
+changed_in row =
+    name_in row.origin >>= λ origin. number_in row.number >>= λ number. side_in row.side >>= λ side.
+    record_at row.owner row.record_type row.rdata row.ttl >>= λ r.
+    Ok (record { origin = origin; number = number; side = side; changed = r })

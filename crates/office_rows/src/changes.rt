@@ -1,0 +1,139 @@
+//! The rows of `changes`.
+
+ghost use Rattle.std.specs.Prelude.{◌≡◌, ◌++◌, ℕ, pos, Ok, IfOk, OnOk, map};
+ghost use Rattle.dns_names.specs.Labels.{IsName};
+ghost use Rattle.dns_data.specs.Rdata.{IsRecord};
+ghost use Rattle.office_core.specs.Tables.{change_in};
+ghost use Rattle.office_rows.specs.declared.changes.ChangedRecord.{ChangedRecord as Changed};
+ghost use Rattle.office_rows.specs.ChangeRows.{change_row, change_rows, row_of, IsChanged};
+ghost use Rattle.office_rows.specs.RowFaults.{Reads};
+ghost use Rattle.office_rows.specs.RowReading.{number_in, changed_in};
+
+use crate::columns::{name_in, record_at};
+use crate::row_fault::RowFault;
+use crate::side::Side;
+use dns_data::{Record, data_text};
+use dns_names::Name;
+use office_core::Change;
+use office_tables::ChangeRow;
+use std::alloc::{AllocError, Global};
+
+/// A record on a side of a change of a zone, as a row has it.
+#[derive(Debug, Drop)]
+pub struct ChangedRecord {
+    /// The origin of the zone.
+    pub origin: Name,
+    /// The number of the change among those of its zone, from 1.
+    pub number: u64,
+    pub side: Side,
+    /// The record that went or came.
+    pub changed: Record,
+}
+
+/// The row of a record on a side of the change of a number, which counts from 1, of the zone of an origin. The only error is want of
+/// memory.
+pub fn change_row(
+    alloc: Global,
+    origin: &Name,
+    number: i64,
+    side: Side,
+    rr: &Record,
+) -> Result<ChangeRow, AllocError>
+    ensures { (n : ℕ) → number ≡ pos n → IfOk result (λ row. row ≡ change_row origin.now n side rr.now) }
+{
+    Ok(ChangeRow {
+        origin: origin.text(alloc)?,
+        number,
+        side: side.number(),
+        owner: rr.owner.text(alloc)?,
+        record_type: i64::from(rr.record_type().number()),
+        rdata: data_text(alloc, &rr.rdata)?,
+        ttl: i64::from(rr.ttl.seconds()),
+    })
+}
+
+/// Puts the rows of records on a side of a change behind others. The only error is want of memory.
+fn push_side(
+    alloc: Global,
+    rows: &mut Vec<ChangeRow>,
+    origin: &Name,
+    number: i64,
+    side: Side,
+    records: &[Record],
+) -> Result<(), AllocError>
+    ensures { (n : ℕ) → number ≡ pos n → OnOk result (rows.new.items ≡ rows.old.items ++ map (change_row origin.now n side) records.now) }
+{
+    for rr in records {
+        rows.push(change_row(alloc, origin, number, side, rr)?)?;
+    }
+    Ok(())
+}
+
+/// The rows of the change of a number, of the zone of an origin: those of the records that went, and then those of the records that
+/// came. The only error is want of memory.
+pub fn change_rows(
+    alloc: Global,
+    origin: &Name,
+    number: i64,
+    change: &Change,
+) -> Result<Vec<ChangeRow>, AllocError>
+    ensures { (n : ℕ) → number ≡ pos n → IfOk result (λ rows. rows.items ≡ change_rows origin.now n (change_in change.now)) }
+{
+    let mut rows = Vec::new(alloc);
+    push_side(
+        alloc,
+        &mut rows,
+        origin,
+        number,
+        Side::Removed,
+        &change.removed,
+    )?;
+    push_side(alloc, &mut rows, origin, number, Side::Added, &change.added)?;
+    Ok(rows)
+}
+
+/// Reads a row of `changes`. A row that is that of no record on a side of a change is `BadRow`: a text is in another spelling than the
+/// canonical one, a number is no type's, the number of the change is below 1, the side is neither 0 nor 1, a TTL has more than 31
+/// bits or is below 0, or data are of another type.
+pub fn read_change(alloc: Global, row: &ChangeRow) -> Result<ChangedRecord, RowFault>
+    // The row is that of what is read.
+    ensures found { IfOk result (λ c. (row.now ≡ row_of c) × IsChanged c) }
+    // The row of such a record is read as it, unless memory runs out.
+    ensures only { (c : Changed) → IsChanged c → row.now ≡ row_of c → Reads (λ read. read) result (Ok c) }
+{
+    changed_in(alloc, row)
+}
+
+/// The number of a change, which counts from 1.
+fn number_in(number: i64) -> Result<u64, RowFault>
+    ensures { result ≡ number_in number }
+{
+    match u64::try_from(number) {
+        Ok(number) if number > 0 => Ok(number),
+        _ => Err(RowFault::BadRow),
+    }
+}
+
+/// What a row has.
+fn changed_in(alloc: Global, row: &ChangeRow) -> Result<ChangedRecord, RowFault>
+    ensures origin { IfOk result (λ c. IsName c.origin) }
+    ensures record { IfOk result (λ c. IsRecord c.changed) }
+    ensures exact { Reads (λ c. c) result (changed_in row.now) }
+{
+    let origin = name_in(alloc, row.origin.as_str())?;
+    let number = number_in(row.number)?;
+    let side = Side::of_number(row.side)?;
+    let changed = record_at(
+        alloc,
+        row.owner.as_str(),
+        row.record_type,
+        row.rdata.as_str(),
+        row.ttl,
+    )?;
+    Ok(ChangedRecord {
+        origin,
+        number,
+        side,
+        changed,
+    })
+}

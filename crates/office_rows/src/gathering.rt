@@ -1,0 +1,187 @@
+//! The changes of a zone, gathered from their rows.
+
+ghost use Rattle.std.specs.Prelude.{◌≡◌, ◌&&◌, List, ℕ, map, Ok, IfOk, IfErr, OnOk};
+ghost use Rattle.std.specs.List.{AllByRecursion, list_all};
+ghost use Rattle.std.specs.List.Sorted.{IsPermutation, IsSorted};
+ghost use Rattle.dns_names.specs.Labels.{IsName};
+ghost use Rattle.dns_names.specs.Order.{same_name};
+ghost use Rattle.office_core.specs.States.{ChangeOf};
+ghost use Rattle.office_core.specs.Tables.{change_in};
+ghost use Rattle.office_rows.specs.ChangeRows.{changes_rows, IsChange, IsChanged, IsChangeRow, row_of, changed_order, follows, follows_in_number, are_behind, are_numbered, are_of_one, with_record, opened, placed, gathered};
+ghost use Rattle.office_rows.specs.RowFaults.{Reads};
+
+use crate::changes::{ChangedRecord, read_change};
+use crate::row_fault::RowFault;
+use crate::side::Side;
+use dns_data::{Record, record_order};
+use dns_names::Name;
+use office_core::Change;
+use office_tables::ChangeRow;
+use std::alloc::{AllocError, Global};
+use std::cmp::Ordering;
+
+/// Reads the rows of the changes of one zone, in any order, as its changes, the oldest first. Rows that are those of no changes are
+/// `BadRow`: one is no row of a change, two are of different origins, two are of the same record on the same side of one change, or
+/// the numbers are not those from 1 on.
+pub fn read_changes(alloc: Global, rows: Vec<ChangeRow>) -> Result<Vec<Change>, RowFault>
+    // The rows are those of what is read, of some zone.
+    ensures found { IfOk result (λ cs. (origin : List (List ℕ)) × IsName origin × AllByRecursion IsChange (map change_in cs.items) × IsPermutation (changes_rows origin 1 (map change_in cs.items)) rows.items) }
+    // The rows of the changes of a zone are read as these changes, unless memory runs out.
+    ensures only { (origin : List (List ℕ)) (changes : List ChangeOf) → IsName origin → AllByRecursion IsChange changes → IsPermutation (changes_rows origin 1 changes) rows.items → Reads (λ cs. map change_in cs.items) result (Ok changes) }
+{
+    let changed = sorted_changes(alloc, &rows)?;
+    if !are_changes(&changed) {
+        return Err(RowFault::BadRow);
+    }
+    Ok(gathered(alloc, changed)?)
+}
+
+/// What each row has.
+fn all_changed(alloc: Global, rows: &[ChangeRow]) -> Result<Vec<ChangedRecord>, RowFault>
+    ensures found { IfOk result (λ cs. (map row_of cs.items ≡ rows.now) × AllByRecursion IsChanged cs.items) }
+    ensures only { AllByRecursion IsChangeRow rows.now → IfErr result (λ e. e ≡ RowFault.NoMemory) }
+{
+    let mut changed = Vec::with_capacity(alloc, rows.len())?;
+    for row in rows {
+        changed.push(read_change(alloc, row)?)?;
+    }
+    Ok(changed)
+}
+
+/// The order of what rows have: by origin, then by the number of the change, then by side, and then in record order.
+fn changed_order(first: &ChangedRecord, second: &ChangedRecord) -> Ordering
+    ensures { result ≡ changed_order first.now second.now }
+{
+    first
+        .origin
+        .cmp(&second.origin)
+        .then(first.number.cmp(&second.number))
+        .then(first.side.rank().cmp(&second.side.rank()))
+        .then(record_order(&first.changed, &second.changed))
+}
+
+/// What rows have, in order.
+pub(crate) fn sorted_changes(
+    alloc: Global,
+    rows: &[ChangeRow],
+) -> Result<Vec<ChangedRecord>, RowFault>
+    ensures found { IfOk result (λ cs. IsPermutation (map row_of cs.items) rows.now × AllByRecursion IsChanged cs.items × IsSorted changed_order cs.items) }
+    ensures only { AllByRecursion IsChangeRow rows.now → IfErr result (λ e. e ≡ RowFault.NoMemory) }
+{
+    let mut changed = all_changed(alloc, rows)?;
+    changed.sort_by(|first, second| changed_order(first, second))?;
+    Ok(changed)
+}
+
+/// Whether one stands right behind another: behind it in order; and of the same zone and the same change or the next one, or of the
+/// first change of another zone.
+fn follows(first: &ChangedRecord, second: &ChangedRecord) -> bool
+    ensures { result ≡ follows first.now second.now }
+{
+    changed_order(first, second).is_lt() && follows_in_number(first, second)
+}
+
+/// Whether one has the number of another or the next one, or the first of another zone.
+fn follows_in_number(first: &ChangedRecord, second: &ChangedRecord) -> bool
+    ensures { result ≡ follows_in_number first.now second.now }
+{
+    if first.origin != second.origin {
+        return second.number == 1;
+    }
+    second.number == first.number || second.number.checked_sub(1) == Some(first.number)
+}
+
+/// Whether each of some stands right behind the one before it, and the first behind this one.
+fn are_behind(first: &ChangedRecord, others: &[ChangedRecord]) -> bool
+    ensures { result ≡ are_behind first.now others.now }
+{
+    let mut before = first;
+    for next in others {
+        if !follows(before, next) {
+            return false;
+        }
+        before = next;
+    }
+    true
+}
+
+/// Whether they stand in order, each once, and are numbered from 1 in each zone without a gap.
+pub(crate) fn are_numbered(changed: &[ChangedRecord]) -> bool
+    ensures { result ≡ are_numbered changed.now }
+{
+    match changed {
+        [] => true,
+        [first, others @ ..] => first.number == 1 && are_behind(first, others),
+    }
+}
+
+/// Whether all are of one zone.
+fn are_of_one(changed: &[ChangedRecord]) -> bool
+    ensures { result ≡ are_of_one changed.now }
+{
+    match changed {
+        [] => true,
+        [first, others @ ..] => are_of(others, &first.origin),
+    }
+}
+
+/// Whether all are of the zone of an origin.
+fn are_of(changed: &[ChangedRecord], origin: &Name) -> bool
+    ensures { result ≡ list_all (λ c. same_name c.origin origin.now) changed.now }
+{
+    changed.iter().all(|changed| changed.origin == *origin)
+}
+
+/// Whether they are what the rows of the changes of one zone have, in order.
+fn are_changes(changed: &[ChangedRecord]) -> bool
+    ensures { result ≡ (are_of_one changed.now && are_numbered changed.now) }
+{
+    are_of_one(changed) && are_numbered(changed)
+}
+
+/// A change with one more record on a side. The only error is want of memory.
+fn with_record(mut change: Change, side: Side, rr: Record) -> Result<Change, AllocError>
+    ensures { IfOk result (λ c. change_in c ≡ with_record (change_in change) side rr) }
+{
+    match side {
+        Side::Removed => change.removed.push(rr)?,
+        Side::Added => change.added.push(rr)?,
+    }
+    Ok(change)
+}
+
+/// Puts a change without a record behind others, where there are fewer than this number. The only error is want of memory.
+fn opened(alloc: Global, changes: &mut Vec<Change>, number: u64) -> Result<(), AllocError>
+    ensures { OnOk result (map change_in changes.new.items ≡ opened (map change_in changes.old.items) number) }
+{
+    if (changes.len() as u64) < number {
+        changes.push(Change {
+            removed: Vec::new(alloc),
+            added: Vec::new(alloc),
+        })?;
+    }
+    Ok(())
+}
+
+/// Puts what a row has into the last change, or into a new one behind it. The only error is want of memory.
+fn place(alloc: Global, changes: &mut Vec<Change>, changed: ChangedRecord) -> Result<(), AllocError>
+    ensures { OnOk result (map change_in changes.new.items ≡ placed (map change_in changes.old.items) changed) }
+{
+    opened(alloc, changes, changed.number)?;
+    let Some(last) = changes.pop() else {
+        return Ok(());
+    };
+    changes.push(with_record(last, changed.side, changed.changed)?)?;
+    Ok(())
+}
+
+/// The changes of what rows of one zone have, in order. The only error is want of memory.
+fn gathered(alloc: Global, changed: Vec<ChangedRecord>) -> Result<Vec<Change>, AllocError>
+    ensures { IfOk result (λ cs. map change_in cs.items ≡ gathered changed.items) }
+{
+    let mut changes = Vec::new(alloc);
+    for one in changed {
+        place(alloc, &mut changes, one)?;
+    }
+    Ok(changes)
+}

@@ -1,0 +1,108 @@
+//! The rows of `receipts`.
+
+ghost use Rattle.std.specs.Prelude.{◌≡◌, List, ℕ, Ok, IfOk};
+ghost use Rattle.office_core.specs.declared.receipt.Receipt.{Receipt as ReceiptOf};
+ghost use Rattle.office_rows.specs.Contents.{ReceiptAt, row_of_receipt, IsReceiptAt};
+ghost use Rattle.office_rows.specs.ReceiptRows.{receipt_row, IsReceipt};
+ghost use Rattle.office_rows.specs.RowFaults.{Reads};
+ghost use Rattle.office_rows.specs.RowReading.{request_in, receipt_in};
+
+use crate::columns::{identifier_in, identifier_text, name_in};
+use crate::reading::read_items;
+use crate::replies::{notes_reply, reply_in, reply_words};
+use crate::row_fault::RowFault;
+use crate::text::items_text;
+use grant_policy::Identifier;
+use office_core::Receipt;
+use office_tables::ReceiptRow;
+use std::alloc::{AllocError, Global};
+use zone_core::Update;
+
+/// A receipt is of an origin, an update and a reply. Only proofs need it.
+fn notes_receipt(receipt: &Receipt)
+    ensures { IsReceipt receipt.now }
+{
+    let _ = receipt.origin.labels();
+    let _ = receipt.update.operations();
+    notes_reply(&receipt.reply);
+}
+
+/// And it is kept under two identifiers. Only proofs need it.
+fn notes_kept(caller: &Identifier, id: &Identifier, receipt: &Receipt)
+    ensures { IsReceiptAt (record { caller = caller.now; id = id.now; receipt = receipt.now }) }
+{
+    let _ = caller.as_bytes();
+    let _ = id.as_bytes();
+    notes_receipt(receipt);
+}
+
+/// The row of the receipt of a caller under an identifier: the request by its item lines, and the reply by its words. The only
+/// error is want of memory.
+pub fn receipt_row(
+    alloc: Global,
+    caller: &Identifier,
+    id: &Identifier,
+    receipt: &Receipt,
+) -> Result<ReceiptRow, AllocError>
+    ensures row { IfOk result (λ row. row ≡ receipt_row caller.now id.now receipt.now) }
+    // What all receipts are.
+    ensures receipt { IsReceiptAt (record { caller = caller.now; id = id.now; receipt = receipt.now }) }
+{
+    notes_kept(caller, id, receipt);
+    let caller = identifier_text(caller);
+    let id = identifier_text(id);
+    Ok(ReceiptRow {
+        caller: String::from_str(alloc, caller)?,
+        id: String::from_str(alloc, id)?,
+        origin: receipt.origin.text(alloc)?,
+        request: items_text(alloc, &receipt.update)?,
+        reply: reply_words(alloc, &receipt.reply)?,
+    })
+}
+
+/// Reads a row of `receipts`: the caller, the identifier, and the receipt under it. A row that is that of no receipt is `BadRow`: a
+/// text is in another spelling than the canonical one, or is no identifier, no name, no update or no reply.
+pub fn read_receipt(
+    alloc: Global,
+    row: &ReceiptRow,
+) -> Result<(Identifier, Identifier, Receipt), RowFault>
+    // The row is that of what is read.
+    ensures found { IfOk result (λ x. (row.now ≡ receipt_row x.0 x.1 x.2) × IsReceiptAt (record { caller = x.0; id = x.1; receipt = x.2 })) }
+    // The row of a receipt is read as this receipt, unless memory runs out.
+    ensures only { (r : ReceiptAt) → IsReceiptAt r → row.now ≡ row_of_receipt r → Reads {Y = List ℕ × (List ℕ × ReceiptOf)} (λ x. (x.0, (x.1, x.2))) result (Ok (r.caller, (r.id, r.receipt))) }
+{
+    receipt_in(alloc, row)
+}
+
+/// The update of item lines in their one spelling.
+fn request_in(alloc: Global, text: &str) -> Result<Update, RowFault>
+    ensures { Reads (λ update. update) result (request_in text.now) }
+{
+    let update = read_items(alloc, text.as_bytes())?;
+    if items_text(alloc, &update)?.as_str() != text {
+        return Err(RowFault::BadRow);
+    }
+    Ok(update)
+}
+
+/// The caller, the identifier and the receipt of a row.
+fn receipt_in(
+    alloc: Global,
+    row: &ReceiptRow,
+) -> Result<(Identifier, Identifier, Receipt), RowFault>
+    ensures receipt { IfOk result (λ x. IsReceiptAt (record { caller = x.0; id = x.1; receipt = x.2 })) }
+    ensures exact { Reads (λ x. (x.0, (x.1, x.2))) result (receipt_in row.now) }
+{
+    let caller = identifier_in(alloc, row.caller.as_bytes())?;
+    let id = identifier_in(alloc, row.id.as_bytes())?;
+    let origin = name_in(alloc, row.origin.as_str())?;
+    let update = request_in(alloc, row.request.as_str())?;
+    let reply = reply_in(alloc, row.reply.as_str())?;
+    let receipt = Receipt {
+        origin,
+        update,
+        reply,
+    };
+    notes_kept(&caller, &id, &receipt);
+    Ok((caller, id, receipt))
+}

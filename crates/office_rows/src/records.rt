@@ -1,0 +1,62 @@
+//! The rows of `records`.
+
+ghost use Rattle.std.specs.Prelude.{◌≡◌, List, ℕ, Ok, IfOk};
+ghost use Rattle.dns_names.specs.Labels.{IsName};
+ghost use Rattle.dns_data.specs.Rdata.{IsRecord};
+ghost use Rattle.dns_data.specs.declared.record.Record.{Record as RecordOf};
+ghost use Rattle.office_rows.specs.RecordRows.{record_row};
+ghost use Rattle.office_rows.specs.RowFaults.{Reads};
+ghost use Rattle.office_rows.specs.RowReading.{record_in};
+
+use crate::columns::{name_in, record_at};
+use crate::row_fault::RowFault;
+use dns_data::{Record, data_text};
+use dns_names::Name;
+use office_tables::RecordRow;
+use std::alloc::{AllocError, Global};
+
+/// The row of a record of the zone of an origin: names and data in canonical text, the type by its number, and the key of the
+/// owner. The only error is want of memory.
+pub fn record_row(alloc: Global, origin: &Name, rr: &Record) -> Result<RecordRow, AllocError>
+    ensures { IfOk result (λ row. row ≡ record_row origin.now rr.now) }
+{
+    Ok(RecordRow {
+        origin: origin.text(alloc)?,
+        owner: rr.owner.text(alloc)?,
+        record_type: i64::from(rr.record_type().number()),
+        rdata: data_text(alloc, &rr.rdata)?,
+        ttl: i64::from(rr.ttl.seconds()),
+        owner_key: Vec::from_slice(alloc, rr.owner.key())?,
+    })
+}
+
+/// Reads a row of `records`. A row that is that of no origin and no record is `BadRow`: a text is in another spelling than the
+/// canonical one, a number is no type's, a TTL has more than 31 bits or is below 0, data are of another type, or the key is not the
+/// owner's.
+pub fn read_record(alloc: Global, row: &RecordRow) -> Result<(Name, Record), RowFault>
+    // The row is that of what is read.
+    ensures found { IfOk result (λ x. (row.now ≡ record_row x.0 x.1) × IsName x.0 × IsRecord x.1) }
+    // The row of a record is read as this record, unless memory runs out.
+    ensures only { (origin : List (List ℕ)) (r : RecordOf) → IsName origin → IsRecord r → row.now ≡ record_row origin r → Reads {Y = List (List ℕ) × RecordOf} (λ x. (x.0, x.1)) result (Ok (origin, r)) }
+{
+    record_in(alloc, row)
+}
+
+/// The origin and the record of a row.
+fn record_in(alloc: Global, row: &RecordRow) -> Result<(Name, Record), RowFault>
+    ensures are { IfOk result (λ x. IsName x.0 × IsRecord x.1) }
+    ensures exact { Reads (λ x. (x.0, x.1)) result (record_in row.now) }
+{
+    let origin = name_in(alloc, row.origin.as_str())?;
+    let record = record_at(
+        alloc,
+        row.owner.as_str(),
+        row.record_type,
+        row.rdata.as_str(),
+        row.ttl,
+    )?;
+    if record.owner.key() != row.owner_key.as_slice() {
+        return Err(RowFault::BadRow);
+    }
+    Ok((origin, record))
+}

@@ -1,0 +1,276 @@
+//! Replies to updates, as lines of words.
+
+ghost use Rattle.std.specs.Prelude.{◌≡◌, ◌<◌, ◌^◌, ◌∷◌, ◌++◌, [], List, ℕ, map, true, nat_le, if◌then◌else◌, Some, None, Ok, IfOk, decimal, string_bytes};
+ghost use Rattle.std.specs.List.{list_all};
+ghost use Rattle.std.specs.Char.{is_ascii_digit};
+ghost use Rattle.std.specs.Str.Parse.{digits_value};
+ghost use Rattle.dns_data.specs.Items.{item_of};
+ghost use Rattle.dns_data.specs.Numbers.{is_number};
+ghost use Rattle.office_core.specs.declared.reply.UpdateReply.{UpdateReply as ReplyOf};
+ghost use Rattle.office_rows.specs.ReplyWords.{list_word, failed_word, reply_words, IsReply};
+ghost use Rattle.office_rows.specs.RowFaults.{Reads};
+ghost use Rattle.office_rows.specs.RowReading.{code_named, list_named, number_named, reply_alone, reply_with, reply_at, denied_by, reply_of, reply_in};
+
+use crate::columns::{fields_of, identifier_in, identifier_text};
+use crate::row_fault::RowFault;
+use dns_data::Item;
+use grant_policy::Identifier;
+use office_core::UpdateReply;
+use std::alloc::{AllocError, Global};
+use zone_core::{Failed, ItemList, Place, Rcode};
+
+/// The codes that there are (RFC 2136 section 2.2).
+const CODES: [Rcode; 11] = [
+    Rcode::NoError,
+    Rcode::FormErr,
+    Rcode::ServFail,
+    Rcode::NxDomain,
+    Rcode::NotImp,
+    Rcode::Refused,
+    Rcode::YxDomain,
+    Rcode::YxRrset,
+    Rcode::NxRrset,
+    Rcode::NotAuth,
+    Rcode::NotZone,
+];
+
+/// The lists of an update.
+const LISTS: [ItemList; 2] = [ItemList::Prerequisites, ItemList::Operations];
+
+/// What a list of an update is called.
+const fn list_word(list: ItemList) -> &'static str
+    ensures { result.now ≡ list_word list }
+{
+    match list {
+        ItemList::Prerequisites => "prerequisites",
+        ItemList::Operations => "operations",
+    }
+}
+
+/// The list of a prerequisite that failed with a code. With that of another reply at an item, which no prerequisite has, it is
+/// `failed`, so that the two are told apart.
+const fn failed_word(code: Rcode) -> &'static str
+    ensures { result.now ≡ failed_word code }
+{
+    match code {
+        Rcode::NotZone | Rcode::Refused => "failed",
+        _ => "prerequisites",
+    }
+}
+
+/// A reply in words, with one space between them: the name of its code; then, as far as it has them, the list, the item's number
+/// from 0, and the identifier of the rule that denied it. The only error is want of memory.
+pub fn reply_words(alloc: Global, reply: &UpdateReply) -> Result<String, AllocError>
+    ensures { IfOk result (λ words. string_bytes words ≡ reply_words reply.now) }
+{
+    let code = reply.rcode().text();
+    match reply {
+        UpdateReply::NoError | UpdateReply::NotAuth => String::from_str(alloc, code),
+        UpdateReply::NotZone(place) => words_at(alloc, code, list_word(place.list), place.item),
+        UpdateReply::Refused { place, by } => {
+            let words = words_at(alloc, code, list_word(place.list), place.item)?;
+            match by {
+                Some(rule) => with_word(words, identifier_text(rule)),
+                None => Ok(words),
+            }
+        }
+        UpdateReply::Failed(failed) => words_at(alloc, code, failed_word(failed.code), failed.item),
+    }
+}
+
+/// A code, a list and the number of an item in it.
+fn words_at(alloc: Global, code: &str, list: &str, item: usize) -> Result<String, AllocError>
+    ensures { IfOk result (λ words. string_bytes words ≡ code.now ++ 32 ∷ (list.now ++ 32 ∷ decimal item)) }
+{
+    format!(in alloc; "{code} {list} {item}")
+}
+
+/// Words and one more.
+fn with_word(mut words: String, word: &str) -> Result<String, AllocError>
+    ensures { IfOk result (λ more. string_bytes more ≡ string_bytes words ++ 32 ∷ word.now) }
+{
+    words.push_str(" ")?;
+    words.push_str(word)?;
+    Ok(words)
+}
+
+/// Reads a reply in words, as `reply_words` gives them. Any other text is `BadRow`.
+pub fn read_reply(alloc: Global, words: &str) -> Result<UpdateReply, RowFault>
+    // The words are those of what is read.
+    ensures found { IfOk result (λ reply. (words.now ≡ reply_words reply) × IsReply reply) }
+    // The words of a reply are read as this reply, unless memory runs out.
+    ensures only { (reply : ReplyOf) → IsReply reply → words.now ≡ reply_words reply → Reads (λ read. read) result (Ok reply) }
+{
+    reply_in(alloc, words)
+}
+
+/// The reply of words in their one spelling.
+pub(crate) fn reply_in(alloc: Global, words: &str) -> Result<UpdateReply, RowFault>
+    ensures reply { IfOk result IsReply }
+    ensures exact { Reads (λ reply. reply) result (reply_in words.now) }
+{
+    let fields = fields_of(alloc, words)?;
+    let reply = reply_of(alloc, &fields)?;
+    if reply_words(alloc, &reply)?.as_str() != words {
+        return Err(RowFault::BadRow);
+    }
+    notes_reply(&reply);
+    Ok(reply)
+}
+
+/// The number of an item has 64 bits, and a rule has an identifier. Only proofs need it.
+pub(crate) fn notes_reply(reply: &UpdateReply)
+    ensures { IsReply reply.now }
+{
+    match reply {
+        UpdateReply::NoError | UpdateReply::NotAuth => {}
+        UpdateReply::NotZone(place) => notes_number(&place.item),
+        UpdateReply::Refused { place, by } => {
+            notes_number(&place.item);
+            if let Some(rule) = by {
+                let _ = rule.as_bytes();
+            }
+        }
+        UpdateReply::Failed(failed) => notes_number(&failed.item),
+    }
+}
+
+/// A number has 64 bits. Only proofs need it.
+fn notes_number(number: &usize)
+    ensures { number.now < 2 ^ 64 }
+{
+    let _number = *number;
+}
+
+/// The code that is called so.
+fn code_named(word: &[u8]) -> Option<Rcode>
+    ensures { result ≡ code_named word.now }
+{
+    CODES
+        .iter()
+        .copied()
+        .find(|code| code.text().as_bytes() == word)
+}
+
+/// The list that is called so.
+fn list_named(word: &[u8]) -> Option<ItemList>
+    ensures { result ≡ list_named word.now }
+{
+    LISTS
+        .iter()
+        .copied()
+        .find(|list| list_word(*list).as_bytes() == word)
+}
+
+/// Whether a word is one decimal digit or more.
+fn is_number(word: &[u8]) -> bool
+    ensures { result ≡ is_number word.now }
+{
+    !word.is_empty() && all_digits(word)
+}
+
+/// Whether a word has nothing but decimal digits.
+fn all_digits(word: &[u8]) -> bool
+    ensures { result ≡ list_all is_ascii_digit word.now }
+{
+    word.iter().all(|octet| octet.is_ascii_digit())
+}
+
+/// The number that decimal digits write, unless it is above `most`.
+fn digits_up_to(digits: &[u8], most: usize) -> Option<usize>
+    requires { is_number digits.now ≡ true }
+    ensures { result ≡ (if nat_le (digits_value 10 digits.now) most then Some (digits_value 10 digits.now) else None) }
+{
+    let mut value: usize = 0;
+    for digit in digits {
+        value = value
+            .checked_mul(10)?
+            .checked_add(usize::from(*digit - b'0'))?;
+    }
+    if value > most { None } else { Some(value) }
+}
+
+/// The number that a word writes.
+fn number_named(word: &[u8]) -> Option<usize>
+    ensures { result ≡ number_named word.now }
+{
+    if !is_number(word) {
+        return None;
+    }
+    digits_up_to(word, usize::MAX)
+}
+
+/// The reply that is a code alone.
+fn reply_alone(code: Rcode) -> Result<UpdateReply, RowFault>
+    ensures { result ≡ reply_alone code }
+{
+    match code {
+        Rcode::NoError => Ok(UpdateReply::NoError),
+        Rcode::NotAuth => Ok(UpdateReply::NotAuth),
+        _ => Err(RowFault::BadRow),
+    }
+}
+
+/// The reply of a code, a list, if the word was one, and the number of an item.
+fn reply_with(code: Rcode, list: Option<ItemList>, item: usize) -> UpdateReply
+    ensures { result ≡ reply_with code list item }
+{
+    match (code, list) {
+        (Rcode::NotZone, Some(list)) => UpdateReply::NotZone(Place { list, item }),
+        (Rcode::Refused, Some(list)) => UpdateReply::Refused {
+            place: Place { list, item },
+            by: None,
+        },
+        _ => UpdateReply::Failed(Failed { code, item }),
+    }
+}
+
+/// The reply of a code, a list and the number of an item.
+fn reply_at(code: &[u8], list: &[u8], item: &[u8]) -> Result<UpdateReply, RowFault>
+    ensures { result ≡ reply_at code.now list.now item.now }
+{
+    let code = code_named(code).ok_or(RowFault::BadRow)?;
+    let item = number_named(item).ok_or(RowFault::BadRow)?;
+    Ok(reply_with(code, list_named(list), item))
+}
+
+/// A denial by a rule, where it was one by none.
+fn denied_by(reply: UpdateReply, rule: Identifier) -> Result<UpdateReply, RowFault>
+    ensures { result ≡ denied_by reply rule }
+{
+    match reply {
+        UpdateReply::Refused { place, by: None } => Ok(UpdateReply::Refused {
+            place,
+            by: Some(rule),
+        }),
+        _ => Err(RowFault::BadRow),
+    }
+}
+
+/// The reply of a code, a list, the number of an item and a rule.
+fn reply_by(
+    alloc: Global,
+    code: &[u8],
+    list: &[u8],
+    item: &[u8],
+    rule: &[u8],
+) -> Result<UpdateReply, RowFault>
+    ensures { Reads (λ reply. reply) result (reply_of (code.now ∷ list.now ∷ item.now ∷ rule.now ∷ [])) }
+{
+    let rule = identifier_in(alloc, rule)?;
+    denied_by(reply_at(code, list, item)?, rule)
+}
+
+/// The reply of words, whatever their spelling.
+fn reply_of(alloc: Global, words: &[Item]) -> Result<UpdateReply, RowFault>
+    ensures { Reads (λ reply. reply) result (reply_of (map (λ i. i.raw) (map item_of words.now))) }
+{
+    match words {
+        [] => Err(RowFault::BadRow),
+        [code] => reply_alone(code_named(code.raw).ok_or(RowFault::BadRow)?),
+        [_, _] => Err(RowFault::BadRow),
+        [code, list, item] => reply_at(code.raw, list.raw, item.raw),
+        [code, list, item, rule] => reply_by(alloc, code.raw, list.raw, item.raw, rule.raw),
+        [_, _, _, _, _, ..] => Err(RowFault::BadRow),
+    }
+}
