@@ -1,0 +1,10 @@
+pub mod AddressLemmas
+pub mod AppendLemmas
+pub mod DataLemmas
+pub mod DelegationLemmas
+pub mod FormLaws
+pub mod KindLemmas
+pub mod ListLemmas
+pub mod ShortLemmas
+pub mod TypeLemmas
+pub mod ValueLemmas

@@ -1,0 +1,9 @@
+pub mod Fields
+pub mod Faults
+pub mod Bodies
+pub mod Delegating
+pub mod Reading
+pub mod Requests
+pub mod Json
+pub mod Replies
+pub mod Appending

@@ -1,0 +1,29 @@
+//! The bodies of requests and replies in JSON (RFC 8259): reading updates and delegations, and printing what the office
+//! replies.
+#![tactic(auto)]
+
+mod body;
+mod data;
+mod delegation;
+mod fault;
+mod field;
+mod item;
+mod laws;
+mod listing;
+mod piece;
+mod reading;
+mod reply;
+mod server;
+mod short;
+mod update;
+mod value;
+
+pub use body::UpdateBody;
+pub use delegation::read_delegation;
+pub use fault::BodyFault;
+pub use laws::delegations_are_one;
+pub use reply::{form_error_text, refusal_text, reply_text};
+pub use update::read_update;
+
+#[cfg(test)]
+mod tests;
