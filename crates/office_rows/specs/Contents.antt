@@ -1,7 +1,6 @@
 -- What rows mean: zones with their changes, and receipts; and the state that these are.
 use Rattle.std.specs.Prelude.{◌≡◌, ◌≢◌, ℕ, ℤ, ◌<◌, List, [], ◌∷◌, map, ◌&&◌, Option, option_map, bytes_eq}
 use Rattle.std.specs.List.{AllByRecursion, AllPairs, find, flat_map}
-use Rattle.std.specs.List.Sorted.{IsPermutation}
 use Rattle.dns_names.specs.Labels.{IsName}
 use Rattle.dns_names.specs.Order.{same_name}
 use Rattle.dns_names.specs.Spelling.{name_text}
@@ -12,6 +11,7 @@ use Rattle.zone_core.specs.Views.{AreOfZone}
 use Rattle.office_core.specs.declared.receipt.Receipt.{Receipt}
 use Rattle.office_core.specs.States.{ChangeOf, Held, State}
 use Rattle.office_tables.specs.Rows.{RecordRowOf, ReceiptRowOf, ChangeRowOf, RowsOf}
+use Rattle.office_tables.specs.Holds.{SameRows}
 use Rattle.office_rows.specs.RecordRows.{record_row}
 use Rattle.office_rows.specs.ReceiptRows.{receipt_row, IsReceipt}
 use Rattle.office_rows.specs.ChangeRows.{changes_rows, IsChange}
@@ -56,13 +56,6 @@ rows_of version content = record {
   changes = flat_map zone_changes content.zones;
 }
 
--- rows are those of a content, in any order
-pub record AreRowsOf (content : ContentOf) (zones : List (List ℕ)) (records : List RecordRowOf) (receipts : List ReceiptRowOf) (changes : List ChangeRowOf) : Type 0 where
-  pub zones_are : IsPermutation (map (λ z. name_text z.origin) content.zones) zones
-  pub records_are : IsPermutation (flat_map zone_records content.zones) records
-  pub receipts_are : IsPermutation (map row_of_receipt content.receipts) receipts
-  pub changes_are : IsPermutation (flat_map zone_changes content.zones) changes
-
 -- ---- the state that it is
 
 -- what is held of a zone's origin
@@ -102,3 +95,12 @@ pub record IsContent (content : ContentOf) : Type 0 where
   pub zones : AllByRecursion IsZoneRows content.zones
   pub receipts_apart : AllPairs (λ a b. ¬ ((a.caller ≡ b.caller) × (a.id ≡ b.id))) content.receipts
   pub receipts : AllByRecursion IsReceiptAt content.receipts
+
+-- ---- rows that are a state
+
+-- Rows in tables of this version are a state: those of a content that is it, in any order.
+pub record AreOfState (version : ℤ) (rows : RowsOf) (s : State) : Type 0 where
+  pub content : ContentOf
+  pub is_content : IsContent content
+  pub means : Means content s
+  pub same : SameRows (rows_of version content) rows

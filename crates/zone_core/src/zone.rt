@@ -1,7 +1,7 @@
 //! A zone.
 
 ghost use Rattle.std.specs.Prelude.{◌≡◌, Some, IfOk};
-ghost use Rattle.zone_core.specs.Sets.{set_of, listing, part, at_name, at, within, InOrder, AreRows};
+ghost use Rattle.zone_core.specs.Sets.{set_of, listing, part, minus, at_name, at, within, InOrder, AreRows};
 ghost use Rattle.zone_core.specs.Zones.{IsZone, IsSoaOf, soa_at, serial_of};
 ghost use Rattle.zone_core.specs.Views.{zone_in, AreOfZone};
 ghost use Rattle.zone_core.specs.Parts.{part_of, at_names};
@@ -126,6 +126,15 @@ impl Zone {
             records = with_copies(alloc, records, self.records_at(name))?;
         }
         Ok(Zone::of_rows(origin, rows::in_order(alloc, records)?))
+    }
+
+    /// The records of this zone that another has not, or has with another TTL, in record order, in memory of their own. The only
+    /// error is want of memory.
+    pub fn minus(&self, alloc: Global, other: &Zone) -> Result<Vec<Record>, AllocError>
+        ensures { IfOk result (λ records. AreRows records.items (minus self.now.records other.now.records)) }
+    {
+        let records = rows::with_difference(alloc, Vec::new(alloc), &self.records, &other.records)?;
+        Ok(records)
     }
 
     /// The zone with a change made: without some of its records, and with others. The only error is want of memory.
