@@ -8,6 +8,7 @@ use Rattle.dns_data.specs.declared.record.Record.{Record}
 use Rattle.zone_core.specs.Sets.{Records, Key, listing, minus, is_same, AreRows}
 use Rattle.zone_core.specs.Zones.{ZoneOf, IsZone, AreKept}
 use Rattle.zone_core.proofs.ChangeLemmas.{listed_so}
+use Rattle.zone_core.proofs.RowLemmas.{len_of}
 use Rattle.zone_core.proofs.ChangedLemmas.{changes_make}
 use Rattle.office_core.specs.States.{ChangeOf, Held, State}
 use Rattle.office_core.specs.Machine.{change_of, is_nothing, hold, keep}
@@ -77,6 +78,10 @@ zone_leads zone w name is e s new =
 
 listed_len : (set : Records) → length (listing set) ≡ len set
 listed_len set = length-map (entries set) (λ (e : Key × Record). e.1) ∙ sym (len-entries set)
+
+-- whether a set has records is seen by its rows
+pub bare_rows : (set : Records) (rows : List Record) → AreRows rows set → (len set == 0) ≡ (length rows == 0)
+bare_rows set rows are = ap (λ n. n == 0) (ap (λ (x : Records). len x) (sym are.set) ∙ len_of rows are.order)
 
 some_differ : (a b : Records) → is_same a b ≡ false → is_nothing (change_of a b) ≡ false
 some_differ a b differs = (λ i. (listed_len (minus a b) i == 0) && (listed_len (minus b a) i == 0)) ∙ differs
