@@ -70,10 +70,11 @@ value_zeros (x ∷ ds) p e =
     let none : digit_value x ≡ 0 = by (digit_value x) _ grown e in
     let here : x ≡ 48 = sym (value_is x h.0) ∙ ap (λ (n : ℕ). n + 48) none in
     and_true (is_zero x) (list_all is_zero ds) (eq-eqb x 48 here)
-      (value_zeros ds h.1 (ap (λ (n : ℕ). digits_value_after 10 n ds) (zero_is (digit_value x) none) ∙ e))
+    (value_zeros ds h.1 (ap (λ (n : ℕ). digits_value_after 10 n ds) (zero_is (digit_value x) none) ∙ e))
   where
     by : (d v : ℕ) → 0 * 10 + d ≤ v → v ≡ 0 → d ≡ 0
     by d v p q = omega arith
+
     zero_is : (d : ℕ) → d ≡ 0 → 0 ≡ 0 * 10 + d
     zero_is d p = omega arith
 
@@ -101,15 +102,15 @@ padded short long k p q len =
     let back_len : length back ≡ length short = simp length-drop (omega arith) in
     let split : digits_value 10 long ≡ digits_value_after 10 (digits_value 10 front) back = ap (digits_value 10) (sym (take-append-drop k long)) ∙ value_join 0 front back in
     both_ways (list_all is_zero front && bytes_eq back short) (digits_value 10 long == digits_value 10 short)
-      (λ e.
-        let h = both (list_all is_zero front) (bytes_eq back short) e in
-        let same : back ≡ short = (bytes_eq-Decides back short).0 h.1 in
-        eq-eqb (digits_value 10 long) (digits_value 10 short)
-          (split ∙ (λ i. digits_value_after 10 (zeros_value front h.0 i) (same i))))
-      (λ e.
-        let value : digits_value 10 long ≡ digits_value 10 short = eqb-true (digits_value 10 long) (digits_value 10 short) e in
-        let same = same_digits (digits_value 10 front) 0 back short back_len (all_back k long q) p (sym split ∙ value) in
-        and_true (list_all is_zero front) (bytes_eq back short) (value_zeros front (all_front k long q) same.0) ((bytes_eq-Decides back short).1 same.1))
+    (λ e.
+    let h = both (list_all is_zero front) (bytes_eq back short) e in
+    let same : back ≡ short = (bytes_eq-Decides back short).0 h.1 in
+    eq-eqb (digits_value 10 long) (digits_value 10 short)
+    (split ∙ (λ i. digits_value_after 10 (zeros_value front h.0 i) (same i))))
+    (λ e.
+    let value : digits_value 10 long ≡ digits_value 10 short = eqb-true (digits_value 10 long) (digits_value 10 short) e in
+    let same = same_digits (digits_value 10 front) 0 back short back_len (all_back k long q) p (sym split ∙ value) in
+    and_true (list_all is_zero front) (bytes_eq back short) (value_zeros front (all_front k long q) same.0) ((bytes_eq-Decides back short).1 same.1))
 
 is_digits : (text : List ℕ) → is_number text ≡ true → list_all is_ascii_digit text ≡ true
 is_digits text e = (both (nat_lt 0 (length text)) (list_all is_ascii_digit text) e).1
@@ -127,7 +128,9 @@ module _ (short long : List ℕ) (p : is_number short ≡ true) (q : is_number l
   both_padded = padded short long (length long - length short) (is_digits short p) (is_digits long q) (omega (arith, order))
 
   pub padded_true : list_all (λ d. d == 48) (take (length long - length short) long) ≡ true → bytes_eq (drop (length long - length short) long) short ≡ (digits_value 10 long == digits_value 10 short)
-  padded_true e = and_from _ _ _ both_padded e
+  padded_true e =
+      and_from (list_all (λ d. d == 48) (take (length long - length short) long)) (bytes_eq (drop (length long - length short) long) short) (digits_value 10 long == digits_value 10 short) both_padded e
 
   pub padded_false : list_all (λ d. d == 48) (take (length long - length short) long) ≡ false → list_all (λ d. d == 48) (take (length long - length short) long) ≡ (digits_value 10 long == digits_value 10 short)
-  padded_false e = none_from _ _ _ both_padded e
+  padded_false e =
+      none_from (list_all (λ d. d == 48) (take (length long - length short) long)) (bytes_eq (drop (length long - length short) long) short) (digits_value 10 long == digits_value 10 short) both_padded e

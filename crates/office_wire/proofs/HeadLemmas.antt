@@ -64,8 +64,8 @@ in_window k bytes more front rest enough fits e =
 pub never_from_none : (bytes : List ℕ) → 16384 ≤ length bytes → HasNoRequest (take 16384 bytes) → NeverHead bytes
 never_from_none bytes enough none = record {
   never = λ more h rest reads. elim (cases_lt 16384 (length (print_request h))) [
-    inl long ↦ long
-  | inr short ↦ absurd (none h (take (16384 - length (print_request h)) rest) (reads.0, in_window 16384 bytes more (print_request h) rest enough short reads.1))
+    | inl long ↦ long
+    | inr short ↦ absurd (none h (take (16384 - length (print_request h)) rest) (reads.0, in_window 16384 bytes more (print_request h) rest enough short reads.1))
   ];
 }
 
@@ -76,7 +76,7 @@ waits_from_none bytes none = record { more = λ h rest reads. absurd (none h res
 pub reads_all : (bytes tail : List ℕ) (h : RequestHead) → ReadsRequest (take 16384 bytes) h tail → ReadsRequest bytes h (tail ++ drop 16384 bytes)
 reads_all bytes tail h reads =
     subst (λ (l : List ℕ). ReadsRequest l h (tail ++ drop 16384 bytes)) (take-append-drop 16384 bytes)
-      (ReadsRequest-append (take 16384 bytes) h tail (drop 16384 bytes) reads)
+    (ReadsRequest-append (take 16384 bytes) h tail (drop 16384 bytes) reads)
 
 -- what follows a head is what is left after its length
 pub rest_is : (bytes rest : List ℕ) (h : RequestHead) (n : ℕ) → ReadsRequest bytes h rest → n ≡ length (print_request h) → (rest ≡ drop n bytes)
@@ -92,10 +92,10 @@ reads_whole bytes tail h n reads len =
 pub waits_from_short : (bytes rest : List ℕ) (h : RequestHead) (n : ℕ) → ReadsRequest bytes h rest → ask_of h ≡ Body n → length rest < n → Waits bytes
 waits_from_short bytes rest h n reads asks short = record {
   more = λ k q other.
-    let same = request_unique bytes h k rest q reads other in
-    let ask : ask_of k ≡ Body n = ap ask_of (sym same.0) ∙ asks in
-    let less : length q < n = subst (λ (l : List ℕ). length l < n) same.1 short in
-    subst (λ (a : Ask). AsksMore a (length q)) (sym ask) less;
+      let same = request_unique bytes h k rest q reads other in
+      let ask : ask_of k ≡ Body n = ap ask_of (sym same.0) ∙ asks in
+      let less : length q < n = subst (λ (l : List ℕ). length l < n) same.1 short in
+      subst (λ (a : Ask). AsksMore a (length q)) (sym ask) less;
 }
 
 pub spans_count : (buf : List ℕ) (spans : List HeaderSpan) (fields : List Field) → map (header_bytes buf) spans ≡ map name_and_value fields → length spans ≡ length fields

@@ -72,9 +72,12 @@ module _ (rules : List Rule) (c : Standing) where
   -- after what came before, in the same words
   pub current_join : (d e : Standing) (stream got rest left : List ℕ) (before mid after : Option (List ℕ))
       → IsCurrent rules c stream rest before mid d → IsCurrent rules d (rest ++ got) left mid after e → IsCurrent rules c (stream ++ got) left before after e
-  current_join d e stream got rest left before mid after p q =
-      (p.0 ++ q.0, run_join rules c d e p.0 q.0 p.1 q.1, exchange_join stream got rest left p.0 q.0 p.2 q.2,
-      subst (λ (l : List ℕ). Appends before after l) (sym (texts_join p.0 q.0)) (appends_more before mid after _ _ p.3 q.3))
+  current_join d e stream got rest left before mid after p q = (
+    p.0 ++ q.0,
+    run_join rules c d e p.0 q.0 p.1 q.1,
+    exchange_join stream got rest left p.0 q.0 p.2 q.2,
+    subst (λ (l : List ℕ). Appends before after l) (sym (texts_join p.0 q.0)) (appends_more before mid after _ _ p.3 q.3),
+  )
 
   pub closed_join : (d e : Standing) (stream got rest : List ℕ) (before mid after : Option (List ℕ))
       → IsCurrent rules c stream rest before mid d → IsClosed rules d (rest ++ got) mid after e → IsClosed rules c (stream ++ got) before after e
@@ -95,26 +98,54 @@ module _ (rules : List Rule) (c : Standing) where
       let turn = one_turn q.0 rest left q.2 octets_are in
       let wide = subst (λ (l : List ℕ). Exchange l (q.0 ∷ []) left) (sym (append-nil rest)) turn in
       let all = subst (λ (l : List ℕ). Exchange l (p.0 ++ q.0 ∷ []) left) (append-nil stream) (exchange_join stream [] rest left p.0 (q.0 ∷ []) p.2 wide) in
-      let same : text ≡ texts (q.0 ∷ []) = is_out ∙ q.4 ∙ sym (append-nil (turn_text q.0)) in
-      (p.0 ++ q.0 ∷ [], run_join rules c d e p.0 (q.0 ∷ []) p.1 q.1, all,
-      subst (λ (l : List ℕ). Appends before after l) (ap (λ (l : List ℕ). texts p.0 ++ l) same ∙ sym (texts_join p.0 (q.0 ∷ []))) (appends_more before mid after _ _ p.3 wrote))
+      let same : text ≡ texts (q.0 ∷ []) = is_out ∙ q.4 ∙ sym (append-nil (turn_text q.0)) in (
+        p.0 ++ q.0 ∷ [],
+        run_join rules c d e p.0 (q.0 ∷ []) p.1 q.1,
+        all,
+        subst (λ (l : List ℕ). Appends before after l) (ap (λ (l : List ℕ). texts p.0 ++ l) same ∙ sym (texts_join p.0 (q.0 ∷ []))) (appends_more before mid after _ _ p.3 wrote),
+      )
 
   pub next_broken : (d e : Standing) (n : ℕ) (stream rest pending out text : List ℕ) (before mid after : Option (List ℕ)) → pending ≡ rest → text ≡ out
       → IsCurrent rules c stream rest before mid d → IsSaid rules d pending (Next n) out e → ((part : List ℕ) × IsPart part text × Appends mid after part)
       → IsBroken rules c stream before after e
-  next_broken d e n stream rest pending out text before mid after is_rest is_out p q wrote =
-      (p.0, q.0 ∷ [], rest, text, wrote.0, run_join rules c d e p.0 (q.0 ∷ []) p.1 q.1, p.2,
-      next q.0 _ q.2 (subst (λ (l : List ℕ). l ≡ octets_of q.0 ++ drop n l) is_rest q.3) refl (is_out ∙ q.4), wrote.1, appends_more before mid after _ _ p.3 wrote.2)
+  next_broken d e n stream rest pending out text before mid after is_rest is_out p q wrote = (
+    p.0,
+    q.0 ∷ [],
+    rest,
+    text,
+    wrote.0,
+    run_join rules c d e p.0 (q.0 ∷ []) p.1 q.1,
+    p.2,
+    next q.0 _ q.2 (subst (λ (l : List ℕ). l ≡ octets_of q.0 ++ drop n l) is_rest q.3) refl (is_out ∙ q.4),
+    wrote.1,
+    appends_more before mid after _ _ p.3 wrote.2,
+  )
 
   pub last_broken : (d e : Standing) (stream rest pending out text : List ℕ) (us : List Turn) (before mid after : Option (List ℕ)) → pending ≡ rest → text ≡ out
       → IsCurrent rules c stream rest before mid d → Run rules d us e → Closes pending us out → ((part : List ℕ) × IsPart part text × Appends mid after part)
       → IsBroken rules c stream before after e
-  last_broken d e stream rest pending out text us before mid after is_rest is_out p ran q wrote =
-      (p.0, us, rest, text, wrote.0, run_join rules c d e p.0 us p.1 ran, p.2,
-      closing (subst (λ (l : List ℕ). Closes rest us l) (sym is_out) (subst (λ (l : List ℕ). Closes l us out) is_rest q)), wrote.1, appends_more before mid after _ _ p.3 wrote.2)
+  last_broken d e stream rest pending out text us before mid after is_rest is_out p ran q wrote = (
+    p.0,
+    us,
+    rest,
+    text,
+    wrote.0,
+    run_join rules c d e p.0 us p.1 ran,
+    p.2,
+    closing (subst (λ (l : List ℕ). Closes rest us l) (sym is_out) (subst (λ (l : List ℕ). Closes l us out) is_rest q)),
+    wrote.1,
+    appends_more before mid after _ _ p.3 wrote.2,
+  )
 
   pub last_closed : (d e : Standing) (stream rest pending out text : List ℕ) (us : List Turn) (before mid after : Option (List ℕ)) → pending ≡ rest → text ≡ out
       → IsCurrent rules c stream rest before mid d → Run rules d us e → Closes pending us out → Appends mid after text → IsClosed rules c stream before after e
-  last_closed d e stream rest pending out text us before mid after is_rest is_out p ran q wrote =
-      (p.0, us, rest, text, run_join rules c d e p.0 us p.1 ran, p.2,
-      subst (λ (l : List ℕ). Closes rest us l) (sym is_out) (subst (λ (l : List ℕ). Closes l us out) is_rest q), appends_more before mid after _ _ p.3 wrote)
+  last_closed d e stream rest pending out text us before mid after is_rest is_out p ran q wrote = (
+    p.0,
+    us,
+    rest,
+    text,
+    run_join rules c d e p.0 us p.1 ran,
+    p.2,
+    subst (λ (l : List ℕ). Closes rest us l) (sym is_out) (subst (λ (l : List ℕ). Closes l us out) is_rest q),
+    appends_more before mid after _ _ p.3 wrote,
+  )

@@ -40,7 +40,7 @@ pub wrote_more : (a b c : Option (List ℕ)) (text : List ℕ) (at n : ℕ) → 
     → Appends a c (take (at + n) text)
 wrote_more a b c text at n p q =
     let same : take at text ++ take n (take (length text - at) (drop at text)) ≡ take (at + n) text =
-        ap (λ (l : List ℕ). take at text ++ take n l) (take_rest text at) ∙ sym (take-add at n text) in
+    ap (λ (l : List ℕ). take at text ++ take n l) (take_rest text at) ∙ sym (take-add at n text) in
     subst (λ (l : List ℕ). Appends a c l) same (appends_more a b c _ _ p q)
 
 -- what holds of what was read and whatever follows it holds of the stream

@@ -55,15 +55,15 @@ module _ (rules : List Rule) where
   of_turn c d read response (replied call reply e has r said after count) =
       let x = (turn rules c.state call).reply in
       one_call c.state d.state call x (call_in read response) (answer_in read response)
-        ((λ i. call_in (e i) (r i)) ∙ ap (λ (o : Option ReplyOf). one_kept call o) said)
-        ((λ i. answer_in (e i) (r i)) ∙ ap (λ (o : Option ReplyOf). one_given call o) said)
-        refl after has
+      ((λ i. call_in (e i) (r i)) ∙ ap (λ (o : Option ReplyOf). one_kept call o) said)
+      ((λ i. answer_in (e i) (r i)) ∙ ap (λ (o : Option ReplyOf). one_given call o) said)
+      refl after has
   of_turn c d read response (failed fault r stays count) =
       no_call c.state d.state (call_in read response) (answer_in read response)
-        (ap (λ (o : Response). call_in read o) r ∙ none_called read fault) (ap (λ (o : Response). answer_in read o) r ∙ none_told read fault) stays
+      (ap (λ (o : Response). call_in read o) r ∙ none_called read fault) (ap (λ (o : Response). answer_in read o) r ∙ none_told read fault) stays
   of_turn c d read response (refused fault e r stays) =
       no_call c.state d.state (call_in read response) (answer_in read response)
-        (ap (λ (o : Result Call RequestFault). call_in o response) e) (ap (λ (o : Result Call RequestFault). answer_in o response) e) (ap (λ (o : Standing). o.state) stays)
+      (ap (λ (o : Result Call RequestFault). call_in o response) e) (ap (λ (o : Result Call RequestFault). answer_in o response) e) (ap (λ (o : Standing). o.state) stays)
 
   -- ---- turns
 
@@ -90,7 +90,7 @@ module _ (rules : List Rule) where
   of_turns c d [] run = no_call c.state d.state [] [] refl refl (ap (λ (o : Standing). o.state) run)
   of_turns c d (t ∷ turns) run =
       run_join c.state run.0.state d.state (call_in (call_of t.head t.body) t.response) (calls turns) (answer_in (call_of t.head t.body) t.response) (told turns)
-        (of_turn c run.0 (call_of t.head t.body) t.response run.1) (of_turns run.0 d turns run.2)
+      (of_turn c run.0 (call_of t.head t.body) t.response run.1) (of_turns run.0 d turns run.2)
 
 pub exchanges_run : ExchangesAreRuns
 exchanges_run rules c d turns zones receipts run =

@@ -26,8 +26,7 @@ use Rattle.office_wire.specs.declared.response.Response.TheVariants.{Refused, Ba
 use Rattle.office_wire.specs.declared.head.Heading.{Heading}
 use Rattle.office_wire.specs.Heads.{IsAsked}
 use Rattle.office_wire.specs.Requests.{Refuses, call_by, call_of}
-use Rattle.office_wire.specs.Serving.{standing}
-use Rattle.office_wire.specs.Texts.{text_of}
+use Rattle.office_wire.specs.Serving.{standing, IsReplied}
 use Rattle.office_wire.specs.Outbox.{IsShortResponse, IsPut, servfail}
 use Rattle.office_wire.specs.Exchange.{Standing, Answers, replied, failed, refused, refusing}
 
@@ -102,6 +101,6 @@ asked_call g h body is = λ i. call_by (is.caller i) (is.method i) (is.target i)
 
 -- what is put is the text of what is answered
 pub put_answers : (rules : List Rule) (c d : Standing) (read : Result Call RequestFault) (response : Response) (closing whole : Bool) (text : List ℕ) → Answers rules c read response d → IsPut response closing whole text
-    → (shown : Response) × Answers rules c read shown d × (text ≡ text_of shown closing)
-put_answers rules c d read response closing true text a put = (response, a, put)
-put_answers rules c d read response closing false text a put = (servfail, servfail_instead rules c d read response a put.0, put.1)
+    → IsReplied rules c read closing text d
+put_answers rules c d read response closing true text a put = record { response = response; answers = a; text_is = put }
+put_answers rules c d read response closing false text a put = record { response = servfail; answers = servfail_instead rules c d read response a put.0; text_is = put.1 }

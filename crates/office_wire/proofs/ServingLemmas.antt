@@ -27,10 +27,12 @@ consumed_none known left left' read got n p q len none =
     subst (λ (l : List ℕ). Consumes known left' l) (ap (λ (l : List ℕ). read ++ l) (nil_from_length got (len ∙ none)) ∙ append-nil read) (consumes_more known left left' read got p q)
 
 pub waits_nil : (rest : List ℕ) → length rest ≡ 0 → Waits rest
-waits_nil rest none = record { more = λ h later reads.
-    let some = head_some h in
-    let long = ap (λ (l : List ℕ). length l) reads.1 ∙ length-append (print_request h) later in
-    absurd (too_long _ _ _ none long some) }
+waits_nil rest none = record {
+  more = λ h later reads.
+      let some = head_some h in
+      let long = ap (λ (l : List ℕ). length l) reads.1 ∙ length-append (print_request h) later in
+      absurd (too_long _ _ _ none long some);
+}
 
 module _ (rules : List Rule) (c : Standing) where
   pub first_current : (rest : List ℕ) (a : Option (List ℕ)) → length rest ≡ 0 → IsCurrent rules c [] rest a a c
@@ -45,31 +47,43 @@ module _ (rules : List Rule) (c : Standing) where
       → ((text : List ℕ) × Appends mid after text × (((list_all is_line_end rest ≡ true) × (text ≡ [])) ⊎ (text ≡ text_of (Refused CutShort) true)))
       → Ran d (λ all. IfSome known (λ stream. IsAnswered all stream before after))
   ended d read rest known left before mid after took at_end waits p said =
-      let ends : Ends rest [] said.0 = elim said.2 [ inl both ↦ quiet both.0 refl both.1 | inr text ↦ cut waits refl text ] in
-      (p.0, p.1, on_end known left read (λ stream. IsAnswered p.0 stream before after) took at_end
-        (p.0, [], rest, said.0, sym (append-nil p.0), p.2, ends, appends_more before mid after _ _ p.3 said.1))
+      let ends : Ends rest [] said.0 = elim said.2 [ inl both ↦ quiet both.0 refl both.1 | inr text ↦ cut waits refl text ] in (
+        p.0,
+        p.1,
+        on_end known left read (λ stream. IsAnswered p.0 stream before after) took at_end
+            (p.0, [], rest, said.0, sym (append-nil p.0), p.2, ends, appends_more before mid after _ _ p.3 said.1),
+      )
 
   pub ended_part : (d : Standing) (read rest : List ℕ) (known left before mid after : Option (List ℕ)) → Consumes known left read → IsAtEnd left → Waits rest
       → IsCurrent rules c read rest before mid d
       → ((part : List ℕ) × IsPart part (text_of (Refused CutShort) true) × Appends mid after part)
       → Ran d (λ all. IfSome known (λ stream. IsCut all stream before after))
-  ended_part d read rest known left before mid after took at_end waits p wrote =
-      (p.0, p.1, on_end known left read (λ stream. IsCut p.0 stream before after) took at_end
-        (p.0, [], rest, text_of (Refused CutShort) true, wrote.0, sym (append-nil p.0), p.2, inr (cut waits refl refl), wrote.1, appends_more before mid after _ _ p.3 wrote.2))
+  ended_part d read rest known left before mid after took at_end waits p wrote = (
+    p.0,
+    p.1,
+    on_end known left read (λ stream. IsCut p.0 stream before after) took at_end
+        (p.0, [], rest, text_of (Refused CutShort) true, wrote.0, sym (append-nil p.0), p.2, inr (cut waits refl refl), wrote.1, appends_more before mid after _ _ p.3 wrote.2),
+  )
 
   pub went_closed : (d e : Standing) (read got old now : List ℕ) (known left left' before mid after : Option (List ℕ)) → Consumes known left read → Consumes left left' got → now ≡ old ++ got
       → IsCurrent rules c read old before mid d → IsClosed rules d now mid after e → Ran e (λ all. IfSome known (λ stream. IsAnswered all stream before after))
   went_closed d e read got old now known left left' before mid after took more is p q =
-      let a = closed_join rules c d e read got old before mid after p (subst (λ (l : List ℕ). IsClosed rules d l mid after e) is q) in
-      (a.0 ++ a.1, a.4, on_stream known left' (read ++ got) (λ stream. IsAnswered (a.0 ++ a.1) stream before after) (consumes_more known left left' read got took more)
-        (λ rest. (a.0, a.1, a.2 ++ rest, a.3, refl, exchange_more _ _ rest _ a.5, closed (closes_more _ _ rest _ a.6), a.7)))
+      let a = closed_join rules c d e read got old before mid after p (subst (λ (l : List ℕ). IsClosed rules d l mid after e) is q) in (
+        a.0 ++ a.1,
+        a.4,
+        on_stream known left' (read ++ got) (λ stream. IsAnswered (a.0 ++ a.1) stream before after) (consumes_more known left left' read got took more)
+            (λ rest. (a.0, a.1, a.2 ++ rest, a.3, refl, exchange_more _ _ rest _ a.5, closed (closes_more _ _ rest _ a.6), a.7)),
+      )
 
   pub went_broken : (d e : Standing) (read got old now : List ℕ) (known left left' before mid after : Option (List ℕ)) → Consumes known left read → Consumes left left' got → now ≡ old ++ got
       → IsCurrent rules c read old before mid d → IsBroken rules d now mid after e → Ran e (λ all. IfSome known (λ stream. IsCut all stream before after))
   went_broken d e read got old now known left left' before mid after took more is p q =
-      let a = broken_join rules c d e read got old before mid after p (subst (λ (l : List ℕ). IsBroken rules d l mid after e) is q) in
-      (a.0 ++ a.1, a.5, on_stream known left' (read ++ got) (λ stream. IsCut (a.0 ++ a.1) stream before after) (consumes_more known left left' read got took more)
-        (λ rest. (a.0, a.1, a.2 ++ rest, a.3, a.4, refl, exchange_more _ _ rest _ a.6, inl (says_more _ _ rest _ a.7), a.8, a.9)))
+      let a = broken_join rules c d e read got old before mid after p (subst (λ (l : List ℕ). IsBroken rules d l mid after e) is q) in (
+        a.0 ++ a.1,
+        a.5,
+        on_stream known left' (read ++ got) (λ stream. IsCut (a.0 ++ a.1) stream before after) (consumes_more known left left' read got took more)
+            (λ rest. (a.0, a.1, a.2 ++ rest, a.3, a.4, refl, exchange_more _ _ rest _ a.6, inl (says_more _ _ rest _ a.7), a.8, a.9)),
+      )
 
   -- all that was read and is answered, of at least so many octets
   abbrev pub IsAnsweredRead : ℕ → Option (List ℕ) → Option (List ℕ) → List ℕ → Option (List ℕ) → Option (List ℕ) → Standing → Type 0
@@ -78,9 +92,12 @@ module _ (rules : List Rule) (c : Standing) where
 
   pub went_on : (d e : Standing) (least n : ℕ) (got old now rest : List ℕ) (known left left' before mid after : Option (List ℕ)) → Consumes left left' got → now ≡ old ++ got → length got ≡ n → 0 < n
       → IsAnsweredRead least known left old before mid d → IsCurrent rules d now rest mid after e → IsAnsweredRead (least + 1) known left' rest before after e
-  went_on d e least n got old now rest known left left' before mid after more is len some p q =
-      (p.0 ++ got, (let whole = length-append p.0 got in omega (arith, p.1)), consumes_more known left left' p.0 got p.2 more,
-      current_join rules c d e p.0 got old rest before mid after p.3 (subst (λ (l : List ℕ). IsCurrent rules d l rest mid after e) is q))
+  went_on d e least n got old now rest known left left' before mid after more is len some p q = (
+    p.0 ++ got,
+    (let whole = length-append p.0 got in omega (arith, p.1)),
+    consumes_more known left left' p.0 got p.2 more,
+    current_join rules c d e p.0 got old rest before mid after p.3 (subst (λ (l : List ℕ). IsCurrent rules d l rest mid after e) is q),
+  )
 
   pub stayed : (d : Standing) (least least' : ℕ) (rest : List ℕ) (known left before after : Option (List ℕ)) → Waits rest → least' ≤ least → IsAnsweredRead least known left rest before after d
       → Ran d (λ all. IsRead least' all known left before after)

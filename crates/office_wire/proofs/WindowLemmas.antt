@@ -24,11 +24,11 @@ grown : (xs buf post : List ℕ) (filled n : ℕ) → filled ≤ length xs → n
 grown xs buf post filled n within fits =
     let len : length (take filled xs) ≡ filled = length-take-le filled xs within in
     subst (λ (k : ℕ). take (k + n) (take filled xs ++ (buf ++ post)) ≡ take filled xs ++ take n buf) len
-      (take-append-add (take filled xs) (buf ++ post) n ∙ ap (λ (l : List ℕ). take filled xs ++ l) (take-append-le n buf post fits))
+    (take-append-add (take filled xs) (buf ++ post) n ∙ ap (λ (l : List ℕ). take filled xs ++ l) (take-append-le n buf post fits))
 
 pub refilled : (xs buf : List ℕ) (filled n len : ℕ) → len ≡ length xs → filled ≤ length xs → n ≤ length buf → length buf ≡ length xs - filled
     → take (filled + n) (take len ((take filled xs ++ (buf ++ drop (length xs - filled) (drop filled xs))) ++ drop (length (take filled xs ++ (buf ++ drop (length xs - filled) (drop filled xs)))) xs))
-      ≡ take filled xs ++ take n buf
+    ≡ take filled xs ++ take n buf
 refilled xs buf filled n len whole within fits room =
     let post = drop (length xs - filled) (drop filled xs) in
     let w = take filled xs ++ (buf ++ post) in
@@ -42,7 +42,7 @@ minus_zero k = omega arith
 -- what is read behind the octets that were moved to the front
 pub filled_view : (xs buf old : List ℕ) (filled n len : ℕ) → len ≡ length xs → filled ≤ length xs → n ≤ length buf → length buf ≡ length xs - filled → take filled xs ≡ old
     → slice_range (take len ((take filled xs ++ (buf ++ drop (length xs - filled) (drop filled xs))) ++ drop (length (take filled xs ++ (buf ++ drop (length xs - filled) (drop filled xs)))) xs)) 0 (filled + n)
-      ≡ old ++ take n buf
+    ≡ old ++ take n buf
 filled_view xs buf old filled n len whole within fits room front =
     ap (λ (j : ℕ). take j (take len ((take filled xs ++ (buf ++ drop (length xs - filled) (drop filled xs))) ++ drop (length (take filled xs ++ (buf ++ drop (length xs - filled) (drop filled xs)))) xs))) (minus_zero (filled + n))
     ∙ refilled xs buf filled n len whole within fits room ∙ ap (λ (l : List ℕ). l ++ take n buf) front

@@ -7,13 +7,13 @@ use Rattle.grant_policy.specs.declared.rule.Rule.{Rule}
 use Rattle.office_core.specs.declared.request.Call.{Call}
 use Rattle.office_core.specs.States.{State}
 use Rattle.office_wire.specs.declared.refusal.Refusal.TheVariants.{CutShort}
+use Rattle.office_wire.specs.declared.request_fault.RequestFault.{RequestFault}
 use Rattle.office_wire.specs.declared.response.Response.{Response}
 use Rattle.office_wire.specs.declared.response.Response.TheVariants.{Refused}
 use Rattle.office_wire.specs.declared.exchange.Said.{Said}
 use Rattle.office_wire.specs.declared.exchange.Said.TheVariants.{Nothing, Next, Last}
 use Rattle.office_wire.specs.declared.fault.ServeFault.{ServeFault}
 use Rattle.office_wire.specs.declared.fault.ServeFault.TheVariants.{ReadFailed, WriteFailed, StreamTooLong, NoMemory}
-use Rattle.office_wire.specs.Requests.{call_of}
 use Rattle.office_wire.specs.Texts.{text_of}
 use Rattle.office_wire.specs.Exchange.{Turn, octets_of, turn_text, texts, IsTurn, IsOpenTurn, Standing, Answers, Run, Exchange, Waits, Closes, Ends, Says, IsPart, closes, is_line_end}
 
@@ -51,6 +51,12 @@ IsDone all (Err StreamTooLong) known left before after = IsRead (2 ^ 64 - 1) all
 IsDone all (Err NoMemory) known left before after = (all ≡ []) × (left ≡ known) × (after ≡ before)
 
 -- ---- one request
+
+-- this was answered to what was read of a request, in this text, and how the table stands behind it
+pub record IsReplied (rules : List Rule) (c : Standing) (read : Result Call RequestFault) (closing : Bool) (text : List ℕ) (d : Standing) : Type 0 where
+  pub response : Response
+  pub answers : Answers rules c read response d
+  pub text_is : text ≡ text_of response closing
 
 -- this was answered to what stands at the front, in this text, and how the table stands behind it
 abbrev pub IsSaid : List Rule → Standing → List ℕ → Said → List ℕ → Standing → Type 0

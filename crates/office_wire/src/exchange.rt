@@ -7,7 +7,7 @@ ghost use Rattle.office_core.specs.States.{State};
 ghost use Rattle.office_wire.specs.Exchange.{Answers, IsPart};
 ghost use Rattle.office_wire.specs.Heads.{IsAsked};
 ghost use Rattle.office_wire.specs.Requests.{call_of};
-ghost use Rattle.office_wire.specs.Serving.{standing, IsSaid, Stands, IsIdle, IsServed};
+ghost use Rattle.office_wire.specs.Serving.{standing, IsReplied, IsSaid, Stands, IsIdle, IsServed};
 
 use crate::front::{Front, front_of};
 use crate::head::Heading;
@@ -43,12 +43,7 @@ pub(crate) struct Service<'a> {
 
 impl<'a> Service<'a> {
     /// What is answered to a request.
-    fn respond<T: ZoneTable>(
-        &self,
-        table: &mut T,
-        heading: &Heading<'_>,
-        body: &[u8],
-    ) -> Response
+    fn respond<T: ZoneTable>(&self, table: &mut T, heading: &Heading<'_>, body: &[u8]) -> Response
         requires { IsUtf8 heading.now.target.now }
         ensures answers { T.is_honest table.new → (s : State) → T.holds table.old s → (h : RequestHead) → IsAsked heading.now h → (t : State) × T.holds table.new t × Answers self.now.policy.now (standing s (T.failures table.old)) (call_of h body.now) result (standing t (T.failures table.new)) }
         ensures honest { T.is_honest table.new → T.is_honest table.old }
@@ -59,6 +54,22 @@ impl<'a> Service<'a> {
             }
             Err(fault) => Response::refusing(fault),
         }
+    }
+
+    /// Puts what is answered to a request; where there is no memory for a long response, SERVFAIL.
+    fn reply<T: ZoneTable>(
+        &self,
+        table: &mut T,
+        heading: &Heading<'_>,
+        body: &[u8],
+        out: &mut Outbox,
+    )
+        requires { IsUtf8 heading.now.target.now }
+        ensures said { T.is_honest table.new → (s : State) → T.holds table.old s → (h : RequestHead) → IsAsked heading.now h → (t : State) × T.holds table.new t × IsReplied self.now.policy.now (standing s (T.failures table.old)) (call_of h body.now) heading.now.closes out.new (standing t (T.failures table.new)) }
+        ensures honest { T.is_honest table.new → T.is_honest table.old }
+    {
+        let response = self.respond(table, heading, body);
+        let _whole = out.put(&response, heading.closes);
     }
 
     /// Answers the request at the front, where it stands there whole.
@@ -86,8 +97,7 @@ impl<'a> Service<'a> {
             }
             Front::Ready(heading, n) => {
                 let end = heading.len + n;
-                let response = self.respond(table, &heading, &pending[heading.len..end]);
-                let _whole = out.put(&response, heading.closes);
+                self.reply(table, &heading, &pending[heading.len..end], out);
                 if heading.closes {
                     Said::Last
                 } else {

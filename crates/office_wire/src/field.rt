@@ -48,11 +48,7 @@ pub(crate) fn has_field(head: &[u8], fields: &[HeaderSpan], name: &[u8]) -> bool
 }
 
 /// The value of the fields of a name, where there is exactly one.
-pub(crate) fn only_value<'b>(
-    head: &'b [u8],
-    fields: &[HeaderSpan],
-    name: &[u8],
-) -> Option<&'b [u8]>
+pub(crate) fn only_value<'b>(head: &'b [u8], fields: &[HeaderSpan], name: &[u8]) -> Option<&'b [u8]>
     requires { All (IsHeaderWithin (length head.now)) fields.now }
     ensures { option_map (λ v. v.now) result ≡ only (values_of name.now (map (header_bytes head.now) fields.now)) }
 {

@@ -183,7 +183,10 @@ impl Outbox {
         match self.try_put(response, closing) {
             Ok(()) => true,
             Err(_) => {
-                self.put_short(&Response::Replied(Reply::Servfail(TableFault::NoMemory)), closing);
+                self.put_short(
+                    &Response::Replied(Reply::Servfail(TableFault::NoMemory)),
+                    closing,
+                );
                 false
             }
         }

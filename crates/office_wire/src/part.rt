@@ -48,11 +48,7 @@ fn part_of(path: &[u8], number: usize) -> &[u8]
 }
 
 /// The part of this number, from 0, with its escapes read (RFC 3986 section 2.1). The only error is want of memory.
-pub(crate) fn decoded_part(
-    alloc: Global,
-    path: &[u8],
-    number: usize,
-) -> Result<Vec<u8>, AllocError>
+pub(crate) fn decoded_part(alloc: Global, path: &[u8], number: usize) -> Result<Vec<u8>, AllocError>
     ensures { IfOk result (λ part. part.items ≡ decoded_part number path.now) }
 {
     let mut part = Vec::new(alloc);

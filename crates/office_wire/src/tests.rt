@@ -11,6 +11,7 @@ use dns_names::Name;
 use grant_policy::{Policy, read_policy};
 use office_core::{MemTable, ZoneTable};
 use std::alloc::Global;
+use std::marker::Brand;
 use std::sync::ledger::{Blank, Ledger};
 use std::test::Fail;
 use zone_core::Zone;
@@ -108,6 +109,22 @@ fn served<R: Ledger, W: Ledger, T: ZoneTable>(
     let result = serve(alloc, &mut reader, &mut writer, table, &policy);
     let written = String::from_utf8_lossy(alloc, &writer.into_inner().octets)?;
     Ok((result, written))
+}
+
+/// The same over a table in memory.
+fn exchanged(
+    alloc: Global,
+    stream: &[u8],
+    devices: Devices,
+    table: &mut MemTable,
+) -> Result<(Result<(), ServeFault>, String), Fail> {
+    served::<Brand, Brand, MemTable>(
+        alloc,
+        stream,
+        devices,
+        table,
+        (Blank::new(1), Blank::new(1)),
+    )
 }
 
 /// A request of a caller with a body.

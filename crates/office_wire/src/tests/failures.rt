@@ -4,7 +4,6 @@ ghost use Rattle.std.specs.Prelude.{◌≡◌, ◌<◌};
 
 use super::*;
 use office_core::{FailTable, TableCall};
-use std::marker::Brand;
 
 /// The stream of the examples: an update, the same one again under another identifier, and a list; and what is answered.
 fn stream(alloc: Global) -> Result<(String, String), Fail> {
@@ -14,7 +13,11 @@ fn stream(alloc: Global) -> Result<(String, String), Fail> {
         "admin",
         r#"{"id":"a2","operations":[{"op":"add","name":"www.example.org.","ttl":300,"type":"A","data":"192.0.2.5"}]}"#,
     )?;
-    let list = get(alloc, "/zones/example.org./records/www.example.org.", "admin")?;
+    let list = get(
+        alloc,
+        "/zones/example.org./records/www.example.org.",
+        "admin",
+    )?;
     let listed = response(
         alloc,
         "200 OK",
@@ -30,13 +33,7 @@ fn stream(alloc: Global) -> Result<(String, String), Fail> {
 /// What the caller `admin` is told of the zone of a table.
 fn zone_of(alloc: Global, table: &mut MemTable) -> Result<String, Fail> {
     let stream = get(alloc, "/zones/example.org./file", "admin")?;
-    let (_, text) = served::<Brand, Brand, MemTable>(
-        alloc,
-        stream.as_bytes(),
-        WHOLE,
-        table,
-        (Blank::new(1), Blank::new(1)),
-    )?;
+    let (_, text) = exchanged(alloc, stream.as_bytes(), WHOLE, table)?;
     Ok(text)
 }
 
@@ -61,15 +58,12 @@ fn pieces(rt: HostRuntime) -> Result<(), Fail> {
             read_fails: 0,
             write_fails: 0,
         };
-        let (result, got) = served::<Brand, Brand, MemTable>(
-            alloc,
-            stream.as_bytes(),
-            devices,
-            &mut table,
-            (Blank::new(1), Blank::new(1)),
-        )?;
+        let (result, got) = exchanged(alloc, stream.as_bytes(), devices, &mut table)?;
         assert!(rt; result == Ok(()), "{most} octets a call");
-        assert!(rt; got.as_str() == want.as_str(), "{most} octets a call: {got}");
+        assert!(rt;
+            got.as_str() == want.as_str(),
+            "{most} octets a call: {got}"
+        );
     }
     Ok(())
 }
@@ -77,33 +71,25 @@ fn pieces(rt: HostRuntime) -> Result<(), Fail> {
 #[test]
 fn cut_streams(rt: HostRuntime) -> Result<(), Fail> {
     let alloc = rt.alloc();
-    let want = "HTTP/1.1 400 Bad Request\r\nContent-Type: application/json\r\nContent-Length: 14\r\nConnection: close\r\n\r\n{\"refusal\":91}";
+    let want =
+        "HTTP/1.1 400 Bad Request\r\nContent-Type: application/json\r\nContent-Length: 14\r\nConnection: close\r\n\r\n{\"refusal\":91}";
     let mut table = table(alloc)?;
     let stream = ADDED.0.as_bytes();
     for end in 1..stream.len() {
-        let (result, got) = served::<Brand, Brand, MemTable>(
-            alloc,
-            &stream[..end],
-            WHOLE,
-            &mut table,
-            (Blank::new(1), Blank::new(1)),
-        )?;
+        let (result, got) = exchanged(alloc, &stream[..end], WHOLE, &mut table)?;
         assert!(rt; result == Ok(()), "cut behind {end} octets");
         assert!(rt; got.as_str() == want, "cut behind {end} octets: {got}");
     }
     for quiet in ["", "\r\n", "\n\r\n"] {
-        let (result, got) = served::<Brand, Brand, MemTable>(
-            alloc,
-            quiet.as_bytes(),
-            WHOLE,
-            &mut table,
-            (Blank::new(1), Blank::new(1)),
-        )?;
+        let (result, got) = exchanged(alloc, quiet.as_bytes(), WHOLE, &mut table)?;
         assert!(rt; result == Ok(()), "only line ends");
         assert!(rt; got.is_empty(), "only line ends: {got}");
     }
     let got = zone_of(alloc, &mut table)?;
-    assert!(rt; got.as_str() == zone_wanted(alloc, false)?.as_str(), "{got}");
+    assert!(rt;
+        got.as_str() == zone_wanted(alloc, false)?.as_str(),
+        "{got}"
+    );
     Ok(())
 }
 
@@ -120,18 +106,21 @@ fn failed_reads(rt: HostRuntime) -> Result<(), Fail> {
             read_fails,
             write_fails: 0,
         };
-        let (result, got) = served::<Brand, Brand, MemTable>(
-            alloc,
-            stream,
-            devices,
-            &mut table,
-            (Blank::new(1), Blank::new(1)),
-        )?;
+        let (result, got) = exchanged(alloc, stream, devices, &mut table)?;
         let done = read_fails == reads;
-        assert!(rt; result == Err(ServeFault::ReadFailed), "read {read_fails} fails");
-        assert!(rt; got.as_str() == (if done { ADDED.1 } else { "" }), "read {read_fails} fails: {got}");
+        assert!(rt;
+            result == Err(ServeFault::ReadFailed),
+            "read {read_fails} fails"
+        );
+        assert!(rt;
+            got.as_str() == (if done { ADDED.1 } else { "" }),
+            "read {read_fails} fails: {got}"
+        );
         let zone = zone_of(alloc, &mut table)?;
-        assert!(rt; zone.as_str() == zone_wanted(alloc, done)?.as_str(), "read {read_fails} fails: {zone}");
+        assert!(rt;
+            zone.as_str() == zone_wanted(alloc, done)?.as_str(),
+            "read {read_fails} fails: {zone}"
+        );
     }
     Ok(())
 }
@@ -148,16 +137,16 @@ fn failed_writes(rt: HostRuntime) -> Result<(), Fail> {
             read_fails: 0,
             write_fails,
         };
-        let (result, got) = served::<Brand, Brand, MemTable>(
-            alloc,
-            stream.as_bytes(),
-            devices,
-            &mut table,
-            (Blank::new(1), Blank::new(1)),
-        )?;
+        let (result, got) = exchanged(alloc, stream.as_bytes(), devices, &mut table)?;
         let went = 7 * (write_fails - 1);
-        assert!(rt; result == Err(ServeFault::WriteFailed), "write {write_fails} fails");
-        assert!(rt; got.as_bytes() == &want.as_bytes()[..went], "write {write_fails} fails: {got}");
+        assert!(rt;
+            result == Err(ServeFault::WriteFailed),
+            "write {write_fails} fails"
+        );
+        assert!(rt;
+            got.as_bytes() == &want.as_bytes()[..went],
+            "write {write_fails} fails: {got}"
+        );
         // the first response has 98 octets, so the second update is asked before the fifteenth write
         let again = post(
             alloc,
@@ -165,17 +154,17 @@ fn failed_writes(rt: HostRuntime) -> Result<(), Fail> {
             "admin",
             r#"{"id":"a2","operations":[]}"#,
         )?;
-        let (_, told) = served::<Brand, Brand, MemTable>(
-            alloc,
-            again.as_bytes(),
-            WHOLE,
-            &mut table,
-            (Blank::new(1), Blank::new(1)),
-        )?;
+        let (_, told) = exchanged(alloc, again.as_bytes(), WHOLE, &mut table)?;
         let reused = told.contains("409 Conflict");
-        assert!(rt; reused == (write_fails > 14), "write {write_fails} fails: {told}");
+        assert!(rt;
+            reused == (write_fails > 14),
+            "write {write_fails} fails: {told}"
+        );
         let zone = zone_of(alloc, &mut table)?;
-        assert!(rt; zone.as_str() == zone_wanted(alloc, true)?.as_str(), "write {write_fails} fails: {zone}");
+        assert!(rt;
+            zone.as_str() == zone_wanted(alloc, true)?.as_str(),
+            "write {write_fails} fails: {zone}"
+        );
     }
     Ok(())
 }
@@ -206,9 +195,13 @@ fn served_in_failure<L: Ledger>(
 fn failed_commit(rt: HostRuntime) -> Result<(), Fail> {
     let alloc = rt.alloc();
     let (got, mut table) = served_in_failure::<Brand>(alloc, ADDED.0.as_bytes(), Blank::new(1))?;
-    let want = "HTTP/1.1 500 Internal Server Error\r\nContent-Type: application/json\r\nContent-Length: 28\r\n\r\n{\"code\":2,\"name\":\"SERVFAIL\"}";
+    let want =
+        "HTTP/1.1 500 Internal Server Error\r\nContent-Type: application/json\r\nContent-Length: 28\r\n\r\n{\"code\":2,\"name\":\"SERVFAIL\"}";
     assert!(rt; got.as_str() == want, "{got}");
     let zone = zone_of(alloc, &mut table)?;
-    assert!(rt; zone.as_str() == zone_wanted(alloc, false)?.as_str(), "{zone}");
+    assert!(rt;
+        zone.as_str() == zone_wanted(alloc, false)?.as_str(),
+        "{zone}"
+    );
     Ok(())
 }

@@ -1,7 +1,6 @@
 //! Requests, and what they are answered.
 
 use super::*;
-use std::marker::Brand;
 use std::process::Abort;
 
 /// Compares what is answered to a stream.
@@ -12,13 +11,7 @@ fn expect(
     stream: &str,
     want: &str,
 ) -> Result<(), Fail> {
-    let (result, got) = served::<Brand, Brand, MemTable>(
-        alloc,
-        stream.as_bytes(),
-        WHOLE,
-        table,
-        (Blank::new(1), Blank::new(1)),
-    )?;
+    let (result, got) = exchanged(alloc, stream.as_bytes(), WHOLE, table)?;
     assert!(rt; result == Ok(()), "{stream}");
     assert!(rt; got.as_str() == want, "{stream} is answered {got}");
     Ok(())
@@ -309,7 +302,14 @@ const BAD_REQUEST: &str = "400 Bad Request";
 const NOT_FOUND: &str = "404 Not Found";
 
 const REFUSALS: [Refused; 27] = [
-    ("GET / HTTP/2.0\r\n\r\n", "", BAD_REQUEST, "81", true, "another version"),
+    (
+        "GET / HTTP/2.0\r\n\r\n",
+        "",
+        BAD_REQUEST,
+        "81",
+        true,
+        "another version",
+    ),
     ("GET /\r\n\r\n", "", BAD_REQUEST, "81", true, "no version"),
     (
         "POST / HTTP/1.1\r\nContent-Length: 1x\r\n\r\n",
@@ -529,13 +529,7 @@ fn refusals(rt: HostRuntime) -> Result<(), Fail> {
         let text = format!(in alloc;
             "HTTP/1.1 {status}\r\nContent-Type: application/json\r\nContent-Length: {length}\r\n{close}\r\n{want}"
         )?;
-        let (result, got) = served::<Brand, Brand, MemTable>(
-            alloc,
-            stream.as_bytes(),
-            WHOLE,
-            &mut table,
-            (Blank::new(1), Blank::new(1)),
-        )?;
+        let (result, got) = exchanged(alloc, stream.as_bytes(), WHOLE, &mut table)?;
         assert!(&rt; result == Ok(()), "{why}");
         assert!(&rt; got.as_str() == text.as_str(), "{why}: {got}");
     }
@@ -554,12 +548,18 @@ fn last_responses(rt: HostRuntime) -> Result<(), Fail> {
             true,
             "its second field says so",
         ),
-        ("1.1", "Connection: keep-alive\r\n", false, "it says otherwise"),
+        (
+            "1.1",
+            "Connection: keep-alive\r\n",
+            false,
+            "it says otherwise",
+        ),
     ];
     for (version, field, closes, why) in rows {
         let mut table = table(alloc)?;
         let stream = format!(in alloc;
-            "GET /rights/./A/add HTTP/{version}\r\n{field}X-Office-Caller: a\r\n\r\n{}", ADDED.0
+            "GET /rights/./A/add HTTP/{version}\r\n{field}X-Office-Caller: a\r\n\r\n{}",
+            ADDED.0
         )?;
         let body = r#"{"by":"closing","granted":false}"#;
         let text = if closes {
@@ -568,16 +568,11 @@ fn last_responses(rt: HostRuntime) -> Result<(), Fail> {
             )?
         } else {
             format!(in alloc;
-                "HTTP/1.1 200 OK\r\nContent-Type: application/json\r\nContent-Length: 32\r\n\r\n{body}{}", ADDED.1
+                "HTTP/1.1 200 OK\r\nContent-Type: application/json\r\nContent-Length: 32\r\n\r\n{body}{}",
+                ADDED.1
             )?
         };
-        let (result, got) = served::<Brand, Brand, MemTable>(
-            alloc,
-            stream.as_bytes(),
-            WHOLE,
-            &mut table,
-            (Blank::new(1), Blank::new(1)),
-        )?;
+        let (result, got) = exchanged(alloc, stream.as_bytes(), WHOLE, &mut table)?;
         assert!(&rt; result == Ok(()), "{why}");
         assert!(&rt; got.as_str() == text.as_str(), "{why}: {got}");
         expect_zone(
@@ -585,7 +580,11 @@ fn last_responses(rt: HostRuntime) -> Result<(), Fail> {
             alloc,
             &mut table,
             if closes { "7" } else { "8" },
-            if closes { "" } else { "www.example.org. 300 IN A 192.0.2.5\n" },
+            if closes {
+                ""
+            } else {
+                "www.example.org. 300 IN A 192.0.2.5\n"
+            },
         )?;
     }
     Ok(())

@@ -20,18 +20,23 @@ returns-in-Ok-Complete c =
     let target : c.of-in-Ok-Complete.result.now ≡ h.target = c.of-in-Ok-Complete.ensures ∙ is.path in
     let spans = take head.headers c.parse_request.new.headers in
     let fields : map (header_bytes window) spans ≡ fields_of h = is.fields in
-    let count : length spans ≡ length h.fields = spans_count window spans h.fields fields in
-    (h, record {
-      len = is.len;
-      ask = c.asked.ensures.value ∙ (λ i. ask_by (method i) (count i) (is_any (values_of (codes "transfer-encoding") (fields i))) (values_of (codes "content-length") (fields i)));
-      asked = record {
-        method = method;
-        target = target;
-        target_text = subst (λ (l : List ℕ). IsUtf8 l) (sym target) is.reads.0.target_text;
-        caller = c.only_value.ensures ∙ ap (λ (fs : List (List ℕ × List ℕ)). only (values_of (codes "x-office-caller") fs)) fields;
-      };
-      closes = c.closes.ensures ∙ (λ i. closes_by (is.version i) (fields i));
-    }, is.reads, within.section.len_fits, c.asked.ensures.small)
+    let count : length spans ≡ length h.fields = spans_count window spans h.fields fields in (
+      h,
+      record {
+        len = is.len;
+        ask = c.asked.ensures.value ∙ (λ i. ask_by (method i) (count i) (is_any (values_of (codes "transfer-encoding") (fields i))) (values_of (codes "content-length") (fields i)));
+        asked = record {
+          method = method;
+          target = target;
+          target_text = subst (λ (l : List ℕ). IsUtf8 l) (sym target) is.reads.0.target_text;
+          caller = c.only_value.ensures ∙ ap (λ (fs : List (List ℕ × List ℕ)). only (values_of (codes "x-office-caller") fs)) fields;
+        };
+        closes = c.closes.ensures ∙ (λ i. closes_by (is.version i) (fields i));
+      },
+      is.reads,
+      within.section.len_fits,
+      c.asked.ensures.small,
+    )
 
 pub returns-in-Err : goal.returns-in-Err
 returns-in-Err c = never_from_overflow _ (subst (λ (k : ℕ). RequestOverflows k c.args.window.now) c.requires.spans c.in-Err.ensures.no_room)

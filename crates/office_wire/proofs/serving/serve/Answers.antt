@@ -20,6 +20,12 @@ returns-in_default-new-2-clause-run g c = λ honest s held.
 
 pub returns-clause-run : goal.returns-clause-run
 returns-clause-run g c = λ honest s held.
-    let r = c.serve_in.ensures.run honest s held in
-    (r.0, r.1, r.2, r.3, r.4, exchanges_run c.args.policy.now (standing s (g.T.ZoneTable.failures c.args.table.now)) (standing r.1 (g.T.ZoneTable.failures c.serve_in.new.table)) r.0
-      (g.met.T.ZoneTable.zones c.args.table.now s held) (g.met.T.ZoneTable.receipts c.args.table.now s held) r.3)
+    let r = c.serve_in.ensures.run honest s held in (
+      r.0,
+      r.1,
+      r.2,
+      r.3,
+      r.4,
+      exchanges_run c.args.policy.now (standing s (g.T.ZoneTable.failures c.args.table.now)) (standing r.1 (g.T.ZoneTable.failures c.serve_in.new.table)) r.0
+          (g.met.T.ZoneTable.zones c.args.table.now s held) (g.met.T.ZoneTable.receipts c.args.table.now s held) r.3,
+    )

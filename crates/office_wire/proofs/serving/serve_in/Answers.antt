@@ -42,7 +42,7 @@ returns-in-Ok-finish-clause-run g c = λ honest s held.
     let before = standing s (g.T.ZoneTable.failures c.args.table.now) in
     let now = standing p.0 (g.T.ZoneTable.failures c.reads.table) in
     let r = ended c.args.service.now.policy.now before now p.2.0 c.as_slice.result.now _ _ _ _ _ took (f.4 none) (subst (λ (l : List ℕ). Waits l) (sym rest) c.reads.invariant.waits)
-      (subst (λ (l : List ℕ). IsCurrent c.args.service.now.policy.now before p.2.0 l (g.W.Sink.contents c.args.writer.now) (g.W.Sink.contents c.reads.writer) now) (sym rest) p.2.3) c.in-Ok-finish.ensures.finishes in
+    (subst (λ (l : List ℕ). IsCurrent c.args.service.now.policy.now before p.2.0 l (g.W.Sink.contents c.args.writer.now) (g.W.Sink.contents c.reads.writer) now) (sym rest) p.2.3) c.in-Ok-finish.ensures.finishes in
     (r.0, p.0, p.1, r.1, r.2)
 
 pub returns-in-Ok-finish-clause-honest : goal.returns-in-Ok-finish-clause-honest
@@ -105,14 +105,17 @@ reads-preserved g c =
       room = idle.1;
       honest = λ honest. c.reads.invariant.honest (c.in-Ok-answer_all.ensures.honest honest);
       served = λ honest s held.
-        let p = c.reads.invariant.served (c.in-Ok-answer_all.ensures.honest honest) s held in
-        let f = c.in-Ok.ensures.got in
-        let a = c.in-Ok-answer_all.ensures.served honest p.0 p.1 in
-        let before = standing s (g.T.ZoneTable.failures c.args.table.now) in
-        let mid = standing p.0 (g.T.ZoneTable.failures c.reads.table) in
-        let now = standing a.0 (g.T.ZoneTable.failures c.answer_all.new.table) in
-        (a.0, a.1, went_on c.args.service.now.policy.now before mid now c.reads.counter c.in-Ok.got f.0 c.reads.inbox c.fill.new.self c.answer_all.new.inbox _ _ _ _ _ _ f.3 f.1 f.2
-          (let some = c.if-got-eq0.false in omega arith) p.2 (rw c.if-closed.false at a.2));
+          let p = c.reads.invariant.served (c.in-Ok-answer_all.ensures.honest honest) s held in
+          let f = c.in-Ok.ensures.got in
+          let a = c.in-Ok-answer_all.ensures.served honest p.0 p.1 in
+          let before = standing s (g.T.ZoneTable.failures c.args.table.now) in
+          let mid = standing p.0 (g.T.ZoneTable.failures c.reads.table) in
+          let now = standing a.0 (g.T.ZoneTable.failures c.answer_all.new.table) in (
+            a.0,
+            a.1,
+            went_on c.args.service.now.policy.now before mid now c.reads.counter c.in-Ok.got f.0 c.reads.inbox c.fill.new.self c.answer_all.new.inbox _ _ _ _ _ _ f.3 f.1 f.2
+                (let some = c.if-got-eq0.false in omega arith) p.2 (rw c.if-closed.false at a.2),
+          );
       reads = c.in-Ok.ensures.fine ∙ c.reads.invariant.reads;
       writes = c.in-Ok-answer_all.ensures.same ∙ c.reads.invariant.writes;
     }

@@ -13,7 +13,7 @@ invariant-reads g l = record {
   honest : g.T.ZoneTable.is_honest l.table → g.T.ZoneTable.is_honest l.fn.table;
   served : g.T.ZoneTable.is_honest l.table → (s : State) → g.T.ZoneTable.holds l.fn.table s → (t : State) × g.T.ZoneTable.holds l.table t
       × IsAnsweredRead l.service.policy.now (standing s (g.T.ZoneTable.failures l.fn.table)) l.counter (g.R.Source.remaining l.fn.reader) (g.R.Source.remaining l.reader) l.inbox
-        (g.W.Sink.contents l.fn.writer) (g.W.Sink.contents l.writer) (standing t (g.T.ZoneTable.failures l.table));
+      (g.W.Sink.contents l.fn.writer) (g.W.Sink.contents l.writer) (standing t (g.T.ZoneTable.failures l.table));
   reads : g.R.FaultCount.failures l.reader ≡ g.R.FaultCount.failures l.fn.reader;
   writes : g.W.FaultCount.failures l.writer ≡ g.W.FaultCount.failures l.fn.writer;
 }

@@ -1,8 +1,6 @@
-use Rattle.std.proofs.Common.{◌≡◌, [], ◌<◌, ◌+◌, refl, ◌∙◌, length, arith, ℕ}
+use Rattle.std.proofs.Common.{◌≡◌, [], ◌∷◌, ◌<◌, ◌+◌, refl, ◌∙◌, length, arith, ℕ}
 use Rattle.office_wire.specs.Exchange.{bad_length, bad_head, whole, closes}
-use Rattle.office_wire.specs.Requests.{call_of}
 use Rattle.office_wire.specs.Serving.{standing}
-use Rattle.office_wire.proofs.ResponseLemmas.{put_answers}
 use Rattle.office_wire.proofs.TurnLemmas.{ready, head_some}
 use Rattle.office_wire.proofs.exchange.Service.answer.Goals as goal
 
@@ -14,10 +12,22 @@ returns-in-Refused-clause-said g c = λ honest s held. let f = c.in-Refused.ensu
     (s, held, ([], refl, bad_length f.0 f.1 c.in-Refused.refusal f.2 f.3 f.4 refl c.put_short-in-Refused.ensures))
 
 pub returns-then-heading-clause-said : goal.returns-then-heading-clause-said
-returns-then-heading-clause-said g c = ?
+returns-then-heading-clause-said g c = λ honest s held.
+    let f = c.in-Ready.ensures in
+    let a = c.reply.ensures.said honest s held f.0 f.1.asked in
+    let before = standing s (g.T.ZoneTable.failures c.args.table.now) in
+    let now = standing a.0 (g.T.ZoneTable.failures c.reply.new.table) in
+    let t = ready c.args.self.now.policy.now before now c.args.pending.now c.reply.new.out f.0 c.in-Ready.heading c.in-Ready.n a.2.response f.1 f.2 f.3 f.4 f.5 a.2.answers a.2.text_is in
+    (a.0, a.1, (t.turn ∷ [], t.run, whole t.turn _ t.is (t.closing ∙ c.if-heading.true) t.octets refl t.text))
 
 pub returns-else-heading-clause-said : goal.returns-else-heading-clause-said
-returns-else-heading-clause-said g c = ?
+returns-else-heading-clause-said g c = λ honest s held.
+    let f = c.in-Ready.ensures in
+    let a = c.reply.ensures.said honest s held f.0 f.1.asked in
+    let before = standing s (g.T.ZoneTable.failures c.args.table.now) in
+    let now = standing a.0 (g.T.ZoneTable.failures c.reply.new.table) in
+    let t = ready c.args.self.now.policy.now before now c.args.pending.now c.reply.new.out f.0 c.in-Ready.heading c.in-Ready.n a.2.response f.1 f.2 f.3 f.4 f.5 a.2.answers a.2.text_is in
+    (a.0, a.1, (t.turn, t.run, record { turn = t.is; stays = t.closing ∙ c.if-heading.false }, t.octets, t.text))
 
 pub returns-else-heading-clause-stands : goal.returns-else-heading-clause-stands
 returns-else-heading-clause-stands g c =
