@@ -93,9 +93,10 @@ pub fn zone_writing(alloc: Global, zone: &Zone) -> Result<Writing, AllocError>
     notes_zone(zone);
     let origin = zone.origin();
     let row = origin.text(alloc)?;
+    let zones = vec![in alloc; row]?;
     Ok(Writing {
         version: None,
-        zones: vec![in alloc; row]?,
+        zones,
         removed: Vec::new(alloc),
         added: record_rows(alloc, origin, zone.records())?,
         changes: Vec::new(alloc),
@@ -117,9 +118,8 @@ pub fn replacement_writing(
 {
     notes_zone(old);
     notes_zone(new);
-    let change = Change {
-        removed: old.minus(alloc, new)?,
-        added: new.minus(alloc, old)?,
-    };
+    let removed = old.minus(alloc, new)?;
+    let added = new.minus(alloc, old)?;
+    let change = Change { removed, added };
     change_writing(alloc, new.origin(), number, &change, Vec::new(alloc))
 }

@@ -10,11 +10,11 @@ pub returns : goal.returns
 returns c =
     let old = c.args.old.now in
     let new = c.args.new.now in
-    let change : ChangeOf = record { removed = c.in_ok-minus.field-0.items; added = c.in_ok-minus-2.field-0.items } in
+    let change : ChangeOf = record { removed = c.in_ok-removed.removed.items; added = c.in_ok-added.added.items } in
     let own : c.origin.result.now ≡ new.origin = c.origin.ensures.value in
     let number = to_z-of_z w64 c.args.number c.ranges.number in
     if_number c.change_writing.result (λ n. c.args.number ≡ pos n) (λ n (w : WritingOf). w ≡ change_writing c.origin.result.now n change c.new.result.items)
     (λ (w : WritingOf). (s : State) (held : Held) → s.zones new.origin ≡ Some held → held.records ≡ old.records → IsNext s new.origin c.args.number → Leads w s (with_zone_replaced s new held))
     (λ n e. c.change_writing.ensures n (number ∙ e))
-    (λ w told. replacement_leads old new c.in_ok-minus.field-0.items c.in_ok-minus-2.field-0.items c.args.number w c.notes_zone.ensures.zone c.notes_zone-2.ensures.zone c.requires.differs c.in_ok-minus.ensures c.in_ok-minus-2.ensures
+    (λ w told. replacement_leads old new c.in_ok-removed.removed.items c.in_ok-added.added.items c.args.number w c.notes_zone.ensures.zone c.notes_zone-2.ensures.zone c.requires.differs c.in_ok-removed.ensures c.in_ok-added.ensures
     (λ n e. told n e ∙ (λ i. change_writing (own i) n change (c.new.ensures.items i))))
