@@ -1,15 +1,13 @@
 -- Rows of zones: they pass the check exactly where they are those of zones with their changes.
-use Rattle.std.proofs.Common.{◌≡◌, ◌≢◌, ℕ, zero, suc, ◌+◌, ◌<◌, ◌≤◌, Bool, true, false, cond, not, List, [], ◌∷◌, ◌++◌, length, map, take, drop, get_or, IsPermutation, IsSorted, refl, sym, ap, ap₂, subst, ◌∙◌, ◌&&◌, arith}
+use Rattle.std.proofs.Common.{◌≡◌, ◌≢◌, ℕ, zero, suc, ◌+◌, true, not, List, [], ◌∷◌, ◌++◌, length, map, take, drop, IsPermutation, IsSorted, refl, sym, ap, ap₂, subst, ◌∙◌, arith}
 use Rattle.std.proofs.lemmas.Bool.{and_from}
 use Rattle.std.proofs.lemmas.Cmp.{tied_itself}
-use Rattle.std.proofs.lemmas.List.{map-append, take_at, drop_at, take-append-drop, append-nil}
-use Rattle.std.proofs.lemmas.List.Sorted.{IsPermutation-refl, IsPermutation-sym, IsPermutation-trans, IsPermutation-append, IsPermutation-map, length_permutation}
-use Rattle.std.specs.declared.cmp.Ordering.{Ordering}
-use Rattle.std.specs.declared.cmp.Ordering.TheVariants.{Less, Equal, Greater}
-use Rattle.std.specs.Cmp.{IsTotalOrder}
-use Rattle.std.specs.List.{AllByRecursion, flat_map, list_all, prefix_len, position_or_len}
+use Rattle.std.proofs.lemmas.List.{map-append, take_at, drop_at, take-append-drop}
+use Rattle.std.proofs.lemmas.List.Sorted.{IsPermutation-refl, IsPermutation-sym, IsPermutation-trans, IsPermutation-append}
+use Rattle.std.specs.declared.cmp.Ordering.TheVariants.{Less, Equal}
+use Rattle.std.specs.List.{AllByRecursion, flat_map, position_or_len}
 use Rattle.std.specs.List.Sorted.{IsStrictlySortedBy}
-use Rattle.std.specs.Ordering.{is_eq, is_lt, nat_cmp, ordering_then}
+use Rattle.std.specs.Ordering.{is_eq, nat_cmp, ordering_then}
 use Rattle.sqlite_trees.specs.Tree.{IsAscending}
 use Rattle.sqlite_trees.proofs.ListLemmas.{IsPermutation-same, IsPermutation-flat_map, pull_back}
 use Rattle.sqlite_keyed.proofs.ListLemmas.{all_of, all_weaker, all_both, all_map, all-append, all-flat_map, ascending-append, ascending-map, ascending_from_map, ascending_weaker, map-map, map-flat_map, flat_map_same_on, test_from_all}
@@ -31,11 +29,11 @@ use Rattle.office_rows.specs.ChangeRows.{row_of, IsChanged, IsChangeRow, IsChang
 use Rattle.office_rows.specs.Contents.{ZoneRows, zone_records, zone_changes, IsZoneRows}
 use Rattle.office_rows.proofs.ChangeRowLaws.{change_rows_are_apart}
 use Rattle.office_rows.proofs.GatheringLaws.{entries, entries_rows, entries_are, entries_up, entries_numbered}
-use Rattle.office_rows.proofs.GatheredLaws.{AreGathered, are_gathered}
+use Rattle.office_rows.proofs.GatheredLaws.{are_gathered}
 use Rattle.office_rows.proofs.RecordRowLaws.{record_rows_are_apart}
 use Rattle.office_reads.specs.declared.ordered.ZoneRecord.{ZoneRecord}
 use Rattle.office_reads.specs.Orders.{rises}
-use Rattle.office_reads.specs.Checks.{AreZoneRows, IsOriginText, row_of_record, IsZoneRecord, IsZoneRecordRow, zone_record_order, zone_record_total, records_first, changes_first, IsZoneOf, AreZonesInTurn}
+use Rattle.office_reads.specs.Checks.{AreZoneRows, IsOriginText, row_of_record, IsZoneRecord, IsZoneRecordRow, zone_record_order, zone_record_total, records_first, changes_first, AreZonesInTurn}
 use Rattle.office_reads.proofs.ContentLemmas.{Apart, changes_each}
 use Rattle.office_reads.proofs.ListLemmas.{ascending_from_pairs, pairs_from_ascending, all_permutation, moved_back, apart_moved}
 use Rattle.office_reads.proofs.NameLemmas.{text_one}

@@ -3,7 +3,7 @@ use Rattle.std.proofs.Common.{◌≡◌, ◌≢◌, ℕ, ℤ, suc, Bool, true, f
 use Rattle.std.proofs.lemmas.List.{append-nil}
 use Rattle.std.proofs.lemmas.List.Elements.{filter-append}
 use Rattle.std.specs.Prelude.{option_map, bytes_eq}
-use Rattle.std.specs.List.{AllByRecursion, find, flat_map}
+use Rattle.std.specs.List.{AllByRecursion, flat_map}
 use Rattle.sqlite_trees.specs.Tree.{IsAscending}
 use Rattle.sqlite_keyed.proofs.ListLemmas.{all_of, all_weaker, all_map, all-append, filter_all, filter_none, IsPermutation-filter}
 use Rattle.dns_names.specs.Labels.{IsName}
@@ -21,7 +21,7 @@ use Rattle.office_rows.specs.declared.side.Side.{Side}
 use Rattle.office_rows.specs.declared.side.Side.TheVariants.{Removed, Added}
 use Rattle.office_rows.specs.RecordRows.{record_row}
 use Rattle.office_rows.specs.ChangeRows.{change_row, change_rows, changes_rows}
-use Rattle.office_rows.specs.Contents.{ZoneRows, ContentOf, zone_records, zone_changes, held_of, zone_among, IsZoneRows, AreOfState}
+use Rattle.office_rows.specs.Contents.{ZoneRows, zone_records, zone_changes, held_of, zone_among, IsZoneRows, AreOfState}
 use Rattle.office_reads.proofs.ListLemmas.{ascending_from_pairs, filter-and}
 use Rattle.office_reads.proofs.NameLemmas.{bytes_same, text_other}
 

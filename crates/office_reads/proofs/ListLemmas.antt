@@ -1,15 +1,15 @@
 -- Lists: pairs of elements, tests, elements of images, and lists of one element in any order.
-use Rattle.std.proofs.Common.{◌≡◌, ◌≢◌, ℕ, zero, suc, ◌<◌, Bool, true, false, cond, List, [], ◌∷◌, ◌++◌, length, get_or, map, filter, Option, Some, None, IsPermutation, refl, sym, ap, ap₂, subst, ◌∙◌, ◌&&◌, ◌||◌, arith, inl, inr, ◌+◌, ◌≤◌, take, not, nat_lt}
+use Rattle.std.proofs.Common.{◌≡◌, ℕ, zero, suc, ◌<◌, Bool, true, false, cond, List, [], ◌∷◌, ◌++◌, length, get_or, map, filter, Option, Some, None, IsPermutation, refl, sym, ap, ap₂, subst, ◌∙◌, ◌&&◌, ◌||◌, arith, inl, inr, ◌+◌, ◌≤◌, take, not, nat_lt}
 use Rattle.std.proofs.lemmas.List.Elements.{All-from_recursion, recursion_from_All}
 use Rattle.std.proofs.lemmas.List.Sorted.{All-permutation, Contains-permutation, IsPermutation-refl, IsPermutation-cons, IsPermutation-trans, IsPermutation-middle, length_permutation}
 use Rattle.std.proofs.lemmas.Bool.Decides.{nat_tests}
 use Rattle.std.proofs.lemmas.List.Sums.{prefix_len-le-length}
 use Rattle.std.specs.Option.{unwrap_or}
-use Rattle.std.specs.List.{AllByRecursion, AllPairs, Contains, find, list_any, position, position_or_len}
+use Rattle.std.specs.List.{AllByRecursion, AllPairs, find, list_any, position, position_or_len}
 use Rattle.sqlite_trees.specs.Tree.{IsAscending}
 use Rattle.sqlite_trees.proofs.ListLemmas.{along_permutation, pull_back}
 use Rattle.sqlite_rules.specs.Lists.{Has}
-use Rattle.sqlite_rules.proofs.ListLemmas.{all_has, all_from, has_contained, contains_had}
+use Rattle.sqlite_rules.proofs.ListLemmas.{has_contained, contains_had}
 use Rattle.zone_core.proofs.SetLemmas.{by_cases}
 
 -- ---- pairs of elements

@@ -1,5 +1,5 @@
 -- Names by their texts and by their keys.
-use Rattle.std.proofs.Common.{◌≡◌, ◌≢◌, ℕ, Bool, true, false, List, Ok, refl, sym, ap, ◌∙◌}
+use Rattle.std.proofs.Common.{◌≡◌, ◌≢◌, ℕ, true, false, List, sym, ap, ◌∙◌}
 use Rattle.std.proofs.lemmas.Bool.{false_from_ne_true}
 use Rattle.std.proofs.lemmas.Slice.Eq.{bytes_eq-Decides}
 use Rattle.std.specs.Prelude.{bytes_eq}
@@ -8,7 +8,7 @@ use Rattle.dns_names.specs.Labels.{IsName}
 use Rattle.dns_names.specs.Order.{same_name}
 use Rattle.dns_names.specs.Spelling.{name_text}
 use Rattle.dns_names.proofs.KeyLaws.{key_unique}
-use Rattle.zone_core.proofs.SetLemmas.{by_cases, name_is, name_self, name_other}
+use Rattle.zone_core.proofs.SetLemmas.{by_cases, name_is, name_self}
 use Rattle.office_rows.specs.RowReading.{name_in}
 use Rattle.office_rows.proofs.ColumnLaws.{name_read}
 use Rattle.office_rows.proofs.RowSteps.{ok_is}

@@ -1,12 +1,9 @@
 -- Receipts, by their callers and identifiers.
-use Rattle.std.proofs.Common.{◌≡◌, ℕ, ℤ, Bool, true, false, List, [], ◌∷◌, map, filter, Option, Some, None, IsPermutation, refl, sym, ap, subst, ◌∙◌, ◌&&◌, ◌<◌, ◌≤◌, length, get_or, arith}
+use Rattle.std.proofs.Common.{◌≡◌, ℕ, ℤ, Bool, true, false, List, map, Option, Some, None, IsPermutation, refl, sym, ap, subst, ◌∙◌, ◌&&◌, ◌<◌, ◌≤◌, length, get_or, arith}
 use Rattle.std.proofs.lemmas.Bool.{and_parts, false_from_ne_true}
 use Rattle.std.proofs.lemmas.List.Sorted.{IsPermutation-trans}
 use Rattle.std.specs.Prelude.{option_map, bytes_eq}
-use Rattle.std.specs.List.{AllByRecursion, find}
-use Rattle.sqlite_trees.specs.Tree.{IsAscending}
 use Rattle.sqlite_keyed.proofs.ListLemmas.{ascending_weaker, filter-map, IsPermutation-filter}
-use Rattle.office_core.specs.declared.receipt.Receipt.{Receipt}
 use Rattle.office_core.specs.States.{State}
 use Rattle.office_core.proofs.MemoryLemmas.{found_has}
 use Rattle.office_tables.specs.Rows.{ReceiptRowOf, RowsOf}

@@ -1,12 +1,12 @@
 -- What rows that are a state say of it.
-use Rattle.std.proofs.Common.{◌≡◌, ◌↔◌, ℕ, ℤ, zero, suc, ◌+◌, ◌<◌, ◌≤◌, Bool, true, false, List, [], ◌∷◌, ◌++◌, length, map, filter, Option, Some, None, IsPermutation, refl, sym, ap, subst, ◌∙◌, arith, ltb, inl, inr}
+use Rattle.std.proofs.Common.{◌≡◌, ℕ, ℤ, suc, ◌+◌, ◌<◌, ◌≤◌, Bool, true, false, List, [], ◌∷◌, length, map, Option, Some, None, IsPermutation, refl, sym, ap, subst, ◌∙◌, arith, ltb, inl}
 use Rattle.std.proofs.lemmas.Bool.{ltb-true, ltb-false}
 use Rattle.std.proofs.lemmas.Bool.Decides.{Decides-int_eq}
 use Rattle.std.proofs.lemmas.Int.{ints}
-use Rattle.std.proofs.lemmas.List.Sorted.{IsPermutation-sym, IsPermutation-trans, list_any-IsPermutation}
-use Rattle.std.specs.Prelude.{pos, option_map, bytes_eq, IsTrue}
+use Rattle.std.proofs.lemmas.List.Sorted.{IsPermutation-trans, list_any-IsPermutation}
+use Rattle.std.specs.Prelude.{pos, option_map, bytes_eq}
 use Rattle.std.specs.List.{AllByRecursion, find, list_any}
-use Rattle.std.specs.Ordering.{is_lt, int_cmp, int_eq, nat_cmp}
+use Rattle.std.specs.Ordering.{is_lt, int_cmp, int_eq}
 use Rattle.sqlite_keyed.proofs.ListLemmas.{all_weaker, all-append}
 use Rattle.sqlite_rules.specs.Lists.{Has}
 use Rattle.sqlite_rules.proofs.ListLemmas.{all_has, some_has, has_left, has_right}
@@ -21,14 +21,13 @@ use Rattle.office_core.specs.States.{ChangeOf, Held, State, AreZones, AreReceipt
 use Rattle.office_core.specs.Machine.{is_nothing}
 use Rattle.zone_core.specs.Updates.{IsUpdate}
 use Rattle.office_tables.specs.Rows.{ChangeRowOf, RowsOf}
-use Rattle.office_tables.specs.Holds.{SameRows}
 use Rattle.office_tables.specs.Questions.{changes_of, IsLast}
 use Rattle.office_rows.specs.declared.side.Side.{Side}
 use Rattle.office_rows.specs.declared.side.Side.TheVariants.{Removed, Added}
 use Rattle.office_rows.specs.ChangeRows.{change_row, change_rows, changes_rows, IsChange}
-use Rattle.office_rows.specs.Contents.{ZoneRows, ReceiptAt, zone_changes, held_of, zone_among, receipt_among, IsZoneRows, AreOfState}
+use Rattle.office_rows.specs.Contents.{ZoneRows, ReceiptAt, held_of, receipt_among, IsZoneRows, AreOfState}
 use Rattle.office_reads.specs.States.{ZonesAreListed, last_of, LastNumbersCount, StatesAreSound, OrderDoesNotCount}
-use Rattle.office_reads.proofs.ContentLemmas.{IsHeld, is_held, held_zone, among_origin, among_is}
+use Rattle.office_reads.proofs.ContentLemmas.{is_held, held_zone, among_origin, among_is}
 use Rattle.office_reads.proofs.ListLemmas.{list_any-map, list_any_same, has_permutation, none_moved, all_permutation}
 use Rattle.office_reads.proofs.NameLemmas.{text_same}
 use Rattle.office_reads.proofs.ReceiptLemmas.{found_is}

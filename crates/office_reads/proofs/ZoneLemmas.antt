@@ -1,24 +1,24 @@
 -- Zones, parts of zones and subtrees that are read from their rows.
-use Rattle.std.proofs.Common.{◌≡◌, ℕ, Bool, true, false, not, List, [], ◌∷◌, map, filter, Option, Some, None, Result, Ok, Err, IsPermutation, IsSorted, refl, sym, ap, subst, ◌∙◌, ◌&&◌, ◌||◌, cond}
-use Rattle.std.proofs.lemmas.Bool.{and_parts, and_from, false_from_ne_true}
+use Rattle.std.proofs.Common.{◌≡◌, ℕ, Bool, true, false, not, List, [], ◌∷◌, map, filter, Option, Some, None, Result, Ok, IsPermutation, IsSorted, refl, sym, ap, subst, ◌∙◌, ◌&&◌, ◌||◌}
+use Rattle.std.proofs.lemmas.Bool.{and_parts, and_from}
 use Rattle.std.proofs.lemmas.List.{append-nil}
 use Rattle.std.proofs.lemmas.List.Sorted.{IsPermutation-sym, IsPermutation-trans}
-use Rattle.std.specs.Prelude.{ℤ, bytes_eq, IsTrue, IfSome}
-use Rattle.std.specs.FinMap.{get, find}
+use Rattle.std.specs.Prelude.{ℤ, bytes_eq}
+use Rattle.std.specs.FinMap.{find}
 use Rattle.std.specs.List.{AllByRecursion, Contains, list_any}
 use Rattle.std.specs.List.Sorted.{IsStrictlySortedBy}
 use Rattle.std.specs.declared.cmp.Ordering.{Ordering}
 use Rattle.std.specs.declared.cmp.Ordering.TheVariants.{Less, Equal, Greater}
 use Rattle.std.specs.Ordering.{is_lt, is_le, nat_cmp, ordering_reverse}
 use Rattle.std.specs.Cmp.Lexicographic.{slice_cmp, nat_list_cmp_total}
-use Rattle.sqlite_keyed.proofs.ListLemmas.{filter-map, filter_same, all_weaker, all_map, all-filter}
+use Rattle.sqlite_keyed.proofs.ListLemmas.{filter-map, filter_same, all_weaker, all-filter}
 use Rattle.sqlite_keyed.proofs.SortLemmas.{sorted_unique}
 use Rattle.sqlite_trees.specs.Tree.{IsAscending}
 use Rattle.sqlite_trees.proofs.ListLemmas.{pull_back}
 use Rattle.sqlite_rules.specs.Lists.{Has}
 use Rattle.sqlite_rules.proofs.ListLemmas.{all_has, all_from, has_contained, contains_had}
 use Rattle.dns_names.specs.Keys.{key_of, key_end, IsInRange}
-use Rattle.dns_names.specs.Labels.{IsName, IsWithin, is_within}
+use Rattle.dns_names.specs.Labels.{IsName, is_within}
 use Rattle.dns_names.specs.Order.{same_name}
 use Rattle.dns_names.specs.Spelling.{name_text}
 use Rattle.dns_names.proofs.KeyLaws.{key_ranges}
@@ -37,7 +37,7 @@ use Rattle.zone_core.specs.Zones.{ZoneOf, IsZone, built}
 use Rattle.zone_core.specs.Views.{zone_in, AreOfZone}
 use Rattle.zone_core.specs.Parts.{part_of, at_names}
 use Rattle.zone_core.specs.Rebuilt.{AreAllOf}
-use Rattle.zone_core.proofs.RowLemmas.{get-set_of, each_in, in_has, listing_of, listing-part, set_of-filter, InOrder-filter}
+use Rattle.zone_core.proofs.RowLemmas.{get-set_of, each_in, in_has, listing-part, set_of-filter, InOrder-filter}
 use Rattle.zone_core.proofs.RebuiltLemmas.{zones_are_rebuilt}
 use Rattle.zone_core.proofs.NeedLemmas.{part_is_zone}
 use Rattle.zone_core.proofs.SetLemmas.{name_self}

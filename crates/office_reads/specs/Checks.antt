@@ -9,7 +9,6 @@ use Rattle.std.specs.Ordering.{nat_cmp, on, then_cmp}
 use Rattle.dns_names.specs.Labels.{IsName}
 use Rattle.dns_names.specs.Order.{canonical_cmp, canonical_total, same_name}
 use Rattle.dns_names.specs.Spelling.{name_text}
-use Rattle.dns_data.specs.declared.record.Record.{Record}
 use Rattle.dns_data.specs.Rdata.{IsRecord}
 use Rattle.dns_data.specs.RecordOrder.{record_order, record_order_total}
 use Rattle.zone_core.specs.Views.{AreOfZone}
@@ -76,6 +75,7 @@ IsZoneRecordRow row = (r : ZoneRecord) × IsZoneRecord r × (row ≡ row_of_reco
 abbrev pub zone_record_order : ZoneRecord → ZoneRecord → Ordering
 zone_record_order = then_cmp (on (λ r. r.origin) canonical_cmp) (on (λ r. r.rr) record_order)
 
+-- which is a total order
 pub zone_record_total : IsTotalOrder zone_record_order
 zone_record_total = then_total (on_total (λ r. r.origin) canonical_total) (on_total (λ r. r.rr) record_order_total)
 
@@ -87,6 +87,7 @@ receipt_at k = record { caller = k.caller; id = k.id; receipt = k.receipt }
 abbrev pub row_of_kept : KeptReceipt → ReceiptRowOf
 row_of_kept k = row_of_receipt (receipt_at k)
 
+-- what every such receipt is
 abbrev pub IsKept : KeptReceipt → Type 0
 IsKept k = IsReceiptAt (receipt_at k)
 
@@ -98,6 +99,7 @@ IsReceiptRow row = (r : ReceiptAt) × IsReceiptAt r × (row ≡ row_of_receipt r
 abbrev pub kept_order : KeptReceipt → KeptReceipt → Ordering
 kept_order = then_cmp (on (λ k. k.caller) (slice_cmp nat_cmp)) (on (λ k. k.id) (slice_cmp nat_cmp))
 
+-- which is a total order
 pub kept_total : IsTotalOrder kept_order
 kept_total = then_total (on_total (λ k. k.caller) nat_list_cmp_total) (on_total (λ k. k.id) nat_list_cmp_total)
 

@@ -1,5 +1,5 @@
 -- Which rows of a state are asked for.
-use Rattle.std.specs.Prelude.{ℕ, List, map, filter, Bool, ◌&&◌, Option, Some, None, bytes_eq}
+use Rattle.std.specs.Prelude.{ℕ, List, map, filter, ◌&&◌, Option, Some, None, bytes_eq}
 use Rattle.std.specs.List.{AllByRecursion, Contains, list_any}
 use Rattle.dns_names.specs.Keys.{key_of, key_end}
 use Rattle.dns_data.specs.declared.record.Record.{Record}

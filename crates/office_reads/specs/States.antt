@@ -1,5 +1,5 @@
 -- What rows that are a state say of it.
-use Rattle.std.specs.Prelude.{◌≡◌, ◌↔◌, ℕ, ℤ, pos, zero, suc, List, length, Bool, true, Option, Some, None, bytes_eq}
+use Rattle.std.specs.Prelude.{◌≡◌, ◌↔◌, ℕ, ℤ, pos, zero, suc, List, length, true, Option, Some, None, bytes_eq}
 use Rattle.std.specs.List.{list_any}
 use Rattle.dns_names.specs.Labels.{IsName}
 use Rattle.dns_names.specs.Spelling.{name_text}

@@ -2,8 +2,8 @@
 //! section 3.2.2.
 
 use super::*;
-use dns_names::Name;
-use office_rows::RowFault;
+use dns_data::Record;
+use office_rows::{RowFault, read_origin};
 use office_tables::{AllRows, ChangeRow, ReceiptRow, RecordRow, ZoneRow};
 use std::alloc::{AllocError, Global};
 use std::process::Abort;
@@ -58,7 +58,6 @@ const WWW_KEY: &[u8] = b"org\0example\0www\0";
 const RECORDS: [RecordColumns; 8] = [
     (ORG, WWW, 1, "192.0.2.3", 60, WWW_KEY),
     (NET, NET, 2, "ns1.example.org.", 3600, NET_KEY),
-    (ORG, ORG, 6, SOA, 3600, ORG_KEY),
     (ORG, WWW, 1, "192.0.2.2", 60, WWW_KEY),
     (
         ORG,
@@ -69,7 +68,6 @@ const RECORDS: [RecordColumns; 8] = [
         b"org\0example\0ns1\0",
     ),
     (NET, NET, 6, SOA, 3600, NET_KEY),
-    (ORG, ORG, 2, "ns1.example.org.", 3600, ORG_KEY),
     (
         ORG,
         "a.www.example.org.",
@@ -78,6 +76,8 @@ const RECORDS: [RecordColumns; 8] = [
         60,
         b"org\0example\0www\0a\0",
     ),
+    (ORG, ORG, 2, "ns1.example.org.", 3600, ORG_KEY),
+    (ORG, ORG, 6, SOA, 3600, ORG_KEY),
 ];
 
 fn record_row(alloc: Global, columns: &RecordColumns) -> Result<RecordRow, AllocError> {
@@ -271,12 +271,10 @@ fn bad_records(rt: HostRuntime) -> Result<(), Fail> {
     }
     let mut rows = state_rows(rt.alloc())?;
     rows.records.pop();
-    assert!(rt; is_state(rt.alloc(), 1, &rows)?, "without the last record");
-    rows.records.pop();
-    assert!(rt; !is_state(rt.alloc(), 1, &rows)?, "without the NS");
-    let mut rows = state_rows(rt.alloc())?;
-    rows.records.swap_remove(2);
     assert!(rt; !is_state(rt.alloc(), 1, &rows)?, "without the SOA");
+    rows.records.pop();
+    rows.records.push(record_row(rt.alloc(), &RECORDS[7])?)?;
+    assert!(rt; !is_state(rt.alloc(), 1, &rows)?, "without the NS");
     Ok(())
 }
 
@@ -355,83 +353,88 @@ fn bad_receipts(rt: HostRuntime) -> Result<(), Fail> {
     Ok(())
 }
 
-/// A name by its text.
-fn name(alloc: Global, text: &str) -> Result<Name, Fail> {
-    Ok(Name::read_absolute(alloc, text.as_bytes())?)
+/// How many records the zone of an origin has that is read of rows.
+fn zone_len(alloc: Global, origin: &str, all: &[RecordColumns]) -> Result<usize, RowFault> {
+    let origin = read_origin(alloc, origin)?;
+    let rows = record_rows(alloc, all)?;
+    Ok(zone_of(alloc, &origin, &rows)?.records().len())
 }
 
 #[test]
 fn zones(rt: HostRuntime) -> Result<(), Fail> {
-    let origin = name(rt.alloc(), ORG)?;
     let own = [
-        RECORDS[0], RECORDS[2], RECORDS[3], RECORDS[4], RECORDS[6], RECORDS[7],
+        RECORDS[0], RECORDS[2], RECORDS[3], RECORDS[5], RECORDS[6], RECORDS[7],
     ];
-    let mut rows = record_rows(rt.alloc(), &own)?;
-    let zone = good(&rt, zone_of(rt.alloc(), &origin, &rows), "a zone")?;
-    assert!(rt; zone.records().len() == 6);
-    assert!(rt; zone.serial() == 7);
-    let other = name(rt.alloc(), NET)?;
+    let len = good(&rt, zone_len(rt.alloc(), ORG, &own), "a zone")?;
+    assert!(rt; len == 6);
+    assert!(rt; is_bad(zone_len(rt.alloc(), NET, &own))?, "another origin");
+    let mixed = [RECORDS[0], RECORDS[1], RECORDS[6], RECORDS[7]];
     assert!(rt;
-        is_bad(zone_of(rt.alloc(), &other, &rows))?,
-        "another origin"
-    );
-    rows.push(record_row(rt.alloc(), &RECORDS[1])?)?;
-    assert!(rt;
-        is_bad(zone_of(rt.alloc(), &origin, &rows))?,
+        is_bad(zone_len(rt.alloc(), ORG, &mixed))?,
         "a record of another zone"
     );
-    rows.pop();
-    rows.swap_remove(1);
-    assert!(rt; is_bad(zone_of(rt.alloc(), &origin, &rows))?, "no SOA");
+    assert!(rt;
+        is_bad(zone_len(rt.alloc(), ORG, &RECORDS[2..4]))?,
+        "no SOA"
+    );
     Ok(())
+}
+
+/// How many records the part of `example.org.` has that is read of rows.
+fn part_len(alloc: Global, all: &[RecordColumns]) -> Result<usize, RowFault> {
+    let origin = read_origin(alloc, ORG)?;
+    let rows = record_rows(alloc, all)?;
+    Ok(part_of(alloc, &origin, &rows)?.records().len())
 }
 
 #[test]
 fn parts(rt: HostRuntime) -> Result<(), Fail> {
-    let origin = name(rt.alloc(), ORG)?;
     let twice = [
-        RECORDS[0], RECORDS[6], RECORDS[2], RECORDS[0], RECORDS[3], RECORDS[2],
+        RECORDS[0], RECORDS[6], RECORDS[7], RECORDS[0], RECORDS[2], RECORDS[7],
     ];
-    let rows = record_rows(rt.alloc(), &twice)?;
-    let zone = good(&rt, part_of(rt.alloc(), &origin, &rows), "a part")?;
-    assert!(rt; zone.records().len() == 4);
-    let rows = record_rows(rt.alloc(), &RECORDS[3..5])?;
+    let len = good(&rt, part_len(rt.alloc(), &twice), "a part")?;
+    assert!(rt; len == 4);
     assert!(rt;
-        is_bad(part_of(rt.alloc(), &origin, &rows))?,
+        is_bad(part_len(rt.alloc(), &RECORDS[2..4]))?,
         "without the origin's records"
     );
     Ok(())
 }
 
+/// The records that are read of the rows of a subtree.
+fn subtree(alloc: Global, all: &[RecordColumns]) -> Result<Vec<Record>, RowFault> {
+    let rows = record_rows(alloc, all)?;
+    records_within(alloc, &rows)
+}
+
 #[test]
 fn subtrees(rt: HostRuntime) -> Result<(), Fail> {
-    let within = [RECORDS[7], RECORDS[0], RECORDS[3]];
-    let mut rows = record_rows(rt.alloc(), &within)?;
-    let records = good(&rt, records_within(rt.alloc(), &rows), "a subtree")?;
+    let within = [RECORDS[5], RECORDS[0], RECORDS[2]];
+    let records = good(&rt, subtree(rt.alloc(), &within), "a subtree")?;
     assert!(rt; records.len() == 3);
-    let (first, below) = (
-        name(rt.alloc(), WWW)?,
-        name(rt.alloc(), "a.www.example.org.")?,
-    );
-    assert!(rt;
-        records[0].owner == first && records[1].owner == first && records[2].owner == below
-    );
-    rows.push(record_row(rt.alloc(), &RECORDS[0])?)?;
-    assert!(rt;
-        is_bad(records_within(rt.alloc(), &rows))?,
-        "a record twice"
-    );
+    assert!(rt; records[0].owner.key() == WWW_KEY);
+    assert!(rt; records[1].owner.key() == WWW_KEY);
+    let twice = [RECORDS[0], RECORDS[2], RECORDS[0]];
+    assert!(rt; is_bad(subtree(rt.alloc(), &twice))?, "a record twice");
     Ok(())
+}
+
+/// Whether a receipt is read of rows.
+fn has_receipt(alloc: Global, all: &[ReceiptColumns]) -> Result<bool, RowFault> {
+    let rows = receipt_rows(alloc, all)?;
+    Ok(receipt_of(alloc, &rows)?.is_some())
 }
 
 #[test]
 fn receipts(rt: HostRuntime) -> Result<(), Fail> {
-    let rows = receipt_rows(rt.alloc(), &RECEIPTS)?;
-    let one = good(&rt, receipt_of(rt.alloc(), &rows[1..2]), "a receipt")?;
-    assert!(rt; one.is_some());
-    let none = good(&rt, receipt_of(rt.alloc(), &[]), "no receipt")?;
-    assert!(rt; none.is_none());
-    assert!(rt; is_bad(receipt_of(rt.alloc(), &rows[1..]))?, "two receipts");
+    let one = good(&rt, has_receipt(rt.alloc(), &RECEIPTS[1..2]), "a receipt")?;
+    assert!(rt; one);
+    let none = good(&rt, has_receipt(rt.alloc(), &[]), "no receipt")?;
+    assert!(rt; !none);
+    assert!(rt;
+        is_bad(has_receipt(rt.alloc(), &RECEIPTS[1..]))?,
+        "two receipts"
+    );
     Ok(())
 }
 

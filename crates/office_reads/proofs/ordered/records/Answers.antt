@@ -1,4 +1,4 @@
-use Rattle.std.proofs.Common.{◌≡◌, rules, List, ℕ, map, IsPermutation, subst}
+use Rattle.std.proofs.Common.{rules, List, map, IsPermutation, subst}
 use Rattle.std.proofs.lemmas.List.Sorted.{ranks_by, answers_always, IsPermutation-map, IsPermutation-sym}
 use Rattle.std.specs.Ordering.{is_lt}
 use Rattle.office_tables.specs.Rows.{RecordRowOf}

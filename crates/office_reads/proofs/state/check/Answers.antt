@@ -3,7 +3,6 @@ use Rattle.std.proofs.lemmas.Int.{to_z-of_z}
 use Rattle.std.proofs.lemmas.Result.{err_from_is_err_and}
 use mir.Syntax.{w64}
 use Rattle.office_tables.specs.Rows.{RecordRowOf, ReceiptRowOf, ChangeRowOf, RowsOf}
-use Rattle.office_rows.specs.declared.row_fault.RowFault.{RowFault}
 use Rattle.office_reads.specs.Checks.{AreZoneRows, AreReceiptRows, AreStateRows, Checks}
 use Rattle.office_reads.proofs.StateChecks.{refused_part}
 use Rattle.office_reads.proofs.state.check.Goals as goal

@@ -1,6 +1,6 @@
-use Rattle.std.proofs.Common.{◌≡◌, true, List, map, IsPermutation, sym, ap, subst, ◌∙◌}
+use Rattle.std.proofs.Common.{◌≡◌, true, sym, ap, ◌∙◌}
 use Rattle.std.proofs.lemmas.Result.{err_from_is_err_and}
-use Rattle.office_reads.specs.Checks.{AreReceiptRows, row_of_kept, kept_order}
+use Rattle.office_reads.specs.Checks.{AreReceiptRows, kept_order}
 use Rattle.office_reads.specs.Orders.{rises}
 use Rattle.office_reads.proofs.StateChecks.{refused, receipt_rows, receipts_rise, are_receipt_rows}
 use Rattle.office_reads.proofs.state.check_receipts.Goals as goal

@@ -1,4 +1,4 @@
-use Rattle.std.proofs.Common.{Ok, List, ℕ, sym, ap, subst, ◌∙◌}
+use Rattle.std.proofs.Common.{List, ℕ, sym, ap, subst, ◌∙◌}
 use Rattle.zone_core.specs.Zones.{built}
 use Rattle.office_rows.specs.declared.row_fault.RowFault.{RowFault}
 use Rattle.office_rows.specs.RowFaults.{Refuses}

@@ -1,13 +1,12 @@
-use Rattle.std.proofs.Common.{◌≡◌, true, List, filter, sym, ap, subst, ◌∙◌, rules, IsPermutation, IsSorted}
+use Rattle.std.proofs.Common.{◌≡◌, true, filter, sym, ap, subst, ◌∙◌, rules, IsPermutation}
 use Rattle.std.proofs.lemmas.Result.{err_from_is_err_and}
 use Rattle.std.proofs.lemmas.List.Sorted.{ranks_by, answers_always}
 use Rattle.std.specs.Ordering.{is_lt}
 use Rattle.dns_names.specs.Labels.{is_within}
-use Rattle.dns_data.specs.declared.record.Record.{Record}
 use Rattle.dns_data.specs.RecordOrder.{record_order, record_order_total}
 use Rattle.zone_core.specs.Sets.{listing, part, within}
 use Rattle.zone_core.specs.Zones.{ZoneOf}
-use Rattle.office_rows.proofs.RowSteps.{done, ok_is, reads_same, refuses_any}
+use Rattle.office_rows.proofs.RowSteps.{done, ok_is, refuses_any}
 use Rattle.office_reads.specs.Orders.{rises}
 use Rattle.office_reads.proofs.ZoneLemmas.{zone_of_state, subtree_read, subtree_sorted, subtree_rises, part_listing}
 use Rattle.office_reads.proofs.views.records_within.Goals as goal

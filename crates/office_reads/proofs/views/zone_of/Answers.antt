@@ -1,4 +1,4 @@
-use Rattle.std.proofs.Common.{Ok, sym, ap, map}
+use Rattle.std.proofs.Common.{sym, ap, map}
 use Rattle.std.proofs.lemmas.List.Sorted.{IsPermutation-trans}
 use Rattle.dns_names.specs.Spelling.{name_text}
 use Rattle.office_tables.specs.Questions.{records_of}
