@@ -134,9 +134,9 @@ never_bad_numbers old new origin rows all shown h none =
     let staged : a.staged ≡ map (λ (r : Row). params ∷ r ∷ []) (filter (λ r. p (drop 1 r)) (db 8)) = a.grouped ∙ rw (plainly 8 refl db) (flat params by_first (λ r. p (drop 1 r)) (db 8) (by_first_test params)) in
     let kept : a.kept ≡ map shown_of (filter p (map (drop 1) (db 8))) = a.distinct ∙ ap (map (output last_query)) staged ∙ outputs_of params (filter (λ r. p (drop 1 r)) (db 8)) ∙ ap (map shown_of) (part_of p (db 8)) in
     let mine : IsPermutation (map stored_change (changes_of origin all.changes)) (filter p (map (drop 1) (db 8))) =
-        subst (λ l. IsPermutation l (filter p (map (drop 1) (db 8)))) (filter_stored stored_change p (λ r. bytes_eq r.origin origin) (changes_of_hits origin) all.changes) (IsPermutation-filter p _ _ h.tables.changes.same) in
+    subst (λ l. IsPermutation l (filter p (map (drop 1) (db 8)))) (filter_stored stored_change p (λ r. bytes_eq r.origin origin) (changes_of_hits origin) all.changes) (IsPermutation-filter p _ _ h.tables.changes.same) in
     let shown_as : IsPermutation (map shown_number (changes_of origin all.changes)) a.ordered =
-        IsPermutation-trans _ _ _ (subst (λ l. IsPermutation l (map shown_of (filter p (map (drop 1) (db 8))))) (stored_outputs (changes_of origin all.changes)) (IsPermutation-map shown_of _ _ mine)) (subst (λ l. IsPermutation l a.ordered) kept a.same) in
+    IsPermutation-trans _ _ _ (subst (λ l. IsPermutation l (map shown_of (filter p (map (drop 1) (db 8))))) (stored_outputs (changes_of origin all.changes)) (IsPermutation-map shown_of _ _ mine)) (subst (λ l. IsPermutation l a.ordered) kept a.same) in
     let back = pull_back shown_number _ a.ordered shown_as (changes_of origin all.changes) refl in
     numbers_shown back.0 rows (a.shown ∙ ap (λ l. take 1 (map (λ (o : Output). o.1) l)) back.2) none
   where

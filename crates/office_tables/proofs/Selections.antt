@@ -104,7 +104,7 @@ one_stored_record x y e =
     let is_rdata : x.rdata ≡ y.rdata = cc in
     let is_ttl : x.ttl ≡ y.ttl = cc in
     let is_owner_key : x.owner_key ≡ y.owner_key = cc in
-    λ i. record { origin = is_origin i; owner = is_owner i; record_type = is_record_type i; rdata = is_rdata i; ttl = is_ttl i; owner_key = is_owner_key i; }
+    λ i. record { origin = is_origin i; owner = is_owner i; record_type = is_record_type i; rdata = is_rdata i; ttl = is_ttl i; owner_key = is_owner_key i }
 
 pub one_stored_receipt : (x y : ReceiptRowOf) → stored_receipt x ≡ stored_receipt y → x ≡ y
 one_stored_receipt x y e =
@@ -113,7 +113,7 @@ one_stored_receipt x y e =
     let is_origin : x.origin ≡ y.origin = cc in
     let is_request : x.request ≡ y.request = cc in
     let is_reply : x.reply ≡ y.reply = cc in
-    λ i. record { caller = is_caller i; id = is_id i; origin = is_origin i; request = is_request i; reply = is_reply i; }
+    λ i. record { caller = is_caller i; id = is_id i; origin = is_origin i; request = is_request i; reply = is_reply i }
 
 pub one_stored_change : (x y : ChangeRowOf) → stored_change x ≡ stored_change y → x ≡ y
 one_stored_change x y e =
@@ -124,7 +124,7 @@ one_stored_change x y e =
     let is_record_type : x.record_type ≡ y.record_type = cc in
     let is_rdata : x.rdata ≡ y.rdata = cc in
     let is_ttl : x.ttl ≡ y.ttl = cc in
-    λ i. record { origin = is_origin i; number = is_number i; side = is_side i; owner = is_owner i; record_type = is_record_type i; rdata = is_rdata i; ttl = is_ttl i; }
+    λ i. record { origin = is_origin i; number = is_number i; side = is_side i; owner = is_owner i; record_type = is_record_type i; rdata = is_rdata i; ttl = is_ttl i }
 
 zone_hits : (origin : List ℕ) (r : List ℕ) → hits by_first (Text origin ∷ []) (stored_zone r) ≡ (bytes_eq r origin)
 zone_hits origin r = rw (same_text r origin, and_true (bytes_eq r origin)) refl
@@ -132,7 +132,7 @@ zone_hits origin r = rw (same_text r origin, and_true (bytes_eq r origin)) refl
 pub selects_zone : (old new : State) (origin : List ℕ) (rows : List Row) (all : RowsOf) → Shown the.zone_text (Text origin ∷ []) old new rows → Reads old.now all → IsPermutation (map stored_zone (filter (λ r. bytes_eq r origin) all.zones)) rows
 selects_zone old new origin rows all shown h =
     asked stored_zone (λ r. bytes_eq r origin) (codes "zones") 1 zones_columns (1 ∷ []) 1 refl (plainly 1 refl) the.zone_text (Text origin ∷ []) old new h.schema the.zone_plain by_first columns_1 _ the.zone_is.0 the.zone_is.1
-      (by_first_test (Text origin ∷ [])) (shown_1 (Text origin ∷ [])) (zone_hits origin) (λ _. refl) all.zones rows shown h.tables.zones
+    (by_first_test (Text origin ∷ [])) (shown_1 (Text origin ∷ [])) (zone_hits origin) (λ _. refl) all.zones rows shown h.tables.zones
 
 records_of_hits : (origin : List ℕ) (r : RecordRowOf) → hits by_first (Text origin ∷ []) (stored_record r) ≡ (bytes_eq r.origin origin)
 records_of_hits origin r = rw (same_text r.origin origin, and_true (bytes_eq r.origin origin)) refl
@@ -140,7 +140,7 @@ records_of_hits origin r = rw (same_text r.origin origin, and_true (bytes_eq r.o
 pub selects_records_of : (old new : State) (origin : List ℕ) (rows : List Row) (all : RowsOf) → Shown the.records_of_text (Text origin ∷ []) old new rows → Reads old.now all → IsPermutation (map stored_record (records_of origin all.records)) rows
 selects_records_of old new origin rows all shown h =
     asked stored_record (λ r. bytes_eq r.origin origin) (codes "records") 3 records_columns (1 ∷ 2 ∷ 3 ∷ 4 ∷ []) 2 refl (plainly 3 refl) the.records_of_text (Text origin ∷ []) old new h.schema the.records_of_plain by_first columns_6 _ the.records_of_is.0 the.records_of_is.1
-      (by_first_test (Text origin ∷ [])) (shown_6 (Text origin ∷ [])) (records_of_hits origin) (λ _. refl) all.records rows shown h.tables.records
+    (by_first_test (Text origin ∷ [])) (shown_6 (Text origin ∷ [])) (records_of_hits origin) (λ _. refl) all.records rows shown h.tables.records
 
 records_at_hits : (origin owner_key : List ℕ) (r : RecordRowOf) → hits by_owner_key (Text origin ∷ Blob owner_key ∷ []) (stored_record r) ≡ (bytes_eq r.origin origin && bytes_eq r.owner_key owner_key)
 records_at_hits origin owner_key r = rw (same_text r.origin origin, same_key_octets r.owner_key owner_key, and_true (bytes_eq r.owner_key owner_key)) refl
@@ -148,7 +148,7 @@ records_at_hits origin owner_key r = rw (same_text r.origin origin, same_key_oct
 pub selects_records_at : (old new : State) (origin owner_key : List ℕ) (rows : List Row) (all : RowsOf) → Shown the.records_at_text (Text origin ∷ Blob owner_key ∷ []) old new rows → Reads old.now all → IsPermutation (map stored_record (records_at origin owner_key all.records)) rows
 selects_records_at old new origin owner_key rows all shown h =
     asked stored_record (λ r. bytes_eq r.origin origin && bytes_eq r.owner_key owner_key) (codes "records") 3 records_columns (1 ∷ 2 ∷ 3 ∷ 4 ∷ []) 2 refl (plainly 3 refl) the.records_at_text (Text origin ∷ Blob owner_key ∷ []) old new h.schema the.records_at_plain by_owner_key columns_6 _ the.records_at_is.0 the.records_at_is.1
-      (by_owner_key_test (Text origin ∷ Blob owner_key ∷ [])) (shown_6 (Text origin ∷ Blob owner_key ∷ [])) (records_at_hits origin owner_key) (λ _. refl) all.records rows shown h.tables.records
+    (by_owner_key_test (Text origin ∷ Blob owner_key ∷ [])) (shown_6 (Text origin ∷ Blob owner_key ∷ [])) (records_at_hits origin owner_key) (λ _. refl) all.records rows shown h.tables.records
 
 records_between_hits : (origin from to : List ℕ) (r : RecordRowOf) → hits by_range (Text origin ∷ Blob from ∷ Blob to ∷ []) (stored_record r) ≡ (bytes_eq r.origin origin && (not (is_below r.owner_key from) && is_below r.owner_key to))
 records_between_hits origin from to r = rw (same_text r.origin origin, not_below r.owner_key from, below r.owner_key to, and_true (is_below r.owner_key to)) refl
@@ -156,7 +156,7 @@ records_between_hits origin from to r = rw (same_text r.origin origin, not_below
 pub selects_records_between : (old new : State) (origin from to : List ℕ) (rows : List Row) (all : RowsOf) → Shown the.records_between_text (Text origin ∷ Blob from ∷ Blob to ∷ []) old new rows → Reads old.now all → IsPermutation (map stored_record (records_between origin from to all.records)) rows
 selects_records_between old new origin from to rows all shown h =
     asked stored_record (λ r. bytes_eq r.origin origin && (not (is_below r.owner_key from) && is_below r.owner_key to)) (codes "records") 3 records_columns (1 ∷ 2 ∷ 3 ∷ 4 ∷ []) 2 refl (plainly 3 refl) the.records_between_text (Text origin ∷ Blob from ∷ Blob to ∷ []) old new h.schema the.records_between_plain by_range columns_6 _ the.records_between_is.0 the.records_between_is.1
-      (by_range_test (Text origin ∷ Blob from ∷ Blob to ∷ [])) (shown_6 (Text origin ∷ Blob from ∷ Blob to ∷ [])) (records_between_hits origin from to) (λ _. refl) all.records rows shown h.tables.records
+    (by_range_test (Text origin ∷ Blob from ∷ Blob to ∷ [])) (shown_6 (Text origin ∷ Blob from ∷ Blob to ∷ [])) (records_between_hits origin from to) (λ _. refl) all.records rows shown h.tables.records
 
 receipts_of_hits : (caller id : List ℕ) (r : ReceiptRowOf) → hits by_two (Text caller ∷ Text id ∷ []) (stored_receipt r) ≡ (bytes_eq r.caller caller && bytes_eq r.id id)
 receipts_of_hits caller id r = rw (same_text r.caller caller, same_text r.id id, and_true (bytes_eq r.id id)) refl
@@ -164,7 +164,7 @@ receipts_of_hits caller id r = rw (same_text r.caller caller, same_text r.id id,
 pub selects_receipts_of : (old new : State) (caller id : List ℕ) (rows : List Row) (all : RowsOf) → Shown the.receipts_of_text (Text caller ∷ Text id ∷ []) old new rows → Reads old.now all → IsPermutation (map stored_receipt (receipts_of caller id all.receipts)) rows
 selects_receipts_of old new caller id rows all shown h =
     asked stored_receipt (λ r. bytes_eq r.caller caller && bytes_eq r.id id) (codes "receipts") 6 receipts_columns (1 ∷ 2 ∷ []) 3 refl (plainly 6 refl) the.receipts_of_text (Text caller ∷ Text id ∷ []) old new h.schema the.receipts_of_plain by_two columns_5 _ the.receipts_of_is.0 the.receipts_of_is.1
-      (by_two_test (Text caller ∷ Text id ∷ [])) (shown_5 (Text caller ∷ Text id ∷ [])) (receipts_of_hits caller id) (λ _. refl) all.receipts rows shown h.tables.receipts
+    (by_two_test (Text caller ∷ Text id ∷ [])) (shown_5 (Text caller ∷ Text id ∷ [])) (receipts_of_hits caller id) (λ _. refl) all.receipts rows shown h.tables.receipts
 
 pub changes_of_hits : (origin : List ℕ) (r : ChangeRowOf) → hits by_first (Text origin ∷ []) (stored_change r) ≡ (bytes_eq r.origin origin)
 changes_of_hits origin r = rw (same_text r.origin origin, and_true (bytes_eq r.origin origin)) refl
@@ -172,8 +172,7 @@ changes_of_hits origin r = rw (same_text r.origin origin, and_true (bytes_eq r.o
 pub selects_changes_of : (old new : State) (origin : List ℕ) (rows : List Row) (all : RowsOf) → Shown the.changes_of_text (Text origin ∷ []) old new rows → Reads old.now all → IsPermutation (map stored_change (changes_of origin all.changes)) rows
 selects_changes_of old new origin rows all shown h =
     asked stored_change (λ r. bytes_eq r.origin origin) (codes "changes") 8 changes_columns (1 ∷ 2 ∷ 3 ∷ 4 ∷ 5 ∷ 6 ∷ []) 4 refl (plainly 8 refl) the.changes_of_text (Text origin ∷ []) old new h.schema the.changes_of_plain by_first columns_7 _ the.changes_of_is.0 the.changes_of_is.1
-      (by_first_test (Text origin ∷ [])) (shown_7 (Text origin ∷ [])) (changes_of_hits origin) (λ _. refl) all.changes rows shown h.tables.changes
-
+    (by_first_test (Text origin ∷ [])) (shown_7 (Text origin ∷ [])) (changes_of_hits origin) (λ _. refl) all.changes rows shown h.tables.changes
 
 readable_part : {X : Type 0} (stored : X → Row) (q : X → Bool) (xs : List X) → AllByRecursion IsReadableRow (map stored xs) → AllByRecursion IsReadableRow (map stored (filter q xs))
 readable_part stored q xs h = all-map IsReadableRow stored (filter q xs) (all-filter (λ x. IsReadableRow (stored x)) q xs (all_from_map IsReadableRow stored xs h))
@@ -189,7 +188,7 @@ any_passes : (origin : List ℕ) (zones : List (List ℕ)) → (filter (λ r. by
 any_passes origin [] = ((λ e. refl), (λ z zs e. absurd cc))
 any_passes origin (y ∷ zones) =
     rw (bytes_eq_sym origin y) (elim (bytes_eq y origin) as (λ b. (cond b (y ∷ filter (λ r. bytes_eq r origin) zones) (filter (λ r. bytes_eq r origin) zones) ≡ [] → (b || list_any (bytes_eq origin) zones) ≡ false)
-      × ((z : List ℕ) (zs : List (List ℕ)) → cond b (y ∷ filter (λ r. bytes_eq r origin) zones) (filter (λ r. bytes_eq r origin) zones) ≡ z ∷ zs → (b || list_any (bytes_eq origin) zones) ≡ true)) [
+    × ((z : List ℕ) (zs : List (List ℕ)) → cond b (y ∷ filter (λ r. bytes_eq r origin) zones) (filter (λ r. bytes_eq r origin) zones) ≡ z ∷ zs → (b || list_any (bytes_eq origin) zones) ≡ true)) [
       | true ↦ ((λ e. absurd cc), (λ z zs e. refl))
       | false ↦ any_passes origin zones
     ])

@@ -442,6 +442,6 @@ index_of name tree table columns is_unique = record { name = name; tree = tree; 
 
 pub indexes_are : office_schema.indexes
     ≡ index_of (codes "sqlite_autoindex_zones_1") 2 1 (1 ∷ []) true ∷ index_of (codes "sqlite_autoindex_records_1") 4 3 (1 ∷ 2 ∷ 3 ∷ 4 ∷ []) true ∷ records_by_key ∷ index_of (codes "sqlite_autoindex_receipts_1") 7 6 (1 ∷ 2 ∷ []) true
-      ∷ index_of (codes "sqlite_autoindex_changes_1") 9 8 (1 ∷ 2 ∷ 3 ∷ 4 ∷ 5 ∷ 6 ∷ []) true ∷ []
+    ∷ index_of (codes "sqlite_autoindex_changes_1") 9 8 (1 ∷ 2 ∷ 3 ∷ 4 ∷ 5 ∷ 6 ∷ []) true ∷ []
 unfolding everything
 indexes_are = refl

@@ -274,7 +274,6 @@ ids_shown tree plain_tree db xs rows h a none =
     let it = pull_back stored_version (map (λ (r : Row). rowid r ∷ []) (db tree)) rows whole (map (λ (r : Row). id_in (rowid r)) (db tree)) (ids_are (db tree) h.numbered) in
     none it.0 it.2 (IsDistinct-IsPermutation int_eq int_eq_equiv.symm (map (λ (r : Row). id_in (rowid r)) (db tree)) it.0 it.1 (distinct_ids (db tree) h.numbered h.apart))
 
-
 pub never_bad_meta : (begun mid : State) (rows : List Row) (all : RowsOf) → Reads begun.now all → Shown the.rowids_meta_text [] begun mid rows → (begun.now.schema ≡ office_schema → (ids : List ℤ) → rows ≡ map stored_version ids → IsDistinct int_eq ids → ⊥) → ⊥
 never_bad_meta begun mid rows all h shown none =
     let a = (reads_as the.rowids_meta_text [] begun mid office_schema h.schema (Select (record { lets = []; body = select_from 0 [] the_rowid }) _) the.rowids_meta_is.0 the.rowids_meta_plain the.rowids_meta_is.1 rows shown).answer Null in
@@ -283,7 +282,7 @@ never_bad_meta begun mid rows all h shown none =
 pub shows_all_meta : (again end : State) (rows : List Row) (all : RowsOf) → Reads again.now all → Shown the.all_meta_text [] again end rows → IsPermutation (map stored_version (filter (λ r. true) all.versions)) rows
 shows_all_meta again end rows all h shown =
     asked stored_version (λ r. true) (codes "meta") 0 meta_columns ([]) 0 refl (plainly 0 refl) the.all_meta_text [] again end h.schema the.all_meta_plain [] columns_1 _ the.all_meta_is.0 the.all_meta_is.1
-      (λ r. refl) (shown_1 []) (λ r. refl) (λ _. refl) all.versions rows shown h.tables.versions
+    (λ r. refl) (shown_1 []) (λ r. refl) (λ _. refl) all.versions rows shown h.tables.versions
 
 pub never_bad_zones : (begun mid : State) (rows : List Row) (all : RowsOf) → Reads begun.now all → Shown the.rowids_zones_text [] begun mid rows → (begun.now.schema ≡ office_schema → (ids : List ℤ) → rows ≡ map stored_version ids → IsDistinct int_eq ids → ⊥) → ⊥
 never_bad_zones begun mid rows all h shown none =
@@ -293,7 +292,7 @@ never_bad_zones begun mid rows all h shown none =
 pub shows_all_zones : (again end : State) (rows : List Row) (all : RowsOf) → Reads again.now all → Shown the.all_zones_text [] again end rows → IsPermutation (map stored_zone (filter (λ r. true) all.zones)) rows
 shows_all_zones again end rows all h shown =
     asked stored_zone (λ r. true) (codes "zones") 1 zones_columns (1 ∷ []) 1 refl (plainly 1 refl) the.all_zones_text [] again end h.schema the.all_zones_plain [] columns_1 _ the.all_zones_is.0 the.all_zones_is.1
-      (λ r. refl) (shown_1 []) (λ r. refl) (λ _. refl) all.zones rows shown h.tables.zones
+    (λ r. refl) (shown_1 []) (λ r. refl) (λ _. refl) all.zones rows shown h.tables.zones
 
 pub never_bad_records : (begun mid : State) (rows : List Row) (all : RowsOf) → Reads begun.now all → Shown the.rowids_records_text [] begun mid rows → (begun.now.schema ≡ office_schema → (ids : List ℤ) → rows ≡ map stored_version ids → IsDistinct int_eq ids → ⊥) → ⊥
 never_bad_records begun mid rows all h shown none =
@@ -303,7 +302,7 @@ never_bad_records begun mid rows all h shown none =
 pub shows_all_records : (again end : State) (rows : List Row) (all : RowsOf) → Reads again.now all → Shown the.all_records_text [] again end rows → IsPermutation (map stored_record (filter (λ r. true) all.records)) rows
 shows_all_records again end rows all h shown =
     asked stored_record (λ r. true) (codes "records") 3 records_columns (1 ∷ 2 ∷ 3 ∷ 4 ∷ []) 2 refl (plainly 3 refl) the.all_records_text [] again end h.schema the.all_records_plain [] columns_6 _ the.all_records_is.0 the.all_records_is.1
-      (λ r. refl) (shown_6 []) (λ r. refl) (λ _. refl) all.records rows shown h.tables.records
+    (λ r. refl) (shown_6 []) (λ r. refl) (λ _. refl) all.records rows shown h.tables.records
 
 pub never_bad_receipts : (begun mid : State) (rows : List Row) (all : RowsOf) → Reads begun.now all → Shown the.rowids_receipts_text [] begun mid rows → (begun.now.schema ≡ office_schema → (ids : List ℤ) → rows ≡ map stored_version ids → IsDistinct int_eq ids → ⊥) → ⊥
 never_bad_receipts begun mid rows all h shown none =
@@ -313,7 +312,7 @@ never_bad_receipts begun mid rows all h shown none =
 pub shows_all_receipts : (again end : State) (rows : List Row) (all : RowsOf) → Reads again.now all → Shown the.all_receipts_text [] again end rows → IsPermutation (map stored_receipt (filter (λ r. true) all.receipts)) rows
 shows_all_receipts again end rows all h shown =
     asked stored_receipt (λ r. true) (codes "receipts") 6 receipts_columns (1 ∷ 2 ∷ []) 3 refl (plainly 6 refl) the.all_receipts_text [] again end h.schema the.all_receipts_plain [] columns_5 _ the.all_receipts_is.0 the.all_receipts_is.1
-      (λ r. refl) (shown_5 []) (λ r. refl) (λ _. refl) all.receipts rows shown h.tables.receipts
+    (λ r. refl) (shown_5 []) (λ r. refl) (λ _. refl) all.receipts rows shown h.tables.receipts
 
 pub never_bad_changes : (begun mid : State) (rows : List Row) (all : RowsOf) → Reads begun.now all → Shown the.rowids_changes_text [] begun mid rows → (begun.now.schema ≡ office_schema → (ids : List ℤ) → rows ≡ map stored_version ids → IsDistinct int_eq ids → ⊥) → ⊥
 never_bad_changes begun mid rows all h shown none =
@@ -323,7 +322,7 @@ never_bad_changes begun mid rows all h shown none =
 pub shows_all_changes : (again end : State) (rows : List Row) (all : RowsOf) → Reads again.now all → Shown the.all_changes_text [] again end rows → IsPermutation (map stored_change (filter (λ r. true) all.changes)) rows
 shows_all_changes again end rows all h shown =
     asked stored_change (λ r. true) (codes "changes") 8 changes_columns (1 ∷ 2 ∷ 3 ∷ 4 ∷ 5 ∷ 6 ∷ []) 4 refl (plainly 8 refl) the.all_changes_text [] again end h.schema the.all_changes_plain [] columns_7 _ the.all_changes_is.0 the.all_changes_is.1
-      (λ r. refl) (shown_7 []) (λ r. refl) (λ _. refl) all.changes rows shown h.tables.changes
+    (λ r. refl) (shown_7 []) (λ r. refl) (λ _. refl) all.changes rows shown h.tables.changes
 
 -- two lists that a table stores are the same in some order
 pub stored_same : {X : Type 0} (stored : X → Row) → ((x y : X) → stored x ≡ stored y → x ≡ y) → (rows : List Row) (xs ys : List X) → Stores rows (map stored xs) → Stores rows (map stored ys) → IsPermutation xs ys

@@ -7,7 +7,7 @@ use Rattle.std.proofs.lemmas.List.Folds.{list_any_more}
 use Rattle.dns_names.specs.Order.{same_name}
 use Rattle.dns_data.specs.declared.record.Record.{Record}
 use Rattle.zone_core.specs.declared.update.Operation.{Operation}
-use Rattle.zone_core.specs.Sets.{Records, Key, key_of, key_cmp, same_key, keyed, set_of, listing, part, minus, same_ttl, at_name, InOrder}
+use Rattle.zone_core.specs.Sets.{Records, Key, key_of, key_cmp, same_key, keyed, set_of, listing, part, minus, same_ttl, at_name, InOrder, AreRows}
 use Rattle.zone_core.specs.Updates.{acted_name}
 use Rattle.zone_core.specs.Effects.{effect, effects}
 pub use Rattle.zone_core.specs.Parts.{touched}
@@ -38,6 +38,17 @@ sifted test rs order s =
 
 pub difference : (rs : List Record) → InOrder rs → (s : Records) → set_of (filter (λ r. not (same_ttl (Some r) (get s (key_of r)))) rs) ≡ minus (set_of rs) s
 difference rs order s = sifted (λ x y. not (same_ttl x y)) rs order s
+
+-- records, behind none, that one row has and another has not
+pub differing : (rs ss none all : List Record) (a b : Records) → InOrder rs → set_of rs ≡ a → set_of ss ≡ b → none ≡ []
+    → all ≡ none ++ filter (λ r. not (same_ttl (Some r) (get (set_of ss) (key_of r)))) rs → AreRows all (minus a b)
+differing rs ss none all a b order is other empty found =
+    let test : Record → Bool = λ r. not (same_ttl (Some r) (get (set_of ss) (key_of r))) in
+    let all_is : all ≡ filter test rs = found ∙ ap (λ front. front ++ filter test rs) empty in
+    record {
+      order = subst InOrder (sym all_is) (InOrder-filter test rs order);
+      set = ap set_of all_is ∙ difference rs order (set_of ss) ∙ ap (λ set. minus set (set_of ss)) is ∙ ap (minus a) other;
+    }
 
 inner : (b : Bool) (x y : Option Record) → cond (not (same_ttl (cond b x None) (cond b y None))) (cond b x None) None ≡ cond b (cond (not (same_ttl x y)) x None) None
 inner true x y = refl

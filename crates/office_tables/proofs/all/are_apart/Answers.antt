@@ -10,10 +10,11 @@ use Rattle.office_tables.proofs.Whole.{apart_if_rising}
 use Rattle.office_tables.proofs.all.are_apart.Goals as goal
 
 pub returns : goal.returns
-returns c =
-    ((λ _. IsDistinct-IsPermutation int_eq int_eq_equiv.symm c.sort_unstable.new.self.items c.args.numbers.items (IsPermutation-sym _ _ c.sort_unstable.ensures.permutation)
-        (apart_if_rising c.sort_unstable.new.self.items c.sort_unstable.ensures.sorted (λ k d low. c.loop-place.invariant k d (omega arith)))),
-     (λ _. refl))
+returns c = (
+  (λ _. IsDistinct-IsPermutation int_eq int_eq_equiv.symm c.sort_unstable.new.self.items c.args.numbers.items (IsPermutation-sym _ _ c.sort_unstable.ensures.permutation)
+      (apart_if_rising c.sort_unstable.new.self.items c.sort_unstable.ensures.sorted (λ k d low. c.loop-place.invariant k d (omega arith)))),
+  (λ _. refl),
+)
 
 pub returns-then-index : goal.returns-then-index
 returns-then-index c =
@@ -25,9 +26,11 @@ returns-then-index c =
     let one = to_z-of_z w64 a fits_a in
     let two = to_z-of_z w64 b fits_b in
     let bits = c.if-index.true in
-    let same : a ≡ b = cc in
-    ((λ f. absurd (true≢false (sym f))), (λ d.
-      let apart = apart_from_distinct int_eq ns (c.loop-place.place - 1) c.loop-place.place a (IsDistinct-IsPermutation int_eq int_eq_equiv.symm c.args.numbers.items ns c.sort_unstable.ensures.permutation d) (omega arith) (omega arith) in
-      let second : get_or ns c.loop-place.place a ≡ a = subst (λ x. get_or ns c.loop-place.place x ≡ x) (sym same) (sym c.index-in-loop-place.ensures) in
-      let tied : int_eq a a ≡ false = rw (sym c.index.ensures, second) at apart in
-      absurd (true≢false (sym (int_eq_equiv.refl a) ∙ tied))))
+    let same : a ≡ b = cc in (
+      (λ f. absurd (true≢false (sym f))),
+      (λ d.
+          let apart = apart_from_distinct int_eq ns (c.loop-place.place - 1) c.loop-place.place a (IsDistinct-IsPermutation int_eq int_eq_equiv.symm c.args.numbers.items ns c.sort_unstable.ensures.permutation d) (omega arith) (omega arith) in
+          let second : get_or ns c.loop-place.place a ≡ a = subst (λ x. get_or ns c.loop-place.place x ≡ x) (sym same) (sym c.index-in-loop-place.ensures) in
+          let tied : int_eq a a ≡ false = rw (sym c.index.ensures, second) at apart in
+          absurd (true≢false (sym (int_eq_equiv.refl a) ∙ tied))),
+    )

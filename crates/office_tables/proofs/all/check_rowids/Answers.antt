@@ -23,8 +23,12 @@ returns-then-are_apart-clause-shown g c clean =
 pub returns-else-has_tables-clause-bad : goal.returns-else-has_tables-clause-bad
 returns-else-has_tables-clause-bad g c clean is =
     let h = c.in_ok-ids.ensures.shown clean in
-    let now = (c.in_ok-ids.ensures.same clean).now_is in
-    (map stored_version c.in_ok-ids.ids.items, h.0, h.1, (λ schema ids same distinct. elim c.else-has_tables.branch [
-      | else-has_tables-via-then-has_tables+else-are_apart w ↦ (let yes = w.are_apart.ensures.1 (subst (IsDistinct int_eq) (sym (numbers_same c.in_ok-ids.ids.items ids same)) distinct) in absurd cc)
-      | else-has_tables-via-else-has_tables w ↦ (let yes = c.has_tables.ensures.known.1 (ap (λ (d : Database). d.schema) now ∙ schema) in absurd cc)
-    ]))
+    let now = (c.in_ok-ids.ensures.same clean).now_is in (
+      map stored_version c.in_ok-ids.ids.items,
+      h.0,
+      h.1,
+      (λ schema ids same distinct. elim c.else-has_tables.branch [
+        | else-has_tables-via-then-has_tables+else-are_apart w ↦ (let yes = w.are_apart.ensures.1 (subst (IsDistinct int_eq) (sym (numbers_same c.in_ok-ids.ids.items ids same)) distinct) in absurd cc)
+        | else-has_tables-via-else-has_tables w ↦ (let yes = c.has_tables.ensures.known.1 (ap (λ (d : Database). d.schema) now ∙ schema) in absurd cc)
+      ]),
+    )

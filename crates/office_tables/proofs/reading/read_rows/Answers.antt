@@ -17,6 +17,6 @@ loop-row-preserved g c =
 pub returns-in_err-read-clause-bad : goal.returns-in_err-read-clause-bad
 returns-in_err-read-clause-bad g c is xs same readable =
     let it = stored_at g.T.Kept.stored IsReadableRow xs c.loop-row.row-index c.row-item.result (subst (λ l. c.loop-row.row-index < length l) same (omega arith)) (subst (λ l. c.row-item.result ≡ get_or l c.loop-row.row-index c.row-item.result) same c.row-item.is)
-      (subst (AllByRecursion IsReadableRow) same readable) in
+    (subst (AllByRecursion IsReadableRow) same readable) in
     let told = rw is at c.from_residual.ensures.1 in
     c.in_err-read.ensures.bad (cc) it.0 it.1 it.2

@@ -15,6 +15,7 @@ returns c =
     let one = c.is_strict.ensures.0 t1 in
     let two = c.is_strict-2.ensures.0 t2 in
     let three = c.is_strict-3.ensures.0 t3 in
-    let four = c.is_strict-4.ensures.0 t4 in
-    ((λ last. let all_five = c.is_strict-5.ensures.0 last in c.is_table.ensures.0 t0 ∙ ap (λ cs. keyed (codes "receipts") 6 cs (1 ∷ 2 ∷ [])) (sym c.as_slice.ensures ∙ (rw (one, two, three, four, all_five) at same))),
-     (λ e. c.is_strict-5.ensures.1 (ap (λ l. get_or l 4 c.reply-item.result) (sym same ∙ c.as_slice.ensures ∙ ap (λ (t : Table). t.columns) e))))
+    let four = c.is_strict-4.ensures.0 t4 in (
+      (λ last. let all_five = c.is_strict-5.ensures.0 last in c.is_table.ensures.0 t0 ∙ ap (λ cs. keyed (codes "receipts") 6 cs (1 ∷ 2 ∷ [])) (sym c.as_slice.ensures ∙ (rw (one, two, three, four, all_five) at same))),
+      (λ e. c.is_strict-5.ensures.1 (ap (λ l. get_or l 4 c.reply-item.result) (sym same ∙ c.as_slice.ensures ∙ ap (λ (t : Table). t.columns) e))),
+    )
