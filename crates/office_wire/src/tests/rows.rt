@@ -513,11 +513,14 @@ const REFUSALS: [Refused; 27] = [
     ),
 ];
 
-#[test]
-fn refusals(rt: HostRuntime) -> Result<(), Fail> {
-    let alloc = rt.alloc();
-    let mut table = table(alloc)?;
-    for (head, body, status, number, closes, why) in REFUSALS {
+/// Asks each of them over one table.
+fn expect_refusals(
+    rt: &impl Abort,
+    alloc: Global,
+    table: &mut MemTable,
+    rows: &[Refused],
+) -> Result<(), Fail> {
+    for (head, body, status, number, closes, why) in rows {
         let stream = format!(in alloc; "{head}{body}")?;
         let want = if number.is_empty() {
             String::from_str(alloc, r#"{"code":1,"name":"FORMERR","refusal":85}"#)?
@@ -525,15 +528,22 @@ fn refusals(rt: HostRuntime) -> Result<(), Fail> {
             format!(in alloc; "{{\"refusal\":{number}}}")?
         };
         let length = want.len();
-        let close = if closes { "Connection: close\r\n" } else { "" };
+        let close = if *closes { "Connection: close\r\n" } else { "" };
         let text = format!(in alloc;
             "HTTP/1.1 {status}\r\nContent-Type: application/json\r\nContent-Length: {length}\r\n{close}\r\n{want}"
         )?;
-        let (result, got) = exchanged(alloc, stream.as_bytes(), WHOLE, &mut table)?;
-        assert!(&rt; result == Ok(()), "{why}");
-        assert!(&rt; got.as_str() == text.as_str(), "{why}: {got}");
+        let (result, got) = exchanged(alloc, stream.as_bytes(), WHOLE, table)?;
+        assert!(rt; result == Ok(()), "{why}");
+        assert!(rt; got.as_str() == text.as_str(), "{why}: {got}");
     }
     Ok(())
+}
+
+#[test]
+fn refusals(rt: HostRuntime) -> Result<(), Fail> {
+    let alloc = rt.alloc();
+    let mut table = table(alloc)?;
+    expect_refusals(&rt, alloc, &mut table, &REFUSALS)
 }
 
 #[test]
