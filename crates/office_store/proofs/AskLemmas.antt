@@ -1,5 +1,5 @@
 -- Questions, one after the other.
-use Rattle.std.proofs.Common.{◌≡◌, ◌⊎◌, inl, inr, ℕ, List, Bool, true, false, Option, Some, None, is_some, pos, refl, sym, ap, ◌∙◌, bytes_eq}
+use Rattle.std.proofs.Common.{◌≡◌, ℕ, List, Bool, true, false, Option, Some, None, is_some, pos, refl, sym, ap, ◌∙◌, bytes_eq}
 use Rattle.std.specs.List.{list_any}
 use Rattle.sqlite.specs.State.{State as Shown, HasCleanDisk}
 use Rattle.dns_names.specs.Labels.{IsName}
@@ -9,7 +9,7 @@ use Rattle.office_tables.specs.Rows.{RowsOf}
 use Rattle.office_rows.specs.Contents.{AreOfState}
 use Rattle.office_tables.specs.Holds.{Holds, Leaves, OnlyAsks}
 use Rattle.office_reads.proofs.StateLaws.{zones_are_listed}
-use Rattle.office_store.specs.Holds.{HoldsState, LeavesStates}
+use Rattle.office_store.specs.Holds.{HoldsState}
 use Rattle.office_store.specs.Asks.{Asked, Only}
 
 pub asked_of : (old new : Shown) → ((rows : RowsOf) → Holds old rows → Holds new rows) → Leaves new old.may_leave → (HasCleanDisk new → HasCleanDisk old) → Asked old new

@@ -1,5 +1,5 @@
 -- Faults that are failures.
-use Rattle.std.proofs.Common.{◌≡◌, Result, Ok, Err, IfErr, sym, subst}
+use Rattle.std.proofs.Common.{◌≡◌, Result, Err, IfErr, sym, subst}
 use Rattle.office_tables.specs.declared.fault.RowsFault.{RowsFault}
 use Rattle.office_tables.specs.declared.fault.RowsFault.TheVariants as tables
 use Rattle.office_rows.specs.declared.row_fault.RowFault.{RowFault}

@@ -1,5 +1,5 @@
 -- Calls that turn a state into another.
-use Rattle.std.proofs.Common.{◌⊎◌, inl, inr, Result, Ok, Err, OnOk, OnErr}
+use Rattle.std.proofs.Common.{inl, inr, Result, Ok, Err, OnOk, OnErr}
 use Rattle.std.specs.Result.{IsErr}
 use Rattle.sqlite.specs.State.{State as Shown, HasCleanDisk}
 use Rattle.office_core.specs.States.{State}

@@ -1,20 +1,18 @@
 -- Zones that come, and zones in the place of others.
-use Rattle.std.proofs.Common.{◌≡◌, ℕ, Bool, true, false, not, cond, List, [], ◌∷◌, ◌++◌, Option, Some, None, option_map, Result, Ok, Err, IfErr, OnOk, OnErr, refl, sym, ap, ◌∙◌, subst, arith}
-use Rattle.std.specs.Result.{IsErrAnd}
+use Rattle.std.proofs.Common.{◌≡◌, ℕ, Bool, true, false, not, cond, List, [], ◌∷◌, ◌++◌, Option, Some, None, option_map, Result, Ok, Err, IfErr, refl, sym, ap, ◌∙◌, arith}
 use Rattle.std.proofs.lemmas.Bool.Decides.{nat_tests}
-use Rattle.dns_names.specs.Labels.{is_within}
 use Rattle.dns_names.proofs.NameLemmas.{is_within-Decides}
 use Rattle.dns_data.specs.declared.record.Record.{Record}
 use Rattle.zone_core.specs.declared.fault.ZoneFault.{ZoneFault}
-use Rattle.zone_core.specs.Sets.{Records, Key, listing, part, within, is_same}
+use Rattle.zone_core.specs.Sets.{Records, part, within, is_same}
 use Rattle.zone_core.specs.Serials.{is_less}
 use Rattle.zone_core.specs.Zones.{ZoneOf, IsZone, built, unless_fault, fault_in, evened, latest, serial_of}
 use Rattle.zone_core.proofs.SetLemmas.{by_cases, same_sets, found_in_part}
 use Rattle.zone_core.proofs.ChangedLemmas.{same_sets_are_one}
-use Rattle.office_core.specs.States.{Held, State, zone_held, zone_at}
+use Rattle.office_core.specs.States.{Held, State, zone_held}
 use Rattle.office_store.specs.declared.fault.StoreFault.{StoreFault}
 use Rattle.office_store.specs.declared.fault.StoreFault.TheVariants.{SerialNotGreater}
-use Rattle.office_store.specs.Faults.{IsFailure, Gives, Refuses, of_zones, ◌>>=◌}
+use Rattle.office_store.specs.Faults.{IsFailure, Gives, of_zones, ◌>>=◌}
 use Rattle.office_store.specs.Zones.{if_free, if_later, imported, replaced}
 use Rattle.office_store.proofs.FaultLemmas.{says_nothing}
 

@@ -1,5 +1,5 @@
 -- What is answered where a zone is imported, put in the place of another, and exported, and the state after that.
-use Rattle.std.specs.Prelude.{◌≡◌, ℕ, List, if◌then◌else◌, Option, Some, None, Result, Ok, Err}
+use Rattle.std.specs.Prelude.{ℕ, List, if◌then◌else◌, Option, Some, None, Result, Ok, Err}
 use Rattle.dns_data.specs.declared.record.Record.{Record}
 use Rattle.zone_core.specs.Sets.{listing}
 use Rattle.zone_core.specs.Serials.{is_less}

@@ -1,9 +1,8 @@
-use Rattle.std.proofs.Common.{◌≡◌, ◌∙◌, ◌∷◌, map, subst, string_bytes, IsPermutation}
+use Rattle.std.proofs.Common.{◌≡◌, ◌∙◌, subst, string_bytes, IsPermutation}
 use Rattle.sqlite.specs.Held.{state}
-use Rattle.sqlite.specs.State.{HasCleanDisk}
 use Rattle.office_tables.specs.Questions.{changes_of}
 use Rattle.dns_names.specs.Spelling.{name_text}
-use Rattle.office_store.proofs.AskLemmas.{asked_more, found, only_then, only_of}
+use Rattle.office_store.proofs.AskLemmas.{asked_more, found}
 use Rattle.office_store.proofs.asking.change_rows.Goals as goal
 
 pub returns-in_err-rows-clause-asked : goal.returns-in_err-rows-clause-asked

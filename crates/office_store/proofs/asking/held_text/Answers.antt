@@ -1,6 +1,5 @@
 use Rattle.std.proofs.Common.{true, false, sym, ◌∙◌}
 use Rattle.sqlite.specs.Held.{state}
-use Rattle.sqlite.specs.State.{HasCleanDisk}
 use Rattle.office_store.proofs.AskLemmas.{zone_told}
 use Rattle.office_store.proofs.asking.held_text.Goals as goal
 

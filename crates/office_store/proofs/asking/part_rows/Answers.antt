@@ -1,6 +1,5 @@
-use Rattle.std.proofs.Common.{◌≡◌, ◌∙◌, ◌∷◌, map, subst, string_bytes, IsPermutation}
+use Rattle.std.proofs.Common.{◌≡◌, ◌∙◌, ◌∷◌, map, subst, string_bytes}
 use Rattle.sqlite.specs.Held.{state}
-use Rattle.sqlite.specs.State.{HasCleanDisk}
 use Rattle.dns_names.specs.Keys.{key_of}
 use Rattle.office_reads.specs.Parts.{AreRowsAt}
 use Rattle.dns_names.specs.Spelling.{name_text}

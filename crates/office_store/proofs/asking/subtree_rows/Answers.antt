@@ -1,9 +1,8 @@
-use Rattle.std.proofs.Common.{◌≡◌, ◌∙◌, ◌∷◌, map, subst, string_bytes, IsPermutation}
+use Rattle.std.proofs.Common.{◌≡◌, ◌∙◌, subst, string_bytes, IsPermutation}
 use Rattle.sqlite.specs.Held.{state}
-use Rattle.sqlite.specs.State.{HasCleanDisk}
 use Rattle.office_reads.specs.Parts.{rows_within}
 use Rattle.dns_names.specs.Spelling.{name_text}
-use Rattle.office_store.proofs.AskLemmas.{asked_then, found, only_then, only_of}
+use Rattle.office_store.proofs.AskLemmas.{asked_then, found, only_then}
 use Rattle.office_store.proofs.asking.subtree_rows.Goals as goal
 
 pub returns-in_err-rows-clause-asked : goal.returns-in_err-rows-clause-asked

@@ -1,7 +1,6 @@
-use Rattle.std.proofs.Common.{◌≡◌, pos, Ok, Err, Some, None, [], true, false, option_map, sym, ap, ◌∙◌, subst, IsPermutation}
+use Rattle.std.proofs.Common.{◌≡◌, Err}
 use Rattle.std.proofs.lemmas.Result.{err_from_is_err_and, IfErr-weaker, on_ok_weaker}
 use Rattle.sqlite.specs.Held.{state}
-use Rattle.sqlite.specs.State.{HasCleanDisk}
 use Rattle.office_core.specs.States.{State}
 use Rattle.office_store.specs.Faults.{IsFailure}
 use Rattle.office_store.specs.Holds.{HoldsState}

@@ -1,15 +1,9 @@
-use Rattle.std.proofs.Common.{◌≡◌, pos, Ok, Err, Some, None, option_map, sym, ap, ◌∙◌, subst, IsPermutation, ◌∷◌, map}
-use Rattle.sqlite.specs.Held.{state}
-use Rattle.sqlite.specs.State.{HasCleanDisk}
-use Rattle.zone_core.specs.Sets.{listing, part, within}
-use Rattle.zone_core.specs.Zones.{ZoneOf}
+use Rattle.std.proofs.Common.{◌≡◌, pos, Ok, Some, option_map, sym, ap, ◌∙◌, subst, ◌∷◌, map}
 use Rattle.zone_core.specs.Parts.{part_of, at_names}
-use Rattle.office_core.specs.States.{Held, zone_held, zone_at}
-use Rattle.office_core.specs.Tables.{change_in}
+use Rattle.office_core.specs.States.{zone_held, zone_at}
 use Rattle.dns_names.specs.Keys.{key_of}
 use Rattle.dns_names.specs.Spelling.{name_text}
-use Rattle.office_tables.specs.Questions.{records_of, receipts_of}
-use Rattle.office_reads.specs.Parts.{AreRowsAt, rows_within}
+use Rattle.office_reads.specs.Parts.{AreRowsAt}
 use Rattle.office_store.proofs.views.part_at.Goals as goal
 
 pub returns-in_default-clause-answer : goal.returns-in_default-clause-answer

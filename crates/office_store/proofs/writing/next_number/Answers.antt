@@ -1,8 +1,5 @@
 use Rattle.std.proofs.Common.{pos, length, subst, ◌∙◌}
 use Rattle.std.proofs.lemmas.Result.{IfOk-weaker}
-use Rattle.sqlite.specs.Held.{state}
-use Rattle.sqlite.specs.State.{HasCleanDisk}
-use Rattle.dns_names.specs.Spelling.{name_text}
 use Rattle.office_tables.specs.Questions.{changes_of, IsLast}
 use Rattle.office_reads.proofs.StateLaws.{last_numbers_count}
 use Rattle.office_store.proofs.writing.next_number.Goals as goal

@@ -1,23 +1,11 @@
-use Rattle.std.proofs.Common.{◌≡◌, pos, Ok, Err, Some, None, [], true, false, option_map, sym, ap, ◌∙◌, subst, IsPermutation}
-use Rattle.std.proofs.lemmas.Result.{err_from_is_err_and, IfErr-weaker, on_ok_weaker}
-use Rattle.sqlite.specs.Held.{state}
-use Rattle.sqlite.specs.State.{HasCleanDisk}
-use Rattle.zone_core.specs.Sets.{listing, part, within}
+use Rattle.std.proofs.Common.{◌≡◌, Err, Some, option_map, sym, ap, ◌∙◌, subst}
+use Rattle.std.proofs.lemmas.Result.{err_from_is_err_and}
 use Rattle.zone_core.specs.Zones.{serial_of}
 use Rattle.zone_core.proofs.SetLemmas.{name_is}
 use Rattle.zone_core.specs.Serials.{is_less}
-use Rattle.office_core.specs.States.{Held, State, zone_held, zone_at}
-use Rattle.dns_names.specs.Spelling.{name_text}
-use Rattle.office_tables.specs.Questions.{records_of}
-use Rattle.office_writes.specs.Writings.{Leads, IsNext}
-use Rattle.office_store.specs.Holds.{HoldsState}
-use Rattle.office_store.specs.Faults.{Refuses}
-use Rattle.office_store.specs.Turns.{Turns}
-use Rattle.office_store.specs.Zones.{if_free, if_later, imported, replaced, exported, with_imported, with_place_taken, with_replaced}
-use Rattle.office_store.proofs.AskLemmas.{asked_nothing, asked_then, none_held}
-use Rattle.office_store.proofs.FaultLemmas.{gives_nothing, gives_refused}
-use Rattle.office_store.proofs.TurnLemmas.{refused_so, written, handed_ok, handed_err}
-use Rattle.office_store.proofs.ZoneLemmas.{imported_is, replaced_is, gives_written, serials_differ, held_of, none_of, told_later, told_not_later, not_false, all_within}
+use Rattle.office_core.specs.States.{zone_held, zone_at}
+use Rattle.office_store.proofs.FaultLemmas.{gives_nothing}
+use Rattle.office_store.proofs.ZoneLemmas.{serials_differ, held_of, told_later, told_not_later, not_false}
 use Rattle.office_store.proofs.zones.zone_before.Goals as goal
 
 pub returns-in_err-old-clause-answer : goal.returns-in_err-old-clause-answer
