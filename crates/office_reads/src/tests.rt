@@ -360,23 +360,38 @@ fn zone_len(alloc: Global, origin: &str, all: &[RecordColumns]) -> Result<usize,
     Ok(zone_of(alloc, &origin, &rows)?.records().len())
 }
 
-#[test]
-fn zones(rt: HostRuntime) -> Result<(), Fail> {
-    let own = [
+/// All records of `example.org.`.
+fn own() -> [RecordColumns; 6] {
+    [
         RECORDS[0], RECORDS[2], RECORDS[3], RECORDS[5], RECORDS[6], RECORDS[7],
-    ];
-    let len = good(&rt, zone_len(rt.alloc(), ORG, &own), "a zone")?;
+    ]
+}
+
+#[test]
+fn a_zone_is_read(rt: HostRuntime) -> Result<(), Fail> {
+    let len = good(&rt, zone_len(rt.alloc(), ORG, &own()), "a zone")?;
     assert!(rt; len == 6);
-    assert!(rt; is_bad(zone_len(rt.alloc(), NET, &own))?, "another origin");
-    let mixed = [RECORDS[0], RECORDS[1], RECORDS[6], RECORDS[7]];
+    Ok(())
+}
+
+/// Records of two zones.
+fn mixed() -> [RecordColumns; 4] {
+    [RECORDS[0], RECORDS[1], RECORDS[6], RECORDS[7]]
+}
+
+/// Whether rows of records are those of no zone of an origin.
+fn is_no_zone(alloc: Global, origin: &str, all: &[RecordColumns]) -> Result<bool, AllocError> {
+    is_bad(zone_len(alloc, origin, all))
+}
+
+#[test]
+fn zones_of_other_rows(rt: HostRuntime) -> Result<(), Fail> {
+    assert!(rt; is_no_zone(rt.alloc(), NET, &own())?, "another origin");
     assert!(rt;
-        is_bad(zone_len(rt.alloc(), ORG, &mixed))?,
+        is_no_zone(rt.alloc(), ORG, &mixed())?,
         "a record of another zone"
     );
-    assert!(rt;
-        is_bad(zone_len(rt.alloc(), ORG, &RECORDS[2..4]))?,
-        "no SOA"
-    );
+    assert!(rt; is_no_zone(rt.alloc(), ORG, &RECORDS[2..4])?, "no SOA");
     Ok(())
 }
 
