@@ -6,6 +6,7 @@ ghost use Rattle.zoneoffice.specs.Replies.{Answered};
 
 mod apply;
 mod canon;
+mod commands;
 mod device;
 mod laws;
 mod line_fault;
@@ -75,6 +76,7 @@ fn do_job(rt: &HostRuntime, job: Job<'_>) -> ExitCode {
         Job::Apply => do_task(rt, Apply, rt.stdin()),
         Job::Canon { origin } => do_task(rt, Canon { origin }, rt.stdin()),
         Job::Rights { policy, asked } => do_task(rt, asked, PolicyFile::open(rt, policy)),
+        Job::Import { .. } | Job::Export { .. } | Job::Serve { .. } => ExitCode::FAILURE,
     }
 }
 
