@@ -29,6 +29,3 @@ pub use record_type::RecordType;
 pub use soa::{Soa, SoaFields};
 pub use strings::{CharacterString, Strings};
 pub use text::data_text;
-
-#[cfg(test)]
-mod tests;

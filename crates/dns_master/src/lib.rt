@@ -26,6 +26,3 @@ pub use laws::{
 };
 pub use token::{Token, tokens};
 pub use zone_text::{print_records, print_zone};
-
-#[cfg(test)]
-mod tests;

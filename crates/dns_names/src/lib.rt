@@ -16,6 +16,3 @@ pub use fault::NameFault;
 pub use labels::Labels;
 pub use name::{KeyRange, Name};
 pub use symbol::{Symbol, first_symbol};
-
-#[cfg(test)]
-mod tests;

@@ -38,6 +38,3 @@ pub use reading::read_policy;
 pub use rule::Rule;
 pub use scope::{Scope, covers};
 pub use selection::{Actions, Types};
-
-#[cfg(test)]
-mod tests;

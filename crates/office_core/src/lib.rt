@@ -32,6 +32,3 @@ pub use request::{Call, Request};
 pub use runs::run;
 pub use steps::step;
 pub use table::ZoneTable;
-
-#[cfg(test)]
-mod tests;

@@ -24,6 +24,3 @@ pub use fault::BodyFault;
 pub use laws::delegations_are_one;
 pub use reply::{form_error_text, refusal_text, reply_text};
 pub use update::read_update;
-
-#[cfg(test)]
-mod tests;

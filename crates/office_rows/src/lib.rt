@@ -31,6 +31,3 @@ pub use replies::{read_reply, reply_words};
 pub use row_fault::RowFault;
 pub use side::Side;
 pub use text::items_text;
-
-#[cfg(test)]
-mod tests;

@@ -20,6 +20,3 @@ pub use questions::{
 pub use rows::{ChangeRow, ReceiptRow, RecordRow, Writing, ZoneRow};
 pub use schema::{has_no_tables, has_tables};
 pub use writing::write;
-
-#[cfg(test)]
-mod tests;

@@ -39,6 +39,3 @@ pub use serial::{serial_add, serial_less};
 pub use update::{ItemList, Operation, Place, Prerequisite, Update};
 pub use verdict::{Failed, holds};
 pub use zone::Zone;
-
-#[cfg(test)]
-mod tests;
