@@ -1,0 +1,10 @@
+pub mod OrderLemmas
+pub mod ListLemmas
+pub mod NameLemmas
+pub mod ContentLemmas
+pub mod ZoneLemmas
+pub mod ReceiptLemmas
+pub mod StateLaws
+pub mod CheckLemmas
+pub mod StateChecks
+pub mod TurnLemmas

@@ -1,0 +1,5 @@
+pub mod Faults
+pub mod Orders
+pub mod Parts
+pub mod States
+pub mod Checks

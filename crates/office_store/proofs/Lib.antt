@@ -1,0 +1,6 @@
+pub mod AskLemmas
+pub mod FaultLemmas
+pub mod RowLemmas
+pub mod TurnLemmas
+pub mod VersionLemmas
+pub mod ZoneLemmas

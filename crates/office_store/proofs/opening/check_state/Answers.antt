@@ -1,0 +1,30 @@
+use Rattle.std.proofs.Common.{◌≡◌, pos, Ok, Err, Some, None, [], true, false, option_map, sym, ap, ◌∙◌, subst, IsPermutation}
+use Rattle.std.proofs.lemmas.Result.{err_from_is_err_and, IfErr-weaker, on_ok_weaker}
+use Rattle.sqlite.specs.Held.{state}
+use Rattle.sqlite.specs.State.{HasCleanDisk}
+use Rattle.office_core.specs.States.{State}
+use Rattle.office_store.specs.Faults.{IsFailure}
+use Rattle.office_store.specs.Holds.{HoldsState}
+use Rattle.office_store.proofs.AskLemmas.{asked_then, only_then}
+use Rattle.office_store.proofs.FaultLemmas.{if_err_at}
+use Rattle.office_store.proofs.opening.check_state.Goals as goal
+
+pub returns-in_err-check_version-clause-good : goal.returns-in_err-check_version-clause-good
+returns-in_err-check_version-clause-good g c =
+    λ clean.
+    let p = err_from_is_err_and c.from_residual.result c.from_residual.ensures.1 in
+    let is : c.from_residual.result ≡ Err c.in_err-check_version.field-0.0 = cc (p.1, p.2) in
+    if_err_at (λ e. (s : State) → HoldsState (state g.S.Store c.args.conn.now) s → IsFailure e) _ c.from_residual.result is (λ s h. c.in_err-check_version.ensures.good clean h.rows s h.are h.held)
+
+pub returns-clause-good : goal.returns-clause-good
+returns-clause-good g c = λ clean. IfErr-weaker c.check_rows.result _ _ (λ e good s h. good s (c.check_version.ensures.asked.same s h)) (c.check_rows.ensures.good clean)
+
+pub returns-clause-only : goal.returns-clause-only
+returns-clause-only g c =
+    λ clean. on_ok_weaker c.check_rows.result
+    (λ next. only_then (state g.S.Store c.args.conn.now) (state g.S.Store c.check_version.new.conn) (state g.S.Store c.check_rows.new.conn) (c.in_ok-check_version.ensures.only (c.check_rows.ensures.asked.honest clean)) next)
+    (c.check_rows.ensures.only clean)
+
+pub returns-clause-asked : goal.returns-clause-asked
+returns-clause-asked g c =
+    asked_then (state g.S.Store c.args.conn.now) (state g.S.Store c.check_version.new.conn) (state g.S.Store c.check_rows.new.conn) c.check_version.ensures.asked c.check_rows.ensures.asked

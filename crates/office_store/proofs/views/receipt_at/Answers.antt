@@ -1,0 +1,27 @@
+use Rattle.std.proofs.Common.{◌≡◌, pos, Ok, Err, Some, None, option_map, sym, ap, ◌∙◌, subst, IsPermutation, ◌∷◌, map}
+use Rattle.sqlite.specs.Held.{state}
+use Rattle.sqlite.specs.State.{HasCleanDisk}
+use Rattle.zone_core.specs.Sets.{listing, part, within}
+use Rattle.zone_core.specs.Zones.{ZoneOf}
+use Rattle.zone_core.specs.Parts.{part_of, at_names}
+use Rattle.office_core.specs.States.{Held, zone_held, zone_at}
+use Rattle.office_core.specs.Tables.{change_in}
+use Rattle.dns_names.specs.Keys.{key_of}
+use Rattle.dns_names.specs.Spelling.{name_text}
+use Rattle.office_tables.specs.Questions.{records_of, receipts_of}
+use Rattle.office_reads.specs.Parts.{AreRowsAt, rows_within}
+use Rattle.office_store.proofs.views.receipt_at.Goals as goal
+
+pub returns-clause-answer : goal.returns-clause-answer
+returns-clause-answer g c =
+    λ clean s h.
+    let caller = c.args.caller.now in
+    let id = c.args.id.now in
+    let all = h.rows.receipts in
+    let asked = c.in_ok-rows.ensures.answer clean h.rows h.held in
+    let by_caller = subst (λ t. IsPermutation (receipts_of t c.text_of-2.result.now all) c.in_ok-rows.rows.items) c.text_of.ensures asked in
+    let by_id = subst (λ t. IsPermutation (receipts_of caller t all) c.in_ok-rows.rows.items) c.text_of-2.ensures by_caller in
+    let rows = subst (λ rs. IsPermutation (receipts_of caller id all) rs) (sym c.deref.ensures.value) by_id in
+    let told : Ok (s.receipts caller id) ≡ Ok c.in_ok-receipt.receipt = c.in_ok-receipt.ensures (pos 2) h.rows s caller id h.are rows in
+    let same : s.receipts caller id ≡ c.in_ok-receipt.receipt = cc in
+    sym same

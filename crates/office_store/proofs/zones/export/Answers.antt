@@ -1,0 +1,42 @@
+use Rattle.std.proofs.Common.{◌≡◌, pos, Ok, Err, Some, None, [], true, false, option_map, sym, ap, ◌∙◌, subst, IsPermutation}
+use Rattle.std.proofs.lemmas.Result.{err_from_is_err_and, IfErr-weaker, on_ok_weaker}
+use Rattle.sqlite.specs.Held.{state}
+use Rattle.sqlite.specs.State.{HasCleanDisk}
+use Rattle.zone_core.specs.Sets.{listing, part, within}
+use Rattle.zone_core.specs.Zones.{serial_of}
+use Rattle.zone_core.specs.Serials.{is_less}
+use Rattle.office_core.specs.States.{Held, State, zone_held, zone_at}
+use Rattle.dns_names.specs.Spelling.{name_text}
+use Rattle.office_tables.specs.Questions.{records_of}
+use Rattle.office_writes.specs.Writings.{Leads, IsNext}
+use Rattle.office_store.specs.Holds.{HoldsState}
+use Rattle.office_store.specs.Faults.{Refuses}
+use Rattle.office_store.specs.Turns.{Turns}
+use Rattle.office_store.specs.Zones.{if_free, if_later, imported, replaced, exported, with_imported, with_place_taken, with_replaced}
+use Rattle.office_store.proofs.AskLemmas.{asked_nothing, asked_then, none_held}
+use Rattle.office_store.proofs.FaultLemmas.{gives_nothing, gives_refused}
+use Rattle.office_store.proofs.TurnLemmas.{refused_so, written, handed_ok, handed_err}
+use Rattle.office_store.proofs.ZoneLemmas.{imported_is, replaced_is, gives_written, serials_differ, held_of, none_of, told_later, told_not_later, all_within}
+use Rattle.office_store.proofs.zones.export.Goals as goal
+
+pub returns-in_err-rows-clause-answer : goal.returns-in_err-rows-clause-answer
+returns-in_err-rows-clause-answer g c =
+    λ clean s h.
+    let p = err_from_is_err_and c.from_residual.result c.from_residual.ensures.1 in
+    let is : c.from_residual.result ≡ Err c.in_err-rows.field-0.0 = cc (p.1, p.2) in
+    gives_nothing (λ records. records.items) c.in_err-rows.field-0.0 c.from_residual.result _ is c.in_err-rows.ensures.named
+
+pub returns-in_default-clause-answer : goal.returns-in_default-clause-answer
+returns-in_default-clause-answer g c = λ clean s h. ap exported ((rw c.in_default.is at (c.in_ok-rows.ensures.found clean)) s h)
+
+pub returns-clause-answer : goal.returns-clause-answer
+returns-clause-answer g c =
+    λ clean s h.
+    let o = c.args.origin.now in
+    let f = (rw c.in-Some.is at (c.in_ok-rows.ensures.found clean)) s h in
+    let zone = zone_held o f.2 in
+    let there : zone_at s o ≡ Some zone = ap (option_map (zone_held o)) f.3 in
+    let rows = subst (λ rs. IsPermutation (records_of (name_text o) f.0.records) rs) (sym c.deref.ensures.value) f.4 in
+    let told : Ok (listing (part zone.records (within []))) ≡ Ok c.in_ok-records.records.items = c.in_ok-records.ensures (pos 2) f.0 s o [] zone f.1 there rows in
+    let same : listing (part zone.records (within [])) ≡ c.in_ok-records.records.items = cc in
+    ap exported f.3 ∙ ap (λ r. Ok (listing r)) (sym (all_within f.2.records)) ∙ ap (λ rs. Ok rs) same

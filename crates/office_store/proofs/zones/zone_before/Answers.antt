@@ -1,0 +1,65 @@
+use Rattle.std.proofs.Common.{◌≡◌, pos, Ok, Err, Some, None, [], true, false, option_map, sym, ap, ◌∙◌, subst, IsPermutation}
+use Rattle.std.proofs.lemmas.Result.{err_from_is_err_and, IfErr-weaker, on_ok_weaker}
+use Rattle.sqlite.specs.Held.{state}
+use Rattle.sqlite.specs.State.{HasCleanDisk}
+use Rattle.zone_core.specs.Sets.{listing, part, within}
+use Rattle.zone_core.specs.Zones.{serial_of}
+use Rattle.zone_core.proofs.SetLemmas.{name_is}
+use Rattle.zone_core.specs.Serials.{is_less}
+use Rattle.office_core.specs.States.{Held, State, zone_held, zone_at}
+use Rattle.dns_names.specs.Spelling.{name_text}
+use Rattle.office_tables.specs.Questions.{records_of}
+use Rattle.office_writes.specs.Writings.{Leads, IsNext}
+use Rattle.office_store.specs.Holds.{HoldsState}
+use Rattle.office_store.specs.Faults.{Refuses}
+use Rattle.office_store.specs.Turns.{Turns}
+use Rattle.office_store.specs.Zones.{if_free, if_later, imported, replaced, exported, with_imported, with_place_taken, with_replaced}
+use Rattle.office_store.proofs.AskLemmas.{asked_nothing, asked_then, none_held}
+use Rattle.office_store.proofs.FaultLemmas.{gives_nothing, gives_refused}
+use Rattle.office_store.proofs.TurnLemmas.{refused_so, written, handed_ok, handed_err}
+use Rattle.office_store.proofs.ZoneLemmas.{imported_is, replaced_is, gives_written, serials_differ, held_of, none_of, told_later, told_not_later, not_false, all_within}
+use Rattle.office_store.proofs.zones.zone_before.Goals as goal
+
+pub returns-in_err-old-clause-answer : goal.returns-in_err-old-clause-answer
+returns-in_err-old-clause-answer g c =
+    λ clean s h.
+    let p = err_from_is_err_and c.from_residual.result c.from_residual.ensures.1 in
+    let is : c.from_residual.result ≡ Err c.in_err-old.field-0.0 = cc (p.1, p.2) in
+    gives_nothing (λ _. c.args.zone.now) c.in_err-old.field-0.0 c.from_residual.result _ is c.in_err-old.ensures.named
+
+pub returns-then-not-serial_less-clause-answer : goal.returns-then-not-serial_less-clause-answer
+returns-then-not-serial_less-clause-answer g c =
+    λ clean s h.
+    let old = c.in-Some.old in
+    let zone = c.args.zone.now in
+    let there : Some old ≡ option_map (zone_held zone.origin) (s.zones zone.origin) = subst (λ o. Some old ≡ zone_at s o) c.origin.ensures.value ((rw c.in-Some.is at (c.in_ok-old.ensures.answer clean)) s h) in
+    let less : c.serial_less.result ≡ is_less (serial_of old) (serial_of zone) = c.serial_less.ensures.value ∙ (λ i. is_less (c.serial.ensures i) (c.serial-2.ensures i)) in
+    told_not_later (s.zones zone.origin) old zone there (sym less ∙ c.if-not-serial_less.true)
+
+pub returns-clause-origin : goal.returns-clause-origin
+returns-clause-origin g c = sym c.origin-2.ensures.value ∙ name_is _ _ (not_false c.ne.result _ c.ne.ensures c.if-ne.false) ∙ c.origin-3.ensures.value
+
+pub returns-clause-differs : goal.returns-clause-differs
+returns-clause-differs g c =
+    let old = c.in-Some.old in
+    let zone = c.args.zone.now in
+    let less : c.serial_less.result ≡ is_less (serial_of old) (serial_of zone) = c.serial_less.ensures.value ∙ (λ i. is_less (c.serial.ensures i) (c.serial-2.ensures i)) in
+    serials_differ old zone c.origin-2.ensures.zone c.origin-3.ensures.zone (returns-clause-origin g c) (sym less ∙ c.if-not-serial_less.false)
+
+pub returns-clause-held : goal.returns-clause-held
+returns-clause-held g c =
+    λ clean s h.
+    let old = c.in-Some.old in
+    let zone = c.args.zone.now in
+    let there : Some old ≡ option_map (zone_held zone.origin) (s.zones zone.origin) = subst (λ o. Some old ≡ zone_at s o) c.origin.ensures.value ((rw c.in-Some.is at (c.in_ok-old.ensures.answer clean)) s h) in
+    let found = held_of (s.zones zone.origin) zone.origin old there in
+    (found.0, found.1, ap (λ z. z.records) found.2)
+
+pub returns-clause-answer : goal.returns-clause-answer
+returns-clause-answer g c =
+    λ clean s h.
+    let old = c.in-Some.old in
+    let zone = c.args.zone.now in
+    let there : Some old ≡ option_map (zone_held zone.origin) (s.zones zone.origin) = subst (λ o. Some old ≡ zone_at s o) c.origin.ensures.value ((rw c.in-Some.is at (c.in_ok-old.ensures.answer clean)) s h) in
+    let less : c.serial_less.result ≡ is_less (serial_of old) (serial_of zone) = c.serial_less.ensures.value ∙ (λ i. is_less (c.serial.ensures i) (c.serial-2.ensures i)) in
+    told_later (s.zones zone.origin) old zone there (sym less ∙ c.if-not-serial_less.false)

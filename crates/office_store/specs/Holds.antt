@@ -1,0 +1,34 @@
+-- The state that a connection holds, and those that a crash leaves of it.
+use Rattle.std.specs.Prelude.{◌≡◌, ◌⊎◌, [], ◌∷◌, pos, map, IsTrue}
+use Rattle.sqlite_trees.specs.Tree.{Trees}
+use Rattle.sqlite.specs.State.{State as Shown}
+use Rattle.office_core.specs.States.{State}
+use Rattle.office_tables.specs.Rows.{RowsOf}
+use Rattle.office_tables.specs.Tables.{no_schema, office_schema, stored_version}
+use Rattle.office_tables.specs.Stores.{Stores}
+use Rattle.office_tables.specs.Holds.{AreRows, Holds, Leaves}
+use Rattle.office_rows.specs.Contents.{AreOfState}
+
+-- The connection shows rows that are this state, as far as it is open.
+pub record HoldsState (conn : Shown) (s : State) : Type 0 where
+  pub rows : RowsOf
+  pub are : AreOfState (pos 2) rows s
+  pub held : Holds conn rows
+
+-- the trees of the tables are this state
+abbrev pub IsStateIn : Trees → State → Type 0
+IsStateIn db s = (rows : RowsOf) × AreOfState (pos 2) rows s × AreRows db rows
+
+-- what an open after a crash may find is this state or that one
+abbrev pub LeavesStates : Shown → State → State → Type 0
+LeavesStates conn s t = Leaves conn (λ db. IsStateIn db s ⊎ IsStateIn db t)
+
+-- ---- before there is a state
+
+-- the tables are there, and say by one row that they are of version 2
+abbrev pub HasVersion : Shown → Type 0
+HasVersion conn = (conn.now.schema ≡ office_schema) × Stores (conn.now.trees 0) (map stored_version (pos 2 ∷ []))
+
+-- While it is open, the connection shows no table, nor was one committed.
+abbrev pub HasNone : Shown → Type 0
+HasNone conn = IsTrue conn.is_open → (conn.now.schema ≡ no_schema) × (conn.committed ≡ conn.now)

@@ -1,0 +1,5 @@
+pub mod Faults
+pub mod Holds
+pub mod Asks
+pub mod Turns
+pub mod Zones

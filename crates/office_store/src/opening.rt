@@ -1,0 +1,159 @@
+//! The making of the tables, and the test whether those that are there hold a state.
+
+ghost use Rattle.std.specs.Prelude.{◌≡◌, ◌≢◌, ◌⊎◌, ◌↔◌, [], ◌∷◌, pos, true, false, Err, IfErr, OnOk, OnErr};
+ghost use Rattle.sqlite.specs.Held.{state};
+ghost use Rattle.sqlite.specs.State.{HasCleanDisk};
+ghost use Rattle.office_core.specs.States.{State};
+ghost use Rattle.office_tables.specs.Holds.{Holds, Leaves};
+ghost use Rattle.office_tables.specs.Rows.{RowsOf};
+ghost use Rattle.office_tables.specs.Tables.{no_schema, office_schema};
+ghost use Rattle.office_rows.specs.Contents.{AreOfState};
+ghost use Rattle.office_writes.specs.Writings.{nothing_held};
+ghost use Rattle.office_store.specs.declared.fault.StoreFault.TheVariants.{BadRow, WrongVersion};
+ghost use Rattle.office_store.specs.Faults.{IsFailure, IsOfRows, of_found};
+ghost use Rattle.office_store.specs.Holds.{HoldsState, HasNone, HasVersion, IsStateIn, LeavesStates};
+ghost use Rattle.office_store.specs.Asks.{Asked, Only};
+
+use crate::fault::StoreFault;
+use office_reads::is_state;
+use office_tables::{RowsFault, all_rows, has_no_tables, has_tables, make_tables, versions};
+use sqlite::{Alter, Connection};
+use std::alloc::Global;
+use std::sync::ledger::Blank;
+
+/// The version of the tables, in the one row of `meta`.
+const VERSION: i64 = 2;
+
+/// Why there is no table over a connection. What was handed in for it is handed back.
+#[derive(Drop)]
+pub struct Refused<S: Alter + Drop> {
+    pub fault: StoreFault,
+    pub conn: Connection<S>,
+    /// The ledger for the count of failures.
+    pub blank: Blank,
+}
+
+/// Makes the tables, which hold nothing, where there are none.
+pub(crate) fn make<S: Alter>(conn: &mut Connection<S>) -> Result<(), StoreFault>
+    requires { conn.old.in_transaction ≡ false }
+    ensures made { OnOk result (HoldsState (state S.Store conn.new) nothing_held) }
+    ensures kept { OnOk result (LeavesStates (state S.Store conn.new) nothing_held nothing_held) }
+    ensures wrong { (result ≡ Err WrongVersion) ↔ ((state S.Store conn.old).now.schema ≢ no_schema) }
+    ensures same { result ≡ Err WrongVersion → conn.new ≡ conn.old }
+    ensures named { IfErr result (λ e. e ≢ WrongVersion → IsFailure e) }
+    ensures failed { IfErr result (λ e. e ≢ WrongVersion → HasNone (state S.Store conn.new)) }
+    ensures crash { OnErr result (Leaves (state S.Store conn.new) (λ db. (state S.Store conn.old).may_leave db ⊎ IsStateIn db nothing_held)) }
+    ensures honest { HasCleanDisk (state S.Store conn.new) → HasCleanDisk (state S.Store conn.old) }
+    ensures ended { conn.new.in_transaction ≡ false }
+{
+    if !has_no_tables(conn) {
+        return Err(StoreFault::WrongVersion);
+    }
+    make_tables(conn, VERSION)?;
+    Ok(())
+}
+
+/// What a fault says of rows that somebody else may have written.
+fn found(fault: RowsFault) -> StoreFault
+    ensures { result ≡ of_found fault }
+{
+    match fault {
+        RowsFault::Store(cause) => StoreFault::Store(cause),
+        RowsFault::BadRow => StoreFault::BadRow,
+        RowsFault::NoMemory => StoreFault::NoMemory,
+    }
+}
+
+/// Tells whether an open connection shows the tables.
+fn check_tables<S: Alter>(conn: &mut Connection<S>) -> Result<(), StoreFault>
+    requires { conn.old.in_transaction ≡ false }
+    ensures tables { OnOk result ((state S.Store conn.old).now.schema ≡ office_schema) }
+    ensures same { OnOk result (conn.new ≡ conn.old) }
+    ensures wrong { result ≡ Err WrongVersion → (state S.Store conn.old).now.schema ≢ office_schema }
+    ensures good { HasCleanDisk (state S.Store conn.new) → IfErr result (λ e. (rows : RowsOf) → Holds (state S.Store conn.old) rows → IsFailure e) }
+    ensures named { IfErr result (λ e. (e ≡ WrongVersion) ⊎ IsFailure e) }
+    ensures asked { Asked (state S.Store conn.old) (state S.Store conn.new) }
+    ensures ended { conn.new.in_transaction ≡ false }
+{
+    if has_tables(conn) {
+        return Ok(());
+    }
+    // what a connection that is shut shows says nothing of its tables
+    let _statement = conn.prepare("")?;
+    Err(StoreFault::WrongVersion)
+}
+
+/// Whether the rows of `meta` are the one of this version.
+fn is_version(versions: &[i64]) -> bool
+    ensures { (result ≡ true) ↔ (versions.now ≡ pos 2 ∷ []) }
+{
+    let [version] = versions else {
+        return false;
+    };
+    *version == VERSION
+}
+
+/// Tells whether the connection shows the tables of this version.
+fn check_version<S: Alter>(alloc: Global, conn: &mut Connection<S>) -> Result<(), StoreFault>
+    requires { conn.old.in_transaction ≡ false }
+    ensures wrong { HasCleanDisk (state S.Store conn.new) → result ≡ Err WrongVersion → ¬ HasVersion (state S.Store conn.old) }
+    ensures bad { result ≡ Err BadRow → (state S.Store conn.old).now.schema ≡ office_schema }
+    ensures tables { OnOk result ((state S.Store conn.old).now.schema ≡ office_schema) }
+    ensures good { HasCleanDisk (state S.Store conn.new) → IfErr result (λ e. (rows : RowsOf) (s : State) → AreOfState (pos 2) rows s → Holds (state S.Store conn.old) rows → IsFailure e) }
+    ensures named { IfErr result (λ e. (e ≡ WrongVersion) ⊎ IsOfRows e) }
+    ensures asked { Asked (state S.Store conn.old) (state S.Store conn.new) }
+    ensures only { HasCleanDisk (state S.Store conn.new) → OnOk result (Only (state S.Store conn.old) (state S.Store conn.new)) }
+    ensures ended { conn.new.in_transaction ≡ false }
+{
+    check_tables(conn)?;
+    match versions(alloc, conn) {
+        Ok(versions) => {
+            if is_version(&versions) {
+                return Ok(());
+            }
+            Err(StoreFault::WrongVersion)
+        }
+        Err(fault) => Err(found(fault)),
+    }
+}
+
+/// Tells whether the rows that the connection shows are a state.
+fn check_rows<S: Alter>(alloc: Global, conn: &mut Connection<S>) -> Result<(), StoreFault>
+    requires { conn.old.in_transaction ≡ false }
+    ensures found { HasCleanDisk (state S.Store conn.new) → OnOk result ((s : State) × HoldsState (state S.Store conn.new) s × LeavesStates (state S.Store conn.new) s s) }
+    ensures good { HasCleanDisk (state S.Store conn.new) → IfErr result (λ e. (s : State) → HoldsState (state S.Store conn.old) s → IsFailure e) }
+    ensures named { IfErr result IsOfRows }
+    ensures asked { Asked (state S.Store conn.old) (state S.Store conn.new) }
+    ensures only { HasCleanDisk (state S.Store conn.new) → OnOk result (Only (state S.Store conn.old) (state S.Store conn.new)) }
+    ensures ended { conn.new.in_transaction ≡ false }
+{
+    match all_rows(alloc, conn) {
+        Ok(rows) => {
+            let is_one = is_state(alloc, VERSION, &rows)?;
+            if is_one {
+                return Ok(());
+            }
+            Err(StoreFault::BadRow)
+        }
+        Err(fault) => Err(found(fault)),
+    }
+}
+
+/// Tells whether the connection shows the tables of this version, with the rows of a state.
+pub(crate) fn check_state<S: Alter>(
+    alloc: Global,
+    conn: &mut Connection<S>,
+) -> Result<(), StoreFault>
+    requires { conn.old.in_transaction ≡ false }
+    ensures found { HasCleanDisk (state S.Store conn.new) → OnOk result ((s : State) × HoldsState (state S.Store conn.new) s × LeavesStates (state S.Store conn.new) s s) }
+    ensures good { HasCleanDisk (state S.Store conn.new) → IfErr result (λ e. (s : State) → HoldsState (state S.Store conn.old) s → IsFailure e) }
+    ensures wrong { HasCleanDisk (state S.Store conn.new) → result ≡ Err WrongVersion → ¬ HasVersion (state S.Store conn.old) }
+    ensures bad { result ≡ Err BadRow → (state S.Store conn.old).now.schema ≡ office_schema }
+    ensures named { IfErr result (λ e. (e ≡ WrongVersion) ⊎ IsOfRows e) }
+    ensures asked { Asked (state S.Store conn.old) (state S.Store conn.new) }
+    ensures only { HasCleanDisk (state S.Store conn.new) → OnOk result (Only (state S.Store conn.old) (state S.Store conn.new)) }
+    ensures ended { conn.new.in_transaction ≡ false }
+{
+    check_version(alloc, conn)?;
+    check_rows(alloc, conn)
+}

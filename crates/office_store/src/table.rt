@@ -1,0 +1,293 @@
+//! The table in SQLite.
+
+ghost use Rattle.std.specs.Prelude.{◌≡◌, ◌≢◌, ◌↔◌, ◌⊎◌, ◌<◌, false, IfOk, IfErr, IsErrAnd, OnOk, OnErr};
+ghost use Rattle.sqlite.specs.Held.{state};
+ghost use Rattle.sqlite.specs.State.{HasCleanDisk};
+ghost use Rattle.office_core.specs.States.{State};
+ghost use Rattle.office_core.specs.Tables.{CountsFault};
+ghost use Rattle.office_tables.specs.Holds.{Leaves};
+ghost use Rattle.office_tables.specs.Tables.{no_schema, office_schema};
+ghost use Rattle.office_writes.specs.Writings.{nothing_held};
+ghost use Rattle.office_store.specs.declared.fault.StoreFault.TheVariants.{BadRow, WrongVersion};
+ghost use Rattle.office_store.specs.Faults.{CountsFailure, CountsCall, Gives, IsFailure, IsOfRows};
+ghost use Rattle.office_store.specs.Holds.{HoldsState, HasNone, HasVersion, IsStateIn, LeavesStates};
+ghost use Rattle.office_store.specs.Asks.{Asked, Only};
+ghost use Rattle.office_store.specs.Turns.{Turns};
+ghost use Rattle.office_store.specs.Zones.{exported, imported, replaced, with_imported, with_replaced};
+
+use crate::fault::StoreFault;
+use crate::opening::{Refused, check_state, make};
+use crate::views::{changes_at, part_at, receipt_at, subtree_at, zone_at};
+use crate::writing::commit;
+use crate::zones::{export, import, replace};
+use dns_data::Record;
+use dns_names::Name;
+use grant_policy::Identifier;
+use office_core::{Addition, Change, Receipt, TableFault, ZoneTable};
+use sqlite::{Alter, Connection};
+use std::alloc::Global;
+use std::sync::ledger::{Blank, Book, Ledger, Share};
+use zone_core::Zone;
+
+/// Zones with their changes, and receipts, in the tables of a database. It counts the failures of its store by a ledger.
+#[derive(Drop)]
+pub struct SqlTable<S: Alter + Drop, L: Ledger> {
+    conn: Connection<S>,
+    book: Book<L>,
+    share: Share<L>,
+    ghost counts: { 0 < share.parts },
+}
+
+/// Counts a fault, if it is a failure of the store.
+fn counted<L: Ledger>(book: &mut Book<L>, share: &mut Share<L>, fault: StoreFault) -> StoreFault
+    requires { 0 < share.old.parts }
+    ensures fault { result ≡ fault }
+    ensures counts { CountsFailure book.old.total book.new.total fault }
+    ensures parts { share.new.parts ≡ share.old.parts }
+{
+    if let StoreFault::Store(_) = fault {
+        book.add(share, 1);
+    }
+    fault
+}
+
+/// Tells a fault as one of a table, and counts it, unless it is for want of memory.
+fn refused<L: Ledger>(book: &mut Book<L>, share: &mut Share<L>, fault: StoreFault) -> TableFault
+    requires { 0 < share.old.parts }
+    ensures counts { CountsFault book.old.total book.new.total result }
+    ensures parts { share.new.parts ≡ share.old.parts }
+{
+    match fault {
+        StoreFault::NoMemory => TableFault::NoMemory,
+        _ => {
+            book.add(share, 1);
+            TableFault::Store
+        }
+    }
+}
+
+impl<S: Alter + Drop, L: Ledger> SqlTable<S, L> {
+    /// The table over a connection that holds a state.
+    fn over(conn: Connection<S>, blank: Blank) -> SqlTable<S, L>
+        requires name { blank.name ≡ L.name }
+        requires parts { blank.parts ≡ L.parts }
+        requires some { 0 < blank.parts }
+        ensures conn { result.conn ≡ conn }
+        ensures none { result.book.total ≡ 0 }
+    {
+        let (book, share) = blank.open::<L>();
+        SqlTable { conn, book, share }
+    }
+
+    /// Makes the tables, without zones and receipts, in a database that has none, in one transaction. No transaction is open. The
+    /// count of failures begins at none.
+    ///
+    /// `WrongVersion` comes exactly where there are tables, indexes or views already; `Store` where the store fails, and
+    /// `NoMemory` where memory runs out, and then no table is made.
+    pub fn create(conn: Connection<S>, blank: Blank) -> Result<SqlTable<S, L>, Refused<S>>
+        requires alone { conn.in_transaction ≡ false }
+        requires name { blank.name ≡ L.name }
+        requires parts { blank.parts ≡ L.parts }
+        requires some { 0 < blank.parts }
+        // The table holds nothing, and a crash leaves that.
+        ensures made { IfOk result (λ table. HoldsState (state S.Store table.conn) nothing_held) }
+        ensures kept { IfOk result (λ table. LeavesStates (state S.Store table.conn) nothing_held nothing_held) }
+        ensures honest { IfOk result (λ table. HasCleanDisk (state S.Store table.conn) → HasCleanDisk (state S.Store conn)) }
+        ensures none { IfOk result (λ table. table.book.total ≡ 0) }
+        // When each refusal comes.
+        ensures wrong { IsErrAnd result (λ refused. refused.fault ≡ WrongVersion) ↔ ((state S.Store conn).now.schema ≢ no_schema) }
+        ensures named { IfErr result (λ refused. (refused.fault ≡ WrongVersion) ⊎ IsFailure refused.fault) }
+        // Where there are tables nothing was done; else no table was made, and a crash leaves what it left before or the tables.
+        ensures same { IfErr result (λ refused. refused.fault ≡ WrongVersion → refused.conn ≡ conn) }
+        ensures failed { IfErr result (λ refused. refused.fault ≢ WrongVersion → HasNone (state S.Store refused.conn)) }
+        ensures crash { IfErr result (λ refused. Leaves (state S.Store refused.conn) (λ db. (state S.Store conn).may_leave db ⊎ IsStateIn db nothing_held)) }
+        ensures ended { IfErr result (λ refused. refused.conn.in_transaction ≡ false) }
+        ensures blank { IfErr result (λ refused. refused.blank ≡ blank) }
+    {
+        let mut conn = conn;
+        match make(&mut conn) {
+            Ok(()) => Ok(SqlTable::over(conn, blank)),
+            Err(fault) => Err(Refused { fault, conn, blank }),
+        }
+    }
+
+    /// The table over a database that has the tables of this version, with the rows of a state. No transaction is open. The count
+    /// of failures begins at none.
+    ///
+    /// `WrongVersion` comes where the tables are missing or others, or `meta` has not the one row of this version; else `BadRow`
+    /// where the rows are not those of a state; `Store` where the store fails, and `NoMemory` where memory runs out.
+    pub fn adopt(
+        alloc: Global,
+        conn: Connection<S>,
+        blank: Blank,
+    ) -> Result<SqlTable<S, L>, Refused<S>>
+        requires alone { conn.in_transaction ≡ false }
+        requires name { blank.name ≡ L.name }
+        requires parts { blank.parts ≡ L.parts }
+        requires some { 0 < blank.parts }
+        // The table holds a state, and a crash leaves that.
+        ensures found { IfOk result (λ table. HasCleanDisk (state S.Store table.conn) → (s : State) × HoldsState (state S.Store table.conn) s × LeavesStates (state S.Store table.conn) s s) }
+        // It is what was there.
+        ensures asked { IfOk result (λ table. Asked (state S.Store conn) (state S.Store table.conn)) }
+        ensures only { IfOk result (λ table. HasCleanDisk (state S.Store table.conn) → Only (state S.Store conn) (state S.Store table.conn)) }
+        ensures none { IfOk result (λ table. table.book.total ≡ 0) }
+        // Over rows that are a state only the store fails or memory runs out; so `BadRow` says that there is no state.
+        ensures good { IfErr result (λ refused. HasCleanDisk (state S.Store refused.conn) → (s : State) → HoldsState (state S.Store conn) s → IsFailure refused.fault) }
+        ensures wrong { IfErr result (λ refused. HasCleanDisk (state S.Store refused.conn) → refused.fault ≡ WrongVersion → ¬ HasVersion (state S.Store conn)) }
+        ensures bad { IfErr result (λ refused. refused.fault ≡ BadRow → (state S.Store conn).now.schema ≡ office_schema) }
+        ensures named { IfErr result (λ refused. (refused.fault ≡ WrongVersion) ⊎ IsOfRows refused.fault) }
+        // Behind a refusal all is as it was.
+        ensures same { IfErr result (λ refused. Asked (state S.Store conn) (state S.Store refused.conn)) }
+        ensures ended { IfErr result (λ refused. refused.conn.in_transaction ≡ false) }
+        ensures blank { IfErr result (λ refused. refused.blank ≡ blank) }
+    {
+        let mut conn = conn;
+        match check_state(alloc, &mut conn) {
+            Ok(()) => Ok(SqlTable::over(conn, blank)),
+            Err(fault) => Err(Refused { fault, conn, blank }),
+        }
+    }
+
+    /// The connection, without the count of failures.
+    pub fn into_connection(self) -> Connection<S>
+        ensures { result ≡ self.conn }
+    {
+        self.conn
+    }
+
+    /// Imports the zone of an origin and records, as `Zone::build` makes it, in one transaction. No change is appended.
+    ///
+    /// The refusals, of which the first is answered: that of `Zone::build`, and `ZoneExists` exactly where there is a zone of the
+    /// origin. `Store` comes where the store fails, and `NoMemory` where memory runs out.
+    pub fn import(
+        &mut self,
+        alloc: Global,
+        origin: Name,
+        records: Vec<Record>,
+    ) -> Result<Zone, StoreFault>
+        ensures answer { HasCleanDisk (state S.Store self.new.conn) → (s : State) → HoldsState (state S.Store self.old.conn) s → Gives (λ zone. zone) result (imported s origin records.items) }
+        ensures turns { Turns (state S.Store self.old.conn) (state S.Store self.new.conn) result (λ s. with_imported s (imported s origin records.items)) }
+        ensures counts { CountsCall self.old.book.total self.new.book.total result }
+    {
+        match import(alloc, &mut self.conn, origin, records) {
+            Ok(zone) => Ok(zone),
+            Err(fault) => Err(counted(&mut self.book, &mut self.share, fault)),
+        }
+    }
+
+    /// Puts the zone of an origin and records, as `Zone::build` makes it, in the place of the one that is there, in one
+    /// transaction, with one change: the records that went and those that came.
+    ///
+    /// The refusals, of which the first is answered: that of `Zone::build`; `NoZone` exactly where there is no zone of the origin;
+    /// and `SerialNotGreater` exactly where its serial is not less than the new one (RFC 1982 section 3.2). `Store` comes where
+    /// the store fails, and `NoMemory` where memory runs out.
+    pub fn replace(
+        &mut self,
+        alloc: Global,
+        origin: Name,
+        records: Vec<Record>,
+    ) -> Result<Zone, StoreFault>
+        ensures answer { HasCleanDisk (state S.Store self.new.conn) → (s : State) → HoldsState (state S.Store self.old.conn) s → Gives (λ zone. zone) result (replaced s origin records.items) }
+        ensures turns { Turns (state S.Store self.old.conn) (state S.Store self.new.conn) result (λ s. with_replaced s (replaced s origin records.items)) }
+        ensures counts { CountsCall self.old.book.total self.new.book.total result }
+    {
+        match replace(alloc, &mut self.conn, origin, records) {
+            Ok(zone) => Ok(zone),
+            Err(fault) => Err(counted(&mut self.book, &mut self.share, fault)),
+        }
+    }
+
+    /// The records of the zone of an origin, in record order. `NoZone` comes exactly where there is none, `Store` where the store
+    /// fails, and `NoMemory` where memory runs out.
+    pub fn export_records(
+        &mut self,
+        alloc: Global,
+        origin: &Name,
+    ) -> Result<Vec<Record>, StoreFault>
+        ensures answer { HasCleanDisk (state S.Store self.new.conn) → (s : State) → HoldsState (state S.Store self.old.conn) s → Gives (λ records. records.items) result (exported (s.zones origin.now)) }
+        ensures asked { Asked (state S.Store self.old.conn) (state S.Store self.new.conn) }
+        ensures only { HasCleanDisk (state S.Store self.new.conn) → OnOk result (Only (state S.Store self.old.conn) (state S.Store self.new.conn)) }
+        ensures counts { CountsCall self.old.book.total self.new.book.total result }
+    {
+        match export(alloc, &mut self.conn, origin) {
+            Ok(records) => Ok(records),
+            Err(fault) => Err(counted(&mut self.book, &mut self.share, fault)),
+        }
+    }
+}
+
+impl<S: Alter + Drop, L: Ledger> ZoneTable for SqlTable<S, L> {
+    ghost use Rattle.std.proofs.Common.{inl, inr, pos};
+    ghost use Rattle.office_reads.proofs.StateLaws.{states_are_sound};
+
+    ghost holds = { λ t s. HoldsState (state S.Store t.conn) s };
+
+    ghost is_honest = { λ t. HasCleanDisk (state S.Store t.conn) };
+
+    ghost leaves = { λ t s u. LeavesStates (state S.Store t.conn) s u };
+
+    ghost failures = { λ t. t.book.total };
+
+    fn zone(&mut self, alloc: Global, origin: &Name) -> Result<Option<Zone>, TableFault> {
+        match zone_at(alloc, &mut self.conn, origin) {
+            Ok(zone) => Ok(zone),
+            Err(fault) => Err(refused(&mut self.book, &mut self.share, fault)),
+        }
+    }
+
+    fn part(
+        &mut self,
+        alloc: Global,
+        origin: &Name,
+        names: &[Name],
+    ) -> Result<Option<Zone>, TableFault> {
+        match part_at(alloc, &mut self.conn, origin, names) {
+            Ok(part) => Ok(part),
+            Err(fault) => Err(refused(&mut self.book, &mut self.share, fault)),
+        }
+    }
+
+    fn subtree(
+        &mut self,
+        alloc: Global,
+        origin: &Name,
+        top: &Name,
+    ) -> Result<Option<Vec<Record>>, TableFault> {
+        match subtree_at(alloc, &mut self.conn, origin, top) {
+            Ok(records) => Ok(records),
+            Err(fault) => Err(refused(&mut self.book, &mut self.share, fault)),
+        }
+    }
+
+    fn receipt(
+        &mut self,
+        alloc: Global,
+        caller: &Identifier,
+        id: &Identifier,
+    ) -> Result<Option<Receipt>, TableFault> {
+        match receipt_at(alloc, &mut self.conn, caller, id) {
+            Ok(receipt) => Ok(receipt),
+            Err(fault) => Err(refused(&mut self.book, &mut self.share, fault)),
+        }
+    }
+
+    fn changes(&mut self, alloc: Global, origin: &Name) -> Result<Option<Vec<Change>>, TableFault> {
+        match changes_at(alloc, &mut self.conn, origin) {
+            Ok(changes) => Ok(changes),
+            Err(fault) => Err(refused(&mut self.book, &mut self.share, fault)),
+        }
+    }
+
+    fn commit(&mut self, alloc: Global, addition: Addition) -> Result<(), TableFault> {
+        match commit(alloc, &mut self.conn, &addition) {
+            Ok(()) => Ok(()),
+            Err(fault) => Err(refused(&mut self.book, &mut self.share, fault)),
+        }
+    }
+
+    ghost zones = { λ table s held. (states_are_sound (pos 2) held.rows s held.are).0 };
+
+    ghost receipts = { λ table s held. (states_are_sound (pos 2) held.rows s held.are).1 };
+
+    ghost weaker = { λ t s u left clean db may. elim (left clean db may) [ inl it ↦ inl it | inr it ↦ inl it ] };
+}

@@ -1,0 +1,129 @@
+//! Whole zones: one that comes, one in the place of another, and the records of one.
+
+ghost use Rattle.std.specs.Prelude.{◌≡◌, false, Some, IfOk, OnOk};
+ghost use Rattle.sqlite.specs.Held.{state};
+ghost use Rattle.sqlite.specs.State.{HasCleanDisk};
+ghost use Rattle.zone_core.specs.Sets.{is_same};
+ghost use Rattle.zone_core.specs.Serials.{is_less};
+ghost use Rattle.zone_core.specs.Zones.{serial_of};
+ghost use Rattle.office_core.specs.States.{Held, State, zone_held};
+ghost use Rattle.office_store.specs.Faults.{Gives};
+ghost use Rattle.office_store.specs.Holds.{HoldsState};
+ghost use Rattle.office_store.specs.Asks.{Asked, Only};
+ghost use Rattle.office_store.specs.Turns.{Turns};
+ghost use Rattle.office_store.specs.Zones.{if_free, if_later, exported, imported, replaced, with_imported, with_replaced};
+
+use crate::asking::{held_text, zone_rows};
+use crate::fault::StoreFault;
+use crate::views::zone_at;
+use crate::writing::{next_number, write_to};
+use dns_data::Record;
+use dns_names::Name;
+use office_reads::records_within;
+use office_writes::{replacement_writing, zone_writing};
+use sqlite::{Alter, Connection, Error as StoreError, ErrorCode};
+use std::alloc::Global;
+use zone_core::{Zone, serial_less};
+
+/// Puts a zone beside the others, unless there is one of its origin.
+fn put_zone<S: Alter>(
+    alloc: Global,
+    conn: &mut Connection<S>,
+    zone: &Zone,
+) -> Result<(), StoreFault>
+    ensures answer { HasCleanDisk (state S.Store conn.new) → (s : State) → HoldsState (state S.Store conn.old) s → Gives (λ _. zone.now) result (if_free (s.zones zone.now.origin) zone.now) }
+    ensures turns { Turns (state S.Store conn.old) (state S.Store conn.new) result (λ s. with_imported s (if_free (s.zones zone.now.origin) zone.now)) }
+{
+    let None = held_text(alloc, conn, zone.origin())? else {
+        return Err(StoreFault::ZoneExists);
+    };
+    let writing = zone_writing(alloc, zone)?;
+    write_to(conn, &writing)
+}
+
+/// Imports the zone of an origin and records.
+pub(crate) fn import<S: Alter>(
+    alloc: Global,
+    conn: &mut Connection<S>,
+    origin: Name,
+    records: Vec<Record>,
+) -> Result<Zone, StoreFault>
+    ensures answer { HasCleanDisk (state S.Store conn.new) → (s : State) → HoldsState (state S.Store conn.old) s → Gives (λ zone. zone) result (imported s origin records.items) }
+    ensures turns { Turns (state S.Store conn.old) (state S.Store conn.new) result (λ s. with_imported s (imported s origin records.items)) }
+{
+    let zone = Zone::build(alloc, origin, records)?;
+    put_zone(alloc, conn, &zone)?;
+    Ok(zone)
+}
+
+/// The zone that is held of the origin of another, if the serial of the other is greater.
+fn zone_before<S: Alter>(
+    alloc: Global,
+    conn: &mut Connection<S>,
+    zone: &Zone,
+) -> Result<Zone, StoreFault>
+    ensures origin { IfOk result (λ old. old.origin ≡ zone.now.origin) }
+    ensures differs { IfOk result (λ old. is_same old.records zone.now.records ≡ false) }
+    ensures held { HasCleanDisk (state S.Store conn.new) → IfOk result (λ old. (s : State) → HoldsState (state S.Store conn.old) s → (held : Held) × (s.zones zone.now.origin ≡ Some held) × (held.records ≡ old.records)) }
+    ensures answer { HasCleanDisk (state S.Store conn.new) → (s : State) → HoldsState (state S.Store conn.old) s → Gives (λ _. zone.now) result (if_later (s.zones zone.now.origin) zone.now) }
+    ensures asked { Asked (state S.Store conn.old) (state S.Store conn.new) }
+    ensures only { HasCleanDisk (state S.Store conn.new) → OnOk result (Only (state S.Store conn.old) (state S.Store conn.new)) }
+{
+    let Some(old) = zone_at(alloc, conn, zone.origin())? else {
+        return Err(StoreFault::NoZone);
+    };
+    if old.origin() != zone.origin() {
+        return Err(StoreFault::Store(StoreError::SqliteFailure(ErrorCode::DatabaseCorrupt)));
+    }
+    if !serial_less(old.serial(), zone.serial()) {
+        return Err(StoreFault::SerialNotGreater);
+    }
+    Ok(old)
+}
+
+/// Puts a zone in the place of the one of its origin, if its serial is greater.
+fn take_place<S: Alter>(
+    alloc: Global,
+    conn: &mut Connection<S>,
+    zone: &Zone,
+) -> Result<(), StoreFault>
+    ensures answer { HasCleanDisk (state S.Store conn.new) → (s : State) → HoldsState (state S.Store conn.old) s → Gives (λ _. zone.now) result (if_later (s.zones zone.now.origin) zone.now) }
+    ensures turns { Turns (state S.Store conn.old) (state S.Store conn.new) result (λ s. with_replaced s (if_later (s.zones zone.now.origin) zone.now)) }
+{
+    let old = zone_before(alloc, conn, zone)?;
+    let number = next_number(alloc, conn, zone.origin())?;
+    let writing = replacement_writing(alloc, &old, zone, number)?;
+    write_to(conn, &writing)
+}
+
+/// Puts the zone of an origin and records in the place of the one that is held.
+pub(crate) fn replace<S: Alter>(
+    alloc: Global,
+    conn: &mut Connection<S>,
+    origin: Name,
+    records: Vec<Record>,
+) -> Result<Zone, StoreFault>
+    ensures answer { HasCleanDisk (state S.Store conn.new) → (s : State) → HoldsState (state S.Store conn.old) s → Gives (λ zone. zone) result (replaced s origin records.items) }
+    ensures turns { Turns (state S.Store conn.old) (state S.Store conn.new) result (λ s. with_replaced s (replaced s origin records.items)) }
+{
+    let zone = Zone::build(alloc, origin, records)?;
+    take_place(alloc, conn, &zone)?;
+    Ok(zone)
+}
+
+/// The records of the zone of an origin, in record order.
+pub(crate) fn export<S: Alter>(
+    alloc: Global,
+    conn: &mut Connection<S>,
+    origin: &Name,
+) -> Result<Vec<Record>, StoreFault>
+    ensures answer { HasCleanDisk (state S.Store conn.new) → (s : State) → HoldsState (state S.Store conn.old) s → Gives (λ records. records.items) result (exported (s.zones origin.now)) }
+    ensures asked { Asked (state S.Store conn.old) (state S.Store conn.new) }
+    ensures only { HasCleanDisk (state S.Store conn.new) → OnOk result (Only (state S.Store conn.old) (state S.Store conn.new)) }
+{
+    let Some(rows) = zone_rows(alloc, conn, origin)? else {
+        return Err(StoreFault::NoZone);
+    };
+    let records = records_within(alloc, &rows)?;
+    Ok(records)
+}

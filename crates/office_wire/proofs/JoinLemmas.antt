@@ -1,0 +1,151 @@
+-- What follows one part of a stream joins what was answered before it.
+use Rattle.std.proofs.Common.{◌≡◌, ℕ, Bool, true, false, drop, length, List, [], ◌∷◌, ◌++◌, ◌∙◌, sym, ap, refl, subst, append_assoc, append-nil, Option, Some, None, IfSome, ◌⊎◌, inl, inr}
+use Rattle.std.specs.List.{AllByRecursion}
+use Rattle.std.specs.Io.KnownBytes.{Appends}
+use Rattle.httparse.specs.Grammar.{RequestHead, print_request}
+use Rattle.grant_policy.specs.declared.rule.Rule.{Rule}
+use Rattle.office_wire.specs.declared.exchange.Said.TheVariants.{Next}
+use Rattle.office_wire.specs.Exchange.{Turn, octets_of, turn_text, octets, texts, IsOpenTurn, Standing, Answers, Run, Exchange, Closes, whole, bad_length, bad_head, Says, next, closing, IsPart}
+use Rattle.office_wire.specs.Serving.{IsSaid, IsCurrent, IsClosed, IsBroken}
+use Rattle.office_wire.proofs.HeadLemmas.{never_more}
+use Rattle.office_wire.proofs.KnownLemmas.{appends_more}
+
+octets_join : (ts us : List Turn) → octets (ts ++ us) ≡ octets ts ++ octets us
+octets_join [] us = refl
+octets_join (t ∷ ts) us = ap (λ (l : List ℕ). octets_of t ++ l) (octets_join ts us) ∙ sym (append_assoc (octets_of t) (octets ts) (octets us))
+
+pub texts_join : (ts us : List Turn) → texts (ts ++ us) ≡ texts ts ++ texts us
+texts_join [] us = refl
+texts_join (t ∷ ts) us = ap (λ (l : List ℕ). turn_text t ++ l) (texts_join ts us) ∙ sym (append_assoc (turn_text t) (texts ts) (texts us))
+
+open_join : (ts us : List Turn) → AllByRecursion IsOpenTurn ts → AllByRecursion IsOpenTurn us → AllByRecursion IsOpenTurn (ts ++ us)
+open_join [] us p q = q
+open_join (t ∷ ts) us p q = (p.0, open_join ts us p.1 q)
+
+run_join : (rules : List Rule) (c m d : Standing) (ts us : List Turn) → Run rules c ts m → Run rules m us d → Run rules c (ts ++ us) d
+run_join rules c m d [] us p q = subst (λ (k : Standing). Run rules k us d) p q
+run_join rules c m d (t ∷ ts) us p q = (p.0, p.1, run_join rules p.0 m d ts us p.2 q)
+
+-- what follows one part of a stream was answered too
+exchange_join : (stream got rest final : List ℕ) (ts us : List Turn) → Exchange stream ts rest → Exchange (rest ++ got) us final
+    → Exchange (stream ++ got) (ts ++ us) final
+exchange_join stream got rest final ts us p q = record {
+  octets_are = ap (λ (l : List ℕ). l ++ got) p.octets_are ∙ append_assoc (octets ts) rest got ∙ ap (λ (l : List ℕ). octets ts ++ l) q.octets_are
+      ∙ sym (append_assoc (octets ts) (octets us) final) ∙ ap (λ (l : List ℕ). l ++ final) (sym (octets_join ts us));
+  are_open = open_join ts us p.are_open q.are_open;
+}
+
+-- more of the stream is more of its rest
+pub exchange_more : (stream rest more : List ℕ) (ts : List Turn) → Exchange stream ts rest → Exchange (stream ++ more) ts (rest ++ more)
+exchange_more stream rest more ts p = record {
+  octets_are = ap (λ (l : List ℕ). l ++ more) p.octets_are ∙ append_assoc (octets ts) rest more;
+  are_open = p.are_open;
+}
+
+one_turn : (t : Turn) (rest more : List ℕ) → IsOpenTurn t → rest ≡ octets_of t ++ more → Exchange rest (t ∷ []) more
+one_turn t rest more is e = record {
+  octets_are = e ∙ ap (λ (l : List ℕ). l ++ more) (sym (append-nil (octets_of t)));
+  are_open = (is, tt);
+}
+
+more_of : (a b x more : List ℕ) → x ≡ a ++ b → x ++ more ≡ a ++ (b ++ more)
+more_of a b x more e = ap (λ (l : List ℕ). l ++ more) e ∙ append_assoc a b more
+
+pub closes_more : (rest text more : List ℕ) (us : List Turn) → Closes rest us text → Closes (rest ++ more) us text
+closes_more rest text more us (whole t later is shut e one said) = whole t (later ++ more) is shut (more_of (octets_of t) later rest more e) one said
+closes_more rest text more us (bad_length h later r is asks e none said) = bad_length h (later ++ more) r is asks (more_of (print_request h) later rest more e) none said
+closes_more rest text more us (bad_head never none said) = bad_head (never_more rest more never) none said
+
+pub says_more : (rest text more : List ℕ) (us : List Turn) → Says rest us text → Says (rest ++ more) us text
+says_more rest text more us (next t later is e one said) = next t (later ++ more) is (more_of (octets_of t) later rest more e) one said
+says_more rest text more us (closing is) = closing (closes_more rest text more us is)
+
+text_join : (before mid after : Option (List ℕ)) (ts us : List Turn) (text : List ℕ) → Appends before mid (texts ts) → Appends mid after (texts us ++ text)
+    → Appends before after (texts (ts ++ us) ++ text)
+text_join before mid after ts us text p q = subst (λ (l : List ℕ). Appends before after l)
+    (sym (append_assoc (texts ts) (texts us) text) ∙ ap (λ (l : List ℕ). l ++ text) (sym (texts_join ts us))) (appends_more before mid after _ _ p q)
+
+module _ (rules : List Rule) (c : Standing) where
+  three : (a b e : List Turn) (m d : Standing) → Run rules c a m → Run rules m (b ++ e) d → Run rules c ((a ++ b) ++ e) d
+  three a b e m d p q = subst (λ (l : List Turn). Run rules c l d) (sym (append_assoc a b e)) (run_join rules c m d a (b ++ e) p q)
+
+  -- after what came before, in the same words
+  pub current_join : (d e : Standing) (stream got rest left : List ℕ) (before mid after : Option (List ℕ))
+      → IsCurrent rules c stream rest before mid d → IsCurrent rules d (rest ++ got) left mid after e → IsCurrent rules c (stream ++ got) left before after e
+  current_join d e stream got rest left before mid after p q = (
+    p.0 ++ q.0,
+    run_join rules c d e p.0 q.0 p.1 q.1,
+    exchange_join stream got rest left p.0 q.0 p.2 q.2,
+    subst (λ (l : List ℕ). Appends before after l) (sym (texts_join p.0 q.0)) (appends_more before mid after _ _ p.3 q.3),
+  )
+
+  pub closed_join : (d e : Standing) (stream got rest : List ℕ) (before mid after : Option (List ℕ))
+      → IsCurrent rules c stream rest before mid d → IsClosed rules d (rest ++ got) mid after e → IsClosed rules c (stream ++ got) before after e
+  closed_join d e stream got rest before mid after p q =
+      (p.0 ++ q.0, q.1, q.2, q.3, three p.0 q.0 q.1 d e p.1 q.4, exchange_join stream got rest q.2 p.0 q.0 p.2 q.5, q.6, text_join before mid after p.0 q.0 q.3 p.3 q.7)
+
+  pub broken_join : (d e : Standing) (stream got rest : List ℕ) (before mid after : Option (List ℕ))
+      → IsCurrent rules c stream rest before mid d → IsBroken rules d (rest ++ got) mid after e → IsBroken rules c (stream ++ got) before after e
+  broken_join d e stream got rest before mid after p q =
+      (p.0 ++ q.0, q.1, q.2, q.3, q.4, three p.0 q.0 q.1 d e p.1 q.5, exchange_join stream got rest q.2 p.0 q.0 p.2 q.6, q.7, q.8, text_join before mid after p.0 q.0 q.4 p.3 q.9)
+
+  -- ---- one turn of the loop
+
+  pub next_served : (d e : Standing) (n : ℕ) (stream rest pending left out text : List ℕ) (before mid after : Option (List ℕ)) → pending ≡ rest → left ≡ drop n rest → text ≡ out
+      → IsCurrent rules c stream rest before mid d → IsSaid rules d pending (Next n) out e → Appends mid after text → IsCurrent rules c stream left before after e
+  next_served d e n stream rest pending left out text before mid after is_rest is_left is_out p q wrote =
+      let octets_are = subst (λ (l : List ℕ). l ≡ octets_of q.0 ++ drop n l) is_rest q.3 ∙ ap (λ (l : List ℕ). octets_of q.0 ++ l) (sym is_left) in
+      let turn = one_turn q.0 rest left q.2 octets_are in
+      let wide = subst (λ (l : List ℕ). Exchange l (q.0 ∷ []) left) (sym (append-nil rest)) turn in
+      let all = subst (λ (l : List ℕ). Exchange l (p.0 ++ q.0 ∷ []) left) (append-nil stream) (exchange_join stream [] rest left p.0 (q.0 ∷ []) p.2 wide) in
+      let same : text ≡ texts (q.0 ∷ []) = is_out ∙ q.4 ∙ sym (append-nil (turn_text q.0)) in (
+        p.0 ++ q.0 ∷ [],
+        run_join rules c d e p.0 (q.0 ∷ []) p.1 q.1,
+        all,
+        subst (λ (l : List ℕ). Appends before after l) (ap (λ (l : List ℕ). texts p.0 ++ l) same ∙ sym (texts_join p.0 (q.0 ∷ []))) (appends_more before mid after _ _ p.3 wrote),
+      )
+
+  pub next_broken : (d e : Standing) (n : ℕ) (stream rest pending out text : List ℕ) (before mid after : Option (List ℕ)) → pending ≡ rest → text ≡ out
+      → IsCurrent rules c stream rest before mid d → IsSaid rules d pending (Next n) out e → ((part : List ℕ) × IsPart part text × Appends mid after part)
+      → IsBroken rules c stream before after e
+  next_broken d e n stream rest pending out text before mid after is_rest is_out p q wrote = (
+    p.0,
+    q.0 ∷ [],
+    rest,
+    text,
+    wrote.0,
+    run_join rules c d e p.0 (q.0 ∷ []) p.1 q.1,
+    p.2,
+    next q.0 _ q.2 (subst (λ (l : List ℕ). l ≡ octets_of q.0 ++ drop n l) is_rest q.3) refl (is_out ∙ q.4),
+    wrote.1,
+    appends_more before mid after _ _ p.3 wrote.2,
+  )
+
+  pub last_broken : (d e : Standing) (stream rest pending out text : List ℕ) (us : List Turn) (before mid after : Option (List ℕ)) → pending ≡ rest → text ≡ out
+      → IsCurrent rules c stream rest before mid d → Run rules d us e → Closes pending us out → ((part : List ℕ) × IsPart part text × Appends mid after part)
+      → IsBroken rules c stream before after e
+  last_broken d e stream rest pending out text us before mid after is_rest is_out p ran q wrote = (
+    p.0,
+    us,
+    rest,
+    text,
+    wrote.0,
+    run_join rules c d e p.0 us p.1 ran,
+    p.2,
+    closing (subst (λ (l : List ℕ). Closes rest us l) (sym is_out) (subst (λ (l : List ℕ). Closes l us out) is_rest q)),
+    wrote.1,
+    appends_more before mid after _ _ p.3 wrote.2,
+  )
+
+  pub last_closed : (d e : Standing) (stream rest pending out text : List ℕ) (us : List Turn) (before mid after : Option (List ℕ)) → pending ≡ rest → text ≡ out
+      → IsCurrent rules c stream rest before mid d → Run rules d us e → Closes pending us out → Appends mid after text → IsClosed rules c stream before after e
+  last_closed d e stream rest pending out text us before mid after is_rest is_out p ran q wrote = (
+    p.0,
+    us,
+    rest,
+    text,
+    run_join rules c d e p.0 us p.1 ran,
+    p.2,
+    subst (λ (l : List ℕ). Closes rest us l) (sym is_out) (subst (λ (l : List ℕ). Closes l us out) is_rest q),
+    appends_more before mid after _ _ p.3 wrote,
+  )

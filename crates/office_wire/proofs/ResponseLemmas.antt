@@ -1,0 +1,106 @@
+-- A response that there is no memory for.
+use Rattle.std.proofs.Common.{◌≡◌, ℕ, Bool, true, false, List, Option, Some, None, Result, Ok, Err, refl, sym, ap, subst, ◌∙◌}
+use Rattle.std.specs.Prelude.{option_map}
+use Rattle.httparse.specs.Grammar.{RequestHead}
+use Rattle.grant_policy.specs.declared.rule.Rule.{Rule}
+use Rattle.office_core.specs.declared.fault.TableFault.{TableFault}
+use Rattle.office_core.specs.declared.fault.TableFault.TheVariants as faults
+use Rattle.office_core.specs.declared.receipt.Receipt.{Receipt}
+use Rattle.office_core.specs.declared.reply.UpdateReply.{UpdateReply}
+use Rattle.office_core.specs.declared.request.Call.{Call}
+use Rattle.office_core.specs.declared.request.Request.{Request}
+use Rattle.office_core.specs.declared.request.Request.TheVariants as requests
+use Rattle.office_core.specs.declared.reply.Reply.{Reply}
+use Rattle.office_core.specs.declared.reply.Reply.TheVariants as replies
+use Rattle.office_core.specs.Replies.{ReplyOf, to_update, id_reused, reply_of}
+use Rattle.office_core.specs.States.{State}
+use Rattle.zone_core.specs.Updates.{UpdateOf}
+use Rattle.office_core.specs.Machine.{Turn, step, updated, answered, refusal}
+use Rattle.office_core.specs.Runs.{HasUpdate, turn}
+use Rattle.office_core.specs.Steps.{Steps, CountsReply}
+use Rattle.office_json.specs.Replies.{IsShort}
+use Rattle.office_wire.specs.declared.request_fault.RequestFault.{RequestFault}
+use Rattle.office_wire.specs.declared.request_fault.RequestFault.TheVariants as wrong
+use Rattle.office_wire.specs.declared.response.Response.{Response}
+use Rattle.office_wire.specs.declared.response.Response.TheVariants.{Refused, BadBody, Replied}
+use Rattle.office_wire.specs.declared.head.Heading.{Heading}
+use Rattle.office_wire.specs.Heads.{IsAsked}
+use Rattle.office_wire.specs.Requests.{Refuses, call_by, call_of}
+use Rattle.office_wire.specs.Serving.{standing, IsReplied}
+use Rattle.office_wire.specs.Outbox.{IsShortResponse, IsPut, servfail}
+use Rattle.office_wire.specs.Exchange.{Standing, Answers, replied, failed, refused, refusing}
+
+-- a reply to an update is short
+short_update : (reply : Reply) (x : UpdateReply) → reply_of reply ≡ Some (to_update x) → IsShort reply
+short_update (replies.Update r) x e = tt
+short_update replies.IdReused x e = tt
+short_update (replies.Servfail fault) x e = tt
+short_update replies.NotAuth x e = tt
+short_update replies.NotZone x e = tt
+short_update (replies.Records rs) x e = absurd cc
+short_update (replies.File origin rs) x e = absurd cc
+short_update (replies.Delegations ds) x e = absurd cc
+short_update (replies.Changes cs) x e = absurd cc
+short_update (replies.Right r) x e = tt
+
+-- a turn whose reply is long leaves the state as it was
+abbrev IsLongTurn : State → Turn → Type 0
+IsLongTurn s t = (reply : Reply) → reply_of reply ≡ Some t.reply → (IsShort reply → ⊥) → t.after ≡ s
+
+long_answered : (s : State) (caller id : List ℕ) (origin : List (List ℕ)) (update : UpdateOf) (o : Option UpdateReply) → IsLongTurn s (answered s caller id origin update o)
+long_answered s caller id origin update (Some x) reply e long = absurd (long (short_update reply _ e))
+long_answered s caller id origin update None reply e long = absurd (long (short_update reply _ e))
+
+long_updated : (rules : List Rule) (s : State) (caller id : List ℕ) (origin : List (List ℕ)) (update : UpdateOf) (o : Option Receipt) → IsLongTurn s (updated rules s caller id origin update o)
+long_updated rules s caller id origin update (Some kept) reply e long = refl
+long_updated rules s caller id origin update None reply e long = long_answered s caller id origin update (refusal rules caller origin update (s.zones origin)) reply e long
+
+long_step : (rules : List Rule) (s : State) (caller : List ℕ) (request : Request) → IsLongTurn s (step rules s caller request)
+long_step rules s caller (requests.Update origin id update) reply e long = long_updated rules s caller id origin update (s.receipts caller id) reply e long
+long_step rules s caller (requests.List origin) reply e long = refl
+long_step rules s caller (requests.ListWithin origin top) reply e long = refl
+long_step rules s caller (requests.File origin) reply e long = refl
+long_step rules s caller (requests.Delegations origin) reply e long = refl
+long_step rules s caller (requests.Changes origin from) reply e long = refl
+long_step rules s caller (requests.Rights name record_type asked) reply e long = refl
+
+short_refusing : (fault : RequestFault) → IsShortResponse (refusing fault)
+short_refusing (wrong.Refused r) = tt
+short_refusing (wrong.BadBody n) = tt
+short_refusing wrong.NoMemory = tt
+
+-- in place of a response that is not short SERVFAIL may be answered
+pub servfail_instead : (rules : List Rule) (c d : Standing) (read : Result Call RequestFault) (response : Response) → Answers rules c read response d → (IsShortResponse response → ⊥)
+    → Answers rules c read servfail d
+servfail_instead rules c d read response (replied call reply e has r said after count) long =
+    let long_reply = λ (short : IsShort reply). long (subst (λ (x : Response). IsShortResponse x) (sym r) short) in
+    failed faults.NoMemory refl (after ∙ long_step rules c.state call.caller call.request reply said long_reply) count
+servfail_instead rules c d read response (failed fault r stays count) long =
+    absurd (long (subst (λ (x : Response). IsShortResponse x) (sym r) tt))
+servfail_instead rules c d read response (refused fault e r stays) long =
+    absurd (long (subst (λ (x : Response). IsShortResponse x) (sym r) (short_refusing fault)))
+
+-- ---- what a call is answered
+
+pub steps_answer : (holds : State → Type 0) (rules : List Rule) (s : State) (before after : ℕ) (read : Result Call RequestFault) (call : Call) (reply : Reply)
+    → read ≡ Ok call → HasUpdate call.request → Steps holds rules s call.caller call.request reply → CountsReply before after reply
+    → (t : State) × holds t × Answers rules (standing s before) read (Replied reply) (standing t after)
+steps_answer holds rules s before after read call (replies.Servfail fault) e has steps counts = (s, steps, failed fault refl refl counts)
+steps_answer holds rules s before after read call reply e has steps counts =
+    ((turn rules s call).after, steps.1, replied call reply e has refl steps.0 refl counts)
+
+pub refusal_answers : (rules : List Rule) (c : Standing) (read : Result Call RequestFault) (fault : RequestFault) → Refuses fault read → Answers rules c read (refusing fault) c
+refusal_answers rules c read (wrong.Refused r) e = refused (wrong.Refused r) e refl refl
+refusal_answers rules c read (wrong.BadBody n) e = refused (wrong.BadBody n) e refl refl
+refusal_answers rules c read wrong.NoMemory e = failed faults.NoMemory refl refl refl
+
+-- the call of what is kept of a head is the call of the head
+pub asked_call : (g : Heading) (h : RequestHead) (body : List ℕ) → IsAsked g h → call_by (option_map (λ v. v.now) g.caller) g.method g.target.now body ≡ call_of h body
+unfolding call_of
+asked_call g h body is = λ i. call_by (is.caller i) (is.method i) (is.target i) body
+
+-- what is put is the text of what is answered
+pub put_answers : (rules : List Rule) (c d : Standing) (read : Result Call RequestFault) (response : Response) (closing whole : Bool) (text : List ℕ) → Answers rules c read response d → IsPut response closing whole text
+    → IsReplied rules c read closing text d
+put_answers rules c d read response closing true text a put = record { response = response; answers = a; text_is = put }
+put_answers rules c d read response closing false text a put = record { response = servfail; answers = servfail_instead rules c d read response a put.0; text_is = put.1 }

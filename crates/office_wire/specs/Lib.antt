@@ -1,0 +1,12 @@
+pub mod Fields
+pub mod Lengths
+pub mod Refusals
+pub mod Routes
+pub mod Parts
+pub mod Requests
+pub mod Texts
+pub mod Exchange
+pub mod Outbox
+pub mod Heads
+pub mod Promises
+pub mod Serving

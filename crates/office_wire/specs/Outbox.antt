@@ -1,0 +1,23 @@
+-- Responses that fit the room that is taken before the first read.
+use Rattle.std.specs.Prelude.{◌≡◌, ℕ, ◌⊎◌, Bool, true, false, List}
+use Rattle.office_core.specs.declared.fault.TableFault.TheVariants.{NoMemory}
+use Rattle.office_core.specs.declared.reply.Reply.TheVariants.{Servfail}
+use Rattle.office_json.specs.Replies.{IsShort}
+use Rattle.office_wire.specs.declared.response.Response.{Response}
+use Rattle.office_wire.specs.declared.response.Response.TheVariants.{Refused, BadBody, Replied}
+use Rattle.office_wire.specs.Texts.{text_of}
+
+-- a response whose body has at most 256 octets
+abbrev pub IsShortResponse : Response → Type 0
+IsShortResponse (Refused refusal) = Unit {0}
+IsShortResponse (BadBody number) = Unit {0}
+IsShortResponse (Replied reply) = IsShort reply
+
+-- SERVFAIL for want of memory
+abbrev pub servfail : Response
+servfail = Replied (Servfail NoMemory)
+
+-- The text of a response stands there; in place of one that is not short, where there was no memory for it, that of SERVFAIL.
+abbrev pub IsPut : Response → Bool → Bool → List ℕ → Type 0
+IsPut response closing true text = text ≡ text_of response closing
+IsPut response closing false text = (IsShortResponse response → ⊥) × (text ≡ text_of servfail closing)

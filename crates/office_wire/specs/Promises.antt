@@ -1,0 +1,47 @@
+-- What is promised of the calls of an exchange.
+use Rattle.std.specs.Prelude.{◌≡◌, ℕ, List, [], Result, Ok, Err}
+use Rattle.std.specs.List.{flat_map}
+use Rattle.grant_policy.specs.declared.rule.Rule.{Rule}
+use Rattle.office_core.specs.declared.request.Call.{Call}
+use Rattle.office_core.specs.Replies.{reply_of}
+use Rattle.office_core.specs.Runs.{Answer, answers, state_after, one_kept, one_given}
+use Rattle.office_core.specs.States.{State, AreZones, AreReceipts}
+use Rattle.office_core.specs.Promises.{CallsAreRight}
+use Rattle.office_core.specs.Isolation.{AreToldAlone}
+use Rattle.office_wire.specs.declared.request_fault.RequestFault.{RequestFault}
+use Rattle.office_wire.specs.declared.response.Response.{Response}
+use Rattle.office_wire.specs.declared.response.Response.TheVariants.{Refused, BadBody, Replied}
+use Rattle.office_wire.specs.Requests.{call_of}
+use Rattle.office_wire.specs.Exchange.{Turn, Standing, Run}
+
+-- the call of what was read, where the machine answered it; none where it was refused in reading, or told SERVFAIL
+abbrev pub call_in : Result Call RequestFault → Response → List Call
+call_in (Ok call) (Replied reply) = one_kept call (reply_of reply)
+call_in read response = []
+
+-- and what it was answered
+abbrev pub answer_in : Result Call RequestFault → Response → List Answer
+answer_in (Ok call) (Replied reply) = one_given call (reply_of reply)
+answer_in read response = []
+
+-- the calls of turns that the machine answered, in their order
+abbrev pub calls : List Turn → List Call
+calls turns = flat_map (λ t. call_in (call_of t.head t.body) t.response) turns
+
+-- and what was told
+abbrev pub told : List Turn → List Answer
+told turns = flat_map (λ t. answer_in (call_of t.head t.body) t.response) turns
+
+-- What is promised of turns from a state to another: their calls are a run of the machine, which tells what was told and leads to the
+-- other state; what the office promises of calls holds of them, and what it promises each caller of what others do.
+pub record ArePromised (rules : List Rule) (s : State) (turns : List Turn) (t : State) : Type 0 where
+  pub as_machine : told turns ≡ answers rules s (calls turns)
+  pub after : t ≡ state_after rules s (calls turns)
+  pub right : CallsAreRight rules s (calls turns)
+  pub alone : AreToldAlone rules s (calls turns) (told turns)
+
+-- exchanges are runs of the machine
+abbrev pub ExchangesAreRuns : Type 0
+ExchangesAreRuns =
+    (rules : List Rule) (c d : Standing) (turns : List Turn) → AreZones c.state → AreReceipts c.state → Run rules c turns d
+    → ArePromised rules c.state turns d.state

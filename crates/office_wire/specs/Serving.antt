@@ -1,0 +1,109 @@
+-- What serving a stream does.
+use Rattle.std.specs.Prelude.{◌≡◌, ℕ, ◌+◌, ◌-◌, ◌^◌, ◌<◌, ◌≤◌, ◌⊎◌, Bool, true, false, List, [], ◌∷◌, ◌++◌, length, drop, Option, Result, Ok, Err, IfSome, ⊤}
+use Rattle.std.specs.List.{list_all}
+use Rattle.std.specs.Io.KnownBytes.{Appends, Consumes}
+use Rattle.dns_master.specs.declared.device.DeviceFailed.{DeviceFailed}
+use Rattle.grant_policy.specs.declared.rule.Rule.{Rule}
+use Rattle.office_core.specs.declared.request.Call.{Call}
+use Rattle.office_core.specs.States.{State}
+use Rattle.office_wire.specs.declared.refusal.Refusal.TheVariants.{CutShort}
+use Rattle.office_wire.specs.declared.request_fault.RequestFault.{RequestFault}
+use Rattle.office_wire.specs.declared.response.Response.{Response}
+use Rattle.office_wire.specs.declared.response.Response.TheVariants.{Refused}
+use Rattle.office_wire.specs.declared.exchange.Said.{Said}
+use Rattle.office_wire.specs.declared.exchange.Said.TheVariants.{Nothing, Next, Last}
+use Rattle.office_wire.specs.declared.fault.ServeFault.{ServeFault}
+use Rattle.office_wire.specs.declared.fault.ServeFault.TheVariants.{ReadFailed, WriteFailed, StreamTooLong, NoMemory}
+use Rattle.office_wire.specs.Texts.{text_of}
+use Rattle.office_wire.specs.Exchange.{Turn, octets_of, turn_text, texts, IsTurn, IsOpenTurn, Standing, Answers, Run, Exchange, Waits, Closes, Ends, Says, IsPart, closes, is_line_end}
+
+-- how a table stands
+abbrev pub standing : State → ℕ → Standing
+standing s failures = record { state = s; failures = failures }
+
+-- ---- the whole
+
+-- the whole stream was answered, and all of the responses went out; these are all turns
+abbrev pub IsAnswered : List Turn → List ℕ → Option (List ℕ) → Option (List ℕ) → Type 0
+IsAnswered all stream before after =
+    (turns last : List Turn) × (rest text : List ℕ) × (all ≡ turns ++ last) × Exchange stream turns rest × Ends rest last text
+    × Appends before after (texts turns ++ text)
+
+-- the stream was answered so far, and the response that was written last went out in part
+abbrev pub IsCut : List Turn → List ℕ → Option (List ℕ) → Option (List ℕ) → Type 0
+IsCut all stream before after =
+    (turns last : List Turn) × (rest text part : List ℕ) × (all ≡ turns ++ last) × Exchange stream turns rest
+    × (Says rest last text ⊎ Ends rest last text) × IsPart part text × Appends before after (texts turns ++ part)
+
+-- of at least so many octets that were read all whole requests were answered, all of the responses went out, and what is left is no
+-- request yet
+abbrev pub IsRead : ℕ → List Turn → Option (List ℕ) → Option (List ℕ) → Option (List ℕ) → Option (List ℕ) → Type 0
+IsRead least all known left before after =
+    (read rest : List ℕ) × (least ≤ length read) × Consumes known left read × Waits rest × Exchange read all rest × Appends before after (texts all)
+
+-- What serving a stream did, by its result: all was answered, to the end or to the last response; a write failed; a read failed; after
+-- 2^64 - 1 reads there was no end; or there was no memory, and then nothing was read and nothing written.
+abbrev pub IsDone : List Turn → Result (Unit {0}) ServeFault → Option (List ℕ) → Option (List ℕ) → Option (List ℕ) → Option (List ℕ) → Type 0
+IsDone all (Ok u) known left before after = IfSome known (λ stream. IsAnswered all stream before after)
+IsDone all (Err WriteFailed) known left before after = IfSome known (λ stream. IsCut all stream before after)
+IsDone all (Err ReadFailed) known left before after = IsRead 0 all known left before after
+IsDone all (Err StreamTooLong) known left before after = IsRead (2 ^ 64 - 1) all known left before after
+IsDone all (Err NoMemory) known left before after = (all ≡ []) × (left ≡ known) × (after ≡ before)
+
+-- ---- one request
+
+-- this was answered to what was read of a request, in this text, and how the table stands behind it
+pub record IsReplied (rules : List Rule) (c : Standing) (read : Result Call RequestFault) (closing : Bool) (text : List ℕ) (d : Standing) : Type 0 where
+  pub response : Response
+  pub answers : Answers rules c read response d
+  pub text_is : text ≡ text_of response closing
+
+-- this was answered to what stands at the front, in this text, and how the table stands behind it
+abbrev pub IsSaid : List Rule → Standing → List ℕ → Said → List ℕ → Standing → Type 0
+IsSaid rules c pending Nothing text d = d ≡ c
+IsSaid rules c pending (Next n) text d =
+    (t : Turn) × Run rules c (t ∷ []) d × IsOpenTurn t × (pending ≡ octets_of t ++ drop n pending) × (text ≡ turn_text t)
+IsSaid rules c pending Last text d = (last : List Turn) × Run rules c last d × Closes pending last text
+
+-- what that says of the octets alone
+abbrev pub Stands : List ℕ → Said → Type 0
+Stands pending Nothing = Waits pending × (length pending < 81920)
+Stands pending (Next n) = (0 < n) × (n ≤ length pending)
+Stands pending Last = ⊤
+
+-- ---- what has come
+
+-- the octets that are left are no request yet
+abbrev pub IsIdle : Result Bool DeviceFailed → List ℕ → Type 0
+IsIdle (Ok false) rest = Waits rest × (length rest < 81920)
+IsIdle (Ok true) rest = ⊤
+IsIdle (Err e) rest = ⊤
+
+-- the octets were answered so far, up to rest
+abbrev pub IsCurrent : List Rule → Standing → List ℕ → List ℕ → Option (List ℕ) → Option (List ℕ) → Standing → Type 0
+IsCurrent rules c stream rest before after d =
+    (turns : List Turn) × Run rules c turns d × Exchange stream turns rest × Appends before after (texts turns)
+
+-- they were answered up to the last response
+abbrev pub IsClosed : List Rule → Standing → List ℕ → Option (List ℕ) → Option (List ℕ) → Standing → Type 0
+IsClosed rules c stream before after d =
+    (turns last : List Turn) × (rest text : List ℕ) × Run rules c (turns ++ last) d × Exchange stream turns rest × Closes rest last text
+    × Appends before after (texts turns ++ text)
+
+-- they were answered, and the last response that was written went out in part
+abbrev pub IsBroken : List Rule → Standing → List ℕ → Option (List ℕ) → Option (List ℕ) → Standing → Type 0
+IsBroken rules c stream before after d =
+    (turns last : List Turn) × (rest text part : List ℕ) × Run rules c (turns ++ last) d × Exchange stream turns rest × Says rest last text
+    × IsPart part text × Appends before after (texts turns ++ part)
+
+-- what had come was served so
+abbrev pub IsServed : List Rule → Standing → List ℕ → Result Bool DeviceFailed → List ℕ → Option (List ℕ) → Option (List ℕ) → Standing → Type 0
+IsServed rules c stream (Ok false) rest before after d = IsCurrent rules c stream rest before after d
+IsServed rules c stream (Ok true) rest before after d = IsClosed rules c stream before after d
+IsServed rules c stream (Err e) rest before after d = IsBroken rules c stream before after d
+
+-- how the end of the stream is answered
+abbrev pub Finishes : List ℕ → Result (Unit {0}) DeviceFailed → Option (List ℕ) → Option (List ℕ) → Type 0
+Finishes rest (Ok u) before after =
+    (text : List ℕ) × Appends before after text × (((list_all is_line_end rest ≡ true) × (text ≡ [])) ⊎ (text ≡ text_of (Refused CutShort) true))
+Finishes rest (Err e) before after = (part : List ℕ) × IsPart part (text_of (Refused CutShort) true) × Appends before after part

@@ -1,0 +1,55 @@
+//! What stands at the front of the octets that have come.
+
+ghost use Rattle.std.specs.Prelude.{◌≡◌, take, length};
+ghost use Rattle.office_wire.specs.Heads.{IsFront};
+
+use crate::head::{HEAD_MAX, HeadRead, Heading, read_head};
+use crate::length::Ask;
+use crate::refusal::Refusal;
+use httparse::spans::HeaderSpan;
+
+/// What stands at the front of the octets that have come.
+#[derive(Clone, Copy, Debug)]
+pub(crate) enum Front<'a> {
+    /// No whole request yet.
+    Waiting,
+    /// No head, however it goes on.
+    Bad,
+    /// A head that is refused.
+    Refused(Refusal),
+    /// A head, and a body of so many octets.
+    Ready(Heading<'a>, usize),
+}
+
+/// The octets among which a head can stand.
+fn window_of(bytes: &[u8]) -> &[u8]
+    ensures { result.now ≡ take 16384 bytes.now }
+{
+    if bytes.len() < HEAD_MAX {
+        bytes
+    } else {
+        &bytes[..HEAD_MAX]
+    }
+}
+
+/// What stands at the front.
+pub(crate) fn front_of<'a>(bytes: &'a [u8], spans: &mut [HeaderSpan]) -> Front<'a>
+    requires { length spans.old ≡ 5462 }
+    ensures { IsFront bytes.now result }
+{
+    match read_head(window_of(bytes), spans) {
+        HeadRead::Hopeless => Front::Bad,
+        HeadRead::Partial if bytes.len() < HEAD_MAX => Front::Waiting,
+        HeadRead::Partial => Front::Bad,
+        HeadRead::Whole(heading) => match heading.ask {
+            Ask::Refused(refusal) => Front::Refused(refusal),
+            Ask::Body(n) => {
+                if bytes.len() - heading.len < n {
+                    Front::Waiting
+                } else {
+                    Front::Ready(heading, n)
+                }
+            }
+        },
+    }
+}

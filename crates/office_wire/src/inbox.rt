@@ -1,0 +1,88 @@
+//! The octets that have come and are not answered yet.
+
+ghost use Rattle.std.specs.Prelude.{◌≡◌, ◌<◌, ◌≤◌, ◌++◌, ◌-◌, ℕ, List, vec_len, take, drop, length, IfOk, OnErr, OnOk};
+ghost use Rattle.std.specs.Io.KnownBytes.{Consumes, IsAtEnd, Keeps};
+ghost use Rattle.std.specs.List.{slice_range};
+
+use dns_master::{DeviceFailed, Source};
+use std::alloc::{AllocError, Global};
+use std::marker::Model;
+
+/// The room for a head and a body.
+const ROOM: usize = 81_920;
+
+/// The octets that have come and are not answered yet. They move to the front of their room at a read, and at no other time.
+#[derive(Drop)]
+pub(crate) struct Inbox {
+    bytes: Vec<u8>,
+    start: usize,
+    end: usize,
+}
+
+impl Model for Inbox {
+    ghost Value = { List ℕ };
+
+    ghost view = { λ s. slice_range s.bytes.items s.start s.end };
+
+    ghost invariant = { λ s. (s.start ≤ s.end) × (s.end ≤ 81920) × (vec_len s.bytes ≡ 81920) };
+}
+
+/// Moves the octets of a range to the front, and answers how many they are.
+fn to_front(bytes: &mut Vec<u8>, start: usize, end: usize) -> usize
+    requires order { start ≤ end }
+    requires within { end ≤ vec_len bytes.old }
+    ensures front { take result bytes.new.items ≡ slice_range bytes.old.items start end }
+    ensures count { result ≡ end - start }
+    ensures len { vec_len bytes.new ≡ vec_len bytes.old }
+{
+    if start == 0 {
+        return end;
+    }
+    bytes.copy_within(start..end, 0);
+    end - start
+}
+
+impl Inbox {
+    /// Room in which nothing has come yet. The only error is want of memory.
+    pub(crate) fn new(alloc: Global) -> Result<Inbox, AllocError>
+        ensures { IfOk result (λ inbox. length inbox ≡ 0) }
+    {
+        let bytes = vec![in alloc; 0; ROOM]?;
+        Ok(Inbox {
+            bytes,
+            start: 0,
+            end: 0,
+        })
+    }
+
+    /// The octets.
+    pub(crate) fn as_slice(&self) -> &[u8]
+        ensures value { result.now ≡ self.now }
+        ensures bound { length result.now ≤ 81920 }
+    {
+        &self.bytes[self.start..self.end]
+    }
+
+    /// Reads once behind what is there, and answers how many octets came.
+    pub(crate) fn fill<R: Source>(&mut self, reader: &mut R) -> Result<usize, DeviceFailed>
+        requires { length self.old < 81920 }
+        ensures got { IfOk result (λ n. (got : List ℕ) × (self.new ≡ self.old ++ got) × (length got ≡ n) × Consumes (R.remaining reader.old) (R.remaining reader.new) got × (n ≡ 0 → IsAtEnd (R.remaining reader.new))) }
+        ensures kept { OnErr result ((self.new ≡ self.old) × Keeps (R.remaining reader.old) (R.remaining reader.new)) }
+        ensures fine { OnOk result (R.failures reader.new ≡ R.failures reader.old) }
+        ensures failed { OnErr result (R.failures reader.old < R.failures reader.new) }
+    {
+        self.end = to_front(&mut self.bytes, self.start, self.end);
+        self.start = 0;
+        let got = reader.read_some(&mut self.bytes[self.end..])?;
+        self.end += got;
+        Ok(got)
+    }
+
+    /// Lets the first octets go.
+    pub(crate) fn drop_front(&mut self, n: usize)
+        requires { n ≤ length self.old }
+        ensures { self.new ≡ drop n self.old }
+    {
+        self.start += n;
+    }
+}

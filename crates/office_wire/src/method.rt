@@ -1,0 +1,38 @@
+//! The methods of requests.
+
+ghost use Rattle.std.specs.Prelude.{◌≡◌};
+ghost use Rattle.office_wire.specs.Lengths.{method_of, needs_length};
+
+/// The method of a request (RFC 9110 section 9).
+#[derive(Clone, Copy, Debug, PartialEq, Eq)]
+pub(crate) enum Method {
+    Get,
+    Post,
+    /// Another one, for which there is no route.
+    Other,
+}
+
+impl Method {
+    /// The method of a text, which is read only as it is written.
+    pub(crate) fn read(text: &[u8]) -> Method
+        ensures { result ≡ method_of text.now }
+    {
+        if text == b"POST".as_slice() {
+            Method::Post
+        } else if text == b"GET".as_slice() {
+            Method::Get
+        } else {
+            Method::Other
+        }
+    }
+
+    /// Whether a request has to state the length of its body.
+    pub(crate) const fn needs_length(self) -> bool
+        ensures { result ≡ needs_length self }
+    {
+        match self {
+            Method::Post => true,
+            Method::Get | Method::Other => false,
+        }
+    }
+}

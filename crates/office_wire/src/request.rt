@@ -1,0 +1,188 @@
+//! The call of the office that a head and a body are.
+
+ghost use Rattle.std.specs.Prelude.{◌≡◌, ℕ, List, option_map, IfOk, IsUtf8};
+ghost use Rattle.office_core.specs.Runs.{HasUpdate};
+ghost use Rattle.office_json.specs.Reading.{type_named};
+ghost use Rattle.office_wire.specs.Requests.{Gives, caller_in, name_in, number_in, type_in, action_in, request_by, call_by};
+
+use crate::digits::number_of;
+use crate::head::Heading;
+use crate::part::decoded_part;
+use crate::refusal::Refusal;
+use crate::request_fault::RequestFault;
+use crate::route::{Route, Routes};
+use dns_data::RecordType;
+use dns_names::Name;
+use grant_policy::{Action, Identifier, IdentifierFault};
+use office_core::{Call, Request};
+use office_json::{UpdateBody, read_delegation, read_update};
+use std::alloc::Global;
+
+/// The caller, by the value of the field that names it.
+fn read_caller(alloc: Global, text: Option<&[u8]>) -> Result<Identifier, RequestFault>
+    ensures { Gives result (caller_in (option_map (λ v. v.now) text.entry)) }
+{
+    let Some(text) = text else {
+        return Err(RequestFault::Refused(Refusal::NoCaller));
+    };
+    match Identifier::read(alloc, text) {
+        Ok(caller) => Ok(caller),
+        Err(IdentifierFault::Malformed) => Err(RequestFault::Refused(Refusal::NoCaller)),
+        Err(IdentifierFault::NoMemory) => Err(RequestFault::NoMemory),
+    }
+}
+
+/// The name that a part of a path is.
+fn read_name(alloc: Global, path: &[u8], number: usize) -> Result<Name, RequestFault>
+    ensures { Gives result (name_in number path.now) }
+{
+    let text = decoded_part(alloc, path, number)?;
+    Ok(Name::read_absolute(alloc, &text)?)
+}
+
+/// The number that a part of a path is.
+fn read_number(alloc: Global, path: &[u8], number: usize) -> Result<u32, RequestFault>
+    ensures { Gives result (number_in number path.now) }
+{
+    let text = decoded_part(alloc, path, number)?;
+    match number_of(u32::MAX, &text) {
+        Some(from) => Ok(from),
+        None => Err(RequestFault::Refused(Refusal::BadPart)),
+    }
+}
+
+/// The record type of this name, in either letter case.
+fn type_named(text: &[u8]) -> Option<RecordType>
+    ensures { result ≡ type_named text.now }
+{
+    RecordType::read(text).ok()
+}
+
+/// The record type that a part of a path is.
+fn read_type(alloc: Global, path: &[u8], number: usize) -> Result<RecordType, RequestFault>
+    ensures { Gives result (type_in number path.now) }
+{
+    let text = decoded_part(alloc, path, number)?;
+    match type_named(&text) {
+        Some(record_type) => Ok(record_type),
+        None => Err(RequestFault::Refused(Refusal::BadPart)),
+    }
+}
+
+/// The action that a part of a path is.
+fn read_action(alloc: Global, path: &[u8], number: usize) -> Result<Action, RequestFault>
+    ensures { Gives result (action_in number path.now) }
+{
+    let text = decoded_part(alloc, path, number)?;
+    match Action::read(&text) {
+        Some(action) => Ok(action),
+        None => Err(RequestFault::Refused(Refusal::BadPart)),
+    }
+}
+
+/// The request of an update, by its body.
+fn read_updating(alloc: Global, path: &[u8], body: &[u8]) -> Result<Request, RequestFault>
+    ensures exact { Gives result (request_by Route.Update path.now body.now) }
+    ensures update { IfOk result HasUpdate }
+{
+    let origin = read_name(alloc, path, 2)?;
+    let UpdateBody { id, update } = read_update(alloc, body)?;
+    Ok(Request::Update { origin, id, update })
+}
+
+/// The request of a delegation, by its body: the update that it becomes.
+fn read_delegating(alloc: Global, path: &[u8], body: &[u8]) -> Result<Request, RequestFault>
+    ensures exact { Gives result (request_by Route.Delegate path.now body.now) }
+    ensures update { IfOk result HasUpdate }
+{
+    let origin = read_name(alloc, path, 2)?;
+    let UpdateBody { id, update } = read_delegation(alloc, body, &origin)?;
+    Ok(Request::Update { origin, id, update })
+}
+
+/// The request to list the records within a name.
+fn read_within(alloc: Global, path: &[u8]) -> Result<Request, RequestFault>
+    ensures exact { (body : List ℕ) → Gives result (request_by Route.RecordsWithin path.now body) }
+    ensures update { IfOk result HasUpdate }
+{
+    let origin = read_name(alloc, path, 2)?;
+    let top = read_name(alloc, path, 4)?;
+    Ok(Request::ListWithin { origin, top })
+}
+
+/// The request of the changes of a zone.
+fn read_changes(alloc: Global, path: &[u8]) -> Result<Request, RequestFault>
+    ensures exact { (body : List ℕ) → Gives result (request_by Route.Changes path.now body) }
+    ensures update { IfOk result HasUpdate }
+{
+    let origin = read_name(alloc, path, 2)?;
+    let from = read_number(alloc, path, 4)?;
+    Ok(Request::Changes { origin, from })
+}
+
+/// The request of what the policy decides.
+fn read_rights(alloc: Global, path: &[u8]) -> Result<Request, RequestFault>
+    ensures exact { (body : List ℕ) → Gives result (request_by Route.Rights path.now body) }
+    ensures update { IfOk result HasUpdate }
+{
+    let name = read_name(alloc, path, 2)?;
+    let record_type = read_type(alloc, path, 3)?;
+    let action = read_action(alloc, path, 4)?;
+    Ok(Request::Rights {
+        name,
+        record_type,
+        action,
+    })
+}
+
+/// The request of a route, by the path and the body.
+fn read_request(
+    alloc: Global,
+    route: Route,
+    path: &[u8],
+    body: &[u8],
+) -> Result<Request, RequestFault>
+    ensures exact { Gives result (request_by route path.now body.now) }
+    ensures update { IfOk result HasUpdate }
+{
+    match route {
+        Route::Update => read_updating(alloc, path, body),
+        Route::Delegate => read_delegating(alloc, path, body),
+        Route::Delegations => {
+            let origin = read_name(alloc, path, 2)?;
+            Ok(Request::Delegations { origin })
+        }
+        Route::Records => {
+            let origin = read_name(alloc, path, 2)?;
+            Ok(Request::List { origin })
+        }
+        Route::RecordsWithin => read_within(alloc, path),
+        Route::File => {
+            let origin = read_name(alloc, path, 2)?;
+            Ok(Request::File { origin })
+        }
+        Route::Changes => read_changes(alloc, path),
+        Route::Rights => read_rights(alloc, path),
+    }
+}
+
+/// The call that a head and a body are, or the refusal that comes first: `NoCaller`, `NoRoute`, `BadPart`, or that of the body.
+/// `NoMemory` comes at the growth that was refused.
+#[tactic(auto, unfolding(crate::specs::Requests::call_by))]
+pub(crate) fn read_call(
+    alloc: Global,
+    routes: &Routes,
+    heading: &Heading<'_>,
+    body: &[u8],
+) -> Result<Call, RequestFault>
+    requires { IsUtf8 heading.now.target.now }
+    ensures exact { Gives result (call_by (option_map (λ v. v.now) heading.now.caller) heading.now.method heading.now.target.now body.now) }
+    ensures update { IfOk result (λ call. HasUpdate call.request) }
+{
+    let caller = read_caller(alloc, heading.caller)?;
+    let Some(route) = routes.find(heading.method, heading.target) else {
+        return Err(RequestFault::Refused(Refusal::NoRoute));
+    };
+    let request = read_request(alloc, route, heading.target, body)?;
+    Ok(Call { caller, request })
+}

@@ -1,0 +1,131 @@
+//! Serving a stream.
+
+ghost use Rattle.std.specs.Prelude.{◌≡◌, ◌<◌, ℕ, List, [], length, IsErrOf, OnOk, OnErr};
+ghost use Rattle.std.specs.List.{list_all};
+ghost use Rattle.office_core.specs.States.{State};
+ghost use Rattle.office_wire.specs.Exchange.{Turn, Run, is_line_end};
+ghost use Rattle.office_wire.specs.Promises.{ArePromised};
+ghost use Rattle.office_wire.specs.Serving.{standing, IsDone, Finishes};
+
+use crate::exchange::{Service, write_whole};
+use crate::fault::ServeFault;
+use crate::head::SPANS;
+use crate::inbox::Inbox;
+use crate::outbox::Outbox;
+use crate::refusal::Refusal;
+use crate::response::Response;
+use crate::route::Routes;
+use dns_master::{DeviceFailed, Sink, Source};
+use grant_policy::Policy;
+use httparse::spans::{EMPTY_HEADER_SPAN, HeaderSpan};
+use office_core::ZoneTable;
+use std::alloc::Global;
+
+/// Whether there are only line ends.
+fn is_quiet(bytes: &[u8]) -> bool
+    ensures { result ≡ list_all is_line_end bytes.now }
+{
+    bytes.iter().all(|octet| *octet == b'\r' || *octet == b'\n')
+}
+
+/// Answers the end of a stream at what is left of it.
+fn finish<W: Sink>(rest: &[u8], writer: &mut W, out: &mut Outbox) -> Result<(), DeviceFailed>
+    ensures finishes { Finishes rest.now result (W.contents writer.old) (W.contents writer.new) }
+    ensures same { OnOk result (W.failures writer.new ≡ W.failures writer.old) }
+    ensures rose { OnErr result (W.failures writer.old < W.failures writer.new) }
+{
+    if is_quiet(rest) {
+        return Ok(());
+    }
+    out.put_short(&Response::Refused(Refusal::CutShort), true);
+    match write_whole(writer, out.as_slice()) {
+        Ok(()) => Ok(()),
+        Err(fault) => Err(fault),
+    }
+}
+
+/// Answers each request of a stream, in the rooms that were made for it.
+fn serve_in<R: Source, W: Sink, T: ZoneTable>(
+    service: &Service<'_>,
+    inbox: &mut Inbox,
+    spans: &mut [HeaderSpan],
+    out: &mut Outbox,
+    reader: &mut R,
+    writer: &mut W,
+    table: &mut T,
+) -> Result<(), ServeFault>
+    requires empty { length inbox.old ≡ 0 }
+    requires spans { length spans.old ≡ 5462 }
+    ensures run { T.is_honest table.new → (s : State) → T.holds table.old s → (turns : List Turn) × (t : State) × T.holds table.new t × Run service.now.policy.now (standing s (T.failures table.old)) turns (standing t (T.failures table.new)) × IsDone turns result (R.remaining reader.old) (R.remaining reader.new) (W.contents writer.old) (W.contents writer.new) }
+    ensures honest { T.is_honest table.new → T.is_honest table.old }
+    ensures read_failed { IsErrOf result ServeFault.ReadFailed → R.failures reader.old < R.failures reader.new }
+    ensures write_failed { IsErrOf result ServeFault.WriteFailed → W.failures writer.old < W.failures writer.new }
+{
+    'reads: for _ in 0..u64::MAX {
+        let got = match inbox.fill(reader) {
+            Err(_) => return Err(ServeFault::ReadFailed),
+            Ok(got) => got,
+        };
+        if got == 0 {
+            match finish(inbox.as_slice(), writer, out) {
+                Err(_) => return Err(ServeFault::WriteFailed),
+                Ok(()) => return Ok(()),
+            }
+        }
+        match service.answer_all(inbox, spans, writer, table, out) {
+            Err(_) => return Err(ServeFault::WriteFailed),
+            Ok(closed) => {
+                if closed {
+                    return Ok(());
+                }
+            }
+        }
+    }
+    Err(ServeFault::StreamTooLong)
+}
+
+/// Answers each request of a stream (RFC 9112), in order, by the policy and over the table, to the end of the stream or to the
+/// first response that closes it.
+///
+/// A request is a head of at most 16,384 octets and 64 fields, and a body of at most 65,536. It is refused, first of all, for its
+/// head, its length or its body, then for its caller, its route, the parts of its path, and what its body asks; else the office
+/// is asked. Each response is written whole before the next request is looked at; a list that there is no memory for is answered
+/// SERVFAIL, and nothing takes memory between the change that an update makes and the end of its response.
+///
+/// `ReadFailed` and `WriteFailed` come only where the reader or the writer failed in this call. `StreamTooLong` comes after
+/// 2^64 - 1 reads. `NoMemory` comes before anything is read.
+pub fn serve<R: Source, W: Sink, T: ZoneTable>(
+    alloc: Global,
+    reader: &mut R,
+    writer: &mut W,
+    table: &mut T,
+    policy: &Policy,
+) -> Result<(), ServeFault>
+    // Where the store has kept its word, there are turns that take the table from how it stood to how it stands: they are the
+    // requests of the stream, their responses are what was written, and what the office promises of calls holds of theirs.
+    ensures run { T.is_honest table.new → (s : State) → T.holds table.old s → (turns : List Turn) × (t : State) × T.holds table.new t × Run policy.now (standing s (T.failures table.old)) turns (standing t (T.failures table.new)) × IsDone turns result (R.remaining reader.old) (R.remaining reader.new) (W.contents writer.old) (W.contents writer.new) × ArePromised policy.now s turns t }
+    // A store that has kept its word had kept it before.
+    ensures honest { T.is_honest table.new → T.is_honest table.old }
+    // A failure is told only where the device failed.
+    ensures read_failed { IsErrOf result ServeFault.ReadFailed → R.failures reader.old < R.failures reader.new }
+    ensures write_failed { IsErrOf result ServeFault.WriteFailed → W.failures writer.old < W.failures writer.new }
+{
+    let Ok(routes) = Routes::new(alloc) else {
+        return Err(ServeFault::NoMemory);
+    };
+    let Ok(mut inbox) = Inbox::new(alloc) else {
+        return Err(ServeFault::NoMemory);
+    };
+    let Ok(mut out) = Outbox::new(alloc) else {
+        return Err(ServeFault::NoMemory);
+    };
+    let service = Service {
+        alloc,
+        policy,
+        routes,
+    };
+    let mut spans = [EMPTY_HEADER_SPAN; SPANS];
+    serve_in(
+        &service, &mut inbox, &mut spans, &mut out, reader, writer, table,
+    )
+}

@@ -1,0 +1,10 @@
+pub mod ListLemmas
+pub mod ListingLemmas
+pub mod RecordLemmas
+pub mod ChangeLemmas
+pub mod ZoneLemmas
+pub mod ReceiptLemmas
+pub mod StateLemmas
+pub mod ChangedZoneLemmas
+pub mod NewZoneLemmas
+pub mod WritingLaws

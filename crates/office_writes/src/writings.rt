@@ -1,0 +1,125 @@
+//! Writings.
+
+ghost use Rattle.std.specs.Prelude.{◌≡◌, ◌++◌, ℕ, pos, map, false, Some, None, IfOk};
+ghost use Rattle.dns_names.specs.Labels.{IsName};
+ghost use Rattle.zone_core.specs.Sets.{is_same};
+ghost use Rattle.zone_core.specs.Zones.{IsZone};
+ghost use Rattle.office_core.specs.States.{Held, State};
+ghost use Rattle.office_core.specs.Tables.{Fits, addition_in, change_in, committed};
+ghost use Rattle.office_rows.specs.RecordRows.{record_row};
+ghost use Rattle.office_writes.specs.Writings.{Leads, IsNext, with_zone, with_zone_replaced, change_writing};
+
+use dns_data::Record;
+use dns_names::Name;
+use office_core::{Addition, Change};
+use office_rows::{change_rows, receipt_row, record_row};
+use office_tables::{ReceiptRow, RecordRow, Writing};
+use std::alloc::{AllocError, Global};
+use zone_core::Zone;
+
+/// A zone has a name as its origin, and is one. Only proofs need it.
+fn notes_zone(zone: &Zone)
+    ensures name { IsName zone.now.origin }
+    ensures zone { IsZone zone.now }
+{
+    let _ = zone.origin().labels();
+}
+
+/// The rows of records of the zone of an origin. The only error is want of memory.
+fn record_rows(
+    alloc: Global,
+    origin: &Name,
+    records: &[Record],
+) -> Result<Vec<RecordRow>, AllocError>
+    ensures { IfOk result (λ rows. rows.items ≡ map (record_row origin.now) records.now) }
+{
+    let mut rows = Vec::new(alloc);
+    for rr in records {
+        rows.push(record_row(alloc, origin, rr)?)?;
+    }
+    Ok(rows)
+}
+
+/// What is written for a change of the zone of an origin under its number, beside receipts. The only error is want of memory.
+fn change_writing(
+    alloc: Global,
+    origin: &Name,
+    number: i64,
+    change: &Change,
+    receipts: Vec<ReceiptRow>,
+) -> Result<Writing, AllocError>
+    ensures { (n : ℕ) → number ≡ pos n → IfOk result (λ writing. writing ≡ change_writing origin.now n (change_in change.now) receipts.items) }
+{
+    Ok(Writing {
+        version: None,
+        zones: Vec::new(alloc),
+        removed: record_rows(alloc, origin, &change.removed)?,
+        added: record_rows(alloc, origin, &change.added)?,
+        changes: change_rows(alloc, origin, number, change)?,
+        receipts,
+    })
+}
+
+/// What is written for an addition: the row of its receipt; and where it has a change, the rows of the records that go and come, and
+/// of the change under its number, which is the next one of its zone. The only error is want of memory.
+pub fn addition_writing(
+    alloc: Global,
+    addition: &Addition,
+    number: i64,
+) -> Result<Writing, AllocError>
+    // It leads from each state that the addition fits to the one with the addition made.
+    ensures { IfOk result (λ writing. (s : State) → Fits s (addition_in addition.now) → IsNext s addition.now.receipt.origin number → Leads writing s (committed (addition_in addition.now) s)) }
+{
+    let receipt = &addition.receipt;
+    let row = receipt_row(alloc, &addition.caller, &addition.id, receipt)?;
+    let receipts = vec![in alloc; row]?;
+    match &addition.change {
+        Some(change) => change_writing(alloc, &receipt.origin, number, change, receipts),
+        None => Ok(Writing {
+            version: None,
+            zones: Vec::new(alloc),
+            removed: Vec::new(alloc),
+            added: Vec::new(alloc),
+            changes: Vec::new(alloc),
+            receipts,
+        }),
+    }
+}
+
+/// What is written for a zone of an origin that has none: its row and those of its records. The only error is want of memory.
+pub fn zone_writing(alloc: Global, zone: &Zone) -> Result<Writing, AllocError>
+    ensures { IfOk result (λ writing. (s : State) → s.zones zone.now.origin ≡ None → Leads writing s (with_zone s zone.now)) }
+{
+    notes_zone(zone);
+    let origin = zone.origin();
+    let row = origin.text(alloc)?;
+    let zones = vec![in alloc; row]?;
+    Ok(Writing {
+        version: None,
+        zones,
+        removed: Vec::new(alloc),
+        added: record_rows(alloc, origin, zone.records())?,
+        changes: Vec::new(alloc),
+        receipts: Vec::new(alloc),
+    })
+}
+
+/// What is written for a zone in the place of another one of its origin, from which it differs: the rows of the records that go and
+/// come, and of this change under its number, which is the next one of the zone. The only error is want of memory.
+pub fn replacement_writing(
+    alloc: Global,
+    old: &Zone,
+    new: &Zone,
+    number: i64,
+) -> Result<Writing, AllocError>
+    requires origin { old.now.origin ≡ new.now.origin }
+    requires differs { is_same old.now.records new.now.records ≡ false }
+    ensures { IfOk result (λ writing. (s : State) (held : Held) → s.zones new.now.origin ≡ Some held → held.records ≡ old.now.records → IsNext s new.now.origin number → Leads writing s (with_zone_replaced s new.now held)) }
+{
+    notes_zone(old);
+    notes_zone(new);
+    let removed = old.minus(alloc, new)?;
+    let added = new.minus(alloc, old)?;
+    let change = Change { removed, added };
+    change_writing(alloc, new.origin(), number, &change, Vec::new(alloc))
+}
