@@ -9,8 +9,9 @@ use Rattle.clap.specs.Simple.{on_top}
 use Rattle.clap.specs.Lexer.{long_of, short_of}
 use Rattle.clap.specs.declared.builder.ArgAction.TheVariants.{Set, SetTrue}
 use Rattle.clap.specs.declared.builder.value_parser.ValueParser.TheVariants as value
-use Rattle.zoneoffice.specs.declared.words.Existing.{Existing}
-use Rattle.zoneoffice.specs.declared.words.Existing.TheVariants.{Kept, Replaced}
+use Rattle.zoneoffice.specs.declared.import.Existing.{Existing}
+use Rattle.zoneoffice.specs.declared.import.Existing.TheVariants.{Kept, Replaced}
+use Rattle.zoneoffice.specs.declared.import.StoredZone.{StoredZone}
 use Rattle.zoneoffice.specs.declared.words.Job.{Job}
 use Rattle.zoneoffice.specs.declared.words.Job.TheVariants as job
 
@@ -69,22 +70,30 @@ office =
 
 -- ---- the jobs
 
+-- a zone of a store, by the path of the store and the name of its origin
+pub record StoredOf : Type 0 where
+  pub store : Text
+  pub origin : Text
+
 -- a job, by its words
 pub data JobOf : Type 0 where
   apply : JobOf
   canon : (origin : Text) → JobOf
-  imports : (store origin : Text) → Existing → JobOf
-  export : (store origin : Text) → JobOf
+  imports : StoredOf → Existing → JobOf
+  export : StoredOf → JobOf
   rights : (policy caller name record_type action : Text) → JobOf
   serve : (store policy listen : Text) → Option ℕ → JobOf
+
+abbrev pub zone_asked : StoredZone → StoredOf
+zone_asked zone = record { store = zone.store.now; origin = zone.origin.now }
 
 abbrev pub asks : Job → JobOf
 asks job.Apply = apply
 asks (job.Canon origin) = canon origin.now
-asks (job.Import store origin existing) = imports store.now origin.now existing
-asks (job.Export store origin) = export store.now origin.now
+asks (job.Import zone existing) = imports (zone_asked zone) existing
+asks (job.Export zone) = export (zone_asked zone)
 asks (job.Rights policy asked) = rights policy.now asked.caller.now asked.name.now asked.record_type.now asked.action.now
-asks (job.Serve store policy listen connections) = serve store.now policy.now listen.now connections
+asks (job.Serve service) = serve service.store.now service.policy.now service.listen.now service.connections
 
 -- ---- what words ask for
 
@@ -107,13 +116,15 @@ existing_of (Some t) = if bytes_eq t (codes "true") then Replaced else Kept
 abbrev pub canon_of : List Row → Option JobOf
 canon_of rows = option_map (λ o. canon o) (first_of (codes "origin") rows)
 
+abbrev pub stored_of : List Row → Option StoredOf
+stored_of rows =
+    option_and_then (λ s. option_map {B = StoredOf} (λ o. record { store = s; origin = o }) (first_of (codes "origin") rows)) (first_of (codes "store") rows)
+
 abbrev pub import_of : List Row → Option JobOf
-import_of rows =
-    option_and_then (λ s. option_map (λ o. imports s o (existing_of (first_of (codes "replace") rows))) (first_of (codes "origin") rows))
-    (first_of (codes "store") rows)
+import_of rows = option_map (λ z. imports z (existing_of (first_of (codes "replace") rows))) (stored_of rows)
 
 abbrev pub export_of : List Row → Option JobOf
-export_of rows = option_and_then (λ s. option_map (λ o. export s o) (first_of (codes "origin") rows)) (first_of (codes "store") rows)
+export_of rows = option_map (λ z. export z) (stored_of rows)
 
 abbrev pub rights_of : List Row → Option JobOf
 rights_of rows =

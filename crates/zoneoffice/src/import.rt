@@ -7,7 +7,6 @@ use crate::canon::{read_name, read_zone};
 use crate::device::{ended, tell, write_text};
 use crate::line_fault::{JobFault, LineFault};
 use crate::store_file::{open_or_make_store, open_store};
-use crate::words::Existing;
 use dns_data::Record;
 use dns_master::{Sink, Source, print_zone};
 use dns_names::Name;
@@ -18,9 +17,18 @@ use std::fmt::{self, Display, Formatter, Write};
 use std::sync::ledger::{Blank, Ledger};
 use zone_core::Zone;
 
-/// What the words of `import` and of `export` name.
-#[derive(Clone, Copy, Debug)]
-pub struct Stored<'a> {
+/// What becomes of a zone of a store when one of its origin is imported.
+#[derive(Clone, Copy, Debug, PartialEq, Eq)]
+pub enum Existing {
+    /// It stays, and the import is refused.
+    Kept,
+    /// The one that is imported takes its place.
+    Replaced,
+}
+
+/// A zone of a store, as the words of `import` and of `export` name it.
+#[derive(Clone, Copy, Debug, PartialEq, Eq)]
+pub struct StoredZone<'a> {
     /// The path of the store.
     pub store: &'a str,
     /// The name of the zone's origin.
@@ -28,6 +36,7 @@ pub struct Stored<'a> {
 }
 
 /// The line that tells of a zone that it was imported: its origin, its serial, and the number of its records.
+#[derive(Clone, Copy)]
 struct ImportedLine<'a>(&'a Zone);
 
 impl Display for ImportedLine<'_> {
@@ -79,7 +88,7 @@ fn put<S: Alter + Drop, L: Ledger>(
 /// Reads a zone, and puts it into the store of a path.
 fn imported<R: Source, L: Ledger>(
     rt: &HostRuntime,
-    words: Stored<'_>,
+    stored: StoredZone<'_>,
     existing: Existing,
     blank: Blank,
     reader: &mut R,
@@ -89,10 +98,10 @@ fn imported<R: Source, L: Ledger>(
     requires some { 0 < blank.parts }
 {
     let alloc = rt.alloc();
-    let zone = read_zone(alloc, words.origin, reader)?;
+    let zone = read_zone(alloc, stored.origin, reader)?;
     let mut table = match existing {
-        Existing::Kept => open_or_make_store::<L>(rt, words.store, blank)?,
-        Existing::Replaced => open_store::<L>(rt, words.store, blank)?,
+        Existing::Kept => open_or_make_store::<L>(rt, stored.store, blank)?,
+        Existing::Replaced => open_store::<L>(rt, stored.store, blank)?,
     };
     // the line is there before the zone is, so that no memory is wanting behind it
     let text = imported_text(alloc, &zone)?;
@@ -105,7 +114,7 @@ fn imported<R: Source, L: Ledger>(
 /// the origin, of the file, of its records as a zone, of the store, and then `ZoneExists`, or `NoZone` and `SerialNotGreater`.
 pub fn import<R: Source, W: Sink, L: Ledger>(
     rt: &HostRuntime,
-    words: Stored<'_>,
+    stored: StoredZone<'_>,
     existing: Existing,
     blank: Blank,
     reader: &mut R,
@@ -115,7 +124,7 @@ pub fn import<R: Source, W: Sink, L: Ledger>(
     requires parts { blank.parts ≡ L.parts }
     requires some { 0 < blank.parts }
 {
-    match imported::<R, L>(rt, words, existing, blank, reader) {
+    match imported::<R, L>(rt, stored, existing, blank, reader) {
         Ok(text) => Ok(write_text(writer, text.as_bytes())?),
         Err(fault) => tell(rt.alloc(), writer, fault),
     }
@@ -124,7 +133,7 @@ pub fn import<R: Source, W: Sink, L: Ledger>(
 /// The origin and the records of a zone of the store of a path.
 fn exported<L: Ledger>(
     rt: &HostRuntime,
-    words: Stored<'_>,
+    stored: StoredZone<'_>,
     blank: Blank,
 ) -> Result<(Name, Vec<Record>), LineFault>
     requires name { blank.name ≡ L.name }
@@ -132,8 +141,8 @@ fn exported<L: Ledger>(
     requires some { 0 < blank.parts }
 {
     let alloc = rt.alloc();
-    let origin = read_name(alloc, words.origin)?;
-    let mut table = open_store::<L>(rt, words.store, blank)?;
+    let origin = read_name(alloc, stored.origin)?;
+    let mut table = open_store::<L>(rt, stored.store, blank)?;
     let records = table.export_records(alloc, &origin)?;
     Ok((origin, records))
 }
@@ -142,7 +151,7 @@ fn exported<L: Ledger>(
 /// the store, or `NoZone`.
 pub fn export<W: Sink, L: Ledger>(
     rt: &HostRuntime,
-    words: Stored<'_>,
+    stored: StoredZone<'_>,
     blank: Blank,
     writer: &mut W,
 ) -> Result<(), JobFault>
@@ -151,7 +160,7 @@ pub fn export<W: Sink, L: Ledger>(
     requires some { 0 < blank.parts }
 {
     let alloc = rt.alloc();
-    match exported::<L>(rt, words, blank) {
+    match exported::<L>(rt, stored, blank) {
         Ok((origin, records)) => {
             let printed = print_zone(alloc, &origin, &records, writer);
             ended(writer, printed)

@@ -8,19 +8,24 @@ mod apply;
 mod canon;
 mod commands;
 mod device;
+mod import;
 mod laws;
 mod line_fault;
 mod parts;
 mod policy_file;
 mod refusal;
 mod rights;
+mod serving;
+mod store_file;
 mod task;
 mod words;
 
 use crate::apply::Apply;
 use crate::canon::Canon;
+use crate::import::{Existing, StoredZone, export, import};
 use crate::line_fault::{JobFault, NO_MEMORY_LINE};
 use crate::policy_file::PolicyFile;
+use crate::serving::{Service, serve_callers};
 use crate::task::Task;
 use crate::words::{Job, WordsFault, read_words};
 use dns_master::Counted;
@@ -64,10 +69,90 @@ fn do_task<T: Task, R: Read + Drop>(rt: &HostRuntime, task: T, reader: R) -> Exi
         Blank::new(1),
         Blank::new(1),
     );
+    status(done)
+}
+
+/// The exit status of a job: 0 where it went through, and else 1.
+fn status(done: Result<(), JobFault>) -> ExitCode {
     match done {
         Ok(()) => ExitCode::SUCCESS,
         Err(_) => ExitCode::FAILURE,
     }
+}
+
+/// Puts a zone from standard input into a store, and tells how it went on standard output.
+fn import_in<A: Ledger, B: Ledger, C: Ledger>(
+    rt: &HostRuntime,
+    zone: StoredZone<'_>,
+    existing: Existing,
+    reads: Blank,
+    writes: Blank,
+    store: Blank,
+) -> Result<(), JobFault>
+    requires reads_name { reads.name ≡ A.name }
+    requires reads_parts { reads.parts ≡ A.parts }
+    requires reads_some { 0 < reads.parts }
+    requires writes_name { writes.name ≡ B.name }
+    requires writes_parts { writes.parts ≡ B.parts }
+    requires writes_some { 0 < writes.parts }
+    requires store_name { store.name ≡ C.name }
+    requires store_parts { store.parts ≡ C.parts }
+    requires store_some { 0 < store.parts }
+{
+    let mut source: Counted<_, A> = Counted::new(rt.stdin(), reads);
+    let mut sink: Counted<_, B> = Counted::new(rt.stdout(), writes);
+    import::<_, _, C>(rt, zone, existing, store, &mut source, &mut sink)
+}
+
+/// Does the job `import`.
+fn do_import(rt: &HostRuntime, zone: StoredZone<'_>, existing: Existing) -> ExitCode {
+    let (reads, writes, store) = (Blank::new(1), Blank::new(1), Blank::new(1));
+    status(import_in::<Brand, Brand, Brand>(
+        rt, zone, existing, reads, writes, store,
+    ))
+}
+
+/// Prints a zone of a store on standard output.
+fn export_in<B: Ledger, C: Ledger>(
+    rt: &HostRuntime,
+    zone: StoredZone<'_>,
+    writes: Blank,
+    store: Blank,
+) -> Result<(), JobFault>
+    requires writes_name { writes.name ≡ B.name }
+    requires writes_parts { writes.parts ≡ B.parts }
+    requires writes_some { 0 < writes.parts }
+    requires store_name { store.name ≡ C.name }
+    requires store_parts { store.parts ≡ C.parts }
+    requires store_some { 0 < store.parts }
+{
+    let mut sink: Counted<_, B> = Counted::new(rt.stdout(), writes);
+    export::<_, C>(rt, zone, store, &mut sink)
+}
+
+/// Does the job `export`.
+fn do_export(rt: &HostRuntime, zone: StoredZone<'_>) -> ExitCode {
+    status(export_in::<Brand, Brand>(
+        rt,
+        zone,
+        Blank::new(1),
+        Blank::new(1),
+    ))
+}
+
+/// Serves callers, and tells of it on standard output.
+fn serve_in<B: Ledger>(rt: &HostRuntime, service: Service<'_>, writes: Blank) -> Result<(), JobFault>
+    requires writes_name { writes.name ≡ B.name }
+    requires writes_parts { writes.parts ≡ B.parts }
+    requires writes_some { 0 < writes.parts }
+{
+    let mut sink: Counted<_, B> = Counted::new(rt.stdout(), writes);
+    serve_callers(rt, service, &mut sink)
+}
+
+/// Does the job `serve`.
+fn do_serve(rt: &HostRuntime, service: Service<'_>) -> ExitCode {
+    status(serve_in::<Brand>(rt, service, Blank::new(1)))
 }
 
 /// Does a job.
@@ -75,8 +160,10 @@ fn do_job(rt: &HostRuntime, job: Job<'_>) -> ExitCode {
     match job {
         Job::Apply => do_task(rt, Apply, rt.stdin()),
         Job::Canon { origin } => do_task(rt, Canon { origin }, rt.stdin()),
+        Job::Import { zone, existing } => do_import(rt, zone, existing),
+        Job::Export { zone } => do_export(rt, zone),
         Job::Rights { policy, asked } => do_task(rt, asked, PolicyFile::open(rt, policy)),
-        Job::Import { .. } | Job::Export { .. } | Job::Serve { .. } => ExitCode::FAILURE,
+        Job::Serve { service } => do_serve(rt, service),
     }
 }
 

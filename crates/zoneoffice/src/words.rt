@@ -2,22 +2,15 @@
 
 ghost use Rattle.std.specs.Prelude.{◌≡◌, ℕ, List, [], IfErr, IfOk, map, option_map, Some, is_some, true, codes};
 ghost use Rattle.clap.specs.Words.{app_of, fault_of, first_of, found_of, kind_of, one_of, rows_of, subcommand_rows_of, takes};
-ghost use Rattle.zoneoffice.specs.Words.{office, asks, IsCanonOf, canon_of, import_of, export_of, rights_of, serve_of, number_if, existing_of, job_named, job_met, job_of, canon};
+ghost use Rattle.zoneoffice.specs.Words.{office, asks, IsCanonOf, canon_of, zone_asked, stored_of, import_of, export_of, rights_of, serve_of, number_if, existing_of, job_named, job_met, job_of, canon};
 
 use crate::commands::office_command;
+use crate::import::{Existing, StoredZone};
 use crate::rights::QuestionWords;
+use crate::serving::Service;
 use clap::error::ErrorKind;
 use clap::{ArgMatches, Error};
 use std::alloc::Global;
-
-/// What becomes of a zone of a store when one of its origin is imported.
-#[derive(Clone, Copy, Debug, PartialEq, Eq)]
-pub enum Existing {
-    /// It stays, and the import is refused.
-    Kept,
-    /// The one that is imported takes its place.
-    Replaced,
-}
 
 /// What the program is to do.
 #[derive(Clone, Copy, Debug, PartialEq, Eq)]
@@ -31,19 +24,15 @@ pub enum Job<'a> {
     },
     /// To put a zone that is read from standard input into a store.
     Import {
-        /// The path of the store.
-        store: &'a str,
-        /// The name of the zone's origin.
-        origin: &'a str,
+        /// Which zone, and which store.
+        zone: StoredZone<'a>,
         /// What becomes of a zone of this origin that is there.
         existing: Existing,
     },
     /// To print a zone of a store.
     Export {
-        /// The path of the store.
-        store: &'a str,
-        /// The name of the zone's origin.
-        origin: &'a str,
+        /// Which zone, and which store.
+        zone: StoredZone<'a>,
     },
     /// To ask a policy.
     Rights {
@@ -54,14 +43,8 @@ pub enum Job<'a> {
     },
     /// To answer callers over HTTP.
     Serve {
-        /// The path of the store.
-        store: &'a str,
-        /// The path of the policy.
-        policy: &'a str,
-        /// The address and the port to listen at.
-        listen: &'a str,
-        /// After how many connections to end, where a number is given.
-        connections: Option<u64>,
+        /// What is served, and where.
+        service: Service<'a>,
     },
 }
 
@@ -108,27 +91,30 @@ fn canon_in<'a>(matches: &ArgMatches<'a>) -> Option<Job<'a>>
     Some(Job::Canon { origin })
 }
 
+/// The zone of a store that words name.
+fn zone_at<'a>(matches: &ArgMatches<'a>) -> Option<StoredZone<'a>>
+    ensures { option_map zone_asked result ≡ stored_of (rows_of (found_of matches.now)) }
+{
+    let store = text_at(matches, "store")?;
+    let origin = text_at(matches, "origin")?;
+    Some(StoredZone { store, origin })
+}
+
 /// The job of the command `import`.
 fn import_in<'a>(matches: &ArgMatches<'a>) -> Option<Job<'a>>
     ensures { option_map asks result ≡ import_of (rows_of (found_of matches.now)) }
 {
-    let store = text_at(matches, "store")?;
-    let origin = text_at(matches, "origin")?;
+    let zone = zone_at(matches)?;
     let existing = existing_at(matches);
-    Some(Job::Import {
-        store,
-        origin,
-        existing,
-    })
+    Some(Job::Import { zone, existing })
 }
 
 /// The job of the command `export`.
 fn export_in<'a>(matches: &ArgMatches<'a>) -> Option<Job<'a>>
     ensures { option_map asks result ≡ export_of (rows_of (found_of matches.now)) }
 {
-    let store = text_at(matches, "store")?;
-    let origin = text_at(matches, "origin")?;
-    Some(Job::Export { store, origin })
+    let zone = zone_at(matches)?;
+    Some(Job::Export { zone })
 }
 
 /// The job of the command `serve`.
@@ -139,12 +125,13 @@ fn serve_in<'a>(matches: &ArgMatches<'a>) -> Option<Job<'a>>
     let policy = text_at(matches, "policy")?;
     let listen = text_at(matches, "listen")?;
     let connections = number_at(matches, "connections")?;
-    Some(Job::Serve {
+    let service = Service {
         store,
         policy,
         listen,
         connections,
-    })
+    };
+    Some(Job::Serve { service })
 }
 
 /// The job of the command `rights`.

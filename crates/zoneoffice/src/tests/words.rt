@@ -1,7 +1,9 @@
 //! Words of the command line.
 
 use crate::rights::QuestionWords;
-use crate::words::{Existing, Job, WordsFault, read_words};
+use crate::import::{Existing, StoredZone};
+use crate::serving::Service;
+use crate::words::{Job, WordsFault, read_words};
 use std::alloc::Global;
 use std::test::Fail;
 
@@ -64,8 +66,10 @@ const JOBS: [JobRow; 15] = [
     (
         "import|--store|s|--origin|o.",
         Job::Import {
-            store: "s",
-            origin: "o.",
+            zone: StoredZone {
+                store: "s",
+                origin: "o.",
+            },
             existing: Existing::Kept,
         },
         "a zone that is new",
@@ -73,8 +77,10 @@ const JOBS: [JobRow; 15] = [
     (
         "import|--replace|--origin|o.|--store|s",
         Job::Import {
-            store: "s",
-            origin: "o.",
+            zone: StoredZone {
+                store: "s",
+                origin: "o.",
+            },
             existing: Existing::Replaced,
         },
         "a zone in the place of another, options in another order",
@@ -82,48 +88,58 @@ const JOBS: [JobRow; 15] = [
     (
         "export|--origin|o.|--store|s=t",
         Job::Export {
-            store: "s=t",
-            origin: "o.",
+            zone: StoredZone {
+                store: "s=t",
+                origin: "o.",
+            },
         },
         "a path with a sign in it",
     ),
     (
         "serve|--store|s|--policy|p|--listen|127.0.0.1:8053",
         Job::Serve {
-            store: "s",
-            policy: "p",
-            listen: "127.0.0.1:8053",
-            connections: None,
+            service: Service {
+                store: "s",
+                policy: "p",
+                listen: "127.0.0.1:8053",
+                connections: None,
+            },
         },
         "for as long as it may",
     ),
     (
         "serve|--store|s|--policy|p|--listen|l|--connections|0",
         Job::Serve {
-            store: "s",
-            policy: "p",
-            listen: "l",
-            connections: Some(0),
+            service: Service {
+                store: "s",
+                policy: "p",
+                listen: "l",
+                connections: Some(0),
+            },
         },
         "for no connection",
     ),
     (
         "serve|--store|s|--policy|p|--listen|l|--connections|18446744073709551615",
         Job::Serve {
-            store: "s",
-            policy: "p",
-            listen: "l",
-            connections: Some(18_446_744_073_709_551_615),
+            service: Service {
+                store: "s",
+                policy: "p",
+                listen: "l",
+                connections: Some(18_446_744_073_709_551_615),
+            },
         },
         "the greatest number of 64 bits",
     ),
     (
         "serve|--connections|+012|--store|s|--policy|p|--listen|l",
         Job::Serve {
-            store: "s",
-            policy: "p",
-            listen: "l",
-            connections: Some(12),
+            service: Service {
+                store: "s",
+                policy: "p",
+                listen: "l",
+                connections: Some(12),
+            },
         },
         "a plus and a zero before the number",
     ),
