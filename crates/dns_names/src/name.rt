@@ -15,7 +15,7 @@ ghost use Rattle.dns_names.specs.Reading.{absolute_name, ended_name, relative_na
 use crate::fault::NameFault;
 use crate::labels::Labels;
 use crate::pieces::PieceRows;
-use crate::rows::{Rows, behind_label, push_key};
+use crate::rows::{Rows, behind_label, key_in, push_key};
 use std::alloc::{AllocError, Global};
 use std::cmp::Ordering;
 use std::marker::Model;
@@ -214,8 +214,7 @@ impl Name {
         ensures range { RangesOver self.now }
         ensures begins { BeginsAll self.now }
     {
-        let rows = self.rows();
-        rows.key
+        key_in(&self.memory)
     }
 
     /// The key of the name that the last `labels` labels are, which is a front of `key()`; `None` where there are not so

@@ -57,6 +57,17 @@ impl<'a> Rows<'a> {
     }
 }
 
+/// The key that stands in the memory of a name, behind the lengths and the octets of its labels.
+pub(crate) fn key_in(memory: &[u8]) -> &[u8]
+    requires { AreRows memory.now }
+    ensures { result.now ≡ key_of (name_in memory.now) }
+{
+    let [count, total, rest @ ..] = memory else {
+        unreachable!();
+    };
+    &rest[usize::from(*count) + usize::from(*total)..]
+}
+
 /// What stands behind the key of the first label, where there is one.
 pub(crate) fn behind_label(key: &[u8]) -> Option<&[u8]>
     ensures { option_copied result ≡ behind_label key.now }
