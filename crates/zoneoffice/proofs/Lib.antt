@@ -5,3 +5,4 @@ pub mod JobLemmas
 pub mod LineLemmas
 pub mod PartLemmas
 pub mod StepLemmas
+pub mod NumberWordLemmas

@@ -10,8 +10,10 @@ use Rattle.office_rows.specs.declared.fault.ItemsFault.{ItemsFault}
 use Rattle.office_rows.specs.declared.fault.ItemsFault.TheVariants as items
 use Rattle.grant_policy.specs.declared.fault.PolicyFault.{PolicyFault}
 use Rattle.grant_policy.specs.declared.fault.PolicyFault.TheVariants as policies
+use Rattle.office_store.specs.declared.fault.StoreFault.{StoreFault}
+use Rattle.office_store.specs.declared.fault.StoreFault.TheVariants as stores
 use Rattle.zoneoffice.specs.declared.refusal.Refusal.{Refusal}
-use Rattle.zoneoffice.specs.declared.refusal.Refusal.TheVariants.{Name, TooLarge, Master, Zone, Policy, Items}
+use Rattle.zoneoffice.specs.declared.refusal.Refusal.TheVariants.{Name, TooLarge, Master, Zone, Policy, Items, Store}
 use Rattle.zoneoffice.specs.declared.line_fault.LineFault.{LineFault}
 use Rattle.zoneoffice.specs.declared.line_fault.LineFault.TheVariants.{Refused, ReadFailed, NoMemory}
 use Rattle.zoneoffice.specs.Device.{IsAll}
@@ -77,6 +79,11 @@ of_item fault = Refused (Items fault)
 abbrev pub of_policy : PolicyFault → LineFault
 of_policy policies.NoMemory = NoMemory
 of_policy fault = Refused (Policy fault)
+
+abbrev pub of_store : StoreFault → LineFault
+of_store stores.NoMemory = NoMemory
+of_store (stores.Zone fault) = of_zone fault
+of_store fault = Refused (Store fault)
 
 -- ---- what a step answered
 

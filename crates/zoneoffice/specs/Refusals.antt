@@ -11,11 +11,12 @@ use Rattle.dns_master.specs.Faults.{fault_number as master_number, fault_line}
 use Rattle.zone_core.specs.Faults.{zone_fault_number}
 use Rattle.zone_core.specs.Rcodes.{rcode_number, rcode_text}
 use Rattle.office_rows.specs.Faults.{fault_number as items_number, fault_line as items_line}
+use Rattle.office_store.specs.Faults.{store_fault_number}
 use Rattle.grant_policy.specs.declared.fault.PolicyFault.{PolicyFault}
 use Rattle.grant_policy.specs.declared.fault.PolicyFault.TheVariants as of_policy
 use Rattle.grant_policy.specs.Faults.{fault_number as policy_number}
 use Rattle.zoneoffice.specs.declared.refusal.Refusal.{Refusal}
-use Rattle.zoneoffice.specs.declared.refusal.Refusal.TheVariants.{Name, TypeNotKept, NoCaller, NoAction, TooLarge, NoDivider, Master, Zone, Policy, Items, Unmet}
+use Rattle.zoneoffice.specs.declared.refusal.Refusal.TheVariants.{Name, TypeNotKept, NoCaller, NoAction, TooLarge, NoDivider, Master, Zone, Policy, Items, Unmet, Store}
 
 -- ---- numbers: that of a refusal, and behind it that of the refusal within it
 
@@ -43,6 +44,7 @@ refusal_number (Zone fault) = zone_fault_number fault
 refusal_number (Policy fault) = policy_number fault
 refusal_number (Items fault) = items_number fault
 refusal_number (Unmet code item) = rcode_number code
+refusal_number (Store fault) = store_fault_number fault
 
 abbrev pub refusal_numbers : Refusal → List ℕ
 refusal_numbers (Master fault) = master_numbers fault

@@ -39,7 +39,7 @@ fn zone_of_file(alloc: Global, origin: Name, text: Vec<u8>) -> Result<Zone, Line
 }
 
 /// The zone of a word that is its origin, and a reader that gives its master file.
-fn read_zone<R: Source>(alloc: Global, origin: &str, reader: &mut R) -> Result<Zone, LineFault>
+pub fn read_zone<R: Source>(alloc: Global, origin: &str, reader: &mut R) -> Result<Zone, LineFault>
     ensures { GivesOf (λ zone. zone) (R.remaining reader.old) (zone_read origin.now) result (R.failures reader.old) (R.failures reader.new) }
 {
     let origin = read_name(alloc, origin)?;

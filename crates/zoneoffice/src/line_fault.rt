@@ -1,7 +1,7 @@
 //! Why a job did not go through.
 
 ghost use Rattle.std.specs.Prelude.{◌≡◌};
-ghost use Rattle.zoneoffice.specs.LineFaults.{of_name, of_master, of_zone, of_item, of_policy};
+ghost use Rattle.zoneoffice.specs.LineFaults.{of_name, of_master, of_zone, of_item, of_policy, of_store};
 ghost use Rattle.zoneoffice.specs.declared.line_fault.LineFault.TheVariants.{NoMemory};
 ghost use Rattle.zoneoffice.specs.declared.line_fault.JobFault.TheVariants as job;
 
@@ -10,6 +10,7 @@ use dns_master::{DeviceFailed, MasterFault};
 use dns_names::NameFault;
 use grant_policy::PolicyFault;
 use office_rows::ItemsFault;
+use office_store::StoreFault;
 use std::alloc::AllocError;
 use thiserror::Error;
 use zone_core::ZoneFault;
@@ -97,6 +98,18 @@ impl From<PolicyFault> for LineFault {
         match fault {
             PolicyFault::NoMemory => LineFault::NoMemory,
             fault => LineFault::Refused(Refusal::Policy(fault)),
+        }
+    }
+}
+
+impl From<StoreFault> for LineFault {
+    ghost from_gives = { λ f e. e ≡ of_store f };
+
+    fn from(fault: StoreFault) -> LineFault {
+        match fault {
+            StoreFault::NoMemory => LineFault::NoMemory,
+            StoreFault::Zone(fault) => LineFault::from(fault),
+            fault => LineFault::Refused(Refusal::Store(fault)),
         }
     }
 }

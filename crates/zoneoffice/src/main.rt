@@ -6,20 +6,26 @@ ghost use Rattle.zoneoffice.specs.Replies.{Answered};
 
 mod apply;
 mod canon;
+mod commands;
 mod device;
+mod import;
 mod laws;
 mod line_fault;
 mod parts;
 mod policy_file;
 mod refusal;
 mod rights;
+mod serving;
+mod store_file;
 mod task;
 mod words;
 
 use crate::apply::Apply;
 use crate::canon::Canon;
+use crate::import::{Existing, StoredZone, export, import};
 use crate::line_fault::{JobFault, NO_MEMORY_LINE};
 use crate::policy_file::PolicyFile;
+use crate::serving::{Service, serve_callers};
 use crate::task::Task;
 use crate::words::{Job, WordsFault, read_words};
 use dns_master::Counted;
@@ -63,10 +69,107 @@ fn do_task<T: Task, R: Read + Drop>(rt: &HostRuntime, task: T, reader: R) -> Exi
         Blank::new(1),
         Blank::new(1),
     );
+    status(done)
+}
+
+/// The exit status of a job: 0 where it went through, and else 1.
+fn status(done: Result<(), JobFault>) -> ExitCode {
     match done {
         Ok(()) => ExitCode::SUCCESS,
         Err(_) => ExitCode::FAILURE,
     }
+}
+
+/// Puts a zone, whose master file a reader of std gives, into a store, and hands the writer back that was told how it went.
+fn import_in<R: Read + Drop, W: Write + Drop, A: Ledger, B: Ledger, C: Ledger>(
+    rt: &HostRuntime,
+    what: (StoredZone<'_>, Existing),
+    streams: (R, W),
+    reads: Blank,
+    writes: Blank,
+    store: Blank,
+) -> (W, Result<(), JobFault>)
+    requires reads_name { reads.name ≡ A.name }
+    requires reads_parts { reads.parts ≡ A.parts }
+    requires reads_some { 0 < reads.parts }
+    requires writes_name { writes.name ≡ B.name }
+    requires writes_parts { writes.parts ≡ B.parts }
+    requires writes_some { 0 < writes.parts }
+    requires store_name { store.name ≡ C.name }
+    requires store_parts { store.parts ≡ C.parts }
+    requires store_some { 0 < store.parts }
+{
+    let (zone, existing) = what;
+    let (reader, writer) = streams;
+    let mut source: Counted<R, A> = Counted::new(reader, reads);
+    let mut sink: Counted<W, B> = Counted::new(writer, writes);
+    let outcome = import::<_, _, C>(rt, zone, existing, store, &mut source, &mut sink);
+    (sink.into_inner(), outcome)
+}
+
+/// Does the job `import`, with a reader and a writer of std, and hands the writer back.
+fn do_import<R: Read + Drop, W: Write + Drop>(
+    rt: &HostRuntime,
+    what: (StoredZone<'_>, Existing),
+    streams: (R, W),
+) -> (W, Result<(), JobFault>) {
+    let (reads, writes, store) = (Blank::new(1), Blank::new(1), Blank::new(1));
+    import_in::<_, _, Brand, Brand, Brand>(rt, what, streams, reads, writes, store)
+}
+
+/// Prints a zone of a store to a writer of std, and hands the writer back.
+fn export_in<W: Write + Drop, B: Ledger, C: Ledger>(
+    rt: &HostRuntime,
+    zone: StoredZone<'_>,
+    writer: W,
+    writes: Blank,
+    store: Blank,
+) -> (W, Result<(), JobFault>)
+    requires writes_name { writes.name ≡ B.name }
+    requires writes_parts { writes.parts ≡ B.parts }
+    requires writes_some { 0 < writes.parts }
+    requires store_name { store.name ≡ C.name }
+    requires store_parts { store.parts ≡ C.parts }
+    requires store_some { 0 < store.parts }
+{
+    let mut sink: Counted<W, B> = Counted::new(writer, writes);
+    let outcome = export::<_, C>(rt, zone, store, &mut sink);
+    (sink.into_inner(), outcome)
+}
+
+/// Does the job `export`, with a writer of std, and hands it back.
+fn do_export<W: Write + Drop>(
+    rt: &HostRuntime,
+    zone: StoredZone<'_>,
+    writer: W,
+) -> (W, Result<(), JobFault>) {
+    let (writes, store) = (Blank::new(1), Blank::new(1));
+    export_in::<_, Brand, Brand>(rt, zone, writer, writes, store)
+}
+
+/// Serves callers, tells of it to a writer of std, and hands the writer back.
+fn serve_in<W: Write + Drop, B: Ledger>(
+    rt: &HostRuntime,
+    service: Service<'_>,
+    writer: W,
+    writes: Blank,
+) -> (W, Result<(), JobFault>)
+    requires writes_name { writes.name ≡ B.name }
+    requires writes_parts { writes.parts ≡ B.parts }
+    requires writes_some { 0 < writes.parts }
+{
+    let mut sink: Counted<W, B> = Counted::new(writer, writes);
+    let outcome = serve_callers(rt, service, &mut sink);
+    (sink.into_inner(), outcome)
+}
+
+/// Does the job `serve`, with a writer of std, and hands it back.
+fn do_serve<W: Write + Drop>(
+    rt: &HostRuntime,
+    service: Service<'_>,
+    writer: W,
+) -> (W, Result<(), JobFault>) {
+    serve_in::<_, Brand>(rt, service, writer, Blank::new(1))
 }
 
 /// Does a job.
@@ -74,7 +177,12 @@ fn do_job(rt: &HostRuntime, job: Job<'_>) -> ExitCode {
     match job {
         Job::Apply => do_task(rt, Apply, rt.stdin()),
         Job::Canon { origin } => do_task(rt, Canon { origin }, rt.stdin()),
+        Job::Import { zone, existing } => {
+            status(do_import(rt, (zone, existing), (rt.stdin(), rt.stdout())).1)
+        }
+        Job::Export { zone } => status(do_export(rt, zone, rt.stdout()).1),
         Job::Rights { policy, asked } => do_task(rt, asked, PolicyFile::open(rt, policy)),
+        Job::Serve { service } => status(do_serve(rt, service, rt.stdout()).1),
     }
 }
 

@@ -8,6 +8,7 @@ use dns_master::MasterFault;
 use dns_names::NameFault;
 use grant_policy::PolicyFault;
 use office_rows::ItemsFault;
+use office_store::StoreFault;
 use std::fmt::{self, Display, Formatter, Write};
 use thiserror::Error;
 use zone_core::{Rcode, ZoneFault};
@@ -53,6 +54,9 @@ pub enum Refusal {
         /// The number of the item in its list, from 0.
         item: usize,
     },
+    /// The store refuses it, or failed.
+    #[error("{0}")]
+    Store(StoreFault),
 }
 
 impl Refusal {
@@ -72,6 +76,7 @@ impl Refusal {
             Refusal::Policy(fault) => fault.number(),
             Refusal::Items(fault) => fault.number(),
             Refusal::Unmet { code, .. } => code.number(),
+            Refusal::Store(fault) => fault.number(),
         }
     }
 

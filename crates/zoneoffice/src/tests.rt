@@ -4,6 +4,8 @@ mod apply;
 mod canon;
 mod refusals;
 mod rights;
+mod serving;
+mod stores;
 mod words;
 
 use crate::answer;

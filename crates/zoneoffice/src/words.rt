@@ -1,14 +1,16 @@
 //! The words of the command line, read as a job.
 
-ghost use Rattle.std.specs.Prelude.{◌≡◌, ℕ, List, [], IfErr, IfOk, false, map, option_map, Some, is_some, true};
-ghost use Rattle.clap.specs.Words.{app_of, fault_of, first_of, found_of, kind_of, new_app, rows_of, rule_of, subcommand_rows_of, takes};
-ghost use Rattle.clap.specs.declared.builder.command.Command.TheViews.{out-Command};
-ghost use Rattle.zoneoffice.specs.Words.{needed_rule, place_rule, canon_app, rights_app, office, asks, IsCanonOf, canon_of, rights_of, job_named, job_met, job_of, canon};
+ghost use Rattle.std.specs.Prelude.{◌≡◌, ℕ, List, [], IfErr, IfOk, map, option_map, Some, is_some, true, codes};
+ghost use Rattle.clap.specs.Words.{app_of, fault_of, first_of, found_of, kind_of, one_of, rows_of, subcommand_rows_of, takes};
+ghost use Rattle.zoneoffice.specs.Words.{office, asks, IsCanonOf, canon_of, zone_asked, stored_of, import_of, export_of, rights_of, serve_of, number_if, existing_of, job_named, job_met, job_of, canon};
 
+use crate::commands::office_command;
+use crate::import::{Existing, StoredZone};
 use crate::rights::QuestionWords;
+use crate::serving::Service;
 use clap::error::ErrorKind;
-use clap::{Arg, ArgAction, ArgMatches, Command, Error};
-use std::alloc::{AllocError, Global};
+use clap::{ArgMatches, Error};
+use std::alloc::Global;
 
 /// What the program is to do.
 #[derive(Clone, Copy, Debug, PartialEq, Eq)]
@@ -20,12 +22,29 @@ pub enum Job<'a> {
         /// The name of its origin.
         origin: &'a str,
     },
+    /// To put a zone that is read from standard input into a store.
+    Import {
+        /// Which zone, and which store.
+        zone: StoredZone<'a>,
+        /// What becomes of a zone of this origin that is there.
+        existing: Existing,
+    },
+    /// To print a zone of a store.
+    Export {
+        /// Which zone, and which store.
+        zone: StoredZone<'a>,
+    },
     /// To ask a policy.
     Rights {
         /// The path of the policy.
         policy: &'a str,
         /// What is asked.
         asked: QuestionWords<'a>,
+    },
+    /// To answer callers over HTTP.
+    Serve {
+        /// What is served, and where.
+        service: Service<'a>,
     },
 }
 
@@ -40,83 +59,28 @@ pub enum WordsFault {
     NoMemory,
 }
 
-/// An option `--name VALUE` that has to be there.
-fn needed<'a>(alloc: Global, name: &'a str, help: &'a str) -> Arg<'a>
-    ensures rule { rule_of result ≡ needed_rule name.entry.now }
-    ensures local { result.global ≡ false }
-{
-    Arg::new(alloc, name)
-        .long(name)
-        .required(true)
-        .action(ArgAction::Set)
-        .help(help)
-}
-
-/// A word in its place that has to be there.
-fn place<'a>(alloc: Global, name: &'a str, help: &'a str) -> Arg<'a>
-    ensures rule { rule_of result ≡ place_rule name.entry.now }
-    ensures local { result.global ≡ false }
-{
-    Arg::new(alloc, name)
-        .required(true)
-        .action(ArgAction::Set)
-        .help(help)
-}
-
-/// A command, and what it is for.
-fn command<'a>(alloc: Global, name: &'a str, about: &'a str) -> Command<'a>
-    ensures shape { app_of result ≡ new_app name.entry.now }
-    ensures local { (out-Command result).has_globals ≡ false }
-{
-    Command::new(alloc, name).about(about)
-}
-
-/// The command `canon`.
-fn canon_command<'a>(alloc: Global) -> Result<Command<'a>, AllocError>
-    ensures shape { IfOk result (λ c. app_of c ≡ canon_app) }
-    ensures local { IfOk result (λ c. (out-Command c).has_globals ≡ false) }
-{
-    let canon = command(alloc, "canon", "Prints a zone in canonical form");
-    canon.arg(needed(alloc, "origin", "The zone's origin, an absolute name"))
-}
-
-/// The command `rights`.
-fn rights_command<'a>(alloc: Global) -> Result<Command<'a>, AllocError>
-    ensures shape { IfOk result (λ c. app_of c ≡ rights_app) }
-    ensures local { IfOk result (λ c. (out-Command c).has_globals ≡ false) }
-{
-    let rights = command(
-        alloc,
-        "rights",
-        "Asks a policy whether a caller may do something",
-    );
-    rights
-        .arg(needed(alloc, "policy", "The path of the policy"))?
-        .arg(needed(alloc, "caller", "Who asks"))?
-        .arg(place(alloc, "name", "At which name, an absolute one"))?
-        .arg(place(alloc, "type", "Of which type the records are"))?
-        .arg(place(alloc, "action", "list, check, add, delete or delegate"))
-}
-
-/// All commands.
-fn office_command<'a>(alloc: Global) -> Result<Command<'a>, AllocError>
-    ensures { IfOk result (λ c. app_of c ≡ office) }
-{
-    let apply = command(alloc, "apply", "Updates a zone, as without any word");
-    let canon = canon_command(alloc)?;
-    let rights = rights_command(alloc)?;
-    Command::new(alloc, "zoneoffice")
-        .no_binary_name(true)
-        .subcommand(apply)?
-        .subcommand(canon)?
-        .subcommand(rights)
-}
-
 /// The text of an argument, where it has one.
 fn text_at<'a>(matches: &ArgMatches<'a>, id: &str) -> Option<&'a str>
     ensures { option_map (λ s. s.now) result ≡ first_of id.now (rows_of (found_of matches.now)) }
 {
     matches.get_str(id)
+}
+
+/// The number of an argument, where it has one: no number is given, or this one, or else it is none.
+fn number_at(matches: &ArgMatches<'_>, id: &str) -> Option<Option<u64>>
+    ensures { result ≡ number_if (one_of id.now (rows_of (found_of matches.now))) }
+{
+    matches.try_get_one::<u64>(id).ok()
+}
+
+/// Whether a zone that is there is to be replaced.
+fn existing_at(matches: &ArgMatches<'_>) -> Existing
+    ensures { result ≡ existing_of (first_of (codes "replace") (rows_of (found_of matches.now))) }
+{
+    match text_at(matches, "replace") {
+        Some("true") => Existing::Replaced,
+        _ => Existing::Kept,
+    }
 }
 
 /// The job of the command `canon`.
@@ -125,6 +89,49 @@ fn canon_in<'a>(matches: &ArgMatches<'a>) -> Option<Job<'a>>
 {
     let origin = text_at(matches, "origin")?;
     Some(Job::Canon { origin })
+}
+
+/// The zone of a store that words name.
+fn zone_at<'a>(matches: &ArgMatches<'a>) -> Option<StoredZone<'a>>
+    ensures { option_map zone_asked result ≡ stored_of (rows_of (found_of matches.now)) }
+{
+    let store = text_at(matches, "store")?;
+    let origin = text_at(matches, "origin")?;
+    Some(StoredZone { store, origin })
+}
+
+/// The job of the command `import`.
+fn import_in<'a>(matches: &ArgMatches<'a>) -> Option<Job<'a>>
+    ensures { option_map asks result ≡ import_of (rows_of (found_of matches.now)) }
+{
+    let zone = zone_at(matches)?;
+    let existing = existing_at(matches);
+    Some(Job::Import { zone, existing })
+}
+
+/// The job of the command `export`.
+fn export_in<'a>(matches: &ArgMatches<'a>) -> Option<Job<'a>>
+    ensures { option_map asks result ≡ export_of (rows_of (found_of matches.now)) }
+{
+    let zone = zone_at(matches)?;
+    Some(Job::Export { zone })
+}
+
+/// The job of the command `serve`.
+fn serve_in<'a>(matches: &ArgMatches<'a>) -> Option<Job<'a>>
+    ensures { option_map asks result ≡ serve_of (rows_of (found_of matches.now)) }
+{
+    let store = text_at(matches, "store")?;
+    let policy = text_at(matches, "policy")?;
+    let listen = text_at(matches, "listen")?;
+    let connections = number_at(matches, "connections")?;
+    let service = Service {
+        store,
+        policy,
+        listen,
+        connections,
+    };
+    Some(Job::Serve { service })
 }
 
 /// The job of the command `rights`.
@@ -153,8 +160,14 @@ fn job_named<'a>(name: &str, matches: &ArgMatches<'a>) -> Option<Job<'a>>
         Some(Job::Apply)
     } else if name == "canon" {
         canon_in(matches)
+    } else if name == "import" {
+        import_in(matches)
+    } else if name == "export" {
+        export_in(matches)
     } else if name == "rights" {
         rights_in(matches)
+    } else if name == "serve" {
+        serve_in(matches)
     } else {
         None
     }
@@ -184,9 +197,11 @@ fn told(alloc: Global, error: Error) -> WordsFault
     }
 }
 
-/// The job that the words behind the program's name ask for: none or `apply`; `canon --origin NAME`; and
-/// `rights --policy PATH --caller CALLER NAME TYPE ACTION`, whose words may stand in any order. `Help` comes where they ask for
-/// help, and `Misused` for all other words.
+/// The job that the words behind the program's name ask for: none or `apply`; `canon --origin NAME`;
+/// `import --store PATH --origin NAME [--replace]`; `export --store PATH --origin NAME`;
+/// `rights --policy PATH --caller CALLER NAME TYPE ACTION`; and
+/// `serve --store PATH --policy PATH --listen ADDRESS:PORT [--connections N]`. The words behind a command may stand in any order.
+/// `Help` comes where they ask for help, and `Misused` for all other words.
 pub fn read_words<'a>(alloc: Global, words: &'a [&'a str]) -> Result<Job<'a>, WordsFault>
     // The job is the one that the words ask for.
     ensures job { IfOk result (λ j. job_of (map (λ s. s.now) words.entry.now) ≡ Some (asks j)) }

@@ -1,6 +1,8 @@
 //! Words of the command line.
 
+use crate::import::{Existing, StoredZone};
 use crate::rights::QuestionWords;
+use crate::serving::Service;
 use crate::words::{Job, WordsFault, read_words};
 use std::alloc::Global;
 use std::test::Fail;
@@ -27,7 +29,7 @@ const ASKED: QuestionWords<'_> = QuestionWords {
 /// Words, the job that they ask for, and the reason.
 type JobRow = (&'static str, Job<'static>, &'static str);
 
-const JOBS: [JobRow; 7] = [
+const JOBS: [JobRow; 15] = [
     ("", Job::Apply, "no word"),
     ("apply", Job::Apply, "its name"),
     (
@@ -61,6 +63,91 @@ const JOBS: [JobRow; 7] = [
         },
         "options between",
     ),
+    (
+        "import|--store|s|--origin|o.",
+        Job::Import {
+            zone: StoredZone {
+                store: "s",
+                origin: "o.",
+            },
+            existing: Existing::Kept,
+        },
+        "a zone that is new",
+    ),
+    (
+        "import|--replace|--origin|o.|--store|s",
+        Job::Import {
+            zone: StoredZone {
+                store: "s",
+                origin: "o.",
+            },
+            existing: Existing::Replaced,
+        },
+        "a zone in the place of another, options in another order",
+    ),
+    (
+        "export|--origin|o.|--store|s=t",
+        Job::Export {
+            zone: StoredZone {
+                store: "s=t",
+                origin: "o.",
+            },
+        },
+        "a path with a sign in it",
+    ),
+    (
+        "serve|--store|s|--policy|p|--listen|127.0.0.1:8053",
+        Job::Serve {
+            service: Service {
+                store: "s",
+                policy: "p",
+                listen: "127.0.0.1:8053",
+                connections: None,
+            },
+        },
+        "for as long as it may",
+    ),
+    (
+        "serve|--store|s|--policy|p|--listen|l|--connections|0",
+        Job::Serve {
+            service: Service {
+                store: "s",
+                policy: "p",
+                listen: "l",
+                connections: Some(0),
+            },
+        },
+        "for no connection",
+    ),
+    (
+        "serve|--store|s|--policy|p|--listen|l|--connections|18446744073709551615",
+        Job::Serve {
+            service: Service {
+                store: "s",
+                policy: "p",
+                listen: "l",
+                connections: Some(18_446_744_073_709_551_615),
+            },
+        },
+        "the greatest number of 64 bits",
+    ),
+    (
+        "serve|--connections|+012|--store|s|--policy|p|--listen|l",
+        Job::Serve {
+            service: Service {
+                store: "s",
+                policy: "p",
+                listen: "l",
+                connections: Some(12),
+            },
+        },
+        "a plus and a zero before the number",
+    ),
+    (
+        "canon|--origin|-",
+        Job::Canon { origin: "-" },
+        "a dash alone is a value",
+    ),
 ];
 
 #[test]
@@ -86,6 +173,24 @@ fn misused(rt: HostRuntime) -> Result<(), Fail> {
         ("canon|--origin|a.|--origin|b.", "an option twice"),
         ("canon|--store|s|--origin|a.", "an option of another job"),
         ("rights|--policy|p|--caller|c|n.|A", "a word too few"),
+        ("import|--store|s", "an import of no origin"),
+        (
+            "import|--store|s|--origin|o.|--replace|x",
+            "a value behind a flag",
+        ),
+        (
+            "export|--store|s|--origin|o.|--replace",
+            "a flag of another job",
+        ),
+        ("serve|--store|s|--policy|p", "no address"),
+        (
+            "serve|--store|s|--policy|p|--listen|l|--connections|18446744073709551616",
+            "a number of 65 bits",
+        ),
+        (
+            "serve|--store|s|--policy|p|--listen|l|--connections|x",
+            "no number",
+        ),
     ];
     for (text, why) in rows {
         let words = words(alloc, text)?;

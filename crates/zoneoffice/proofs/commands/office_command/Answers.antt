@@ -3,7 +3,7 @@ use Rattle.std.proofs.lemmas.Result.{IfOk-weaker}
 use Rattle.clap.specs.Words.{App, with_subcommand}
 use Rattle.clap.specs.Simple.{app_of_fields, on_top}
 use Rattle.zoneoffice.specs.Words.{office, without_name}
-use Rattle.zoneoffice.proofs.words.office_command.Goals as goal
+use Rattle.zoneoffice.proofs.commands.office_command.Goals as goal
 
 pub returns : goal.returns
 unfolding office
@@ -12,4 +12,7 @@ returns c =
     let start = ap app_of_fields c.no_binary_name.ensures ∙ ap (on_top without_name) c.new.ensures.app in
     let one = c.in_ok-subcommand.ensures.shape c.command-apply.ensures.local ∙ ap₂ with_subcommand start (ap top c.command-apply.ensures.shape) in
     let two = c.in_ok-subcommand-2.ensures.shape c.in_ok-canon.ensures.local ∙ ap₂ with_subcommand one (ap top c.in_ok-canon.ensures.shape) in
-    IfOk-weaker c.subcommand-3.result _ _ (λ r h. h.shape c.in_ok-rights.ensures.local ∙ ap₂ with_subcommand two (ap top c.in_ok-rights.ensures.shape)) c.subcommand-3.ensures
+    let three = c.in_ok-subcommand-3.ensures.shape c.in_ok-import.ensures.local ∙ ap₂ with_subcommand two (ap top c.in_ok-import.ensures.shape) in
+    let four = c.in_ok-subcommand-4.ensures.shape c.in_ok-export.ensures.local ∙ ap₂ with_subcommand three (ap top c.in_ok-export.ensures.shape) in
+    let five = c.in_ok-subcommand-5.ensures.shape c.in_ok-rights.ensures.local ∙ ap₂ with_subcommand four (ap top c.in_ok-rights.ensures.shape) in
+    IfOk-weaker c.subcommand-6.result _ _ (λ r h. h.shape c.in_ok-serve.ensures.local ∙ ap₂ with_subcommand five (ap top c.in_ok-serve.ensures.shape)) c.subcommand-6.ensures
