@@ -116,9 +116,11 @@ existing_of (Some t) = if bytes_eq t (codes "true") then Replaced else Kept
 abbrev pub canon_of : List Row → Option JobOf
 canon_of rows = option_map (λ o. canon o) (first_of (codes "origin") rows)
 
+abbrev pub stored_at : Text → Text → StoredOf
+stored_at store origin = record { store = store; origin = origin }
+
 abbrev pub stored_of : List Row → Option StoredOf
-stored_of rows =
-    option_and_then (λ s. option_map {B = StoredOf} (λ o. record { store = s; origin = o }) (first_of (codes "origin") rows)) (first_of (codes "store") rows)
+stored_of rows = option_and_then (λ s. option_map (λ o. stored_at s o) (first_of (codes "origin") rows)) (first_of (codes "store") rows)
 
 abbrev pub import_of : List Row → Option JobOf
 import_of rows = option_map (λ z. imports z (existing_of (first_of (codes "replace") rows))) (stored_of rows)

@@ -148,18 +148,26 @@ fn do_export<W: Write + Drop>(
 }
 
 /// Serves callers, tells of it to a writer of std, and hands the writer back.
-fn serve_in<W: Write + Drop, B: Ledger>(
+fn serve_in<W: Write + Drop, A: Ledger, B: Ledger, C: Ledger>(
     rt: &HostRuntime,
     service: Service<'_>,
     writer: W,
+    reads: Blank,
     writes: Blank,
+    store: Blank,
 ) -> (W, Result<(), JobFault>)
+    requires reads_name { reads.name ≡ A.name }
+    requires reads_parts { reads.parts ≡ A.parts }
+    requires reads_some { 0 < reads.parts }
     requires writes_name { writes.name ≡ B.name }
     requires writes_parts { writes.parts ≡ B.parts }
     requires writes_some { 0 < writes.parts }
+    requires store_name { store.name ≡ C.name }
+    requires store_parts { store.parts ≡ C.parts }
+    requires store_some { 0 < store.parts }
 {
     let mut sink: Counted<W, B> = Counted::new(writer, writes);
-    let outcome = serve_callers(rt, service, &mut sink);
+    let outcome = serve_callers::<_, A, C>(rt, service, reads, store, &mut sink);
     (sink.into_inner(), outcome)
 }
 
@@ -169,7 +177,8 @@ fn do_serve<W: Write + Drop>(
     service: Service<'_>,
     writer: W,
 ) -> (W, Result<(), JobFault>) {
-    serve_in::<_, Brand>(rt, service, writer, Blank::new(1))
+    let (reads, writes, store) = (Blank::new(1), Blank::new(1), Blank::new(1));
+    serve_in::<_, Brand, Brand, Brand>(rt, service, writer, reads, writes, store)
 }
 
 /// Does a job.

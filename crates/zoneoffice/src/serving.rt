@@ -142,9 +142,21 @@ struct Office<L: Ledger> {
 }
 
 /// The office of some words: its policy is read, then its store opened, and then it listens.
-fn opened(rt: &HostRuntime, service: Service<'_>) -> Result<Office<Brand>, LineFault> {
-    let policy = policy_of::<Brand>(rt, service.policy, Blank::new(1))?;
-    let table = open_store::<Brand>(rt, service.store, Blank::new(1))?;
+fn opened<A: Ledger, B: Ledger>(
+    rt: &HostRuntime,
+    service: Service<'_>,
+    reads: Blank,
+    store: Blank,
+) -> Result<Office<B>, LineFault>
+    requires reads_name { reads.name ≡ A.name }
+    requires reads_parts { reads.parts ≡ A.parts }
+    requires reads_some { 0 < reads.parts }
+    requires store_name { store.name ≡ B.name }
+    requires store_parts { store.parts ≡ B.parts }
+    requires store_some { 0 < store.parts }
+{
+    let policy = policy_of::<A>(rt, service.policy, reads)?;
+    let table = open_store::<B>(rt, service.store, store)?;
     let listener = listener_at(rt, service.listen)?;
     let Ok(address) = listener.local_addr() else {
         return Err(LineFault::ReadFailed);
@@ -161,13 +173,22 @@ fn opened(rt: &HostRuntime, service: Service<'_>) -> Result<Office<Brand>, LineF
 /// The job `serve`: reads the policy, opens the store, listens, and serves connections one after the other, so many of them as the
 /// words say. A line tells where it listens, and one tells each connection that ended by a fault; or a line tells the refusal that
 /// comes first: of the policy, of the store, or `ReadFailed` where there can be no listener or a connection cannot be had.
-pub fn serve_callers<W: Sink>(
+pub fn serve_callers<W: Sink, A: Ledger, B: Ledger>(
     rt: &HostRuntime,
     service: Service<'_>,
+    reads: Blank,
+    store: Blank,
     writer: &mut W,
-) -> Result<(), JobFault> {
+) -> Result<(), JobFault>
+    requires reads_name { reads.name ≡ A.name }
+    requires reads_parts { reads.parts ≡ A.parts }
+    requires reads_some { 0 < reads.parts }
+    requires store_name { store.name ≡ B.name }
+    requires store_parts { store.parts ≡ B.parts }
+    requires store_some { 0 < store.parts }
+{
     let alloc = rt.alloc();
-    let mut office = match opened(rt, service) {
+    let mut office = match opened::<A, B>(rt, service, reads, store) {
         Ok(office) => office,
         Err(fault) => return tell(alloc, writer, fault),
     };

@@ -1,5 +1,7 @@
 //! The store of a path, which is one SQLite file.
 
+ghost use Rattle.std.specs.Prelude.{◌≡◌, ◌<◌, false, IfOk};
+
 use crate::line_fault::LineFault;
 use crate::refusal::Refusal;
 use office_store::{Refused, SqlTable, StoreFault};
