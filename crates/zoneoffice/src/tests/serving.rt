@@ -55,23 +55,35 @@ Content-Length: 51\r
 \r
 {\"records\":[\"www.example.org. 300 IN A 192.0.2.5\"]}";
 
-/// Serves one connection over the store of a path, and hands back what the log has.
-fn serve_one<B: Ledger, C: Ledger>(
+/// Serves one connection over the store of a path, and hands back the writer that a log goes to.
+fn serve_one<W: Write + Drop, B: Ledger, C: Ledger>(
     rt: &HostRuntime,
     path: &str,
     listener: &TcpListener,
+    writer: W,
     log: Blank,
     store: Blank,
-) -> Result<Vec<u8>, Fail>
+) -> Result<W, Fail>
     requires log { (log.name ≡ B.name) × (log.parts ≡ B.parts) × (0 < log.parts) }
     requires store { (store.name ≡ C.name) × (store.parts ≡ C.parts) × (0 < store.parts) }
 {
     let alloc = rt.alloc();
     let policy = read_policy(alloc, POLICY.as_bytes())?;
     let mut table = open_store::<C>(rt, path, store)?;
-    let mut sink: Counted<Pieces, B> = Counted::new(Pieces::new(Vec::new(alloc), 4096, 0), log);
+    let mut sink: Counted<W, B> = Counted::new(writer, log);
     serve_connections(alloc, listener, &mut table, &policy, 1, &mut sink)?;
-    Ok(sink.into_inner().octets)
+    Ok(sink.into_inner())
+}
+
+/// The same, with counts of its own.
+fn served<W: Write + Drop>(
+    rt: &HostRuntime,
+    path: &str,
+    listener: &TcpListener,
+    writer: W,
+) -> Result<W, Fail> {
+    let (log, store) = (Blank::new(1), Blank::new(1));
+    serve_one::<_, Brand, Brand>(rt, path, listener, writer, log, store)
 }
 
 #[test]
@@ -83,8 +95,8 @@ fn a_caller_is_answered_over_tcp(rt: HostRuntime) -> Result<(), Fail> {
     let mut stream = TcpStream::connect(&rt, listener.local_addr()?)?;
     stream.write_all(REQUESTS.as_bytes())?;
     stream.shutdown(Shutdown::Write)?;
-    let log = serve_one::<Brand, Brand>(&rt, &path, &listener, Blank::new(1), Blank::new(1))?;
-    assert_eq!(rt; log.len(), 0);
+    let log = served(&rt, &path, &listener, Pieces::new(Vec::new(alloc), 4096, 0))?;
+    assert_eq!(rt; log.octets.len(), 0);
     let told = io::read_to_string(alloc, stream)?;
     assert_eq!(rt; told.as_str(), REPLIES);
     fs::remove_file(&rt, &path)?;
