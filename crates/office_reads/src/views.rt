@@ -1,6 +1,6 @@
 //! Parts of a state, read from the rows of them.
 
-ghost use Rattle.std.specs.Prelude.{◌≡◌, ℕ, ℤ, Bool, List, ◌∷◌, map, Ok, Some, bytes_eq};
+ghost use Rattle.std.specs.Prelude.{◌≡◌, ℕ, ℤ, Bool, List, ◌∷◌, map, Ok, Some, IfOk, bytes_eq};
 ghost use Rattle.std.specs.List.{AllByRecursion, list_all};
 ghost use Rattle.std.specs.List.Sorted.{IsPermutation};
 ghost use Rattle.dns_names.specs.Keys.{key_of};
@@ -63,7 +63,8 @@ fn of_zone(fault: ZoneFault) -> RowFault
 
 /// The zone of an origin that is built of records. Records that make no zone are `BadRow`.
 pub(crate) fn built(alloc: Global, origin: &Name, records: Vec<Record>) -> Result<Zone, RowFault>
-    ensures { Reads (λ zone. zone) result (of_zones (built origin.now records.items)) }
+    ensures origin { IfOk result (λ zone. zone.origin ≡ origin.now) }
+    ensures exact { Reads (λ zone. zone) result (of_zones (built origin.now records.items)) }
 {
     match Zone::build(alloc, origin.try_copy(alloc)?, records) {
         Ok(zone) => Ok(zone),
@@ -73,7 +74,8 @@ pub(crate) fn built(alloc: Global, origin: &Name, records: Vec<Record>) -> Resul
 
 /// The zone of an origin by rows of its records, in any order and however often they come. Others are `BadRow`.
 fn zone_in(alloc: Global, origin: &Name, rows: &[RecordRow]) -> Result<Zone, RowFault>
-    ensures { (rs : List RecordOf) → IsName origin.now → AreOfZone origin.now rs → AreRowsOf origin.now rs rows.now → Reads (λ zone. zone) result (Ok (zone_in origin.now rs)) }
+    ensures origin { IfOk result (λ zone. zone.origin ≡ origin.now) }
+    ensures held { (rs : List RecordOf) → IsName origin.now → AreOfZone origin.now rs → AreRowsOf origin.now rs rows.now → Reads (λ zone. zone) result (Ok (zone_in origin.now rs)) }
 {
     let text = origin.text(alloc)?;
     if !are_of(rows, text.as_str()) {
@@ -85,8 +87,10 @@ fn zone_in(alloc: Global, origin: &Name, rows: &[RecordRow]) -> Result<Zone, Row
 
 /// The zone of an origin, by the rows of its records in any order. Rows that are those of no zone of this origin are `BadRow`.
 pub fn zone_of(alloc: Global, origin: &Name, rows: &[RecordRow]) -> Result<Zone, RowFault>
+    // What is read is of the origin that was asked for, whatever the rows.
+    ensures origin { IfOk result (λ zone. zone.origin ≡ origin.now) }
     // In a state that holds the zone, the rows of its records are read as it, unless memory runs out.
-    ensures { (version : ℤ) (all : RowsOf) (s : State) (zone : ZoneOf) → AreOfState version all s → zone_at s origin.now ≡ Some zone → IsPermutation (records_of (name_text origin.now) all.records) rows.now → Reads (λ z. z) result (Ok zone) }
+    ensures held { (version : ℤ) (all : RowsOf) (s : State) (zone : ZoneOf) → AreOfState version all s → zone_at s origin.now ≡ Some zone → IsPermutation (records_of (name_text origin.now) all.records) rows.now → Reads (λ z. z) result (Ok zone) }
 {
     zone_in(alloc, origin, rows)
 }
