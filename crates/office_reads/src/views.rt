@@ -1,6 +1,6 @@
 //! Parts of a state, read from the rows of them.
 
-ghost use Rattle.std.specs.Prelude.{◌≡◌, ℕ, ℤ, Bool, List, ◌∷◌, map, Ok, Some, IfOk, bytes_eq};
+ghost use Rattle.std.specs.Prelude.{◌≡◌, ℕ, ℤ, Bool, List, [], ◌∷◌, map, Ok, Some, IfOk, MatchOption, bytes_eq};
 ghost use Rattle.std.specs.List.{AllByRecursion, list_all};
 ghost use Rattle.std.specs.List.Sorted.{IsPermutation};
 ghost use Rattle.dns_names.specs.Keys.{key_of};
@@ -18,6 +18,7 @@ ghost use Rattle.office_core.specs.Tables.{change_in};
 ghost use Rattle.office_tables.specs.Rows.{RowsOf};
 ghost use Rattle.office_tables.specs.Questions.{records_of, receipts_of, changes_of as changes_in};
 ghost use Rattle.office_rows.specs.Contents.{AreOfState};
+ghost use Rattle.office_rows.specs.ReceiptRows.{receipt_row};
 ghost use Rattle.office_rows.specs.RecordRows.{record_row};
 ghost use Rattle.office_rows.specs.RowFaults.{Reads};
 ghost use Rattle.office_reads.specs.Faults.{of_zone, of_zones};
@@ -142,7 +143,10 @@ pub fn records_within(alloc: Global, rows: &[RecordRow]) -> Result<Vec<Record>, 
 /// The receipt of a caller under an identifier, by its row, where there is one. Another row than that of a receipt is `BadRow`, and so
 /// are two rows.
 pub fn receipt_of(alloc: Global, rows: &[ReceiptRow]) -> Result<Option<Receipt>, RowFault>
-    ensures { (version : ℤ) (all : RowsOf) (s : State) (caller id : List ℕ) → AreOfState version all s → IsPermutation (receipts_of caller id all.receipts) rows.now → Reads (λ receipt. receipt) result (Ok (s.receipts caller id)) }
+    // There is no row, or the one row is that of what is read.
+    ensures found { IfOk result (λ found. MatchOption found (rows.now ≡ []) (λ receipt. (caller : List ℕ) × (id : List ℕ) × (rows.now ≡ receipt_row caller id receipt ∷ []))) }
+    // In a state, the rows under an identifier of a caller are read as what it has there, unless memory runs out.
+    ensures held { (version : ℤ) (all : RowsOf) (s : State) (caller id : List ℕ) → AreOfState version all s → IsPermutation (receipts_of caller id all.receipts) rows.now → Reads (λ receipt. receipt) result (Ok (s.receipts caller id)) }
 {
     match rows {
         [] => Ok(None),
