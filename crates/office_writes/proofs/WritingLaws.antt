@@ -28,6 +28,11 @@ pub if_number : {W E : Type 0} (r : Result W E) (P : ℕ → Type 0) (Q : ℕ �
 if_number (Ok w) P Q R told follows = follows w told
 if_number (Err e) P Q R told follows = tt
 
+-- what is told of a value is told of what it is the same as
+pub if_ok_same : {W E : Type 0} (r : Result W E) (a b : W) → a ≡ b → IfOk r (λ w. w ≡ a) → IfOk r (λ w. w ≡ b)
+if_ok_same (Ok w) a b e is = is ∙ e
+if_ok_same (Err f) a b e is = tt
+
 -- ---- additions
 
 -- the receipt of an addition

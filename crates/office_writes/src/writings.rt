@@ -1,13 +1,14 @@
 //! Writings.
 
-ghost use Rattle.std.specs.Prelude.{◌≡◌, ◌++◌, ℕ, pos, map, false, Some, None, IfOk};
+ghost use Rattle.std.specs.Prelude.{◌≡◌, ◌++◌, [], ℕ, pos, map, false, Some, None, IfOk};
 ghost use Rattle.dns_names.specs.Labels.{IsName};
 ghost use Rattle.zone_core.specs.Sets.{is_same};
 ghost use Rattle.zone_core.specs.Zones.{IsZone};
+ghost use Rattle.office_core.specs.Machine.{change_of};
 ghost use Rattle.office_core.specs.States.{Held, State};
 ghost use Rattle.office_core.specs.Tables.{Fits, addition_in, change_in, committed};
 ghost use Rattle.office_rows.specs.RecordRows.{record_row};
-ghost use Rattle.office_writes.specs.Writings.{Leads, IsNext, with_zone, with_zone_replaced, change_writing};
+ghost use Rattle.office_writes.specs.Writings.{Leads, IsNext, with_zone, with_zone_replaced, change_writing, zone_writing};
 
 use dns_data::Record;
 use dns_names::Name;
@@ -88,7 +89,10 @@ pub fn addition_writing(
 
 /// What is written for a zone of an origin that has none: its row and those of its records. The only error is want of memory.
 pub fn zone_writing(alloc: Global, zone: &Zone) -> Result<Writing, AllocError>
-    ensures { IfOk result (λ writing. (s : State) → s.zones zone.now.origin ≡ None → Leads writing s (with_zone s zone.now)) }
+    // These rows and no others.
+    ensures exact { IfOk result (λ writing. writing ≡ zone_writing zone.now) }
+    // It leads from each state without a zone of this origin to the one with this zone.
+    ensures leads { IfOk result (λ writing. (s : State) → s.zones zone.now.origin ≡ None → Leads writing s (with_zone s zone.now)) }
 {
     notes_zone(zone);
     let origin = zone.origin();
@@ -114,7 +118,10 @@ pub fn replacement_writing(
 ) -> Result<Writing, AllocError>
     requires origin { old.now.origin ≡ new.now.origin }
     requires differs { is_same old.now.records new.now.records ≡ false }
-    ensures { IfOk result (λ writing. (s : State) (held : Held) → s.zones new.now.origin ≡ Some held → held.records ≡ old.now.records → IsNext s new.now.origin number → Leads writing s (with_zone_replaced s new.now held)) }
+    // The rows of the records by which the two differ, and no others.
+    ensures exact { (n : ℕ) → number ≡ pos n → IfOk result (λ writing. writing ≡ change_writing new.now.origin n (change_of old.now.records new.now.records) []) }
+    // It leads from each state that holds the old zone to the one with the new zone in its place.
+    ensures leads { IfOk result (λ writing. (s : State) (held : Held) → s.zones new.now.origin ≡ Some held → held.records ≡ old.now.records → IsNext s new.now.origin number → Leads writing s (with_zone_replaced s new.now held)) }
 {
     notes_zone(old);
     notes_zone(new);
