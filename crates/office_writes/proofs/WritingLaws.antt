@@ -14,8 +14,8 @@ use Rattle.office_core.specs.States.{ChangeOf, Held, State}
 use Rattle.office_core.specs.Machine.{change_of, is_nothing, hold, keep}
 use Rattle.office_core.specs.Tables.{AdditionOf, held_with, with_change_of, committed, FitsHeld, FitsChange, Fits}
 use Rattle.office_tables.specs.Rows.{WritingOf}
-use Rattle.office_rows.specs.Contents.{ReceiptAt, row_of_receipt, IsReceiptAt}
-use Rattle.office_writes.specs.Writings.{Leads, IsNext, receipts_writing, change_writing, zone_writing, with_zone, with_zone_replaced, NewTablesHoldNothing}
+use Rattle.office_rows.specs.Contents.{row_of_receipt, IsReceiptAt}
+use Rattle.office_writes.specs.Writings.{Leads, IsNext, receipt_at, receipts_writing, change_writing, zone_writing, with_zone, with_zone_replaced, NewTablesHoldNothing}
 use Rattle.office_writes.proofs.StateLemmas.{leads, zones_stay, receipts_stay, receipt_more, zones_same}
 use Rattle.office_writes.proofs.ChangedZoneLemmas.{zones_changed}
 use Rattle.office_writes.proofs.NewZoneLemmas.{zone_added}
@@ -34,10 +34,6 @@ if_ok_same (Ok w) a b e is = is ∙ e
 if_ok_same (Err f) a b e is = tt
 
 -- ---- additions
-
--- the receipt of an addition
-abbrev pub receipt_at : AdditionOf → ReceiptAt
-receipt_at a = record { caller = a.caller; id = a.id; receipt = a.receipt }
 
 -- a change of zones leaves receipts as they were
 same_receipts : (s : State) (o : Labels) (change : Option ChangeOf) → (with_change_of s o change).receipts ≡ s.receipts
