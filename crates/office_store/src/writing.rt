@@ -1,12 +1,13 @@
 //! What is written, so that one state follows another.
 
-ghost use Rattle.std.specs.Prelude.{◌≡◌, ℕ, pos, suc, false, IfOk, IfErr, OnOk, OnErr};
+ghost use Rattle.std.specs.Prelude.{◌≡◌, ℕ, pos, suc, false, option_map, IfOk, IfErr, OnOk, OnErr};
 ghost use Rattle.sqlite.specs.Held.{state};
 ghost use Rattle.sqlite.specs.State.{HasCleanDisk};
 ghost use Rattle.office_core.specs.States.{State};
-ghost use Rattle.office_core.specs.Tables.{Fits, addition_in, committed};
+ghost use Rattle.office_core.specs.Tables.{Fits, addition_in, change_in, committed};
 ghost use Rattle.office_reads.specs.States.{last_of};
-ghost use Rattle.office_writes.specs.Writings.{Leads, IsNext};
+ghost use Rattle.office_writes.specs.Writings.{Leads, IsNext, receipt_rows};
+ghost use Rattle.office_store.specs.Additions.{Writes};
 ghost use Rattle.office_store.specs.Faults.{IsFailure};
 ghost use Rattle.office_store.specs.Holds.{HoldsState, LeavesStates};
 ghost use Rattle.office_store.specs.Asks.{Asked};
@@ -75,6 +76,8 @@ fn writing_of<S: Alter>(
     conn: &mut Connection<S>,
     addition: &Addition,
 ) -> Result<Writing, StoreFault>
+    // Its rows, and no others.
+    ensures exact { HasCleanDisk (state S.Store conn.new) → IfOk result (λ writing. (s : State) → HoldsState (state S.Store conn.old) s → Fits s (addition_in addition.now) → Writes s addition.now.receipt.origin (option_map change_in addition.now.change) (receipt_rows (addition_in addition.now)) writing) }
     ensures leads { HasCleanDisk (state S.Store conn.new) → IfOk result (λ writing. (s : State) → HoldsState (state S.Store conn.old) s → Fits s (addition_in addition.now) → Leads writing s (committed (addition_in addition.now) s)) }
     ensures asked { Asked (state S.Store conn.old) (state S.Store conn.new) }
     ensures ended { OnOk result (conn.new.in_transaction ≡ false) }
