@@ -1,8 +1,7 @@
-use Rattle.std.proofs.Common.{◌≡◌, ℕ, pos, Some, [], w64, ap, ◌∙◌}
+use Rattle.std.proofs.Common.{◌≡◌, pos, Some, w64, ◌∙◌}
 use Rattle.std.proofs.lemmas.Int.{to_z-of_z}
-use Rattle.zone_core.specs.Sets.{Records, listing, minus}
+use Rattle.zone_core.specs.Sets.{minus}
 use Rattle.zone_core.proofs.ChangeLemmas.{listed_so}
-use Rattle.office_core.specs.Machine.{change_of}
 use Rattle.office_core.specs.States.{ChangeOf, Held, State}
 use Rattle.office_tables.specs.Rows.{WritingOf}
 use Rattle.office_writes.specs.Writings.{Leads, IsNext, change_writing, with_zone_replaced}

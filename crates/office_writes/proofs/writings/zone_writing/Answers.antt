@@ -2,7 +2,6 @@ use Rattle.std.proofs.Common.{◌≡◌, ℕ, List, [], ◌∷◌, None, map, st
 use Rattle.dns_names.specs.Spelling.{name_text}
 use Rattle.zone_core.specs.Sets.{listing}
 use Rattle.office_rows.specs.RecordRows.{record_row}
-use Rattle.office_writes.specs.Writings.{zone_writing}
 use Rattle.office_writes.proofs.writings.zone_writing.Goals as goal
 use Rattle.office_writes.proofs.WritingLaws.{zone_leads}
 
