@@ -33,7 +33,7 @@ use Rattle.zone_core.specs.declared.fault.ZoneFault.TheVariants as faults
 use Rattle.zone_core.specs.Faults as zone_faults
 use Rattle.office_rows.specs.RowFaults.{Refuses}
 use Rattle.office_reads.specs.Faults.{of_zone, of_zones}
-use Rattle.zone_core.specs.Zones.{ZoneOf, IsZone, built}
+use Rattle.zone_core.specs.Zones.{ZoneOf, IsZone, built, unless_fault, fault_in, evened, latest}
 use Rattle.zone_core.specs.Views.{zone_in, AreOfZone}
 use Rattle.zone_core.specs.Parts.{part_of, at_names}
 use Rattle.zone_core.specs.Rebuilt.{AreAllOf}
@@ -114,6 +114,14 @@ module _ (o : Labels) (named : IsName o) (zs : List Record) (is : AreOfZone o zs
   rows_here =
       all_weaker (λ r. Contains (map (record_row o) zs) r) (λ r. bytes_eq r.origin (name_text o) ≡ true)
       (λ row c. let i = image row c in bytes_same row.origin (name_text o) (ap (λ (r : RecordRowOf). r.origin) i.2)) rows of.inside
+
+-- what is built is of the origin that was given
+origin_of : (origin : Labels) (set : Records) (fault : Option ZoneFault) (zone : ZoneOf) → unless_fault origin set fault ≡ Ok zone → zone.origin ≡ origin
+origin_of origin set None zone e = let same : record { origin = origin; records = set } ≡ zone = cc in sym (ap (λ (z : ZoneOf). z.origin) same)
+origin_of origin set (Some fault) zone e = absurd cc
+
+pub built_at : (origin : Labels) (rs : List Record) (zone : ZoneOf) → built origin rs ≡ Ok zone → zone.origin ≡ origin
+built_at origin rs zone e = origin_of origin (evened (latest rs)) (fault_in origin (evened (latest rs))) zone e
 
 pub built_is : (zone : ZoneOf) (rs : List Record) → IsZone zone → AreAllOf rs zone.records → built zone.origin rs ≡ Ok zone
 built_is = zones_are_rebuilt

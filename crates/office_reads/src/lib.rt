@@ -3,7 +3,6 @@
 #![tactic(auto)]
 
 mod laws;
-mod numbered;
 mod ordered;
 mod state;
 mod views;

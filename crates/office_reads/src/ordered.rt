@@ -6,15 +6,14 @@ ghost use Rattle.std.specs.List.Sorted.{IsPermutation, IsSorted};
 ghost use Rattle.dns_names.specs.Labels.{IsName};
 ghost use Rattle.dns_names.specs.Order.{canonical_cmp};
 ghost use Rattle.dns_names.specs.Spelling.{name_text};
-ghost use Rattle.office_rows.specs.ChangeRows.{row_of, IsChanged, IsChangeRow, changed_order};
 ghost use Rattle.office_reads.specs.Checks.{IsOriginText, row_of_record, IsZoneRecord, IsZoneRecordRow, zone_record_order, row_of_kept, IsKept, IsReceiptRow, kept_order};
 
 use dns_data::{Record, record_order};
 use dns_names::Name;
 use grant_policy::Identifier;
 use office_core::Receipt;
-use office_rows::{ChangedRecord, RowFault, read_change, read_origin, read_receipt, read_record};
-use office_tables::{ChangeRow, ReceiptRow, RecordRow, ZoneRow};
+use office_rows::{RowFault, read_origin, read_receipt, read_record};
+use office_tables::{ReceiptRow, RecordRow, ZoneRow};
 use std::alloc::Global;
 use std::cmp::Ordering;
 
@@ -123,38 +122,4 @@ pub(crate) fn receipts(alloc: Global, rows: &[ReceiptRow]) -> Result<Vec<KeptRec
     let mut receipts = all_receipts(alloc, rows)?;
     receipts.sort_by(|first, second| kept_order(first, second))?;
     Ok(receipts)
-}
-
-/// What each row of `changes` has.
-fn all_changes(alloc: Global, rows: &[ChangeRow]) -> Result<Vec<ChangedRecord>, RowFault>
-    ensures found { IfOk result (λ cs. (map row_of cs.items ≡ rows.now) × AllByRecursion IsChanged cs.items) }
-    ensures only { AllByRecursion IsChangeRow rows.now → IfErr result (λ e. e ≡ RowFault.NoMemory) }
-{
-    let mut changes = Vec::with_capacity(alloc, rows.len())?;
-    for row in rows {
-        changes.push(read_change(alloc, row)?)?;
-    }
-    Ok(changes)
-}
-
-/// By origin, then by the number of the change, then by side, and then in record order.
-pub(crate) fn changed_order(first: &ChangedRecord, second: &ChangedRecord) -> Ordering
-    ensures { result ≡ changed_order first.now second.now }
-{
-    first
-        .origin
-        .cmp(&second.origin)
-        .then(first.number.cmp(&second.number))
-        .then(first.side.number().cmp(&second.side.number()))
-        .then(record_order(&first.changed, &second.changed))
-}
-
-/// What rows of `changes` have, by origin, then by the number of the change, then by side, and then in record order.
-pub(crate) fn changes(alloc: Global, rows: &[ChangeRow]) -> Result<Vec<ChangedRecord>, RowFault>
-    ensures found { IfOk result (λ cs. IsPermutation (map row_of cs.items) rows.now × AllByRecursion IsChanged cs.items × IsSorted changed_order cs.items) }
-    ensures only { AllByRecursion IsChangeRow rows.now → IfErr result (λ e. e ≡ RowFault.NoMemory) }
-{
-    let mut changes = all_changes(alloc, rows)?;
-    changes.sort_by(|first, second| changed_order(first, second))?;
-    Ok(changes)
 }

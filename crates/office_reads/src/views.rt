@@ -1,6 +1,6 @@
 //! Parts of a state, read from the rows of them.
 
-ghost use Rattle.std.specs.Prelude.{◌≡◌, ℕ, ℤ, Bool, List, ◌∷◌, map, Ok, Some, bytes_eq};
+ghost use Rattle.std.specs.Prelude.{◌≡◌, ℕ, ℤ, Bool, List, [], ◌∷◌, map, Ok, Some, IfOk, MatchOption, bytes_eq};
 ghost use Rattle.std.specs.List.{AllByRecursion, list_all};
 ghost use Rattle.std.specs.List.Sorted.{IsPermutation};
 ghost use Rattle.dns_names.specs.Keys.{key_of};
@@ -18,6 +18,7 @@ ghost use Rattle.office_core.specs.Tables.{change_in};
 ghost use Rattle.office_tables.specs.Rows.{RowsOf};
 ghost use Rattle.office_tables.specs.Questions.{records_of, receipts_of, changes_of as changes_in};
 ghost use Rattle.office_rows.specs.Contents.{AreOfState};
+ghost use Rattle.office_rows.specs.ReceiptRows.{receipt_row};
 ghost use Rattle.office_rows.specs.RecordRows.{record_row};
 ghost use Rattle.office_rows.specs.RowFaults.{Reads};
 ghost use Rattle.office_reads.specs.Faults.{of_zone, of_zones};
@@ -63,7 +64,8 @@ fn of_zone(fault: ZoneFault) -> RowFault
 
 /// The zone of an origin that is built of records. Records that make no zone are `BadRow`.
 pub(crate) fn built(alloc: Global, origin: &Name, records: Vec<Record>) -> Result<Zone, RowFault>
-    ensures { Reads (λ zone. zone) result (of_zones (built origin.now records.items)) }
+    ensures origin { IfOk result (λ zone. zone.origin ≡ origin.now) }
+    ensures exact { Reads (λ zone. zone) result (of_zones (built origin.now records.items)) }
 {
     match Zone::build(alloc, origin.try_copy(alloc)?, records) {
         Ok(zone) => Ok(zone),
@@ -73,7 +75,8 @@ pub(crate) fn built(alloc: Global, origin: &Name, records: Vec<Record>) -> Resul
 
 /// The zone of an origin by rows of its records, in any order and however often they come. Others are `BadRow`.
 fn zone_in(alloc: Global, origin: &Name, rows: &[RecordRow]) -> Result<Zone, RowFault>
-    ensures { (rs : List RecordOf) → IsName origin.now → AreOfZone origin.now rs → AreRowsOf origin.now rs rows.now → Reads (λ zone. zone) result (Ok (zone_in origin.now rs)) }
+    ensures origin { IfOk result (λ zone. zone.origin ≡ origin.now) }
+    ensures held { (rs : List RecordOf) → IsName origin.now → AreOfZone origin.now rs → AreRowsOf origin.now rs rows.now → Reads (λ zone. zone) result (Ok (zone_in origin.now rs)) }
 {
     let text = origin.text(alloc)?;
     if !are_of(rows, text.as_str()) {
@@ -85,8 +88,10 @@ fn zone_in(alloc: Global, origin: &Name, rows: &[RecordRow]) -> Result<Zone, Row
 
 /// The zone of an origin, by the rows of its records in any order. Rows that are those of no zone of this origin are `BadRow`.
 pub fn zone_of(alloc: Global, origin: &Name, rows: &[RecordRow]) -> Result<Zone, RowFault>
+    // What is read is of the origin that was asked for, whatever the rows.
+    ensures origin { IfOk result (λ zone. zone.origin ≡ origin.now) }
     // In a state that holds the zone, the rows of its records are read as it, unless memory runs out.
-    ensures { (version : ℤ) (all : RowsOf) (s : State) (zone : ZoneOf) → AreOfState version all s → zone_at s origin.now ≡ Some zone → IsPermutation (records_of (name_text origin.now) all.records) rows.now → Reads (λ z. z) result (Ok zone) }
+    ensures held { (version : ℤ) (all : RowsOf) (s : State) (zone : ZoneOf) → AreOfState version all s → zone_at s origin.now ≡ Some zone → IsPermutation (records_of (name_text origin.now) all.records) rows.now → Reads (λ z. z) result (Ok zone) }
 {
     zone_in(alloc, origin, rows)
 }
@@ -138,7 +143,10 @@ pub fn records_within(alloc: Global, rows: &[RecordRow]) -> Result<Vec<Record>, 
 /// The receipt of a caller under an identifier, by its row, where there is one. Another row than that of a receipt is `BadRow`, and so
 /// are two rows.
 pub fn receipt_of(alloc: Global, rows: &[ReceiptRow]) -> Result<Option<Receipt>, RowFault>
-    ensures { (version : ℤ) (all : RowsOf) (s : State) (caller id : List ℕ) → AreOfState version all s → IsPermutation (receipts_of caller id all.receipts) rows.now → Reads (λ receipt. receipt) result (Ok (s.receipts caller id)) }
+    // There is no row, or the one row is that of what is read.
+    ensures found { IfOk result (λ found. MatchOption found (rows.now ≡ []) (λ receipt. (caller : List ℕ) × (id : List ℕ) × (rows.now ≡ receipt_row caller id receipt ∷ []))) }
+    // In a state, the rows under an identifier of a caller are read as what it has there, unless memory runs out.
+    ensures held { (version : ℤ) (all : RowsOf) (s : State) (caller id : List ℕ) → AreOfState version all s → IsPermutation (receipts_of caller id all.receipts) rows.now → Reads (λ receipt. receipt) result (Ok (s.receipts caller id)) }
 {
     match rows {
         [] => Ok(None),

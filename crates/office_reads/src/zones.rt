@@ -7,12 +7,11 @@ ghost use Rattle.zone_core.specs.Views.{AreOfZone};
 ghost use Rattle.office_reads.specs.Orders.{rises_above, rises};
 ghost use Rattle.office_reads.specs.Checks.{AreZoneRows, Checks, records_first, changes_first, IsZoneOf, AreZonesInTurn};
 
-use crate::numbered::are_numbered;
 use crate::ordered::{self, ZoneRecord};
 use crate::views::built;
 use dns_data::{Record, same_record};
 use dns_names::Name;
-use office_rows::{ChangedRecord, RowFault};
+use office_rows::{ChangedRecord, RowFault, are_numbered, sorted_changes};
 use office_tables::{ChangeRow, RecordRow, ZoneRow};
 use std::alloc::{AllocError, Global};
 
@@ -30,7 +29,7 @@ pub(crate) fn check_zones(
         return Err(RowFault::BadRow);
     }
     let records = ordered::records(alloc, records)?;
-    let changes = ordered::changes(alloc, changes)?;
+    let changes = sorted_changes(alloc, changes)?;
     if !are_zones(alloc, &origins, &records, &changes)? {
         return Err(RowFault::BadRow);
     }

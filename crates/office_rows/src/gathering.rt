@@ -60,11 +60,9 @@ fn changed_order(first: &ChangedRecord, second: &ChangedRecord) -> Ordering
         .then(record_order(&first.changed, &second.changed))
 }
 
-/// What rows have, in order.
-pub(crate) fn sorted_changes(
-    alloc: Global,
-    rows: &[ChangeRow],
-) -> Result<Vec<ChangedRecord>, RowFault>
+/// What rows of `changes` have, of whatever zones: by origin, then by the number of the change, then by side, and then in record order. A
+/// row that is that of no record on a side of a change is `BadRow`.
+pub fn sorted_changes(alloc: Global, rows: &[ChangeRow]) -> Result<Vec<ChangedRecord>, RowFault>
     ensures found { IfOk result (λ cs. IsPermutation (map row_of cs.items) rows.now × AllByRecursion IsChanged cs.items × IsSorted changed_order cs.items) }
     ensures only { AllByRecursion IsChangeRow rows.now → IfErr result (λ e. e ≡ RowFault.NoMemory) }
 {
@@ -106,7 +104,7 @@ fn are_behind(first: &ChangedRecord, others: &[ChangedRecord]) -> bool
 }
 
 /// Whether they stand in order, each once, and are numbered from 1 in each zone without a gap.
-pub(crate) fn are_numbered(changed: &[ChangedRecord]) -> bool
+pub fn are_numbered(changed: &[ChangedRecord]) -> bool
     ensures { result ≡ are_numbered changed.now }
 {
     match changed {

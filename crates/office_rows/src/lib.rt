@@ -20,7 +20,7 @@ mod text;
 pub use changes::{ChangedRecord, change_row, change_rows, read_change};
 pub use columns::read_origin;
 pub use fault::ItemsFault;
-pub use gathering::read_changes;
+pub use gathering::{are_numbered, read_changes, sorted_changes};
 pub use laws::{
     change_rows_are_apart, items_are_read, receipt_rows_are_apart, record_rows_are_apart,
 };

@@ -1,15 +1,15 @@
 -- Zones that come, and zones in the place of others.
-use Rattle.std.proofs.Common.{◌≡◌, ℕ, Bool, true, false, not, cond, List, [], ◌∷◌, ◌++◌, Option, Some, None, option_map, Result, Ok, Err, IfErr, refl, sym, ap, ◌∙◌, arith}
+use Rattle.std.proofs.Common.{◌≡◌, ℕ, Bool, true, false, cond, List, [], ◌∷◌, ◌++◌, Option, Some, None, option_map, Result, Ok, Err, IfErr, refl, sym, ap, ◌∙◌, arith}
 use Rattle.std.proofs.lemmas.Bool.Decides.{nat_tests}
 use Rattle.dns_names.proofs.NameLemmas.{is_within-Decides}
 use Rattle.dns_data.specs.declared.record.Record.{Record}
-use Rattle.zone_core.specs.declared.fault.ZoneFault.{ZoneFault}
 use Rattle.zone_core.specs.Sets.{Records, part, within, is_same}
 use Rattle.zone_core.specs.Serials.{is_less}
-use Rattle.zone_core.specs.Zones.{ZoneOf, IsZone, built, unless_fault, fault_in, evened, latest, serial_of}
+use Rattle.zone_core.specs.Zones.{ZoneOf, IsZone, built, serial_of}
 use Rattle.zone_core.proofs.SetLemmas.{by_cases, same_sets, found_in_part}
 use Rattle.zone_core.proofs.ChangedLemmas.{same_sets_are_one}
 use Rattle.office_core.specs.States.{Held, State, zone_held}
+use Rattle.office_reads.proofs.ZoneLemmas.{built_at}
 use Rattle.office_store.specs.declared.fault.StoreFault.{StoreFault}
 use Rattle.office_store.specs.declared.fault.StoreFault.TheVariants.{SerialNotGreater}
 use Rattle.office_store.specs.Faults.{IsFailure, Gives, of_zones, ◌>>=◌}
@@ -17,13 +17,6 @@ use Rattle.office_store.specs.Zones.{if_free, if_later, imported, replaced}
 use Rattle.office_store.proofs.FaultLemmas.{says_nothing}
 
 -- ---- what is built
-
-origin_of : (origin : List (List ℕ)) (set : Records) (fault : Option ZoneFault) (zone : ZoneOf) → unless_fault origin set fault ≡ Ok zone → zone.origin ≡ origin
-origin_of origin set None zone e = let same : record { origin = origin; records = set } ≡ zone = cc in sym (ap (λ (z : ZoneOf). z.origin) same)
-origin_of origin set (Some fault) zone e = absurd cc
-
-pub built_at : (origin : List (List ℕ)) (rs : List Record) (zone : ZoneOf) → built origin rs ≡ Ok zone → zone.origin ≡ origin
-built_at origin rs zone e = origin_of origin (evened (latest rs)) (fault_in origin (evened (latest rs))) zone e
 
 pub imported_is : (s : State) (origin : List (List ℕ)) (rs : List Record) (zone : ZoneOf) → built origin rs ≡ Ok zone → if_free (s.zones zone.origin) zone ≡ imported s origin rs
 imported_is s origin rs zone e =
@@ -39,12 +32,6 @@ replaced_is s origin rs zone e =
 pub gives_written : {X Y : Type 0} (view : X → Y) (r : Result X StoreFault) (told : Result Y StoreFault) → IfErr r IsFailure → ((x : X) → told ≡ Ok (view x)) → Gives view r told
 gives_written view (Ok x) told failed is = is x
 gives_written view (Err e) told failed is = says_nothing e told failed
-
--- ---- origins
-
-pub not_false : (differs same : Bool) → differs ≡ not same → differs ≡ false → same ≡ true
-not_false differs true is off = refl
-not_false differs false is off = absurd (let both : true ≡ false = sym is ∙ off in cc)
 
 -- ---- serials
 

@@ -2,4 +2,5 @@ pub mod Faults
 pub mod Holds
 pub mod Asks
 pub mod Turns
+pub mod Additions
 pub mod Zones

@@ -96,25 +96,21 @@ fn is_version(versions: &[i64]) -> bool
 /// Tells whether the connection shows the tables of this version.
 fn check_version<S: Alter>(alloc: Global, conn: &mut Connection<S>) -> Result<(), StoreFault>
     requires { conn.old.in_transaction ≡ false }
+    ensures version { HasCleanDisk (state S.Store conn.new) → OnOk result (HasVersion (state S.Store conn.old)) }
     ensures wrong { HasCleanDisk (state S.Store conn.new) → result ≡ Err WrongVersion → ¬ HasVersion (state S.Store conn.old) }
-    ensures bad { result ≡ Err BadRow → (state S.Store conn.old).now.schema ≡ office_schema }
     ensures tables { OnOk result ((state S.Store conn.old).now.schema ≡ office_schema) }
     ensures good { HasCleanDisk (state S.Store conn.new) → IfErr result (λ e. (rows : RowsOf) (s : State) → AreOfState (pos 2) rows s → Holds (state S.Store conn.old) rows → IsFailure e) }
-    ensures named { IfErr result (λ e. (e ≡ WrongVersion) ⊎ IsOfRows e) }
+    ensures named { IfErr result (λ e. (e ≡ WrongVersion) ⊎ IsFailure e) }
     ensures asked { Asked (state S.Store conn.old) (state S.Store conn.new) }
     ensures only { HasCleanDisk (state S.Store conn.new) → OnOk result (Only (state S.Store conn.old) (state S.Store conn.new)) }
     ensures ended { conn.new.in_transaction ≡ false }
 {
     check_tables(conn)?;
-    match versions(alloc, conn) {
-        Ok(versions) => {
-            if is_version(&versions) {
-                return Ok(());
-            }
-            Err(StoreFault::WrongVersion)
-        }
-        Err(fault) => Err(found(fault)),
+    let versions = versions(alloc, conn)?;
+    if !is_version(&versions) {
+        return Err(StoreFault::WrongVersion);
     }
+    Ok(())
 }
 
 /// Tells whether the rows that the connection shows are a state.
@@ -148,7 +144,8 @@ pub(crate) fn check_state<S: Alter>(
     ensures found { HasCleanDisk (state S.Store conn.new) → OnOk result ((s : State) × HoldsState (state S.Store conn.new) s × LeavesStates (state S.Store conn.new) s s) }
     ensures good { HasCleanDisk (state S.Store conn.new) → IfErr result (λ e. (s : State) → HoldsState (state S.Store conn.old) s → IsFailure e) }
     ensures wrong { HasCleanDisk (state S.Store conn.new) → result ≡ Err WrongVersion → ¬ HasVersion (state S.Store conn.old) }
-    ensures bad { result ≡ Err BadRow → (state S.Store conn.old).now.schema ≡ office_schema }
+    ensures bad { HasCleanDisk (state S.Store conn.new) → result ≡ Err BadRow → HasVersion (state S.Store conn.old) }
+    ensures tables { result ≡ Err BadRow → (state S.Store conn.old).now.schema ≡ office_schema }
     ensures named { IfErr result (λ e. (e ≡ WrongVersion) ⊎ IsOfRows e) }
     ensures asked { Asked (state S.Store conn.old) (state S.Store conn.new) }
     ensures only { HasCleanDisk (state S.Store conn.new) → OnOk result (Only (state S.Store conn.old) (state S.Store conn.new)) }

@@ -134,7 +134,9 @@ impl<S: Alter + Drop, L: Ledger> SqlTable<S, L> {
         // Over rows that are a state only the store fails or memory runs out; so `BadRow` says that there is no state.
         ensures good { IfErr result (λ refused. HasCleanDisk (state S.Store refused.conn) → (s : State) → HoldsState (state S.Store conn) s → IsFailure refused.fault) }
         ensures wrong { IfErr result (λ refused. HasCleanDisk (state S.Store refused.conn) → refused.fault ≡ WrongVersion → ¬ HasVersion (state S.Store conn)) }
-        ensures bad { IfErr result (λ refused. refused.fault ≡ BadRow → (state S.Store conn).now.schema ≡ office_schema) }
+        // It comes only over tables of this version.
+        ensures bad { IfErr result (λ refused. HasCleanDisk (state S.Store refused.conn) → refused.fault ≡ BadRow → HasVersion (state S.Store conn)) }
+        ensures tables { IfErr result (λ refused. refused.fault ≡ BadRow → (state S.Store conn).now.schema ≡ office_schema) }
         ensures named { IfErr result (λ refused. (refused.fault ≡ WrongVersion) ⊎ IsOfRows refused.fault) }
         // Behind a refusal all is as it was.
         ensures same { IfErr result (λ refused. Asked (state S.Store conn) (state S.Store refused.conn)) }

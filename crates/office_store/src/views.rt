@@ -1,6 +1,6 @@
 //! Parts of the state that a connection holds.
 
-ghost use Rattle.std.specs.Prelude.{◌≡◌, false, map, option_map, IfOk, IfErr, OnOk};
+ghost use Rattle.std.specs.Prelude.{◌≡◌, false, map, option_map, IfOk, IfErr, IfSome, OnOk};
 ghost use Rattle.sqlite.specs.Held.{state};
 ghost use Rattle.sqlite.specs.State.{HasCleanDisk};
 ghost use Rattle.office_core.specs.States.{State, zone_at, part_at, subtree_at, changes_at};
@@ -28,6 +28,7 @@ pub(crate) fn zone_at<S: Alter>(
     conn: &mut Connection<S>,
     origin: &Name,
 ) -> Result<Option<Zone>, StoreFault>
+    ensures origin { IfOk result (λ found. IfSome found (λ zone. zone.origin ≡ origin.now)) }
     ensures answer { HasCleanDisk (state S.Store conn.new) → IfOk result (λ zone. (s : State) → HoldsState (state S.Store conn.old) s → zone ≡ zone_at s origin.now) }
     ensures asked { Asked (state S.Store conn.old) (state S.Store conn.new) }
     ensures only { HasCleanDisk (state S.Store conn.new) → OnOk result (Only (state S.Store conn.old) (state S.Store conn.new)) }

@@ -1,12 +1,13 @@
 //! What is written, so that one state follows another.
 
-ghost use Rattle.std.specs.Prelude.{◌≡◌, ℕ, pos, suc, false, IfOk, IfErr, OnOk, OnErr};
+ghost use Rattle.std.specs.Prelude.{◌≡◌, ℕ, pos, suc, false, option_map, IfOk, IfErr, OnOk, OnErr};
 ghost use Rattle.sqlite.specs.Held.{state};
 ghost use Rattle.sqlite.specs.State.{HasCleanDisk};
 ghost use Rattle.office_core.specs.States.{State};
-ghost use Rattle.office_core.specs.Tables.{Fits, addition_in, committed};
+ghost use Rattle.office_core.specs.Tables.{Fits, addition_in, change_in, committed};
 ghost use Rattle.office_reads.specs.States.{last_of};
-ghost use Rattle.office_writes.specs.Writings.{Leads, IsNext};
+ghost use Rattle.office_writes.specs.Writings.{Leads, IsNext, receipt_rows};
+ghost use Rattle.office_store.specs.Additions.{Writes};
 ghost use Rattle.office_store.specs.Faults.{IsFailure};
 ghost use Rattle.office_store.specs.Holds.{HoldsState, LeavesStates};
 ghost use Rattle.office_store.specs.Asks.{Asked};
@@ -17,7 +18,7 @@ use crate::fault::StoreFault;
 use dns_names::Name;
 use office_core::Addition;
 use office_tables::{Writing, last_number, write};
-use office_writes::addition_writing;
+use office_writes::{addition_writing, receipt_writing};
 use sqlite::{Alter, Connection, Error as StoreError, ErrorCode};
 use std::alloc::Global;
 
@@ -69,6 +70,26 @@ pub(crate) fn write_to<S: Alter>(
     Ok(())
 }
 
+/// What is written for an addition. The store is asked for the number of its change, where it has one.
+fn writing_of<S: Alter>(
+    alloc: Global,
+    conn: &mut Connection<S>,
+    addition: &Addition,
+) -> Result<Writing, StoreFault>
+    // Its rows, and no others.
+    ensures exact { HasCleanDisk (state S.Store conn.new) → IfOk result (λ writing. (s : State) → HoldsState (state S.Store conn.old) s → Fits s (addition_in addition.now) → Writes s addition.now.receipt.origin (option_map change_in addition.now.change) (receipt_rows (addition_in addition.now)) writing) }
+    ensures leads { HasCleanDisk (state S.Store conn.new) → IfOk result (λ writing. (s : State) → HoldsState (state S.Store conn.old) s → Fits s (addition_in addition.now) → Leads writing s (committed (addition_in addition.now) s)) }
+    ensures asked { Asked (state S.Store conn.old) (state S.Store conn.new) }
+    ensures ended { OnOk result (conn.new.in_transaction ≡ false) }
+{
+    if addition.change.is_none() {
+        check_alone(conn)?;
+        return Ok(receipt_writing(alloc, addition)?);
+    }
+    let number = next_number(alloc, conn, &addition.receipt.origin)?;
+    Ok(addition_writing(alloc, addition, number)?)
+}
+
 /// Makes an addition: all of it, or nothing.
 pub(crate) fn commit<S: Alter>(
     alloc: Global,
@@ -78,7 +99,6 @@ pub(crate) fn commit<S: Alter>(
     requires fits { HasCleanDisk (state S.Store conn.old) → (s : State) → HoldsState (state S.Store conn.old) s → Fits s (addition_in addition.now) }
     ensures { Turns (state S.Store conn.old) (state S.Store conn.new) result (committed (addition_in addition.now)) }
 {
-    let number = next_number(alloc, conn, &addition.receipt.origin)?;
-    let writing = addition_writing(alloc, addition, number)?;
+    let writing = writing_of(alloc, conn, addition)?;
     write_to(conn, &writing)
 }

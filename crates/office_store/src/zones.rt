@@ -5,7 +5,7 @@ ghost use Rattle.sqlite.specs.Held.{state};
 ghost use Rattle.sqlite.specs.State.{HasCleanDisk};
 ghost use Rattle.zone_core.specs.Sets.{is_same};
 ghost use Rattle.zone_core.specs.Serials.{is_less};
-ghost use Rattle.zone_core.specs.Zones.{serial_of};
+ghost use Rattle.zone_core.specs.Zones.{IsZone, serial_of};
 ghost use Rattle.office_core.specs.States.{Held, State, zone_held};
 ghost use Rattle.office_store.specs.Faults.{Gives};
 ghost use Rattle.office_store.specs.Holds.{HoldsState};
@@ -21,7 +21,7 @@ use dns_data::Record;
 use dns_names::Name;
 use office_reads::records_within;
 use office_writes::{replacement_writing, zone_writing};
-use sqlite::{Alter, Connection, Error as StoreError, ErrorCode};
+use sqlite::{Alter, Connection};
 use std::alloc::Global;
 use zone_core::{Zone, serial_less};
 
@@ -56,6 +56,13 @@ pub(crate) fn import<S: Alter>(
     Ok(zone)
 }
 
+/// What its type says of a zone. It does nothing when it runs.
+fn notes_zone(zone: &Zone)
+    ensures { IsZone zone.now }
+{
+    let _ = zone.origin();
+}
+
 /// The zone that is held of the origin of another, if the serial of the other is greater.
 fn zone_before<S: Alter>(
     alloc: Global,
@@ -72,9 +79,7 @@ fn zone_before<S: Alter>(
     let Some(old) = zone_at(alloc, conn, zone.origin())? else {
         return Err(StoreFault::NoZone);
     };
-    if old.origin() != zone.origin() {
-        return Err(StoreFault::Store(StoreError::SqliteFailure(ErrorCode::DatabaseCorrupt)));
-    }
+    notes_zone(&old);
     if !serial_less(old.serial(), zone.serial()) {
         return Err(StoreFault::SerialNotGreater);
     }

@@ -14,8 +14,8 @@ use Rattle.office_core.specs.States.{ChangeOf, Held, State}
 use Rattle.office_core.specs.Machine.{change_of, is_nothing, hold, keep}
 use Rattle.office_core.specs.Tables.{AdditionOf, held_with, with_change_of, committed, FitsHeld, FitsChange, Fits}
 use Rattle.office_tables.specs.Rows.{WritingOf}
-use Rattle.office_rows.specs.Contents.{ReceiptAt, row_of_receipt, IsReceiptAt}
-use Rattle.office_writes.specs.Writings.{Leads, IsNext, receipts_writing, change_writing, zone_writing, with_zone, with_zone_replaced, NewTablesHoldNothing}
+use Rattle.office_rows.specs.Contents.{row_of_receipt, IsReceiptAt}
+use Rattle.office_writes.specs.Writings.{Leads, IsNext, receipt_at, receipts_writing, change_writing, zone_writing, with_zone, with_zone_replaced, NewTablesHoldNothing}
 use Rattle.office_writes.proofs.StateLemmas.{leads, zones_stay, receipts_stay, receipt_more, zones_same}
 use Rattle.office_writes.proofs.ChangedZoneLemmas.{zones_changed}
 use Rattle.office_writes.proofs.NewZoneLemmas.{zone_added}
@@ -28,11 +28,12 @@ pub if_number : {W E : Type 0} (r : Result W E) (P : ℕ → Type 0) (Q : ℕ �
 if_number (Ok w) P Q R told follows = follows w told
 if_number (Err e) P Q R told follows = tt
 
--- ---- additions
+-- what is told of a value is told of what it is the same as
+pub if_ok_same : {W E : Type 0} (r : Result W E) (a b : W) → a ≡ b → IfOk r (λ w. w ≡ a) → IfOk r (λ w. w ≡ b)
+if_ok_same (Ok w) a b e is = is ∙ e
+if_ok_same (Err f) a b e is = tt
 
--- the receipt of an addition
-abbrev pub receipt_at : AdditionOf → ReceiptAt
-receipt_at a = record { caller = a.caller; id = a.id; receipt = a.receipt }
+-- ---- additions
 
 -- a change of zones leaves receipts as they were
 same_receipts : (s : State) (o : Labels) (change : Option ChangeOf) → (with_change_of s o change).receipts ≡ s.receipts

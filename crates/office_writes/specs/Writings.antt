@@ -5,10 +5,11 @@ use Rattle.zone_core.specs.Sets.{listing}
 use Rattle.zone_core.specs.Zones.{ZoneOf}
 use Rattle.office_core.specs.States.{ChangeOf, Held, State}
 use Rattle.office_core.specs.Machine.{change_of, hold}
+use Rattle.office_core.specs.Tables.{AdditionOf}
 use Rattle.office_tables.specs.Rows.{WritingOf, ReceiptRowOf, RowsOf, written}
 use Rattle.office_tables.specs.Holds.{made_rows}
 use Rattle.office_rows.specs.ChangeRows.{change_rows}
-use Rattle.office_rows.specs.Contents.{AreOfState}
+use Rattle.office_rows.specs.Contents.{ReceiptAt, row_of_receipt, AreOfState}
 use Rattle.office_rows.specs.RecordRows.{record_row}
 
 -- a writing turns rows that are one state, in tables of whatever version, into rows that are another
@@ -37,6 +38,14 @@ abbrev pub NewTablesHoldNothing : Type 0
 NewTablesHoldNothing = (version : ℤ) → AreOfState version (made_rows version) nothing_held
 
 -- ---- what is written
+
+-- the receipt of an addition, as it is kept
+abbrev pub receipt_at : AdditionOf → ReceiptAt
+receipt_at a = record { caller = a.caller; id = a.id; receipt = a.receipt }
+
+-- the row of the receipt of an addition
+abbrev pub receipt_rows : AdditionOf → List ReceiptRowOf
+receipt_rows a = row_of_receipt (receipt_at a) ∷ []
 
 -- receipts alone
 abbrev pub receipts_writing : List ReceiptRowOf → WritingOf

@@ -15,4 +15,4 @@ returns c = λ version all s zone names st e rows.
     let own = filter (λ r. test (key_of r)) found.0 in
     let of = rows_of_part o names found.0 all.records c.args.rows.now (part_rows o names found.0 all.records at.rows) rows in
     reads_same (λ z. z) c.zone_in.result _ (done (part_of zone test)) (ap done (part_is o found.0 test ∙ ap (λ (z : ZoneOf). part_of z test) (sym found.2)))
-    (c.zone_in.ensures own at.named (part_order o found.0 test at.zone (own_names o names)) of)
+    (c.zone_in.ensures.held own at.named (part_order o found.0 test at.zone (own_names o names)) of)

@@ -13,25 +13,25 @@ use Rattle.office_reads.specs.Faults.{of_zones}
 use Rattle.office_reads.proofs.ZoneLemmas.{rows_read, rows_here, built_is}
 use Rattle.office_reads.proofs.views.zone_in.Goals as goal
 
-pub returns-then-not-are_of : goal.returns-then-not-are_of
-returns-then-not-are_of c = λ rs named is of.
+pub returns-then-not-are_of-clause-held : goal.returns-then-not-are_of-clause-held
+returns-then-not-are_of-clause-held c = λ rs named is of.
     let o = c.args.origin.now in
     let rows = c.args.rows.now in
     let pass = test_from_all (λ (r : RecordRowOf). bytes_eq r.origin (name_text o)) rows (rows_here o named rs is rows of) in
     let told : c.are_of.result ≡ true = c.are_of.ensures ∙ ap (λ t. list_all (λ (r : RecordRowOf). bytes_eq r.origin t) rows) (c.as_str.ensures.value ∙ c.in_ok-text.ensures.canonical) ∙ pass in
     absurd (let no = c.if-not-are_of.true in cc)
 
-pub returns-in_err-records : goal.returns-in_err-records
-returns-in_err-records c = λ rs named is of.
+pub returns-in_err-records-clause-held : goal.returns-in_err-records-clause-held
+returns-in_err-records-clause-held c = λ rs named is of.
     let o = c.args.origin.now in
     let read = rows_read o named rs is c.args.rows.now of in
     let p = err_from_is_err_and c.from_residual-in_err-records.result c.from_residual-in_err-records.ensures.1 in
     rw (p.1, p.2) (refuses_any c.in_err-records.field-0.0 read.records (zone_in o rs) (c.in_err-records.ensures o read.records named read.each read.rows_are))
 
-pub returns : goal.returns
-returns c = λ rs named is of.
+pub returns-clause-held : goal.returns-clause-held
+returns-clause-held c = λ rs named is of.
     let o = c.args.origin.now in
     let read = rows_read o named rs is c.args.rows.now of in
     let items = ok_is read.records c.in_ok-records.records.items (c.in_ok-records.ensures o read.records named read.each read.rows_are) in
     reads_same (λ zone. zone) c.built.result (of_zones (built o c.in_ok-records.records.items)) (done (zone_in o rs))
-    (ap (λ (l : List Record). of_zones (built o l)) (sym items) ∙ ap of_zones (built_is (zone_in o rs) read.records is.zone read.all)) c.built.ensures
+    (ap (λ (l : List Record). of_zones (built o l)) (sym items) ∙ ap of_zones (built_is (zone_in o rs) read.records is.zone read.all)) c.built.ensures.exact

@@ -7,10 +7,10 @@ use Rattle.office_rows.proofs.RowSteps.{done, reads_same}
 use Rattle.office_reads.proofs.ZoneLemmas.{rows_moved, zone_of_state}
 use Rattle.office_reads.proofs.views.zone_of.Goals as goal
 
-pub returns : goal.returns
-returns c = λ version all s zone st e same.
+pub returns-clause-held : goal.returns-clause-held
+returns-clause-held c = λ version all s zone st e same.
     let o = c.args.origin.now in
     let found = zone_of_state version all s o zone st e in
     let at = found.1 in
     let rows = rows_moved o found.0 c.args.rows.now (IsPermutation-trans (map (record_row o) found.0) (records_of (name_text o) all.records) c.args.rows.now at.rows same) in
-    reads_same (λ z. z) c.zone_in.result _ (done zone) (ap done (sym found.2)) (c.zone_in.ensures found.0 at.named at.zone rows)
+    reads_same (λ z. z) c.zone_in.result _ (done zone) (ap done (sym found.2)) (c.zone_in.ensures.held found.0 at.named at.zone rows)

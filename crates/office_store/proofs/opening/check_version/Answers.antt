@@ -8,21 +8,21 @@ use Rattle.office_store.specs.Holds.{HasVersion}
 use Rattle.office_store.proofs.VersionLemmas.{one_version}
 use Rattle.office_store.proofs.opening.check_version.Goals as goal
 
-pub returns-else-is_version-clause-wrong : goal.returns-else-is_version-clause-wrong
-returns-else-is_version-clause-wrong g c = λ clean is has.
+pub returns-then-not-is_version-clause-wrong : goal.returns-then-not-is_version-clause-wrong
+returns-then-not-is_version-clause-wrong g c = λ clean is has.
     let mid = state g.S.Store c.check_tables.new.conn in
     let has_one = subst (λ h. HasVersion (state g.S.Store h)) (sym c.in_ok-check_tables.ensures.same) has in
-    let kept = subst (λ (d : Database). Stores (d.trees 0) (map stored_version c.in-Ok.versions.items)) (c.in-Ok.ensures.same clean).now_is (c.in-Ok.ensures.found clean).1 in
-    let only = one_version (mid.now.trees 0) (pos 2) (pos 2 ∷ []) c.in-Ok.versions.items (IsPermutation-refl (pos 2 ∷ [])) has_one.1 kept in
-    let both : true ≡ false = sym (c.is_version.ensures.1 (c.deref.ensures.value ∙ only)) ∙ c.if-is_version.false in
+    let kept = subst (λ (d : Database). Stores (d.trees 0) (map stored_version c.in_ok-versions.versions.items)) (c.in_ok-versions.ensures.same clean).now_is (c.in_ok-versions.ensures.found clean).1 in
+    let only = one_version (mid.now.trees 0) (pos 2) (pos 2 ∷ []) c.in_ok-versions.versions.items (IsPermutation-refl (pos 2 ∷ [])) has_one.1 kept in
+    let both : true ≡ false = sym (c.is_version.ensures.1 (c.deref.ensures.value ∙ only)) ∙ c.if-not-is_version.true in
     cc
 
-pub returns-else-is_version-clause-good : goal.returns-else-is_version-clause-good
-returns-else-is_version-clause-good g c = λ clean rows s are held.
+pub returns-then-not-is_version-clause-good : goal.returns-then-not-is_version-clause-good
+returns-then-not-is_version-clause-good g c = λ clean rows s are held.
     let mid = state g.S.Store c.check_tables.new.conn in
-    let shows = c.in-Ok.ensures.same clean in
+    let shows = c.in_ok-versions.ensures.same clean in
     let reads = (c.check_tables.ensures.asked.rows rows held shows.was_open).0 in
-    let kept = subst (λ (d : Database). Stores (d.trees 0) (map stored_version c.in-Ok.versions.items)) shows.now_is (c.in-Ok.ensures.found clean).1 in
-    let only = one_version (mid.now.trees 0) (pos 2) rows.versions c.in-Ok.versions.items are.same.versions reads.tables.versions kept in
-    let both : true ≡ false = sym (c.is_version.ensures.1 (c.deref.ensures.value ∙ only)) ∙ c.if-is_version.false in
+    let kept = subst (λ (d : Database). Stores (d.trees 0) (map stored_version c.in_ok-versions.versions.items)) shows.now_is (c.in_ok-versions.ensures.found clean).1 in
+    let only = one_version (mid.now.trees 0) (pos 2) rows.versions c.in_ok-versions.versions.items are.same.versions reads.tables.versions kept in
+    let both : true ≡ false = sym (c.is_version.ensures.1 (c.deref.ensures.value ∙ only)) ∙ c.if-not-is_version.true in
     cc

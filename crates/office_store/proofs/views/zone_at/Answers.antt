@@ -15,6 +15,6 @@ returns-clause-answer g c =
     let zone = zone_held o f.2 in
     let there : zone_at s o ≡ Some zone = ap (option_map (zone_held o)) f.3 in
     let rows = subst (λ rs. IsPermutation (records_of (name_text o) f.0.records) rs) (sym c.deref.ensures.value) f.4 in
-    let told : Ok zone ≡ Ok c.in_ok-zone.zone = c.in_ok-zone.ensures (pos 2) f.0 s zone f.1 there rows in
+    let told : Ok zone ≡ Ok c.in_ok-zone.zone = c.in_ok-zone.ensures.held (pos 2) f.0 s zone f.1 there rows in
     let same : zone ≡ c.in_ok-zone.zone = cc in
     sym (there ∙ ap (λ z. Some z) same)

@@ -35,4 +35,4 @@ returns-clause-turns g c =
     let zone = c.args.zone.now in
     let none : (s : State) → HoldsState (state g.S.Store c.args.conn.now) s → s.zones zone.origin ≡ None =
     λ s h. subst (λ o. s.zones o ≡ None) c.origin.ensures.value (none_held (s.zones c.origin.result.now) ((rw c.in-None.is at (c.in_ok-held_text.ensures.found (c.write_to.ensures.honest clean))) s h)) in
-    subst (λ o. Leads w s (with_imported s (if_free o zone))) (sym (none s h)) (c.in_ok-writing.ensures s (none s h)))
+    subst (λ o. Leads w s (with_imported s (if_free o zone))) (sym (none s h)) (c.in_ok-writing.ensures.leads s (none s h)))

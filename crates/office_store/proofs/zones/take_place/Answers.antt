@@ -52,4 +52,4 @@ returns-clause-turns g c =
     let fits : FitsSigned w64 number = search rules in
     let next = subst (λ o. IsNext s o c.in_ok-number.number) c.origin.ensures.value (c.in_ok-number.ensures.next early s (c.zone_before.ensures.asked.same s h)) in
     subst (λ t. Leads w s (with_replaced s t)) (sym (c.in_ok-old.ensures.answer first s h))
-    (subst (λ o. Leads w s (with_place_taken s zone o)) (sym before.1) (c.in_ok-writing.ensures s before.0 before.1 before.2 (subst (λ n. IsNext s zone.origin n) (sym (to_z-of_z w64 number fits)) next))))
+    (subst (λ o. Leads w s (with_place_taken s zone o)) (sym before.1) (c.in_ok-writing.ensures.leads s before.0 before.1 before.2 (subst (λ n. IsNext s zone.origin n) (sym (to_z-of_z w64 number fits)) next))))

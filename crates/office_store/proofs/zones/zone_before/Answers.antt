@@ -1,11 +1,10 @@
 use Rattle.std.proofs.Common.{◌≡◌, Err, Some, option_map, sym, ap, ◌∙◌, subst}
 use Rattle.std.proofs.lemmas.Result.{err_from_is_err_and}
 use Rattle.zone_core.specs.Zones.{serial_of}
-use Rattle.zone_core.proofs.SetLemmas.{name_is}
 use Rattle.zone_core.specs.Serials.{is_less}
 use Rattle.office_core.specs.States.{zone_held, zone_at}
 use Rattle.office_store.proofs.FaultLemmas.{gives_nothing}
-use Rattle.office_store.proofs.ZoneLemmas.{serials_differ, held_of, told_later, told_not_later, not_false}
+use Rattle.office_store.proofs.ZoneLemmas.{serials_differ, held_of, told_later, told_not_later}
 use Rattle.office_store.proofs.zones.zone_before.Goals as goal
 
 pub returns-in_err-old-clause-answer : goal.returns-in_err-old-clause-answer
@@ -25,14 +24,14 @@ returns-then-not-serial_less-clause-answer g c =
     told_not_later (s.zones zone.origin) old zone there (sym less ∙ c.if-not-serial_less.true)
 
 pub returns-clause-origin : goal.returns-clause-origin
-returns-clause-origin g c = sym c.origin-2.ensures.value ∙ name_is _ _ (not_false c.ne.result _ c.ne.ensures c.if-ne.false) ∙ c.origin-3.ensures.value
+returns-clause-origin g c = (rw c.in-Some.is at c.in_ok-old.ensures.origin) ∙ c.origin.ensures.value
 
 pub returns-clause-differs : goal.returns-clause-differs
 returns-clause-differs g c =
     let old = c.in-Some.old in
     let zone = c.args.zone.now in
     let less : c.serial_less.result ≡ is_less (serial_of old) (serial_of zone) = c.serial_less.ensures.value ∙ (λ i. is_less (c.serial.ensures i) (c.serial-2.ensures i)) in
-    serials_differ old zone c.origin-2.ensures.zone c.origin-3.ensures.zone (returns-clause-origin g c) (sym less ∙ c.if-not-serial_less.false)
+    serials_differ old zone c.notes_zone.ensures c.origin.ensures.zone (returns-clause-origin g c) (sym less ∙ c.if-not-serial_less.false)
 
 pub returns-clause-held : goal.returns-clause-held
 returns-clause-held g c =

@@ -1,0 +1,11 @@
+-- What is written for an addition.
+use Rattle.std.specs.Prelude.{◌≡◌, ℕ, suc, List, length, Option, Some, None}
+use Rattle.office_core.specs.States.{ChangeOf, Held, State}
+use Rattle.office_tables.specs.Rows.{ReceiptRowOf, WritingOf}
+use Rattle.office_writes.specs.Writings.{change_writing, receipts_writing}
+
+-- Receipts are written, and beside them a change of the zone of an origin, where there is one, under the next number of the zone; and no
+-- other row goes or comes.
+abbrev pub Writes : State → List (List ℕ) → Option ChangeOf → List ReceiptRowOf → WritingOf → Type 0
+Writes s origin None receipts w = w ≡ receipts_writing receipts
+Writes s origin (Some c) receipts w = (held : Held) × (s.zones origin ≡ Some held) × (w ≡ change_writing origin (suc (length held.changes)) c receipts)
