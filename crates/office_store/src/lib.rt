@@ -13,6 +13,3 @@ mod zones;
 pub use fault::StoreFault;
 pub use opening::Refused;
 pub use table::SqlTable;
-
-#[cfg(test)]
-mod tests;
