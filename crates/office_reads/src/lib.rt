@@ -3,11 +3,11 @@
 #![tactic(auto)]
 
 mod laws;
-mod numbered;
-mod ordered;
-mod state;
-mod views;
-mod zones;
+pub mod numbered;
+pub mod ordered;
+pub mod state;
+pub mod views;
+pub mod zones;
 
 pub use laws::{last_numbers_count, order_does_not_count, states_are_sound, zones_are_listed};
 pub use state::is_state;

@@ -39,7 +39,7 @@ fn are_behind(first: &ChangedRecord, others: &[ChangedRecord]) -> bool
 }
 
 /// Whether they stand in order, each once, and are numbered from 1 in each zone without a gap.
-pub(crate) fn are_numbered(changes: &[ChangedRecord]) -> bool
+pub fn are_numbered(changes: &[ChangedRecord]) -> bool
     ensures { result ≡ are_numbered changes.now }
 {
     match changes {

@@ -20,9 +20,9 @@ use std::cmp::Ordering;
 
 /// A record of the zone of an origin, as a row has it.
 #[derive(Drop)]
-pub(crate) struct ZoneRecord {
-    pub(crate) origin: Name,
-    pub(crate) rr: Record,
+pub struct ZoneRecord {
+    pub origin: Name,
+    pub rr: Record,
 }
 
 /// A receipt, with the caller and the identifier under which it is kept, as a row has it.
@@ -46,7 +46,7 @@ fn all_origins(alloc: Global, rows: &[ZoneRow]) -> Result<Vec<Name>, RowFault>
 }
 
 /// The origins of rows of `zones`, in canonical order (RFC 4034 section 6.1).
-pub(crate) fn origins(alloc: Global, rows: &[ZoneRow]) -> Result<Vec<Name>, RowFault>
+pub fn origins(alloc: Global, rows: &[ZoneRow]) -> Result<Vec<Name>, RowFault>
     ensures found { IfOk result (λ os. IsPermutation (map name_text os.items) rows.now × AllByRecursion IsName os.items × IsSorted canonical_cmp os.items) }
     ensures only { AllByRecursion IsOriginText rows.now → IfErr result (λ e. e ≡ RowFault.NoMemory) }
 {
@@ -79,7 +79,7 @@ fn zone_record_order(first: &ZoneRecord, second: &ZoneRecord) -> Ordering
 }
 
 /// The records of rows of `records`, by origin, and then in record order.
-pub(crate) fn records(alloc: Global, rows: &[RecordRow]) -> Result<Vec<ZoneRecord>, RowFault>
+pub fn records(alloc: Global, rows: &[RecordRow]) -> Result<Vec<ZoneRecord>, RowFault>
     ensures found { IfOk result (λ rs. IsPermutation (map row_of_record rs.items) rows.now × AllByRecursion IsZoneRecord rs.items × IsSorted zone_record_order rs.items) }
     ensures only { AllByRecursion IsZoneRecordRow rows.now → IfErr result (λ e. e ≡ RowFault.NoMemory) }
 {
@@ -150,7 +150,7 @@ pub(crate) fn changed_order(first: &ChangedRecord, second: &ChangedRecord) -> Or
 }
 
 /// What rows of `changes` have, by origin, then by the number of the change, then by side, and then in record order.
-pub(crate) fn changes(alloc: Global, rows: &[ChangeRow]) -> Result<Vec<ChangedRecord>, RowFault>
+pub fn changes(alloc: Global, rows: &[ChangeRow]) -> Result<Vec<ChangedRecord>, RowFault>
     ensures found { IfOk result (λ cs. IsPermutation (map row_of cs.items) rows.now × AllByRecursion IsChanged cs.items × IsSorted changed_order cs.items) }
     ensures only { AllByRecursion IsChangeRow rows.now → IfErr result (λ e. e ≡ RowFault.NoMemory) }
 {
