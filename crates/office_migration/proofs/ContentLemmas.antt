@@ -1,5 +1,5 @@
 -- A content, and the rows that it has once it is migrated.
-use Rattle.std.proofs.Common.{◌≡◌, ◌≢◌, ℕ, pos, false, not, List, [], ◌∷◌, ◌++◌, map, flat_map, AllPairs, IsPermutation, refl, sym, ap, ap₂, subst, ◌∙◌, append-nil}
+use Rattle.std.proofs.Common.{◌≡◌, ◌≢◌, ℕ, pos, false, not, List, [], ◌∷◌, ◌++◌, map, flat_map, IsPermutation, refl, sym, ap, ap₂, subst, ◌∙◌, append-nil}
 use Rattle.std.specs.List.{AllByRecursion, list_any}
 use Rattle.std.proofs.lemmas.List.Elements.{filter-append}
 use Rattle.std.proofs.lemmas.List.Sorted.{IsPermutation-refl, IsPermutation-trans, IsPermutation-append_left}

@@ -1,6 +1,6 @@
 -- Rows that go, and lists in another order.
-use Rattle.std.proofs.Common.{◌≡◌, false, not, ◌||◌, Bool, true, List, [], ◌∷◌, ◌++◌, filter, IsPermutation, refl, sym, ap, subst, ◌∙◌, append_assoc}
-use Rattle.std.specs.List.{AllByRecursion, list_any}
+use Rattle.std.proofs.Common.{◌≡◌, false, not, ◌||◌, Bool, true, List, [], ◌∷◌, ◌++◌, IsPermutation, refl, ap, subst, ◌∙◌, append_assoc}
+use Rattle.std.specs.List.{list_any}
 use Rattle.std.proofs.lemmas.List.Sorted.{IsPermutation-trans, IsPermutation-append, IsPermutation-append_left}
 use Rattle.sqlite_trees.proofs.ListLemmas.{filter_same, all_weaker, all_both}
 use Rattle.office_tables.specs.Rows.{RecordRowOf, same_key, without}

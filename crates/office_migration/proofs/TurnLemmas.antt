@@ -1,5 +1,5 @@
 -- The zones of rows of version 1: rows that are those of such zones are taken one zone after the other, and what is taken so is.
-use Rattle.std.proofs.Common.{◌≡◌, ◌≢◌, ℕ, true, List, [], ◌∷◌, ◌++◌, length, map, take, drop, IsPermutation, IsSorted, refl, sym, ap, ap₂, subst, ◌∙◌, arith}
+use Rattle.std.proofs.Common.{◌≡◌, ℕ, true, List, [], ◌∷◌, ◌++◌, length, map, take, drop, IsPermutation, IsSorted, refl, sym, ap, ap₂, subst, ◌∙◌, arith}
 use Rattle.std.proofs.lemmas.Bool.{and_from}
 use Rattle.std.proofs.lemmas.Cmp.{tied_itself}
 use Rattle.std.proofs.lemmas.List.{map-append, take_at, drop_at, take-append-drop}
@@ -13,7 +13,6 @@ use Rattle.sqlite_keyed.proofs.SortLemmas.{sorted_unique}
 use Rattle.dns_names.specs.Labels.{IsName}
 use Rattle.dns_names.specs.Order.{canonical_cmp, canonical_total, same_name}
 use Rattle.dns_names.specs.Spelling.{name_text}
-use Rattle.dns_data.specs.declared.record.Record.{Record}
 use Rattle.zone_core.proofs.SetLemmas.{name_self}
 use Rattle.office_tables.specs.Rows.{RecordRowOf, ChangeRowOf}
 use Rattle.office_rows.specs.declared.changes.ChangedRecord.{ChangedRecord}
@@ -25,7 +24,7 @@ use Rattle.office_rows.proofs.GatheredLaws.{are_gathered}
 use Rattle.office_reads.specs.declared.ordered.ZoneRecord.{ZoneRecord}
 use Rattle.office_reads.specs.Orders.{rises}
 use Rattle.office_reads.specs.Checks.{IsOriginText, row_of_record, IsZoneRecord, IsZoneRecordRow, zone_record_order, zone_record_total, records_first, changes_first}
-use Rattle.office_reads.proofs.CheckLemmas.{tag, zone_tagged, tagged, zone_entries, all_entries, tagged_rows, entries_all_rows, tag_each, tag_of, entries_of, Before, zones_up, lists_before, RecordBelow, ChangeBelow, by_origin_record, by_origin_change, records_up, run_is, run_of, later_apart, untagged, IsTied, not_tied, record_one, tags_are, front_all, back_all}
+use Rattle.office_reads.proofs.CheckLemmas.{zone_tagged, tagged, zone_entries, all_entries, tagged_rows, entries_all_rows, tag_each, tag_of, entries_of, Before, zones_up, lists_before, RecordBelow, ChangeBelow, by_origin_record, by_origin_change, records_up, run_is, run_of, later_apart, untagged, IsTied, not_tied, record_one, tags_are, front_all, back_all}
 use Rattle.office_reads.proofs.ContentLemmas.{Apart, changes_each}
 use Rattle.office_reads.proofs.ListLemmas.{ascending_from_pairs, pairs_from_ascending, all_permutation, moved_back, apart_moved}
 use Rattle.office_reads.proofs.NameLemmas.{text_one}

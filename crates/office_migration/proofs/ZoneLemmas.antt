@@ -1,12 +1,9 @@
 -- One zone: what changes in it, and what it is then.
-use Rattle.std.proofs.Common.{◌≡◌, ℕ, Bool, true, false, ◌&&◌, ◌==◌, if◌then◌else◌, List, [], ◌∷◌, ◌++◌, length, map, Option, Some, None, Result, Ok, IsPermutation, refl, sym, ap, subst, ◌∙◌, append-nil, suc}
+use Rattle.std.proofs.Common.{◌≡◌, ℕ, Bool, true, false, if◌then◌else◌, List, [], ◌∷◌, ◌++◌, length, map, Option, Some, None, Ok, IsPermutation, refl, sym, ap, subst, ◌∙◌, append-nil, suc}
 use Rattle.std.proofs.lemmas.Bool.{both_ways, false_from_ne_true}
-use Rattle.std.proofs.lemmas.List.{length-map}
-use Rattle.std.specs.FinMap.{len, entries, len-entries}
 use Rattle.std.specs.List.{AllByRecursion}
 use Rattle.sqlite_rules.proofs.ListLemmas.{all_from, contains_had}
 use Rattle.sqlite_trees.proofs.ListLemmas.{IsPermutation-same, all-append}
-use Rattle.dns_names.specs.Labels.{IsName}
 use Rattle.dns_data.specs.declared.record.Record.{Record}
 use Rattle.dns_data.specs.Rdata.{IsRecord}
 use Rattle.dns_data.specs.RecordOrder.{record_order, record_order_total}
@@ -14,7 +11,7 @@ use Rattle.sqlite_trees.specs.Tree.{IsAscending}
 use Rattle.std.specs.List.Sorted.{IsStrictlySortedBy}
 use Rattle.std.specs.declared.cmp.Ordering.TheVariants.{Less}
 use Rattle.zone_core.specs.declared.fault.ZoneFault.{ZoneFault}
-use Rattle.zone_core.specs.Sets.{Records, Key, set_of, listing, minus, is_same, InOrder, IsIn, AreRows}
+use Rattle.zone_core.specs.Sets.{Records, set_of, listing, is_same, InOrder, IsIn, AreRows}
 use Rattle.zone_core.specs.Zones.{ZoneOf, IsZone, AreKept, zone_of, built, evened, latest, fault_in, unless_fault}
 use Rattle.zone_core.specs.Views.{zone_in, AreOfZone}
 use Rattle.zone_core.specs.Changes.{changed, FitsIn}
@@ -24,10 +21,10 @@ use Rattle.zone_core.proofs.RebuiltLemmas.{zones_are_rebuilt}
 use Rattle.zone_core.proofs.RowLemmas.{listing_of}
 use Rattle.zone_core.proofs.WholeLemmas.{kept_of, no_fault}
 use Rattle.office_core.specs.States.{ChangeOf}
-use Rattle.office_core.specs.Machine.{change_of, is_nothing}
+use Rattle.office_core.specs.Machine.{change_of}
 use Rattle.office_tables.specs.Rows.{RecordRowOf, without}
 use Rattle.office_rows.specs.RecordRows.{record_row}
-use Rattle.office_rows.specs.ChangeRows.{IsChange, change_rows, changes_rows}
+use Rattle.office_rows.specs.ChangeRows.{IsChange}
 use Rattle.office_rows.specs.Contents.{ZoneRows, zone_records, zone_changes, IsZoneRows}
 use Rattle.office_rows.specs.declared.row_fault.RowFault.{RowFault}
 use Rattle.office_rows.specs.declared.row_fault.RowFault.TheVariants.{BadRow, NoMemory}

@@ -1,5 +1,5 @@
 -- The migration zone by zone: rows are read and put in order, and then taken one zone after the other.
-use Rattle.std.specs.Prelude.{◌≡◌, ◌≢◌, ℕ, suc, ◌+◌, List, [], ◌∷◌, ◌++◌, length, map, take, drop, filter, true, is_some, if◌then◌else◌, Option, Some, None}
+use Rattle.std.specs.Prelude.{◌≡◌, ◌≢◌, ℕ, suc, ◌+◌, List, [], ◌∷◌, ◌++◌, length, map, take, drop, filter, true, is_some, if◌then◌else◌, Option}
 use Rattle.std.specs.List.{AllByRecursion, AllPairs, flat_map, fold}
 use Rattle.std.specs.List.Sorted.{IsPermutation}
 use Rattle.dns_names.specs.Spelling.{name_text}

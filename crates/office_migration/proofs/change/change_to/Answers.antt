@@ -1,7 +1,6 @@
 use Rattle.std.proofs.Common.{◌≡◌, ap, ◌∙◌}
 use Rattle.zone_core.specs.Sets.{Records, set_of, listing, minus}
 use Rattle.zone_core.proofs.ChangeLemmas.{listed_so}
-use Rattle.office_core.specs.States.{ChangeOf}
 use Rattle.office_migration.proofs.change.change_to.Goals as goal
 
 pub returns : goal.returns

@@ -1,19 +1,15 @@
 use Rattle.std.proofs.Common.{◌≡◌, true, false, List, map, Some, sym, ap, subst, ◌∙◌}
 use Rattle.std.proofs.lemmas.Result.{err_from_is_err_and}
-use Rattle.std.specs.Prelude.{Option}
-use Rattle.std.specs.List.{AllByRecursion}
 use Rattle.dns_data.specs.declared.record.Record.{Record}
 use Rattle.dns_data.specs.RecordOrder.{record_order}
-use Rattle.zone_core.specs.Sets.{Records, set_of, InOrder}
-use Rattle.zone_core.specs.Zones.{ZoneOf, IsZone, built, zone_of}
+use Rattle.zone_core.specs.Sets.{set_of, InOrder}
+use Rattle.zone_core.specs.Zones.{IsZone, built}
 use Rattle.office_core.specs.States.{ChangeOf}
 use Rattle.office_core.specs.Machine.{change_of}
 use Rattle.office_rows.specs.RowFaults.{Refuses}
 use Rattle.office_reads.specs.Faults.{of_zones}
 use Rattle.office_reads.specs.Orders.{rises}
-use Rattle.office_reads.specs.Checks.{IsZoneRecord}
-use Rattle.office_migration.specs.OldZones.{AreOfOldZone}
-use Rattle.office_migration.specs.Migrations.{advanced, next_zone, change_for}
+use Rattle.office_migration.specs.Migrations.{advanced, next_zone}
 use Rattle.office_migration.proofs.ZoneLemmas.{order_from, order_to, built_zone, refused_never, records_each, nothing_changes, something_changes, next_records}
 use Rattle.office_migration.proofs.change.zone_change.Goals as goal
 

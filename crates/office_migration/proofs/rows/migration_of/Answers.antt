@@ -1,6 +1,6 @@
-use Rattle.std.proofs.Common.{◌≡◌, ℕ, ℤ, pos, true, List, [], ◌∷◌, map, Some, Err, string_bytes, refl, sym, ap, subst, ◌∙◌}
+use Rattle.std.proofs.Common.{◌≡◌, ℕ, pos, true, List, map, Some, Err, string_bytes, refl, sym, ap, subst, ◌∙◌}
 use Rattle.std.proofs.lemmas.Result.{err_from_is_err_and}
-use Rattle.office_tables.specs.Rows.{RecordRowOf, ReceiptRowOf, ChangeRowOf, RowsOf, WritingOf}
+use Rattle.office_tables.specs.Rows.{RecordRowOf, ReceiptRowOf, ChangeRowOf, RowsOf}
 use Rattle.office_rows.specs.declared.row_fault.RowFault.{RowFault}
 use Rattle.office_rows.specs.declared.row_fault.RowFault.TheVariants.{BadRow, NoMemory}
 use Rattle.office_rows.specs.Contents.{ContentOf}

@@ -1,10 +1,6 @@
 use Rattle.std.proofs.Common.{refl}
-use Rattle.std.specs.Prelude.{◌≡◌, ◌++◌, not, List, Some, IfOk}
-use Rattle.std.specs.FinMap.{get}
-use Rattle.std.specs.List.{filter}
 use Rattle.std.proofs.lemmas.Result.{IfOk-weaker}
-use Rattle.dns_data.specs.declared.record.Record.{Record}
-use Rattle.zone_core.specs.Sets.{set_of, key_of, same_ttl, minus, AreRows}
+use Rattle.zone_core.specs.Sets.{set_of}
 use Rattle.zone_core.proofs.ChangeLemmas.{differing}
 use Rattle.zone_core.proofs.rows.difference.Goals as goal
 

@@ -1,9 +1,7 @@
 use Rattle.std.proofs.Common.{◌≡◌, ℕ, suc, pos, length, map, option_map, sym, ap, subst, ◌∙◌, rules}
 use Rattle.std.proofs.lemmas.Int.{to_z-of_z}
 use Rattle.std.specs.Int.{w64}
-use Rattle.std.specs.Prelude.{FitsSigned, Option, Some}
-use Rattle.dns_data.specs.declared.record.Record.{Record}
-use Rattle.office_core.specs.States.{ChangeOf}
+use Rattle.std.specs.Prelude.{FitsSigned, Some}
 use Rattle.office_core.specs.Tables.{change_in}
 use Rattle.office_rows.specs.ChangeRows.{gathered}
 use Rattle.office_migration.specs.Migrations.{change_for}

@@ -1,6 +1,6 @@
-use Rattle.std.proofs.Common.{◌≡◌, ap, subst, ◌∙◌}
+use Rattle.std.proofs.Common.{◌≡◌, subst, ◌∙◌}
 use Rattle.std.proofs.lemmas.Result.{IfOk-weaker}
-use Rattle.zone_core.specs.Zones.{ZoneOf, IsZone, soa_at}
+use Rattle.zone_core.specs.Zones.{IsZone}
 use Rattle.zone_core.proofs.AdvancedLemmas.{advanced, advanced_fits, advanced_made, advanced_gives}
 use Rattle.zone_core.proofs.zone.Zone.advanced.Goals as goal
 
