@@ -4,3 +4,4 @@ pub mod RowLemmas
 pub mod TurnLemmas
 pub mod VersionLemmas
 pub mod ZoneLemmas
+pub mod MigratingLemmas

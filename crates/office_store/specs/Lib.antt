@@ -3,3 +3,4 @@ pub mod Holds
 pub mod Asks
 pub mod Turns
 pub mod Zones
+pub mod Migrating
