@@ -7,7 +7,7 @@ use dns_data::{Record, record_line};
 use dns_master::read_file;
 use dns_names::Name;
 use grant_policy::{Identifier, Policy, read_policy};
-use office_core::{Reply, Request, UpdateReply, step};
+use office_core::{Reply, Request, UpdateReply, ZoneTable, step};
 use office_rows::read_items;
 use sqlite::{Connection, MemStore};
 use std::alloc::Global;
@@ -297,6 +297,161 @@ fn tables_are_made_once_and_found(rt: HostRuntime) -> Result<(), Fail> {
         let (got, after) = adopt_over::<Brand>(alloc, after, Blank::new(1))?;
         assert!(rt; got.as_str() == found, "{why}: {}", got.as_str());
         conn = after;
+    }
+    Ok(())
+}
+
+/// A zone with two addresses, at a serial.
+fn with_addresses(alloc: Global, serial: &str) -> Result<Vec<Record>, Fail> {
+    let text = format!(in alloc;
+        "example.org. 3600 IN SOA ns1.example.org. admin.example.org. {serial} 3600 600 86400 60\n{SERVERS}www.example.org. 300 IN A 192.0.2.5\nwww.example.org. 300 IN A 192.0.2.6\n"
+    )?;
+    Ok(read_file(alloc, text.as_bytes(), &name(alloc, "example.org.")?)?)
+}
+
+/// A connection to tables that hold this zone, and to which texts were done then.
+fn changed_by<L: Ledger>(
+    alloc: Global,
+    serial: &'static str,
+    texts: &'static [&'static str],
+    blank: Blank,
+) -> Result<Connection<MemStore>, Fail>
+    requires name { blank.name ≡ L.name }
+    requires parts { blank.parts ≡ L.parts }
+    requires some { 0 < blank.parts }
+{
+    let Ok(mut table) = created::<L>(alloc, blank)? else {
+        return Err(Fail::from("no tables were made"));
+    };
+    let records = with_addresses(alloc, serial)?;
+    let _zone = table.import(alloc, name(alloc, "example.org.")?, records)?;
+    let mut conn = table.into_connection();
+    for text in texts {
+        let _count = conn.execute(text, &[])?;
+    }
+    Ok(conn)
+}
+
+/// What the migration tells: how many zones it changed.
+fn migrated_over<L: Ledger>(
+    alloc: Global,
+    conn: &mut Connection<MemStore>,
+) -> Result<String, Fail> {
+    if !conn.is_autocommit() {
+        return Err(Fail::from("a transaction goes on"));
+    }
+    match SqlTable::<MemStore, L>::migrate(alloc, conn) {
+        Ok(zones) => Ok(format!(in alloc; "zones {zones}")?),
+        Err(fault) => refusal_text(alloc, fault),
+    }
+}
+
+/// Puts the lines of records behind a text, each behind a sign.
+fn push_lines(
+    alloc: Global,
+    text: &mut String,
+    sign: &str,
+    records: &[Record],
+) -> Result<(), Fail> {
+    for record in records {
+        text.push_str(sign)?;
+        text.push_str(&record_line(alloc, record)?)?;
+        text.push_str("\n")?;
+    }
+    Ok(())
+}
+
+/// The records of the zone of a table, and those that each of its changes took away and brought.
+fn zone_and_changes<L: Ledger>(
+    alloc: Global,
+    conn: Connection<MemStore>,
+    blank: Blank,
+) -> Result<Opened, Fail>
+    requires name { blank.name ≡ L.name }
+    requires parts { blank.parts ≡ L.parts }
+    requires some { 0 < blank.parts }
+{
+    if !conn.is_autocommit() {
+        return Err(Fail::from("a transaction goes on"));
+    }
+    let found: Result<SqlTable<MemStore, L>, _> = SqlTable::adopt(alloc, conn, blank);
+    let mut table = match found {
+        Ok(table) => table,
+        Err(refused) => return Ok((refusal_text(alloc, refused.fault)?, refused.conn)),
+    };
+    let origin = name(alloc, "example.org.")?;
+    let mut text = exported(alloc, table.export_records(alloc, &origin))?;
+    if let Some(changes) = table.changes(alloc, &origin)? {
+        for change in &changes {
+            text.push_str("change\n")?;
+            push_lines(alloc, &mut text, "-", &change.removed)?;
+            push_lines(alloc, &mut text, "+", &change.added)?;
+        }
+    }
+    Ok((text, table.into_connection()))
+}
+
+/// The serial after 4294967295 is 0 (RFC 1982 section 3.1), and both addresses have the lesser of their TTLs.
+const MIGRATED: &str =
+    "example.org. 3600 IN SOA ns1.example.org. admin.example.org. 0 3600 600 86400 60
+example.org. 3600 IN NS ns1.example.org.
+example.org. 3600 IN NS ns2.example.org.
+ns1.example.org. 3600 IN A 192.0.2.1
+www.example.org. 300 IN A 192.0.2.5
+www.example.org. 300 IN A 192.0.2.6
+change
+-example.org. 3600 IN SOA ns1.example.org. admin.example.org. 4294967295 3600 600 86400 60
+-www.example.org. 600 IN A 192.0.2.6
++example.org. 3600 IN SOA ns1.example.org. admin.example.org. 0 3600 600 86400 60
++www.example.org. 300 IN A 192.0.2.6
+";
+
+/// Nothing changes in a zone whose sets have one TTL.
+const LEFT: &str = "example.org. 3600 IN SOA ns1.example.org. admin.example.org. 7 3600 600 86400 60
+example.org. 3600 IN NS ns1.example.org.
+example.org. 3600 IN NS ns2.example.org.
+ns1.example.org. 3600 IN A 192.0.2.1
+www.example.org. 300 IN A 192.0.2.5
+www.example.org. 300 IN A 192.0.2.6
+";
+
+/// A serial, what is done to the tables by text, what the migration tells, and what is held then.
+const MIGRATIONS: [(&str, &[&str], &str, &str, &str); 3] = [
+    (
+        "4294967295",
+        &[
+            "UPDATE meta SET version = 1",
+            "UPDATE records SET ttl = 600 WHERE data = '192.0.2.6'",
+        ],
+        "zones 1",
+        MIGRATED,
+        "two TTLs in one set",
+    ),
+    (
+        "7",
+        &["UPDATE meta SET version = 1"],
+        "zones 0",
+        LEFT,
+        "one TTL in each set",
+    ),
+    ("7", &[], "refused 74", LEFT, "tables of version 2"),
+];
+
+#[test]
+fn tables_of_version_1_are_migrated(rt: HostRuntime) -> Result<(), Fail> {
+    let alloc = rt.alloc();
+    for (serial, texts, told, held, why) in MIGRATIONS {
+        let mut conn = changed_by::<Brand>(alloc, serial, texts, Blank::new(1))?;
+        let got = migrated_over::<Brand>(alloc, &mut conn)?;
+        assert!(rt; got.as_str() == told, "{why}: {}", got.as_str());
+        let (got, mut conn) = zone_and_changes::<Brand>(alloc, conn, Blank::new(1))?;
+        assert!(rt; got.as_str() == held, "{why}: {}", got.as_str());
+        let again = migrated_over::<Brand>(alloc, &mut conn)?;
+        assert!(rt;
+            again.as_str() == "refused 74",
+            "{why}, again: {}",
+            again.as_str()
+        );
     }
     Ok(())
 }
