@@ -81,6 +81,11 @@ run_is_ascii run all = (plain_octets run (list_all-from_AllPass is_plain run all
 pub run_text : (run : List ℕ) → AllPass is_plain run → flat_map octet_text run ≡ run
 run_text run all = (plain_octets run (list_all-from_AllPass is_plain run all)).1
 
+-- a label that is printed as it stands, and the dot, behind a text
+pub plain_label : (before label with_label all : List ℕ) → AllPass is_plain label → with_label ≡ before ++ label → all ≡ with_label ++ 46 ∷ [] → all ≡ before ++ label_text label
+plain_label before label with_label all plain first second =
+    rw (second, first) (append_assoc before label (46 ∷ []) ∙ ap (λ (l : List ℕ). before ++ (l ++ 46 ∷ [])) (sym (run_text label plain)))
+
 -- a run and an octet behind what was written
 pub run_and_octet : (done run : List ℕ) (octet : ℕ) → AllPass is_plain run → (flat_map octet_text done ++ run) ++ octet_text octet ≡ flat_map octet_text (done ++ (run ++ octet ∷ []))
 run_and_octet done run octet plain =

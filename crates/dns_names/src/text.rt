@@ -1,12 +1,13 @@
 //! The canonical spelling of names.
 
 ghost use Rattle.std.specs.Prelude.{◌≡◌, ◌<◌, ◌∷◌, ◌++◌, Some, IfSome, IfNone};
-ghost use Rattle.std.specs.List.{AllPass};
+ghost use Rattle.std.specs.List.{AllPass, flat_map};
 ghost use Rattle.std.specs.Fmt.{WritesOnOk};
 ghost use Rattle.dns_names.specs.Spelling.{is_special, is_plain, octet_text, label_text, name_text};
 
+use crate::labels::Labels;
 use crate::name::Name;
-use arrayvec::ArrayVec;
+use arrayvec::{ArrayString, ArrayVec};
 use std::{fmt, str};
 
 /// Whether an octet means something in a master file, so that a backslash stands before it.
@@ -92,17 +93,60 @@ impl fmt::Display for LabelText<'_> {
     }
 }
 
+/// The most octets of the text of a name without escapes.
+const PLAIN_MAX: usize = 255;
+
+/// Puts a label and a dot behind a text, where each octet is printed as it stands and there is room.
+#[tactic(auto, using(crate::proofs::TextLemmas::plain_label))]
+fn push_plain(text: &mut ArrayString<PLAIN_MAX>, label: &[u8]) -> Option<()>
+    ensures { IfSome result (λ _. text.new.bytes ≡ text.old.bytes ++ label_text label.now) }
+{
+    let None = first_escaped(label) else {
+        return None;
+    };
+    let Ok(()) = text.try_push_str(plain_text(label)) else {
+        return None;
+    };
+    let Ok(()) = text.try_push_str(".") else {
+        return None;
+    };
+    Some(())
+}
+
+/// The text of labels, where each octet is printed as it stands and there is room for it, which there is for those of a name.
+fn plain_labels(labels: Labels<'_>) -> Option<ArrayString<PLAIN_MAX>>
+    ensures { IfSome result (λ text. text.bytes ≡ flat_map label_text labels.entry) }
+{
+    let mut labels = labels;
+    let mut text = ArrayString::new();
+    while let Some(label) = labels.next() {
+        push_plain(&mut text, label)?;
+    }
+    Some(text)
+}
+
+/// Writes a name label by label.
+fn write_labels<W: fmt::Write>(f: &mut fmt::Formatter<W>, name: &Name) -> fmt::Result
+    ensures { WritesOnOk W.write_str_gives f.old result (name_text name.now) f.new }
+{
+    for label in name.labels() {
+        write!(f, "{}", LabelText(label))?;
+    }
+    if name.labels().next().is_none() {
+        write!(f, ".")
+    } else {
+        Ok(())
+    }
+}
+
 impl fmt::Display for Name {
     ghost output = { λ n. Some (name_text n) };
 
     fn fmt<W: fmt::Write>(&self, f: &mut fmt::Formatter<W>) -> fmt::Result {
-        for label in self.labels() {
-            write!(f, "{}", LabelText(label))?;
-        }
-        if self.labels().next().is_none() {
-            write!(f, ".")
-        } else {
-            Ok(())
+        match plain_labels(self.labels()) {
+            // most names of a zone are written at once
+            Some(text) if !text.is_empty() => f.write_str(text.as_str()),
+            _ => write_labels(f, self),
         }
     }
 }
