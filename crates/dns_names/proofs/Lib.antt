@@ -1,6 +1,7 @@
 pub mod RowLemmas
 pub mod KeyLaws
 pub mod NameLemmas
+pub mod OctetLemmas
 pub mod KeptLemmas
 pub mod CutLemmas
 pub mod SymbolLaws

@@ -6,6 +6,7 @@
 mod fault;
 mod labels;
 mod name;
+mod octets;
 mod pieces;
 mod rows;
 mod symbol;

@@ -14,6 +14,7 @@ ghost use Rattle.dns_names.specs.Reading.{absolute_name, ended_name, relative_na
 
 use crate::fault::NameFault;
 use crate::labels::Labels;
+use crate::octets::cmp_octets;
 use crate::pieces::PieceRows;
 use crate::rows::{Rows, behind_label, key_in, push_key};
 use std::alloc::{AllocError, Global};
@@ -314,7 +315,7 @@ impl Ord for Name {
     ghost matches_eq = { λ x y. Prim.search rules };
 
     fn cmp(&self, other: &Name) -> Ordering {
-        self.key().cmp(other.key())
+        cmp_octets(self.key(), other.key())
     }
 }
 
