@@ -35,7 +35,7 @@ abbrev IsOf : Labels → ChangedRecord → Type 0
 IsOf o c = c.origin ≡ o
 
 -- a change that has some record
-abbrev IsSome : ChangeOf → Type 0
+abbrev pub IsSome : ChangeOf → Type 0
 IsSome c = is_nothing c ≡ false
 
 -- ---- entries of lists that are joined
@@ -201,9 +201,10 @@ gathers_more o done a e cs g here also f =
 
 -- ---- all of them
 
-record GathersAll (o : Labels) (xs : List ChangedRecord) (cs : List ChangeOf) : Type 0 where
-  entries_are : entries o 1 cs ≡ xs
-  each : AllByRecursion IsSome cs
+-- changes have what rows have
+pub record GathersAll (o : Labels) (xs : List ChangedRecord) (cs : List ChangeOf) : Type 0 where
+  pub entries_are : entries o 1 cs ≡ xs
+  pub each : AllByRecursion IsSome cs
 
 gathers_all : (o : Labels) (done : List ChangedRecord) (a : ChangedRecord) (cs : List ChangeOf) (xs : List ChangedRecord) → Gathers o done a cs → a.origin ≡ o → AllByRecursion (IsOf o) xs → are_behind a xs ≡ true → GathersAll o (done ++ xs) (fold placed cs xs)
 gathers_all o done a cs [] g here all e = record { entries_are = g.entries_are ∙ sym (append-nil done); each = g.each }
@@ -218,7 +219,7 @@ all_of o (x ∷ xs) e =
     let p = and_parts (same_name x.origin o) (list_all (λ d. same_name d.origin o) xs) e in
     (name_is x.origin o p.0, all_of o xs p.1)
 
-whole : (x : ChangedRecord) (xs : List ChangedRecord) → are_of_one (x ∷ xs) ≡ true → are_numbered (x ∷ xs) ≡ true → GathersAll x.origin (x ∷ xs) (gathered (x ∷ xs))
+pub whole : (x : ChangedRecord) (xs : List ChangedRecord) → are_of_one (x ∷ xs) ≡ true → are_numbered (x ∷ xs) ≡ true → GathersAll x.origin (x ∷ xs) (gathered (x ∷ xs))
 whole x xs one numbered =
     let o = x.origin in
     let p = and_parts (eqb x.number 1) (are_behind x xs) numbered in

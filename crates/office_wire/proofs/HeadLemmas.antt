@@ -1,19 +1,20 @@
 -- Heads at the front of octets.
-use Rattle.std.proofs.Common.{◌≡◌, ◌<◌, ◌≤◌, ◌-◌, ◌+◌, ◌*◌, ℕ, drop, take, length, List, [], ◌∷◌, ◌++◌, min, ◌∙◌, sym, ap, refl, subst, arith, length-append, length-drop, append_assoc, map, ◌⊎◌, inl, inr}
+use Rattle.std.proofs.Common.{◌≡◌, ◌<◌, ◌≤◌, ◌-◌, ◌+◌, ◌*◌, ℕ, drop, take, length, List, [], ◌∷◌, ◌++◌, ◌∙◌, sym, ap, subst, arith, length-append, length-drop, append_assoc, append-nil, map, inl, inr}
 use Rattle.std.specs.List.{All, flat_map}
-use Rattle.std.proofs.lemmas.List.{take-append-drop, take-append-le, length-take-le, length-take, length-map}
+use Rattle.std.proofs.lemmas.List.{take-append-drop, take-append-le, length-map}
 use Rattle.std.proofs.lemmas.Bool.{cases_lt}
 use Rattle.std.proofs.lemmas.Grind.{common_steps}
 use Rattle.std.proofs.lemmas.List.Elements.{All-head, All-tail}
-use Rattle.std.proofs.Math.Seq.{take-append-add, take-append_seam, drop-append_seam}
-use Rattle.httparse.specs.Grammar.{Field, IsField, print_field, print_end, LineEnd, crlf, lf, RequestHead, IsRequestHead, ReadsRequest, print_request, HasNoRequest, print_section}
+use Rattle.std.proofs.Math.Seq.{take-append-add, drop-append_seam}
+use Rattle.httparse.specs.Grammar.{Field, IsField, print_field, print_end, LineEnd, crlf, lf, RequestHead, IsRequestHead, ReadsRequest, print_request, HasNoRequest}
 use Rattle.httparse.specs.Spans.{RequestOverflows, header_bytes, name_and_value}
 use Rattle.httparse.specs.declared.spans.HeaderSpan.{HeaderSpan}
-use Rattle.httparse.proofs.GrammarLemmas.{request_unique, ReadsRequest-append, print_request-append}
+use Rattle.httparse.proofs.GrammarLemmas.{request_unique, ReadsRequest-append}
 use Rattle.office_wire.specs.declared.length.Ask.{Ask}
-use Rattle.office_wire.specs.declared.length.Ask.TheVariants.{Body, Refused}
+use Rattle.office_wire.specs.declared.length.Ask.TheVariants.{Body}
 use Rattle.office_wire.specs.Lengths.{ask_of}
-use Rattle.office_wire.specs.Exchange.{IsHead, Waits, NeverHead, AsksMore}
+use Rattle.office_wire.specs.Heads.{WaitsUpTo}
+use Rattle.office_wire.specs.Exchange.{Waits, NeverHead, AsksMore}
 
 end_long : (e : LineEnd) → 1 ≤ length (print_end e)
 end_long crlf = omega arith
@@ -97,6 +98,31 @@ waits_from_short bytes rest h n reads asks short = record {
       let less : length q < n = subst (λ (l : List ℕ). length l < n) same.1 short in
       subst (λ (a : Ask). AsksMore a (length q)) (sym ask) less;
 }
+
+-- ---- until so many octets are there
+
+pub waits_up_to_none : (bytes : List ℕ) → WaitsUpTo bytes 0
+waits_up_to_none bytes more small = absurd (omega arith)
+
+pub waits_up_to_body : (bytes : List ℕ) (h : RequestHead) (len n : ℕ) → ReadsRequest bytes h (drop len bytes) → len ≤ length bytes → ask_of h ≡ Body n
+    → WaitsUpTo bytes (len + n)
+waits_up_to_body bytes h len n reads within asks more small =
+    let whole = length-append bytes more in
+    let left : length (drop len bytes ++ more) < n = simp (length-append, length-drop) (omega (arith, whole)) in
+    waits_from_short (bytes ++ more) (drop len bytes ++ more) h n (ReadsRequest-append bytes h (drop len bytes) more reads) asks left
+
+pub waits_with_more : (old got now : List ℕ) (n : ℕ) → now ≡ old ++ got → WaitsUpTo old n → WaitsUpTo now n
+waits_with_more old got now n is waits more small =
+    let e : now ++ more ≡ old ++ (got ++ more) = ap (λ (l : List ℕ). l ++ more) is ∙ append_assoc old got more in
+    rw e (waits (got ++ more) (rw e at small))
+
+pub waits_now : (bytes : List ℕ) (n : ℕ) → WaitsUpTo bytes n → length bytes < n → Waits bytes
+waits_now bytes n waits small =
+    let e = append-nil bytes in
+    rw e at (waits [] (rw e small))
+
+pub same_number : (n m : ℕ) → (let a : Ask = Body n in a) ≡ Body m → n ≡ m
+same_number n m e = cc
 
 pub spans_count : (buf : List ℕ) (spans : List HeaderSpan) (fields : List Field) → map (header_bytes buf) spans ≡ map name_and_value fields → length spans ≡ length fields
 spans_count buf spans fields e =

@@ -1,11 +1,11 @@
 -- What follows one part of a stream joins what was answered before it.
-use Rattle.std.proofs.Common.{◌≡◌, ℕ, Bool, true, false, drop, length, List, [], ◌∷◌, ◌++◌, ◌∙◌, sym, ap, refl, subst, append_assoc, append-nil, Option, Some, None, IfSome, ◌⊎◌, inl, inr}
+use Rattle.std.proofs.Common.{◌≡◌, ℕ, drop, List, [], ◌∷◌, ◌++◌, ◌∙◌, sym, ap, refl, subst, append_assoc, append-nil, Option}
 use Rattle.std.specs.List.{AllByRecursion}
 use Rattle.std.specs.Io.KnownBytes.{Appends}
-use Rattle.httparse.specs.Grammar.{RequestHead, print_request}
+use Rattle.httparse.specs.Grammar.{print_request}
 use Rattle.grant_policy.specs.declared.rule.Rule.{Rule}
 use Rattle.office_wire.specs.declared.exchange.Said.TheVariants.{Next}
-use Rattle.office_wire.specs.Exchange.{Turn, octets_of, turn_text, octets, texts, IsOpenTurn, Standing, Answers, Run, Exchange, Closes, whole, bad_length, bad_head, Says, next, closing, IsPart}
+use Rattle.office_wire.specs.Exchange.{Turn, octets_of, turn_text, octets, texts, IsOpenTurn, Standing, Run, Exchange, Closes, whole, bad_length, bad_head, Says, next, closing, IsPart}
 use Rattle.office_wire.specs.Serving.{IsSaid, IsCurrent, IsClosed, IsBroken}
 use Rattle.office_wire.proofs.HeadLemmas.{never_more}
 use Rattle.office_wire.proofs.KnownLemmas.{appends_more}

@@ -1,14 +1,13 @@
 -- The calls of an exchange are a run of the machine.
-use Rattle.std.proofs.Common.{◌≡◌, ℕ, List, [], ◌∷◌, ◌++◌, Option, Some, None, Result, Ok, Err, refl, sym, ap, subst, ◌∙◌}
+use Rattle.std.proofs.Common.{◌≡◌, List, [], ◌∷◌, ◌++◌, Option, Result, Ok, Err, refl, sym, ap, subst, ◌∙◌}
 use Rattle.grant_policy.specs.declared.rule.Rule.{Rule}
 use Rattle.office_core.specs.declared.fault.TableFault.{TableFault}
 use Rattle.office_core.specs.declared.request.Call.{Call}
-use Rattle.office_core.specs.declared.reply.Reply.{Reply}
 use Rattle.office_core.specs.declared.reply.Reply.TheVariants.{Servfail}
-use Rattle.office_core.specs.Replies.{ReplyOf, reply_of}
-use Rattle.office_core.specs.States.{State, AreZones, AreReceipts}
+use Rattle.office_core.specs.Replies.{ReplyOf}
+use Rattle.office_core.specs.States.{State}
 use Rattle.office_core.specs.Runs.{Answer, turn, answers, state_after, HasUpdate, HaveUpdates, one_kept, one_given}
-use Rattle.office_core.specs.Isolation.{told_to, AreToldAlone}
+use Rattle.office_core.specs.Isolation.{told_to}
 use Rattle.office_core.proofs.CallLemmas.{calls_are_right}
 use Rattle.office_core.proofs.IsolationLemmas.{callers_are_alone, blind_callers_are_alone, policies_keep_alone}
 use Rattle.office_wire.specs.declared.request_fault.RequestFault.{RequestFault}
@@ -16,7 +15,7 @@ use Rattle.office_wire.specs.declared.response.Response.{Response}
 use Rattle.office_wire.specs.declared.response.Response.TheVariants.{Replied}
 use Rattle.office_wire.specs.Requests.{call_of}
 use Rattle.office_wire.specs.Exchange.{Turn, Standing, Answers, replied, failed, refused, Run}
-use Rattle.office_wire.specs.Promises.{call_in, answer_in, calls, told, ArePromised, ExchangesAreRuns}
+use Rattle.office_wire.specs.Promises.{call_in, answer_in, calls, told, ExchangesAreRuns}
 
 -- calls are a run from a state to another, in which this is told
 record IsRunOf (rules : List Rule) (s : State) (cs : List Call) (ys : List Answer) (t : State) : Type 0 where

@@ -1,9 +1,8 @@
 -- A response that there is no memory for.
-use Rattle.std.proofs.Common.{◌≡◌, ℕ, Bool, true, false, List, Option, Some, None, Result, Ok, Err, refl, sym, ap, subst, ◌∙◌}
+use Rattle.std.proofs.Common.{◌≡◌, ℕ, Bool, true, false, List, Option, Some, None, Result, Ok, refl, sym, subst, ◌∙◌}
 use Rattle.std.specs.Prelude.{option_map}
 use Rattle.httparse.specs.Grammar.{RequestHead}
 use Rattle.grant_policy.specs.declared.rule.Rule.{Rule}
-use Rattle.office_core.specs.declared.fault.TableFault.{TableFault}
 use Rattle.office_core.specs.declared.fault.TableFault.TheVariants as faults
 use Rattle.office_core.specs.declared.receipt.Receipt.{Receipt}
 use Rattle.office_core.specs.declared.reply.UpdateReply.{UpdateReply}
@@ -12,7 +11,7 @@ use Rattle.office_core.specs.declared.request.Request.{Request}
 use Rattle.office_core.specs.declared.request.Request.TheVariants as requests
 use Rattle.office_core.specs.declared.reply.Reply.{Reply}
 use Rattle.office_core.specs.declared.reply.Reply.TheVariants as replies
-use Rattle.office_core.specs.Replies.{ReplyOf, to_update, id_reused, reply_of}
+use Rattle.office_core.specs.Replies.{to_update, reply_of}
 use Rattle.office_core.specs.States.{State}
 use Rattle.zone_core.specs.Updates.{UpdateOf}
 use Rattle.office_core.specs.Machine.{Turn, step, updated, answered, refusal}
@@ -22,7 +21,7 @@ use Rattle.office_json.specs.Replies.{IsShort}
 use Rattle.office_wire.specs.declared.request_fault.RequestFault.{RequestFault}
 use Rattle.office_wire.specs.declared.request_fault.RequestFault.TheVariants as wrong
 use Rattle.office_wire.specs.declared.response.Response.{Response}
-use Rattle.office_wire.specs.declared.response.Response.TheVariants.{Refused, BadBody, Replied}
+use Rattle.office_wire.specs.declared.response.Response.TheVariants.{Replied}
 use Rattle.office_wire.specs.declared.head.Heading.{Heading}
 use Rattle.office_wire.specs.Heads.{IsAsked}
 use Rattle.office_wire.specs.Requests.{Refuses, call_by, call_of}

@@ -1,5 +1,5 @@
 -- What was read of a stream, and what was answered to it.
-use Rattle.std.proofs.Common.{◌≡◌, ◌<◌, ◌≤◌, ◌+◌, length-append, ℕ, Bool, true, false, length, List, [], ◌∷◌, ◌++◌, ◌∙◌, sym, ap, refl, subst, arith, append-nil, Option, Some, None, IfSome, ◌⊎◌, inl, inr}
+use Rattle.std.proofs.Common.{◌≡◌, ◌<◌, ◌≤◌, ◌+◌, length-append, ℕ, true, false, length, List, [], ◌++◌, ◌∙◌, sym, ap, refl, subst, arith, append-nil, Option, IfSome, ◌⊎◌, inl, inr}
 use Rattle.std.specs.List.{list_all}
 use Rattle.std.specs.Io.KnownBytes.{Appends, Consumes, Keeps, IsAtEnd}
 use Rattle.std.proofs.lemmas.List.{nil_from_length}
@@ -8,7 +8,7 @@ use Rattle.grant_policy.specs.declared.rule.Rule.{Rule}
 use Rattle.office_wire.specs.declared.refusal.Refusal.TheVariants.{CutShort}
 use Rattle.office_wire.specs.declared.response.Response.TheVariants.{Refused}
 use Rattle.office_wire.specs.Texts.{text_of}
-use Rattle.office_wire.specs.Exchange.{Turn, texts, Standing, Run, Exchange, Waits, Ends, closed, quiet, cut, IsPart, is_line_end}
+use Rattle.office_wire.specs.Exchange.{Turn, Standing, Run, Waits, Ends, closed, quiet, cut, IsPart, is_line_end}
 use Rattle.office_wire.specs.Serving.{IsCurrent, IsClosed, IsBroken, IsAnswered, IsCut, IsRead}
 use Rattle.office_wire.proofs.KnownLemmas.{appends_none, appends_more, consumes_more, consumes_kept, on_stream, on_end}
 use Rattle.office_wire.proofs.TurnLemmas.{head_some}
@@ -44,10 +44,10 @@ module _ (rules : List Rule) (c : Standing) where
 
   pub ended : (d : Standing) (read rest : List ℕ) (known left before mid after : Option (List ℕ)) → Consumes known left read → IsAtEnd left → Waits rest
       → IsCurrent rules c read rest before mid d
-      → ((text : List ℕ) × Appends mid after text × (((list_all is_line_end rest ≡ true) × (text ≡ [])) ⊎ (text ≡ text_of (Refused CutShort) true)))
+      → ((text : List ℕ) × Appends mid after text × (((list_all is_line_end rest ≡ true) × (text ≡ [])) ⊎ ((list_all is_line_end rest ≡ false) × (text ≡ text_of (Refused CutShort) true))))
       → Ran d (λ all. IfSome known (λ stream. IsAnswered all stream before after))
   ended d read rest known left before mid after took at_end waits p said =
-      let ends : Ends rest [] said.0 = elim said.2 [ inl both ↦ quiet both.0 refl both.1 | inr text ↦ cut waits refl text ] in (
+      let ends : Ends rest [] said.0 = elim said.2 [ inl both ↦ quiet both.0 refl both.1 | inr both ↦ cut waits both.0 refl both.1 ] in (
         p.0,
         p.1,
         on_end known left read (λ stream. IsAnswered p.0 stream before after) took at_end
@@ -56,13 +56,13 @@ module _ (rules : List Rule) (c : Standing) where
 
   pub ended_part : (d : Standing) (read rest : List ℕ) (known left before mid after : Option (List ℕ)) → Consumes known left read → IsAtEnd left → Waits rest
       → IsCurrent rules c read rest before mid d
-      → ((part : List ℕ) × IsPart part (text_of (Refused CutShort) true) × Appends mid after part)
+      → ((list_all is_line_end rest ≡ false) × (part : List ℕ) × IsPart part (text_of (Refused CutShort) true) × Appends mid after part)
       → Ran d (λ all. IfSome known (λ stream. IsCut all stream before after))
   ended_part d read rest known left before mid after took at_end waits p wrote = (
     p.0,
     p.1,
     on_end known left read (λ stream. IsCut p.0 stream before after) took at_end
-        (p.0, [], rest, text_of (Refused CutShort) true, wrote.0, sym (append-nil p.0), p.2, inr (cut waits refl refl), wrote.1, appends_more before mid after _ _ p.3 wrote.2),
+        (p.0, [], rest, text_of (Refused CutShort) true, wrote.1, sym (append-nil p.0), p.2, inr (cut waits wrote.0 refl refl), wrote.2, appends_more before mid after _ _ p.3 wrote.3),
   )
 
   pub went_closed : (d e : Standing) (read got old now : List ℕ) (known left left' before mid after : Option (List ℕ)) → Consumes known left read → Consumes left left' got → now ≡ old ++ got

@@ -1,5 +1,5 @@
 -- The texts of responses by their parts.
-use Rattle.std.proofs.Common.{◌≡◌, ℕ, ◌+◌, ◌-◌, Bool, List, [], ◌++◌, length, drop, refl, ap, ◌∙◌, sym, subst, codes, append-nil, arith, length-append}
+use Rattle.std.proofs.Common.{◌≡◌, ℕ, ◌-◌, Bool, List, [], ◌++◌, length, drop, ap, ◌∙◌, subst, codes, append-nil, arith, length-append}
 use Rattle.std.proofs.Math.Seq.{drop-append_seam}
 use Rattle.office_wire.specs.declared.response.Response.{Response}
 use Rattle.office_wire.specs.Texts.{head_parts, head_text, status_of, type_of, response_body, text_of}

@@ -2,7 +2,7 @@
 use Rattle.std.proofs.Common.{◌≡◌, ◌<◌, ◌≤◌, ◌-◌, ◌+◌, ℕ, Bool, drop, take, length, List, [], ◌∷◌, ◌++◌, ◌∙◌, sym, ap, refl, arith, length-append, length-drop, append_assoc}
 use Rattle.std.specs.List.{slice_range}
 use Rattle.std.proofs.lemmas.List.{take-append-drop, length-take-le, drop-drop}
-use Rattle.httparse.specs.Grammar.{RequestHead, print_request, print_section}
+use Rattle.httparse.specs.Grammar.{RequestHead, print_request}
 use Rattle.grant_policy.specs.declared.rule.Rule.{Rule}
 use Rattle.office_wire.specs.declared.length.Ask.{Ask}
 use Rattle.office_wire.specs.declared.length.Ask.TheVariants.{Body}

@@ -1,5 +1,5 @@
 -- Octets that move within a row, and are written into it.
-use Rattle.std.proofs.Common.{◌≡◌, ◌<◌, ◌≤◌, ◌-◌, ◌+◌, ℕ, drop, take, length, List, [], ◌++◌, ◌∙◌, sym, ap, subst, arith, length-append, length-drop}
+use Rattle.std.proofs.Common.{◌≡◌, ◌≤◌, ◌-◌, ◌+◌, ℕ, drop, take, length, List, ◌++◌, ◌∙◌, sym, ap, subst, arith, length-append, length-drop}
 use Rattle.std.specs.List.{copy_within, slice_range}
 use Rattle.std.proofs.lemmas.List.{take-append-le, length-take-le, drop-drop, drop-take, take-take}
 use Rattle.std.proofs.Math.Seq.{take-append-add, take-append_seam}

@@ -1,5 +1,5 @@
 -- A stream of requests, what they are answered, and what is written to it.
-use Rattle.std.specs.Prelude.{◌≡◌, ℕ, ◌<◌, ◌≤◌, Bool, true, false, List, [], ◌∷◌, ◌++◌, length, ◌==◌, ◌||◌, bytes_eq, codes, Result, Ok, Err, Some}
+use Rattle.std.specs.Prelude.{◌≡◌, ℕ, ◌<◌, ◌≤◌, Bool, true, false, List, [], ◌∷◌, ◌++◌, length, ◌==◌, ◌||◌, codes, Result, Ok, Err, Some}
 use Rattle.std.specs.List.{flat_map, list_any, list_all, AllByRecursion}
 use Rattle.httparse.specs.Grammar.{RequestHead, IsRequestHead, ReadsRequest, print_request}
 use Rattle.grant_policy.specs.declared.rule.Rule.{Rule}
@@ -132,12 +132,12 @@ pub data Closes (rest : List ℕ) (last : List Turn) (text : List ℕ) : Type 0 
       → last ≡ [] → text ≡ text_of (Refusing r) true → Closes rest last text
   bad_head : NeverHead rest → last ≡ [] → text ≡ text_of (Refusing BadHead) true → Closes rest last text
 
--- How the rest of a stream is answered at its end: by a last response; not at all, where it is nothing but line ends; or as a request
--- that was cut short.
+-- How the rest of a stream is answered at its end: by a last response; not at all, where it is nothing but line ends; and else, where no
+-- request stands whole there, as a request that was cut short.
 pub data Ends (rest : List ℕ) (last : List Turn) (text : List ℕ) : Type 0 where
   closed : Closes rest last text → Ends rest last text
   quiet : list_all is_line_end rest ≡ true → last ≡ [] → text ≡ [] → Ends rest last text
-  cut : Waits rest → last ≡ [] → text ≡ text_of (Refusing CutShort) true → Ends rest last text
+  cut : Waits rest → list_all is_line_end rest ≡ false → last ≡ [] → text ≡ text_of (Refusing CutShort) true → Ends rest last text
 
 -- the next response on the stream, with its turn where it has one
 pub data Says (rest : List ℕ) (last : List Turn) (text : List ℕ) : Type 0 where

@@ -31,9 +31,13 @@ ReadsHead window Partial = HasNoRequest window
 ReadsHead window Hopeless = NeverHead window
 ReadsHead window (Whole g) = (h : RequestHead) × IsHeading g h × ReadsRequest window h (drop g.len window) × (g.len ≤ length window) × BodyUpTo 65536 g.ask
 
+-- however they go on, no request stands whole there before there are so many octets
+abbrev pub WaitsUpTo : List ℕ → ℕ → Type 0
+WaitsUpTo bytes n = (more : List ℕ) → length (bytes ++ more) < n → Waits (bytes ++ more)
+
 -- what stands at the front
 abbrev pub IsFront : List ℕ → Front → Type 0
-IsFront bytes Waiting = Waits bytes × (length bytes < 81920)
+IsFront bytes (Waiting n) = Waits bytes × (length bytes < 81920) × WaitsUpTo bytes n × (n ≤ 81920)
 IsFront bytes Bad = NeverHead bytes
 IsFront bytes (Refused r) = (h : RequestHead) × (rest : List ℕ) × IsHead h × (ask_of h ≡ Refuse r) × (bytes ≡ print_request h ++ rest)
 IsFront bytes (Ready g n) = (h : RequestHead) × IsHeading g h × IsHead h × (ask_of h ≡ Body n) × (bytes ≡ print_request h ++ drop g.len bytes) × (g.len + n ≤ length bytes)

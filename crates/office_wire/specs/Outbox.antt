@@ -1,5 +1,5 @@
 -- Responses that fit the room that is taken before the first read.
-use Rattle.std.specs.Prelude.{◌≡◌, ℕ, ◌⊎◌, Bool, true, false, List}
+use Rattle.std.specs.Prelude.{◌≡◌, ℕ, Bool, true, false, List}
 use Rattle.office_core.specs.declared.fault.TableFault.TheVariants.{NoMemory}
 use Rattle.office_core.specs.declared.reply.Reply.TheVariants.{Servfail}
 use Rattle.office_json.specs.Replies.{IsShort}

@@ -1,5 +1,5 @@
 -- What is promised of the calls of an exchange.
-use Rattle.std.specs.Prelude.{◌≡◌, ℕ, List, [], Result, Ok, Err}
+use Rattle.std.specs.Prelude.{◌≡◌, List, [], Result, Ok}
 use Rattle.std.specs.List.{flat_map}
 use Rattle.grant_policy.specs.declared.rule.Rule.{Rule}
 use Rattle.office_core.specs.declared.request.Call.{Call}
@@ -10,7 +10,7 @@ use Rattle.office_core.specs.Promises.{CallsAreRight}
 use Rattle.office_core.specs.Isolation.{AreToldAlone}
 use Rattle.office_wire.specs.declared.request_fault.RequestFault.{RequestFault}
 use Rattle.office_wire.specs.declared.response.Response.{Response}
-use Rattle.office_wire.specs.declared.response.Response.TheVariants.{Refused, BadBody, Replied}
+use Rattle.office_wire.specs.declared.response.Response.TheVariants.{Replied}
 use Rattle.office_wire.specs.Requests.{call_of}
 use Rattle.office_wire.specs.Exchange.{Turn, Standing, Run}
 

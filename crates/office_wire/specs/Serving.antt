@@ -1,5 +1,5 @@
 -- What serving a stream does.
-use Rattle.std.specs.Prelude.{◌≡◌, ℕ, ◌+◌, ◌-◌, ◌^◌, ◌<◌, ◌≤◌, ◌⊎◌, Bool, true, false, List, [], ◌∷◌, ◌++◌, length, drop, Option, Result, Ok, Err, IfSome, ⊤}
+use Rattle.std.specs.Prelude.{◌≡◌, ℕ, ◌-◌, ◌^◌, ◌<◌, ◌≤◌, ◌⊎◌, Bool, true, false, List, [], ◌∷◌, ◌++◌, length, drop, Option, Result, Ok, Err, IfSome, ⊤}
 use Rattle.std.specs.List.{list_all}
 use Rattle.std.specs.Io.KnownBytes.{Appends, Consumes}
 use Rattle.dns_master.specs.declared.device.DeviceFailed.{DeviceFailed}
@@ -15,7 +15,8 @@ use Rattle.office_wire.specs.declared.exchange.Said.TheVariants.{Nothing, Next, 
 use Rattle.office_wire.specs.declared.fault.ServeFault.{ServeFault}
 use Rattle.office_wire.specs.declared.fault.ServeFault.TheVariants.{ReadFailed, WriteFailed, StreamTooLong, NoMemory}
 use Rattle.office_wire.specs.Texts.{text_of}
-use Rattle.office_wire.specs.Exchange.{Turn, octets_of, turn_text, texts, IsTurn, IsOpenTurn, Standing, Answers, Run, Exchange, Waits, Closes, Ends, Says, IsPart, closes, is_line_end}
+use Rattle.office_wire.specs.Heads.{WaitsUpTo}
+use Rattle.office_wire.specs.Exchange.{Turn, octets_of, turn_text, texts, IsOpenTurn, Standing, Answers, Run, Exchange, Waits, Closes, Ends, Says, IsPart, is_line_end}
 
 -- how a table stands
 abbrev pub standing : State → ℕ → Standing
@@ -60,14 +61,14 @@ pub record IsReplied (rules : List Rule) (c : Standing) (read : Result Call Requ
 
 -- this was answered to what stands at the front, in this text, and how the table stands behind it
 abbrev pub IsSaid : List Rule → Standing → List ℕ → Said → List ℕ → Standing → Type 0
-IsSaid rules c pending Nothing text d = d ≡ c
+IsSaid rules c pending (Nothing n) text d = d ≡ c
 IsSaid rules c pending (Next n) text d =
     (t : Turn) × Run rules c (t ∷ []) d × IsOpenTurn t × (pending ≡ octets_of t ++ drop n pending) × (text ≡ turn_text t)
 IsSaid rules c pending Last text d = (last : List Turn) × Run rules c last d × Closes pending last text
 
 -- what that says of the octets alone
 abbrev pub Stands : List ℕ → Said → Type 0
-Stands pending Nothing = Waits pending × (length pending < 81920)
+Stands pending (Nothing n) = Waits pending × (length pending < 81920) × WaitsUpTo pending n × (n ≤ 81920)
 Stands pending (Next n) = (0 < n) × (n ≤ length pending)
 Stands pending Last = ⊤
 
@@ -105,5 +106,5 @@ IsServed rules c stream (Err e) rest before after d = IsBroken rules c stream be
 -- how the end of the stream is answered
 abbrev pub Finishes : List ℕ → Result (Unit {0}) DeviceFailed → Option (List ℕ) → Option (List ℕ) → Type 0
 Finishes rest (Ok u) before after =
-    (text : List ℕ) × Appends before after text × (((list_all is_line_end rest ≡ true) × (text ≡ [])) ⊎ (text ≡ text_of (Refused CutShort) true))
-Finishes rest (Err e) before after = (part : List ℕ) × IsPart part (text_of (Refused CutShort) true) × Appends before after part
+    (text : List ℕ) × Appends before after text × (((list_all is_line_end rest ≡ true) × (text ≡ [])) ⊎ ((list_all is_line_end rest ≡ false) × (text ≡ text_of (Refused CutShort) true)))
+Finishes rest (Err e) before after = (list_all is_line_end rest ≡ false) × (part : List ℕ) × IsPart part (text_of (Refused CutShort) true) × Appends before after part

@@ -25,8 +25,8 @@ use std::alloc::Global;
 
 /// What was answered to the octets that have come.
 pub(crate) enum Said {
-    /// Nothing: no request stands whole among them.
-    Nothing,
+    /// Nothing: no request stands whole among them, nor before there are so many.
+    Nothing(usize),
     /// A request of so many octets, and the next may follow.
     Next(usize),
     /// The last response.
@@ -86,7 +86,7 @@ impl<'a> Service<'a> {
         ensures honest { T.is_honest table.new → T.is_honest table.old }
     {
         match front_of(pending, spans) {
-            Front::Waiting => Said::Nothing,
+            Front::Waiting(n) => Said::Nothing(n),
             Front::Bad => {
                 out.put_short(&Response::Refused(Refusal::BadHead), true);
                 Said::Last
@@ -124,20 +124,22 @@ impl<'a> Service<'a> {
         ensures same { OnOk result (W.failures writer.new ≡ W.failures writer.old) }
         ensures rose { OnErr result (W.failures writer.old < W.failures writer.new) }
     {
+        if inbox.is_awaiting() {
+            return Ok(false);
+        }
         'turns: loop {
             match self.answer(inbox.as_slice(), spans, table, out) {
-                Said::Nothing => return Ok(false),
+                Said::Nothing(n) => {
+                    inbox.await_octets(n);
+                    return Ok(false);
+                }
                 Said::Next(n) => {
-                    match write_whole(writer, out.as_slice()) {
-                        Err(fault) => return Err(fault),
-                        Ok(()) => inbox.drop_front(n),
-                    }
+                    write_whole(writer, out.as_slice())?;
+                    inbox.drop_front(n);
                 }
                 Said::Last => {
-                    match write_whole(writer, out.as_slice()) {
-                        Err(fault) => return Err(fault),
-                        Ok(()) => return Ok(true),
-                    }
+                    write_whole(writer, out.as_slice())?;
+                    return Ok(true);
                 }
             }
         }

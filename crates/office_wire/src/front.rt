@@ -11,8 +11,8 @@ use httparse::spans::HeaderSpan;
 /// What stands at the front of the octets that have come.
 #[derive(Clone, Copy, Debug)]
 pub(crate) enum Front<'a> {
-    /// No whole request yet.
-    Waiting,
+    /// No whole request yet, nor before there are so many octets.
+    Waiting(usize),
     /// No head, however it goes on.
     Bad,
     /// A head that is refused.
@@ -39,17 +39,12 @@ pub(crate) fn front_of<'a>(bytes: &'a [u8], spans: &mut [HeaderSpan]) -> Front<'
 {
     match read_head(window_of(bytes), spans) {
         HeadRead::Hopeless => Front::Bad,
-        HeadRead::Partial if bytes.len() < HEAD_MAX => Front::Waiting,
+        HeadRead::Partial if bytes.len() < HEAD_MAX => Front::Waiting(0),
         HeadRead::Partial => Front::Bad,
         HeadRead::Whole(heading) => match heading.ask {
             Ask::Refused(refusal) => Front::Refused(refusal),
-            Ask::Body(n) => {
-                if bytes.len() - heading.len < n {
-                    Front::Waiting
-                } else {
-                    Front::Ready(heading, n)
-                }
-            }
+            Ask::Body(n) if bytes.len() - heading.len < n => Front::Waiting(heading.len + n),
+            Ask::Body(n) => Front::Ready(heading, n),
         },
     }
 }

@@ -1,8 +1,10 @@
 //! The octets that have come and are not answered yet.
 
-ghost use Rattle.std.specs.Prelude.{◌≡◌, ◌<◌, ◌≤◌, ◌++◌, ◌-◌, ℕ, List, vec_len, take, drop, length, IfOk, OnErr, OnOk};
+ghost use Rattle.std.specs.Prelude.{◌≡◌, ◌<◌, ◌≤◌, ◌++◌, ◌-◌, ℕ, List, true, vec_len, take, drop, length, IfOk, OnErr, OnOk};
 ghost use Rattle.std.specs.Io.KnownBytes.{Consumes, IsAtEnd, Keeps};
 ghost use Rattle.std.specs.List.{slice_range};
+ghost use Rattle.office_wire.specs.Exchange.{Waits};
+ghost use Rattle.office_wire.specs.Heads.{WaitsUpTo};
 
 use dns_master::{DeviceFailed, Source};
 use std::alloc::{AllocError, Global};
@@ -12,11 +14,14 @@ use std::marker::Model;
 const ROOM: usize = 81_920;
 
 /// The octets that have come and are not answered yet. They move to the front of their room at a read, and at no other time.
+/// No request stands whole there before so many octets are there as are awaited, so that a head is not read anew at each piece of
+/// its body.
 #[derive(Drop)]
 pub(crate) struct Inbox {
     bytes: Vec<u8>,
     start: usize,
     end: usize,
+    awaited: usize,
 }
 
 impl Model for Inbox {
@@ -24,7 +29,7 @@ impl Model for Inbox {
 
     ghost view = { λ s. slice_range s.bytes.items s.start s.end };
 
-    ghost invariant = { λ s. (s.start ≤ s.end) × (s.end ≤ 81920) × (vec_len s.bytes ≡ 81920) };
+    ghost invariant = { λ s. (s.start ≤ s.end) × (s.end ≤ 81920) × (vec_len s.bytes ≡ 81920) × (s.awaited ≤ 81920) × WaitsUpTo (slice_range s.bytes.items s.start s.end) s.awaited };
 }
 
 /// Moves the octets of a range to the front, and answers how many they are.
@@ -52,6 +57,7 @@ impl Inbox {
             bytes,
             start: 0,
             end: 0,
+            awaited: 0,
         })
     }
 
@@ -84,5 +90,22 @@ impl Inbox {
         ensures { self.new ≡ drop n self.old }
     {
         self.start += n;
+        self.awaited = 0;
+    }
+
+    /// Lets the octets wait until so many are there.
+    pub(crate) fn await_octets(&mut self, n: usize)
+        requires waits { WaitsUpTo self.old n }
+        requires bound { n ≤ 81920 }
+        ensures { self.new ≡ self.old }
+    {
+        self.awaited = n;
+    }
+
+    /// Whether fewer octets are there than are awaited.
+    pub(crate) fn is_awaiting(&self) -> bool
+        ensures { result ≡ true → Waits self.now × (length self.now < 81920) }
+    {
+        self.end - self.start < self.awaited
     }
 }

@@ -74,11 +74,8 @@ fn serve_in<R: Source, W: Sink, T: ZoneTable>(
         }
         match service.answer_all(inbox, spans, writer, table, out) {
             Err(_) => return Err(ServeFault::WriteFailed),
-            Ok(closed) => {
-                if closed {
-                    return Ok(());
-                }
-            }
+            Ok(true) => return Ok(()),
+            Ok(false) => {}
         }
     }
     Err(ServeFault::StreamTooLong)

@@ -84,7 +84,7 @@ listed_len set = length-map (entries set) (λ (e : Key × Record). e.1) ∙ sym 
 pub bare_rows : (set : Records) (rows : List Record) → AreRows rows set → (len set == 0) ≡ (length rows == 0)
 bare_rows set rows are = ap (λ n. n == 0) (ap (λ (x : Records). len x) (sym are.set) ∙ len_of rows are.order)
 
-some_differ : (a b : Records) → is_same a b ≡ false → is_nothing (change_of a b) ≡ false
+pub some_differ : (a b : Records) → is_same a b ≡ false → is_nothing (change_of a b) ≡ false
 some_differ a b differs = (λ i. (listed_len (minus a b) i == 0) && (listed_len (minus b a) i == 0)) ∙ differs
 
 module _ (s : State) (old new : ZoneOf) (held : Held) (was : IsZone old) (is : IsZone new) (differs : is_same old.records new.records ≡ false) (here : s.zones new.origin ≡ Some held) (same : held.records ≡ old.records) where

@@ -1,4 +1,4 @@
-use Rattle.std.proofs.Common.{◌≡◌, ◌∙◌, arith, length-drop, take, drop}
+use Rattle.std.proofs.Common.{◌∙◌, arith, length-drop}
 use Rattle.office_wire.proofs.KnownLemmas.{wrote_more}
 use Rattle.office_wire.proofs.exchange.write_whole.Goals as goal
 

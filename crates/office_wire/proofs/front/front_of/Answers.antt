@@ -1,10 +1,7 @@
-use Rattle.std.proofs.Common.{rules, ◌≡◌, ◌≤◌, ◌<◌, ◌+◌, ◌-◌, length, sym, take, drop, arith, ap, ◌∙◌, subst, ℕ, List, length-take, length-drop, length-append}
+use Rattle.std.proofs.Common.{◌≡◌, ◌≤◌, ◌<◌, ◌-◌, length, sym, take, drop, arith, ◌∙◌, subst, ℕ, List, length-take, length-drop}
 use Rattle.std.proofs.lemmas.List.{take_all}
-use Rattle.httparse.specs.Grammar.{HasNoRequest, print_request}
-use Rattle.office_wire.specs.declared.length.Ask.TheVariants.{Body, Refused}
-use Rattle.office_wire.specs.Heads.{ReadsHead}
-use Rattle.office_wire.specs.Exchange.{NeverHead, Waits}
-use Rattle.office_wire.proofs.HeadLemmas.{never_from_window, never_from_none, waits_from_none, waits_from_short, reads_whole}
+use Rattle.httparse.specs.Grammar.{HasNoRequest}
+use Rattle.office_wire.proofs.HeadLemmas.{never_from_window, never_from_none, waits_from_none, waits_from_short, waits_up_to_none, waits_up_to_body, same_number, reads_whole}
 use Rattle.office_wire.proofs.front.front_of.Goals as goal
 
 pub read_head-requires : goal.read_head-requires
@@ -26,7 +23,7 @@ returns-in-Partial c =
     let short : length bytes ≤ 16384 = omega arith in
     let whole = take_all 16384 bytes short in
     let none = rw c.window_of.ensures at c.in-Partial.ensures in
-    (waits_from_none bytes (subst (λ (l : List ℕ). HasNoRequest l) whole none), omega arith)
+    (waits_from_none bytes (subst (λ (l : List ℕ). HasNoRequest l) whole none), omega arith, waits_up_to_none bytes, omega arith)
 
 pub returns-in-Partial-2 : goal.returns-in-Partial-2
 returns-in-Partial-2 c =
@@ -44,8 +41,8 @@ returns-in-Refused c =
     let len = is.1.len in
     (is.0, _, record { valid = is.2.0; short = omega arith }, sym is.1.ask ∙ c.in-Refused.is, reads.1)
 
-pub returns-then-bytes-heading : goal.returns-then-bytes-heading
-returns-then-bytes-heading c =
+pub returns-in-Body : goal.returns-in-Body
+returns-in-Body c =
     let bytes = c.args.bytes.now in
     let is = rw c.window_of.ensures at c.in-Whole.ensures in
     let reads = reads_whole bytes _ is.0 c.in-Whole.heading.len is.2 is.1.len in
@@ -53,15 +50,18 @@ returns-then-bytes-heading c =
     let within : c.in-Whole.heading.len ≤ length (take 16384 bytes) = is.3 in
     let small : c.in-Body.n ≤ 65536 = rw c.in-Body.is at is.4 in
     let left : length (drop c.in-Whole.heading.len bytes) < c.in-Body.n = simp length-drop (omega arith) in
-    (waits_from_short bytes _ is.0 c.in-Body.n reads (sym is.1.ask ∙ c.in-Body.is) left, omega arith)
+    let asks = sym is.1.ask ∙ c.in-Body.is in
+    (waits_from_short bytes _ is.0 c.in-Body.n reads asks left, omega arith, waits_up_to_body bytes is.0 c.in-Whole.heading.len c.in-Body.n reads (omega arith) asks, omega arith)
 
-pub returns-else-bytes-heading : goal.returns-else-bytes-heading
-returns-else-bytes-heading c =
+pub returns-in-Body-2 : goal.returns-in-Body-2
+returns-in-Body-2 c =
     let bytes = c.args.bytes.now in
     let is = rw c.window_of.ensures at c.in-Whole.ensures in
     let reads = reads_whole bytes _ is.0 c.in-Whole.heading.len is.2 is.1.len in
     let k = length-take 16384 bytes in
     let within : c.in-Whole.heading.len ≤ length (take 16384 bytes) = is.3 in
     let len = is.1.len in
+    let asks = sym c.in-Body.is ∙ c.in-Body-2.is in
+    let one : c.in-Body.n ≡ c.in-Body-2.n = same_number _ _ asks in
     let many : c.in-Body.n ≤ length bytes - c.in-Whole.heading.len = c.if-bytes-heading.false in
-    (is.0, is.1, record { valid = is.2.0; short = omega arith }, sym is.1.ask ∙ c.in-Body.is, reads.1, omega arith)
+    (is.0, is.1, record { valid = is.2.0; short = omega arith }, sym is.1.ask ∙ c.in-Body-2.is, reads.1, omega arith)

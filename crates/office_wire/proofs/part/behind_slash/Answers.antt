@@ -1,4 +1,4 @@
-use Rattle.std.proofs.Common.{◌∙◌, sym, take, drop, length, ◌-◌, ◌+◌}
+use Rattle.std.proofs.Common.{◌∙◌, sym, ◌+◌}
 use Rattle.std.proofs.lemmas.List.{take_rest}
 use Rattle.office_wire.proofs.PartLemmas.{cut_some, cut_none}
 use Rattle.office_wire.proofs.part.behind_slash.Goals as goal

@@ -1,4 +1,4 @@
-use Rattle.std.proofs.Common.{◌≡◌, ℕ}
+use Rattle.std.proofs.Common.{◌≡◌}
 use Rattle.office_wire.specs.Parts.{part}
 use Rattle.office_wire.proofs.part.part_of.Given as goal
 

@@ -1,4 +1,4 @@
-use Rattle.std.proofs.Common.{◌≡◌, ◌<◌, ◌≤◌, ◌∙◌, ℕ, List, [], refl, sym, subst, length, arith, rules}
+use Rattle.std.proofs.Common.{◌∙◌, ℕ, List, [], refl, sym, subst, arith, rules}
 use Rattle.office_wire.specs.Exchange.{Waits}
 use Rattle.office_wire.specs.Serving.{standing, IsCurrent}
 use Rattle.office_wire.proofs.KnownLemmas.{consumes_none}
@@ -53,10 +53,13 @@ returns-in-Err-finish-clause-run g c = λ honest s held.
     let p = c.reads.invariant.served honest s held in
     let f = c.in-Ok.ensures.got in
     let none = c.if-got-eq0.true in
+    let old = none_came c.fill.new.self c.reads.inbox f.0 c.in-Ok.got f.1 f.2 none in
     let took = consumed_none _ _ _ p.2.0 f.0 c.in-Ok.got p.2.2 f.3 f.2 none in
+    let rest = c.as_slice.ensures.value ∙ old in
     let before = standing s (g.T.ZoneTable.failures c.args.table.now) in
     let now = standing p.0 (g.T.ZoneTable.failures c.reads.table) in
-    let r = ended_part c.args.service.now.policy.now before now p.2.0 c.reads.inbox _ _ _ _ _ took (f.4 none) c.reads.invariant.waits p.2.3 c.in-Err-finish.ensures.finishes in
+    let r = ended_part c.args.service.now.policy.now before now p.2.0 c.as_slice.result.now _ _ _ _ _ took (f.4 none) (subst (λ (l : List ℕ). Waits l) (sym rest) c.reads.invariant.waits)
+    (subst (λ (l : List ℕ). IsCurrent c.args.service.now.policy.now before p.2.0 l (g.W.Sink.contents c.args.writer.now) (g.W.Sink.contents c.reads.writer) now) (sym rest) p.2.3) c.in-Err-finish.ensures.finishes in
     (r.0, p.0, p.1, r.1, r.2)
 
 pub returns-in-Err-finish-clause-honest : goal.returns-in-Err-finish-clause-honest
@@ -82,42 +85,42 @@ returns-in-Err-answer_all-clause-honest g c = λ honest. c.reads.invariant.hones
 pub returns-in-Err-answer_all-clause-write_failed : goal.returns-in-Err-answer_all-clause-write_failed
 returns-in-Err-answer_all-clause-write_failed g c = λ e. omega (arith, c.in-Err-answer_all.ensures.rose, c.reads.invariant.writes)
 
-pub returns-then-closed-clause-run : goal.returns-then-closed-clause-run
-returns-then-closed-clause-run g c = λ honest s held.
-    let p = c.reads.invariant.served (c.in-Ok-answer_all.ensures.honest honest) s held in
+pub returns-in-Ok-true-clause-run : goal.returns-in-Ok-true-clause-run
+returns-in-Ok-true-clause-run g c = λ honest s held.
+    let p = c.reads.invariant.served (c.in-Ok-true.ensures.honest honest) s held in
     let f = c.in-Ok.ensures.got in
-    let a = c.in-Ok-answer_all.ensures.served honest p.0 p.1 in
+    let a = c.in-Ok-true.ensures.served honest p.0 p.1 in
     let before = standing s (g.T.ZoneTable.failures c.args.table.now) in
     let mid = standing p.0 (g.T.ZoneTable.failures c.reads.table) in
     let now = standing a.0 (g.T.ZoneTable.failures c.answer_all.new.table) in
-    let r = went_closed c.args.service.now.policy.now before mid now p.2.0 f.0 c.reads.inbox c.fill.new.self _ _ _ _ _ _ p.2.2 f.3 f.1 p.2.3 (rw c.if-closed.true at a.2) in
+    let r = went_closed c.args.service.now.policy.now before mid now p.2.0 f.0 c.reads.inbox c.fill.new.self _ _ _ _ _ _ p.2.2 f.3 f.1 p.2.3 (rw c.in-Ok-true.field-0-test at a.2) in
     (r.0, a.0, a.1, r.1, r.2)
 
-pub returns-then-closed-clause-honest : goal.returns-then-closed-clause-honest
-returns-then-closed-clause-honest g c = λ honest. c.reads.invariant.honest (c.in-Ok-answer_all.ensures.honest honest)
+pub returns-in-Ok-true-clause-honest : goal.returns-in-Ok-true-clause-honest
+returns-in-Ok-true-clause-honest g c = λ honest. c.reads.invariant.honest (c.in-Ok-true.ensures.honest honest)
 
 pub reads-preserved : goal.reads-preserved
 reads-preserved g c =
-    let idle = rw c.if-closed.false at c.in-Ok-answer_all.ensures.idle in
+    let idle = rw c.in-Ok-false.field-0-test at c.in-Ok-false.ensures.idle in
     record {
       spans = search rules;
       waits = idle.0;
       room = idle.1;
-      honest = λ honest. c.reads.invariant.honest (c.in-Ok-answer_all.ensures.honest honest);
+      honest = λ honest. c.reads.invariant.honest (c.in-Ok-false.ensures.honest honest);
       served = λ honest s held.
-          let p = c.reads.invariant.served (c.in-Ok-answer_all.ensures.honest honest) s held in
+          let p = c.reads.invariant.served (c.in-Ok-false.ensures.honest honest) s held in
           let f = c.in-Ok.ensures.got in
-          let a = c.in-Ok-answer_all.ensures.served honest p.0 p.1 in
+          let a = c.in-Ok-false.ensures.served honest p.0 p.1 in
           let before = standing s (g.T.ZoneTable.failures c.args.table.now) in
           let mid = standing p.0 (g.T.ZoneTable.failures c.reads.table) in
           let now = standing a.0 (g.T.ZoneTable.failures c.answer_all.new.table) in (
             a.0,
             a.1,
             went_on c.args.service.now.policy.now before mid now c.reads.counter c.in-Ok.got f.0 c.reads.inbox c.fill.new.self c.answer_all.new.inbox _ _ _ _ _ _ f.3 f.1 f.2
-                (let some = c.if-got-eq0.false in omega arith) p.2 (rw c.if-closed.false at a.2),
+                (let some = c.if-got-eq0.false in omega arith) p.2 (rw c.in-Ok-false.field-0-test at a.2),
           );
       reads = c.in-Ok.ensures.fine ∙ c.reads.invariant.reads;
-      writes = c.in-Ok-answer_all.ensures.same ∙ c.reads.invariant.writes;
+      writes = c.in-Ok-false.ensures.same ∙ c.reads.invariant.writes;
     }
 
 pub returns-clause-run : goal.returns-clause-run

@@ -1,4 +1,4 @@
-use Rattle.std.proofs.Common.{◌≡◌, ◌<◌, ℕ, List, length}
+use Rattle.std.proofs.Common.{◌≡◌, ◌<◌, length}
 use Rattle.office_core.specs.States.{State}
 use Rattle.office_wire.specs.Exchange.{Waits}
 use Rattle.office_wire.specs.Serving.{standing}

@@ -1,5 +1,5 @@
-use Rattle.std.proofs.Common.{◌≡◌, [], ◌∷◌, ◌<◌, ◌+◌, refl, ◌∙◌, length, arith, ℕ}
-use Rattle.office_wire.specs.Exchange.{bad_length, bad_head, whole, closes}
+use Rattle.std.proofs.Common.{[], ◌∷◌, refl, ◌∙◌, arith}
+use Rattle.office_wire.specs.Exchange.{bad_length, bad_head, whole}
 use Rattle.office_wire.specs.Serving.{standing}
 use Rattle.office_wire.proofs.TurnLemmas.{ready, head_some}
 use Rattle.office_wire.proofs.exchange.Service.answer.Goals as goal

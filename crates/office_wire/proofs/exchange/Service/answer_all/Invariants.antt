@@ -1,4 +1,4 @@
-use Rattle.std.proofs.Common.{length, ◌≡◌, ℕ, List}
+use Rattle.std.proofs.Common.{length, ◌≡◌}
 use Rattle.office_core.specs.States.{State}
 use Rattle.office_wire.specs.Serving.{standing, IsCurrent}
 use Rattle.office_wire.proofs.exchange.Service.answer_all.Given as goal

@@ -1,4 +1,4 @@
-use Rattle.std.proofs.Common.{◌≡◌, ◌≤◌, ◌+◌, ◌-◌, arith, length, take, drop, vec_len, length-drop}
+use Rattle.std.proofs.Common.{◌≡◌, ◌≤◌, ◌-◌, arith, length, take, drop, vec_len, length-drop}
 use Rattle.std.proofs.lemmas.List.{length-take-le}
 use Rattle.office_wire.proofs.WindowLemmas.{dropped}
 use Rattle.office_wire.proofs.inbox.Inbox.drop_front.Goals as goal

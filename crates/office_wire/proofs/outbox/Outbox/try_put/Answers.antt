@@ -1,4 +1,4 @@
-use Rattle.std.proofs.Common.{◌≡◌, ◌≤◌, ℕ, List, length, arith, ap, refl, ◌∙◌, vec_len}
+use Rattle.std.proofs.Common.{◌≡◌, ◌≤◌, ℕ, List, length, arith, ap, refl, ◌∙◌}
 use Rattle.std.proofs.lemmas.List.{length-take-le}
 use Rattle.office_wire.proofs.TextLemmas.{placed_text}
 use Rattle.office_wire.proofs.outbox.Outbox.try_put.Goals as goal
