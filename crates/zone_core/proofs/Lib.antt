@@ -29,6 +29,7 @@ pub mod PartLemmas
 pub mod ZoneLemmas
 pub mod VersionLemmas
 pub mod SettleLemmas
+pub mod AdvancedLemmas
 pub mod NeedLemmas
 pub mod GatherLemmas
 pub mod MetLemmas

@@ -1,6 +1,6 @@
 -- The records of a zone, in whatever order and however often they come, are built as that zone.
-use Rattle.std.proofs.Common.{◌≡◌, ◌<◌, ℕ, zero, suc, List, [], ◌∷◌, length, get_or, map, reverse, min, Bool, true, false, cond, ◌&&◌, ◌==◌, Option, Some, None, Ok, refl, sym, ap, ◌∙◌, subst, arith}
-use Rattle.std.specs.List.{AllByRecursion, Contains, filter}
+use Rattle.std.proofs.Common.{◌≡◌, ◌<◌, ℕ, zero, suc, List, [], ◌∷◌, length, get_or, map, reverse, min, Bool, true, false, cond, ◌==◌, Option, Some, None, refl, sym, ap, ◌∙◌, arith}
+use Rattle.std.specs.List.{AllByRecursion, filter}
 use Rattle.std.specs.FinMap.{get, find}
 use Rattle.std.proofs.lemmas.Bool.{and_parts, eqb-true}
 use Rattle.std.proofs.lemmas.List.Elements.{All-from_recursion, recursion_from_All}
@@ -10,7 +10,7 @@ use Rattle.dns_data.specs.declared.record.Record.{Record}
 use Rattle.dns_data.specs.Rdata.{type_of}
 use Rattle.dns_data.proofs.RecordOrderLemmas.{one_rank}
 use Rattle.zone_core.specs.Sets.{Records, Key, key_of, key_cmp, same_key, keyed, set_of, listing, InOrder, IsIn}
-use Rattle.zone_core.specs.Zones.{ZoneOf, IsZone, AreKept, least_ttl, least_below, beside, evened, latest, built, fault_in, unless_fault}
+use Rattle.zone_core.specs.Zones.{ZoneOf, IsZone, AreKept, least_ttl, least_below, beside, evened, latest, fault_in, unless_fault}
 use Rattle.zone_core.specs.Views.{set_ttl, given_ttls, even_rows}
 use Rattle.zone_core.specs.Rebuilt.{AreAllOf, ZonesAreRebuilt}
 use Rattle.zone_core.proofs.SetLemmas.{by_cases, name_is, key_self, same_sets}

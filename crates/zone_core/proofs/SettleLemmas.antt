@@ -102,7 +102,7 @@ found_minus a b j r e = by_test (not (same_ttl (get a j) (get b j))) (sym (get-m
     by_test true f = f
     by_test false f = absurd cc
 
-minus_self : (a : Records) (m : Records) → m ≡ empty → m ≡ minus a a
+pub minus_self : (a : Records) (m : Records) → m ≡ empty → m ≡ minus a a
 minus_self a m e = e ∙ same_sets empty (minus a a) (λ j. ap (λ (x : Records). get x j) (sym e) ∙ ap (λ (x : Records). get x j) e ∙ get-empty key_cmp j ∙ sym (same_minus a a j refl))
 
 -- ---- where the SOA stays, it is not among what differs

@@ -35,6 +35,7 @@ pub use laws::{
 pub use outcome::{Outcome, apply, apply_owned};
 pub use rcode::Rcode;
 pub use report::{DelegatedServer, Delegation, Glue, cuts, delegation_report};
+pub use rows::difference;
 pub use serial::{serial_add, serial_less};
 pub use update::{ItemList, Operation, Place, Prerequisite, Update};
 pub use verdict::{Failed, holds};

@@ -6,7 +6,7 @@ ghost use Rattle.std.specs.Option.{option_copied};
 ghost use Rattle.std.specs.Ordering.{is_eq};
 ghost use Rattle.std.specs.List.{filter};
 ghost use Rattle.std.specs.List.Sorted.{IsSorted};
-ghost use Rattle.zone_core.specs.Sets.{key_of, rank_of, set_of, record_order, same_ttl, has, InOrder, at_name, at, within};
+ghost use Rattle.zone_core.specs.Sets.{key_of, rank_of, set_of, record_order, same_ttl, has, minus, InOrder, AreRows, at_name, at, within};
 ghost use Rattle.zone_core.specs.Prerequisites.{same_data};
 ghost use Rattle.zone_core.specs.Views.{set_order};
 
@@ -172,4 +172,17 @@ pub(crate) fn with_difference(
         }
     }
     Ok(found)
+}
+
+/// Copies of the records of a row that another has not, or has with other TTLs, in record order. The only error is want of memory.
+pub fn difference(
+    alloc: Global,
+    records: &[Record],
+    others: &[Record],
+) -> Result<Vec<Record>, AllocError>
+    requires records { InOrder records.now }
+    requires others { InOrder others.now }
+    ensures { IfOk result (λ found. AreRows found.items (minus (set_of records.now) (set_of others.now))) }
+{
+    with_difference(alloc, Vec::new(alloc), records, others)
 }

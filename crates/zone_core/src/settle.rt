@@ -3,8 +3,8 @@
 ghost use Rattle.std.specs.Prelude.{◌≡◌, ◌==◌, ◌&&◌, ◌∷◌, if◌then◌else◌, length, IfOk};
 ghost use Rattle.zone_core.specs.Sets.{minus, AreRows};
 ghost use Rattle.zone_core.specs.Updates.{IsUpdate, ActsWithin};
-ghost use Rattle.zone_core.specs.Effects.{next_data, next_version, zone_after};
-ghost use Rattle.zone_core.specs.Zones.{IsZone};
+ghost use Rattle.zone_core.specs.Effects.{next_data, next_version, with_next, zone_after};
+ghost use Rattle.zone_core.specs.Zones.{IsZone, soa_at};
 ghost use Rattle.zone_core.specs.Views.{advances};
 
 use crate::change::{Change, changes};
@@ -75,4 +75,15 @@ pub(crate) fn update_change(
 {
     let change = changes(alloc, zone.origin(), zone.records(), update.operations())?;
     with_serial(alloc, zone.soa(), change)
+}
+
+impl Zone {
+    /// The zone with its serial one further (RFC 1982 section 3.1). The only error is want of memory.
+    pub fn advanced(self, alloc: Global) -> Result<Zone, AllocError>
+        ensures { IfOk result (λ zone. zone ≡ record self { records = with_next self.records (soa_at self.origin self.records) }) }
+    {
+        let soa = self.soa().try_copy(alloc)?;
+        let next = next_version(alloc, &soa)?;
+        self.changed(alloc, &[soa], &[next])
+    }
 }
