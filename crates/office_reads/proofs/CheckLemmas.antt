@@ -45,30 +45,30 @@ Labels = List (List ℕ)
 
 -- ---- what the rows of zones have
 
-abbrev tag : Labels → Record → ZoneRecord
+abbrev pub tag : Labels → Record → ZoneRecord
 tag o r = record { origin = o; rr = r }
 
 -- the records of zones
-abbrev zone_tagged : ZoneRows → List ZoneRecord
+abbrev pub zone_tagged : ZoneRows → List ZoneRecord
 zone_tagged z = map (tag z.origin) z.records
 
-abbrev tagged : List ZoneRows → List ZoneRecord
+abbrev pub tagged : List ZoneRows → List ZoneRecord
 tagged = flat_map zone_tagged
 
 -- what the changes of zones have
-abbrev zone_entries : ZoneRows → List ChangedRecord
+abbrev pub zone_entries : ZoneRows → List ChangedRecord
 zone_entries z = entries z.origin 1 z.changes
 
-abbrev all_entries : List ZoneRows → List ChangedRecord
+abbrev pub all_entries : List ZoneRows → List ChangedRecord
 all_entries = flat_map zone_entries
 
-tagged_rows : (zs : List ZoneRows) → map row_of_record (tagged zs) ≡ flat_map zone_records zs
+pub tagged_rows : (zs : List ZoneRows) → map row_of_record (tagged zs) ≡ flat_map zone_records zs
 tagged_rows zs = map-flat_map row_of_record zone_tagged zs ∙ flat_map_same_on (λ z. map row_of_record (zone_tagged z)) zone_records (λ z. map-map row_of_record (tag z.origin) z.records) zs
 
-entries_all_rows : (zs : List ZoneRows) → map row_of (all_entries zs) ≡ flat_map zone_changes zs
+pub entries_all_rows : (zs : List ZoneRows) → map row_of (all_entries zs) ≡ flat_map zone_changes zs
 entries_all_rows zs = map-flat_map row_of zone_entries zs ∙ flat_map_same_on (λ z. map row_of (zone_entries z)) zone_changes (λ z. entries_rows z.origin 1 z.changes) zs
 
-tag_each : (o : Labels) (rs : List Record) → IsName o → AllByRecursion IsRecord rs → AllByRecursion IsZoneRecord (map (tag o) rs)
+pub tag_each : (o : Labels) (rs : List Record) → IsName o → AllByRecursion IsRecord rs → AllByRecursion IsZoneRecord (map (tag o) rs)
 tag_each o [] named all = tt
 tag_each o (r ∷ rs) named all = (record { origin = named; rr = all.0 }, tag_each o rs named all.1)
 
@@ -83,11 +83,11 @@ entries_each zs each =
     (all_weaker IsZoneRows (λ z. AllByRecursion IsChanged (zone_entries z)) (λ z is. entries_are z.origin 1 z.changes is.origin (omega arith) is.changes) zs each)
 
 -- their origins
-tag_of : (o : Labels) (rs : List Record) → AllByRecursion (λ r. r.origin ≡ o) (map (tag o) rs)
+pub tag_of : (o : Labels) (rs : List Record) → AllByRecursion (λ r. r.origin ≡ o) (map (tag o) rs)
 tag_of o [] = tt
 tag_of o (r ∷ rs) = (refl, tag_of o rs)
 
-entries_of : (o : Labels) (n : ℕ) (cs : List ChangeOf) → AllByRecursion (λ c. c.origin ≡ o) (entries o n cs)
+pub entries_of : (o : Labels) (n : ℕ) (cs : List ChangeOf) → AllByRecursion (λ c. c.origin ≡ o) (entries o n cs)
 entries_of o n [] = tt
 entries_of o n (c ∷ cs) =
     all-append (λ c. c.origin ≡ o) _ (entries o (suc n) cs) (all-append (λ c. c.origin ≡ o) _ _ (all_map (λ (x : ChangedRecord). x.origin ≡ o) _ c.removed (all_of (λ r. o ≡ o) (λ r. refl) c.removed)) (all_map (λ (x : ChangedRecord). x.origin ≡ o) _ c.added (all_of (λ r. o ≡ o) (λ r. refl) c.added)))
@@ -96,7 +96,7 @@ entries_of o n (c ∷ cs) =
 -- ---- they ascend where the zones do
 
 -- one zone stands before another
-abbrev Before : ZoneRows → ZoneRows → Type 0
+abbrev pub Before : ZoneRows → ZoneRows → Type 0
 Before a b = canonical_cmp a.origin b.origin ≡ Less
 
 module _ {X : Type 0} (R : X → X → Type 0) (f : ZoneRows → List X)
@@ -107,7 +107,7 @@ module _ {X : Type 0} (R : X → X → Type 0) (f : ZoneRows → List X)
       all_both (λ x. AllByRecursion (R x) (f b)) (λ x. AllByRecursion (R x) (flat_map f zs)) (λ x. AllByRecursion (R x) (f b ++ flat_map f zs)) (λ x p q. all-append (R x) (f b) (flat_map f zs) p q) xs
       all.0 (across xs zs all.1)
 
-  zones_up : (zs : List ZoneRows) → AllByRecursion (λ z. IsAscending R (f z)) zs → IsAscending Before zs → IsAscending R (flat_map f zs)
+  pub zones_up : (zs : List ZoneRows) → AllByRecursion (λ z. IsAscending R (f z)) zs → IsAscending Before zs → IsAscending R (flat_map f zs)
   zones_up [] each up = tt
   zones_up (z ∷ zs) each up =
       ascending-append R (f z) (flat_map f zs) each.0 (zones_up zs each.1 up.1)
@@ -119,19 +119,19 @@ module _ {X : Type 0} (R : X → X → Type 0) (origin : X → Labels) (less : (
   all_before o p x ys e is all =
       all_weaker (λ y. origin y ≡ p) (R x) (λ y also. less x y (ap (λ q. canonical_cmp q (origin y)) is ∙ ap (canonical_cmp o) also ∙ e)) ys all
 
-  lists_before : (o p : Labels) (xs ys : List X) → canonical_cmp o p ≡ Less → AllByRecursion (λ x. origin x ≡ o) xs → AllByRecursion (λ y. origin y ≡ p) ys → AllByRecursion (λ x. AllByRecursion (R x) ys) xs
+  pub lists_before : (o p : Labels) (xs ys : List X) → canonical_cmp o p ≡ Less → AllByRecursion (λ x. origin x ≡ o) xs → AllByRecursion (λ y. origin y ≡ p) ys → AllByRecursion (λ x. AllByRecursion (R x) ys) xs
   lists_before o p xs ys e all also = all_weaker (λ x. origin x ≡ o) (λ x. AllByRecursion (R x) ys) (λ x is. all_before o p x ys e is also) xs all
 
-abbrev RecordBelow : ZoneRecord → ZoneRecord → Type 0
+abbrev pub RecordBelow : ZoneRecord → ZoneRecord → Type 0
 RecordBelow a b = zone_record_order a b ≡ Less
 
-abbrev ChangeBelow : ChangedRecord → ChangedRecord → Type 0
+abbrev pub ChangeBelow : ChangedRecord → ChangedRecord → Type 0
 ChangeBelow a b = changed_order a b ≡ Less
 
-by_origin_record : (x y : ZoneRecord) → canonical_cmp x.origin y.origin ≡ Less → RecordBelow x y
+pub by_origin_record : (x y : ZoneRecord) → canonical_cmp x.origin y.origin ≡ Less → RecordBelow x y
 by_origin_record x y e = ap (λ o. ordering_then o (record_order x.rr y.rr)) e
 
-by_origin_change : (x y : ChangedRecord) → canonical_cmp x.origin y.origin ≡ Less → ChangeBelow x y
+pub by_origin_change : (x y : ChangedRecord) → canonical_cmp x.origin y.origin ≡ Less → ChangeBelow x y
 by_origin_change x y e = ap (λ o. ordering_then (ordering_then (ordering_then o (nat_cmp x.number y.number)) (side_cmp x.side y.side)) (record_order x.changed y.changed)) e
 
 same_origin : (o : Labels) (r s : Record) → record_order r s ≡ Less → RecordBelow (tag o r) (tag o s)
@@ -141,7 +141,7 @@ records_above : (o : Labels) (r : Record) (rs : List Record) → AllByRecursion 
 records_above o r [] all = tt
 records_above o r (s ∷ rs) all = (same_origin o r s all.0, records_above o r rs all.1)
 
-records_up : (o : Labels) (rs : List Record) → InOrder rs → IsAscending RecordBelow (map (tag o) rs)
+pub records_up : (o : Labels) (rs : List Record) → InOrder rs → IsAscending RecordBelow (map (tag o) rs)
 unfolding IsStrictlySortedBy
 records_up o [] h = tt
 records_up o (r ∷ rs) h = (records_above o r rs h.0, records_up o rs h.1)
@@ -167,14 +167,14 @@ module _ {X : Type 0} (origin : X → Labels) (o : Labels) where
   run_none [] none = refl
   run_none (x ∷ rest) none = let other = name_other (origin x) o none.0 in rw other refl
 
-  run_is : (own rest : List X) → AllByRecursion (λ x. origin x ≡ o) own → AllByRecursion (λ x. origin x ≢ o) rest → run (own ++ rest) ≡ length own
+  pub run_is : (own rest : List X) → AllByRecursion (λ x. origin x ≡ o) own → AllByRecursion (λ x. origin x ≢ o) rest → run (own ++ rest) ≡ length own
   run_is [] rest all none = run_none rest none
   run_is (x ∷ own) rest all none =
       let here : same_name (origin x) o ≡ true = ap (λ n. same_name n o) all.0 ∙ name_self o in
       let later = run_is own rest all.1 none in
       rw (here, later) (let e : 1 + length own ≡ suc (length own) = omega arith in e)
 
-  run_of : (xs : List X) → AllByRecursion (λ x. origin x ≡ o) (take (run xs) xs)
+  pub run_of : (xs : List X) → AllByRecursion (λ x. origin x ≡ o) (take (run xs) xs)
   run_of [] = tt
   run_of (x ∷ xs) =
       by_cases (same_name (origin x) o) (AllByRecursion (λ x. origin x ≡ o) (take (run (x ∷ xs)) (x ∷ xs)))
@@ -186,7 +186,7 @@ module _ {X : Type 0} (origin : X → Labels) (o : Labels) where
 -- ---- zones that are a state's pass
 
 -- none of what is of later zones is of this one
-later_apart : {X : Type 0} (origin : X → Labels) (f : ZoneRows → List X) → ((z : ZoneRows) → AllByRecursion (λ x. origin x ≡ z.origin) (f z)) → (o : Labels) (zs : List ZoneRows)
+pub later_apart : {X : Type 0} (origin : X → Labels) (f : ZoneRows → List X) → ((z : ZoneRows) → AllByRecursion (λ x. origin x ≡ z.origin) (f z)) → (o : Labels) (zs : List ZoneRows)
     → AllByRecursion (λ z. canonical_cmp o z.origin ≡ Less) zs → AllByRecursion (λ x. origin x ≢ o) (flat_map f zs)
 later_apart origin f own o zs before =
     all-flat_map (λ x. origin x ≢ o) f zs
@@ -195,7 +195,7 @@ later_apart origin f own o zs before =
     not_itself : (o p : Labels) → canonical_cmp o p ≡ Less → o ≡ p → ⊥
     not_itself o p less same = let tie : canonical_cmp o p ≡ Equal = ap (λ q. canonical_cmp q p) same ∙ tied_itself canonical_total p in let bad : Less ≡ Equal = sym less ∙ tie in cc
 
-untagged : (o : Labels) (rs : List Record) → map (λ r. r.rr) (map (tag o) rs) ≡ rs
+pub untagged : (o : Labels) (rs : List Record) → map (λ r. r.rr) (map (tag o) rs) ≡ rs
 untagged o [] = refl
 untagged o (r ∷ rs) = ap (λ l. r ∷ l) (untagged o rs)
 
@@ -216,13 +216,13 @@ in_turn (z ∷ zs) each up =
           (subst (AreZonesInTurn (map (λ x. x.origin) zs) (tagged zs)) (sym (drop_at changes (all_entries zs) (changes_first o (all_entries (z ∷ zs))) m)) (in_turn zs each.1 up.1)),
     )
 
-abbrev IsTied : Labels → Labels → Type 0
+abbrev pub IsTied : Labels → Labels → Type 0
 IsTied o p = canonical_cmp o p ≡ Equal
 
-not_tied : (o p : Labels) → o ≢ p → IsTied o p → ⊥
+pub not_tied : (o p : Labels) → o ≢ p → IsTied o p → ⊥
 not_tied o p apart tie = apart (name_is o p (ap is_eq tie))
 
-record_one : (a b : ZoneRecord) → IsZoneRecord a → IsZoneRecord b → row_of_record a ≡ row_of_record b → a ≡ b
+pub record_one : (a b : ZoneRecord) → IsZoneRecord a → IsZoneRecord b → row_of_record a ≡ row_of_record b → a ≡ b
 record_one a b is also e =
     let both = record_rows_are_apart a.origin b.origin a.rr b.rr is.origin also.origin is.rr also.rr e in
     ap₂ tag both.0 both.1
@@ -307,7 +307,7 @@ module _ (texts : List (List ℕ)) (records : List RecordRowOf) (changes : List 
 -- ---- what passes is a state's
 
 -- all of one zone are tagged with its origin
-tags_are : (o : Labels) (rs : List ZoneRecord) → AllByRecursion (λ r. r.origin ≡ o) rs → map row_of_record rs ≡ map (record_row o) (map (λ r. r.rr) rs)
+pub tags_are : (o : Labels) (rs : List ZoneRecord) → AllByRecursion (λ r. r.origin ≡ o) rs → map row_of_record rs ≡ map (record_row o) (map (λ r. r.rr) rs)
 tags_are o [] all = refl
 tags_are o (r ∷ rs) all = ap₂ (λ (x : RecordRowOf) l. x ∷ l) (ap (λ p. record_row p r.rr) all.0) (tags_are o rs all.1)
 
@@ -337,12 +337,12 @@ record Taken (os : List Labels) (rs : List ZoneRecord) (cs : List ChangedRecord)
   records : flat_map zone_records zones ≡ map row_of_record rs
   changes : IsPermutation (flat_map zone_changes zones) (map row_of cs)
 
-front_all : {X : Type 0} (P : X → Type 0) (n : ℕ) (xs : List X) → AllByRecursion P xs → AllByRecursion P (take n xs)
+pub front_all : {X : Type 0} (P : X → Type 0) (n : ℕ) (xs : List X) → AllByRecursion P xs → AllByRecursion P (take n xs)
 front_all P zero xs all = tt
 front_all P (suc n) [] all = tt
 front_all P (suc n) (x ∷ xs) all = (all.0, front_all P n xs all.1)
 
-back_all : {X : Type 0} (P : X → Type 0) (n : ℕ) (xs : List X) → AllByRecursion P xs → AllByRecursion P (drop n xs)
+pub back_all : {X : Type 0} (P : X → Type 0) (n : ℕ) (xs : List X) → AllByRecursion P xs → AllByRecursion P (drop n xs)
 back_all P zero xs all = all
 back_all P (suc n) [] all = tt
 back_all P (suc n) (x ∷ xs) all = back_all P n xs all.1

@@ -3,10 +3,10 @@
 #![tactic(auto)]
 
 mod laws;
-mod ordered;
-mod state;
-mod views;
-mod zones;
+pub mod ordered;
+pub mod state;
+pub mod views;
+pub mod zones;
 
 pub use laws::{last_numbers_count, order_does_not_count, states_are_sound, zones_are_listed};
 pub use state::is_state;

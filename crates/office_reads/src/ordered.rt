@@ -19,9 +19,11 @@ use std::cmp::Ordering;
 
 /// A record of the zone of an origin, as a row has it.
 #[derive(Drop)]
-pub(crate) struct ZoneRecord {
-    pub(crate) origin: Name,
-    pub(crate) rr: Record,
+pub struct ZoneRecord {
+    /// The origin of the zone.
+    pub origin: Name,
+    /// The record.
+    pub rr: Record,
 }
 
 /// A receipt, with the caller and the identifier under which it is kept, as a row has it.
@@ -45,7 +47,7 @@ fn all_origins(alloc: Global, rows: &[ZoneRow]) -> Result<Vec<Name>, RowFault>
 }
 
 /// The origins of rows of `zones`, in canonical order (RFC 4034 section 6.1).
-pub(crate) fn origins(alloc: Global, rows: &[ZoneRow]) -> Result<Vec<Name>, RowFault>
+pub fn origins(alloc: Global, rows: &[ZoneRow]) -> Result<Vec<Name>, RowFault>
     ensures found { IfOk result (λ os. IsPermutation (map name_text os.items) rows.now × AllByRecursion IsName os.items × IsSorted canonical_cmp os.items) }
     ensures only { AllByRecursion IsOriginText rows.now → IfErr result (λ e. e ≡ RowFault.NoMemory) }
 {
@@ -78,7 +80,7 @@ fn zone_record_order(first: &ZoneRecord, second: &ZoneRecord) -> Ordering
 }
 
 /// The records of rows of `records`, by origin, and then in record order.
-pub(crate) fn records(alloc: Global, rows: &[RecordRow]) -> Result<Vec<ZoneRecord>, RowFault>
+pub fn records(alloc: Global, rows: &[RecordRow]) -> Result<Vec<ZoneRecord>, RowFault>
     ensures found { IfOk result (λ rs. IsPermutation (map row_of_record rs.items) rows.now × AllByRecursion IsZoneRecord rs.items × IsSorted zone_record_order rs.items) }
     ensures only { AllByRecursion IsZoneRecordRow rows.now → IfErr result (λ e. e ≡ RowFault.NoMemory) }
 {

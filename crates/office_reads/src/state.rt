@@ -38,7 +38,7 @@ fn check(alloc: Global, version: i64, rows: &AllRows) -> Result<(), RowFault>
 }
 
 /// Whether there is one version, which is this.
-fn is_alone(version: i64, versions: &[i64]) -> bool
+pub fn is_alone(version: i64, versions: &[i64]) -> bool
     ensures { (result ≡ true) ↔ (versions.now ≡ version ∷ []) }
 {
     match versions {
@@ -48,7 +48,7 @@ fn is_alone(version: i64, versions: &[i64]) -> bool
 }
 
 /// Checks the rows of `receipts`. They are `BadRow` where one is that of no receipt, or two of one caller have one identifier.
-fn check_receipts(alloc: Global, rows: &[ReceiptRow]) -> Result<(), RowFault>
+pub fn check_receipts(alloc: Global, rows: &[ReceiptRow]) -> Result<(), RowFault>
     ensures { Checks (AreReceiptRows rows.now) result }
 {
     let receipts = ordered::receipts(alloc, rows)?;

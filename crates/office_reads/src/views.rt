@@ -63,7 +63,7 @@ fn of_zone(fault: ZoneFault) -> RowFault
 }
 
 /// The zone of an origin that is built of records. Records that make no zone are `BadRow`.
-pub(crate) fn built(alloc: Global, origin: &Name, records: Vec<Record>) -> Result<Zone, RowFault>
+pub fn built(alloc: Global, origin: &Name, records: Vec<Record>) -> Result<Zone, RowFault>
     ensures origin { IfOk result (λ zone. zone.origin ≡ origin.now) }
     ensures exact { Reads (λ zone. zone) result (of_zones (built origin.now records.items)) }
 {
@@ -119,7 +119,7 @@ fn are_behind(first: &Record, others: &[Record]) -> bool
 }
 
 /// Whether each record stands before the next one in record order, so that no two are the same.
-fn are_in_order(records: &[Record]) -> bool
+pub fn are_in_order(records: &[Record]) -> bool
     ensures { result ≡ rises record_order records.now }
 {
     match records {

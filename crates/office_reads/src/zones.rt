@@ -51,7 +51,7 @@ fn are_behind(first: &Name, others: &[Name]) -> bool
 }
 
 /// Whether each name stands before the next one in canonical order, so that none comes twice.
-fn are_apart(names: &[Name]) -> bool
+pub fn are_apart(names: &[Name]) -> bool
     ensures { result ≡ rises canonical_cmp names.now }
 {
     match names {
@@ -91,7 +91,7 @@ fn other_record(origin: &Name, records: &[ZoneRecord]) -> Option<usize>
 }
 
 /// How many records stand first that are of the zone of an origin.
-fn records_first(origin: &Name, records: &[ZoneRecord]) -> usize
+pub fn records_first(origin: &Name, records: &[ZoneRecord]) -> usize
     ensures value { result ≡ records_first origin.now records.now }
     ensures within { result ≤ length records.now }
 {
@@ -106,7 +106,7 @@ fn other_change(origin: &Name, changes: &[ChangedRecord]) -> Option<usize>
 }
 
 /// How many of what changes have stand first that are of the zone of an origin.
-fn changes_first(origin: &Name, changes: &[ChangedRecord]) -> usize
+pub fn changes_first(origin: &Name, changes: &[ChangedRecord]) -> usize
     ensures value { result ≡ changes_first origin.now changes.now }
     ensures within { result ≤ length changes.now }
 {
@@ -139,7 +139,7 @@ fn is_zone(alloc: Global, origin: &Name, records: &[ZoneRecord]) -> Result<bool,
 }
 
 /// Copies of records. The only error is want of memory.
-fn copied(alloc: Global, records: &[ZoneRecord]) -> Result<Vec<Record>, AllocError>
+pub fn copied(alloc: Global, records: &[ZoneRecord]) -> Result<Vec<Record>, AllocError>
     ensures { IfOk result (λ copies. copies.items ≡ map (λ r. r.rr) records.now) }
 {
     let mut copies = Vec::with_capacity(alloc, records.len())?;
@@ -157,7 +157,7 @@ fn is_that(first: &Record, second: &Record) -> bool
 }
 
 /// Whether records are these, in the same order, TTLs counted.
-fn are_those(first: &[Record], second: &[ZoneRecord]) -> bool
+pub fn are_those(first: &[Record], second: &[ZoneRecord]) -> bool
     ensures { (result ≡ true) ↔ (first.now ≡ map (λ r. r.rr) second.now) }
 {
     if first.len() != second.len() {

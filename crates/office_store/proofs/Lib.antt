@@ -5,3 +5,4 @@ pub mod TurnLemmas
 pub mod VersionLemmas
 pub mod ZoneLemmas
 pub mod AdditionLemmas
+pub mod MigratingLemmas

@@ -1,5 +1,5 @@
 -- The state that a connection holds, and those that a crash leaves of it.
-use Rattle.std.specs.Prelude.{◌≡◌, ◌⊎◌, [], ◌∷◌, pos, map, IsTrue}
+use Rattle.std.specs.Prelude.{◌≡◌, ◌⊎◌, ℤ, [], ◌∷◌, pos, map, IsTrue}
 use Rattle.sqlite_trees.specs.Tree.{Trees}
 use Rattle.sqlite.specs.State.{State as Shown}
 use Rattle.office_core.specs.States.{State}
@@ -25,9 +25,13 @@ LeavesStates conn s t = Leaves conn (λ db. IsStateIn db s ⊎ IsStateIn db t)
 
 -- ---- before there is a state
 
--- the tables are there, and say by one row that they are of version 2
+-- the tables are there, and say by one row that they are of a version
+abbrev pub IsOfVersion : ℤ → Shown → Type 0
+IsOfVersion version conn = (conn.now.schema ≡ office_schema) × Stores (conn.now.trees 0) (map stored_version (version ∷ []))
+
+-- of version 2
 abbrev pub HasVersion : Shown → Type 0
-HasVersion conn = (conn.now.schema ≡ office_schema) × Stores (conn.now.trees 0) (map stored_version (pos 2 ∷ []))
+HasVersion = IsOfVersion (pos 2)
 
 -- While it is open, the connection shows no table, nor was one committed.
 abbrev pub HasNone : Shown → Type 0

@@ -4,3 +4,4 @@ pub mod Asks
 pub mod Turns
 pub mod Additions
 pub mod Zones
+pub mod Migrating

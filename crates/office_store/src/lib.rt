@@ -4,6 +4,7 @@
 
 mod asking;
 mod fault;
+mod migrating;
 mod opening;
 mod table;
 mod views;

@@ -1,21 +1,22 @@
 //! The making of the tables, and the test whether those that are there hold a state.
 
-ghost use Rattle.std.specs.Prelude.{◌≡◌, ◌≢◌, ◌⊎◌, ◌↔◌, [], ◌∷◌, pos, true, false, Err, IfErr, OnOk, OnErr};
+ghost use Rattle.std.specs.Prelude.{◌≡◌, ◌≢◌, ◌⊎◌, ◌↔◌, [], ◌∷◌, true, false, Err, IfErr, OnOk, OnErr};
+ghost use Rattle.std.specs.List.Sorted.{IsPermutation};
 ghost use Rattle.sqlite.specs.Held.{state};
 ghost use Rattle.sqlite.specs.State.{HasCleanDisk};
 ghost use Rattle.office_core.specs.States.{State};
 ghost use Rattle.office_tables.specs.Holds.{Holds, Leaves};
 ghost use Rattle.office_tables.specs.Rows.{RowsOf};
 ghost use Rattle.office_tables.specs.Tables.{no_schema, office_schema};
-ghost use Rattle.office_rows.specs.Contents.{AreOfState};
 ghost use Rattle.office_writes.specs.Writings.{nothing_held};
 ghost use Rattle.office_store.specs.declared.fault.StoreFault.TheVariants.{BadRow, WrongVersion};
 ghost use Rattle.office_store.specs.Faults.{IsFailure, IsOfRows, of_found};
-ghost use Rattle.office_store.specs.Holds.{HoldsState, HasNone, HasVersion, IsStateIn, LeavesStates};
+ghost use Rattle.office_store.specs.Holds.{HoldsState, HasNone, HasVersion, IsOfVersion, IsStateIn, LeavesStates};
 ghost use Rattle.office_store.specs.Asks.{Asked, Only};
 
 use crate::fault::StoreFault;
 use office_reads::is_state;
+use office_reads::state::is_alone;
 use office_tables::{RowsFault, all_rows, has_no_tables, has_tables, make_tables, versions};
 use sqlite::{Alter, Connection};
 use std::alloc::Global;
@@ -54,7 +55,7 @@ pub(crate) fn make<S: Alter>(conn: &mut Connection<S>) -> Result<(), StoreFault>
 }
 
 /// What a fault says of rows that somebody else may have written.
-fn found(fault: RowsFault) -> StoreFault
+pub(crate) fn found(fault: RowsFault) -> StoreFault
     ensures { result ≡ of_found fault }
 {
     match fault {
@@ -83,23 +84,17 @@ fn check_tables<S: Alter>(conn: &mut Connection<S>) -> Result<(), StoreFault>
     Err(StoreFault::WrongVersion)
 }
 
-/// Whether the rows of `meta` are the one of this version.
-fn is_version(versions: &[i64]) -> bool
-    ensures { (result ≡ true) ↔ (versions.now ≡ pos 2 ∷ []) }
-{
-    let [version] = versions else {
-        return false;
-    };
-    *version == VERSION
-}
-
-/// Tells whether the connection shows the tables of this version.
-fn check_version<S: Alter>(alloc: Global, conn: &mut Connection<S>) -> Result<(), StoreFault>
+/// Tells whether the connection shows the tables of a version.
+pub(crate) fn check_version<S: Alter>(
+    alloc: Global,
+    conn: &mut Connection<S>,
+    version: i64,
+) -> Result<(), StoreFault>
     requires { conn.old.in_transaction ≡ false }
-    ensures version { HasCleanDisk (state S.Store conn.new) → OnOk result (HasVersion (state S.Store conn.old)) }
-    ensures wrong { HasCleanDisk (state S.Store conn.new) → result ≡ Err WrongVersion → ¬ HasVersion (state S.Store conn.old) }
+    ensures version { HasCleanDisk (state S.Store conn.new) → OnOk result (IsOfVersion version (state S.Store conn.old)) }
+    ensures wrong { HasCleanDisk (state S.Store conn.new) → result ≡ Err WrongVersion → ¬ IsOfVersion version (state S.Store conn.old) }
     ensures tables { OnOk result ((state S.Store conn.old).now.schema ≡ office_schema) }
-    ensures good { HasCleanDisk (state S.Store conn.new) → IfErr result (λ e. (rows : RowsOf) (s : State) → AreOfState (pos 2) rows s → Holds (state S.Store conn.old) rows → IsFailure e) }
+    ensures good { HasCleanDisk (state S.Store conn.new) → IfErr result (λ e. (rows : RowsOf) → IsPermutation (version ∷ []) rows.versions → Holds (state S.Store conn.old) rows → IsFailure e) }
     ensures named { IfErr result (λ e. (e ≡ WrongVersion) ⊎ IsFailure e) }
     ensures asked { Asked (state S.Store conn.old) (state S.Store conn.new) }
     ensures only { HasCleanDisk (state S.Store conn.new) → OnOk result (Only (state S.Store conn.old) (state S.Store conn.new)) }
@@ -107,7 +102,7 @@ fn check_version<S: Alter>(alloc: Global, conn: &mut Connection<S>) -> Result<()
 {
     check_tables(conn)?;
     let versions = versions(alloc, conn)?;
-    if !is_version(&versions) {
+    if !is_alone(version, &versions) {
         return Err(StoreFault::WrongVersion);
     }
     Ok(())
@@ -151,6 +146,6 @@ pub(crate) fn check_state<S: Alter>(
     ensures only { HasCleanDisk (state S.Store conn.new) → OnOk result (Only (state S.Store conn.old) (state S.Store conn.new)) }
     ensures ended { conn.new.in_transaction ≡ false }
 {
-    check_version(alloc, conn)?;
+    check_version(alloc, conn, VERSION)?;
     check_rows(alloc, conn)
 }

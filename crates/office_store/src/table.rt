@@ -1,21 +1,25 @@
 //! The table in SQLite.
 
-ghost use Rattle.std.specs.Prelude.{◌≡◌, ◌≢◌, ◌↔◌, ◌⊎◌, ◌<◌, false, IfOk, IfErr, IsErrAnd, OnOk, OnErr};
+ghost use Rattle.std.specs.Prelude.{pos, ◌≡◌, ◌≢◌, ◌↔◌, ◌⊎◌, ◌<◌, false, IfOk, IfErr, IsErrAnd, OnOk, OnErr};
 ghost use Rattle.sqlite.specs.Held.{state};
 ghost use Rattle.sqlite.specs.State.{HasCleanDisk};
 ghost use Rattle.office_core.specs.States.{State};
 ghost use Rattle.office_core.specs.Tables.{CountsFault};
-ghost use Rattle.office_tables.specs.Holds.{Leaves};
+ghost use Rattle.office_tables.specs.Rows.{RowsOf};
+ghost use Rattle.office_tables.specs.Holds.{AreRows, Holds, Leaves};
 ghost use Rattle.office_tables.specs.Tables.{no_schema, office_schema};
+ghost use Rattle.office_rows.specs.Contents.{ContentOf};
 ghost use Rattle.office_writes.specs.Writings.{nothing_held};
 ghost use Rattle.office_store.specs.declared.fault.StoreFault.TheVariants.{BadRow, WrongVersion};
 ghost use Rattle.office_store.specs.Faults.{CountsFailure, CountsCall, Gives, IsFailure, IsOfRows};
-ghost use Rattle.office_store.specs.Holds.{HoldsState, HasNone, HasVersion, IsStateIn, LeavesStates};
+ghost use Rattle.office_store.specs.Holds.{HoldsState, HasNone, HasVersion, IsOfVersion, IsStateIn, LeavesStates};
+ghost use Rattle.office_store.specs.Migrating.{HoldsOld, IsMigratedIn, IsMigrated};
 ghost use Rattle.office_store.specs.Asks.{Asked, Only};
 ghost use Rattle.office_store.specs.Turns.{Turns};
 ghost use Rattle.office_store.specs.Zones.{exported, imported, replaced, with_imported, with_replaced};
 
 use crate::fault::StoreFault;
+use crate::migrating::migrate;
 use crate::opening::{Refused, check_state, make};
 use crate::views::{changes_at, part_at, receipt_at, subtree_at, zone_at};
 use crate::writing::commit;
@@ -148,6 +152,33 @@ impl<S: Alter + Drop, L: Ledger> SqlTable<S, L> {
             Ok(()) => Ok(SqlTable::over(conn, blank)),
             Err(fault) => Err(Refused { fault, conn, blank }),
         }
+    }
+
+    /// Takes the tables of a database from version 1 to version 2, in one transaction, and tells how many zones that changes. No
+    /// transaction is open. In version 1 the records of one owner and type could have different TTLs: each set has its least TTL
+    /// then (RFC 2181 section 5.2), and a zone in which that changes something its serial one further (RFC 1982 section 3.1), and
+    /// one change more.
+    ///
+    /// `WrongVersion` comes where the tables are missing or others, or `meta` has not the one row of version 1; else `BadRow`
+    /// where the rows are not those of a state, but for the TTLs of one set; `Store` where the store fails, and `NoMemory` where
+    /// memory runs out.
+    pub fn migrate(alloc: Global, conn: &mut Connection<S>) -> Result<usize, StoreFault>
+        requires alone { conn.old.in_transaction ≡ false }
+        // The content that was held is held migrated, and a crash leaves that.
+        ensures made { HasCleanDisk (state S.Store conn.new) → IfOk result (IsMigrated (state S.Store conn.old) (state S.Store conn.new)) }
+        // Behind a refusal all is as it was, and a crash leaves that or the content migrated.
+        ensures failed { OnErr result ((rows : RowsOf) → Holds (state S.Store conn.old) rows → Holds (state S.Store conn.new) rows) }
+        ensures crash { OnErr result ((rows : RowsOf) → Holds (state S.Store conn.old) rows → Leaves (state S.Store conn.old) (λ db. AreRows db rows) → Leaves (state S.Store conn.new) (λ db. AreRows db rows ⊎ IsMigratedIn db rows)) }
+        // Over rows of version 1 only the store fails or memory runs out; so `BadRow` says that they are none.
+        ensures good { HasCleanDisk (state S.Store conn.new) → IfErr result (λ e. (content : ContentOf) → HoldsOld (state S.Store conn.old) content → IsFailure e) }
+        ensures wrong { HasCleanDisk (state S.Store conn.new) → result ≡ Err WrongVersion → ¬ IsOfVersion (pos 1) (state S.Store conn.old) }
+        // `BadRow` comes only over tables of version 1.
+        ensures bad { HasCleanDisk (state S.Store conn.new) → result ≡ Err BadRow → IsOfVersion (pos 1) (state S.Store conn.old) }
+        ensures named { IfErr result (λ e. (e ≡ WrongVersion) ⊎ IsOfRows e) }
+        ensures honest { HasCleanDisk (state S.Store conn.new) → HasCleanDisk (state S.Store conn.old) }
+        ensures ended { conn.new.in_transaction ≡ false }
+    {
+        migrate(alloc, conn)
     }
 
     /// The connection, without the count of failures.

@@ -13,7 +13,7 @@ returns-in_err-check_version-clause-good g c =
     λ clean.
     let p = err_from_is_err_and c.from_residual.result c.from_residual.ensures.1 in
     let is : c.from_residual.result ≡ Err c.in_err-check_version.field-0.0 = cc (p.1, p.2) in
-    if_err_at (λ e. (s : State) → HoldsState (state g.S.Store c.args.conn.now) s → IsFailure e) _ c.from_residual.result is (λ s h. c.in_err-check_version.ensures.good clean h.rows s h.are h.held)
+    if_err_at (λ e. (s : State) → HoldsState (state g.S.Store c.args.conn.now) s → IsFailure e) _ c.from_residual.result is (λ s h. c.in_err-check_version.ensures.good clean h.rows h.are.same.versions h.held)
 
 pub returns-clause-good : goal.returns-clause-good
 returns-clause-good g c = λ clean. IfErr-weaker c.check_rows.result _ _ (λ e good s h. good s (c.check_version.ensures.asked.same s h)) (c.check_rows.ensures.good clean)

@@ -1,28 +1,33 @@
-use Rattle.std.proofs.Common.{◌≡◌, true, false, pos, [], ◌∷◌, map, sym, subst, ◌∙◌}
+use Rattle.std.proofs.Common.{◌≡◌, true, false, ℤ, [], ◌∷◌, map, sym, ap, subst, ◌∙◌, w64}
+use Rattle.std.proofs.lemmas.Int.{to_z-of_z}
 use Rattle.std.proofs.lemmas.List.Sorted.{IsPermutation-refl}
 use Rattle.sqlite.specs.Effect.{Database}
 use Rattle.sqlite.specs.Held.{state}
 use Rattle.office_tables.specs.Tables.{stored_version}
 use Rattle.office_tables.specs.Stores.{Stores}
-use Rattle.office_store.specs.Holds.{HasVersion}
+use Rattle.office_store.specs.Holds.{IsOfVersion}
 use Rattle.office_store.proofs.VersionLemmas.{one_version}
 use Rattle.office_store.proofs.opening.check_version.Goals as goal
 
-pub returns-then-not-is_version-clause-wrong : goal.returns-then-not-is_version-clause-wrong
-returns-then-not-is_version-clause-wrong g c = λ clean is has.
+pub returns-then-not-is_alone-clause-wrong : goal.returns-then-not-is_alone-clause-wrong
+returns-then-not-is_alone-clause-wrong g c = λ clean is has.
+    let version = c.args.version in
     let mid = state g.S.Store c.check_tables.new.conn in
-    let has_one = subst (λ h. HasVersion (state g.S.Store h)) (sym c.in_ok-check_tables.ensures.same) has in
+    let has_one = subst (λ h. IsOfVersion version (state g.S.Store h)) (sym c.in_ok-check_tables.ensures.same) has in
     let kept = subst (λ (d : Database). Stores (d.trees 0) (map stored_version c.in_ok-versions.versions.items)) (c.in_ok-versions.ensures.same clean).now_is (c.in_ok-versions.ensures.found clean).1 in
-    let only = one_version (mid.now.trees 0) (pos 2) (pos 2 ∷ []) c.in_ok-versions.versions.items (IsPermutation-refl (pos 2 ∷ [])) has_one.1 kept in
-    let both : true ≡ false = sym (c.is_version.ensures.1 (c.deref.ensures.value ∙ only)) ∙ c.if-not-is_version.true in
+    let only = one_version (mid.now.trees 0) version (version ∷ []) c.in_ok-versions.versions.items (IsPermutation-refl (version ∷ [])) has_one.1 kept in
+    let passed = ap (λ (v : ℤ). v ∷ []) (sym (to_z-of_z w64 version c.ranges.version)) in
+    let both : true ≡ false = sym (c.is_alone.ensures.1 (c.deref.ensures.value ∙ only ∙ passed)) ∙ c.if-not-is_alone.true in
     cc
 
-pub returns-then-not-is_version-clause-good : goal.returns-then-not-is_version-clause-good
-returns-then-not-is_version-clause-good g c = λ clean rows s are held.
+pub returns-then-not-is_alone-clause-good : goal.returns-then-not-is_alone-clause-good
+returns-then-not-is_alone-clause-good g c = λ clean rows one held.
+    let version = c.args.version in
     let mid = state g.S.Store c.check_tables.new.conn in
     let shows = c.in_ok-versions.ensures.same clean in
     let reads = (c.check_tables.ensures.asked.rows rows held shows.was_open).0 in
     let kept = subst (λ (d : Database). Stores (d.trees 0) (map stored_version c.in_ok-versions.versions.items)) shows.now_is (c.in_ok-versions.ensures.found clean).1 in
-    let only = one_version (mid.now.trees 0) (pos 2) rows.versions c.in_ok-versions.versions.items are.same.versions reads.tables.versions kept in
-    let both : true ≡ false = sym (c.is_version.ensures.1 (c.deref.ensures.value ∙ only)) ∙ c.if-not-is_version.true in
+    let only = one_version (mid.now.trees 0) version rows.versions c.in_ok-versions.versions.items one reads.tables.versions kept in
+    let passed = ap (λ (v : ℤ). v ∷ []) (sym (to_z-of_z w64 version c.ranges.version)) in
+    let both : true ≡ false = sym (c.is_alone.ensures.1 (c.deref.ensures.value ∙ only ∙ passed)) ∙ c.if-not-is_alone.true in
     cc

@@ -1,0 +1,6 @@
+pub mod ListLemmas
+pub mod ZoneLemmas
+pub mod ContentLemmas
+pub mod NumberLemmas
+pub mod WalkLemmas
+pub mod TurnLemmas

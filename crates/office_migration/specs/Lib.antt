@@ -1,0 +1,3 @@
+pub mod OldZones
+pub mod Migrations
+pub mod Steps
