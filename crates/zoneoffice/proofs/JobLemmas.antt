@@ -19,7 +19,7 @@ use Rattle.zoneoffice.proofs.StepLemmas.{refused_before, given_before}
 -- ---- printing
 
 -- a front of a text went out behind another text
-front_behind : (a b c : Option (List ℕ)) (first second : List ℕ) → Appends a b first → AppendsFront b c second → AppendsFront a c (first ++ second)
+pub front_behind : (a b c : Option (List ℕ)) (first second : List ℕ) → Appends a b first → AppendsFront b c second → AppendsFront a c (first ++ second)
 front_behind a b c first second whole front =
     let short : length first + front.0 ≤ length (first ++ second) = omega (arith, front.1, length-append first second) in
     (length first + front.0, short, subst (Appends a c) (sym (take-append-add first second front.0)) (Appends-trans a b c first (take front.0 second) whole front.2))

@@ -4,5 +4,6 @@ pub mod ItemLemmas
 pub mod JobLemmas
 pub mod LineLemmas
 pub mod PartLemmas
+pub mod SendLemmas
 pub mod StepLemmas
 pub mod NumberWordLemmas

@@ -48,6 +48,9 @@ import_app =
 abbrev pub export_app : App
 export_app = with_rule (with_rule (new_app (codes "export")) (needed_rule (codes "store"))) (needed_rule (codes "origin"))
 
+abbrev pub migrate_app : App
+migrate_app = with_rule (new_app (codes "migrate")) (needed_rule (codes "store"))
+
 abbrev pub rights_app : App
 rights_app =
     with_rule (with_rule (with_rule (with_rule (with_rule (new_app (codes "rights"))
@@ -65,8 +68,9 @@ without_name s = record s { no_binary_name = true }
 
 unfoldable pub office : App
 office =
-    with_subcommand (with_subcommand (with_subcommand (with_subcommand (with_subcommand (with_subcommand (on_top without_name (new_app (codes "zoneoffice")))
-    apply_app.top) canon_app.top) import_app.top) export_app.top) rights_app.top) serve_app.top
+    with_subcommand (with_subcommand (with_subcommand (with_subcommand (with_subcommand (with_subcommand (with_subcommand
+    (on_top without_name (new_app (codes "zoneoffice")))
+    apply_app.top) canon_app.top) import_app.top) export_app.top) migrate_app.top) rights_app.top) serve_app.top
 
 -- ---- the jobs
 
@@ -81,6 +85,7 @@ pub data JobOf : Type 0 where
   canon : (origin : Text) → JobOf
   imports : StoredOf → Existing → JobOf
   export : StoredOf → JobOf
+  migrate : (store : Text) → JobOf
   rights : (policy caller name record_type action : Text) → JobOf
   serve : (store policy listen : Text) → Option ℕ → JobOf
 
@@ -92,6 +97,7 @@ asks job.Apply = apply
 asks (job.Canon origin) = canon origin.now
 asks (job.Import zone existing) = imports (zone_asked zone) existing
 asks (job.Export zone) = export (zone_asked zone)
+asks (job.Migrate store) = migrate store.now
 asks (job.Rights policy asked) = rights policy.now asked.caller.now asked.name.now asked.record_type.now asked.action.now
 asks (job.Serve service) = serve service.store.now service.policy.now service.listen.now service.connections
 
@@ -128,6 +134,9 @@ import_of rows = option_map (λ z. imports z (existing_of (first_of (codes "repl
 abbrev pub export_of : List Row → Option JobOf
 export_of rows = option_map (λ z. export z) (stored_of rows)
 
+abbrev pub migrate_of : List Row → Option JobOf
+migrate_of rows = option_map (λ s. migrate s) (first_of (codes "store") rows)
+
 abbrev pub rights_of : List Row → Option JobOf
 rights_of rows =
     option_and_then (λ p. option_and_then (λ c. option_and_then (λ n.
@@ -146,8 +155,9 @@ job_named name rows =
     else (if bytes_eq name (codes "canon") then canon_of rows
     else (if bytes_eq name (codes "import") then import_of rows
     else (if bytes_eq name (codes "export") then export_of rows
+    else (if bytes_eq name (codes "migrate") then migrate_of rows
     else (if bytes_eq name (codes "rights") then rights_of rows
-    else (if bytes_eq name (codes "serve") then serve_of rows else None)))))
+    else (if bytes_eq name (codes "serve") then serve_of rows else None))))))
 
 -- no command is `apply`
 abbrev pub job_met : Option (Text × List Row) → Option JobOf

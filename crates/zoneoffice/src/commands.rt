@@ -3,7 +3,7 @@
 ghost use Rattle.std.specs.Prelude.{◌≡◌, IfOk, false};
 ghost use Rattle.clap.specs.Words.{app_of, new_app, rule_of};
 ghost use Rattle.clap.specs.declared.builder.command.Command.TheViews.{out-Command};
-ghost use Rattle.zoneoffice.specs.Words.{needed_rule, number_rule, flag_rule, place_rule, canon_app, import_app, export_app, rights_app, serve_app, office};
+ghost use Rattle.zoneoffice.specs.Words.{needed_rule, number_rule, flag_rule, place_rule, canon_app, import_app, export_app, migrate_app, rights_app, serve_app, office};
 
 use clap::{Arg, ArgAction, Command};
 use std::alloc::{AllocError, Global};
@@ -94,6 +94,15 @@ fn export_command<'a>(alloc: Global) -> Result<Command<'a>, AllocError>
         .arg(needed(alloc, "origin", "The zone's origin, an absolute name"))
 }
 
+/// The command `migrate`.
+fn migrate_command<'a>(alloc: Global) -> Result<Command<'a>, AllocError>
+    ensures shape { IfOk result (λ c. app_of c ≡ migrate_app) }
+    ensures local { IfOk result (λ c. (out-Command c).has_globals ≡ false) }
+{
+    let migrate = command(alloc, "migrate", "Takes a store of version 1 to version 2");
+    migrate.arg(needed(alloc, "store", "The path of the store"))
+}
+
 /// The command `rights`.
 fn rights_command<'a>(alloc: Global) -> Result<Command<'a>, AllocError>
     ensures shape { IfOk result (λ c. app_of c ≡ rights_app) }
@@ -133,6 +142,7 @@ pub fn office_command<'a>(alloc: Global) -> Result<Command<'a>, AllocError>
     let canon = canon_command(alloc)?;
     let import = import_command(alloc)?;
     let export = export_command(alloc)?;
+    let migrate = migrate_command(alloc)?;
     let rights = rights_command(alloc)?;
     let serve = serve_command(alloc)?;
     Command::new(alloc, "zoneoffice")
@@ -141,6 +151,7 @@ pub fn office_command<'a>(alloc: Global) -> Result<Command<'a>, AllocError>
         .subcommand(canon)?
         .subcommand(import)?
         .subcommand(export)?
+        .subcommand(migrate)?
         .subcommand(rights)?
         .subcommand(serve)
 }

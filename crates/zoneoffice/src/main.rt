@@ -11,6 +11,7 @@ mod device;
 mod import;
 mod laws;
 mod line_fault;
+mod migrate;
 mod parts;
 mod policy_file;
 mod refusal;
@@ -24,6 +25,7 @@ use crate::apply::Apply;
 use crate::canon::Canon;
 use crate::import::{Existing, StoredZone, export, import};
 use crate::line_fault::{JobFault, NO_MEMORY_LINE};
+use crate::migrate::migrate;
 use crate::policy_file::PolicyFile;
 use crate::serving::{Service, serve_callers};
 use crate::task::Task;
@@ -147,6 +149,31 @@ fn do_export<W: Write + Drop>(
     export_in::<_, Brand, Brand>(rt, zone, writer, writes, store)
 }
 
+/// Migrates a store, and hands the writer of std back that was told how it went.
+fn migrate_in<W: Write + Drop, B: Ledger>(
+    rt: &HostRuntime,
+    what: (&str, W),
+    writes: Blank,
+) -> (W, Result<(), JobFault>)
+    requires name { writes.name ≡ B.name }
+    requires parts { writes.parts ≡ B.parts }
+    requires some { 0 < writes.parts }
+{
+    let (store, writer) = what;
+    let mut sink: Counted<W, B> = Counted::new(writer, writes);
+    let outcome = migrate(rt, store, &mut sink);
+    (sink.into_inner(), outcome)
+}
+
+/// Does the job `migrate`, with a writer of std, and hands it back.
+fn do_migrate<W: Write + Drop>(
+    rt: &HostRuntime,
+    store: &str,
+    writer: W,
+) -> (W, Result<(), JobFault>) {
+    migrate_in::<_, Brand>(rt, (store, writer), Blank::new(1))
+}
+
 /// Serves callers, tells of it to a writer of std, and hands the writer back.
 fn serve_in<W: Write + Drop, A: Ledger, B: Ledger, C: Ledger>(
     rt: &HostRuntime,
@@ -190,6 +217,7 @@ fn do_job(rt: &HostRuntime, job: Job<'_>) -> ExitCode {
             status(do_import(rt, (zone, existing), (rt.stdin(), rt.stdout())).1)
         }
         Job::Export { zone } => status(do_export(rt, zone, rt.stdout()).1),
+        Job::Migrate { store } => status(do_migrate(rt, store, rt.stdout()).1),
         Job::Rights { policy, asked } => do_task(rt, asked, PolicyFile::open(rt, policy)),
         Job::Serve { service } => status(do_serve(rt, service, rt.stdout()).1),
     }

@@ -8,6 +8,7 @@ use office_store::{Refused, SqlTable, StoreFault};
 use sqlite::{Connection, Error, ErrorCode, File, FileStore};
 use std::alloc::Global;
 use std::fs;
+use std::marker::Brand;
 use std::sync::ledger::{Blank, Ledger};
 
 /// The table of a store in a file.
@@ -43,6 +44,17 @@ fn adopted<L: Ledger>(
     }
 }
 
+/// A connection to the file of a path, where there is one; where there is none, that is `NoZone`.
+fn found(rt: &HostRuntime, path: &str) -> Result<Connection<FileStore<File>>, LineFault>
+    ensures { IfOk result (λ conn. conn.in_transaction ≡ false) }
+{
+    match fs::exists(rt, path) {
+        Ok(true) => connected(rt, path),
+        Ok(false) => Err(LineFault::from(StoreFault::NoZone)),
+        Err(_) => Err(LineFault::from(CANNOT_OPEN)),
+    }
+}
+
 /// The table of the store of a path. Where there is no file none is made: that is `NoZone`. `WrongVersion` comes where the file has
 /// not the tables of this version, `BadRow` where their rows are no state, and `Store` where the file is no database or cannot be
 /// read.
@@ -55,10 +67,18 @@ pub fn open_store<L: Ledger>(
     requires parts { blank.parts ≡ L.parts }
     requires some { 0 < blank.parts }
 {
-    match fs::exists(rt, path) {
-        Ok(true) => adopted(rt.alloc(), connected(rt, path)?, blank),
-        Ok(false) => Err(LineFault::from(StoreFault::NoZone)),
-        Err(_) => Err(LineFault::from(CANNOT_OPEN)),
+    adopted(rt.alloc(), found(rt, path)?, blank)
+}
+
+/// Takes the store of a path from version 1 of the tables to version 2, and tells how many zones that changed. Where there is no file
+/// none is made: that is `NoZone`. `WrongVersion` comes where the file has not the tables of version 1, `BadRow` where their rows are
+/// none that a program of that version wrote, and `Store` where the file is no database or cannot be read or written. Then the file
+/// is as it was.
+pub fn migrate_store(rt: &HostRuntime, path: &str) -> Result<usize, LineFault> {
+    let mut conn = found(rt, path)?;
+    match FileTable::<Brand>::migrate(rt.alloc(), &mut conn) {
+        Ok(zones) => Ok(zones),
+        Err(fault) => Err(LineFault::from(fault)),
     }
 }
 

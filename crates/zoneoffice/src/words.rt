@@ -2,7 +2,7 @@
 
 ghost use Rattle.std.specs.Prelude.{◌≡◌, ℕ, List, [], IfErr, IfOk, map, option_map, Some, is_some, true, codes};
 ghost use Rattle.clap.specs.Words.{app_of, fault_of, first_of, found_of, kind_of, one_of, rows_of, subcommand_rows_of, takes};
-ghost use Rattle.zoneoffice.specs.Words.{office, asks, IsCanonOf, canon_of, zone_asked, stored_of, import_of, export_of, rights_of, serve_of, number_if, existing_of, job_named, job_met, job_of, canon};
+ghost use Rattle.zoneoffice.specs.Words.{office, asks, IsCanonOf, canon_of, zone_asked, stored_of, import_of, export_of, migrate_of, rights_of, serve_of, number_if, existing_of, job_named, job_met, job_of, canon};
 
 use crate::commands::office_command;
 use crate::import::{Existing, StoredZone};
@@ -33,6 +33,11 @@ pub enum Job<'a> {
     Export {
         /// Which zone, and which store.
         zone: StoredZone<'a>,
+    },
+    /// To take a store from version 1 of the tables to version 2.
+    Migrate {
+        /// The path of the store.
+        store: &'a str,
     },
     /// To ask a policy.
     Rights {
@@ -117,6 +122,14 @@ fn export_in<'a>(matches: &ArgMatches<'a>) -> Option<Job<'a>>
     Some(Job::Export { zone })
 }
 
+/// The job of the command `migrate`.
+fn migrate_in<'a>(matches: &ArgMatches<'a>) -> Option<Job<'a>>
+    ensures { option_map asks result ≡ migrate_of (rows_of (found_of matches.now)) }
+{
+    let store = text_at(matches, "store")?;
+    Some(Job::Migrate { store })
+}
+
 /// The job of the command `serve`.
 fn serve_in<'a>(matches: &ArgMatches<'a>) -> Option<Job<'a>>
     ensures { option_map asks result ≡ serve_of (rows_of (found_of matches.now)) }
@@ -164,6 +177,8 @@ fn job_named<'a>(name: &str, matches: &ArgMatches<'a>) -> Option<Job<'a>>
         import_in(matches)
     } else if name == "export" {
         export_in(matches)
+    } else if name == "migrate" {
+        migrate_in(matches)
     } else if name == "rights" {
         rights_in(matches)
     } else if name == "serve" {
@@ -199,6 +214,7 @@ fn told(alloc: Global, error: Error) -> WordsFault
 
 /// The job that the words behind the program's name ask for: none or `apply`; `canon --origin NAME`;
 /// `import --store PATH --origin NAME [--replace]`; `export --store PATH --origin NAME`;
+/// `migrate --store PATH`;
 /// `rights --policy PATH --caller CALLER NAME TYPE ACTION`; and
 /// `serve --store PATH --policy PATH --listen ADDRESS:PORT [--connections N]`. The words behind a command may stand in any order.
 /// `Help` comes where they ask for help, and `Misused` for all other words.

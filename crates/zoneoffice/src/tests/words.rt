@@ -29,7 +29,7 @@ const ASKED: QuestionWords<'_> = QuestionWords {
 /// Words, the job that they ask for, and the reason.
 type JobRow = (&'static str, Job<'static>, &'static str);
 
-const JOBS: [JobRow; 15] = [
+const JOBS: [JobRow; 16] = [
     ("", Job::Apply, "no word"),
     ("apply", Job::Apply, "its name"),
     (
@@ -94,6 +94,11 @@ const JOBS: [JobRow; 15] = [
             },
         },
         "a path with a sign in it",
+    ),
+    (
+        "migrate|--store|s",
+        Job::Migrate { store: "s" },
+        "a store of version 1",
     ),
     (
         "serve|--store|s|--policy|p|--listen|127.0.0.1:8053",
@@ -182,6 +187,8 @@ fn misused(rt: HostRuntime) -> Result<(), Fail> {
             "export|--store|s|--origin|o.|--replace",
             "a flag of another job",
         ),
+        ("migrate", "no store to migrate"),
+        ("migrate|--store|s|--origin|o.", "a migration of one zone"),
         ("serve|--store|s|--policy|p", "no address"),
         (
             "serve|--store|s|--policy|p|--listen|l|--connections|18446744073709551616",

@@ -14,5 +14,6 @@ returns c =
     let two = c.in_ok-subcommand-2.ensures.shape c.in_ok-canon.ensures.local ∙ ap₂ with_subcommand one (ap top c.in_ok-canon.ensures.shape) in
     let three = c.in_ok-subcommand-3.ensures.shape c.in_ok-import.ensures.local ∙ ap₂ with_subcommand two (ap top c.in_ok-import.ensures.shape) in
     let four = c.in_ok-subcommand-4.ensures.shape c.in_ok-export.ensures.local ∙ ap₂ with_subcommand three (ap top c.in_ok-export.ensures.shape) in
-    let five = c.in_ok-subcommand-5.ensures.shape c.in_ok-rights.ensures.local ∙ ap₂ with_subcommand four (ap top c.in_ok-rights.ensures.shape) in
-    IfOk-weaker c.subcommand-6.result _ _ (λ r h. h.shape c.in_ok-serve.ensures.local ∙ ap₂ with_subcommand five (ap top c.in_ok-serve.ensures.shape)) c.subcommand-6.ensures
+    let five = c.in_ok-subcommand-5.ensures.shape c.in_ok-migrate.ensures.local ∙ ap₂ with_subcommand four (ap top c.in_ok-migrate.ensures.shape) in
+    let six = c.in_ok-subcommand-6.ensures.shape c.in_ok-rights.ensures.local ∙ ap₂ with_subcommand five (ap top c.in_ok-rights.ensures.shape) in
+    IfOk-weaker c.subcommand-7.result _ _ (λ r h. h.shape c.in_ok-serve.ensures.local ∙ ap₂ with_subcommand six (ap top c.in_ok-serve.ensures.shape)) c.subcommand-7.ensures
