@@ -5,7 +5,7 @@ mod files;
 mod printing;
 
 use dns_data::DataFault;
-use dns_master::{MasterFault, tokens};
+use dns_master::{MasterFault, Token, tokens};
 use std::alloc::{AllocError, Global};
 use std::process::Abort;
 use std::str;
@@ -286,104 +286,98 @@ const EXAMPLE_ENTRIES: [(usize, usize); 12] = [
     (23, 2),
 ];
 
+/// The line on which an entry begins, where it has items, and how many it has.
+fn entry_among(tokens: &[Token<'_>], number: usize) -> (Option<usize>, usize) {
+    let first = tokens.iter().find(|token| token.entry == number);
+    let items = tokens.iter().filter(|token| token.entry == number).count();
+    (first.map(|token| token.line), items)
+}
+
 #[test]
 fn example_of_the_standard(rt: HostRuntime) -> Result<(), Fail> {
-    let tokens = match tokens(rt.alloc(), EXAMPLE.as_bytes()) {
-        Ok(tokens) => tokens,
-        Err(fault) => {
-            assert!(rt; false, "{fault}");
-            return Ok(());
-        }
+    let Ok(tokens) = tokens(rt.alloc(), EXAMPLE.as_bytes()) else {
+        assert!(rt; false, "the example is refused");
+        return Ok(());
     };
     assert!(rt; tokens.len() == 37, "{}", tokens.len());
     for (number, (line, items)) in EXAMPLE_ENTRIES.iter().enumerate() {
-        let mut count: usize = 0;
-        for token in &tokens {
-            if token.entry == number {
-                if count == 0 {
-                    assert!(rt; token.line == *line, "entry {number}: {}", token.line);
-                }
-                count = count.saturating_add(1);
-            }
-        }
-        assert!(rt; count == *items, "entry {number}: {count}");
+        let got = entry_among(&tokens, number);
+        assert!(rt; got == (Some(*line), *items), "entry {number}: {got:?}");
     }
     Ok(())
 }
 
+/// What each refusal is called, and what it says.
+const FAULTS: [(MasterFault, u8, &str); 13] = [
+    (
+        MasterFault::ParenOpen(4),
+        21,
+        "line 4: a parenthesis is never closed",
+    ),
+    (
+        MasterFault::ParenClose(4),
+        22,
+        "line 4: a parenthesis is closed that was never opened",
+    ),
+    (
+        MasterFault::QuoteOpen(4),
+        23,
+        "line 4: a quote is never closed",
+    ),
+    (
+        MasterFault::NoOwner(4),
+        24,
+        "line 4: the record has no owner, and none stands before it",
+    ),
+    (
+        MasterFault::NoTtl(4),
+        25,
+        "line 4: the record has no TTL, and none is in force",
+    ),
+    (
+        MasterFault::ClassNotIn(4),
+        26,
+        "line 4: only records of class IN are kept",
+    ),
+    (
+        MasterFault::DirectiveNotKept(4),
+        27,
+        "line 4: only the directives $ORIGIN and $TTL are read",
+    ),
+    (MasterFault::BadTtl(4), 28, "line 4: this is no TTL"),
+    (
+        MasterFault::Data {
+            line: 4,
+            fault: DataFault::FieldMissing,
+        },
+        29,
+        "line 4: a field of the record data is missing",
+    ),
+    (
+        MasterFault::TooLarge,
+        30,
+        "the master file has more than 4194304 octets",
+    ),
+    (
+        MasterFault::EntryShort(4),
+        31,
+        "line 4: the entry ends too soon",
+    ),
+    (
+        MasterFault::WriteFailed,
+        32,
+        "the master file could not be written",
+    ),
+    (MasterFault::NoMemory, 99, "out of memory"),
+];
+
 #[test]
 fn faults_say_what_is_wrong(rt: HostRuntime) -> Result<(), Fail> {
-    let rows = [
-        (
-            MasterFault::ParenOpen(4),
-            21,
-            "line 4: a parenthesis is never closed",
-        ),
-        (
-            MasterFault::ParenClose(4),
-            22,
-            "line 4: a parenthesis is closed that was never opened",
-        ),
-        (
-            MasterFault::QuoteOpen(4),
-            23,
-            "line 4: a quote is never closed",
-        ),
-        (
-            MasterFault::NoOwner(4),
-            24,
-            "line 4: the record has no owner, and none stands before it",
-        ),
-        (
-            MasterFault::NoTtl(4),
-            25,
-            "line 4: the record has no TTL, and none is in force",
-        ),
-        (
-            MasterFault::ClassNotIn(4),
-            26,
-            "line 4: only records of class IN are kept",
-        ),
-        (
-            MasterFault::DirectiveNotKept(4),
-            27,
-            "line 4: only the directives $ORIGIN and $TTL are read",
-        ),
-        (MasterFault::BadTtl(4), 28, "line 4: this is no TTL"),
-        (
-            MasterFault::Data {
-                line: 4,
-                fault: DataFault::FieldMissing,
-            },
-            29,
-            "line 4: a field of the record data is missing",
-        ),
-        (
-            MasterFault::TooLarge,
-            30,
-            "the master file has more than 4194304 octets",
-        ),
-        (
-            MasterFault::EntryShort(4),
-            31,
-            "line 4: the entry ends too soon",
-        ),
-        (
-            MasterFault::WriteFailed,
-            32,
-            "the master file could not be written",
-        ),
-        (MasterFault::NoMemory, 99, "out of memory"),
-    ];
-    for (fault, number, text) in rows {
+    for (fault, number, text) in FAULTS {
         let got = fault.to_string(rt.alloc())?;
         assert!(rt; got.as_str() == text, "{got}");
         assert!(rt; fault.number() == number, "{fault}");
-        let line = if text.starts_with("line 4: ") {
-            Some(4)
-        } else {
-            None
-        };
+        let line = text.starts_with("line 4: ").then_some(4);
         assert!(rt; fault.line() == line, "{fault}");
     }
     Ok(())

@@ -44,7 +44,7 @@ fn compare(rt: &impl Abort, alloc: Global, rows: &[Row]) -> Result<(), Fail> {
 }
 
 /// Owner, origin and what stands between them and the data.
-const ENTRIES: [Row; 22] = [
+const ENTRIES: [Row; 24] = [
     ("", "", "no entry"),
     ("\n ; comment\n(\n)\n", "", "blank entries"),
     (
@@ -131,6 +131,16 @@ const ENTRIES: [Row; 22] = [
         "a 1 TXT \"b;c\" d\\032e \"\"",
         "a.example.org. 1 IN TXT \"b;c\" \"d e\" \"\"\n",
         "strings in quotes and without",
+    ),
+    (
+        "t 1 TXT (\n \"a;b\" c\\032d\n\n \"\" )",
+        "t.example.org. 1 IN TXT \"a;b\" \"c d\" \"\"\n",
+        "strings in parentheses over several lines",
+    ),
+    (
+        "d 3600 DS 60485 5 1 ( 2BB183AF5F22588179A53B0A\n 98631FAD1A292118 )",
+        "d.example.org. 3600 IN DS 60485 5 1 2bb183af5f22588179a53b0a98631fad1a292118\n",
+        "the digest of RFC 4034 section 5.4 in parentheses over two lines",
     ),
     (
         "a 1 TXT \"$ORIGIN x\"\nb 1 A 192.0.2.5",
@@ -488,7 +498,7 @@ const REFUSALS_OF_ONE_LINE: [RefusedRow; 39] = [
 ];
 
 /// Texts with several faults, of which one is answered.
-const ORDER_OF_REFUSALS: [RefusedRow; 10] = [
+const ORDER_OF_REFUSALS: [RefusedRow; 11] = [
     (
         "a\nb 1 A x\n)",
         MasterFault::ParenClose(3),
@@ -545,6 +555,14 @@ const ORDER_OF_REFUSALS: [RefusedRow; 10] = [
             fault: DataFault::BadAddress,
         },
         "the data before the TTL",
+    ),
+    (
+        "d DS 60485 5 1 2bb",
+        MasterFault::Data {
+            line: 1,
+            fault: DataFault::BadDigest,
+        },
+        "and so a digest of an odd number of digits",
     ),
     (
         "$ORIGIN a..b c",
@@ -615,10 +633,22 @@ fn long_strings(rt: HostRuntime) -> Result<(), Fail> {
         line: 1,
         fault: DataFault::StringTooLong,
     };
-    let longer = text_of_one_string(alloc, 256)?;
+    let mut longer = text_of_one_string(alloc, 256)?;
     match listed(alloc, "example.org.", longer.as_bytes())? {
         Ok(_) => assert!(rt; false, "256 octets"),
         Err(fault) => assert!(rt; fault == too_long, "{fault}"),
+    }
+    longer.push_str("\\256")?;
+    let bad_escape = MasterFault::Data {
+        line: 1,
+        fault: DataFault::Name(NameFault::BadEscape),
+    };
+    match listed(alloc, "example.org.", longer.as_bytes())? {
+        Ok(_) => assert!(rt; false, "a bad escape"),
+        Err(fault) => assert!(rt;
+            fault == bad_escape,
+            "what cannot be read has no length: {fault}"
+        ),
     }
     Ok(())
 }

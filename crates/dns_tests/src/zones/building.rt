@@ -167,3 +167,28 @@ fn records_that_a_zone_lists(rt: HostRuntime) -> Result<(), Fail> {
     }
     Ok(())
 }
+
+/// Records of the zone `org.` at a name, within it, and at two names whose texts alone end with that of the name.
+const ENDINGS: [&str; 4] = [
+    "example.org. 60 A 192.0.2.1",
+    "www.example.org. 60 A 192.0.2.2",
+    "badexample.org. 60 A 192.0.2.3",
+    "x\\.example.org. 60 A 192.0.2.4",
+];
+
+#[test]
+fn records_within_a_name_of_a_greater_zone(rt: HostRuntime) -> Result<(), Fail> {
+    let alloc = rt.alloc();
+    let soa = record(alloc, "org. 60 SOA a. b. 1 1 1 1 1")?;
+    let mut all = vec![in alloc; soa, record(alloc, "org. 60 NS a.")?]?;
+    for line in ENDINGS {
+        all.push(record(alloc, line)?)?;
+    }
+    let zone = Zone::build(alloc, name(alloc, "org.")?, all)?;
+    let within = zone.records_within(&name(alloc, "example.org.")?);
+    assert_eq!(rt;
+        lines(alloc, within)?.as_str(),
+        "example.org. 60 A 192.0.2.1|www.example.org. 60 A 192.0.2.2"
+    );
+    Ok(())
+}

@@ -3,11 +3,16 @@
 use super::*;
 
 /// The forms of delegations, in the zone `example.org.`.
-const FORMS: [Row; 4] = [
+const FORMS: [Row; 5] = [
     (
         r#"{"id":"d1","child":"physics.example.org.","ttl":3600,"servers":[{"name":"ns1.physics.example.org.","addresses":["192.0.2.53"]},{"name":"ns.example.net.","addresses":[]}]}"#,
         "d1\ndelete-rrset physics.example.org. NS\ndelete-rrset ns1.physics.example.org. A\ndelete-rrset ns1.physics.example.org. AAAA\nadd physics.example.org. 3600 IN NS ns1.physics.example.org.\nadd physics.example.org. 3600 IN NS ns.example.net.\nadd ns1.physics.example.org. 3600 IN A 192.0.2.53\n",
         "the worked example",
+    ),
+    (
+        r#"{"id":"d2","child":"physics.example.org.","ttl":3600,"servers":[{"name":"ns2.physics.example.org.","addresses":["192.0.2.54","2001:db8::54"]}]}"#,
+        "d2\ndelete-rrset physics.example.org. NS\ndelete-rrset ns2.physics.example.org. A\ndelete-rrset ns2.physics.example.org. AAAA\nadd physics.example.org. 3600 IN NS ns2.physics.example.org.\nadd ns2.physics.example.org. 3600 IN A 192.0.2.54\nadd ns2.physics.example.org. 3600 IN AAAA 2001:db8::54\n",
+        "another server in their place: six operations",
     ),
     (
         r#"{"id":"d1","child":"a.example.org.","ttl":1,"servers":[{"name":"b.a.example.org.","addresses":["2001:db8::1","192.0.2.1"]}]}"#,

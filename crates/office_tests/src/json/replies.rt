@@ -28,61 +28,79 @@ fn identifier(alloc: Global, text: &str) -> Result<Identifier, Fail> {
 const RECORDS: &str =
     r#"{"op":"add","name":"a.example.org.","ttl":300,"type":"A","data":"192.0.2.5"},{"op":"add","name":"a\\.b.","ttl":0,"type":"TXT","data":"\"c\\\"d\\\\e\""}"#;
 
+/// Compares the body of a reply to an update.
+fn expect_update(
+    rt: &impl Abort,
+    alloc: Global,
+    reply: UpdateReply,
+    want: &str,
+) -> Result<(), Fail> {
+    expect(rt, alloc, &Reply::Update(reply), want)
+}
+
+/// The place of an item.
+const fn place(list: ItemList, item: usize) -> Place {
+    Place { list, item }
+}
+
 #[test]
 fn updates(rt: HostRuntime) -> Result<(), Fail> {
     let alloc = rt.alloc();
-    let tests = ItemList::Prerequisites;
-    let changes = ItemList::Operations;
-    let failed = Failed {
-        code: Rcode::NxRrset,
-        item: 3,
+    let made = UpdateReply::NoError;
+    expect_update(&rt, alloc, made, r#"{"code":0,"name":"NOERROR"}"#)?;
+    let elsewhere = UpdateReply::NotAuth;
+    expect_update(&rt, alloc, elsewhere, r#"{"code":9,"name":"NOTAUTH"}"#)?;
+    let outside = UpdateReply::NotZone(place(ItemList::Operations, 255));
+    let want = r#"{"code":10,"item":255,"list":"operations","name":"NOTZONE"}"#;
+    expect_update(&rt, alloc, outside, want)
+}
+
+#[test]
+fn updates_that_are_denied(rt: HostRuntime) -> Result<(), Fail> {
+    let alloc = rt.alloc();
+    let by_a_rule = UpdateReply::Refused {
+        place: place(ItemList::Prerequisites, 0),
+        by: Some(identifier(alloc, "r-7.x_Y")?),
     };
-    let used = Failed {
-        code: Rcode::YxDomain,
-        item: 0,
+    let want = r#"{"by":"r-7.x_Y","code":5,"item":0,"list":"prerequisites","name":"REFUSED"}"#;
+    expect_update(&rt, alloc, by_a_rule, want)?;
+    let by_default = UpdateReply::Refused {
+        place: place(ItemList::Operations, 12),
+        by: None,
     };
-    let rule = Some(identifier(alloc, "r-7.x_Y")?);
-    let rows = [
-        (UpdateReply::NoError, r#"{"code":0,"name":"NOERROR"}"#),
-        (UpdateReply::NotAuth, r#"{"code":9,"name":"NOTAUTH"}"#),
-        (
-            UpdateReply::NotZone(Place {
-                list: changes,
-                item: 255,
-            }),
-            r#"{"code":10,"item":255,"list":"operations","name":"NOTZONE"}"#,
-        ),
-        (
-            UpdateReply::Refused {
-                place: Place {
-                    list: tests,
-                    item: 0,
-                },
-                by: rule,
-            },
-            r#"{"by":"r-7.x_Y","code":5,"item":0,"list":"prerequisites","name":"REFUSED"}"#,
-        ),
-        (
-            UpdateReply::Refused {
-                place: Place {
-                    list: changes,
-                    item: 12,
-                },
-                by: None,
-            },
-            r#"{"by":"closing","code":5,"item":12,"list":"operations","name":"REFUSED"}"#,
-        ),
-        (
-            UpdateReply::Failed(failed),
-            r#"{"code":8,"item":3,"list":"prerequisites","name":"NXRRSET"}"#,
-        ),
-        (
-            UpdateReply::Failed(used),
-            r#"{"code":6,"item":0,"list":"prerequisites","name":"YXDOMAIN"}"#,
-        ),
-    ];
-    for (reply, want) in rows.into_iter() {
-        expect(&rt, alloc, &Reply::Update(reply), want)?;
+    let want = r#"{"by":"closing","code":5,"item":12,"list":"operations","name":"REFUSED"}"#;
+    expect_update(&rt, alloc, by_default, want)
+}
+
+/// Prerequisites that do not hold, and the bodies that tell them.
+const FAILED: [(Rcode, usize, &str); 4] = [
+    (
+        Rcode::NxRrset,
+        3,
+        r#"{"code":8,"item":3,"list":"prerequisites","name":"NXRRSET"}"#,
+    ),
+    (
+        Rcode::YxDomain,
+        0,
+        r#"{"code":6,"item":0,"list":"prerequisites","name":"YXDOMAIN"}"#,
+    ),
+    (
+        Rcode::YxRrset,
+        63,
+        r#"{"code":7,"item":63,"list":"prerequisites","name":"YXRRSET"}"#,
+    ),
+    (
+        Rcode::NxDomain,
+        10,
+        r#"{"code":3,"item":10,"list":"prerequisites","name":"NXDOMAIN"}"#,
+    ),
+];
+
+#[test]
+fn updates_whose_prerequisites_fail(rt: HostRuntime) -> Result<(), Fail> {
+    for (code, item, want) in FAILED {
+        let reply = UpdateReply::Failed(Failed { code, item });
+        expect_update(&rt, rt.alloc(), reply, want)?;
     }
     Ok(())
 }
