@@ -14,6 +14,3 @@ mod zones;
 pub use fault::StoreFault;
 pub use opening::Refused;
 pub use table::SqlTable;
-
-#[cfg(test)]
-mod tests;

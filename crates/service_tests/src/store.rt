@@ -2,13 +2,13 @@
 
 ghost use Rattle.std.specs.Prelude.{◌≡◌, ◌<◌};
 
-use crate::{SqlTable, StoreFault};
 use dns_data::{Record, record_line};
 use dns_master::read_file;
 use dns_names::Name;
 use grant_policy::{Identifier, Policy, read_policy};
 use office_core::{Reply, Request, UpdateReply, step};
 use office_rows::read_items;
+use office_store::{SqlTable, StoreFault};
 use sqlite::{Connection, MemStore};
 use std::alloc::Global;
 use std::marker::Brand;

@@ -1,4 +1,4 @@
-use Rattle.office_wire.proofs.tests.exchanged.Given as goal
+use Rattle.service_tests.proofs.http.exchanged.Given as goal
 
 abbrev pub ghosts-served-R-Ledger : goal.ghosts-served-R-Ledger
 ghosts-served-R-Ledger a = record { name = a.blanks.0.name; parts = a.blanks.0.parts }

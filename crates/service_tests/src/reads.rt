@@ -1,8 +1,8 @@
 //! Rows that are a state and rows that are none, written by hand from the texts of RFC 1035 section 5.1 and the numbers of its
 //! section 3.2.2.
 
-use super::*;
 use dns_data::Record;
+use office_reads::{changes_of, is_state, part_of, receipt_of, records_within, zone_of};
 use office_rows::{RowFault, read_origin};
 use office_tables::{AllRows, ChangeRow, ReceiptRow, RecordRow, ZoneRow};
 use std::alloc::{AllocError, Global};

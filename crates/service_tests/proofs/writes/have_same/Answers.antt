@@ -3,7 +3,7 @@ use Rattle.std.specs.FinMap.{len}
 use Rattle.std.proofs.lemmas.Bool.{and_left}
 use Rattle.dns_data.specs.declared.record.Record.{Record}
 use Rattle.zone_core.specs.Sets.{minus}
-use Rattle.office_writes.proofs.tests.have_same.Goals as goal
+use Rattle.service_tests.proofs.writes.have_same.Goals as goal
 use Rattle.office_writes.proofs.WritingLaws.{bare_rows}
 
 pub returns-then-not-is_empty : goal.returns-then-not-is_empty

@@ -5,11 +5,11 @@ ghost use Rattle.std.specs.Prelude.{◌≡◌, ◌<◌};
 mod failures;
 mod rows;
 
-use super::*;
 use dns_master::{Counted, Pieces, read_file};
 use dns_names::Name;
 use grant_policy::{Policy, read_policy};
 use office_core::{MemTable, ZoneTable};
+use office_wire::{ServeFault, serve};
 use std::alloc::Global;
 use std::marker::Brand;
 use std::sync::ledger::{Blank, Ledger};

@@ -3,13 +3,13 @@
 ghost use Rattle.std.specs.Prelude.{◌≡◌, IfOk};
 ghost use Rattle.zone_core.specs.Sets.{is_same};
 
-use super::*;
 use dns_data::Record;
 use dns_names::Name;
 use grant_policy::Identifier;
 use office_core::{Addition, Change, Receipt, UpdateReply};
 use office_rows::{ItemsFault, RowFault, read_items, read_origin};
 use office_tables::{ChangeRow, ReceiptRow, RecordRow, Writing};
+use office_writes::{addition_writing, new_tables_hold_nothing, replacement_writing, zone_writing};
 use std::alloc::{AllocError, Global};
 use std::process::Abort;
 use std::test::Fail;

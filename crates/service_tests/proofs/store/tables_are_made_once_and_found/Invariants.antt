@@ -1,4 +1,4 @@
-use Rattle.office_store.proofs.tests.tables_are_made_once_and_found.Given as goal
+use Rattle.service_tests.proofs.store.tables_are_made_once_and_found.Given as goal
 
 abbrev pub ghosts-adopt_over : goal.ghosts-adopt_over
 ghosts-adopt_over g a = record { name = a.blank.name; parts = a.blank.parts }

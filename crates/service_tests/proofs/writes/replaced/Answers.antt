@@ -2,7 +2,7 @@ use Rattle.std.proofs.Common.{sym, ◌∙◌}
 use Rattle.std.proofs.lemmas.Bool.{not-false}
 use Rattle.dns_names.specs.Order.{same_name}
 use Rattle.zone_core.proofs.SetLemmas.{name_is}
-use Rattle.office_writes.proofs.tests.replaced.Goals as goal
+use Rattle.service_tests.proofs.writes.replaced.Goals as goal
 
 pub replacement_writing-requires-clause-origin : goal.replacement_writing-requires-clause-origin
 replacement_writing-requires-clause-origin c =
