@@ -3,75 +3,17 @@
 ghost use Rattle.std.specs.Prelude.{◌≡◌, ◌<◌};
 
 mod failures;
+mod refusals;
 mod rows;
 
-use dns_master::{Counted, Pieces, read_file};
-use dns_names::Name;
-use grant_policy::{Policy, read_policy};
-use office_core::{MemTable, ZoneTable};
+use crate::examples::{policy, zone_lines};
+use dns_master::{Counted, Pieces};
+use office_core::ZoneTable;
 use office_wire::{ServeFault, serve};
 use std::alloc::Global;
 use std::marker::Brand;
 use std::sync::ledger::{Blank, Ledger};
 use std::test::Fail;
-use zone_core::Zone;
-
-/// The policy of the examples.
-const POLICY: &str = r#"
-[[rule]]
-id = "r1"
-effect = "deny"
-caller = "*"
-scope = "subtree"
-at = "secure.physics.example.org."
-types = "*"
-actions = "*"
-[[rule]]
-id = "r2"
-effect = "grant"
-caller = "phys"
-scope = "subtree"
-at = "physics.example.org."
-types = ["A"]
-actions = "*"
-[[rule]]
-id = "r3"
-effect = "grant"
-caller = "web"
-scope = "name"
-at = "www.example.org."
-types = ["A", "AAAA", "CNAME"]
-actions = ["check", "add", "delete"]
-[[rule]]
-id = "r4"
-effect = "grant"
-caller = "admin"
-scope = "subtree"
-at = "example.org."
-types = "*"
-actions = "*"
-"#;
-
-/// The zone of the examples.
-const ZONE: &str = "example.org. 3600 IN SOA ns1.example.org. admin.example.org. 7 3600 600 86400 60
-example.org. 3600 IN NS ns1.example.org.
-example.org. 3600 IN NS ns2.example.org.
-ns1.example.org. 3600 IN A 192.0.2.1
-";
-
-/// A table in memory of the zone of the examples at serial 7.
-fn table(alloc: Global) -> Result<MemTable, Fail> {
-    let origin = Name::read_absolute(alloc, b"example.org.")?;
-    let records = read_file(alloc, ZONE.as_bytes(), &origin)?;
-    let mut zones = Vec::new(alloc);
-    zones.push(Zone::build(alloc, origin, records)?)?;
-    Ok(MemTable::new(alloc, zones)?)
-}
-
-/// The policy of the examples.
-fn policy(alloc: Global) -> Result<Policy, Fail> {
-    Ok(read_policy(alloc, POLICY.as_bytes())?)
-}
 
 /// How a stream is served: how many octets a call moves, and which read and which write fail, from 1 on.
 #[derive(Clone, Copy)]
@@ -111,14 +53,14 @@ fn served<R: Ledger, W: Ledger, T: ZoneTable>(
     Ok((result, written))
 }
 
-/// The same over a table in memory.
-fn exchanged(
+/// The same, with a reader and a writer of its own.
+fn exchanged<T: ZoneTable>(
     alloc: Global,
     stream: &[u8],
     devices: Devices,
-    table: &mut MemTable,
+    table: &mut T,
 ) -> Result<(Result<(), ServeFault>, String), Fail> {
-    served::<Brand, Brand, MemTable>(
+    served::<Brand, Brand, T>(
         alloc,
         stream,
         devices,
@@ -156,7 +98,9 @@ const ADDED: (&str, &str) = (
 
 /// What the zone of the examples is for the caller `admin`, at a serial, with more lines at its end.
 fn zone_text(alloc: Global, serial: &str, more: &str) -> Result<String, Fail> {
-    Ok(format!(in alloc;
-        "$ORIGIN example.org.\nexample.org. 3600 IN SOA ns1.example.org. admin.example.org. {serial} 3600 600 86400 60\nexample.org. 3600 IN NS ns1.example.org.\nexample.org. 3600 IN NS ns2.example.org.\nns1.example.org. 3600 IN A 192.0.2.1\n{more}"
-    )?)
+    let lines = zone_lines(alloc, serial)?;
+    Ok(format!(in alloc; "$ORIGIN example.org.\n{}{more}", lines.as_str())?)
 }
+
+/// The line that the first update adds.
+const ADDED_LINE: &str = "www.example.org. 300 IN A 192.0.2.5\n";

@@ -1,8 +1,14 @@
-//! Outside vectors and worked examples for the table in SQLite, its rows and writings, and for the office over HTTP.
+//! Outside vectors and worked examples for tables and their rows, and for the office over HTTP.
 #![tactic(auto)]
 
 #[cfg(test)]
+mod examples;
+#[cfg(test)]
+mod files;
+#[cfg(test)]
 mod http;
+#[cfg(test)]
+mod machine;
 #[cfg(test)]
 mod reads;
 #[cfg(test)]

@@ -1,15 +1,112 @@
-//! Streams that are cut or come in pieces, and devices and tables that fail.
+//! Streams that are cut, and devices and tables that fail.
 
 ghost use Rattle.std.specs.Prelude.{◌≡◌, ◌<◌};
 
 use super::*;
-use office_core::{FailTable, TableCall};
+use crate::examples::{mem_table, sql_table};
+use office_core::{FailTable, MemTable, TableCall};
+use std::process::Abort;
 
-/// The stream of the examples: an update, the same one again under another identifier, and a list; and what is answered.
-fn stream(alloc: Global) -> Result<(String, String), Fail> {
+const UPDATES: &str = "/zones/example.org./updates";
+
+/// What the caller `admin` is told of the zone of a table.
+fn zone_of<T: ZoneTable>(alloc: Global, table: &mut T) -> Result<String, Fail> {
+    let stream = get(alloc, "/zones/example.org./file", "admin")?;
+    let (_, text) = exchanged(alloc, stream.as_bytes(), WHOLE, table)?;
+    Ok(text)
+}
+
+/// The same of the zone of the examples, at serial 7 or after the first update.
+fn zone_wanted(alloc: Global, changed: bool) -> Result<String, Fail> {
+    let text = if changed {
+        zone_text(alloc, "8", ADDED_LINE)?
+    } else {
+        zone_text(alloc, "7", "")?
+    };
+    response(alloc, "200 OK", "text/plain", text.as_str())
+}
+
+/// Sees whether the first update was made.
+fn expect_zone<T: ZoneTable>(
+    rt: &impl Abort,
+    alloc: Global,
+    table: &mut T,
+    changed: bool,
+) -> Result<(), Fail> {
+    let zone = zone_of(alloc, table)?;
+    let want = zone_wanted(alloc, changed)?;
+    assert!(rt; zone.as_str() == want.as_str(), "{zone}");
+    Ok(())
+}
+
+const CUT_SHORT: &str =
+    "HTTP/1.1 400 Bad Request\r\nContent-Type: application/json\r\nContent-Length: 14\r\nConnection: close\r\n\r\n{\"refusal\":91}";
+
+/// Cuts the first update behind each of its octets but the last.
+fn expect_cuts<T: ZoneTable>(rt: &impl Abort, alloc: Global, table: &mut T) -> Result<(), Fail> {
+    let stream = ADDED.0.as_bytes();
+    for end in 1..stream.len() {
+        let (result, got) = exchanged(alloc, &stream[..end], WHOLE, table)?;
+        assert!(rt; result == Ok(()), "cut behind {end} octets");
+        assert!(rt; got.as_str() == CUT_SHORT, "cut behind {end} octets: {got}");
+    }
+    for quiet in ["", "\r\n", "\n\r\n"] {
+        let (result, got) = exchanged(alloc, quiet.as_bytes(), WHOLE, table)?;
+        assert!(rt; result == Ok(()), "only line ends");
+        assert!(rt; got.is_empty(), "only line ends: {got}");
+    }
+    expect_zone(rt, alloc, table, false)
+}
+
+#[test]
+fn cut_streams(rt: HostRuntime) -> Result<(), Fail> {
+    let alloc = rt.alloc();
+    expect_cuts(&rt, alloc, &mut mem_table(alloc)?)?;
+    let mut table = sql_table::<Brand>(alloc, Blank::new(1))?;
+    expect_cuts(&rt, alloc, &mut table)
+}
+
+/// Serves the first update, of which one read of 7 octets fails. The last finds the end.
+fn expect_failed_read<T: ZoneTable>(
+    rt: &impl Abort,
+    alloc: Global,
+    table: &mut T,
+    read_fails: usize,
+    done: bool,
+) -> Result<(), Fail> {
+    let devices = Devices {
+        most: 7,
+        read_fails,
+        write_fails: 0,
+    };
+    let (result, got) = exchanged(alloc, ADDED.0.as_bytes(), devices, table)?;
+    let want = if done { ADDED.1 } else { "" };
+    assert!(rt;
+        result == Err(ServeFault::ReadFailed),
+        "read {read_fails} fails"
+    );
+    assert!(rt; got.as_str() == want, "read {read_fails} fails: {got}");
+    expect_zone(rt, alloc, table, done)
+}
+
+#[test]
+fn failed_reads(rt: HostRuntime) -> Result<(), Fail> {
+    let alloc = rt.alloc();
+    let reads = ADDED.0.len().div_ceil(7) + 1;
+    for read_fails in 1..=reads {
+        let done = read_fails == reads;
+        expect_failed_read(&rt, alloc, &mut mem_table(alloc)?, read_fails, done)?;
+        let mut table = sql_table::<Brand>(alloc, Blank::new(1))?;
+        expect_failed_read(&rt, alloc, &mut table, read_fails, done)?;
+    }
+    Ok(())
+}
+
+/// The first update, the same one again under another identifier, and a list; and what is answered.
+fn three(alloc: Global) -> Result<(String, String), Fail> {
     let again = post(
         alloc,
-        "/zones/example.org./updates",
+        UPDATES,
         "admin",
         r#"{"id":"a2","operations":[{"op":"add","name":"www.example.org.","ttl":300,"type":"A","data":"192.0.2.5"}]}"#,
     )?;
@@ -30,157 +127,178 @@ fn stream(alloc: Global) -> Result<(String, String), Fail> {
     ))
 }
 
-/// What the caller `admin` is told of the zone of a table.
-fn zone_of(alloc: Global, table: &mut MemTable) -> Result<String, Fail> {
-    let stream = get(alloc, "/zones/example.org./file", "admin")?;
-    let (_, text) = exchanged(alloc, stream.as_bytes(), WHOLE, table)?;
-    Ok(text)
+/// Whether another update under the identifier `a2` finds it taken.
+fn is_taken<T: ZoneTable>(alloc: Global, table: &mut T) -> Result<bool, Fail> {
+    let other = post(alloc, UPDATES, "admin", r#"{"id":"a2","operations":[]}"#)?;
+    let (_, told) = exchanged(alloc, other.as_bytes(), WHOLE, table)?;
+    Ok(told.contains("409 Conflict"))
 }
 
-/// The same of the zone of the examples, at serial 7 or after the first update.
-fn zone_wanted(alloc: Global, changed: bool) -> Result<String, Fail> {
-    let text = if changed {
-        zone_text(alloc, "8", "www.example.org. 300 IN A 192.0.2.5\n")?
-    } else {
-        zone_text(alloc, "7", "")?
+/// Serves the three requests to a writer that takes 7 octets a call, of which one fails.
+fn expect_failed_write<T: ZoneTable>(
+    rt: &impl Abort,
+    alloc: Global,
+    table: &mut T,
+    write_fails: usize,
+) -> Result<(), Fail> {
+    let (stream, want) = three(alloc)?;
+    let devices = Devices {
+        most: 7,
+        read_fails: 0,
+        write_fails,
     };
-    response(alloc, "200 OK", "text/plain", text.as_str())
-}
-
-#[test]
-fn pieces(rt: HostRuntime) -> Result<(), Fail> {
-    let alloc = rt.alloc();
-    let (stream, want) = stream(alloc)?;
-    for most in [1, 2, 7, 1_000_000] {
-        let mut table = table(alloc)?;
-        let devices = Devices {
-            most,
-            read_fails: 0,
-            write_fails: 0,
-        };
-        let (result, got) = exchanged(alloc, stream.as_bytes(), devices, &mut table)?;
-        assert!(rt; result == Ok(()), "{most} octets a call");
-        assert!(rt;
-            got.as_str() == want.as_str(),
-            "{most} octets a call: {got}"
-        );
-    }
-    Ok(())
-}
-
-#[test]
-fn cut_streams(rt: HostRuntime) -> Result<(), Fail> {
-    let alloc = rt.alloc();
-    let want =
-        "HTTP/1.1 400 Bad Request\r\nContent-Type: application/json\r\nContent-Length: 14\r\nConnection: close\r\n\r\n{\"refusal\":91}";
-    let mut table = table(alloc)?;
-    let stream = ADDED.0.as_bytes();
-    for end in 1..stream.len() {
-        let (result, got) = exchanged(alloc, &stream[..end], WHOLE, &mut table)?;
-        assert!(rt; result == Ok(()), "cut behind {end} octets");
-        assert!(rt; got.as_str() == want, "cut behind {end} octets: {got}");
-    }
-    for quiet in ["", "\r\n", "\n\r\n"] {
-        let (result, got) = exchanged(alloc, quiet.as_bytes(), WHOLE, &mut table)?;
-        assert!(rt; result == Ok(()), "only line ends");
-        assert!(rt; got.is_empty(), "only line ends: {got}");
-    }
-    let got = zone_of(alloc, &mut table)?;
+    let (result, got) = exchanged(alloc, stream.as_bytes(), devices, table)?;
+    let went = 7 * (write_fails - 1);
     assert!(rt;
-        got.as_str() == zone_wanted(alloc, false)?.as_str(),
-        "{got}"
+        result == Err(ServeFault::WriteFailed),
+        "write {write_fails} fails"
     );
-    Ok(())
-}
-
-#[test]
-fn failed_reads(rt: HostRuntime) -> Result<(), Fail> {
-    let alloc = rt.alloc();
-    let stream = ADDED.0.as_bytes();
-    // the last read finds the end
-    let reads = stream.len().div_ceil(7) + 1;
-    for read_fails in 1..=reads {
-        let mut table = table(alloc)?;
-        let devices = Devices {
-            most: 7,
-            read_fails,
-            write_fails: 0,
-        };
-        let (result, got) = exchanged(alloc, stream, devices, &mut table)?;
-        let done = read_fails == reads;
-        assert!(rt;
-            result == Err(ServeFault::ReadFailed),
-            "read {read_fails} fails"
-        );
-        assert!(rt;
-            got.as_str() == (if done { ADDED.1 } else { "" }),
-            "read {read_fails} fails: {got}"
-        );
-        let zone = zone_of(alloc, &mut table)?;
-        assert!(rt;
-            zone.as_str() == zone_wanted(alloc, done)?.as_str(),
-            "read {read_fails} fails: {zone}"
-        );
-    }
-    Ok(())
+    assert!(rt;
+        got.as_bytes() == &want.as_bytes()[..went],
+        "write {write_fails} fails: {got}"
+    );
+    // the first response has 98 octets, so the second update is asked before the fifteenth write
+    let taken = is_taken(alloc, table)?;
+    assert!(rt; taken == (write_fails > 14), "write {write_fails} fails");
+    expect_zone(rt, alloc, table, true)
 }
 
 #[test]
 fn failed_writes(rt: HostRuntime) -> Result<(), Fail> {
     let alloc = rt.alloc();
-    let (stream, want) = stream(alloc)?;
-    let writes = want.len().div_ceil(7);
-    for write_fails in 1..=writes {
-        let mut table = table(alloc)?;
-        let devices = Devices {
-            most: 7,
-            read_fails: 0,
-            write_fails,
-        };
-        let (result, got) = exchanged(alloc, stream.as_bytes(), devices, &mut table)?;
-        let went = 7 * (write_fails - 1);
-        assert!(rt;
-            result == Err(ServeFault::WriteFailed),
-            "write {write_fails} fails"
-        );
-        assert!(rt;
-            got.as_bytes() == &want.as_bytes()[..went],
-            "write {write_fails} fails: {got}"
-        );
-        // the first response has 98 octets, so the second update is asked before the fifteenth write
-        let again = post(
-            alloc,
-            "/zones/example.org./updates",
-            "admin",
-            r#"{"id":"a2","operations":[]}"#,
-        )?;
-        let (_, told) = exchanged(alloc, again.as_bytes(), WHOLE, &mut table)?;
-        let reused = told.contains("409 Conflict");
-        assert!(rt;
-            reused == (write_fails > 14),
-            "write {write_fails} fails: {told}"
-        );
-        let zone = zone_of(alloc, &mut table)?;
-        assert!(rt;
-            zone.as_str() == zone_wanted(alloc, true)?.as_str(),
-            "write {write_fails} fails: {zone}"
-        );
+    let (_, want) = three(alloc)?;
+    for write_fails in 1..=want.len().div_ceil(7) {
+        expect_failed_write(&rt, alloc, &mut mem_table(alloc)?, write_fails)?;
+        let mut table = sql_table::<Brand>(alloc, Blank::new(1))?;
+        expect_failed_write(&rt, alloc, &mut table, write_fails)?;
     }
     Ok(())
 }
 
-/// What is answered to a stream over a table whose commit fails, and the table behind it.
+// ---- tables
+
+/// The kinds of calls that fail; the target of a request of the caller `admin`, and its body, which a GET has not; whether it is
+/// answered nevertheless, and the body of its answer without the failures; whether the zone changes at once; and the reason.
+struct Failure {
+    failing: &'static [TableCall],
+    target: &'static str,
+    body: &'static str,
+    answered: bool,
+    answer: &'static str,
+    why: &'static str,
+}
+
+const ADD: &str =
+    r#"{"id":"a1","operations":[{"op":"add","name":"www.example.org.","ttl":300,"type":"A","data":"192.0.2.5"}]}"#;
+
+const NOERROR: &str = r#"{"code":0,"name":"NOERROR"}"#;
+
+const FAILURES: [Failure; 10] = [
+    Failure {
+        failing: &[TableCall::Zone, TableCall::Subtree, TableCall::Changes],
+        target: UPDATES,
+        body: ADD,
+        answered: true,
+        answer: NOERROR,
+        why: "an update reads its part alone",
+    },
+    Failure {
+        failing: &[TableCall::Part],
+        target: UPDATES,
+        body: ADD,
+        answered: false,
+        answer: NOERROR,
+        why: "it reads its part",
+    },
+    Failure {
+        failing: &[TableCall::Receipt],
+        target: UPDATES,
+        body: ADD,
+        answered: false,
+        answer: NOERROR,
+        why: "its receipt is looked for",
+    },
+    Failure {
+        failing: &[TableCall::Commit],
+        target: UPDATES,
+        body: ADD,
+        answered: false,
+        answer: NOERROR,
+        why: "it is made and kept at once",
+    },
+    Failure {
+        failing: &[TableCall::Commit],
+        target: "/zones/example.org./delegations",
+        body: r#"{"id":"d1","child":"physics.example.org.","ttl":3600,"servers":[{"name":"ns.example.net.","addresses":[]}]}"#,
+        answered: false,
+        answer: NOERROR,
+        why: "so is a delegation",
+    },
+    Failure {
+        failing: &[TableCall::Zone],
+        target: "/zones/example.org./delegations",
+        body: "",
+        answered: false,
+        answer: r#"{"delegations":[]}"#,
+        why: "a report reads the zone",
+    },
+    Failure {
+        failing: &[TableCall::Zone],
+        target: "/zones/example.org./records",
+        body: "",
+        answered: false,
+        answer: r#"{"records":["example.org. 3600 IN SOA ns1.example.org. admin.example.org. 7 3600 600 86400 60","example.org. 3600 IN NS ns1.example.org.","example.org. 3600 IN NS ns2.example.org.","ns1.example.org. 3600 IN A 192.0.2.1"]}"#,
+        why: "a list reads the zone",
+    },
+    Failure {
+        failing: &[TableCall::Subtree],
+        target: "/zones/example.org./records/ns1.example.org.",
+        body: "",
+        answered: false,
+        answer: r#"{"records":["ns1.example.org. 3600 IN A 192.0.2.1"]}"#,
+        why: "a list within a name reads what is within it",
+    },
+    Failure {
+        failing: &[TableCall::Changes],
+        target: "/zones/example.org./changes/1",
+        body: "",
+        answered: false,
+        answer: r#"{"changes":[]}"#,
+        why: "changes are read",
+    },
+    Failure {
+        failing: &[
+            TableCall::Zone,
+            TableCall::Part,
+            TableCall::Subtree,
+            TableCall::Receipt,
+            TableCall::Changes,
+            TableCall::Commit,
+        ],
+        target: "/rights/www.example.org./A/add",
+        body: "",
+        answered: true,
+        answer: r#"{"by":"r4","granted":true}"#,
+        why: "a right reads no table",
+    },
+];
+
+const FAILED: &str =
+    "HTTP/1.1 500 Internal Server Error\r\nContent-Type: application/json\r\nContent-Length: 28\r\n\r\n{\"code\":2,\"name\":\"SERVFAIL\"}";
+
+/// What is answered to a stream over a table of which calls of some kinds fail, and the table behind it.
 fn served_in_failure<L: Ledger>(
     alloc: Global,
     stream: &[u8],
+    failing: &[TableCall],
     blank: Blank,
 ) -> Result<(String, MemTable), Fail>
     requires name { blank.name ≡ L.name }
     requires parts { blank.parts ≡ L.parts }
     requires some { 0 < blank.parts }
 {
-    let failing = Vec::from_slice(alloc, &[TableCall::Commit])?;
-    let mut table: FailTable<L> = FailTable::new(table(alloc)?, failing, blank);
+    let failing = Vec::from_slice(alloc, failing)?;
+    let mut table: FailTable<L> = FailTable::new(mem_table(alloc)?, failing, blank);
     let (_, text) = served::<Brand, Brand, FailTable<L>>(
         alloc,
         stream,
@@ -191,17 +309,42 @@ fn served_in_failure<L: Ledger>(
     Ok((text, table.into_inner()))
 }
 
+/// A request is answered, or it is told that the table failed and changes nothing; then it is asked again.
+fn expect_failure(rt: &impl Abort, alloc: Global, failure: &Failure) -> Result<(), Fail> {
+    let stream = if failure.body.is_empty() {
+        get(alloc, failure.target, "admin")?
+    } else {
+        post(alloc, failure.target, "admin", failure.body)?
+    };
+    let right = response(alloc, "200 OK", "application/json", failure.answer)?;
+    let want = if failure.answered {
+        right.as_str()
+    } else {
+        FAILED
+    };
+    let stream = stream.as_bytes();
+    let (got, mut table) = served_in_failure::<Brand>(
+        alloc,
+        stream,
+        failure.failing,
+        Blank::new(1),
+    )?;
+    assert!(rt; got.as_str() == want, "{}: {got}", failure.why);
+    expect_zone(
+        rt,
+        alloc,
+        &mut table,
+        failure.answered && failure.body == ADD,
+    )?;
+    let (_, got) = exchanged(alloc, stream, WHOLE, &mut table)?;
+    assert!(rt; got.as_str() == right.as_str(), "{}: {got}", failure.why);
+    Ok(())
+}
+
 #[test]
-fn failed_commit(rt: HostRuntime) -> Result<(), Fail> {
-    let alloc = rt.alloc();
-    let (got, mut table) = served_in_failure::<Brand>(alloc, ADDED.0.as_bytes(), Blank::new(1))?;
-    let want =
-        "HTTP/1.1 500 Internal Server Error\r\nContent-Type: application/json\r\nContent-Length: 28\r\n\r\n{\"code\":2,\"name\":\"SERVFAIL\"}";
-    assert!(rt; got.as_str() == want, "{got}");
-    let zone = zone_of(alloc, &mut table)?;
-    assert!(rt;
-        zone.as_str() == zone_wanted(alloc, false)?.as_str(),
-        "{zone}"
-    );
+fn failed_tables(rt: HostRuntime) -> Result<(), Fail> {
+    for failure in &FAILURES {
+        expect_failure(&rt, rt.alloc(), failure)?;
+    }
     Ok(())
 }

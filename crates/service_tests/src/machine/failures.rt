@@ -2,9 +2,10 @@
 
 ghost use Rattle.std.specs.Prelude.{◌≡◌, ◌<◌};
 
-use super::battery::{POLICY, Turn, identifier, reply_text, request, table, takes_turns, wanted};
-use grant_policy::{Identifier, Policy, read_policy};
-use office_core::{FailTable, MemTable, Reply, TableCall, step};
+use super::battery::{Turn, takes_turns, told, wanted};
+use crate::examples::{mem_table, policy};
+use grant_policy::Policy;
+use office_core::{FailTable, MemTable, TableCall};
 use std::alloc::Global;
 use std::marker::Brand;
 use std::sync::ledger::{Blank, Ledger};
@@ -110,43 +111,37 @@ const ROWS: [Row; 10] = [
     ),
 ];
 
-/// What a request is answered where calls of some kinds fail, and the table behind it.
-fn asked_in_failure<L: Ledger>(
+/// What the caller `admin` is told where calls of some kinds fail, and the table behind it.
+fn told_in_failure<L: Ledger>(
     alloc: Global,
-    table: MemTable,
     failing: &[TableCall],
     policy: &Policy,
-    asked: (&Identifier, &str),
+    asked: &str,
     blank: Blank,
-) -> Result<(Reply, MemTable), Fail>
+) -> Result<(String, MemTable), Fail>
     requires name { blank.name ≡ L.name }
     requires parts { blank.parts ≡ L.parts }
     requires some { 0 < blank.parts }
 {
-    let (caller, text) = asked;
     let failing = Vec::from_slice(alloc, failing)?;
-    let mut table: FailTable<L> = FailTable::new(table, failing, blank);
-    let reply = step(alloc, &mut table, policy, caller, &request(alloc, text)?);
-    Ok((reply, table.into_inner()))
+    let mut table: FailTable<L> = FailTable::new(mem_table(alloc)?, failing, blank);
+    let got = told(alloc, &mut table, policy, "admin", asked)?;
+    Ok((got, table.into_inner()))
 }
 
 #[test]
 fn failures(rt: HostRuntime) -> Result<(), Fail> {
     let alloc = rt.alloc();
-    let policy = read_policy(alloc, POLICY.as_bytes())?;
-    let admin = identifier(alloc, "admin")?;
-    for (failing, asked, told, held, again, why) in ROWS {
-        let table = table(alloc)?;
-        let (reply, mut table) = asked_in_failure::<Brand>(
+    let policy = policy(alloc)?;
+    for (failing, asked, want, held, again, why) in ROWS {
+        let (got, mut table) = told_in_failure::<Brand>(
             alloc,
-            table,
             failing,
             &policy,
-            (&admin, asked),
+            asked,
             Blank::new(1),
         )?;
-        let got = reply_text(alloc, &reply)?;
-        let want = wanted(alloc, told)?;
+        let want = wanted(alloc, want)?;
         assert!(rt; got.as_str() == want.as_str(), "{why}: {}", got.as_str());
         let turns: [Turn; 2] = [
             ("admin", "list example.org.", held, why),

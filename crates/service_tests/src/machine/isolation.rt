@@ -1,22 +1,11 @@
 //! What a caller is told among others, and alone.
 
-use super::battery::{POLICY, identifier, reply_text, request, table, wanted};
-use grant_policy::{Policy, read_policy};
+use super::battery::{reply_text, request, wanted};
+use crate::examples::{identifier, mem_table, watched_policy};
+use grant_policy::Policy;
 use office_core::{Call, run};
 use std::alloc::Global;
 use std::test::Fail;
-
-/// A rule by which one more caller sees the SOA of the examples, and nothing else.
-const WATCHER: &str = r#"
-[[rule]]
-id = "r5"
-effect = "grant"
-caller = "watcher"
-scope = "name"
-at = "example.org."
-types = ["SOA"]
-actions = ["list"]
-"#;
 
 /// Callers with their requests.
 type Asked = &'static [(&'static str, &'static str)];
@@ -95,7 +84,7 @@ fn told(
             })?;
         }
     }
-    let replies = run(alloc, &mut table(alloc)?, policy, &calls)?;
+    let replies = run(alloc, &mut mem_table(alloc)?, policy, &calls)?;
     let mut told = Vec::new(alloc);
     for (call, reply) in calls.iter().zip(&replies) {
         if call.caller.as_bytes() == caller.as_bytes() {
@@ -118,8 +107,7 @@ fn are_told(alloc: Global, told: &[String], want: &[&str]) -> Result<bool, Fail>
 #[test]
 fn isolation(rt: HostRuntime) -> Result<(), Fail> {
     let alloc = rt.alloc();
-    let policy = format!(in alloc; "{POLICY}{WATCHER}")?;
-    let policy = read_policy(alloc, policy.as_bytes())?;
+    let policy = watched_policy(alloc)?;
     for (caller, asked, among, alone, why) in ROWS {
         let got = told(alloc, &policy, caller, asked, true)?;
         assert!(rt; are_told(alloc, &got, among)?, "among others: {why}");

@@ -1,7 +1,12 @@
 //! What callers ask one after the other of the zone of the examples, at serial 7 and without receipts, and what they are told.
 
-use super::battery::{POLICY, Turn, table, takes_turns};
-use grant_policy::read_policy;
+use super::battery::{Turn, takes_turns};
+use crate::examples::{mem_table, policy, sql_table, table_over};
+use crate::files::{empty_files, opened};
+use sqlite::FileStore;
+use sqlite_disk::Memory;
+use std::marker::Brand;
+use std::sync::ledger::Blank;
 use std::test::Fail;
 
 const ADDITIONS: [Turn; 6] = [
@@ -358,22 +363,49 @@ const OUTSIDE: [Turn; 11] = [
     ("admin", "list example.org.", "E 7", "nothing changes"),
 ];
 
+/// What is asked of a new table, case by case.
+const CASES: [&[Turn]; 8] = [
+    &ADDITIONS,
+    &DELETIONS,
+    &DENIALS,
+    &RECEIPTS,
+    &FAILED,
+    &SIGHTS,
+    &DELEGATIONS,
+    &OUTSIDE,
+];
+
 #[test]
-fn turns(rt: HostRuntime) -> Result<(), Fail> {
+fn turns_in_memory(rt: HostRuntime) -> Result<(), Fail> {
     let alloc = rt.alloc();
-    let policy = read_policy(alloc, POLICY.as_bytes())?;
-    let cases: [&[Turn]; 8] = [
-        &ADDITIONS,
-        &DELETIONS,
-        &DENIALS,
-        &RECEIPTS,
-        &FAILED,
-        &SIGHTS,
-        &DELEGATIONS,
-        &OUTSIDE,
-    ];
-    for turns in cases {
-        takes_turns(&rt, alloc, &mut table(alloc)?, &policy, turns)?;
+    let policy = policy(alloc)?;
+    for turns in CASES {
+        takes_turns(&rt, alloc, &mut mem_table(alloc)?, &policy, turns)?;
+    }
+    Ok(())
+}
+
+#[test]
+fn turns_in_sqlite(rt: HostRuntime) -> Result<(), Fail> {
+    let alloc = rt.alloc();
+    let policy = policy(alloc)?;
+    for turns in CASES {
+        let mut table = sql_table::<Brand>(alloc, Blank::new(1))?;
+        takes_turns(&rt, alloc, &mut table, &policy, turns)?;
+    }
+    Ok(())
+}
+
+#[test]
+fn turns_in_files(rt: HostRuntime) -> Result<(), Fail> {
+    let alloc = rt.alloc();
+    let policy = policy(alloc)?;
+    for turns in CASES {
+        let Ok(conn) = opened(alloc, empty_files(alloc)) else {
+            return Err(Fail::from("the files are not opened"));
+        };
+        let mut table = table_over::<FileStore<Memory>, Brand>(alloc, conn, Blank::new(1))?;
+        takes_turns(&rt, alloc, &mut table, &policy, turns)?;
     }
     Ok(())
 }

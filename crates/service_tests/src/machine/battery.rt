@@ -1,95 +1,42 @@
 //! What is asked of a table, and what it answers, in words; and a case of turns, which any table passes.
 
-use super::*;
-use dns_data::record_line;
+use crate::examples::{identifier, name};
+use dns_data::{Record, RecordType, Ttl, record_line};
+use dns_names::Name;
 use grant_policy::{Action, Identifier, Policy};
-use std::alloc::AllocError;
+use office_core::{
+    NumberedChange, Reply, Request, Right, TableFault, UpdateReply, ZoneTable, step,
+};
+use office_rows::read_items;
+use std::alloc::{AllocError, Global};
 use std::process::Abort;
+use std::test::Fail;
 use zone_core::{
-    ChildServer, Delegation, DelegationRequest, Glue, ItemList, Place, Update, Zone,
-    delegation_update,
+    ChildServer, Delegation, DelegationRequest, Glue, ItemList, Place, Update, delegation_update,
 };
 
-/// The policy of the examples.
-pub(super) const POLICY: &str = r#"
-[[rule]]
-id = "r1"
-effect = "deny"
-caller = "*"
-scope = "subtree"
-at = "secure.physics.example.org."
-types = "*"
-actions = "*"
-[[rule]]
-id = "r2"
-effect = "grant"
-caller = "phys"
-scope = "subtree"
-at = "physics.example.org."
-types = ["A"]
-actions = "*"
-[[rule]]
-id = "r3"
-effect = "grant"
-caller = "web"
-scope = "name"
-at = "www.example.org."
-types = ["A", "AAAA", "CNAME"]
-actions = ["check", "add", "delete"]
-[[rule]]
-id = "r4"
-effect = "grant"
-caller = "admin"
-scope = "subtree"
-at = "example.org."
-types = "*"
-actions = "*"
-"#;
-
-/// The zone of the examples, a record a line; its SOA is `soa` at serial 7.
+/// The name servers of the zone of the examples and the address of the first, in words.
 const SERVERS: &str =
     "example.org. 3600 NS ns1.example.org.|example.org. 3600 NS ns2.example.org.|ns1.example.org. 3600 A 192.0.2.1";
 
-/// The SOA of the zone of the examples at a serial.
+/// The SOA of the zone of the examples at a serial, in words.
 fn soa(alloc: Global, serial: &str) -> Result<String, AllocError> {
     format!(in alloc;
         "example.org. 3600 SOA ns1.example.org. admin.example.org. {serial} 3600 600 86400 60"
     )
 }
 
-/// A table in memory of the zone of the examples at serial 7.
-pub(super) fn table(alloc: Global) -> Result<MemTable, Fail> {
-    let mut records = Vec::new(alloc);
-    records.push(record(alloc, &soa(alloc, "7")?)?)?;
-    for line in SERVERS.split('|') {
-        records.push(record(alloc, line)?)?;
-    }
-    let mut zones = Vec::new(alloc);
-    zones.push(Zone::build(alloc, name(alloc, "example.org.")?, records)?)?;
-    Ok(MemTable::new(alloc, zones)?)
+/// The first word of a text, and what stands behind it.
+fn word(text: &str) -> (&str, &str) {
+    text.split_once(' ').unwrap_or((text, ""))
 }
 
 // ---- what is asked
 
-/// An identifier by its text.
-pub(super) fn identifier(alloc: Global, text: &str) -> Result<Identifier, Fail> {
-    Ok(Identifier::read(alloc, text.as_bytes())?)
-}
-
 /// An update by its items, with bars between them.
-pub(super) fn update(alloc: Global, items: &str) -> Result<Update, Fail> {
-    let mut prerequisites = Vec::new(alloc);
-    let mut operations = Vec::new(alloc);
-    for item in items.split('|') {
-        match word(item).0 {
-            "" => {}
-            "add" | "delete-rrset" | "delete-name" | "delete-record" => operations.push(operation(
-                alloc, item,
-            )?)?,
-            _ => prerequisites.push(prerequisite(alloc, item)?)?,
-        }
-    }
-    Ok(Update::build(prerequisites, operations)?)
+fn update(alloc: Global, items: &str) -> Result<Update, Fail> {
+    let lines = items.replace(alloc, "|", "\n")?;
+    Ok(read_items(alloc, lines.as_bytes())?)
 }
 
 /// The update that makes a delegation: the child and the TTL, and behind bars each server with its addresses.
@@ -143,7 +90,7 @@ fn rights_request(alloc: Global, text: &str) -> Result<Request, Fail> {
 }
 
 /// A request by its words.
-pub(super) fn request(alloc: Global, text: &str) -> Result<Request, Fail> {
+pub(crate) fn request(alloc: Global, text: &str) -> Result<Request, Fail> {
     let (kind, rest) = word(text);
     if kind == "update" || kind == "delegate" {
         return update_request(alloc, kind, rest);
@@ -191,6 +138,13 @@ fn join_records(
         join(text, &format!(in alloc; "{sign}{front} {back}")?)?;
     }
     Ok(())
+}
+
+/// Records in words.
+pub(crate) fn records_text(alloc: Global, records: &[Record]) -> Result<String, AllocError> {
+    let mut text = String::new(alloc);
+    join_records(alloc, &mut text, "", records)?;
+    Ok(text)
 }
 
 /// An item by its list and its number.
@@ -256,7 +210,7 @@ fn changes_text(alloc: Global, changes: &[NumberedChange]) -> Result<String, All
 }
 
 /// A reply in words.
-pub(super) fn reply_text(alloc: Global, reply: &Reply) -> Result<String, Fail> {
+pub(crate) fn reply_text(alloc: Global, reply: &Reply) -> Result<String, Fail> {
     let mut text = String::new(alloc);
     match reply {
         Reply::Update(reply) => return update_text(alloc, reply),
@@ -265,7 +219,7 @@ pub(super) fn reply_text(alloc: Global, reply: &Reply) -> Result<String, Fail> {
         Reply::Servfail(TableFault::NoMemory) => text.push_str("out of memory")?,
         Reply::NotAuth => text.push_str("no zone")?,
         Reply::NotZone => text.push_str("outside the zone")?,
-        Reply::Records(records) => join_records(alloc, &mut text, "", records)?,
+        Reply::Records(records) => return Ok(records_text(alloc, records)?),
         Reply::File { origin, records } => {
             text.push_str(&origin.text(alloc)?)?;
             join_records(alloc, &mut text, "", records)?;
@@ -285,7 +239,7 @@ pub(super) fn reply_text(alloc: Global, reply: &Reply) -> Result<String, Fail> {
 
 /// A reply as the rows write it, in words: `E n` is for the records of the zone of the examples at serial n, and `SOA n` for
 /// the SOA of these, behind a sign or not.
-pub(super) fn wanted(alloc: Global, row: &str) -> Result<String, AllocError> {
+pub(crate) fn wanted(alloc: Global, row: &str) -> Result<String, AllocError> {
     let mut text = String::new(alloc);
     for part in row.split('|') {
         match word(part) {
@@ -311,10 +265,23 @@ pub(super) fn wanted(alloc: Global, row: &str) -> Result<String, AllocError> {
 // ---- turns
 
 /// A caller, its request, the reply, and the reason.
-pub(super) type Turn = (&'static str, &'static str, &'static str, &'static str);
+pub(crate) type Turn = (&'static str, &'static str, &'static str, &'static str);
+
+/// What a caller asks of a table, and is told.
+pub(crate) fn told<T: ZoneTable>(
+    alloc: Global,
+    table: &mut T,
+    policy: &Policy,
+    caller: &str,
+    asked: &str,
+) -> Result<String, Fail> {
+    let caller = identifier(alloc, caller)?;
+    let request = request(alloc, asked)?;
+    reply_text(alloc, &step(alloc, table, policy, &caller, &request))
+}
 
 /// Asks a table for one thing after the other, and sees what it answers.
-pub(super) fn takes_turns<T: ZoneTable>(
+pub(crate) fn takes_turns<T: ZoneTable>(
     rt: &impl Abort,
     alloc: Global,
     table: &mut T,
@@ -322,10 +289,7 @@ pub(super) fn takes_turns<T: ZoneTable>(
     turns: &[Turn],
 ) -> Result<(), Fail> {
     for (caller, asked, want, why) in turns {
-        let caller = identifier(alloc, caller)?;
-        let request = request(alloc, asked)?;
-        let reply = step(alloc, table, policy, &caller, &request);
-        let got = reply_text(alloc, &reply)?;
+        let got = told(alloc, table, policy, caller, asked)?;
         let want = wanted(alloc, want)?;
         assert!(rt;
             got.as_str() == want.as_str(),

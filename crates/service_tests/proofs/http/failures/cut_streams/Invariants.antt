@@ -1,0 +1,4 @@
+use Rattle.service_tests.proofs.http.failures.cut_streams.Given as goal
+
+abbrev pub ghosts-sql_table : goal.ghosts-sql_table
+ghosts-sql_table g a = record { name = a.blank.name; parts = a.blank.parts }
