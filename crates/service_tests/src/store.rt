@@ -3,6 +3,7 @@
 ghost use Rattle.std.specs.Prelude.{◌≡◌, ◌<◌};
 
 mod damage;
+mod migration;
 mod stops;
 
 use crate::examples::{created, identifier, name, policy, zone_records};
@@ -166,6 +167,25 @@ fn create_over<S: Alter + Drop, L: Ledger>(
         Ok(table) => (String::from_str(alloc, "done")?, table.into_connection()),
         Err(refused) => (refusal_text(alloc, refused.fault)?, refused.conn),
     })
+}
+
+/// The table that is found in a database, in which there is one.
+fn adopted<S: Alter + Drop, L: Ledger>(
+    alloc: Global,
+    conn: Connection<S>,
+    blank: Blank,
+) -> Result<SqlTable<S, L>, Fail>
+    requires name { blank.name ≡ L.name }
+    requires parts { blank.parts ≡ L.parts }
+    requires some { 0 < blank.parts }
+{
+    if !conn.is_autocommit() {
+        return Err(Fail::from("a transaction goes on"));
+    }
+    match SqlTable::adopt(alloc, conn, blank) {
+        Ok(table) => Ok(table),
+        Err(refused) => Err(Fail::from(refused.fault)),
+    }
 }
 
 /// What comes of finding them.

@@ -114,7 +114,7 @@ fn serve_connection<T: ZoneTable, W: Sink>(
 }
 
 /// Serves connections one after the other, so many of them.
-fn serve_connections<T: ZoneTable, W: Sink>(
+pub fn serve_connections<T: ZoneTable, W: Sink>(
     alloc: Global,
     listener: &TcpListener,
     table: &mut T,

@@ -1,7 +1,9 @@
 //! Worked examples: their expected texts come from the standards and not from the program.
 
 mod apply;
+mod calls;
 mod canon;
+mod migrations;
 mod refusals;
 mod rights;
 mod serving;

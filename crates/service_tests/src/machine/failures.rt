@@ -111,12 +111,12 @@ const ROWS: [Row; 10] = [
     ),
 ];
 
-/// What the caller `admin` is told where calls of some kinds fail, and the table behind it.
+/// What a caller is told where calls of some kinds fail, and the table behind it.
 fn told_in_failure<L: Ledger>(
     alloc: Global,
     failing: &[TableCall],
     policy: &Policy,
-    asked: &str,
+    asked: (&str, &str),
     blank: Blank,
 ) -> Result<(String, MemTable), Fail>
     requires name { blank.name ≡ L.name }
@@ -125,7 +125,8 @@ fn told_in_failure<L: Ledger>(
 {
     let failing = Vec::from_slice(alloc, failing)?;
     let mut table: FailTable<L> = FailTable::new(mem_table(alloc)?, failing, blank);
-    let got = told(alloc, &mut table, policy, "admin", asked)?;
+    let (caller, words) = asked;
+    let got = told(alloc, &mut table, policy, caller, words)?;
     Ok((got, table.into_inner()))
 }
 
@@ -138,7 +139,7 @@ fn failures(rt: HostRuntime) -> Result<(), Fail> {
             alloc,
             failing,
             &policy,
-            asked,
+            ("admin", asked),
             Blank::new(1),
         )?;
         let want = wanted(alloc, want)?;

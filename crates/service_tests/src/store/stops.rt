@@ -32,6 +32,10 @@ enum Act {
     Update,
     /// Another zone at serial 8 takes its place.
     Replace,
+    /// The tables become those of version 1, with two TTLs in a set.
+    Age,
+    /// They are taken to version 2.
+    Migrate,
 }
 
 /// How many calls each disk passes.
@@ -133,6 +137,15 @@ const REPLACED: Case = Case {
     why: "the old zone, or the new one with the change",
 };
 
+const MIGRATED: Case = Case {
+    act: Act::Migrate,
+    before: &[Act::Create, Act::Import, Act::Age],
+    old: "refused 74",
+    new: "SOA 8|example.org. 60 NS ns1.example.org.|example.org. 60 NS ns2.example.org.|ns1.example.org. 3600 A 192.0.2.1|1|-SOA 7|-example.org. 3600 NS ns1.example.org.|+SOA 8|+example.org. 60 NS ns1.example.org.|no receipt",
+    twice: "refused 74",
+    why: "the tables of version 1, or those of version 2 with the change",
+};
+
 // ---- disks
 
 /// A disk with these octets.
@@ -190,15 +203,64 @@ fn changed<S: Alter + Drop, L: Ledger>(
 ) -> Result<String, Fail> {
     let origin = name(alloc, "example.org.")?;
     let taken = match act {
-        Act::Create => return Ok(String::from_str(alloc, "done")?),
         Act::Update => return told(alloc, table, &policy(alloc)?, "admin", ADD),
-        Act::Import => table.import(alloc, origin, zone_records(alloc, "7")?),
         Act::Replace => table.replace(alloc, origin, records(alloc, REPLACEMENT)?),
+        _ => table.import(alloc, origin, zone_records(alloc, "7")?),
     };
     match taken {
         Ok(_) => Ok(String::from_str(alloc, "done")?),
         Err(fault) => Ok(refusal_text(alloc, fault)?),
     }
+}
+
+/// What is told where the tables become those of version 1.
+fn aged(alloc: Global, conn: Connection<Store>) -> Result<(String, Connection<Store>), Fail> {
+    let mut conn = conn;
+    conn.execute_batch(
+        "UPDATE records SET ttl = 60 WHERE data = 'ns2.example.org.'; UPDATE meta SET version = 1",
+    )?;
+    Ok((String::from_str(alloc, "done")?, conn))
+}
+
+/// What is told where they are taken to version 2.
+fn migrated(alloc: Global, conn: Connection<Store>) -> Result<(String, Connection<Store>), Fail> {
+    if !conn.is_autocommit() {
+        return Err(Fail::from("a transaction goes on"));
+    }
+    let mut conn = conn;
+    let text = match SqlTable::<Store, Brand>::migrate(alloc, &mut conn) {
+        Ok(1) => String::from_str(alloc, "done")?,
+        Ok(_) => String::from_str(alloc, "another number of zones")?,
+        Err(fault) => refusal_text(alloc, fault)?,
+    };
+    Ok((text, conn))
+}
+
+/// What is told of an act over a connection, and the disks behind it.
+fn acted_over<L: Ledger>(
+    alloc: Global,
+    conn: Connection<Store>,
+    act: Act,
+    blank: Blank,
+) -> Result<(String, Disks), Fail>
+    requires name { blank.name ≡ L.name }
+    requires parts { blank.parts ≡ L.parts }
+    requires some { 0 < blank.parts }
+{
+    let (text, conn) = match act {
+        Act::Create => create_over::<Store, L>(alloc, conn, blank)?,
+        Act::Age => aged(alloc, conn)?,
+        Act::Migrate => migrated(alloc, conn)?,
+        _ => match found::<L>(alloc, conn, blank)? {
+            Ok(table) => {
+                let mut table = table;
+                let text = changed(alloc, &mut table, act)?;
+                (text, table.into_connection())
+            }
+            Err(refused) => return Ok(refused),
+        },
+    };
+    Ok((text, closed(conn)))
 }
 
 /// What is told of an act over disks, and the disks behind it.
@@ -212,21 +274,9 @@ fn acted<L: Ledger>(
     requires parts { blank.parts ≡ L.parts }
     requires some { 0 < blank.parts }
 {
-    let conn = match opened(alloc, disks) {
-        Ok(conn) => conn,
-        Err(disks) => return Ok((String::from_str(alloc, "not opened")?, disks)),
-    };
-    if let Act::Create = act {
-        let (text, conn) = create_over::<Store, L>(alloc, conn, blank)?;
-        return Ok((text, closed(conn)));
-    }
-    match found::<L>(alloc, conn, blank)? {
-        Ok(table) => {
-            let mut table = table;
-            let text = changed(alloc, &mut table, act)?;
-            Ok((text, closed(table.into_connection())))
-        }
-        Err(refused) => Ok(refused),
+    match opened(alloc, disks) {
+        Ok(conn) => acted_over::<L>(alloc, conn, act, blank),
+        Err(disks) => Ok((String::from_str(alloc, "not opened")?, disks)),
     }
 }
 
@@ -380,4 +430,9 @@ fn stops_of_update(rt: HostRuntime) -> Result<(), Fail> {
 #[test]
 fn stops_of_replace(rt: HostRuntime) -> Result<(), Fail> {
     expect_stops(&rt, rt.alloc(), &REPLACED)
+}
+
+#[test]
+fn stops_of_migrate(rt: HostRuntime) -> Result<(), Fail> {
+    expect_stops(&rt, rt.alloc(), &MIGRATED)
 }

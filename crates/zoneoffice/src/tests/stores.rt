@@ -51,7 +51,7 @@ pub fn imported(
 }
 
 /// What `export` prints.
-fn exported(rt: &HostRuntime, zone: StoredZone<'_>) -> Result<String, Fail> {
+pub fn exported(rt: &HostRuntime, zone: StoredZone<'_>) -> Result<String, Fail> {
     let alloc = rt.alloc();
     let page = Pieces::new(Vec::new(alloc), 4096, 0);
     let (page, _) = do_export(rt, zone, page);

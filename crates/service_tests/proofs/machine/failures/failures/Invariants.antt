@@ -1,5 +1,4 @@
-use Rattle.std.proofs.Common.{◌≡◌, ◌<◌, ℕ, ◌+◌, ◌-◌, ◌*◌, ◌≤◌, length}
 use Rattle.service_tests.proofs.machine.failures.failures.Given as goal
 
-abbrev pub invariant-loop-failing : goal.invariant-loop-failing
-invariant-loop-failing g l = ?
+abbrev pub ghosts-told_in_failure : goal.ghosts-told_in_failure
+ghosts-told_in_failure g a = record { name = a.blank.name; parts = a.blank.parts }
