@@ -58,12 +58,25 @@ fn expect_cuts<T: ZoneTable>(rt: &impl Abort, alloc: Global, table: &mut T) -> R
     expect_zone(rt, alloc, table, false)
 }
 
+/// The same over a table in SQLite.
+fn expect_cuts_in_sqlite<L: Ledger>(
+    rt: &impl Abort,
+    alloc: Global,
+    blank: Blank,
+) -> Result<(), Fail>
+    requires name { blank.name ≡ L.name }
+    requires parts { blank.parts ≡ L.parts }
+    requires some { 0 < blank.parts }
+{
+    let mut table = sql_table::<L>(alloc, blank)?;
+    expect_cuts(rt, alloc, &mut table)
+}
+
 #[test]
 fn cut_streams(rt: HostRuntime) -> Result<(), Fail> {
     let alloc = rt.alloc();
     expect_cuts(&rt, alloc, &mut mem_table(alloc)?)?;
-    let mut table = sql_table::<Brand>(alloc, Blank::new(1))?;
-    expect_cuts(&rt, alloc, &mut table)
+    expect_cuts_in_sqlite::<Brand>(&rt, alloc, Blank::new(1))
 }
 
 /// Serves the first update, of which one read of 7 octets fails. The last finds the end.
@@ -89,6 +102,22 @@ fn expect_failed_read<T: ZoneTable>(
     expect_zone(rt, alloc, table, done)
 }
 
+/// The same over a table in SQLite.
+fn expect_failed_read_in_sqlite<L: Ledger>(
+    rt: &impl Abort,
+    alloc: Global,
+    read_fails: usize,
+    done: bool,
+    blank: Blank,
+) -> Result<(), Fail>
+    requires name { blank.name ≡ L.name }
+    requires parts { blank.parts ≡ L.parts }
+    requires some { 0 < blank.parts }
+{
+    let mut table = sql_table::<L>(alloc, blank)?;
+    expect_failed_read(rt, alloc, &mut table, read_fails, done)
+}
+
 #[test]
 fn failed_reads(rt: HostRuntime) -> Result<(), Fail> {
     let alloc = rt.alloc();
@@ -96,8 +125,7 @@ fn failed_reads(rt: HostRuntime) -> Result<(), Fail> {
     for read_fails in 1..=reads {
         let done = read_fails == reads;
         expect_failed_read(&rt, alloc, &mut mem_table(alloc)?, read_fails, done)?;
-        let mut table = sql_table::<Brand>(alloc, Blank::new(1))?;
-        expect_failed_read(&rt, alloc, &mut table, read_fails, done)?;
+        expect_failed_read_in_sqlite::<Brand>(&rt, alloc, read_fails, done, Blank::new(1))?;
     }
     Ok(())
 }
@@ -148,13 +176,13 @@ fn expect_failed_write<T: ZoneTable>(
         write_fails,
     };
     let (result, got) = exchanged(alloc, stream.as_bytes(), devices, table)?;
-    let went = 7 * (write_fails - 1);
+    let went = write_fails.saturating_sub(1).saturating_mul(7);
     assert!(rt;
         result == Err(ServeFault::WriteFailed),
         "write {write_fails} fails"
     );
     assert!(rt;
-        got.as_bytes() == &want.as_bytes()[..went],
+        Some(got.as_bytes()) == want.as_bytes().get(..went),
         "write {write_fails} fails: {got}"
     );
     // the first response has 98 octets, so the second update is asked before the fifteenth write
@@ -163,14 +191,28 @@ fn expect_failed_write<T: ZoneTable>(
     expect_zone(rt, alloc, table, true)
 }
 
+/// The same over a table in SQLite.
+fn expect_failed_write_in_sqlite<L: Ledger>(
+    rt: &impl Abort,
+    alloc: Global,
+    write_fails: usize,
+    blank: Blank,
+) -> Result<(), Fail>
+    requires name { blank.name ≡ L.name }
+    requires parts { blank.parts ≡ L.parts }
+    requires some { 0 < blank.parts }
+{
+    let mut table = sql_table::<L>(alloc, blank)?;
+    expect_failed_write(rt, alloc, &mut table, write_fails)
+}
+
 #[test]
 fn failed_writes(rt: HostRuntime) -> Result<(), Fail> {
     let alloc = rt.alloc();
     let (_, want) = three(alloc)?;
     for write_fails in 1..=want.len().div_ceil(7) {
         expect_failed_write(&rt, alloc, &mut mem_table(alloc)?, write_fails)?;
-        let mut table = sql_table::<Brand>(alloc, Blank::new(1))?;
-        expect_failed_write(&rt, alloc, &mut table, write_fails)?;
+        expect_failed_write_in_sqlite::<Brand>(&rt, alloc, write_fails, Blank::new(1))?;
     }
     Ok(())
 }

@@ -1,5 +1,7 @@
 //! Requests that are refused, and the last of a stream.
 
+ghost use Rattle.std.specs.Prelude.{◌≡◌, ◌<◌};
+
 use super::*;
 use crate::examples::{mem_table, sql_table};
 use std::process::Abort;
@@ -319,12 +321,25 @@ fn expect_refusals<T: ZoneTable>(
     expect_zone(rt, alloc, table, "7", "")
 }
 
+/// The same over a table in SQLite.
+fn expect_refusals_in_sqlite<L: Ledger>(
+    rt: &impl Abort,
+    alloc: Global,
+    blank: Blank,
+) -> Result<(), Fail>
+    requires name { blank.name ≡ L.name }
+    requires parts { blank.parts ≡ L.parts }
+    requires some { 0 < blank.parts }
+{
+    let mut table = sql_table::<L>(alloc, blank)?;
+    expect_refusals(rt, alloc, &mut table)
+}
+
 #[test]
 fn refusals(rt: HostRuntime) -> Result<(), Fail> {
     let alloc = rt.alloc();
     expect_refusals(&rt, alloc, &mut mem_table(alloc)?)?;
-    let mut table = sql_table::<Brand>(alloc, Blank::new(1))?;
-    expect_refusals(&rt, alloc, &mut table)
+    expect_refusals_in_sqlite::<Brand>(&rt, alloc, Blank::new(1))
 }
 
 /// The texts of which a body is made, each so many times, the refusal of the request, and whether it closes.

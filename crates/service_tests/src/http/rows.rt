@@ -1,5 +1,7 @@
 //! Streams of requests, and what they are answered.
 
+ghost use Rattle.std.specs.Prelude.{◌≡◌, ◌<◌};
+
 use super::*;
 use crate::examples::{mem_table, sql_table};
 use std::process::Abort;
@@ -408,6 +410,22 @@ fn expect_stream<T: ZoneTable>(
     Ok(())
 }
 
+/// The same of a table in SQLite.
+fn expect_stream_in_sqlite<L: Ledger>(
+    rt: &impl Abort,
+    alloc: Global,
+    rows: &[Row],
+    most: usize,
+    blank: Blank,
+) -> Result<(), Fail>
+    requires name { blank.name ≡ L.name }
+    requires parts { blank.parts ≡ L.parts }
+    requires some { 0 < blank.parts }
+{
+    let mut table = sql_table::<L>(alloc, blank)?;
+    expect_stream(rt, alloc, &mut table, rows, most)
+}
+
 #[test]
 fn streams_in_memory(rt: HostRuntime) -> Result<(), Fail> {
     let alloc = rt.alloc();
@@ -424,8 +442,7 @@ fn streams_in_sqlite(rt: HostRuntime) -> Result<(), Fail> {
     let alloc = rt.alloc();
     for rows in STREAMS {
         for most in MOST {
-            let mut table = sql_table::<Brand>(alloc, Blank::new(1))?;
-            expect_stream(&rt, alloc, &mut table, rows, most)?;
+            expect_stream_in_sqlite::<Brand>(&rt, alloc, rows, most, Blank::new(1))?;
         }
     }
     Ok(())

@@ -1,12 +1,17 @@
 //! What callers ask one after the other of the zone of the examples, at serial 7 and without receipts, and what they are told.
 
+ghost use Rattle.std.specs.Prelude.{◌≡◌, ◌<◌};
+
 use super::battery::{Turn, takes_turns};
 use crate::examples::{mem_table, policy, sql_table, table_over};
 use crate::files::{empty_files, opened};
+use grant_policy::Policy;
 use sqlite::FileStore;
 use sqlite_disk::Memory;
+use std::alloc::Global;
 use std::marker::Brand;
-use std::sync::ledger::Blank;
+use std::process::Abort;
+use std::sync::ledger::{Blank, Ledger};
 use std::test::Fail;
 
 const ADDITIONS: [Turn; 6] = [
@@ -385,15 +390,49 @@ fn turns_in_memory(rt: HostRuntime) -> Result<(), Fail> {
     Ok(())
 }
 
+/// Asks a table in SQLite, over a store in memory, for one thing after the other.
+fn takes_turns_in_sqlite<L: Ledger>(
+    rt: &impl Abort,
+    alloc: Global,
+    policy: &Policy,
+    turns: &[Turn],
+    blank: Blank,
+) -> Result<(), Fail>
+    requires name { blank.name ≡ L.name }
+    requires parts { blank.parts ≡ L.parts }
+    requires some { 0 < blank.parts }
+{
+    let mut table = sql_table::<L>(alloc, blank)?;
+    takes_turns(rt, alloc, &mut table, policy, turns)
+}
+
 #[test]
 fn turns_in_sqlite(rt: HostRuntime) -> Result<(), Fail> {
     let alloc = rt.alloc();
     let policy = policy(alloc)?;
     for turns in CASES {
-        let mut table = sql_table::<Brand>(alloc, Blank::new(1))?;
-        takes_turns(&rt, alloc, &mut table, &policy, turns)?;
+        takes_turns_in_sqlite::<Brand>(&rt, alloc, &policy, turns, Blank::new(1))?;
     }
     Ok(())
+}
+
+/// The same over a store in files.
+fn takes_turns_in_files<L: Ledger>(
+    rt: &impl Abort,
+    alloc: Global,
+    policy: &Policy,
+    turns: &[Turn],
+    blank: Blank,
+) -> Result<(), Fail>
+    requires name { blank.name ≡ L.name }
+    requires parts { blank.parts ≡ L.parts }
+    requires some { 0 < blank.parts }
+{
+    let Ok(conn) = opened(alloc, empty_files(alloc)) else {
+        return Err(Fail::from("the files are not opened"));
+    };
+    let mut table = table_over::<FileStore<Memory>, L>(alloc, conn, blank)?;
+    takes_turns(rt, alloc, &mut table, policy, turns)
 }
 
 #[test]
@@ -401,11 +440,7 @@ fn turns_in_files(rt: HostRuntime) -> Result<(), Fail> {
     let alloc = rt.alloc();
     let policy = policy(alloc)?;
     for turns in CASES {
-        let Ok(conn) = opened(alloc, empty_files(alloc)) else {
-            return Err(Fail::from("the files are not opened"));
-        };
-        let mut table = table_over::<FileStore<Memory>, Brand>(alloc, conn, Blank::new(1))?;
-        takes_turns(&rt, alloc, &mut table, &policy, turns)?;
+        takes_turns_in_files::<Brand>(&rt, alloc, &policy, turns, Blank::new(1))?;
     }
     Ok(())
 }

@@ -1,4 +1,4 @@
 use Rattle.service_tests.proofs.store.stops.prepared.Given as goal
 
 abbrev pub ghosts-acted : goal.ghosts-acted
-ghosts-acted g a = record { name = a.blank.name; parts = a.blank.parts }
+ghosts-acted a = record { name = a.blank.name; parts = a.blank.parts }
