@@ -1,6 +1,7 @@
 //! Worked examples: what the rules say is taken from the format of policies, never from the program.
 
 mod documents;
+mod faults;
 mod rules;
 
 use dns_data::RecordType;

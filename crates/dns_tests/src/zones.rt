@@ -3,6 +3,7 @@
 mod building;
 mod changes;
 mod delegations;
+mod faults;
 mod updates;
 
 use dns_data::{Data, Item, Record, RecordType, Ttl, read_data, record_line};

@@ -6,3 +6,4 @@ pub mod VersionLemmas
 pub mod ZoneLemmas
 pub mod AdditionLemmas
 pub mod MigratingLemmas
+pub mod FileLemmas

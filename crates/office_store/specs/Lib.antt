@@ -5,3 +5,4 @@ pub mod Turns
 pub mod Additions
 pub mod Zones
 pub mod Migrating
+pub mod Files

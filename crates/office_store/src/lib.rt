@@ -4,6 +4,7 @@
 
 mod asking;
 mod fault;
+mod file;
 mod migrating;
 mod opening;
 mod table;
@@ -12,8 +13,6 @@ mod writing;
 mod zones;
 
 pub use fault::StoreFault;
+pub use file::Unopened;
 pub use opening::Refused;
 pub use table::SqlTable;
-
-#[cfg(test)]
-mod tests;

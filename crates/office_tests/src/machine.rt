@@ -1,21 +1,50 @@
 //! Worked examples: what items ask for and what a policy permits is written here by hand.
 
-mod battery;
-mod failures;
 mod footprints;
-mod isolation;
 mod permissions;
-mod turns;
 
 use dns_data::{Data, Item as DataItem, Record, RecordType, Ttl, read_data};
 use dns_names::Name;
-use office_core::{
-    MemTable, NumberedChange, Reply, Request, Right, TableFault, UpdateReply, ZoneTable, denied,
-    operation_asks, prerequisite_asks, step,
-};
+use office_core::{denied, operation_asks, prerequisite_asks};
 use std::alloc::Global;
 use std::test::Fail;
-use zone_core::{Operation, Prerequisite};
+use zone_core::{Operation, Prerequisite, Update};
+
+/// The policy of the examples.
+const POLICY: &str = r#"
+[[rule]]
+id = "r1"
+effect = "deny"
+caller = "*"
+scope = "subtree"
+at = "secure.physics.example.org."
+types = "*"
+actions = "*"
+[[rule]]
+id = "r2"
+effect = "grant"
+caller = "phys"
+scope = "subtree"
+at = "physics.example.org."
+types = ["A"]
+actions = "*"
+[[rule]]
+id = "r3"
+effect = "grant"
+caller = "web"
+scope = "name"
+at = "www.example.org."
+types = ["A", "AAAA", "CNAME"]
+actions = ["check", "add", "delete"]
+[[rule]]
+id = "r4"
+effect = "grant"
+caller = "admin"
+scope = "subtree"
+at = "example.org."
+types = "*"
+actions = "*"
+"#;
 
 /// A name by its text.
 fn name(alloc: Global, text: &str) -> Result<Name, Fail> {
@@ -94,4 +123,20 @@ fn operation(alloc: Global, text: &str) -> Result<Operation, Fail> {
             rdata: data(alloc, record_type, rest)?,
         },
     })
+}
+
+/// An update by its items, with bars between them.
+fn update(alloc: Global, items: &str) -> Result<Update, Fail> {
+    let mut prerequisites = Vec::new(alloc);
+    let mut operations = Vec::new(alloc);
+    for item in items.split('|') {
+        match word(item).0 {
+            "" => {}
+            "add" | "delete-rrset" | "delete-name" | "delete-record" => operations.push(operation(
+                alloc, item,
+            )?)?,
+            _ => prerequisites.push(prerequisite(alloc, item)?)?,
+        }
+    }
+    Ok(Update::build(prerequisites, operations)?)
 }

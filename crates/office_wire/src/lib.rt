@@ -25,6 +25,3 @@ pub use fault::ServeFault;
 pub use laws::{exchanges_are_runs, framing_is_unique};
 pub use refusal::Refusal;
 pub use serving::serve;
-
-#[cfg(test)]
-mod tests;

@@ -7,6 +7,3 @@ mod writings;
 
 pub use laws::new_tables_hold_nothing;
 pub use writings::{addition_writing, receipt_writing, replacement_writing, zone_writing};
-
-#[cfg(test)]
-mod tests;

@@ -135,16 +135,18 @@ fn signers(rt: HostRuntime) -> Result<(), Fail> {
 
 #[test]
 fn limits_of_digests(rt: HostRuntime) -> Result<(), Fail> {
-    for (octets, want) in [
-        (65_531, Ok(65_531)),
-        (65_532, Err(18)),
-        (1, Ok(1)),
-        (0, Err(33)),
+    for (octets, last, want) in [
+        (65_531, "", Ok(65_531)),
+        (65_532, "", Err(18)),
+        (65_532, "a", Err(33)),
+        (1, "", Ok(1)),
+        (0, "", Err(33)),
     ] {
         let mut digits = Vec::new(rt.alloc());
         for _ in 0..octets {
             digits.extend_from_slice(b"a5")?;
         }
+        digits.extend_from_slice(last.as_bytes())?;
         let items = [
             plain_item(b"1"),
             plain_item(b"8"),
@@ -157,7 +159,7 @@ fn limits_of_digests(rt: HostRuntime) -> Result<(), Fail> {
             Ok(_) => Ok(0),
             Err(fault) => Err(fault.number()),
         };
-        assert!(rt; got == want, "{octets}: {got:?}");
+        assert!(rt; got == want, "{octets}{last}: {got:?}");
     }
     Ok(())
 }

@@ -1,10 +1,9 @@
 //! Which updates a policy permits.
 
-use super::battery::{POLICY, update};
 use super::*;
 use grant_policy::{Identifier, LookUps, Policy, read_policy};
 use std::str;
-use zone_core::{ItemList, Update};
+use zone_core::ItemList;
 
 /// Three rules of other callers, behind the policy of the examples.
 const RULES: &str = r#"

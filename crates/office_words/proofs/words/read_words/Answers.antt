@@ -1,0 +1,34 @@
+use Rattle.std.proofs.Common.{◌∙◌, sym, ap, map, is_some, true≢false}
+use Rattle.std.specs.Prelude.{unwrap_or}
+use Rattle.clap.specs.Words.{is_simple, subcommand_of, takes}
+use Rattle.clap.specs.Faults.{fault_of, is_simple_and_free}
+use Rattle.office_words.specs.Words.{asks, job_met, job_of}
+use Rattle.office_words.proofs.CommandLemmas.{canon_plain, office_free, office_simple}
+use Rattle.office_words.proofs.words.read_words.Goals as goal
+
+pub returns-in-Err-clause-passes : goal.returns-in-Err-clause-passes
+returns-in-Err-clause-passes c =
+    λ t _. c.told.ensures (c.in-Err.ensures.passes (ap (λ a. takes a (map (λ s. s.now) c.args.words.now)) c.in-Ok.ensures ∙ t))
+
+pub returns-in-Some-clause-job : goal.returns-in-Some-clause-job
+returns-in-Some-clause-job c =
+    let words = map (λ s. s.now) c.args.words.now in
+    let rows = (c.in-Ok-try_get_matches_from_mut.ensures.ok.2 (ap is_simple c.in-Ok.ensures ∙ office_simple)).1 ∙ ap (λ a. subcommand_of a words) c.in-Ok.ensures in
+    sym (c.in-Some.ensures ∙ ap job_met rows)
+
+pub returns-in-Some-clause-faultless : goal.returns-in-Some-clause-faultless
+returns-in-Some-clause-faultless c =
+    ap (λ a. fault_of a (map (λ s. s.now) c.args.words.now)) (sym c.in-Ok.ensures)
+    ∙ c.in-Ok-try_get_matches_from_mut.ensures.kinds (ap is_simple_and_free c.in-Ok.ensures ∙ office_free)
+
+pub returns-in-Some-clause-plain : goal.returns-in-Some-clause-plain
+returns-in-Some-clause-plain c =
+    let words = map (λ s. s.now) c.args.words.now in
+    let rows = (c.in-Ok-try_get_matches_from_mut.ensures.ok.2 (ap is_simple c.in-Ok.ensures ∙ office_simple)).1 ∙ ap (λ a. subcommand_of a words) c.in-Ok.ensures in
+    λ o is. ap (λ x. unwrap_or x (asks c.in-Some.job)) ((c.in-Some.ensures ∙ ap job_met rows) ∙ (ap job_of is.1 ∙ canon_plain o is.0))
+
+pub returns-in-Ok-error-clause-passes : goal.returns-in-Ok-error-clause-passes
+returns-in-Ok-error-clause-passes c =
+    let words = map (λ s. s.now) c.args.words.now in
+    let rows = (c.in-Ok-try_get_matches_from_mut.ensures.ok.2 (ap is_simple c.in-Ok.ensures ∙ office_simple)).1 ∙ ap (λ a. subcommand_of a words) c.in-Ok.ensures in
+    λ t some. absurd (true≢false (sym some ∙ ap is_some (sym (c.in_default-job_in.ensures ∙ ap job_met rows))))

@@ -1,0 +1,86 @@
+//! What the program is to do.
+
+/// What the program is to do.
+#[derive(Clone, Copy, Debug, PartialEq, Eq)]
+pub enum Job<'a> {
+    /// To update a zone that is read from standard input.
+    Apply,
+    /// To print a zone that is read from standard input.
+    Canon {
+        /// The name of its origin.
+        origin: &'a str,
+    },
+    /// To put a zone that is read from standard input into a store.
+    Import {
+        /// Which zone, and which store.
+        zone: StoredZone<'a>,
+        /// What becomes of a zone of this origin that is there.
+        existing: Existing,
+    },
+    /// To print a zone of a store.
+    Export {
+        /// Which zone, and which store.
+        zone: StoredZone<'a>,
+    },
+    /// To take a store from version 1 of the tables to version 2.
+    Migrate {
+        /// The path of the store.
+        store: &'a str,
+    },
+    /// To ask a policy.
+    Rights {
+        /// The path of the policy.
+        policy: &'a str,
+        /// What is asked.
+        asked: QuestionWords<'a>,
+    },
+    /// To answer callers over HTTP.
+    Serve {
+        /// What is served, and where.
+        service: Service<'a>,
+    },
+}
+
+/// A zone of a store, as the words of `import` and of `export` name it.
+#[derive(Clone, Copy, Debug, PartialEq, Eq)]
+pub struct StoredZone<'a> {
+    /// The path of the store.
+    pub store: &'a str,
+    /// The name of the zone's origin.
+    pub origin: &'a str,
+}
+
+/// What becomes of a zone of a store when one of its origin is imported.
+#[derive(Clone, Copy, Debug, PartialEq, Eq)]
+pub enum Existing {
+    /// It stays, and the import is refused.
+    Kept,
+    /// The one that is imported takes its place.
+    Replaced,
+}
+
+/// What is asked of a policy.
+#[derive(Clone, Copy, Debug, PartialEq, Eq)]
+pub struct QuestionWords<'a> {
+    /// Who asks.
+    pub caller: &'a str,
+    /// At which name.
+    pub name: &'a str,
+    /// Of which type the records are.
+    pub record_type: &'a str,
+    /// What is to be done with them.
+    pub action: &'a str,
+}
+
+/// What the words of `serve` name.
+#[derive(Clone, Copy, Debug, PartialEq, Eq)]
+pub struct Service<'a> {
+    /// The path of the store.
+    pub store: &'a str,
+    /// The path of the policy.
+    pub policy: &'a str,
+    /// The address and the port to listen at.
+    pub listen: &'a str,
+    /// After how many connections to end, where a number is given.
+    pub connections: Option<u64>,
+}

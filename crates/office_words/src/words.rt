@@ -1,0 +1,203 @@
+//! The words of the command line, read as a job.
+
+ghost use Rattle.std.specs.Prelude.{◌≡◌, ℕ, List, [], IfErr, IfOk, map, option_map, Some, is_some, true, codes};
+ghost use Rattle.clap.specs.Words.{app_of, fault_of, first_of, found_of, kind_of, one_of, rows_of, subcommand_rows_of, takes};
+ghost use Rattle.office_words.specs.Words.{office, asks, IsCanonOf, canon_of, zone_asked, stored_of, import_of, export_of, migrate_of, rights_of, serve_of, number_if, existing_of, job_named, job_met, job_of, canon};
+
+use crate::commands::office_command;
+use crate::job::{Existing, Job, QuestionWords, Service, StoredZone};
+use clap::error::ErrorKind;
+use clap::{ArgMatches, Error};
+use std::alloc::Global;
+
+/// Why words are no job.
+#[derive(Debug, Drop)]
+pub enum WordsFault {
+    /// They ask for help: its text.
+    Help(String),
+    /// They are not understood: a text that says why.
+    Misused(String),
+    /// Memory ran out. This says nothing of the words.
+    NoMemory,
+}
+
+/// The text of an argument, where it has one.
+fn text_at<'a>(matches: &ArgMatches<'a>, id: &str) -> Option<&'a str>
+    ensures { option_map (λ s. s.now) result ≡ first_of id.now (rows_of (found_of matches.now)) }
+{
+    matches.get_str(id)
+}
+
+/// The number of an argument, where it has one: no number is given, or this one, or else it is none.
+fn number_at(matches: &ArgMatches<'_>, id: &str) -> Option<Option<u64>>
+    ensures { result ≡ number_if (one_of id.now (rows_of (found_of matches.now))) }
+{
+    matches.try_get_one::<u64>(id).ok()
+}
+
+/// Whether a zone that is there is to be replaced.
+fn existing_at(matches: &ArgMatches<'_>) -> Existing
+    ensures { result ≡ existing_of (first_of (codes "replace") (rows_of (found_of matches.now))) }
+{
+    match text_at(matches, "replace") {
+        Some("true") => Existing::Replaced,
+        _ => Existing::Kept,
+    }
+}
+
+/// The job of the command `canon`.
+fn canon_in<'a>(matches: &ArgMatches<'a>) -> Option<Job<'a>>
+    ensures { option_map asks result ≡ canon_of (rows_of (found_of matches.now)) }
+{
+    let origin = text_at(matches, "origin")?;
+    Some(Job::Canon { origin })
+}
+
+/// The zone of a store that words name.
+fn zone_at<'a>(matches: &ArgMatches<'a>) -> Option<StoredZone<'a>>
+    ensures { option_map zone_asked result ≡ stored_of (rows_of (found_of matches.now)) }
+{
+    let store = text_at(matches, "store")?;
+    let origin = text_at(matches, "origin")?;
+    Some(StoredZone { store, origin })
+}
+
+/// The job of the command `import`.
+fn import_in<'a>(matches: &ArgMatches<'a>) -> Option<Job<'a>>
+    ensures { option_map asks result ≡ import_of (rows_of (found_of matches.now)) }
+{
+    let zone = zone_at(matches)?;
+    let existing = existing_at(matches);
+    Some(Job::Import { zone, existing })
+}
+
+/// The job of the command `export`.
+fn export_in<'a>(matches: &ArgMatches<'a>) -> Option<Job<'a>>
+    ensures { option_map asks result ≡ export_of (rows_of (found_of matches.now)) }
+{
+    let zone = zone_at(matches)?;
+    Some(Job::Export { zone })
+}
+
+/// The job of the command `migrate`.
+fn migrate_in<'a>(matches: &ArgMatches<'a>) -> Option<Job<'a>>
+    ensures { option_map asks result ≡ migrate_of (rows_of (found_of matches.now)) }
+{
+    let store = text_at(matches, "store")?;
+    Some(Job::Migrate { store })
+}
+
+/// The job of the command `serve`.
+fn serve_in<'a>(matches: &ArgMatches<'a>) -> Option<Job<'a>>
+    ensures { option_map asks result ≡ serve_of (rows_of (found_of matches.now)) }
+{
+    let store = text_at(matches, "store")?;
+    let policy = text_at(matches, "policy")?;
+    let listen = text_at(matches, "listen")?;
+    let connections = number_at(matches, "connections")?;
+    let service = Service {
+        store,
+        policy,
+        listen,
+        connections,
+    };
+    Some(Job::Serve { service })
+}
+
+/// The job of the command `rights`.
+fn rights_in<'a>(matches: &ArgMatches<'a>) -> Option<Job<'a>>
+    ensures { option_map asks result ≡ rights_of (rows_of (found_of matches.now)) }
+{
+    let policy = text_at(matches, "policy")?;
+    let caller = text_at(matches, "caller")?;
+    let name = text_at(matches, "name")?;
+    let record_type = text_at(matches, "type")?;
+    let action = text_at(matches, "action")?;
+    let asked = QuestionWords {
+        caller,
+        name,
+        record_type,
+        action,
+    };
+    Some(Job::Rights { policy, asked })
+}
+
+/// The job of a command of this name.
+fn job_named<'a>(name: &str, matches: &ArgMatches<'a>) -> Option<Job<'a>>
+    ensures { option_map asks result ≡ job_named name.now (rows_of (found_of matches.now)) }
+{
+    if name == "apply" {
+        Some(Job::Apply)
+    } else if name == "canon" {
+        canon_in(matches)
+    } else if name == "import" {
+        import_in(matches)
+    } else if name == "export" {
+        export_in(matches)
+    } else if name == "migrate" {
+        migrate_in(matches)
+    } else if name == "rights" {
+        rights_in(matches)
+    } else if name == "serve" {
+        serve_in(matches)
+    } else {
+        None
+    }
+}
+
+/// The job of what was matched.
+fn job_in<'a>(matches: &ArgMatches<'a>) -> Option<Job<'a>>
+    ensures { option_map asks result ≡ job_met (subcommand_rows_of matches.now) }
+{
+    match matches.subcommand() {
+        Some((name, inner)) => job_named(name, inner),
+        None => Some(Job::Apply),
+    }
+}
+
+/// What clap's error says.
+fn told(alloc: Global, error: Error) -> WordsFault
+    ensures { kind_of error ≡ ErrorKind.OutOfMemory → result ≡ WordsFault.NoMemory }
+{
+    if matches!(error.kind(), ErrorKind::OutOfMemory) {
+        return WordsFault::NoMemory;
+    }
+    match format!(in alloc; "{error}") {
+        Ok(text) if error.use_stderr() => WordsFault::Misused(text),
+        Ok(text) => WordsFault::Help(text),
+        Err(_) => WordsFault::NoMemory,
+    }
+}
+
+/// The job that the words behind the program's name ask for: none or `apply`; `canon --origin NAME`;
+/// `import --store PATH --origin NAME [--replace]`; `export --store PATH --origin NAME`;
+/// `migrate --store PATH`;
+/// `rights --policy PATH --caller CALLER NAME TYPE ACTION`; and
+/// `serve --store PATH --policy PATH --listen ADDRESS:PORT [--connections N]`. The words behind a command may stand in any order.
+/// `Help` comes where they ask for help, and `Misused` for all other words.
+pub fn read_words<'a>(alloc: Global, words: &'a [&'a str]) -> Result<Job<'a>, WordsFault>
+    // The job is the one that the words ask for.
+    ensures job { IfOk result (λ j. job_of (map (λ s. s.now) words.entry.now) ≡ Some (asks j)) }
+    // Nothing is wrong with them.
+    ensures faultless { IfOk result (λ _. fault_of office (map (λ s. s.now) words.entry.now) ≡ []) }
+    // Words that ask for a job are read, unless memory runs out.
+    ensures passes { IfErr result (λ e. takes office (map (λ s. s.now) words.entry.now) ≡ true
+        → is_some (job_of (map (λ s. s.now) words.entry.now)) ≡ true → e ≡ WordsFault.NoMemory) }
+    // The plain form asks for what it says.
+    ensures plain { IfOk result (λ j. (o : List ℕ) → IsCanonOf (map (λ s. s.now) words.entry.now) o → asks j ≡ canon o) }
+{
+    let Ok(mut command) = office_command(alloc) else {
+        return Err(WordsFault::NoMemory);
+    };
+    let matches = match command.try_get_matches_from_mut(words) {
+        Ok(matches) => matches,
+        Err(error) => return Err(told(alloc, error)),
+    };
+    if let Some(job) = job_in(&matches) {
+        return Ok(job);
+    }
+    match command.error(ErrorKind::InvalidValue, "the words name no job") {
+        Ok(error) => Err(told(alloc, error)),
+        Err(_) => Err(WordsFault::NoMemory),
+    }
+}
