@@ -11,6 +11,7 @@ pub mod SortLemmas
 pub mod EvenLemmas
 pub mod BesideLemmas
 pub mod AdjacentLemmas
+pub mod StemLemmas
 pub mod PlaceLemmas
 pub mod FaultLemmas
 pub mod WholeLemmas

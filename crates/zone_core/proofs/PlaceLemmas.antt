@@ -1,18 +1,25 @@
 -- Records that are put in order by where they stand.
-use Rattle.std.proofs.Common.{◌≡◌, ◌≢◌, ℕ, zero, suc, ◌+◌, ◌<◌, ◌≤◌, List, [], ◌∷◌, length, get_or, set, refl, sym, ap, subst, ◌∙◌, arith, get_or-set_same, get_or-set_other, length-set, eqb, Bool, true, false, cond, map, take, ◌++◌}
-use denote.Ref.{Bor}
-use Rattle.std.specs.Ordering.{is_lt}
-use Rattle.std.specs.List.{SwappedAt, IsDistinct, range_with_len, filter, All}
-use Rattle.std.specs.List.Sorted.{IsPermutation, IsSorted, IsSortedBy, IsStable, IsStableBy, ties}
+use Rattle.std.proofs.Common.{◌≡◌, ◌≢◌, ℕ, zero, suc, ◌+◌, ◌<◌, ◌≤◌, List, [], ◌∷◌, length, get_or, set, refl, sym, ap, subst, ◌∙◌, arith, get_or-set_same, get_or-set_other, length-set, eqb, Bool, true, false, cond, not, ◌&&◌, map, take, ◌++◌}
+use Rattle.std.specs.Ordering.{is_lt, nat_cmp, ordering_then}
+use Rattle.std.specs.Cmp.{IsStrictWeakOrder, nat_cmp_total, on_total, then_total}
+use Rattle.std.specs.List.{SwappedAt, IsDistinct, range_with_len, filter, All, AllByRecursion}
+use Rattle.std.specs.List.Sorted.{IsPermutation, IsSorted, IsSortedBy, IsStableBy, ties}
 use Rattle.std.proofs.lemmas.Bool.Decides.{nat_tests}
 use Rattle.std.proofs.lemmas.List.{get_or_default, get_or-map, length-map, map-append, same_lists, take_all, take_more}
 use Rattle.std.proofs.lemmas.List.FromFn.{length-range_with_len, get_or-range_with_len, map-range_with_len_more}
-use Rattle.std.proofs.lemmas.List.Sorted.{length_permutation, All-permutation, Contains-permutation, IsPermutation-map}
+use Rattle.std.proofs.lemmas.List.Elements.{All-from_recursion, recursion_from_All}
+use Rattle.std.proofs.lemmas.List.Sorted.{ranks_by, length_permutation, All-permutation, Contains-permutation, IsPermutation-map}
 use Rattle.std.proofs.lemmas.Map.Keys.{IsDistinct-from_apart, IsDistinct-IsPermutation, apart_from_distinct}
 use Rattle.dns_data.specs.declared.record.Record.{Record}
 use Rattle.zone_core.specs.Sets.{record_order, set_of}
-use Rattle.zone_core.specs.Views.{ViewsOf, ArePlaces, AreInverse, AreTaken}
+use Rattle.zone_core.specs.declared.places.View.{View}
+use Rattle.dns_names.specs.Keys.{key_of}
+use Rattle.dns_data.specs.Rdata.{IsRecord}
+use Rattle.dns_data.specs.RecordOrder.{Key, key_of as record_key, key_total}
+use Rattle.zone_core.specs.Heads.{high_behind, low_behind, HaveStem}
+use Rattle.zone_core.specs.Views.{ViewsOf, IsViewOf, IsHeaded, view_order, ArePlaces, AreInverse, AreTaken}
 use Rattle.zone_core.proofs.SortLemmas.{stable_set}
+use Rattle.zone_core.proofs.StemLemmas.{IsBehind, heads_first}
 
 is_or_not : (i j : ℕ) (A : Type 0) → (i ≡ j → A) → (i ≢ j → A) → A
 is_or_not zero zero A same other = same refl
@@ -172,42 +179,50 @@ at_the_end rs first xs q p k are far way =
     let len = places_len (length rs) first are in
     (way.rows ∙ sym len, λ m d upto. way.done m d (omega (arith, upto, len)) (omega (arith, upto, len)))
 
--- ---- views, of which each is a record and where it stands
-
-abbrev pub View : Type 0
-View = Bor Record × ℕ
+-- ---- views, of which each is a record, where it stands, and its owner's head
 
 abbrev pub seen : View → Record
-seen v = v.0.now
+seen v = v.rr.now
 
 abbrev pub stands : View → ℕ
-stands v = v.1
+stands v = v.place
 
-abbrev view : Record → View
-view r = (record { ref_ptr = (0, 0); now = r }, 0)
+abbrev view : ℕ → Record → View
+view stem r = record { high = high_behind stem r.owner; low = low_behind stem r.owner; rr = record { ref_ptr = (0, 0); now = r }; place = 0 }
 
--- the order of views by their records
 abbrev pub view_lt : View → View → Bool
-view_lt v w = is_lt (record_order (seen v) (seen w))
+view_lt v w = is_lt (view_order v w)
 
 same_range : (xs : List ℕ) → map (λ k. k) xs ≡ xs
 same_range [] = refl
 same_range (x ∷ xs) = ap (λ ys. x ∷ ys) (same_range xs)
 
+headed_append : (stem : ℕ) (vs ws : List View) → AllByRecursion (IsHeaded stem) vs → AllByRecursion (IsHeaded stem) ws → AllByRecursion (IsHeaded stem) (vs ++ ws)
+headed_append stem [] ws all also = also
+headed_append stem (v ∷ vs) ws all also = (all.0, headed_append stem vs ws all.1 also)
+
+-- some views, of the records as far as a place
+abbrev pub ViewsTo : ℕ → List Record → ℕ → List View → Type 0
+ViewsTo stem rs i vs = (map seen vs ≡ take i rs) × (map stands vs ≡ range_with_len 0 i) × AllByRecursion (IsHeaded stem) vs
+
+pub read_is : (rs : List Record) (i : ℕ) (a b : Record) → a ≡ b → b ≡ get_or rs i b → a ≡ get_or rs i a
+read_is rs i a b e is = e ∙ is ∙ ap (get_or rs i) (sym e)
+
 -- one view more
-pub views_more : (rs : List Record) (i : ℕ) (vs ws : List View) (b : Bor Record) → ws ≡ vs ++ (b, i) ∷ [] → b.now ≡ get_or rs i b.now → i < length rs
-    → (map seen vs ≡ take i rs) × (map stands vs ≡ range_with_len 0 i) → (map seen ws ≡ take (i + 1) rs) × (map stands ws ≡ range_with_len 0 (i + 1))
-views_more rs i vs ws b e is below so_far = (
-  ap (map seen) e ∙ map-append seen vs ((b, i) ∷ []) ∙ (λ j. so_far.0 j ++ is j ∷ []) ∙ sym (take_more rs i b.now below),
-  ap (map stands) e ∙ map-append stands vs ((b, i) ∷ []) ∙ (λ j. so_far.1 j ++ i ∷ [])
+pub views_more : (stem : ℕ) (rs : List Record) (i : ℕ) (vs ws : List View) (v : View) → ws ≡ vs ++ v ∷ [] → seen v ≡ get_or rs i (seen v) → stands v ≡ i → IsHeaded stem v → i < length rs
+    → ViewsTo stem rs i vs → ViewsTo stem rs (i + 1) ws
+views_more stem rs i vs ws v e is place head below so_far = (
+  ap (map seen) e ∙ map-append seen vs (v ∷ []) ∙ (λ j. so_far.0 j ++ is j ∷ []) ∙ sym (take_more rs i (seen v) below),
+  ap (map stands) e ∙ map-append stands vs (v ∷ []) ∙ (λ j. so_far.1 j ++ place j ∷ [])
       ∙ sym (sym (same_range (range_with_len 0 (i + 1))) ∙ map-range_with_len_more (λ k. k) 0 i i (none i) ∙ ap (λ xs. xs ++ i ∷ []) (same_range (range_with_len 0 i))),
+  subst (AllByRecursion (IsHeaded stem)) (sym e) (headed_append stem vs (v ∷ []) so_far.2 (head, tt)),
 )
   where
     none : (a : ℕ) → 0 + a ≡ a
     none a = omega arith
 
-pub all_views : (rs : List Record) (i : ℕ) (vs : List View) → length rs ≤ i → i ≤ length rs → (map seen vs ≡ take i rs) × (map stands vs ≡ range_with_len 0 i) → ViewsOf rs vs
-all_views rs i vs far upto so_far = (so_far.0 ∙ take_all i rs far, so_far.1 ∙ ap (range_with_len 0) (one i (length rs) far upto))
+pub all_views : (stem : ℕ) (rs : List Record) (i : ℕ) (vs : List View) → length rs ≤ i → i ≤ length rs → ViewsTo stem rs i vs → ViewsOf stem rs vs
+all_views stem rs i vs far upto so_far = (so_far.0 ∙ take_all i rs far, so_far.1 ∙ ap (range_with_len 0) (one i (length rs) far upto), so_far.2)
   where
     one : (a b : ℕ) → b ≤ a → a ≤ b → a ≡ b
     one a b le ge = omega arith
@@ -220,6 +235,41 @@ filter_seen p (v ∷ vs) = by_test (p (seen v)) (filter_seen p vs)
         → cond b (seen v ∷ filter p (map seen vs)) (filter p (map seen vs)) ≡ map seen (cond b (v ∷ filter (λ v. p (seen v)) vs) (filter (λ v. p (seen v)) vs))
     by_test true e = ap (λ rs. seen v ∷ rs) e
     by_test false e = e
+
+-- ---- views whose heads are right
+
+-- a view of a record whose owner's key begins with these octets, with its head
+abbrev IsGood : List ℕ → View → Type 0
+IsGood begin v = IsHeaded (length begin) v × IsBehind begin (seen v)
+
+good_order : (begin : List ℕ) (v w : View) → IsGood begin v → IsGood begin w → view_order v w ≡ record_order (seen v) (seen w)
+good_order begin v w this that =
+    (λ j. ordering_then (ordering_then (nat_cmp (this.0.0 j) (that.0.0 j)) (nat_cmp (this.0.1 j) (that.0.1 j))) (record_order (seen v) (seen w))) ∙ heads_first begin (seen v) (seen w) this.1 that.1
+
+good_ties : (begin : List ℕ) (v w : View) → IsGood begin v → IsGood begin w → ties view_lt v w ≡ ties (λ a b. is_lt (record_order a b)) (seen v) (seen w)
+good_ties begin v w this that = λ j. not (is_lt (good_order begin v w this that j)) && not (is_lt (good_order begin w v that this j))
+
+filter_good : (begin : List ℕ) (v : View) (ws : List View) → IsGood begin v → AllByRecursion (IsGood begin) ws
+    → filter (ties view_lt v) ws ≡ filter (λ w. ties (λ a b. is_lt (record_order a b)) (seen v) (seen w)) ws
+filter_good begin v [] good all = refl
+filter_good begin v (w ∷ ws) good all =
+    λ j. cond (good_ties begin v w good all.0 j) (w ∷ filter_good begin v ws good all.1 j) (filter_good begin v ws good all.1 j)
+
+goods : (begin : List ℕ) (vs : List View) → AllByRecursion (IsHeaded (length begin)) vs → AllByRecursion (IsBehind begin) (map seen vs) → AllByRecursion (IsGood begin) vs
+goods begin [] heads owners = tt
+goods begin (v ∷ vs) heads owners = ((heads.0, owners.0), goods begin vs heads.1 owners.1)
+
+behinds : (begin : List ℕ) (vs : List View) → AllByRecursion (IsGood begin) vs → AllByRecursion (IsBehind begin) (map seen vs)
+behinds begin [] all = tt
+behinds begin (v ∷ vs) all = (all.0.1, behinds begin vs all.1)
+
+are_behind : (begin : List ℕ) (rs : List Record) → AllByRecursion IsRecord rs → AllByRecursion (λ r. (behind : List ℕ) × (key_of r.owner ≡ begin ++ behind)) rs → AllByRecursion (IsBehind begin) rs
+are_behind begin [] are all = tt
+are_behind begin (r ∷ rs) are all = (record { owner = are.0.owner; behind = all.0.0; key = all.0.1 }, are_behind begin rs are.1 all.1)
+
+-- the order of views is one
+pub view_ranks : IsStrictWeakOrder view_lt
+view_ranks = ranks_by (then_total (then_total (on_total (λ (v : ℕ × ℕ × Key). v.0) nat_cmp_total) (on_total (λ (v : ℕ × ℕ × Key). v.1) nat_cmp_total)) (on_total (λ (v : ℕ × ℕ × Key). v.2) key_total)) (λ v. (v.high, v.low, record_key (seen v)))
 
 module _ (rs : List Record) (vs ws : List View) (records : map seen vs ≡ rs) (places : map stands vs ≡ range_with_len 0 (length rs)) (moved : IsPermutation vs ws) where
   pub views_are : ArePlaces (length rs) (map stands ws)
@@ -245,17 +295,38 @@ module _ (rs : List Record) (vs ws : List View) (records : map seen vs ≡ rs) (
       (λ k d below.
       let short : k < length ws = omega (arith, below, taken.0, length-map ws stands) in
       taken.1 k d (omega (arith, below, taken.0))
-      ∙ ap (λ i. get_or rs i d) (get_or-map stands ws k (view d) 0 short)
-      ∙ sym (own k (view d) short d) ∙ sym (get_or-map seen ws k (view d) d short))
+      ∙ ap (λ i. get_or rs i d) (get_or-map stands ws k (view 0 d) 0 short)
+      ∙ sym (own k (view 0 d) short d) ∙ sym (get_or-map seen ws k (view 0 d) d short))
 
-  pub rows_sorted : IsSortedBy view_lt ws → (rows : List Record) → AreTaken rs (map stands ws) rows → IsSorted record_order rows
-  rows_sorted sorted rows taken =
-      subst (IsSorted record_order) (sym (taken_seen rows taken)) (λ k d low up.
-      let short : k + 1 < length ws = omega (arith, up, length-map ws seen) in
-      (λ j. is_lt (record_order (get_or-map seen ws (k + 1) (view d) d short j) (get_or-map seen ws k (view d) d (omega (arith, short)) j))) ∙ sorted k (view d) low short)
+  module _ (stem : ℕ) (have : HaveStem stem rs) (heads : AllByRecursion (IsHeaded stem) vs) (are : AllByRecursion IsRecord rs) where
+    abbrev begin : List ℕ
+    begin = have.0
 
-  pub rows_set : IsStableBy view_lt vs ws → (rows : List Record) → AreTaken rs (map stands ws) rows → set_of rows ≡ set_of rs
-  rows_set stable rows taken =
-      let keeps : IsStable record_order (map seen vs) (map seen ws) =
-      λ x. filter_seen (ties (λ a b. is_lt (record_order a b)) x) ws ∙ ap (map seen) (stable (view x)) ∙ sym (filter_seen (ties (λ a b. is_lt (record_order a b)) x) vs) in
-      ap set_of (taken_seen rows taken) ∙ stable_set (map seen vs) (map seen ws) keeps ∙ ap set_of records
+    before : AllByRecursion (IsGood begin) vs
+    before =
+        goods begin vs (subst (λ n. AllByRecursion (IsHeaded n) vs) (sym have.1) heads)
+        (subst (AllByRecursion (IsBehind begin)) (sym records) (are_behind begin rs are have.2))
+
+    after : All (IsGood begin) ws
+    after = All-permutation (IsGood begin) vs ws moved (All-from_recursion (IsGood begin) vs before)
+
+    pub rows_sorted : IsSortedBy view_lt ws → (rows : List Record) → AreTaken rs (map stands ws) rows → IsSorted record_order rows
+    rows_sorted sorted rows taken =
+        subst (IsSorted record_order) (sym (taken_seen rows taken)) (λ k d low up.
+        let short : k + 1 < length ws = omega (arith, up, length-map ws seen) in
+        let v = get_or ws (k + 1) (view 0 d) in
+        let w = get_or ws k (view 0 d) in
+        (λ j. is_lt (record_order (get_or-map seen ws (k + 1) (view 0 d) d short j) (get_or-map seen ws k (view 0 d) d (omega (arith, short)) j)))
+        ∙ ap is_lt (sym (good_order begin v w (after (k + 1) (view 0 d) short) (after k (view 0 d) (omega (arith, short)))))
+        ∙ sorted k (view 0 d) low short)
+
+    pub rows_set : IsStableBy view_lt vs ws → (rows : List Record) → AreTaken rs (map stands ws) rows → set_of rows ≡ set_of rs
+    rows_set stable rows taken =
+        let also : AllByRecursion (IsGood begin) ws = recursion_from_All (IsGood begin) ws after in
+        let keeps : (x : Record) → IsBehind begin x → filter (ties (λ a b. is_lt (record_order a b)) x) (map seen ws) ≡ filter (ties (λ a b. is_lt (record_order a b)) x) (map seen vs) =
+        λ x is.
+        let v = view (length begin) x in
+        filter_seen (ties (λ a b. is_lt (record_order a b)) x) ws
+        ∙ ap (map seen) (sym (filter_good begin v ws ((refl, refl), is) also) ∙ stable v ∙ filter_good begin v vs ((refl, refl), is) before)
+        ∙ sym (filter_seen (ties (λ a b. is_lt (record_order a b)) x) vs) in
+        ap set_of (taken_seen rows taken) ∙ stable_set (map seen vs) (map seen ws) (IsBehind begin) (behinds begin vs before) (behinds begin ws also) keeps ∙ ap set_of records

@@ -2,6 +2,7 @@ pub mod Serials
 pub mod Sets
 pub mod Faults
 pub mod Zones
+pub mod Heads
 pub mod Views
 pub mod Codes
 pub mod Rcodes

@@ -1,15 +1,16 @@
 -- Zones as rows of records in record order.
 use Rattle.std.specs.Prelude.{◌≡◌, ◌<◌, slice_index, slice_index_or, ℕ, List, [], ◌∷◌, length, map, Bool, not, ◌&&◌, ◌||◌, ◌==◌}
-use Rattle.std.specs.List.{filter, list_any, range_with_len}
+use Rattle.std.specs.List.{AllByRecursion, filter, list_any, range_with_len}
 use Rattle.std.specs.List.Sorted.{IsPermutation}
-use denote.Ref.{Bor}
 use Rattle.std.specs.declared.cmp.Ordering.{Ordering}
 use Rattle.std.specs.Ordering.{nat_cmp, ordering_then}
 use Rattle.dns_names.specs.Order.{canonical_cmp, same_name}
 use Rattle.dns_data.specs.declared.record.Record.{Record}
 use Rattle.dns_data.specs.declared.record_type.RecordType.{RecordType}
 use Rattle.dns_data.specs.Rdata.{type_of}
-use Rattle.zone_core.specs.Sets.{key_of, rank_of, set_of, InOrder}
+use Rattle.zone_core.specs.declared.places.View.{View}
+use Rattle.zone_core.specs.Heads.{high_behind, low_behind}
+use Rattle.zone_core.specs.Sets.{key_of, rank_of, record_order, set_of, InOrder}
 use Rattle.zone_core.specs.Zones.{ZoneOf, IsZone, is_soa, is_cname, beside, least_ttl}
 
 -- the order of a record to the records of a set: by owner, and then by type
@@ -57,9 +58,24 @@ even_rows rs = given_ttls rs (map (set_ttl rs) rs)
 
 -- ---- records that are put in order
 
--- the records of a row, each with the place where it stands
-abbrev pub ViewsOf : List Record → List (Bor Record × ℕ) → Type 0
-ViewsOf rs views = (map (λ v. v.0.now) views ≡ rs) × (map (λ v. v.1) views ≡ range_with_len 0 (length rs))
+-- a view has the head of its owner's key behind a stem
+abbrev pub IsHeaded : ℕ → View → Type 0
+IsHeaded stem v = (v.high ≡ high_behind stem v.rr.now.owner) × (v.low ≡ low_behind stem v.rr.now.owner)
+
+-- the view of a record at a place
+abbrev pub IsViewOf : ℕ → Record → ℕ → View → Type 0
+IsViewOf stem r place v = (v.rr.now ≡ r) × (v.place ≡ place) × IsHeaded stem v
+
+-- the records of a row, each with the place where it stands, and its owner's head behind a stem
+abbrev pub ViewsOf : ℕ → List Record → List View → Type 0
+ViewsOf stem rs views =
+    (map (λ v. v.rr.now) views ≡ rs)
+    × (map (λ v. v.place) views ≡ range_with_len 0 (length rs))
+    × AllByRecursion (IsHeaded stem) views
+
+-- the order of views: by their heads, and where these tie that of the records
+abbrev pub view_order : View → View → Ordering
+view_order v w = ordering_then (ordering_then (nat_cmp v.high w.high) (nat_cmp v.low w.low)) (record_order v.rr.now w.rr.now)
 
 -- the numbers below another, each once, in some order
 abbrev pub ArePlaces : ℕ → List ℕ → Type 0

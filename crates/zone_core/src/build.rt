@@ -1,15 +1,17 @@
 //! Building zones.
 
 ghost use Rattle.std.specs.Prelude.{◌≡◌, ◌<◌, ◌==◌, ◌&&◌, reverse, map, not, Ok, IfOk, length, take, slice_index_or};
-ghost use Rattle.std.specs.List.{list_any, position, position_or_len};
+ghost use Rattle.std.specs.List.{list_all, list_any, position, position_or_len};
+ghost use Rattle.dns_names.specs.Labels.{is_within};
 ghost use Rattle.zone_core.specs.Faults.{Gives};
 ghost use Rattle.zone_core.specs.Sets.{key_of, set_of, count, at_name, InOrder};
+ghost use Rattle.zone_core.specs.Heads.{HaveStem};
 ghost use Rattle.zone_core.specs.Views.{set_ttl, given_ttls, even_rows, are_twins, are_crowded};
-ghost use Rattle.zone_core.specs.Zones.{IsZone, built, zone_of, least_below, beside, fault_in, is_outside, is_soa, is_cname, is_twin, is_crowded};
+ghost use Rattle.zone_core.specs.Zones.{IsZone, built, latest, zone_of, least_below, beside, fault_in, is_outside, is_soa, is_cname, is_twin, is_crowded};
 
 use crate::fault::ZoneFault;
 use crate::notes::notes_records;
-use crate::rows::{has_set, has_type, in_order};
+use crate::rows::{has_set, has_type, in_order_behind};
 use crate::zone::Zone;
 use dns_data::{Record, RecordType, Ttl};
 use dns_names::Name;
@@ -29,12 +31,32 @@ impl Zone {
         // Which zone it is, or which refusal.
         ensures exact { Gives (λ zone. zone) result (built origin records.items) }
     {
-        let records = even(alloc, in_order(alloc, reversed(records))?)?;
+        let records = even(alloc, latest_rows(alloc, &origin, records)?)?;
         notes_records(&records);
         match fault_in(&origin, &records) {
             Some(fault) => Err(fault),
             None => Ok(Zone::of_rows(origin, records)),
         }
+    }
+}
+
+/// Whether all owners are within the origin.
+fn all_within(origin: &Name, records: &[Record]) -> bool
+    ensures { result ≡ list_all (λ r. is_within r.owner origin.now) records.now }
+{
+    records
+        .iter()
+        .all(|record| record.owner.is_within(origin))
+}
+
+/// How many octets the keys of all owners begin with that are the same: those of the origin's, where all are within it.
+fn stem_of(origin: &Name, records: &[Record]) -> usize
+    ensures { HaveStem result records.now }
+{
+    if all_within(origin, records) {
+        origin.key().len()
+    } else {
+        0
     }
 }
 
@@ -44,6 +66,20 @@ fn reversed(mut records: Vec<Record>) -> Vec<Record>
 {
     records.reverse();
     records
+}
+
+/// The records in record order, each once, with its last TTL.
+fn latest_rows(
+    alloc: Global,
+    origin: &Name,
+    records: Vec<Record>,
+) -> Result<Vec<Record>, AllocError>
+    ensures order { IfOk result (λ rows. InOrder rows.items) }
+    ensures set { IfOk result (λ rows. set_of rows.items ≡ latest records.items) }
+{
+    let records = reversed(records);
+    let stem = stem_of(origin, &records);
+    in_order_behind(alloc, records, stem)
 }
 
 /// The records, each with the least TTL of its set.

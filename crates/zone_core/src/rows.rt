@@ -8,6 +8,7 @@ ghost use Rattle.std.specs.List.{filter};
 ghost use Rattle.std.specs.List.Sorted.{IsSorted};
 ghost use Rattle.zone_core.specs.Sets.{key_of, rank_of, set_of, record_order, same_ttl, has, minus, InOrder, AreRows, at_name, at, within};
 ghost use Rattle.zone_core.specs.Prerequisites.{same_data};
+ghost use Rattle.zone_core.specs.Heads.{HaveStem};
 ghost use Rattle.zone_core.specs.Views.{set_order};
 
 use crate::places::{arranged, sources};
@@ -102,14 +103,28 @@ pub(crate) fn copied(alloc: Global, records: &[Record]) -> Result<Vec<Record>, A
     Ok(copies)
 }
 
+/// The records in record order, and of those that are the same the first. The stem is how many octets the keys of all owners begin
+/// with that are the same. The only error is want of memory.
+pub(crate) fn in_order_behind(
+    alloc: Global,
+    records: Vec<Record>,
+    stem: usize,
+) -> Result<Vec<Record>, AllocError>
+    requires { HaveStem stem records.items }
+    ensures order { IfOk result (λ rows. InOrder rows.items) }
+    ensures set { IfOk result (λ rows. set_of rows.items ≡ set_of records.items) }
+{
+    let places = sources(alloc, &records, stem)?;
+    let rows = arranged(alloc, records, places)?;
+    Ok(once(rows))
+}
+
 /// The records in record order, and of those that are the same the first. The only error is want of memory.
 pub(crate) fn in_order(alloc: Global, records: Vec<Record>) -> Result<Vec<Record>, AllocError>
     ensures order { IfOk result (λ rows. InOrder rows.items) }
     ensures set { IfOk result (λ rows. set_of rows.items ≡ set_of records.items) }
 {
-    let places = sources(alloc, &records)?;
-    let rows = arranged(alloc, records, places)?;
-    Ok(once(rows))
+    in_order_behind(alloc, records, 0)
 }
 
 /// The records, each once: of those that are the same the first.

@@ -1,17 +1,6 @@
-use Rattle.std.proofs.Common.{length, sym, ap, subst, ◌∙◌}
-use Rattle.zone_core.specs.Sets.{set_of}
-use Rattle.zone_core.specs.Views.{ArePlaces, AreTaken}
+use Rattle.std.proofs.Common.{refl}
+use Rattle.zone_core.proofs.StemLemmas.{no_stem}
 use Rattle.zone_core.proofs.rows.in_order.Goals as goal
 
-pub arranged-requires : goal.arranged-requires
-arranged-requires c = subst (λ xs. ArePlaces (length xs) c.in_ok-places.places.items) c.deref.ensures.value c.in_ok-places.ensures.places
-
-pub once-requires : goal.once-requires
-once-requires c =
-    let rows = c.in_ok-rows.rows.items in
-    c.in_ok-places.ensures.order rows (subst (λ xs. AreTaken xs c.in_ok-places.places.items rows) (sym c.deref.ensures.value) c.in_ok-rows.ensures)
-
-pub returns-clause-set : goal.returns-clause-set
-returns-clause-set c =
-    let rows = c.in_ok-rows.rows.items in
-    c.once.ensures.set ∙ c.in_ok-places.ensures.set rows (subst (λ xs. AreTaken xs c.in_ok-places.places.items rows) (sym c.deref.ensures.value) c.in_ok-rows.ensures) ∙ ap set_of c.deref.ensures.value
+pub in_order_behind-requires : goal.in_order_behind-requires
+in_order_behind-requires c = no_stem c.args.records.items

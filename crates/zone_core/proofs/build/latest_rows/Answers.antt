@@ -1,0 +1,14 @@
+use Rattle.std.proofs.Common.{◌≡◌, ap, subst, sym, ◌∙◌}
+use Rattle.std.proofs.lemmas.Result.{IfOk-weaker}
+use Rattle.zone_core.specs.Sets.{set_of}
+use Rattle.zone_core.specs.Zones.{latest}
+use Rattle.zone_core.specs.Heads.{HaveStem}
+use Rattle.zone_core.proofs.build.latest_rows.Goals as goal
+
+pub in_order_behind-requires : goal.in_order_behind-requires
+in_order_behind-requires c = subst (HaveStem c.stem_of-stem.result) c.deref.ensures.value c.stem_of-stem.ensures
+
+pub returns-clause-set : goal.returns-clause-set
+returns-clause-set c =
+    IfOk-weaker c.in_order_behind.result (λ rows. set_of rows.items ≡ set_of c.reversed-records.result.items) (λ rows. set_of rows.items ≡ latest c.args.records.items)
+    (λ rows e. e ∙ ap set_of c.reversed-records.ensures) c.in_order_behind.ensures.set

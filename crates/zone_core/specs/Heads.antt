@@ -1,0 +1,27 @@
+-- The heads of names: some octets of their keys, behind those that all keys of a row begin with.
+use Rattle.std.specs.Prelude.{◌≡◌, ℕ, zero, suc, List, [], ◌∷◌, ◌++◌, length, drop}
+use Rattle.std.specs.Int.{from_be_bytes, w64}
+use Rattle.std.specs.List.{AllByRecursion}
+use Rattle.dns_names.specs.Keys.{key_of}
+use Rattle.dns_data.specs.declared.record.Record.{Record}
+
+-- so many octets of a row, with zeros for those that it lacks
+abbrev pub front : ℕ → List ℕ → List ℕ
+front zero octets = []
+front (suc n) [] = 0 ∷ front n []
+front (suc n) (o ∷ octets) = o ∷ front n octets
+
+-- the first eight octets as the number that they are written as
+unfoldable pub written : List ℕ → ℕ
+written octets = from_be_bytes w64 (front 8 octets)
+
+-- the first eight octets of a name's key behind a stem, and the eight behind them
+abbrev pub high_behind : ℕ → List (List ℕ) → ℕ
+high_behind stem name = written (drop stem (key_of name))
+
+abbrev pub low_behind : ℕ → List (List ℕ) → ℕ
+low_behind stem name = written (drop 8 (drop stem (key_of name)))
+
+-- the keys of all owners begin with the same octets, which are so many
+abbrev pub HaveStem : ℕ → List Record → Type 0
+HaveStem stem rs = (begin : List ℕ) × (length begin ≡ stem) × AllByRecursion (λ r. (behind : List ℕ) × (key_of r.owner ≡ begin ++ behind)) rs
