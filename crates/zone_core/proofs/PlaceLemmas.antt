@@ -17,7 +17,7 @@ use Rattle.dns_names.specs.Keys.{key_of}
 use Rattle.dns_data.specs.Rdata.{IsRecord}
 use Rattle.dns_data.specs.RecordOrder.{Key, key_of as record_key, key_total}
 use Rattle.zone_core.specs.Heads.{high_behind, low_behind, HaveStem}
-use Rattle.zone_core.specs.Views.{ViewsOf, IsViewOf, IsHeaded, view_order, ArePlaces, AreInverse, AreTaken}
+use Rattle.zone_core.specs.Views.{ViewsOf, IsHeaded, view_order, ArePlaces, AreInverse, AreTaken}
 use Rattle.zone_core.proofs.SortLemmas.{stable_set}
 use Rattle.zone_core.proofs.StemLemmas.{IsBehind, heads_first}
 

@@ -1,5 +1,5 @@
 -- Names that the heads of their keys tell apart.
-use Rattle.std.proofs.Common.{◌≡◌, ℕ, zero, suc, ◌+◌, ◌<◌, ◌≤◌, List, [], ◌∷◌, ◌++◌, length, take, drop, replicate, reverse, get_or, Bool, true, inl, inr, refl, sym, ap, subst, ◌∙◌, arith}
+use Rattle.std.proofs.Common.{◌≡◌, ℕ, zero, suc, ◌+◌, ◌<◌, ◌≤◌, List, [], ◌∷◌, ◌++◌, length, take, drop, replicate, reverse, get_or, true, inl, inr, refl, sym, ap, subst, ◌∙◌, arith}
 use Rattle.std.specs.Int.{from_be_bytes, w64}
 use Rattle.std.specs.declared.cmp.Ordering.{Ordering}
 use Rattle.std.specs.declared.cmp.Ordering.TheVariants.{Less, Equal, Greater}
@@ -15,7 +15,7 @@ use Rattle.dns_names.specs.Keys.{key_octet, label_front, label_key, key_of}
 use Rattle.dns_names.specs.Order.{canonical_cmp}
 use Rattle.dns_names.proofs.KeyLaws.{tied, key_order, key_begins}
 use Rattle.dns_names.proofs.NameLemmas.{is_within-Decides}
-use Rattle.dns_names.proofs.OctetLemmas.{worth, by_worth, eight}
+use Rattle.dns_names.proofs.OctetLemmas.{by_worth, eight}
 use Rattle.dns_data.specs.declared.record.Record.{Record}
 use Rattle.zone_core.specs.Sets.{record_order}
 use Rattle.zone_core.specs.Heads.{front, written, high_behind, low_behind, HaveStem}
@@ -200,7 +200,7 @@ names_first begin r s this that =
     let octets : AreOctets this.behind = octets_behind begin this.behind (subst AreOctets this.key (key_octets r.owner this.owner)) in
     let also : AreOctets that.behind = octets_behind begin that.behind (subst AreOctets that.key (key_octets s.owner that.owner)) in
     let order : canonical_cmp r.owner s.owner ≡ slice_cmp nat_cmp this.behind that.behind =
-        sym (key_order r.owner s.owner) ∙ (λ j. slice_cmp nat_cmp (this.key j) (that.key j)) ∙ stem_alike begin this.behind that.behind in
+    sym (key_order r.owner s.owner) ∙ (λ j. slice_cmp nat_cmp (this.key j) (that.key j)) ∙ stem_alike begin this.behind that.behind in
     let left : drop (length begin) (key_of r.owner) ≡ this.behind = ap (drop (length begin)) this.key ∙ drop_begin begin this.behind in
     let right : drop (length begin) (key_of s.owner) ≡ that.behind = ap (drop (length begin)) that.key ∙ drop_begin begin that.behind in
     (λ j. ordering_then (ordering_then (nat_cmp (written (left j)) (written (right j))) (nat_cmp (written (drop 8 (left j))) (written (drop 8 (right j))))) (order j))

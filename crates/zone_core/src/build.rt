@@ -44,9 +44,7 @@ impl Zone {
 fn all_within(origin: &Name, records: &[Record]) -> bool
     ensures { result ≡ list_all (λ r. is_within r.owner origin.now) records.now }
 {
-    records
-        .iter()
-        .all(|record| record.owner.is_within(origin))
+    records.iter().all(|record| record.owner.is_within(origin))
 }
 
 /// How many octets the keys of all owners begin with that are the same: those of the origin's, where all are within it.

@@ -1,4 +1,4 @@
-use Rattle.std.proofs.Common.{refl, arith}
+use Rattle.std.proofs.Common.{arith}
 use Rattle.zone_core.proofs.PlaceLemmas.{read_is, views_more, all_views}
 use Rattle.zone_core.proofs.places.views.Goals as goal
 

@@ -1,4 +1,3 @@
-use Rattle.std.proofs.Common.{refl}
 use Rattle.zone_core.proofs.StemLemmas.{no_stem}
 use Rattle.zone_core.proofs.rows.in_order.Goals as goal
 
