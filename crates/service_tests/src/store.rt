@@ -156,8 +156,8 @@ badexample.org. 60 IN A 192.0.2.3
 x\\.example.org. 60 IN A 192.0.2.4
 ";
 
-/// The records that a table has within a name of the zone `org.`.
-fn within_org<L: Ledger>(alloc: Global, top: &str, blank: Blank) -> Result<String, Fail>
+/// The records that a table has within `example.org.`, a name of the zone `org.`.
+fn within_org<L: Ledger>(alloc: Global, blank: Blank) -> Result<String, Fail>
     requires name { blank.name ≡ L.name }
     requires parts { blank.parts ≡ L.parts }
     requires some { 0 < blank.parts }
@@ -172,7 +172,7 @@ fn within_org<L: Ledger>(alloc: Global, top: &str, blank: Blank) -> Result<Strin
     if zone.as_str() != "serial 1 records 6" {
         return Err(Fail::from("the zone is not taken"));
     }
-    match table.subtree(alloc, &origin, &name(alloc, top)?) {
+    match table.subtree(alloc, &origin, &name(alloc, "example.org.")?) {
         Ok(Some(found)) => Ok(battery::records_text(alloc, &found)?),
         _ => Err(Fail::from("there is no zone")),
     }
@@ -180,7 +180,7 @@ fn within_org<L: Ledger>(alloc: Global, top: &str, blank: Blank) -> Result<Strin
 
 #[test]
 fn a_name_of_a_greater_zone(rt: HostRuntime) -> Result<(), Fail> {
-    let got = within_org::<Brand>(rt.alloc(), "example.org.", Blank::new(1))?;
+    let got = within_org::<Brand>(rt.alloc(), Blank::new(1))?;
     assert_eq!(rt;
         got.as_str(),
         "example.org. 60 A 192.0.2.1|www.example.org. 60 A 192.0.2.2",
