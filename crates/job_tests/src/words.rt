@@ -232,7 +232,8 @@ fn texts(rt: HostRuntime) -> Result<(), Fail> {
     let alloc = rt.alloc();
     for (text, want) in TOLD {
         let words = words(alloc, text)?;
-        match read_words(alloc, &words) {
+        let read = read_words(alloc, &words);
+        match &read {
             Err(WordsFault::Misused(got)) => assert!(rt; got.as_str() == want, "{got}"),
             _ => assert!(rt; false, "{text}"),
         }
