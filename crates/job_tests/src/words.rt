@@ -240,3 +240,29 @@ fn texts(rt: HostRuntime) -> Result<(), Fail> {
     }
     Ok(())
 }
+
+/// Words that ask for help, and what they get.
+const HELP: [(&str, &str); 2] = [
+    (
+        "--help",
+        "Usage: zoneoffice [COMMAND]\n\nCommands:\n  apply    Updates a zone, as without any word\n  canon    Prints a zone in canonical form\n  import   Puts a zone into a store\n  export   Prints a zone of a store\n  migrate  Takes a store of version 1 to version 2\n  rights   Asks a policy whether a caller may do something\n  serve    Answers callers over HTTP\n  help     Print this message or the help of the given subcommand(s)\n\nOptions:\n  -h, --help  Print help\n",
+    ),
+    (
+        "canon|--help",
+        "Prints a zone in canonical form\n\nUsage: canon --origin <origin>\n\nOptions:\n      --origin <origin>  The zone's origin, an absolute name\n  -h, --help             Print help\n",
+    ),
+];
+
+#[test]
+fn texts_of_help(rt: HostRuntime) -> Result<(), Fail> {
+    let alloc = rt.alloc();
+    for (text, want) in HELP {
+        let words = words(alloc, text)?;
+        let read = read_words(alloc, &words);
+        match &read {
+            Err(WordsFault::Help(got)) => assert!(rt; got.as_str() == want, "{got}"),
+            _ => assert!(rt; false, "{text}"),
+        }
+    }
+    Ok(())
+}
