@@ -1,5 +1,5 @@
 -- The laws of record data: what is read is spelled by the items, what the items spell is read, and so is what is printed.
-use Rattle.std.proofs.Common.{◌≡◌, ℕ, ◌^◌, ◌<◌, inl, eqb, decimal, List, [], ◌∷◌, length, Option, None, Result, Ok, Err, refl, sym, ap, subst, append-nil, arith, eqb-true}
+use Rattle.std.proofs.Common.{◌≡◌, ℕ, ◌^◌, ◌<◌, inl, eqb, decimal, List, [], ◌∷◌, length, Option, None, Result, Ok, Err, refl, sym, ap, subst, ◌∙◌, append-nil, arith, eqb-true}
 use Rattle.std.proofs.lemmas.List.{nil_from_length}
 use Rattle.std.proofs.NetLemmas.Texts.{IsDotted-ipv4_text, IsColonHex-hex_groups_text}
 use Rattle.std.specs.List.{AllByRecursion}
@@ -16,16 +16,13 @@ use Rattle.dns_data.specs.declared.record_type.RecordType.{RecordType}
 use Rattle.dns_data.specs.declared.record_type.RecordType.TheVariants as types
 use Rattle.dns_data.specs.declared.rdata.Data.{Data}
 use Rattle.dns_data.specs.declared.rdata.Data.TheVariants.{A, Ns, Cname, Soa, Ptr, Mx, Txt, Aaaa, Srv, Ds}
-use Rattle.dns_data.specs.declared.rdata.MailExchange.{MailExchange}
-use Rattle.dns_data.specs.declared.rdata.Service.{Service}
-use Rattle.dns_data.specs.declared.ds.DelegationSigner.{DelegationSigner}
 use Rattle.dns_data.specs.declared.soa.SoaFields.{SoaFields}
 use Rattle.dns_data.specs.Faults.{◌>>=◌}
 use Rattle.dns_data.specs.Items.{ItemText, plain, in_quotes}
-use Rattle.dns_data.specs.Rdata.{type_of, IsSoaRdata, IsMxRdata, IsSrvRdata, IsDsRdata, IsRdata}
+use Rattle.dns_data.specs.Rdata.{type_of, IsSoaRdata, IsRdata}
 use Rattle.dns_data.specs.Strings.{IsString, string_text}
-use Rattle.dns_data.specs.Digests.{SpellsDigest}
-use Rattle.dns_data.specs.Text.{soa_items, mx_items, srv_items, ds_items, strings_items, data_items}
+use Rattle.dns_data.specs.Digests.{IsDigest, SpellsDigest}
+use Rattle.dns_data.specs.Text.{soa_items, strings_items, data_items}
 use Rattle.dns_data.specs.Grammar.{SpellsName, SpellsNumber, SpellsSeconds, IsNameItem, IsSoa, IsMx, IsSrv, IsDs, SpellStrings, IsData}
 use Rattle.dns_data.specs.Reading.{Field, field, ipv4_of, ipv6_of, name_of, soa_at, mx_at, srv_at, strings_of, ds_at, with_rest, ended, data_of}
 use Rattle.dns_data.proofs.StepLaws.{needed_ok, done, ok_is}
@@ -34,7 +31,7 @@ use Rattle.dns_data.proofs.StringLaws.{string_spells}
 use Rattle.dns_data.proofs.FieldLaws.{AreBytes, IsOrigin, field_found, field_only, name_found, name_only, ipv4_found, ipv4_only, ipv6_found, ipv6_only}
 use Rattle.dns_data.proofs.DigestLaws.{digest_spells}
 use Rattle.dns_data.proofs.DsLaws.{ds_found, ds_only}
-use Rattle.dns_data.proofs.PartLaws.{mx_found, mx_only, srv_found, srv_only, soa_found, soa_only, strings_found, strings_only}
+use Rattle.dns_data.proofs.PartLaws.{Found, mx_found, mx_only, srv_found, srv_only, soa_found, soa_only, strings_found, strings_only}
 
 -- ---- the end of the data
 
@@ -57,21 +54,24 @@ whole_found {X} wrap (Ok x) made e =
     let g = ended_ok (wrap x.0) made x.1 e in
     record { value = x.0; read_is = ap (λ (t : List ItemText). done (x.0, t)) g.1; same = g.0 }
 
+-- data of several fields
+parts_whole : (read : Field Data) (made : Data) → (read >>= ended) ≡ Ok made → read ≡ Ok (made, [])
+parts_whole (Err f) made e = absurd cc
+parts_whole (Ok x) made e =
+    let g = ended_ok x.0 made x.1 e in
+    ap (λ (t : List ItemText). done (x.0, t)) g.1 ∙ ap (λ (d : Data). done {A = Data × List ItemText} (d, [])) g.0
+
 -- data of strings, which are all of the items
 strings_whole : (read : Result (List (List ℕ)) DataFault) (made : Data) → (read >>= (λ strings. Ok (Txt strings, [])) >>= ended) ≡ Ok made → (strings : List (List ℕ)) × (read ≡ Ok strings) × (Txt strings ≡ made)
 strings_whole (Err f) made e = absurd cc
 strings_whole (Ok strings) made e = (strings, refl, (ended_ok (Txt strings) made [] e).0)
 
--- data of a digest, which is all of the items
-ds_whole : (read : Result DelegationSigner DataFault) (made : Data) → (read >>= (λ ds. Ok (Ds ds, [])) >>= ended) ≡ Ok made → (ds : DelegationSigner) × (read ≡ Ok ds) × (Ds ds ≡ made)
+-- data that take all of the items
+ds_whole : (read : Result Data DataFault) (made : Data) → (read >>= (λ ds. Ok (ds, [])) >>= ended) ≡ Ok made → read ≡ Ok made
 ds_whole (Err f) made e = absurd cc
-ds_whole (Ok ds) made e = (ds, refl, (ended_ok (Ds ds) made [] e).0)
+ds_whole (Ok ds) made e = ap (λ (d : Data). Ok d) (ended_ok ds made [] e).0
 
 -- ---- data that are read
-
--- data of a type that the items spell
-abbrev pub Found : Option (List (List ℕ)) → List ItemText → RecordType → Data → Type 0
-Found origin items t made = (type_of made ≡ t) × IsData origin made items
 
 -- a name alone
 name_item : (origin : Option (List (List ℕ))) (items : List ItemText) (name : List (List ℕ)) → IsOrigin origin → AreBytes items → field (name_of origin) items ≡ Ok (name, []) → IsNameItem origin name items
@@ -97,9 +97,7 @@ data_found types.Soa origin items made is bytes e =
 data_found types.Ptr origin items made is bytes e =
     let w = whole_found Ptr (field (name_of origin) items) made e in
     subst (Found origin items types.Ptr) w.same (refl, name_item origin items w.value is bytes w.read_is)
-data_found types.Mx origin items made is bytes e =
-    let w = whole_found Mx (mx_at origin items) made e in
-    subst (Found origin items types.Mx) w.same (refl, mx_found origin items w.value is bytes w.read_is)
+data_found types.Mx origin items made is bytes e = mx_found origin items made is bytes (parts_whole (mx_at origin items) made e)
 data_found types.Txt origin items made is bytes e =
     let w = strings_whole (strings_of items) made e in
     subst (Found origin items types.Txt) w.2 (refl, strings_found items w.0 bytes w.1)
@@ -107,12 +105,8 @@ data_found types.Aaaa origin items made is bytes e =
     let w = whole_found Aaaa (field ipv6_of items) made e in
     let f = field_found ipv6_of (λ a raw. IsIpv6Text raw a) ipv6_found items w.value [] bytes w.read_is in
     subst (Found origin items types.Aaaa) w.same (refl, (f.raw, f.items_are, f.spelled))
-data_found types.Srv origin items made is bytes e =
-    let w = whole_found Srv (srv_at origin items) made e in
-    subst (Found origin items types.Srv) w.same (refl, srv_found origin items w.value is bytes w.read_is)
-data_found types.Ds origin items made is bytes e =
-    let w = ds_whole (ds_at items) made e in
-    subst (Found origin items types.Ds) w.2 (refl, ds_found items w.0 bytes w.1)
+data_found types.Srv origin items made is bytes e = srv_found origin items made is bytes (parts_whole (srv_at origin items) made e)
+data_found types.Ds origin items made is bytes e = ds_found origin items made bytes (ds_whole (ds_at items) made e)
 
 -- ---- data that are spelled
 
@@ -127,11 +121,11 @@ spelled_only origin items (Ns server) is h = rw (name_item_only origin items ser
 spelled_only origin items (Cname target) is h = rw (name_item_only origin items target is h) refl
 spelled_only origin items (Soa soa) is h = rw (soa_only origin items soa is h) refl
 spelled_only origin items (Ptr target) is h = rw (name_item_only origin items target is h) refl
-spelled_only origin items (Mx mx) is h = rw (mx_only origin items mx is h) refl
+spelled_only origin items (Mx preference exchange) is h = rw (mx_only origin items preference exchange is h) refl
 spelled_only origin items (Txt strings) is h = rw (strings_only strings items h.0 h.1) refl
 spelled_only origin items (Aaaa address) is (raw, items_are, spelled) = rw (items_are, field_only ipv6_of raw address [] (ipv6_only raw address spelled)) refl
-spelled_only origin items (Srv srv) is h = rw (srv_only origin items srv is h) refl
-spelled_only origin items (Ds ds) is h = rw (ds_only items ds h) refl
+spelled_only origin items (Srv priority weight port target) is h = rw (srv_only origin items priority weight port target is h) refl
+spelled_only origin items (Ds key_tag algorithm digest_type digest) is h = rw (ds_only items key_tag algorithm digest_type digest h) refl
 
 -- what the items spell is read
 pub data_only : (t : RecordType) (origin : Option (List (List ℕ))) (items : List ItemText) (made : Data) → IsOrigin origin → type_of made ≡ t → IsData origin made items → data_of t origin items ≡ Ok made
@@ -180,39 +174,39 @@ soa_spells soa k = record {
   minimum_is = seconds_spell soa.minimum.0 k.minimum;
 }
 
-mx_spells : (mx : MailExchange) → IsMxRdata mx → IsMx None mx (mx_items mx)
-mx_spells mx k = record {
-  preference = decimal mx.preference;
-  exchange = name_text mx.exchange;
+mx_spells : (preference : ℕ) (exchange : List (List ℕ)) → IsRdata (Mx preference exchange) → IsMx None preference exchange (data_items (Mx preference exchange))
+mx_spells preference exchange k = record {
+  preference_text = decimal preference;
+  exchange_text = name_text exchange;
   items_are = refl;
-  preference_is = number16_spells mx.preference k.preference;
-  exchange_is = (k.exchange, text_spells mx.exchange k.exchange);
+  preference_is = number16_spells preference k.0;
+  exchange_is = (k.1, text_spells exchange k.1);
 }
 
-srv_spells : (srv : Service) → IsSrvRdata srv → IsSrv None srv (srv_items srv)
-srv_spells srv k = record {
-  priority = decimal srv.priority;
-  weight = decimal srv.weight;
-  port = decimal srv.port;
-  target = name_text srv.target;
+srv_spells : (priority weight port : ℕ) (target : List (List ℕ)) → IsRdata (Srv priority weight port target) → IsSrv None priority weight port target (data_items (Srv priority weight port target))
+srv_spells priority weight port target k = record {
+  priority_text = decimal priority;
+  weight_text = decimal weight;
+  port_text = decimal port;
+  target_text = name_text target;
   items_are = refl;
-  priority_is = number16_spells srv.priority k.priority;
-  weight_is = number16_spells srv.weight k.weight;
-  port_is = number16_spells srv.port k.port;
-  target_is = (k.target, text_spells srv.target k.target);
+  priority_is = number16_spells priority k.0;
+  weight_is = number16_spells weight k.1;
+  port_is = number16_spells port k.2;
+  target_is = (k.3, text_spells target k.3);
 }
 
-ds_spells : (ds : DelegationSigner) → IsDsRdata ds → IsDs ds (ds_items ds)
-ds_spells ds k = record {
-  key_tag = decimal ds.key_tag;
-  algorithm = decimal ds.algorithm;
-  digest_type = decimal ds.digest_type;
-  digest = encode_lower ds.digest ∷ [];
+ds_spells : (key_tag algorithm digest_type : ℕ) (digest : List ℕ) → IsRdata (Ds key_tag algorithm digest_type digest) → IsDs key_tag algorithm digest_type digest (data_items (Ds key_tag algorithm digest_type digest))
+ds_spells key_tag algorithm digest_type digest k = record {
+  key_tag_text = decimal key_tag;
+  algorithm_text = decimal algorithm;
+  digest_type_text = decimal digest_type;
+  digest_texts = encode_lower digest ∷ [];
   items_are = refl;
-  key_tag_is = number16_spells ds.key_tag k.key_tag;
-  algorithm_is = number8_spells ds.algorithm k.algorithm;
-  digest_type_is = number8_spells ds.digest_type k.digest_type;
-  digest_is = (k.digest, subst (SpellsDigest ds.digest) (sym (append-nil (encode_lower ds.digest))) (digest_spells ds.digest k.digest));
+  key_tag_is = number16_spells key_tag k.0;
+  algorithm_is = number8_spells algorithm k.1;
+  digest_type_is = number8_spells digest_type k.2;
+  digest_is = (k.3, subst (SpellsDigest digest) (sym (append-nil (encode_lower digest))) (digest_spells digest k.3));
 }
 
 -- the printed items spell the data
@@ -222,11 +216,11 @@ data_spells (Ns server) is = name_spells server is
 data_spells (Cname target) is = name_spells target is
 data_spells (Soa soa) is = soa_spells soa is
 data_spells (Ptr target) is = name_spells target is
-data_spells (Mx mx) is = mx_spells mx is
+data_spells (Mx preference exchange) is = mx_spells preference exchange is
 data_spells (Txt strings) is = (is, strings_spell strings is.each)
 data_spells (Aaaa address) is = (hex_groups_text (ipv6_segments address), refl, IsColonHex-hex_groups_text (ipv6_segments address) is.0 is.1)
-data_spells (Srv srv) is = srv_spells srv is
-data_spells (Ds ds) is = ds_spells ds is
+data_spells (Srv priority weight port target) is = srv_spells priority weight port target is
+data_spells (Ds key_tag algorithm digest_type digest) is = ds_spells key_tag algorithm digest_type digest is
 
 -- what is printed is read again
 pub data_again : (made : Data) → IsRdata made → data_of (type_of made) None (data_items made) ≡ Ok made
@@ -243,8 +237,8 @@ some_items (Ns server) is = omega arith
 some_items (Cname target) is = omega arith
 some_items (Soa soa) is = omega arith
 some_items (Ptr target) is = omega arith
-some_items (Mx mx) is = omega arith
+some_items (Mx preference exchange) is = omega arith
 some_items (Txt strings) is = some_strings strings is.some
 some_items (Aaaa address) is = omega arith
-some_items (Srv srv) is = omega arith
-some_items (Ds ds) is = omega arith
+some_items (Srv priority weight port target) is = omega arith
+some_items (Ds key_tag algorithm digest_type digest) is = omega arith

@@ -1,11 +1,13 @@
 -- The laws of DS data: what is read is spelled by the items, what they spell is read, and so is what is printed.
-use Rattle.std.proofs.Common.{◌≡◌, ℕ, ◌+◌, ◌<◌, ◌≤◌, Bool, true, false, cond, List, [], ◌∷◌, ◌++◌, length, map, get_or, drop, Result, Ok, Err, refl, sym, ap, subst, ◌∙◌, append_assoc, arith}
+use Rattle.std.proofs.Common.{◌≡◌, ℕ, ◌+◌, ◌<◌, ◌≤◌, Bool, true, false, cond, List, [], ◌∷◌, ◌++◌, length, map, get_or, drop, Option, Result, Ok, Err, refl, sym, ap, subst, ◌∙◌, append_assoc, arith}
 use Rattle.std.proofs.lemmas.List.{append-nil, at_drop_more, at_drop_all}
 use Rattle.std.specs.List.{concat}
 use Rattle.dns_data.specs.declared.fault.DataFault.{DataFault}
 use Rattle.dns_data.specs.declared.fault.DataFault.TheVariants.{FieldMissing, QuotedItem}
 use Rattle.dns_data.specs.declared.item.Item.{Item}
-use Rattle.dns_data.specs.declared.ds.DelegationSigner.{DelegationSigner}
+use Rattle.dns_data.specs.declared.record_type.RecordType.TheVariants as types
+use Rattle.dns_data.specs.declared.rdata.Data.{Data}
+use Rattle.dns_data.specs.declared.rdata.Data.TheVariants.{Ds}
 use Rattle.dns_data.specs.Faults.{Refuses, ◌>>=◌}
 use Rattle.dns_data.specs.Items.{ItemText, item_of, plain}
 use Rattle.dns_data.specs.Numbers.{number_of}
@@ -16,7 +18,7 @@ use Rattle.dns_data.proofs.StepLaws.{bind_ok, guarded_ok, ok_is}
 use Rattle.dns_data.proofs.DigestLaws.{digest_found, digest_only}
 use Rattle.dns_data.proofs.EachLemmas.{refuses_on}
 use Rattle.dns_data.proofs.FieldLaws.{AreBytes, ReadField, field_found, field_only, number8_found, number8_only, number16_only}
-use Rattle.dns_data.proofs.PartLaws.{before, u16_field}
+use Rattle.dns_data.proofs.PartLaws.{before, u16_field, Found}
 
 -- ---- items that are joined
 
@@ -123,13 +125,13 @@ u8_field : (items : List ItemText) (x : ℕ) (rest : List ItemText) → AreBytes
 u8_field items x rest = field_found (number_of 255) (SpellsNumber 8) number8_found items x rest
 
 -- the numbers and the digest, from their fields
-ds_from : (ds : DelegationSigner) (items one two three : List ItemText) → ReadField (SpellsNumber 16) items ds.key_tag one → ReadField (SpellsNumber 8) one ds.algorithm two → ReadField (SpellsNumber 8) two ds.digest_type three
-    → DigestOf three ds.digest → IsDs ds items
-ds_from ds items one two three a b c d = record {
-  key_tag = a.raw;
-  algorithm = b.raw;
-  digest_type = c.raw;
-  digest = d.parts;
+ds_from : (key_tag algorithm digest_type : ℕ) (digest : List ℕ) (items one two three : List ItemText) → ReadField (SpellsNumber 16) items key_tag one → ReadField (SpellsNumber 8) one algorithm two
+    → ReadField (SpellsNumber 8) two digest_type three → DigestOf three digest → IsDs key_tag algorithm digest_type digest items
+ds_from key_tag algorithm digest_type digest items one two three a b c d = record {
+  key_tag_text = a.raw;
+  algorithm_text = b.raw;
+  digest_type_text = c.raw;
+  digest_texts = d.parts;
   items_are = a.items_are ∙ ap (before a.raw) (b.items_are ∙ ap (before b.raw) (c.items_are ∙ ap (before c.raw) d.items_are));
   key_tag_is = a.spelled;
   algorithm_is = b.spelled;
@@ -137,30 +139,33 @@ ds_from ds items one two three a b c d = record {
   digest_is = d.spelled;
 }
 
-same_ds : (items : List ItemText) (made ds : DelegationSigner) → made ≡ ds → IsDs made items → IsDs ds items
-same_ds items made ds same is = subst (λ (s : DelegationSigner). IsDs s items) same is
+-- the data of them
+same_ds : (origin : Option (List (List ℕ))) (items : List ItemText) (key_tag algorithm digest_type : ℕ) (digest : List ℕ) (made : Data) → Ds key_tag algorithm digest_type digest ≡ made → IsDs key_tag algorithm digest_type digest items
+    → Found origin items types.Ds made
+same_ds origin items key_tag algorithm digest_type digest made same is = subst (Found origin items types.Ds) same (refl, is)
 
 -- DS data that are read are spelled
-pub ds_found : (items : List ItemText) (ds : DelegationSigner) → AreBytes items → ds_at items ≡ Ok ds → IsDs ds items
+pub ds_found : (origin : Option (List (List ℕ))) (items : List ItemText) (made : Data) → AreBytes items → ds_at items ≡ Ok made → Found origin items types.Ds made
 unfolding ds_at
-ds_found items ds bytes e =
-    let a = bind_ok (u16_at items) _ ds e in
-    let b = bind_ok (u8_at a.0.1) _ ds a.2 in
-    let c = bind_ok (u8_at b.0.1) _ ds b.2 in
-    let d = bind_ok (digest_at c.0.1) _ ds c.2 in
-    let made : DelegationSigner = record { key_tag = a.0.0; algorithm = b.0.0; digest_type = c.0.0; digest = d.0 } in
+ds_found origin items made bytes e =
+    let a = bind_ok (u16_at items) _ made e in
+    let b = bind_ok (u8_at a.0.1) _ made a.2 in
+    let c = bind_ok (u8_at b.0.1) _ made b.2 in
+    let d = bind_ok (digest_at c.0.1) _ made c.2 in
     let af = u16_field items a.0.0 a.0.1 bytes a.1 in
     let bf = u8_field a.0.1 b.0.0 b.0.1 af.bytes b.1 in
     let cf = u8_field b.0.1 c.0.0 c.0.1 bf.bytes c.1 in
-    same_ds items made ds (ok_is made ds d.2) (ds_from made items a.0.1 b.0.1 c.0.1 af bf cf (digest_at_found c.0.1 d.0 d.1))
+    let is = ds_from a.0.0 b.0.0 c.0.0 d.0 items a.0.1 b.0.1 c.0.1 af bf cf (digest_at_found c.0.1 d.0 d.1) in
+    same_ds origin items a.0.0 b.0.0 c.0.0 d.0 made (ok_is (Ds a.0.0 b.0.0 c.0.0 d.0) made d.2) is
 
 -- DS data that are spelled are read
-pub ds_only : (items : List ItemText) (ds : DelegationSigner) → IsDs ds items → ds_at items ≡ Ok ds
+pub ds_only : (items : List ItemText) (key_tag algorithm digest_type : ℕ) (digest : List ℕ) → IsDs key_tag algorithm digest_type digest items → ds_at items ≡ Ok (Ds key_tag algorithm digest_type digest)
 unfolding ds_at
-ds_only items ds h =
-    let three : List ItemText = map plain h.digest in
-    let a = field_only (number_of 65535) h.key_tag ds.key_tag (plain h.algorithm ∷ plain h.digest_type ∷ three) (number16_only h.key_tag ds.key_tag h.key_tag_is) in
-    let b = field_only (number_of 255) h.algorithm ds.algorithm (plain h.digest_type ∷ three) (number8_only h.algorithm ds.algorithm h.algorithm_is) in
-    let c = field_only (number_of 255) h.digest_type ds.digest_type three (number8_only h.digest_type ds.digest_type h.digest_type_is) in
-    let d = digest_at_only h.digest ds.digest h.digest_is.0 h.digest_is.1 in
+ds_only items key_tag algorithm digest_type digest h =
+    let three : List ItemText = map plain h.digest_texts in
+    let two : List ItemText = plain h.digest_type_text ∷ three in
+    let a = field_only (number_of 65535) h.key_tag_text key_tag (plain h.algorithm_text ∷ two) (number16_only h.key_tag_text key_tag h.key_tag_is) in
+    let b = field_only (number_of 255) h.algorithm_text algorithm two (number8_only h.algorithm_text algorithm h.algorithm_is) in
+    let c = field_only (number_of 255) h.digest_type_text digest_type three (number8_only h.digest_type_text digest_type h.digest_type_is) in
+    let d = digest_at_only h.digest_texts digest h.digest_is.0 h.digest_is.1 in
     rw (h.items_are, a, b, c, d) refl

@@ -11,9 +11,6 @@ use Rattle.std.proofs.lemmas.Bool.Decides.{nat_tests}
 use Rattle.std.proofs.lemmas.List.Elements.{recursion_from_All}
 use Rattle.hex.specs.Hex.{lower_digits, encode_with, encode_lower}
 use Rattle.dns_names.proofs.KeyLaws.{three, tied, less, greater}
-use Rattle.dns_data.specs.declared.ds.DelegationSigner.{DelegationSigner}
-use Rattle.dns_data.specs.declared.rdata.MailExchange.{MailExchange}
-use Rattle.dns_data.specs.declared.rdata.Service.{Service}
 use Rattle.dns_data.specs.declared.soa.SoaFields.{SoaFields}
 use Rattle.dns_data.specs.Digests.{IsDigest}
 use Rattle.dns_data.specs.Items.{plain, items_text}
@@ -73,11 +70,11 @@ items_order so_far (x ∷ x' ∷ xs) (y ∷ y' ∷ ys) seen also count =
 pub soa_order : (a b : SoaFields) → in_turn Equal (soa_texts a) (soa_texts b) ≡ by_octets (items_text (map plain (soa_texts a))) (items_text (map plain (soa_texts b)))
 soa_order a b = sym (items_order Equal (soa_texts a) (soa_texts b) (soa_visible a) (soa_visible b) refl)
 
-pub mx_order : (a b : MailExchange) → in_turn Equal (mx_texts a) (mx_texts b) ≡ by_octets (items_text (map plain (mx_texts a))) (items_text (map plain (mx_texts b)))
-mx_order a b = sym (items_order Equal (mx_texts a) (mx_texts b) (mx_visible a) (mx_visible b) refl)
+pub mx_order : (p q : ℕ) (x y : List (List ℕ)) → in_turn Equal (mx_texts p x) (mx_texts q y) ≡ by_octets (items_text (map plain (mx_texts p x))) (items_text (map plain (mx_texts q y)))
+mx_order p q x y = sym (items_order Equal (mx_texts p x) (mx_texts q y) (mx_visible p x) (mx_visible q y) refl)
 
-pub srv_order : (a b : Service) → in_turn Equal (srv_texts a) (srv_texts b) ≡ by_octets (items_text (map plain (srv_texts a))) (items_text (map plain (srv_texts b)))
-srv_order a b = sym (items_order Equal (srv_texts a) (srv_texts b) (srv_visible a) (srv_visible b) refl)
+pub srv_order : (p w o p' w' o' : ℕ) (t t' : List (List ℕ)) → in_turn Equal (srv_texts p w o t) (srv_texts p' w' o' t') ≡ by_octets (items_text (map plain (srv_texts p w o t))) (items_text (map plain (srv_texts p' w' o' t')))
+srv_order p w o p' w' o' t t' = sym (items_order Equal (srv_texts p w o t) (srv_texts p' w' o' t') (srv_visible p w o t) (srv_visible p' w' o' t') refl)
 
 -- ---- digests
 
@@ -154,7 +151,11 @@ digest_order (a ∷ x) (b ∷ y) below also =
       ]
     ]
 
-pub ds_order : (a b : DelegationSigner) → IsDigest a.digest → IsDigest b.digest → ordering_then (in_turn Equal (decimal a.key_tag ∷ decimal a.algorithm ∷ decimal a.digest_type ∷ []) (decimal b.key_tag ∷ decimal b.algorithm ∷ decimal b.digest_type ∷ [])) (by_octets a.digest b.digest) ≡ by_octets (items_text (map plain (ds_texts a))) (items_text (map plain (ds_texts b)))
-ds_order a b is also =
-    ap (ordering_then (in_turn Equal (decimal a.key_tag ∷ decimal a.algorithm ∷ decimal a.digest_type ∷ []) (decimal b.key_tag ∷ decimal b.algorithm ∷ decimal b.digest_type ∷ []))) (sym (digest_order a.digest b.digest is.octets also.octets))
-    ∙ sym (items_order Equal (ds_texts a) (ds_texts b) (ds_visible a is) (ds_visible b also) refl)
+-- the orders of the numbers of DS data in turn
+abbrev numbers_in_turn : ℕ → ℕ → ℕ → ℕ → ℕ → ℕ → Ordering
+numbers_in_turn k a t k' a' t' = in_turn Equal (decimal k ∷ decimal a ∷ decimal t ∷ []) (decimal k' ∷ decimal a' ∷ decimal t' ∷ [])
+
+pub ds_order : (k a t k' a' t' : ℕ) (d d' : List ℕ) → IsDigest d → IsDigest d' → ordering_then (numbers_in_turn k a t k' a' t') (by_octets d d') ≡ by_octets (items_text (map plain (ds_texts k a t d))) (items_text (map plain (ds_texts k' a' t' d')))
+ds_order k a t k' a' t' d d' is also =
+    ap (ordering_then (numbers_in_turn k a t k' a' t')) (sym (digest_order d d' is.octets also.octets))
+    ∙ sym (items_order Equal (ds_texts k a t d) (ds_texts k' a' t' d') (ds_visible k a t d is) (ds_visible k' a' t' d' also) refl)

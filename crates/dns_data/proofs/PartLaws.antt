@@ -2,13 +2,16 @@
 use Rattle.std.proofs.Common.{◌≡◌, ℕ, suc, ltb, List, [], ◌∷◌, length, Option, Ok, refl, ap, subst, ◌∙◌, arith, ltb-false, le-ltb}
 use Rattle.std.specs.List.{AllByRecursion}
 use Rattle.dns_data.specs.declared.fault.DataFault.TheVariants.{DataTooLong}
-use Rattle.dns_data.specs.declared.rdata.MailExchange.{MailExchange}
-use Rattle.dns_data.specs.declared.rdata.Service.{Service}
+use Rattle.dns_data.specs.declared.record_type.RecordType.{RecordType}
+use Rattle.dns_data.specs.declared.record_type.RecordType.TheVariants as types
+use Rattle.dns_data.specs.declared.rdata.Data.{Data}
+use Rattle.dns_data.specs.declared.rdata.Data.TheVariants.{Mx, Srv}
 use Rattle.dns_data.specs.declared.soa.SoaFields.{SoaFields}
 use Rattle.dns_data.specs.Items.{ItemText, plain}
 use Rattle.dns_data.specs.Numbers.{number_of, duration_of}
+use Rattle.dns_data.specs.Rdata.{type_of}
 use Rattle.dns_data.specs.Strings.{IsString, AreStrings, strings_len, string_of}
-use Rattle.dns_data.specs.Grammar.{SpellsName, SpellsNumber, SpellsSeconds, IsSoa, IsMx, IsSrv, SpellStrings}
+use Rattle.dns_data.specs.Grammar.{SpellsName, SpellsNumber, SpellsSeconds, IsSoa, IsMx, IsSrv, SpellStrings, IsData}
 use Rattle.dns_data.specs.Reading.{field, u16_at, u32_at, seconds_at, name_of, soa_at, mx_at, srv_at, each_string, strings_of}
 use Rattle.dns_data.proofs.StepLaws.{bind_ok, guard_ok, done, ok_is}
 use Rattle.dns_data.proofs.StringLaws.{string_found, string_only}
@@ -36,54 +39,57 @@ before raw items = plain raw ∷ items
 same_end : {X : Type 0} (x y : X) (rest : List ItemText) → done {A = X × List ItemText} (x, rest) ≡ done (y, []) → (x ≡ y) × (rest ≡ [])
 same_end {X} x y rest e = let same = ok_is (x, rest) (y, []) e in (ap (λ (q : X × List ItemText). q.0) same, ap (λ (q : X × List ItemText). q.1) same)
 
+-- data of a type that the items spell
+abbrev pub Found : Option (List (List ℕ)) → List ItemText → RecordType → Data → Type 0
+Found origin items t made = (type_of made ≡ t) × IsData origin made items
+
 -- ---- MX
 
 -- a preference and a name, from their fields
-mx_from : (origin : Option (List (List ℕ))) (mx : MailExchange) (items one : List ItemText) → ReadField (SpellsNumber 16) items mx.preference one → ReadField (SpellsName origin) one mx.exchange [] → IsMx origin mx items
-mx_from origin mx items one a b = record {
-  preference = a.raw;
-  exchange = b.raw;
+mx_from : (origin : Option (List (List ℕ))) (preference : ℕ) (exchange : List (List ℕ)) (items one : List ItemText) → ReadField (SpellsNumber 16) items preference one → ReadField (SpellsName origin) one exchange [] → IsMx origin preference exchange items
+mx_from origin preference exchange items one a b = record {
+  preference_text = a.raw;
+  exchange_text = b.raw;
   items_are = a.items_are ∙ ap (before a.raw) b.items_are;
   preference_is = a.spelled;
   exchange_is = b.spelled;
 }
 
 -- where nothing stands behind them
-mx_whole : (origin : Option (List (List ℕ))) (made mx : MailExchange) (items one end : List ItemText) → ReadField (SpellsNumber 16) items made.preference one → ReadField (SpellsName origin) one made.exchange end → (made ≡ mx) × (end ≡ [])
-    → IsMx origin mx items
-mx_whole origin made mx items one end a b same =
-    subst (λ (m : MailExchange). IsMx origin m items) same.0 (mx_from origin made items one a (subst (ReadField (SpellsName origin) one made.exchange) same.1 b))
+mx_whole : (origin : Option (List (List ℕ))) (preference : ℕ) (exchange : List (List ℕ)) (made : Data) (items one end : List ItemText) → ReadField (SpellsNumber 16) items preference one → ReadField (SpellsName origin) one exchange end
+    → (Mx preference exchange ≡ made) × (end ≡ []) → Found origin items types.Mx made
+mx_whole origin preference exchange made items one end a b same =
+    subst (Found origin items types.Mx) same.0 (refl, mx_from origin preference exchange items one a (subst (ReadField (SpellsName origin) one exchange) same.1 b))
 
 -- MX data that are read are spelled
-pub mx_found : (origin : Option (List (List ℕ))) (items : List ItemText) (mx : MailExchange) → IsOrigin origin → AreBytes items → mx_at origin items ≡ Ok (mx, []) → IsMx origin mx items
+pub mx_found : (origin : Option (List (List ℕ))) (items : List ItemText) (made : Data) → IsOrigin origin → AreBytes items → mx_at origin items ≡ Ok (made, []) → Found origin items types.Mx made
 unfolding mx_at
-mx_found origin items mx is bytes e =
-    let p = bind_ok (u16_at items) _ (mx, []) e in
-    let x = bind_ok (field (name_of origin) p.0.1) _ (mx, []) p.2 in
-    let made : MailExchange = record { preference = p.0.0; exchange = x.0.0 } in
-    let same = same_end made mx x.0.1 x.2 in
+mx_found origin items made is bytes e =
+    let p = bind_ok (u16_at items) _ (made, []) e in
+    let x = bind_ok (field (name_of origin) p.0.1) _ (made, []) p.2 in
+    let same = same_end (Mx p.0.0 x.0.0) made x.0.1 x.2 in
     let pf = u16_field items p.0.0 p.0.1 bytes p.1 in
     let xf = name_field origin is p.0.1 x.0.0 x.0.1 pf.bytes x.1 in
-    mx_whole origin made mx items p.0.1 x.0.1 pf xf same
+    mx_whole origin p.0.0 x.0.0 made items p.0.1 x.0.1 pf xf same
 
 -- MX data that are spelled are read
-pub mx_only : (origin : Option (List (List ℕ))) (items : List ItemText) (mx : MailExchange) → IsOrigin origin → IsMx origin mx items → mx_at origin items ≡ Ok (mx, [])
+pub mx_only : (origin : Option (List (List ℕ))) (items : List ItemText) (preference : ℕ) (exchange : List (List ℕ)) → IsOrigin origin → IsMx origin preference exchange items → mx_at origin items ≡ Ok (Mx preference exchange, [])
 unfolding mx_at
-mx_only origin items mx is h =
-    let p = field_only (number_of 65535) h.preference mx.preference (plain h.exchange ∷ []) (number16_only h.preference mx.preference h.preference_is) in
-    let x = field_only (name_of origin) h.exchange mx.exchange [] (name_only origin is h.exchange mx.exchange h.exchange_is) in
+mx_only origin items preference exchange is h =
+    let p = field_only (number_of 65535) h.preference_text preference (plain h.exchange_text ∷ []) (number16_only h.preference_text preference h.preference_is) in
+    let x = field_only (name_of origin) h.exchange_text exchange [] (name_only origin is h.exchange_text exchange h.exchange_is) in
     rw (h.items_are, p, x) refl
 
 -- ---- SRV
 
 -- the numbers and the name of a service, from their fields
-srv_from : (origin : Option (List (List ℕ))) (srv : Service) (items one two three : List ItemText) → ReadField (SpellsNumber 16) items srv.priority one → ReadField (SpellsNumber 16) one srv.weight two
-    → ReadField (SpellsNumber 16) two srv.port three → ReadField (SpellsName origin) three srv.target [] → IsSrv origin srv items
-srv_from origin srv items one two three a b c d = record {
-  priority = a.raw;
-  weight = b.raw;
-  port = c.raw;
-  target = d.raw;
+srv_from : (origin : Option (List (List ℕ))) (priority weight port : ℕ) (target : List (List ℕ)) (items one two three : List ItemText) → ReadField (SpellsNumber 16) items priority one → ReadField (SpellsNumber 16) one weight two
+    → ReadField (SpellsNumber 16) two port three → ReadField (SpellsName origin) three target [] → IsSrv origin priority weight port target items
+srv_from origin priority weight port target items one two three a b c d = record {
+  priority_text = a.raw;
+  weight_text = b.raw;
+  port_text = c.raw;
+  target_text = d.raw;
   items_are = a.items_are ∙ ap (before a.raw) (b.items_are ∙ ap (before b.raw) (c.items_are ∙ ap (before c.raw) d.items_are));
   priority_is = a.spelled;
   weight_is = b.spelled;
@@ -92,35 +98,37 @@ srv_from origin srv items one two three a b c d = record {
 }
 
 -- where nothing stands behind them
-srv_whole : (origin : Option (List (List ℕ))) (made srv : Service) (items one two three end : List ItemText) → ReadField (SpellsNumber 16) items made.priority one → ReadField (SpellsNumber 16) one made.weight two
-    → ReadField (SpellsNumber 16) two made.port three → ReadField (SpellsName origin) three made.target end → (made ≡ srv) × (end ≡ []) → IsSrv origin srv items
-srv_whole origin made srv items one two three end a b c d same =
-    subst (λ (s : Service). IsSrv origin s items) same.0 (srv_from origin made items one two three a b c (subst (ReadField (SpellsName origin) three made.target) same.1 d))
+srv_whole : (origin : Option (List (List ℕ))) (priority weight port : ℕ) (target : List (List ℕ)) (made : Data) (items one two three end : List ItemText) → ReadField (SpellsNumber 16) items priority one
+    → ReadField (SpellsNumber 16) one weight two → ReadField (SpellsNumber 16) two port three → ReadField (SpellsName origin) three target end → (Srv priority weight port target ≡ made) × (end ≡ []) → Found origin items types.Srv made
+srv_whole origin priority weight port target made items one two three end a b c d same =
+    subst (Found origin items types.Srv) same.0 (refl, srv_from origin priority weight port target items one two three a b c (subst (ReadField (SpellsName origin) three target) same.1 d))
 
 -- SRV data that are read are spelled
-pub srv_found : (origin : Option (List (List ℕ))) (items : List ItemText) (srv : Service) → IsOrigin origin → AreBytes items → srv_at origin items ≡ Ok (srv, []) → IsSrv origin srv items
+pub srv_found : (origin : Option (List (List ℕ))) (items : List ItemText) (made : Data) → IsOrigin origin → AreBytes items → srv_at origin items ≡ Ok (made, []) → Found origin items types.Srv made
 unfolding srv_at
-srv_found origin items srv is bytes e =
-    let a = bind_ok (u16_at items) _ (srv, []) e in
-    let b = bind_ok (u16_at a.0.1) _ (srv, []) a.2 in
-    let c = bind_ok (u16_at b.0.1) _ (srv, []) b.2 in
-    let d = bind_ok (field (name_of origin) c.0.1) _ (srv, []) c.2 in
-    let made : Service = record { priority = a.0.0; weight = b.0.0; port = c.0.0; target = d.0.0 } in
-    let same = same_end made srv d.0.1 d.2 in
+srv_found origin items made is bytes e =
+    let a = bind_ok (u16_at items) _ (made, []) e in
+    let b = bind_ok (u16_at a.0.1) _ (made, []) a.2 in
+    let c = bind_ok (u16_at b.0.1) _ (made, []) b.2 in
+    let d = bind_ok (field (name_of origin) c.0.1) _ (made, []) c.2 in
+    let same = same_end (Srv a.0.0 b.0.0 c.0.0 d.0.0) made d.0.1 d.2 in
     let af = u16_field items a.0.0 a.0.1 bytes a.1 in
     let bf = u16_field a.0.1 b.0.0 b.0.1 af.bytes b.1 in
     let cf = u16_field b.0.1 c.0.0 c.0.1 bf.bytes c.1 in
     let df = name_field origin is c.0.1 d.0.0 d.0.1 cf.bytes d.1 in
-    srv_whole origin made srv items a.0.1 b.0.1 c.0.1 d.0.1 af bf cf df same
+    srv_whole origin a.0.0 b.0.0 c.0.0 d.0.0 made items a.0.1 b.0.1 c.0.1 d.0.1 af bf cf df same
 
 -- SRV data that are spelled are read
-pub srv_only : (origin : Option (List (List ℕ))) (items : List ItemText) (srv : Service) → IsOrigin origin → IsSrv origin srv items → srv_at origin items ≡ Ok (srv, [])
+pub srv_only : (origin : Option (List (List ℕ))) (items : List ItemText) (priority weight port : ℕ) (target : List (List ℕ)) → IsOrigin origin → IsSrv origin priority weight port target items
+    → srv_at origin items ≡ Ok (Srv priority weight port target, [])
 unfolding srv_at
-srv_only origin items srv is h =
-    let a = field_only (number_of 65535) h.priority srv.priority (plain h.weight ∷ plain h.port ∷ plain h.target ∷ []) (number16_only h.priority srv.priority h.priority_is) in
-    let b = field_only (number_of 65535) h.weight srv.weight (plain h.port ∷ plain h.target ∷ []) (number16_only h.weight srv.weight h.weight_is) in
-    let c = field_only (number_of 65535) h.port srv.port (plain h.target ∷ []) (number16_only h.port srv.port h.port_is) in
-    let d = field_only (name_of origin) h.target srv.target [] (name_only origin is h.target srv.target h.target_is) in
+srv_only origin items priority weight port target is h =
+    let three : List ItemText = plain h.target_text ∷ [] in
+    let two : List ItemText = plain h.port_text ∷ three in
+    let a = field_only (number_of 65535) h.priority_text priority (plain h.weight_text ∷ two) (number16_only h.priority_text priority h.priority_is) in
+    let b = field_only (number_of 65535) h.weight_text weight two (number16_only h.weight_text weight h.weight_is) in
+    let c = field_only (number_of 65535) h.port_text port three (number16_only h.port_text port h.port_is) in
+    let d = field_only (name_of origin) h.target_text target [] (name_only origin is h.target_text target h.target_is) in
     rw (h.items_are, a, b, c, d) refl
 
 -- ---- SOA

@@ -10,14 +10,8 @@ use Rattle.dns_names.proofs.NameLemmas.{same_name-Decides}
 use Rattle.dns_data.specs.declared.record.Record.{Record}
 use Rattle.dns_data.specs.declared.rdata.Data.{Data}
 use Rattle.dns_data.specs.declared.rdata.Data.TheVariants.{A, Ns, Cname, Soa, Ptr, Mx, Txt, Aaaa, Srv, Ds}
-use Rattle.dns_data.specs.declared.rdata.MailExchange.{MailExchange}
-use Rattle.dns_data.specs.declared.rdata.Service.{Service}
-use Rattle.dns_data.specs.declared.ds.DelegationSigner.{DelegationSigner}
 use Rattle.dns_data.specs.declared.soa.SoaFields.{SoaFields}
 use Rattle.dns_data.specs.contracts.rdata.DataPartialEq.TheImpl as of_data
-use Rattle.dns_data.specs.contracts.rdata.MailExchangePartialEq.TheImpl as of_mx
-use Rattle.dns_data.specs.contracts.rdata.ServicePartialEq.TheImpl as of_srv
-use Rattle.dns_data.specs.contracts.ds.DelegationSignerPartialEq.TheImpl as of_ds
 use Rattle.dns_data.specs.Rdata.{SameRecord}
 use Rattle.dns_data.specs.SameSoa.{same_soa}
 
@@ -63,33 +57,22 @@ soa_decides a b =
       ),
     ))
 
-mx_decides : (a b : MailExchange) → Decides (of_mx.ghosts.eq a b) (a ≡ b)
-mx_decides a b =
-    via _
-    (both _ _ (Decides-eqb a.preference b.preference) (same_name-Decides a.exchange b.exchange))
-    (λ e. λ i. record { preference = e.0 i; exchange = e.1 i })
-    (λ e. (ap (λ (m : MailExchange). m.preference) e, ap (λ (m : MailExchange). m.exchange) e))
+mx_decides : (p q : ℕ) (x y : List (List ℕ)) → Decides (of_data.ghosts.eq (Mx p x) (Mx q y)) (Mx p x ≡ Mx q y)
+mx_decides p q x y = via _ (both _ _ (Decides-eqb p q) (same_name-Decides x y)) (λ e. λ i. Mx (e.0 i) (e.1 i)) (λ e. (cc, cc))
 
-srv_decides : (a b : Service) → Decides (of_srv.ghosts.eq a b) (a ≡ b)
-srv_decides a b =
+srv_decides : (p w o p' w' o' : ℕ) (t t' : List (List ℕ)) → Decides (of_data.ghosts.eq (Srv p w o t) (Srv p' w' o' t')) (Srv p w o t ≡ Srv p' w' o' t')
+srv_decides p w o p' w' o' t t' =
     via _
-    (both _ _ (Decides-eqb a.priority b.priority)
-    (both _ _ (Decides-eqb a.weight b.weight)
-    (both _ _ (Decides-eqb a.port b.port) (same_name-Decides a.target b.target))))
-    (λ e. λ i. record { priority = e.0 i; weight = e.1.0 i; port = e.1.1.0 i; target = e.1.1.1 i })
-    (λ e. (ap (λ (s : Service). s.priority) e, (ap (λ (s : Service). s.weight) e, (ap (λ (s : Service). s.port) e, ap (λ (s : Service). s.target) e))))
+    (both _ _ (Decides-eqb p p') (both _ _ (Decides-eqb w w') (both _ _ (Decides-eqb o o') (same_name-Decides t t'))))
+    (λ e. λ i. Srv (e.0 i) (e.1.0 i) (e.1.1.0 i) (e.1.1.1 i))
+    (λ e. (cc, (cc, (cc, cc))))
 
-ds_decides : (a b : DelegationSigner) → Decides (of_ds.ghosts.eq a b) (a ≡ b)
-ds_decides a b =
+ds_decides : (k a t k' a' t' : ℕ) (d d' : List ℕ) → Decides (of_data.ghosts.eq (Ds k a t d) (Ds k' a' t' d')) (Ds k a t d ≡ Ds k' a' t' d')
+ds_decides k a t k' a' t' d d' =
     via _
-    (both _ _ (Decides-eqb a.key_tag b.key_tag)
-    (both _ _ (Decides-eqb a.algorithm b.algorithm)
-    (both _ _ (Decides-eqb a.digest_type b.digest_type) (bytes_eq-Decides a.digest b.digest))))
-    (λ e. λ i. record { key_tag = e.0 i; algorithm = e.1.0 i; digest_type = e.1.1.0 i; digest = e.1.1.1 i })
-    (λ e. (
-      ap (λ (s : DelegationSigner). s.key_tag) e,
-      (ap (λ (s : DelegationSigner). s.algorithm) e, (ap (λ (s : DelegationSigner). s.digest_type) e, ap (λ (s : DelegationSigner). s.digest) e)),
-    ))
+    (both _ _ (Decides-eqb k k') (both _ _ (Decides-eqb a a') (both _ _ (Decides-eqb t t') (bytes_eq-Decides d d'))))
+    (λ e. λ i. Ds (e.0 i) (e.1.0 i) (e.1.1.0 i) (e.1.1.1 i))
+    (λ e. (cc, (cc, (cc, cc))))
 
 -- ---- data
 
@@ -99,11 +82,11 @@ data_decides (Ns a) (Ns b) = via _ (same_name-Decides a b) (λ e. ap Ns e) (λ e
 data_decides (Cname a) (Cname b) = via _ (same_name-Decides a b) (λ e. ap Cname e) (λ e. cc)
 data_decides (Soa a) (Soa b) = via _ (soa_decides a b) (λ e. ap Soa e) (λ e. cc)
 data_decides (Ptr a) (Ptr b) = via _ (same_name-Decides a b) (λ e. ap Ptr e) (λ e. cc)
-data_decides (Mx a) (Mx b) = via _ (mx_decides a b) (λ e. ap Mx e) (λ e. cc)
+data_decides (Mx p x) (Mx q y) = mx_decides p q x y
 data_decides (Txt a) (Txt b) = strings_decides a b
 data_decides (Aaaa a) (Aaaa b) = ipv6_decides a b
-data_decides (Srv a) (Srv b) = via _ (srv_decides a b) (λ e. ap Srv e) (λ e. cc)
-data_decides (Ds a) (Ds b) = via _ (ds_decides a b) (λ e. ap Ds e) (λ e. cc)
+data_decides (Srv p w o t) (Srv p' w' o' t') = srv_decides p w o p' w' o' t t'
+data_decides (Ds k a t d) (Ds k' a' t' d') = ds_decides k a t k' a' t' d d'
 data_decides a b = (λ e. absurd cc, λ e. absurd cc)
 
 -- ---- records

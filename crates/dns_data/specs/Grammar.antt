@@ -7,9 +7,6 @@ use Rattle.dns_names.specs.Labels.{IsName}
 use Rattle.dns_names.specs.Spelling.{SpellsAbsolute, SpellsRelative}
 use Rattle.dns_data.specs.declared.rdata.Data.{Data}
 use Rattle.dns_data.specs.declared.rdata.Data.TheVariants.{A, Ns, Cname, Soa, Ptr, Mx, Txt, Aaaa, Srv, Ds}
-use Rattle.dns_data.specs.declared.rdata.MailExchange.{MailExchange}
-use Rattle.dns_data.specs.declared.rdata.Service.{Service}
-use Rattle.dns_data.specs.declared.ds.DelegationSigner.{DelegationSigner}
 use Rattle.dns_data.specs.declared.soa.SoaFields.{SoaFields}
 use Rattle.dns_data.specs.Items.{ItemText, plain}
 use Rattle.dns_data.specs.Numbers.{IsNumber, IsDuration}
@@ -50,36 +47,36 @@ pub record IsSoa (origin : Option (List (List ℕ))) (soa : SoaFields) (items : 
   pub minimum_is : SpellsSeconds soa.minimum.0 minimum
 
 -- a preference and a name
-pub record IsMx (origin : Option (List (List ℕ))) (mx : MailExchange) (items : List ItemText) : Type 0 where
-  pub preference : List ℕ
-  pub exchange : List ℕ
-  pub items_are : items ≡ plain preference ∷ plain exchange ∷ []
-  pub preference_is : SpellsNumber 16 mx.preference preference
-  pub exchange_is : SpellsName origin mx.exchange exchange
+pub record IsMx (origin : Option (List (List ℕ))) (preference : ℕ) (exchange : List (List ℕ)) (items : List ItemText) : Type 0 where
+  pub preference_text : List ℕ
+  pub exchange_text : List ℕ
+  pub items_are : items ≡ plain preference_text ∷ plain exchange_text ∷ []
+  pub preference_is : SpellsNumber 16 preference preference_text
+  pub exchange_is : SpellsName origin exchange exchange_text
 
 -- priority, weight, port and a name
-pub record IsSrv (origin : Option (List (List ℕ))) (srv : Service) (items : List ItemText) : Type 0 where
-  pub priority : List ℕ
-  pub weight : List ℕ
-  pub port : List ℕ
-  pub target : List ℕ
-  pub items_are : items ≡ plain priority ∷ plain weight ∷ plain port ∷ plain target ∷ []
-  pub priority_is : SpellsNumber 16 srv.priority priority
-  pub weight_is : SpellsNumber 16 srv.weight weight
-  pub port_is : SpellsNumber 16 srv.port port
-  pub target_is : SpellsName origin srv.target target
+pub record IsSrv (origin : Option (List (List ℕ))) (priority weight port : ℕ) (target : List (List ℕ)) (items : List ItemText) : Type 0 where
+  pub priority_text : List ℕ
+  pub weight_text : List ℕ
+  pub port_text : List ℕ
+  pub target_text : List ℕ
+  pub items_are : items ≡ plain priority_text ∷ plain weight_text ∷ plain port_text ∷ plain target_text ∷ []
+  pub priority_is : SpellsNumber 16 priority priority_text
+  pub weight_is : SpellsNumber 16 weight weight_text
+  pub port_is : SpellsNumber 16 port port_text
+  pub target_is : SpellsName origin target target_text
 
 -- key tag, algorithm, digest type, and a digest that may be cut into several items
-pub record IsDs (ds : DelegationSigner) (items : List ItemText) : Type 0 where
-  pub key_tag : List ℕ
-  pub algorithm : List ℕ
-  pub digest_type : List ℕ
-  pub digest : List (List ℕ)
-  pub items_are : items ≡ plain key_tag ∷ plain algorithm ∷ plain digest_type ∷ map plain digest
-  pub key_tag_is : SpellsNumber 16 ds.key_tag key_tag
-  pub algorithm_is : SpellsNumber 8 ds.algorithm algorithm
-  pub digest_type_is : SpellsNumber 8 ds.digest_type digest_type
-  pub digest_is : IsDigest ds.digest × SpellsDigest ds.digest (concat digest)
+pub record IsDs (key_tag algorithm digest_type : ℕ) (digest : List ℕ) (items : List ItemText) : Type 0 where
+  pub key_tag_text : List ℕ
+  pub algorithm_text : List ℕ
+  pub digest_type_text : List ℕ
+  pub digest_texts : List (List ℕ)
+  pub items_are : items ≡ plain key_tag_text ∷ plain algorithm_text ∷ plain digest_type_text ∷ map plain digest_texts
+  pub key_tag_is : SpellsNumber 16 key_tag key_tag_text
+  pub algorithm_is : SpellsNumber 8 algorithm algorithm_text
+  pub digest_type_is : SpellsNumber 8 digest_type digest_type_text
+  pub digest_is : IsDigest digest × SpellsDigest digest (concat digest_texts)
 
 -- strings, an item for each, quoted or not
 abbrev pub SpellStrings : List (List ℕ) → List ItemText → Type 0
@@ -93,8 +90,8 @@ IsData origin (Ns server) items = IsNameItem origin server items
 IsData origin (Cname target) items = IsNameItem origin target items
 IsData origin (Soa soa) items = IsSoa origin soa items
 IsData origin (Ptr target) items = IsNameItem origin target items
-IsData origin (Mx mx) items = IsMx origin mx items
+IsData origin (Mx preference exchange) items = IsMx origin preference exchange items
 IsData origin (Txt strings) items = AreStrings strings × SpellStrings strings items
 IsData origin (Aaaa address) items = (raw : List ℕ) × (items ≡ plain raw ∷ []) × IsIpv6Text raw address
-IsData origin (Srv srv) items = IsSrv origin srv items
-IsData origin (Ds ds) items = IsDs ds items
+IsData origin (Srv priority weight port target) items = IsSrv origin priority weight port target items
+IsData origin (Ds key_tag algorithm digest_type digest) items = IsDs key_tag algorithm digest_type digest items

@@ -6,10 +6,7 @@ use Rattle.dns_data.specs.declared.record_type.RecordType.{RecordType}
 use Rattle.dns_data.specs.declared.record_type.RecordType.TheVariants as types
 use Rattle.dns_data.specs.declared.rdata.Data.{Data}
 use Rattle.dns_data.specs.declared.rdata.Data.TheVariants as data_of
-use Rattle.dns_data.specs.declared.rdata.MailExchange.{MailExchange}
-use Rattle.dns_data.specs.declared.rdata.Service.{Service}
 use Rattle.dns_data.specs.declared.soa.SoaFields.{SoaFields}
-use Rattle.dns_data.specs.declared.ds.DelegationSigner.{DelegationSigner}
 use Rattle.dns_data.specs.declared.record.Record.{Record}
 use Rattle.dns_data.specs.Strings.{AreStrings}
 use Rattle.dns_data.specs.Digests.{IsDigest}
@@ -21,11 +18,11 @@ type_of (data_of.Ns server) = types.Ns
 type_of (data_of.Cname target) = types.Cname
 type_of (data_of.Soa soa) = types.Soa
 type_of (data_of.Ptr target) = types.Ptr
-type_of (data_of.Mx exchange) = types.Mx
+type_of (data_of.Mx preference exchange) = types.Mx
 type_of (data_of.Txt strings) = types.Txt
 type_of (data_of.Aaaa address) = types.Aaaa
-type_of (data_of.Srv service) = types.Srv
-type_of (data_of.Ds signer) = types.Ds
+type_of (data_of.Srv priority weight port target) = types.Srv
+type_of (data_of.Ds key_tag algorithm digest_type digest) = types.Ds
 
 -- ---- what all data and all records are
 
@@ -39,36 +36,19 @@ pub record IsSoaRdata (soa : SoaFields) : Type 0 where
   pub expire : soa.expire.0 < 2 ^ 32
   pub minimum : soa.minimum.0 < 2 ^ 32
 
--- a number of 16 bits and a name (RFC 1035 section 3.3.9)
-pub record IsMxRdata (mx : MailExchange) : Type 0 where
-  pub preference : mx.preference < 2 ^ 16
-  pub exchange : IsName mx.exchange
-
--- three numbers of 16 bits and a name (RFC 2782)
-pub record IsSrvRdata (srv : Service) : Type 0 where
-  pub priority : srv.priority < 2 ^ 16
-  pub weight : srv.weight < 2 ^ 16
-  pub port : srv.port < 2 ^ 16
-  pub target : IsName srv.target
-
--- a number of 16 bits, two of 8 bits and a digest (RFC 4034 section 5.1)
-pub record IsDsRdata (ds : DelegationSigner) : Type 0 where
-  pub key_tag : ds.key_tag < 2 ^ 16
-  pub algorithm : ds.algorithm < 2 ^ 8
-  pub digest_type : ds.digest_type < 2 ^ 8
-  pub digest : IsDigest ds.digest
-
+-- an MX has a number of 16 bits and a name (RFC 1035 section 3.3.9), an SRV three such numbers and a name (RFC 2782), a DS a
+-- number of 16 bits, two of 8 bits and a digest (RFC 4034 section 5.1)
 abbrev pub IsRdata : Data → Type 0
 IsRdata (data_of.A address) = IsIpv4Addr address
 IsRdata (data_of.Ns server) = IsName server
 IsRdata (data_of.Cname target) = IsName target
 IsRdata (data_of.Soa soa) = IsSoaRdata soa
 IsRdata (data_of.Ptr target) = IsName target
-IsRdata (data_of.Mx mx) = IsMxRdata mx
+IsRdata (data_of.Mx preference exchange) = (preference < 2 ^ 16) × IsName exchange
 IsRdata (data_of.Txt strings) = AreStrings strings
 IsRdata (data_of.Aaaa address) = IsIpv6Addr address
-IsRdata (data_of.Srv srv) = IsSrvRdata srv
-IsRdata (data_of.Ds ds) = IsDsRdata ds
+IsRdata (data_of.Srv priority weight port target) = (priority < 2 ^ 16) × (weight < 2 ^ 16) × (port < 2 ^ 16) × IsName target
+IsRdata (data_of.Ds key_tag algorithm digest_type digest) = (key_tag < 2 ^ 16) × (algorithm < 2 ^ 8) × (digest_type < 2 ^ 8) × IsDigest digest
 
 -- a TTL has 31 bits (RFC 2181 section 8)
 pub record IsRecord (r : Record) : Type 0 where

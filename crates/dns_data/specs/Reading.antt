@@ -11,9 +11,6 @@ use Rattle.dns_data.specs.declared.record_type.RecordType.{RecordType}
 use Rattle.dns_data.specs.declared.record_type.RecordType.TheVariants as types
 use Rattle.dns_data.specs.declared.rdata.Data.{Data}
 use Rattle.dns_data.specs.declared.rdata.Data.TheVariants.{A, Ns, Cname, Soa, Ptr, Mx, Txt, Aaaa, Srv, Ds}
-use Rattle.dns_data.specs.declared.rdata.MailExchange.{MailExchange}
-use Rattle.dns_data.specs.declared.rdata.Service.{Service}
-use Rattle.dns_data.specs.declared.ds.DelegationSigner.{DelegationSigner}
 use Rattle.dns_data.specs.declared.soa.SoaFields.{SoaFields}
 use Rattle.dns_data.specs.Faults.{◌>>=◌, of_names}
 use Rattle.dns_data.specs.Items.{ItemText}
@@ -78,19 +75,19 @@ soa_at origin items = do
   minimum ← seconds_at expire.1
   Ok (record { mname = mname.0; rname = rname.0; serial = record { 0 = serial.0 }; refresh = record { 0 = refresh.0 }; retry = record { 0 = retry.0 }; expire = record { 0 = expire.0 }; minimum = record { 0 = minimum.0 } }, minimum.1)
 
-unfoldable pub mx_at : Option (List (List ℕ)) → List ItemText → Field MailExchange
+unfoldable pub mx_at : Option (List (List ℕ)) → List ItemText → Field Data
 mx_at origin items = do
   preference ← u16_at items
   exchange ← field (name_of origin) preference.1
-  Ok (record { preference = preference.0; exchange = exchange.0 }, exchange.1)
+  Ok (Mx preference.0 exchange.0, exchange.1)
 
-unfoldable pub srv_at : Option (List (List ℕ)) → List ItemText → Field Service
+unfoldable pub srv_at : Option (List (List ℕ)) → List ItemText → Field Data
 srv_at origin items = do
   priority ← u16_at items
   weight ← u16_at priority.1
   port ← u16_at weight.1
   target ← field (name_of origin) port.1
-  Ok (record { priority = priority.0; weight = weight.0; port = port.0; target = target.0 }, target.1)
+  Ok (Srv priority.0 weight.0 port.0 target.0, target.1)
 
 -- each item as a character-string
 unfoldable pub each_string : List ItemText → Result (List (List ℕ)) DataFault
@@ -117,13 +114,13 @@ unfoldable pub digest_at : List ItemText → Result (List ℕ) DataFault
 digest_at [] = Err FieldMissing
 digest_at (item ∷ items) = joined (item ∷ items) >>= digest_of
 
-unfoldable pub ds_at : List ItemText → Result DelegationSigner DataFault
+unfoldable pub ds_at : List ItemText → Result Data DataFault
 ds_at items = do
   key_tag ← u16_at items
   algorithm ← u8_at key_tag.1
   digest_type ← u8_at algorithm.1
   digest ← digest_at digest_type.1
-  Ok (record { key_tag = key_tag.0; algorithm = algorithm.0; digest_type = digest_type.0; digest = digest })
+  Ok (Ds key_tag.0 algorithm.0 digest_type.0 digest)
 
 -- ---- data
 
@@ -136,11 +133,11 @@ data_at types.Ns origin items = with_rest Ns (field (name_of origin) items)
 data_at types.Cname origin items = with_rest Cname (field (name_of origin) items)
 data_at types.Soa origin items = with_rest Soa (soa_at origin items)
 data_at types.Ptr origin items = with_rest Ptr (field (name_of origin) items)
-data_at types.Mx origin items = with_rest Mx (mx_at origin items)
+data_at types.Mx origin items = mx_at origin items
 data_at types.Txt origin items = strings_of items >>= λ strings. Ok (Txt strings, [])
 data_at types.Aaaa origin items = with_rest Aaaa (field ipv6_of items)
-data_at types.Srv origin items = with_rest Srv (srv_at origin items)
-data_at types.Ds origin items = ds_at items >>= λ ds. Ok (Ds ds, [])
+data_at types.Srv origin items = srv_at origin items
+data_at types.Ds origin items = ds_at items >>= λ ds. Ok (ds, [])
 
 -- nothing stands behind the last field
 abbrev pub ended : Data × List ItemText → Result Data DataFault

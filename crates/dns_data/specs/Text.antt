@@ -6,9 +6,6 @@ use Rattle.hex.specs.Hex.{encode_lower}
 use Rattle.dns_names.specs.Spelling.{name_text}
 use Rattle.dns_data.specs.declared.rdata.Data.{Data}
 use Rattle.dns_data.specs.declared.rdata.Data.TheVariants.{A, Ns, Cname, Soa, Ptr, Mx, Txt, Aaaa, Srv, Ds}
-use Rattle.dns_data.specs.declared.rdata.MailExchange.{MailExchange}
-use Rattle.dns_data.specs.declared.rdata.Service.{Service}
-use Rattle.dns_data.specs.declared.ds.DelegationSigner.{DelegationSigner}
 use Rattle.dns_data.specs.declared.record.Record.{Record}
 use Rattle.dns_data.specs.declared.soa.SoaFields.{SoaFields}
 use Rattle.dns_data.specs.Types.{type_text}
@@ -21,33 +18,24 @@ soa_items soa =
     plain (name_text soa.mname) ∷ plain (name_text soa.rname) ∷ plain (decimal soa.serial.0) ∷ plain (decimal soa.refresh.0)
     ∷ plain (decimal soa.retry.0) ∷ plain (decimal soa.expire.0) ∷ plain (decimal soa.minimum.0) ∷ []
 
-abbrev pub mx_items : MailExchange → List ItemText
-mx_items mx = plain (decimal mx.preference) ∷ plain (name_text mx.exchange) ∷ []
-
-abbrev pub srv_items : Service → List ItemText
-srv_items srv =
-    plain (decimal srv.priority) ∷ plain (decimal srv.weight) ∷ plain (decimal srv.port) ∷ plain (name_text srv.target) ∷ []
-
--- the digest in lower case, as one item
-abbrev pub ds_items : DelegationSigner → List ItemText
-ds_items ds =
-    plain (decimal ds.key_tag) ∷ plain (decimal ds.algorithm) ∷ plain (decimal ds.digest_type) ∷ plain (encode_lower ds.digest) ∷ []
-
 abbrev pub strings_items : List (List ℕ) → List ItemText
 strings_items strings = map (λ string. in_quotes (string_text string)) strings
 
--- the items of data, as they are printed. An IPv6 address has no dotted tail (RFC 5952 section 4)
+-- the items of data, as they are printed. An IPv6 address has no dotted tail (RFC 5952 section 4), and a digest is one item in
+-- lower case
 abbrev pub data_items : Data → List ItemText
 data_items (A address) = plain (ipv4_text (ipv4_octets address)) ∷ []
 data_items (Ns server) = plain (name_text server) ∷ []
 data_items (Cname target) = plain (name_text target) ∷ []
 data_items (Soa soa) = soa_items soa
 data_items (Ptr target) = plain (name_text target) ∷ []
-data_items (Mx mx) = mx_items mx
+data_items (Mx preference exchange) = plain (decimal preference) ∷ plain (name_text exchange) ∷ []
 data_items (Txt strings) = strings_items strings
 data_items (Aaaa address) = plain (hex_groups_text (ipv6_segments address)) ∷ []
-data_items (Srv srv) = srv_items srv
-data_items (Ds ds) = ds_items ds
+data_items (Srv priority weight port target) =
+    plain (decimal priority) ∷ plain (decimal weight) ∷ plain (decimal port) ∷ plain (name_text target) ∷ []
+data_items (Ds key_tag algorithm digest_type digest) =
+    plain (decimal key_tag) ∷ plain (decimal algorithm) ∷ plain (decimal digest_type) ∷ plain (encode_lower digest) ∷ []
 
 abbrev pub data_text : Data → List ℕ
 data_text rdata = items_text (data_items rdata)

@@ -1,4 +1,4 @@
-//! The data of DS records.
+//! Digests of DS records.
 
 ghost use Rattle.std.specs.Prelude.{◌≡◌, ◌<◌, List, ℕ, IfOk, nat_eq};
 ghost use Rattle.std.specs.List.{AllByRecursion};
@@ -89,27 +89,4 @@ impl PartialEq for Digest {
 
 impl Eq for Digest {
     ghost laws = { nat_list_eq_equiv };
-}
-
-/// The data of a DS record: the key that the zone below signs its keys with (RFC 4034 section 5.1).
-#[derive(Debug, PartialEq, Eq, Drop)]
-pub struct DelegationSigner {
-    pub key_tag: u16,
-    pub algorithm: u8,
-    pub digest_type: u8,
-    pub digest: Digest,
-}
-
-impl DelegationSigner {
-    /// Equal data in memory of their own. The only error is want of memory.
-    pub fn try_copy(&self, alloc: Global) -> Result<DelegationSigner, AllocError>
-        ensures { IfOk result (λ copy. copy ≡ self.now) }
-    {
-        Ok(DelegationSigner {
-            key_tag: self.key_tag,
-            algorithm: self.algorithm,
-            digest_type: self.digest_type,
-            digest: self.digest.try_copy(alloc)?,
-        })
-    }
 }

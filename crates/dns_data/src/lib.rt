@@ -17,12 +17,12 @@ mod soa;
 mod strings;
 mod text;
 
-pub use ds::{DelegationSigner, Digest};
+pub use ds::Digest;
 pub use fault::DataFault;
 pub use item::Item;
 pub use number::{Seconds, Serial, Ttl};
 pub use order::{data_order, record_order};
-pub use rdata::{Data, MailExchange, Service};
+pub use rdata::Data;
 pub use reading::read_data;
 pub use record::{Record, record_line, same_record};
 pub use record_type::RecordType;

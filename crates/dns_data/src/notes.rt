@@ -1,16 +1,17 @@
 //! Notes for proofs: what the types of data say of their fields. Nothing here does anything when it runs.
 
-ghost use Rattle.std.specs.Prelude.{◌<◌, IfSome, map};
+ghost use Rattle.std.specs.Prelude.{◌<◌, ◌^◌, IfSome, map};
 ghost use Rattle.std.specs.List.{AllByRecursion};
 ghost use Rattle.std.specs.Option.{option_copied};
 ghost use Rattle.std.specs.Net.Addr.{IsIpv4Addr, IsIpv6Addr};
 ghost use Rattle.dns_names.specs.Labels.{IsName};
 ghost use Rattle.dns_data.specs.Items.{item_of};
-ghost use Rattle.dns_data.specs.Rdata.{IsSoaRdata, IsMxRdata, IsSrvRdata, IsDsRdata, IsRdata};
+ghost use Rattle.dns_data.specs.Digests.{IsDigest};
+ghost use Rattle.dns_data.specs.Rdata.{IsSoaRdata, IsRdata};
 
-use crate::ds::DelegationSigner;
+use crate::ds::Digest;
 use crate::item::Item;
-use crate::rdata::{Data, MailExchange, Service};
+use crate::rdata::Data;
 use crate::soa::SoaFields;
 use dns_names::Name;
 use std::net::{Ipv4Addr, Ipv6Addr};
@@ -43,31 +44,27 @@ fn notes_soa(soa: &SoaFields)
 }
 
 /// The preference of an MX has 16 bits, and the exchange is a name.
-fn notes_mx(mx: &MailExchange)
-    ensures { IsMxRdata mx.now }
+fn notes_mx(preference: u16, exchange: &Name)
+    ensures { (preference < 2 ^ 16) × IsName exchange.now }
 {
-    let _preference = mx.preference;
-    let _ = mx.exchange.labels();
+    let _preference = preference;
+    let _ = exchange.labels();
 }
 
 /// The numbers of an SRV have 16 bits, and the target is a name.
-fn notes_srv(srv: &Service)
-    ensures { IsSrvRdata srv.now }
+fn notes_srv(priority: u16, weight: u16, port: u16, target: &Name)
+    ensures { (priority < 2 ^ 16) × (weight < 2 ^ 16) × (port < 2 ^ 16) × IsName target.now }
 {
-    let _priority = srv.priority;
-    let _weight = srv.weight;
-    let _port = srv.port;
-    let _ = srv.target.labels();
+    let (_priority, _weight, _port) = (priority, weight, port);
+    let _ = target.labels();
 }
 
 /// The numbers of a DS have 16 bits and 8, and the digest is one.
-fn notes_ds(ds: &DelegationSigner)
-    ensures { IsDsRdata ds.now }
+fn notes_ds(key_tag: u16, algorithm: u8, digest_type: u8, digest: &Digest)
+    ensures { (key_tag < 2 ^ 16) × (algorithm < 2 ^ 8) × (digest_type < 2 ^ 8) × IsDigest digest.now }
 {
-    let _key_tag = ds.key_tag;
-    let _algorithm = ds.algorithm;
-    let _digest_type = ds.digest_type;
-    let _ = ds.digest.octets();
+    let (_key_tag, _algorithm, _digest_type) = (key_tag, algorithm, digest_type);
+    let _ = digest.octets();
 }
 
 /// What all data are.
@@ -80,13 +77,26 @@ pub(crate) fn notes_rdata(rdata: &Data)
             let _ = name.labels();
         }
         Data::Soa(soa) => notes_soa(soa.fields()),
-        Data::Mx(mx) => notes_mx(mx),
+        Data::Mx {
+            preference,
+            exchange,
+        } => notes_mx(*preference, exchange),
         Data::Txt(strings) => {
             let _ = strings.as_slice();
         }
         Data::Aaaa(address) => notes_ipv6(*address),
-        Data::Srv(srv) => notes_srv(srv),
-        Data::Ds(ds) => notes_ds(ds),
+        Data::Srv {
+            priority,
+            weight,
+            port,
+            target,
+        } => notes_srv(*priority, *weight, *port, target),
+        Data::Ds {
+            key_tag,
+            algorithm,
+            digest_type,
+            digest,
+        } => notes_ds(*key_tag, *algorithm, *digest_type, digest),
     }
 }
 

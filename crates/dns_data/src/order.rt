@@ -5,14 +5,14 @@ ghost use Rattle.std.specs.Ordering.{nat_cmp};
 ghost use Rattle.std.specs.Cmp.Lexicographic.{slice_cmp};
 ghost use Rattle.dns_data.specs.Items.{items_text};
 ghost use Rattle.dns_data.specs.Strings.{string_text};
-ghost use Rattle.dns_data.specs.Text.{soa_items, mx_items, srv_items, ds_items, strings_items, data_text};
+ghost use Rattle.dns_data.specs.Text.{soa_items, strings_items, data_text};
 ghost use Rattle.dns_data.specs.Rdata.{type_of, SameRecord};
 ghost use Rattle.dns_data.specs.RecordOrder.{data_order, record_order};
 
 use crate::address_text::{ipv4_text, ipv6_text};
-use crate::ds::DelegationSigner;
-use crate::rdata::{Data, MailExchange, Service};
+use crate::rdata::Data;
 use crate::record::Record;
+use crate::record_type::RecordType;
 use crate::soa::SoaFields;
 use crate::strings::Strings;
 use crate::text::spelling;
@@ -86,32 +86,85 @@ fn cmp_soa(first: &SoaFields, second: &SoaFields) -> Ordering
 }
 
 /// The order of the data of two MX records by their texts.
-fn cmp_mx(first: &MailExchange, second: &MailExchange) -> Ordering
-    ensures { result ≡ slice_cmp nat_cmp (items_text (mx_items first.now)) (items_text (mx_items second.now)) }
+fn cmp_mx(first: &Data, second: &Data) -> Ordering
+    requires first { type_of first.now ≡ RecordType.Mx }
+    requires second { type_of second.now ≡ RecordType.Mx }
+    ensures { result ≡ slice_cmp nat_cmp (data_text first.now) (data_text second.now) }
 {
-    cmp_decimals(u32::from(first.preference), u32::from(second.preference)).then(
-        first.exchange.cmp_text(&second.exchange),
-    )
+    let (
+        Data::Mx {
+            preference,
+            exchange,
+        },
+        Data::Mx {
+            preference: other_preference,
+            exchange: other_exchange,
+        },
+    ) = (first, second)
+    else {
+        unreachable!()
+    };
+    cmp_decimals(u32::from(*preference), u32::from(*other_preference)).then(exchange.cmp_text(
+        other_exchange,
+    ))
 }
 
 /// The order of the data of two SRV records by their texts.
-fn cmp_srv(first: &Service, second: &Service) -> Ordering
-    ensures { result ≡ slice_cmp nat_cmp (items_text (srv_items first.now)) (items_text (srv_items second.now)) }
+fn cmp_srv(first: &Data, second: &Data) -> Ordering
+    requires first { type_of first.now ≡ RecordType.Srv }
+    requires second { type_of second.now ≡ RecordType.Srv }
+    ensures { result ≡ slice_cmp nat_cmp (data_text first.now) (data_text second.now) }
 {
-    cmp_decimals(u32::from(first.priority), u32::from(second.priority))
-        .then(cmp_decimals(u32::from(first.weight), u32::from(second.weight)))
-        .then(cmp_decimals(u32::from(first.port), u32::from(second.port)))
-        .then(first.target.cmp_text(&second.target))
+    let (
+        Data::Srv {
+            priority,
+            weight,
+            port,
+            target,
+        },
+        Data::Srv {
+            priority: other_priority,
+            weight: other_weight,
+            port: other_port,
+            target: other_target,
+        },
+    ) = (first, second)
+    else {
+        unreachable!()
+    };
+    cmp_decimals(u32::from(*priority), u32::from(*other_priority))
+        .then(cmp_decimals(u32::from(*weight), u32::from(*other_weight)))
+        .then(cmp_decimals(u32::from(*port), u32::from(*other_port)))
+        .then(target.cmp_text(other_target))
 }
 
 /// The order of the data of two DS records by their texts. Digits stand in the order of what they say.
-fn cmp_ds(first: &DelegationSigner, second: &DelegationSigner) -> Ordering
-    ensures { result ≡ slice_cmp nat_cmp (items_text (ds_items first.now)) (items_text (ds_items second.now)) }
+fn cmp_ds(first: &Data, second: &Data) -> Ordering
+    requires first { type_of first.now ≡ RecordType.Ds }
+    requires second { type_of second.now ≡ RecordType.Ds }
+    ensures { result ≡ slice_cmp nat_cmp (data_text first.now) (data_text second.now) }
 {
-    cmp_decimals(u32::from(first.key_tag), u32::from(second.key_tag))
-        .then(cmp_decimals(u32::from(first.algorithm), u32::from(second.algorithm)))
-        .then(cmp_decimals(u32::from(first.digest_type), u32::from(second.digest_type)))
-        .then(first.digest.octets().cmp(second.digest.octets()))
+    let (
+        Data::Ds {
+            key_tag,
+            algorithm,
+            digest_type,
+            digest,
+        },
+        Data::Ds {
+            key_tag: other_key_tag,
+            algorithm: other_algorithm,
+            digest_type: other_digest_type,
+            digest: other_digest,
+        },
+    ) = (first, second)
+    else {
+        unreachable!()
+    };
+    cmp_decimals(u32::from(*key_tag), u32::from(*other_key_tag))
+        .then(cmp_decimals(u32::from(*algorithm), u32::from(*other_algorithm)))
+        .then(cmp_decimals(u32::from(*digest_type), u32::from(*other_digest_type)))
+        .then(digest.octets().cmp(other_digest.octets()))
 }
 
 /// The order of data of one type by the octets of their texts.
@@ -129,15 +182,15 @@ fn cmp_rdata(first: &Data, second: &Data) -> Ordering
         | (Data::Cname(first), Data::Cname(second))
         | (Data::Ptr(first), Data::Ptr(second)) => first.cmp_text(second),
         (Data::Soa(first), Data::Soa(second)) => cmp_soa(first.fields(), second.fields()),
-        (Data::Mx(first), Data::Mx(second)) => cmp_mx(first, second),
+        (Data::Mx { .. }, Data::Mx { .. }) => cmp_mx(first, second),
         (Data::Txt(first), Data::Txt(second)) => cmp_txt(first, second),
         (Data::Aaaa(first), Data::Aaaa(second)) => {
             ipv6_text(*first)
                 .as_slice()
                 .cmp(ipv6_text(*second).as_slice())
         }
-        (Data::Srv(first), Data::Srv(second)) => cmp_srv(first, second),
-        (Data::Ds(first), Data::Ds(second)) => cmp_ds(first, second),
+        (Data::Srv { .. }, Data::Srv { .. }) => cmp_srv(first, second),
+        (Data::Ds { .. }, Data::Ds { .. }) => cmp_ds(first, second),
         _ => unreachable!(),
     }
 }

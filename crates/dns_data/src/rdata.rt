@@ -2,7 +2,7 @@
 
 ghost use Rattle.std.specs.Prelude.{◌≡◌, IfOk};
 
-use crate::ds::DelegationSigner;
+use crate::ds::Digest;
 use crate::notes::notes_rdata;
 use crate::record_type::RecordType;
 use crate::soa::Soa;
@@ -10,23 +10,6 @@ use crate::strings::Strings;
 use dns_names::Name;
 use std::alloc::{AllocError, Global};
 use std::net::{Ipv4Addr, Ipv6Addr};
-
-/// The data of an MX record (RFC 1035 section 3.3.9).
-#[derive(Debug, PartialEq, Eq, Drop)]
-pub struct MailExchange {
-    /// Lower is preferred.
-    pub preference: u16,
-    pub exchange: Name,
-}
-
-/// The data of an SRV record (RFC 2782).
-#[derive(Debug, PartialEq, Eq, Drop)]
-pub struct Service {
-    pub priority: u16,
-    pub weight: u16,
-    pub port: u16,
-    pub target: Name,
-}
 
 /// The data of a record, a variant for each type that is kept.
 #[derive(Debug, PartialEq, Eq, Drop)]
@@ -41,13 +24,31 @@ pub enum Data {
     Soa(Soa),
     /// Another place in the name space (RFC 1035 section 3.3.12).
     Ptr(Name),
-    Mx(MailExchange),
+    /// A mail exchange (RFC 1035 section 3.3.9).
+    Mx {
+        /// Lower is preferred.
+        preference: u16,
+        exchange: Name,
+    },
     /// Text (RFC 1035 section 3.3.14).
     Txt(Strings),
     /// An IPv6 address (RFC 3596 section 2.2).
     Aaaa(Ipv6Addr),
-    Srv(Service),
-    Ds(DelegationSigner),
+    /// A server of a service (RFC 2782).
+    Srv {
+        /// Lower is asked first.
+        priority: u16,
+        weight: u16,
+        port: u16,
+        target: Name,
+    },
+    /// The key that the zone below signs its keys with (RFC 4034 section 5.1).
+    Ds {
+        key_tag: u16,
+        algorithm: u8,
+        digest_type: u8,
+        digest: Digest,
+    },
 }
 
 impl Data {
@@ -66,11 +67,11 @@ impl Data {
             Data::Cname(_) => RecordType::Cname,
             Data::Soa(_) => RecordType::Soa,
             Data::Ptr(_) => RecordType::Ptr,
-            Data::Mx(_) => RecordType::Mx,
+            Data::Mx { .. } => RecordType::Mx,
             Data::Txt(_) => RecordType::Txt,
             Data::Aaaa(_) => RecordType::Aaaa,
-            Data::Srv(_) => RecordType::Srv,
-            Data::Ds(_) => RecordType::Ds,
+            Data::Srv { .. } => RecordType::Srv,
+            Data::Ds { .. } => RecordType::Ds,
         }
     }
 
@@ -84,19 +85,37 @@ impl Data {
             Data::Cname(name) => Data::Cname(name.try_copy(alloc)?),
             Data::Soa(soa) => Data::Soa(soa.try_copy(alloc)?),
             Data::Ptr(name) => Data::Ptr(name.try_copy(alloc)?),
-            Data::Mx(mx) => Data::Mx(MailExchange {
-                preference: mx.preference,
-                exchange: mx.exchange.try_copy(alloc)?,
-            }),
+            Data::Mx {
+                preference,
+                exchange,
+            } => Data::Mx {
+                preference: *preference,
+                exchange: exchange.try_copy(alloc)?,
+            },
             Data::Txt(strings) => Data::Txt(strings.try_copy(alloc)?),
             Data::Aaaa(address) => Data::Aaaa(*address),
-            Data::Srv(srv) => Data::Srv(Service {
-                priority: srv.priority,
-                weight: srv.weight,
-                port: srv.port,
-                target: srv.target.try_copy(alloc)?,
-            }),
-            Data::Ds(ds) => Data::Ds(ds.try_copy(alloc)?),
+            Data::Srv {
+                priority,
+                weight,
+                port,
+                target,
+            } => Data::Srv {
+                priority: *priority,
+                weight: *weight,
+                port: *port,
+                target: target.try_copy(alloc)?,
+            },
+            Data::Ds {
+                key_tag,
+                algorithm,
+                digest_type,
+                digest,
+            } => Data::Ds {
+                key_tag: *key_tag,
+                algorithm: *algorithm,
+                digest_type: *digest_type,
+                digest: digest.try_copy(alloc)?,
+            },
         })
     }
 }

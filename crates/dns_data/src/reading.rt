@@ -10,12 +10,12 @@ ghost use Rattle.dns_data.specs.Rdata.{type_of};
 ghost use Rattle.dns_data.specs.Grammar.{IsData};
 ghost use Rattle.dns_data.specs.Reading.{field, ipv4_of, ipv6_of, name_of, u8_at, u16_at, u32_at, seconds_at, soa_at, mx_at, srv_at, each_string, strings_of, joined, digest_at, ds_at, with_rest, data_at, data_of};
 
-use crate::ds::{DelegationSigner, Digest};
+use crate::ds::Digest;
 use crate::fault::DataFault;
 use crate::item::Item;
 use crate::notes::{notes_octets, notes_origin};
 use crate::number::{Seconds, Serial, read_duration, read_number};
-use crate::rdata::{Data, MailExchange, Service};
+use crate::rdata::Data;
 use crate::record_type::RecordType;
 use crate::soa::{Soa, SoaFields};
 use crate::strings::{CharacterString, Strings};
@@ -132,15 +132,15 @@ fn mail_exchange<'a>(
     items: &'a [Item<'a>],
     origin: Option<&Name>,
 ) -> Result<(Data, &'a [Item<'a>]), DataFault>
-    ensures { Reads (λ x. (x.0, map item_of x.1.now)) result (with_rest Data.Mx (mx_at (option_copied origin.entry) (map item_of items.now))) }
+    ensures { Reads (λ x. (x.0, map item_of x.1.now)) result (mx_at (option_copied origin.entry) (map item_of items.now)) }
 {
     let (preference, items) = number16(items)?;
     let (exchange, items) = name(alloc, items, origin)?;
-    let mx = MailExchange {
+    let mx = Data::Mx {
         preference,
         exchange,
     };
-    Ok((Data::Mx(mx), items))
+    Ok((mx, items))
 }
 
 /// The data of an SRV.
@@ -150,19 +150,19 @@ fn service<'a>(
     items: &'a [Item<'a>],
     origin: Option<&Name>,
 ) -> Result<(Data, &'a [Item<'a>]), DataFault>
-    ensures { Reads (λ x. (x.0, map item_of x.1.now)) result (with_rest Data.Srv (srv_at (option_copied origin.entry) (map item_of items.now))) }
+    ensures { Reads (λ x. (x.0, map item_of x.1.now)) result (srv_at (option_copied origin.entry) (map item_of items.now)) }
 {
     let (priority, items) = number16(items)?;
     let (weight, items) = number16(items)?;
     let (port, items) = number16(items)?;
     let (target, items) = name(alloc, items, origin)?;
-    let srv = Service {
+    let srv = Data::Srv {
         priority,
         weight,
         port,
         target,
     };
-    Ok((Data::Srv(srv), items))
+    Ok((srv, items))
 }
 
 /// Each of the items as a character-string.
@@ -213,13 +213,13 @@ fn digest(alloc: Global, items: &[Item]) -> Result<Digest, DataFault>
 
 /// The data of a DS.
 #[tactic(auto, unfolding(crate::specs::Reading::ds_at))]
-fn delegation_signer(alloc: Global, items: &[Item]) -> Result<DelegationSigner, DataFault>
+fn delegation_signer(alloc: Global, items: &[Item]) -> Result<Data, DataFault>
     ensures { Reads (λ ds. ds) result (ds_at (map item_of items.now)) }
 {
     let (key_tag, items) = number16(items)?;
     let (algorithm, items) = number8(items)?;
     let (digest_type, items) = number8(items)?;
-    Ok(DelegationSigner {
+    Ok(Data::Ds {
         key_tag,
         algorithm,
         digest_type,
@@ -261,7 +261,7 @@ fn data_at<'a>(
             Ok((Data::Aaaa(address), rest))
         }
         RecordType::Srv => service(alloc, items, origin),
-        RecordType::Ds => Ok((Data::Ds(delegation_signer(alloc, items)?), &[])),
+        RecordType::Ds => Ok((delegation_signer(alloc, items)?, &[])),
     }
 }
 

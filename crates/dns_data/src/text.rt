@@ -7,10 +7,10 @@ ghost use Rattle.hex.specs.Hex.{encode_lower};
 ghost use Rattle.dns_data.specs.Items.{items_text};
 ghost use Rattle.dns_data.specs.Again.{ReadsBack, IsTextOfOnly};
 ghost use Rattle.dns_data.specs.Strings.{is_escaped, octet_text, string_text};
-ghost use Rattle.dns_data.specs.Text.{soa_items, mx_items, srv_items, ds_items, strings_items, data_text};
+ghost use Rattle.dns_data.specs.Text.{soa_items, strings_items, data_text};
 
-use crate::ds::{DelegationSigner, Digest};
-use crate::rdata::{Data, MailExchange, Service};
+use crate::ds::Digest;
+use crate::rdata::Data;
 use crate::soa::Soa;
 use crate::strings::{CharacterString, Strings};
 use arrayvec::ArrayVec;
@@ -121,26 +121,6 @@ impl fmt::Display for Soa {
     }
 }
 
-impl fmt::Display for MailExchange {
-    ghost output = { λ x. Some (items_text (mx_items x)) };
-
-    fn fmt<W: fmt::Write>(&self, f: &mut fmt::Formatter<W>) -> fmt::Result {
-        write!(f, "{} {}", self.preference, self.exchange)
-    }
-}
-
-impl fmt::Display for Service {
-    ghost output = { λ x. Some (items_text (srv_items x)) };
-
-    fn fmt<W: fmt::Write>(&self, f: &mut fmt::Formatter<W>) -> fmt::Result {
-        write!(
-            f,
-            "{} {} {} {}",
-            self.priority, self.weight, self.port, self.target
-        )
-    }
-}
-
 /// The most octets whose digits are written at once.
 const DIGITS_AT_ONCE: usize = 64;
 
@@ -179,18 +159,6 @@ impl fmt::Display for Digest {
     }
 }
 
-impl fmt::Display for DelegationSigner {
-    ghost output = { λ x. Some (items_text (ds_items x)) };
-
-    fn fmt<W: fmt::Write>(&self, f: &mut fmt::Formatter<W>) -> fmt::Result {
-        write!(
-            f,
-            "{} {} {} {}",
-            self.key_tag, self.algorithm, self.digest_type, self.digest
-        )
-    }
-}
-
 impl fmt::Display for Data {
     ghost output = { λ x. Some (data_text x) };
 
@@ -199,11 +167,24 @@ impl fmt::Display for Data {
             Data::A(address) => write!(f, "{address}"),
             Data::Ns(name) | Data::Cname(name) | Data::Ptr(name) => write!(f, "{name}"),
             Data::Soa(soa) => write!(f, "{soa}"),
-            Data::Mx(mx) => write!(f, "{mx}"),
+            Data::Mx {
+                preference,
+                exchange,
+            } => write!(f, "{preference} {exchange}"),
             Data::Txt(strings) => write!(f, "{strings}"),
             Data::Aaaa(address) => write!(f, "{}", address.hex_groups()),
-            Data::Srv(srv) => write!(f, "{srv}"),
-            Data::Ds(ds) => write!(f, "{ds}"),
+            Data::Srv {
+                priority,
+                weight,
+                port,
+                target,
+            } => write!(f, "{priority} {weight} {port} {target}"),
+            Data::Ds {
+                key_tag,
+                algorithm,
+                digest_type,
+                digest,
+            } => write!(f, "{key_tag} {algorithm} {digest_type} {digest}"),
         }
     }
 }

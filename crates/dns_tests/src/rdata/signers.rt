@@ -155,7 +155,7 @@ fn limits_of_digests(rt: HostRuntime) -> Result<(), Fail> {
         ];
         let read = read_data(rt.alloc(), RecordType::Ds, &items, None);
         let got = match &read {
-            Ok(Data::Ds(ds)) => Ok(ds.digest.octets().len()),
+            Ok(Data::Ds { digest, .. }) => Ok(digest.octets().len()),
             Ok(_) => Ok(0),
             Err(fault) => Err(fault.number()),
         };
