@@ -12,6 +12,7 @@ pub mod EvenLemmas
 pub mod BesideLemmas
 pub mod AdjacentLemmas
 pub mod StemLemmas
+pub mod TieLemmas
 pub mod PlaceLemmas
 pub mod FaultLemmas
 pub mod WholeLemmas

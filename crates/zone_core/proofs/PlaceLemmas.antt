@@ -1,25 +1,33 @@
 -- Records that are put in order by where they stand.
-use Rattle.std.proofs.Common.{◌≡◌, ◌≢◌, ℕ, zero, suc, ◌+◌, ◌<◌, ◌≤◌, List, [], ◌∷◌, length, get_or, set, refl, sym, ap, subst, ◌∙◌, arith, get_or-set_same, get_or-set_other, length-set, eqb, Bool, true, false, cond, not, ◌&&◌, map, take, ◌++◌}
-use Rattle.std.specs.Ordering.{is_lt, nat_cmp, ordering_then}
+use Rattle.std.proofs.Common.{◌≡◌, ◌≢◌, ℕ, zero, suc, ◌+◌, ◌<◌, ◌≤◌, List, [], ◌∷◌, length, get_or, set, refl, sym, ap, subst, ◌∙◌, arith, get_or-set_same, get_or-set_other, length-set, eqb, Bool, true, false, cond, map, ◌++◌}
+use Rattle.std.specs.declared.cmp.Ordering.{Ordering}
+use Rattle.std.specs.declared.cmp.Ordering.TheVariants.{Less, Equal, Greater}
+use Rattle.std.specs.Ordering.{is_lt, is_eq, nat_cmp, ordering_then}
+use denote.Ref.{Bor}
+use denote.Param.Members.{Mut}
+use Rattle.std.specs.Fn.{Called}
 use Rattle.std.specs.Cmp.{IsStrictWeakOrder, nat_cmp_total, on_total, then_total}
 use Rattle.std.specs.List.{SwappedAt, IsDistinct, range_with_len, filter, All, AllByRecursion}
-use Rattle.std.specs.List.Sorted.{IsPermutation, IsSorted, IsSortedBy, IsStableBy, ties}
+use Rattle.std.specs.List.Sorted.{IsSorted, IsSortedBy, IsSortedByClosure, ties}
 use Rattle.std.proofs.lemmas.Bool.Decides.{nat_tests}
-use Rattle.std.proofs.lemmas.List.{get_or_default, get_or-map, length-map, map-append, same_lists, take_all, take_more}
-use Rattle.std.proofs.lemmas.List.FromFn.{length-range_with_len, get_or-range_with_len, map-range_with_len_more}
-use Rattle.std.proofs.lemmas.List.Elements.{All-from_recursion, recursion_from_All}
-use Rattle.std.proofs.lemmas.List.Sorted.{ranks_by, length_permutation, All-permutation, Contains-permutation, IsPermutation-map}
-use Rattle.std.proofs.lemmas.Map.Keys.{IsDistinct-from_apart, IsDistinct-IsPermutation, apart_from_distinct}
+use Rattle.std.proofs.lemmas.Fn.{always_returns_same}
+use Rattle.std.proofs.lemmas.List.{get_or_default, get_or-map, length-map, same_lists}
+use Rattle.std.proofs.lemmas.List.FromFn.{length-range_with_len, get_or-range_with_len, length-map-range_with_len, get_or-map-range_with_len}
+use Rattle.std.proofs.lemmas.List.Elements.{All-from_recursion}
+use Rattle.std.proofs.lemmas.List.Sorted.{ranks_by, length_permutation, All-permutation, Contains-permutation}
+use Rattle.std.proofs.lemmas.Map.Keys.{IsDistinct-from_apart, IsDistinct-IsPermutation, apart_from_distinct, ge_from_not_lt}
+use Rattle.dns_names.specs.Keys.{key_of as name_key}
 use Rattle.dns_data.specs.declared.record.Record.{Record}
-use Rattle.zone_core.specs.Sets.{record_order, set_of}
-use Rattle.zone_core.specs.declared.places.View.{View}
-use Rattle.dns_names.specs.Keys.{key_of}
 use Rattle.dns_data.specs.Rdata.{IsRecord}
 use Rattle.dns_data.specs.RecordOrder.{Key, key_of as record_key, key_total}
-use Rattle.zone_core.specs.Heads.{high_behind, low_behind, HaveStem}
-use Rattle.zone_core.specs.Views.{ViewsOf, IsHeaded, view_order, ArePlaces, AreInverse, AreTaken}
-use Rattle.zone_core.proofs.SortLemmas.{stable_set}
-use Rattle.zone_core.proofs.StemLemmas.{IsBehind, heads_first}
+use Rattle.zone_core.specs.declared.places.Head.{Head}
+use Rattle.zone_core.specs.Sets.{key_of, record_order, same_key, set_of}
+use Rattle.zone_core.specs.Heads.{no_head, head_behind, head_order, HaveStem}
+use Rattle.zone_core.specs.Views.{place_order, ArePlaces, AreInverse, AreTaken}
+use Rattle.zone_core.proofs.SetLemmas.{key_is}
+use Rattle.zone_core.proofs.SortLemmas.{ties_is, stable_set}
+use Rattle.zone_core.proofs.StemLemmas.{IsBehind, heads, heads_first}
+use Rattle.zone_core.proofs.TieLemmas.{same_ties}
 
 is_or_not : (i j : ℕ) (A : Type 0) → (i ≡ j → A) → (i ≢ j → A) → A
 is_or_not zero zero A same other = same refl
@@ -179,154 +187,124 @@ at_the_end rs first xs q p k are far way =
     let len = places_len (length rs) first are in
     (way.rows ∙ sym len, λ m d upto. way.done m d (omega (arith, upto, len)) (omega (arith, upto, len)))
 
--- ---- views, of which each is a record, where it stands, and its owner's head
+-- ---- places that are sorted by what stands there
 
-abbrev pub seen : View → Record
-seen v = v.rr.now
+-- by an order that a closure answers by
+pub sorted_by : {F : Type 0} {g : Mut F (Bor ℕ × (Bor ℕ × Unit {0})) Ordering} {f : F} (cmp : ℕ → ℕ → Ordering) (ps : List ℕ) → IsStrictWeakOrder (λ p q. is_lt (cmp p q)) → IsSortedByClosure g f ps
+    → ((a : Bor ℕ × (Bor ℕ × Unit {0})) (r : Ordering) (f' : F) → Called g f a r f' → (r ≡ cmp a.0.now a.1.0.now) × (f' ≡ f)) → IsSorted cmp ps
+sorted_by {g = g} {f = f} cmp ps weak sorted answers =
+    sorted (λ p q. is_lt (cmp p q)) weak (always_returns_same g (λ a r. is_lt r ≡ is_lt (cmp a.0.now a.1.0.now)) f (λ a r f' called. let one = answers a r f' called in (ap is_lt one.0, one.1)))
 
-abbrev pub stands : View → ℕ
-stands v = v.place
-
-abbrev view : ℕ → Record → View
-view stem r = record { high = high_behind stem r.owner; low = low_behind stem r.owner; rr = record { ref_ptr = (0, 0); now = r }; place = 0 }
-
-abbrev pub view_lt : View → View → Bool
-view_lt v w = is_lt (view_order v w)
-
-same_range : (xs : List ℕ) → map (λ k. k) xs ≡ xs
-same_range [] = refl
-same_range (x ∷ xs) = ap (λ ys. x ∷ ys) (same_range xs)
-
-headed_append : (stem : ℕ) (vs ws : List View) → AllByRecursion (IsHeaded stem) vs → AllByRecursion (IsHeaded stem) ws → AllByRecursion (IsHeaded stem) (vs ++ ws)
-headed_append stem [] ws all also = also
-headed_append stem (v ∷ vs) ws all also = (all.0, headed_append stem vs ws all.1 also)
-
--- some views, of the records as far as a place
-abbrev pub ViewsTo : ℕ → List Record → ℕ → List View → Type 0
-ViewsTo stem rs i vs = (map seen vs ≡ take i rs) × (map stands vs ≡ range_with_len 0 i) × AllByRecursion (IsHeaded stem) vs
-
-pub read_is : (rs : List Record) (i : ℕ) (a b : Record) → a ≡ b → b ≡ get_or rs i b → a ≡ get_or rs i a
-read_is rs i a b e is = e ∙ is ∙ ap (get_or rs i) (sym e)
-
--- one view more
-pub views_more : (stem : ℕ) (rs : List Record) (i : ℕ) (vs ws : List View) (v : View) → ws ≡ vs ++ v ∷ [] → seen v ≡ get_or rs i (seen v) → stands v ≡ i → IsHeaded stem v → i < length rs
-    → ViewsTo stem rs i vs → ViewsTo stem rs (i + 1) ws
-views_more stem rs i vs ws v e is place head below so_far = (
-  ap (map seen) e ∙ map-append seen vs (v ∷ []) ∙ (λ j. so_far.0 j ++ is j ∷ []) ∙ sym (take_more rs i (seen v) below),
-  ap (map stands) e ∙ map-append stands vs (v ∷ []) ∙ (λ j. so_far.1 j ++ place j ∷ [])
-      ∙ sym (sym (same_range (range_with_len 0 (i + 1))) ∙ map-range_with_len_more (λ k. k) 0 i i (none i) ∙ ap (λ xs. xs ++ i ∷ []) (same_range (range_with_len 0 i))),
-  subst (AllByRecursion (IsHeaded stem)) (sym e) (headed_append stem vs (v ∷ []) so_far.2 (head, tt)),
-)
-  where
-    none : (a : ℕ) → 0 + a ≡ a
-    none a = omega arith
-
-pub all_views : (stem : ℕ) (rs : List Record) (i : ℕ) (vs : List View) → length rs ≤ i → i ≤ length rs → ViewsTo stem rs i vs → ViewsOf stem rs vs
-all_views stem rs i vs far upto so_far = (so_far.0 ∙ take_all i rs far, so_far.1 ∙ ap (range_with_len 0) (one i (length rs) far upto), so_far.2)
-  where
-    one : (a b : ℕ) → b ≤ a → a ≤ b → a ≡ b
-    one a b le ge = omega arith
-
-filter_seen : (p : Record → Bool) (vs : List View) → filter p (map seen vs) ≡ map seen (filter (λ v. p (seen v)) vs)
-filter_seen p [] = refl
-filter_seen p (v ∷ vs) = by_test (p (seen v)) (filter_seen p vs)
-  where
-    by_test : (b : Bool) → filter p (map seen vs) ≡ map seen (filter (λ v. p (seen v)) vs)
-        → cond b (seen v ∷ filter p (map seen vs)) (filter p (map seen vs)) ≡ map seen (cond b (v ∷ filter (λ v. p (seen v)) vs) (filter (λ v. p (seen v)) vs))
-    by_test true e = ap (λ rs. seen v ∷ rs) e
-    by_test false e = e
-
--- ---- views whose heads are right
-
--- a view of a record whose owner's key begins with these octets, with its head
-abbrev IsGood : List ℕ → View → Type 0
-IsGood begin v = IsHeaded (length begin) v × IsBehind begin (seen v)
-
-good_order : (begin : List ℕ) (v w : View) → IsGood begin v → IsGood begin w → view_order v w ≡ record_order (seen v) (seen w)
-good_order begin v w this that =
-    (λ j. ordering_then (ordering_then (nat_cmp (this.0.0 j) (that.0.0 j)) (nat_cmp (this.0.1 j) (that.0.1 j))) (record_order (seen v) (seen w))) ∙ heads_first begin (seen v) (seen w) this.1 that.1
-
-good_ties : (begin : List ℕ) (v w : View) → IsGood begin v → IsGood begin w → ties view_lt v w ≡ ties (λ a b. is_lt (record_order a b)) (seen v) (seen w)
-good_ties begin v w this that = λ j. not (is_lt (good_order begin v w this that j)) && not (is_lt (good_order begin w v that this j))
-
-filter_good : (begin : List ℕ) (v : View) (ws : List View) → IsGood begin v → AllByRecursion (IsGood begin) ws
-    → filter (ties view_lt v) ws ≡ filter (λ w. ties (λ a b. is_lt (record_order a b)) (seen v) (seen w)) ws
-filter_good begin v [] good all = refl
-filter_good begin v (w ∷ ws) good all =
-    λ j. cond (good_ties begin v w good all.0 j) (w ∷ filter_good begin v ws good all.1 j) (filter_good begin v ws good all.1 j)
-
-goods : (begin : List ℕ) (vs : List View) → AllByRecursion (IsHeaded (length begin)) vs → AllByRecursion (IsBehind begin) (map seen vs) → AllByRecursion (IsGood begin) vs
-goods begin [] heads owners = tt
-goods begin (v ∷ vs) heads owners = ((heads.0, owners.0), goods begin vs heads.1 owners.1)
-
-behinds : (begin : List ℕ) (vs : List View) → AllByRecursion (IsGood begin) vs → AllByRecursion (IsBehind begin) (map seen vs)
-behinds begin [] all = tt
-behinds begin (v ∷ vs) all = (all.0.1, behinds begin vs all.1)
-
-are_behind : (begin : List ℕ) (rs : List Record) → AllByRecursion IsRecord rs → AllByRecursion (λ r. (behind : List ℕ) × (key_of r.owner ≡ begin ++ behind)) rs → AllByRecursion (IsBehind begin) rs
+are_behind : (begin : List ℕ) (rs : List Record) → AllByRecursion IsRecord rs → AllByRecursion (λ r. (behind : List ℕ) × (name_key r.owner ≡ begin ++ behind)) rs → AllByRecursion (IsBehind begin) rs
 are_behind begin [] are all = tt
 are_behind begin (r ∷ rs) are all = (record { owner = are.0.owner; behind = all.0.0; key = all.0.1 }, are_behind begin rs are.1 all.1)
 
--- the order of views is one
-pub view_ranks : IsStrictWeakOrder view_lt
-view_ranks = ranks_by (then_total (then_total (on_total (λ (v : ℕ × ℕ × Key). v.0) nat_cmp_total) (on_total (λ (v : ℕ × ℕ × Key). v.1) nat_cmp_total)) (on_total (λ (v : ℕ × ℕ × Key). v.2) key_total)) (λ v. (v.high, v.low, record_key (seen v)))
+assoc : (a b c : Ordering) → ordering_then (ordering_then a b) c ≡ ordering_then a (ordering_then b c)
+assoc Less b c = refl
+assoc Equal b c = refl
+assoc Greater b c = refl
 
-module _ (rs : List Record) (vs ws : List View) (records : map seen vs ≡ rs) (places : map stands vs ≡ range_with_len 0 (length rs)) (moved : IsPermutation vs ws) where
-  pub views_are : ArePlaces (length rs) (map stands ws)
-  views_are = subst (λ xs. IsPermutation xs (map stands ws)) places (IsPermutation-map stands vs ws moved)
+not_first : (a b : Ordering) → is_lt (ordering_then a b) ≡ false → is_lt a ≡ false
+not_first Less b e = e
+not_first Equal b e = refl
+not_first Greater b e = refl
 
-  count : length vs ≡ length rs
-  count = sym (length-map vs seen) ∙ ap length records
+is_equal : (o : Ordering) → is_eq o ≡ true → o ≡ Equal
+is_equal Less e = absurd cc
+is_equal Equal e = refl
+is_equal Greater e = absurd cc
 
-  -- each stands where its record does
-  own : All (λ v. (d : Record) → seen v ≡ get_or rs (stands v) d) ws
-  own = All-permutation (λ v. (d : Record) → seen v ≡ get_or rs (stands v) d) vs ws moved
-      (λ k w below d.
-      let v = get_or vs k w in
-      let place : stands v ≡ k = sym (get_or-map stands vs k w 0 below) ∙ ap (λ xs. get_or xs k 0) places ∙ get_or-range_with_len 0 (length rs) k 0 (omega (arith, below, count)) ∙ none k in
-      sym (get_or-map seen vs k w d below) ∙ ap (λ xs. get_or xs k d) records ∙ ap (λ i. get_or rs i d) (sym place))
-    where
-      none : (a : ℕ) → 0 + a ≡ a
-      none a = omega arith
+abbrev record_lt : Record → Record → Bool
+record_lt r s = is_lt (record_order r s)
 
-  taken_seen : (rows : List Record) → AreTaken rs (map stands ws) rows → rows ≡ map seen ws
-  taken_seen rows taken =
-      same_lists rows (map seen ws) (taken.0 ∙ length-map ws stands ∙ sym (length-map ws seen))
-      (λ k d below.
-      let short : k < length ws = omega (arith, below, taken.0, length-map ws stands) in
-      taken.1 k d (omega (arith, below, taken.0))
-      ∙ ap (λ i. get_or rs i d) (get_or-map stands ws k (view 0 d) 0 short)
-      ∙ sym (own k (view 0 d) short d) ∙ sym (get_or-map seen ws k (view 0 d) d short))
+-- records that tie with another tie
+both_tie : (x r s : Record) → ties record_lt x r ≡ true → ties record_lt x s ≡ true → record_order s r ≡ Equal
+both_tie x r s this that =
+    let same : same_key (key_of x) (key_of r) ≡ true = sym (ties_is x r) ∙ this in
+    let also : same_key (key_of x) (key_of s) ≡ true = sym (ties_is x s) ∙ that in
+    is_equal (record_order s r) (subst (λ k. same_key k (key_of r) ≡ true) (key_is (key_of x) (key_of s) also) same)
 
-  module _ (stem : ℕ) (have : HaveStem stem rs) (heads : AllByRecursion (IsHeaded stem) vs) (are : AllByRecursion IsRecord rs) where
+filter_map_is : (p : Record → Bool) (row : ℕ → Record) (ps : List ℕ) → filter p (map row ps) ≡ map row (filter (λ q. p (row q)) ps)
+filter_map_is p row [] = refl
+filter_map_is p row (q ∷ ps) = by_test (p (row q)) (filter_map_is p row ps)
+  where
+    by_test : (b : Bool) → filter p (map row ps) ≡ map row (filter (λ q. p (row q)) ps)
+        → cond b (row q ∷ filter p (map row ps)) (filter p (map row ps)) ≡ map row (cond b (q ∷ filter (λ q. p (row q)) ps) (filter (λ q. p (row q)) ps))
+    by_test true e = ap (λ rs. row q ∷ rs) e
+    by_test false e = e
+
+module _ (rs : List Record) (heads_are : List Head) (other : Record) where
+  abbrev pub row : ℕ → Record
+  row p = get_or rs p other
+
+  abbrev pub place_lt : ℕ → ℕ → Bool
+  place_lt p q = is_lt (place_order rs heads_are other p q)
+
+  -- the order of places is one
+  pub place_ranks : IsStrictWeakOrder place_lt
+  place_ranks =
+      ranks_by
+      (then_total (then_total (on_total (λ (v : (ℕ × ℕ) × (Key × ℕ)). v.0.0) nat_cmp_total) (on_total (λ (v : (ℕ × ℕ) × (Key × ℕ)). v.0.1) nat_cmp_total))
+      (then_total (on_total (λ (v : (ℕ × ℕ) × (Key × ℕ)). v.1.0) key_total) (on_total (λ (v : (ℕ × ℕ) × (Key × ℕ)). v.1.1) nat_cmp_total)))
+      (λ p. (((get_or heads_are p no_head).high, (get_or heads_are p no_head).low), (record_key (row p), p)))
+
+  module _ (stem : ℕ) (have : HaveStem stem rs) (are : AllByRecursion IsRecord rs) (is : heads_are ≡ map (λ r. head_behind stem r.owner) rs) where
     abbrev begin : List ℕ
     begin = have.0
 
-    before : AllByRecursion (IsGood begin) vs
-    before =
-        goods begin vs (subst (λ n. AllByRecursion (IsHeaded n) vs) (sym have.1) heads)
-        (subst (AllByRecursion (IsBehind begin)) (sym records) (are_behind begin rs are have.2))
+    behinds : All (IsBehind begin) rs
+    behinds = All-from_recursion (IsBehind begin) rs (are_behind begin rs are have.2)
 
-    after : All (IsGood begin) ws
-    after = All-permutation (IsGood begin) vs ws moved (All-from_recursion (IsGood begin) vs before)
+    head_is : (p : ℕ) → p < length rs → get_or heads_are p no_head ≡ head_behind (length begin) (row p).owner
+    head_is p below =
+        ap (λ hs. get_or hs p no_head) is ∙ get_or-map (λ r. head_behind stem r.owner) rs p other no_head below ∙ ap (λ n. head_behind n (row p).owner) (sym have.1)
 
-    pub rows_sorted : IsSortedBy view_lt ws → (rows : List Record) → AreTaken rs (map stands ws) rows → IsSorted record_order rows
-    rows_sorted sorted rows taken =
-        subst (IsSorted record_order) (sym (taken_seen rows taken)) (λ k d low up.
-        let short : k + 1 < length ws = omega (arith, up, length-map ws seen) in
-        let v = get_or ws (k + 1) (view 0 d) in
-        let w = get_or ws k (view 0 d) in
-        (λ j. is_lt (record_order (get_or-map seen ws (k + 1) (view 0 d) d short j) (get_or-map seen ws k (view 0 d) d (omega (arith, short)) j)))
-        ∙ ap is_lt (sym (good_order begin v w (after (k + 1) (view 0 d) short) (after k (view 0 d) (omega (arith, short)))))
-        ∙ sorted k (view 0 d) low short)
+    -- heads that are right do not change the order
+    by_records : (p q : ℕ) → p < length rs → q < length rs → place_order rs heads_are other p q ≡ ordering_then (record_order (row p) (row q)) (nat_cmp p q)
+    by_records p q first second =
+        (λ j. ordering_then (head_order (head_is p first j) (head_is q second j)) (ordering_then (record_order (row p) (row q)) (nat_cmp p q)))
+        ∙ sym (assoc (heads (length begin) (row p) (row q)) (record_order (row p) (row q)) (nat_cmp p q))
+        ∙ ap (λ o. ordering_then o (nat_cmp p q)) (heads_first begin (row p) (row q) (behinds p other first) (behinds q other second))
 
-    pub rows_set : IsStableBy view_lt vs ws → (rows : List Record) → AreTaken rs (map stands ws) rows → set_of rows ≡ set_of rs
-    rows_set stable rows taken =
-        let also : AllByRecursion (IsGood begin) ws = recursion_from_All (IsGood begin) ws after in
-        let keeps : (x : Record) → IsBehind begin x → filter (ties (λ a b. is_lt (record_order a b)) x) (map seen ws) ≡ filter (ties (λ a b. is_lt (record_order a b)) x) (map seen vs) =
-        λ x is.
-        let v = view (length begin) x in
-        filter_seen (ties (λ a b. is_lt (record_order a b)) x) ws
-        ∙ ap (map seen) (sym (filter_good begin v ws ((refl, refl), is) also) ∙ stable v ∙ filter_good begin v vs ((refl, refl), is) before)
-        ∙ sym (filter_seen (ties (λ a b. is_lt (record_order a b)) x) vs) in
-        ap set_of (taken_seen rows taken) ∙ stable_set (map seen vs) (map seen ws) (IsBehind begin) (behinds begin vs before) (behinds begin ws also) keeps ∙ ap set_of records
+    module _ (ps : List ℕ) (moved : ArePlaces (length rs) ps) (sorted : IsSortedBy place_lt ps) where
+      taken_rows : (rows : List Record) → AreTaken rs ps rows → rows ≡ map row ps
+      taken_rows rows taken =
+          same_lists rows (map row ps) (taken.0 ∙ sym (length-map ps row))
+          (λ k d below.
+          let short : k < length ps = omega (arith, below, taken.0) in
+          taken.1 k d short
+          ∙ get_or_default rs (get_or ps k 0) d other (place_within (length rs) ps moved k (omega (arith, short, places_len (length rs) ps moved)))
+          ∙ sym (get_or-map row ps k 0 d short))
+
+      pub rows_sorted : (rows : List Record) → AreTaken rs ps rows → IsSorted record_order rows
+      rows_sorted rows taken =
+          subst (IsSorted record_order) (sym (taken_rows rows taken)) (λ k d low up.
+          let short : k + 1 < length ps = omega (arith, up, length-map ps row) in
+          let len = places_len (length rs) ps moved in
+          let p = get_or ps k 0 in
+          let q = get_or ps (k + 1) 0 in
+          (λ j. is_lt (record_order (get_or-map row ps (k + 1) 0 d short j) (get_or-map row ps k 0 d (omega (arith, short)) j)))
+          ∙ not_first (record_order (row q) (row p)) (nat_cmp q p)
+          (ap is_lt (sym (by_records q p (place_within (length rs) ps moved (k + 1) (omega (arith, short, len))) (place_within (length rs) ps moved k (omega (arith, short, len))))) ∙ sorted k 0 low short))
+
+      whole : map row (range_with_len 0 (length rs)) ≡ rs
+      whole =
+          same_lists (map row (range_with_len 0 (length rs))) rs (length-map-range_with_len row 0 (length rs))
+          (λ k d below.
+          let short : k < length rs = omega (arith, below, length-map-range_with_len row 0 (length rs)) in
+          get_or-map-range_with_len row 0 (length rs) k k d short (omega arith) ∙ get_or_default rs k other d short)
+
+      -- places where records tie with one are in their own order
+      tied : (x : Record) (p q : ℕ) → p < length rs → q < length rs → ties record_lt x (row p) ≡ true → ties record_lt x (row q) ≡ true → place_lt q p ≡ false → p ≤ q
+      tied x p q first second this that e =
+          ge_from_not_lt q p
+          (subst (λ o. is_lt (ordering_then o (nat_cmp q p)) ≡ false) (both_tie x (row p) (row q) this that) (ap is_lt (sym (by_records q p second first)) ∙ e))
+
+      pub rows_set : (rows : List Record) → AreTaken rs ps rows → set_of rows ≡ set_of rs
+      rows_set rows taken =
+          ap set_of (taken_rows rows taken)
+          ∙ stable_set rs (map row ps) (λ x.
+          filter_map_is (ties record_lt x) row ps
+          ∙ ap (map row) (same_ties (length rs) place_lt place_ranks ps moved sorted (λ p. ties record_lt x (row p)) (tied x))
+          ∙ sym (filter_map_is (ties record_lt x) row (range_with_len 0 (length rs)))
+          ∙ ap (filter (ties record_lt x)) whole)

@@ -22,7 +22,7 @@ tie_is a Less e = rw e refl
 tie_is a Equal e = rw e refl
 tie_is a Greater e = rw e refl
 
-ties_is : (x y : Record) → ties (λ a b. is_lt (record_order a b)) x y ≡ same_key (key_of x) (key_of y)
+pub ties_is : (x y : Record) → ties (λ a b. is_lt (record_order a b)) x y ≡ same_key (key_of x) (key_of y)
 ties_is x y = tie_is (record_order x y) (record_order y x) (record_order_total.antisymm x y)
 
 -- what is found under a key is the first record with it
@@ -35,28 +35,18 @@ find_first k (r ∷ rs) = by_test (same_key k (key_of r)) (find_first k rs)
     by_test true e = refl
     by_test false e = e
 
--- what is found has what all have
-found_has : (P : Record → Type 0) (k : Key) (rs : List Record) (x : Record) → AllByRecursion P rs → find key_cmp k (keyed rs) ≡ Some x → P x
-found_has P k [] x all e = absurd cc
-found_has P k (r ∷ rs) x all e = by_test (same_key k (key_of r)) (λ f. found_has P k rs x all.1 f) e
-  where
-    by_test : (b : Bool) → (find key_cmp k (keyed rs) ≡ Some x → P x) → cond b (Some r) (find key_cmp k (keyed rs)) ≡ Some x → P x
-    by_test true more f = subst P (let same : Some r ≡ Some x = f in cc) all.0
-    by_test false more f = more f
-
--- a sort that is stable for the records that both rows have
-module _ (xs ys : List Record) (P : Record → Type 0) (these : AllByRecursion P xs) (those : AllByRecursion P ys)
-    (stable : (x : Record) → P x → filter (ties (λ a b. is_lt (record_order a b)) x) ys ≡ filter (ties (λ a b. is_lt (record_order a b)) x) xs) where
+-- those that tie with a record stand in the same order in both rows
+module _ (xs ys : List Record) (stable : (x : Record) → filter (ties (λ a b. is_lt (record_order a b)) x) ys ≡ filter (ties (λ a b. is_lt (record_order a b)) x) xs) where
   -- under the key of a record
-  same_at : (k : Key) (x : Record) → P x → k ≡ key_of x → find key_cmp k (keyed ys) ≡ find key_cmp k (keyed xs)
-  same_at k x has e =
+  same_at : (k : Key) (x : Record) → k ≡ key_of x → find key_cmp k (keyed ys) ≡ find key_cmp k (keyed xs)
+  same_at k x e =
       let tied : (rs : List Record) → filter (ties (λ a b. is_lt (record_order a b)) x) rs ≡ filter (λ r. same_key k (key_of r)) rs =
       λ rs. filter_agree (ties (λ a b. is_lt (record_order a b)) x) (λ r. same_key k (key_of r)) (λ y. ties_is x y ∙ ap (λ j. same_key j (key_of y)) (sym e)) rs in
-      find_first k ys ∙ ap first_of (sym (tied ys) ∙ stable x has ∙ tied xs) ∙ sym (find_first k xs)
+      find_first k ys ∙ ap first_of (sym (tied ys) ∙ stable x ∙ tied xs) ∙ sym (find_first k xs)
 
   by_options : (k : Key) (a b : Option Record) → find key_cmp k (keyed ys) ≡ a → find key_cmp k (keyed xs) ≡ b → find key_cmp k (keyed ys) ≡ find key_cmp k (keyed xs)
-  by_options k (Some y) b e f = same_at k y (found_has P k ys y those e) (found_key ys k y e)
-  by_options k None (Some x) e f = same_at k x (found_has P k xs x these f) (found_key xs k x f)
+  by_options k (Some y) b e f = same_at k y (found_key ys k y e)
+  by_options k None (Some x) e f = same_at k x (found_key xs k x f)
   by_options k None None e f = e ∙ sym f
 
   pub stable_set : set_of ys ≡ set_of xs

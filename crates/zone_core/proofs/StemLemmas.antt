@@ -18,7 +18,7 @@ use Rattle.dns_names.proofs.NameLemmas.{is_within-Decides}
 use Rattle.dns_names.proofs.OctetLemmas.{by_worth, eight}
 use Rattle.dns_data.specs.declared.record.Record.{Record}
 use Rattle.zone_core.specs.Sets.{record_order}
-use Rattle.zone_core.specs.Heads.{front, written, high_behind, low_behind, HaveStem}
+use Rattle.zone_core.specs.Heads.{front, written, head_behind, head_order, HaveStem}
 
 -- ---- fronts
 
@@ -191,8 +191,8 @@ pub record IsBehind (begin : List ℕ) (r : Record) : Type 0 where
   pub behind : List ℕ
   pub key : key_of r.owner ≡ begin ++ behind
 
-abbrev heads : ℕ → Record → Record → Ordering
-heads stem r s = ordering_then (nat_cmp (high_behind stem r.owner) (high_behind stem s.owner)) (nat_cmp (low_behind stem r.owner) (low_behind stem s.owner))
+abbrev pub heads : ℕ → Record → Record → Ordering
+heads stem r s = head_order (head_behind stem r.owner) (head_behind stem s.owner)
 
 names_first : (begin : List ℕ) (r s : Record) → IsBehind begin r → IsBehind begin s
     → ordering_then (heads (length begin) r s) (canonical_cmp r.owner s.owner) ≡ canonical_cmp r.owner s.owner

@@ -2,8 +2,11 @@
 use Rattle.std.specs.Prelude.{◌≡◌, ℕ, zero, suc, List, [], ◌∷◌, ◌++◌, length, drop}
 use Rattle.std.specs.Int.{from_be_bytes, w64}
 use Rattle.std.specs.List.{AllByRecursion}
+use Rattle.std.specs.declared.cmp.Ordering.{Ordering}
+use Rattle.std.specs.Ordering.{nat_cmp, ordering_then}
 use Rattle.dns_names.specs.Keys.{key_of}
 use Rattle.dns_data.specs.declared.record.Record.{Record}
+use Rattle.zone_core.specs.declared.places.Head.{Head}
 
 -- so many octets of a row, with zeros for those that it lacks
 abbrev pub front : ℕ → List ℕ → List ℕ
@@ -16,11 +19,16 @@ unfoldable pub written : List ℕ → ℕ
 written octets = from_be_bytes w64 (front 8 octets)
 
 -- the first eight octets of a name's key behind a stem, and the eight behind them
-abbrev pub high_behind : ℕ → List (List ℕ) → ℕ
-high_behind stem name = written (drop stem (key_of name))
+abbrev pub head_behind : ℕ → List (List ℕ) → Head
+head_behind stem name = record { high = written (drop stem (key_of name)); low = written (drop 8 (drop stem (key_of name))) }
 
-abbrev pub low_behind : ℕ → List (List ℕ) → ℕ
-low_behind stem name = written (drop 8 (drop stem (key_of name)))
+-- the head where there is none
+abbrev pub no_head : Head
+no_head = record { high = 0; low = 0 }
+
+-- the order of heads: by the first number, and then by the second
+abbrev pub head_order : Head → Head → Ordering
+head_order h k = ordering_then (nat_cmp h.high k.high) (nat_cmp h.low k.low)
 
 -- the keys of all owners begin with the same octets, which are so many
 abbrev pub HaveStem : ℕ → List Record → Type 0

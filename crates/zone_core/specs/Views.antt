@@ -8,8 +8,8 @@ use Rattle.dns_names.specs.Order.{canonical_cmp, same_name}
 use Rattle.dns_data.specs.declared.record.Record.{Record}
 use Rattle.dns_data.specs.declared.record_type.RecordType.{RecordType}
 use Rattle.dns_data.specs.Rdata.{type_of}
-use Rattle.zone_core.specs.declared.places.View.{View}
-use Rattle.zone_core.specs.Heads.{high_behind, low_behind}
+use Rattle.zone_core.specs.declared.places.Head.{Head}
+use Rattle.zone_core.specs.Heads.{no_head, head_order}
 use Rattle.zone_core.specs.Sets.{key_of, rank_of, record_order, set_of, InOrder}
 use Rattle.zone_core.specs.Zones.{ZoneOf, IsZone, is_soa, is_cname, beside, least_ttl}
 
@@ -58,24 +58,11 @@ even_rows rs = given_ttls rs (map (set_ttl rs) rs)
 
 -- ---- records that are put in order
 
--- a view has the head of its owner's key behind a stem
-abbrev pub IsHeaded : ℕ → View → Type 0
-IsHeaded stem v = (v.high ≡ high_behind stem v.rr.now.owner) × (v.low ≡ low_behind stem v.rr.now.owner)
-
--- the view of a record at a place
-abbrev pub IsViewOf : ℕ → Record → ℕ → View → Type 0
-IsViewOf stem r place v = (v.rr.now ≡ r) × (v.place ≡ place) × IsHeaded stem v
-
--- the records of a row, each with the place where it stands, and its owner's head behind a stem
-abbrev pub ViewsOf : ℕ → List Record → List View → Type 0
-ViewsOf stem rs views =
-    (map (λ v. v.rr.now) views ≡ rs)
-    × (map (λ v. v.place) views ≡ range_with_len 0 (length rs))
-    × AllByRecursion (IsHeaded stem) views
-
--- the order of views: by their heads, and where these tie that of the records
-abbrev pub view_order : View → View → Ordering
-view_order v w = ordering_then (ordering_then (nat_cmp v.high w.high) (nat_cmp v.low w.low)) (record_order v.rr.now w.rr.now)
+-- the order of two places: by the heads there, where these tie by the records, and where these do by the places
+abbrev pub place_order : List Record → List Head → Record → ℕ → ℕ → Ordering
+place_order rs heads other p q =
+    ordering_then (head_order (slice_index_or heads p no_head) (slice_index_or heads q no_head))
+    (ordering_then (record_order (slice_index_or rs p other) (slice_index_or rs q other)) (nat_cmp p q))
 
 -- the numbers below another, each once, in some order
 abbrev pub ArePlaces : ℕ → List ℕ → Type 0

@@ -1,28 +1,28 @@
 //! Places of records in record order, and records that are put there.
 //!
-//! Views of the records are sorted in their stead, since a sort moves what it sorts some dozen times, and its buffer is as large:
-//! a view is much smaller than a record. Then each record is moved once. Most views are told apart by the numbers that are written
-//! by a few octets of their owners' keys, behind those that all keys begin with.
+//! The places are sorted in the records' stead, since a sort moves what it sorts some dozen times, and a record is large. Then each
+//! record is moved once. Most records are told apart by the numbers that are written by a few octets of their owners' keys, behind
+//! those that all keys begin with.
 
-ghost use Rattle.std.specs.Prelude.{◌≡◌, List, length, drop, map, IfOk};
-ghost use Rattle.std.specs.List.Sorted.{IsSorted};
+ghost use Rattle.std.specs.Prelude.{◌≡◌, List, length, drop, map, slice_index_or, IfOk};
+ghost use Rattle.std.specs.List.{range_with_len};
+ghost use Rattle.std.specs.List.Sorted.{IsPermutation, IsSorted};
 ghost use Rattle.dns_data.specs.declared.record.Record.{Record as RecordOf};
 ghost use Rattle.zone_core.specs.Sets.{record_order, set_of};
-ghost use Rattle.zone_core.specs.Heads.{written, HaveStem};
-ghost use Rattle.zone_core.specs.Views.{ViewsOf, IsViewOf, view_order, ArePlaces, AreInverse, AreTaken};
+ghost use Rattle.zone_core.specs.Heads.{written, head_behind, no_head, head_order, HaveStem};
+ghost use Rattle.zone_core.specs.Views.{place_order, ArePlaces, AreInverse, AreTaken};
 
 use crate::notes::notes_records;
 use dns_data::{Record, record_order};
+use dns_names::Name;
 use std::alloc::{AllocError, Global};
 use std::cmp::Ordering;
 
-/// A record, the place where it stands, and the head of its owner's key: 16 octets behind a stem, as two numbers.
+/// The head of a name's key: 16 octets behind a stem, as two numbers.
 #[derive(Clone, Copy, Debug)]
-struct View<'a> {
+struct Head {
     high: u64,
     low: u64,
-    rr: &'a Record,
-    place: usize,
 }
 
 /// The first eight octets of a row as the number that they are written as, with zeros for those that it lacks.
@@ -44,46 +44,88 @@ fn behind(octets: &[u8], count: usize) -> &[u8]
     &octets[count.min(octets.len())..]
 }
 
-/// The view of a record at a place.
-fn view_of(rr: &Record, place: usize, stem: usize) -> View<'_>
-    ensures { IsViewOf stem rr.now place result }
+/// The head of a name behind a stem.
+fn head_behind(name: &Name, stem: usize) -> Head
+    ensures { result ≡ head_behind stem name.now }
 {
-    let head = behind(rr.owner.key(), stem);
-    View {
-        high: written(head),
-        low: written(behind(head, 8)),
-        rr,
-        place,
+    let octets = behind(name.key(), stem);
+    Head {
+        high: written(octets),
+        low: written(behind(octets, 8)),
     }
 }
 
-/// The records, each with the place where it stands, and its owner's head behind a stem.
-fn views(alloc: Global, records: &[Record], stem: usize) -> Result<Vec<View<'_>>, AllocError>
-    ensures { IfOk result (λ views. ViewsOf stem records.now views.items) }
+/// The heads of the records' owners behind a stem.
+fn heads_behind(alloc: Global, records: &[Record], stem: usize) -> Result<Vec<Head>, AllocError>
+    ensures { IfOk result (λ heads. heads.items ≡ map (λ r. head_behind stem r.owner) records.now) }
 {
-    let mut views = Vec::with_capacity(alloc, records.len())?;
-    for (place, rr) in records.iter().enumerate() {
-        views.push(view_of(rr, place, stem))?;
-    }
-    Ok(views)
+    let heads = records.iter().map(|rr| head_behind(&rr.owner, stem));
+    heads.collect(alloc)
 }
 
-/// The order of views: by their heads, and where these tie that of the records.
-fn view_order(first: &View, second: &View) -> Ordering
-    ensures { result ≡ view_order first.now second.now }
+/// The head at a place.
+fn head_at(heads: &[Head], place: usize) -> Head
+    ensures { result ≡ slice_index_or heads.now place no_head }
 {
-    let by_low = first.low.cmp(&second.low);
-    match first.high.cmp(&second.high).then(by_low) {
-        Ordering::Equal => record_order(first.rr, second.rr),
+    const NO_HEAD: Head = Head { high: 0, low: 0 };
+    heads.get(place).copied().unwrap_or(NO_HEAD)
+}
+
+/// The order of heads.
+fn head_order(first: Head, second: Head) -> Ordering
+    ensures { result ≡ head_order first second }
+{
+    first
+        .high
+        .cmp(&second.high)
+        .then(first.low.cmp(&second.low))
+}
+
+/// The record at a place, and another where there is none.
+fn record_at<'a>(records: &'a [Record], place: usize, other: &'a Record) -> &'a Record
+    ensures { result.now ≡ slice_index_or records.now place other.now }
+{
+    records.get(place).unwrap_or(other)
+}
+
+/// The order of places: by the heads there, where these tie by the records, and where these do by the places.
+fn place_order(
+    records: &[Record],
+    heads: &[Head],
+    other: &Record,
+    first: usize,
+    second: usize,
+) -> Ordering
+    ensures { result ≡ place_order records.now heads.now other.now first second }
+{
+    match head_order(head_at(heads, first), head_at(heads, second)) {
+        Ordering::Equal => {
+            let record = record_at(records, first, other);
+            record_order(record, record_at(records, second, other)).then(first.cmp(&second))
+        }
         order => order,
     }
 }
 
-/// The places of views.
-fn places_of(alloc: Global, views: &[View]) -> Result<Vec<usize>, AllocError>
-    ensures { IfOk result (λ places. places.items ≡ map (λ v. v.place) views.now) }
+/// Places in their order.
+fn sorted_places(
+    mut places: Vec<usize>,
+    records: &[Record],
+    heads: &[Head],
+    other: &Record,
+) -> Vec<usize>
+    ensures permutation { IsPermutation places.items result.items }
+    ensures order { IsSorted (place_order records.now heads.now other.now) result.items }
 {
-    views.iter().map(|view| view.place).collect(alloc)
+    places.sort_unstable_by(|first, second| place_order(records, heads, other, *first, *second));
+    places
+}
+
+/// The places of so many records.
+fn all_places(alloc: Global, count: usize) -> Result<Vec<usize>, AllocError>
+    ensures { IfOk result (λ places. places.items ≡ range_with_len 0 count) }
+{
+    (0..count).collect(alloc)
 }
 
 /// Where the records stand that come first, second and so on in record order; those that are the same stay in theirs. The stem is
@@ -99,9 +141,12 @@ pub(crate) fn sources(
     ensures set { IfOk result (λ places. (rows : List RecordOf) → AreTaken records.now places.items rows → set_of rows ≡ set_of records.now) }
 {
     notes_records(records);
-    let mut views = views(alloc, records, stem)?;
-    views.sort_by(|first, second| view_order(first, second))?;
-    places_of(alloc, &views)
+    let Some(other) = records.first() else {
+        return Ok(Vec::new(alloc));
+    };
+    let heads = heads_behind(alloc, records, stem)?;
+    let places = all_places(alloc, records.len())?;
+    Ok(sorted_places(places, records, &heads, other))
 }
 
 /// For each place the one that has it as its source.
