@@ -29,7 +29,7 @@ fn octets_of(alloc: Global, raw: &[u8]) -> Result<Vec<u8>, DataFault>
     ensures octets { IfOk result (λ octets. AllByRecursion (λ o. o < 256) octets.items) }
     ensures exact { Reads (λ octets. octets.items) result (bind (of_names (symbols raw.now)) (λ all. Ok (map symbol_octet all))) }
 {
-    let mut octets = Vec::new(alloc);
+    let mut octets = Vec::with_capacity(alloc, raw.len())?;
     let mut rest = raw;
     while !rest.is_empty() {
         let (symbol, after) = first_symbol(rest)?;

@@ -16,4 +16,5 @@ mod text_order;
 pub use fault::NameFault;
 pub use labels::Labels;
 pub use name::{KeyRange, Name};
+pub use octets::cmp_octets;
 pub use symbol::{Symbol, first_symbol};

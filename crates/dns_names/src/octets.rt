@@ -13,8 +13,9 @@ fn cmp_eight(first: &[u8; 8], second: &[u8; 8]) -> Ordering
     u64::from_be_bytes(*first).cmp(&u64::from_be_bytes(*second))
 }
 
-/// The order of two rows of octets, by the first octet that differs, a missing one first. Eight are compared at a time.
-pub(crate) fn cmp_octets(first: &[u8], second: &[u8]) -> Ordering
+/// The order of two rows of octets, as keys are: by the first octet that differs, a missing one first. Eight are compared at a
+/// time.
+pub fn cmp_octets(first: &[u8], second: &[u8]) -> Ordering
     ensures { result ≡ slice_cmp nat_cmp first.now second.now }
 {
     let (mut ours, mut theirs) = (first, second);

@@ -10,6 +10,7 @@ ghost use Rattle.grant_policy.specs.Index.{RowOf, place_of, place_cmp};
 use crate::callers::Callers;
 use crate::identifier::Identifier;
 use crate::rule::Rule;
+use dns_names::cmp_octets;
 use std::alloc::{AllocError, Global};
 use std::cmp::Ordering;
 use std::marker::Model;
@@ -57,7 +58,7 @@ impl Row {
         ensures { result ≡ place_cmp self.now.place (record { caller = option_copied caller.entry; key = key.now }) }
     {
         match cmp_callers(self.caller(), caller) {
-            Ordering::Equal => self.key.as_slice().cmp(key),
+            Ordering::Equal => cmp_octets(&self.key, key),
             other => other,
         }
     }
@@ -88,6 +89,6 @@ fn cmp_callers(own: Option<&[u8]>, other: Option<&[u8]>) -> Ordering
         (None, None) => Ordering::Equal,
         (None, Some(_)) => Ordering::Less,
         (Some(_), None) => Ordering::Greater,
-        (Some(own), Some(other)) => own.cmp(other),
+        (Some(own), Some(other)) => cmp_octets(own, other),
     }
 }

@@ -6,7 +6,7 @@ use Rattle.dns_data.proofs.strings.octets_of.Goals as goal
 
 pub returns-in_err-symbol-clause-exact : goal.returns-in_err-symbol-clause-exact
 returns-in_err-symbol-clause-exact c =
-    let p = err_from_is_err_and c.from_residual.result c.from_residual.ensures.1 in
+    let p = err_from_is_err_and c.from_residual-in_err-symbol.result c.from_residual-in_err-symbol.ensures.1 in
     let l = c.loop-rest in
     rw (p.1, p.2) (refuses_on l.octets.items l.rest.now c.in_err-symbol.field-0.0 (octets_in c.args.raw.now) (grind (arith, c.is_empty.ensures, c.loop-rest-test.true)) c.in_err-symbol.ensures l.invariant.so_far)
 
