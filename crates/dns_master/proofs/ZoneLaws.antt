@@ -62,27 +62,27 @@ module _ (origin : List (List ℕ)) where
     minimum_is = h.minimum_is;
   }
   data_relative (Ptr target) items h = item_relative target items h
-  data_relative (Mx mx) items h = record {
-    preference = h.preference;
-    exchange = h.exchange;
+  data_relative (Mx preference exchange) items h = record {
+    preference_text = h.preference_text;
+    exchange_text = h.exchange_text;
     items_are = h.items_are;
     preference_is = h.preference_is;
-    exchange_is = name_relative mx.exchange h.exchange h.exchange_is;
+    exchange_is = name_relative exchange h.exchange_text h.exchange_is;
   }
   data_relative (Txt strings) items h = h
   data_relative (Aaaa address) items h = h
-  data_relative (Srv srv) items h = record {
-    priority = h.priority;
-    weight = h.weight;
-    port = h.port;
-    target = h.target;
+  data_relative (Srv priority weight port target) items h = record {
+    priority_text = h.priority_text;
+    weight_text = h.weight_text;
+    port_text = h.port_text;
+    target_text = h.target_text;
     items_are = h.items_are;
     priority_is = h.priority_is;
     weight_is = h.weight_is;
     port_is = h.port_is;
-    target_is = name_relative srv.target h.target h.target_is;
+    target_is = name_relative target h.target_text h.target_is;
   }
-  data_relative (Ds ds) items h = h
+  data_relative (Ds key_tag algorithm digest_type digest) items h = h
 
 -- ---- a printed name makes no directive
 
