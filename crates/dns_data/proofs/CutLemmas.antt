@@ -4,7 +4,7 @@ use Rattle.std.specs.List.{All, AllByRecursion, flat_map, list_all, slice_split}
 use Rattle.std.specs.Fmt.{decimal, digits, digits_onto, digit_glyph}
 use Rattle.std.proofs.lemmas.Bool.{and_parts, cond_both, or_parts, ne_eqb}
 use Rattle.std.proofs.lemmas.Bool.Decides.{nat_tests}
-use Rattle.std.proofs.lemmas.List.Elements.{All-from_recursion, All-weaker, All-cons, All-append}
+use Rattle.std.proofs.lemmas.List.Elements.{All-from_recursion, All-weaker, All-nil, All-cons, All-append}
 use Rattle.std.proofs.lemmas.List.Splits.{slice_split_none, slice_split_at}
 use Rattle.std.specs.Prelude.{slice_index}
 use Rattle.hex.specs.Hex.{lower_digits, encode_with, encode_lower}
@@ -69,18 +69,21 @@ name_visible [] = by_octet (46 ∷ []) (dot, tt)
 name_visible (label ∷ labels) = each_visible label_text (label ∷ labels) label_visible
 
 -- and printed numbers
+digits_hold : (P : ℕ → Type 0) → ((d : ℕ) → P (digit_glyph false d)) → (k n : ℕ) (text : List ℕ) → All P text → All P (digits_onto k 10 false n text)
+digits_hold P glyph zero n text h = h
+digits_hold P glyph (suc k) n text h =
+    let more = All-cons P (digit_glyph false (n % 10)) text (glyph (n % 10)) h in
+    cond_both (eqb (n / 10) 0) _ _ (All P) (λ e. more) (λ e. digits_hold P glyph k (n / 10) (digit_glyph false (n % 10) ∷ text) more)
+
+pub decimal_holds : (P : ℕ → Type 0) → ((d : ℕ) → P (digit_glyph false d)) → (n : ℕ) → All P (decimal n)
+unfolding digits
+decimal_holds P glyph n = digits_hold P glyph 64 n [] (All-nil P)
+
 glyph_visible : (d : ℕ) → IsVisible (digit_glyph false d)
 glyph_visible d = grind (arith, nat_tests)
 
-digits_visible : (k n : ℕ) (text : List ℕ) → AreVisible text → AreVisible (digits_onto k 10 false n text)
-digits_visible zero n text h = h
-digits_visible (suc k) n text h =
-    let more = All-cons IsVisible (digit_glyph false (n % 10)) text (glyph_visible (n % 10)) h in
-    cond_both (eqb (n / 10) 0) _ _ AreVisible (λ e. more) (λ e. digits_visible k (n / 10) (digit_glyph false (n % 10) ∷ text) more)
-
 pub decimal_visible : (n : ℕ) → AreVisible (decimal n)
-unfolding digits
-decimal_visible n = digits_visible 64 n [] (by_octet [] tt)
+decimal_visible = decimal_holds IsVisible glyph_visible
 
 -- and printed digests
 digit_at_visible : (digits : List ℕ) → AllByRecursion IsVisible digits → (i : ℕ) → i < length digits → IsVisible (slice_index digits i)

@@ -21,7 +21,7 @@ use Rattle.dns_data.specs.Faults.{◌>>=◌}
 use Rattle.dns_data.specs.Items.{ItemText, plain, in_quotes}
 use Rattle.dns_data.specs.Rdata.{type_of, IsSoaRdata, IsRdata}
 use Rattle.dns_data.specs.Strings.{IsString, string_text}
-use Rattle.dns_data.specs.Digests.{IsDigest, SpellsDigest}
+use Rattle.dns_data.specs.Digests.{SpellsDigest}
 use Rattle.dns_data.specs.Text.{soa_items, strings_items, data_items}
 use Rattle.dns_data.specs.Grammar.{SpellsName, SpellsNumber, SpellsSeconds, IsNameItem, IsSoa, IsMx, IsSrv, IsDs, SpellStrings, IsData}
 use Rattle.dns_data.specs.Reading.{Field, field, ipv4_of, ipv6_of, name_of, soa_at, mx_at, srv_at, strings_of, ds_at, with_rest, ended, data_of}

@@ -1,4 +1,5 @@
 pub mod AddressLemmas
+pub mod AddressOrderLemmas
 pub mod ApartLaws
 pub mod CutLemmas
 pub mod DataLaws

@@ -1,5 +1,5 @@
 -- The order of texts of items: the first item that differs decides.
-use Rattle.std.proofs.Common.{◌≡◌, ℕ, zero, suc, ◌<◌, ◌/◌, ◌%◌, ◌⊎◌, inl, inr, Bool, true, ◌&&◌, List, [], ◌∷◌, ◌++◌, length, map, refl, sym, ap, ◌∙◌, arith}
+use Rattle.std.proofs.Common.{◌≡◌, ◌≢◌, ℕ, zero, suc, ◌<◌, ◌/◌, ◌%◌, ◌⊎◌, inl, inr, Bool, true, ◌&&◌, List, [], ◌∷◌, ◌++◌, length, map, refl, sym, ap, ◌∙◌, arith}
 use Rattle.std.specs.Prelude.{⊤, decimal, slice_index, nat_lt, ◌≤◌}
 use Rattle.std.specs.List.{AllByRecursion, list_all}
 use Rattle.std.specs.declared.cmp.Ordering.{Ordering}
@@ -32,18 +32,27 @@ then_assoc Less b c = refl
 then_assoc Equal b c = refl
 then_assoc Greater b c = refl
 
--- ---- items of visible octets
+-- the first order decides, unless it ties
+pub decided : (o t : Ordering) → o ≢ Equal → o ≡ ordering_then o t
+decided Less t differ = refl
+decided Equal t differ = absurd (differ refl)
+decided Greater t differ = refl
 
--- before a space they compare as they do alone
-visible_then : (x y s t : List ℕ) → AllByRecursion IsVisible x → AllByRecursion IsVisible y → by_octets (x ++ 32 ∷ s) (y ++ 32 ∷ t) ≡ ordering_then (by_octets x y) (by_octets s t)
-visible_then [] [] s t seen also = refl
-visible_then [] (b ∷ y) s t seen also = rw (less 32 b also.0) refl
-visible_then (a ∷ x) [] s t seen also = rw (greater a 32 seen.0) refl
-visible_then (a ∷ x) (b ∷ y) s t seen also =
+pub tied_then : (o t : Ordering) → o ≡ Equal → t ≡ ordering_then o t
+tied_then o t e = ap (λ (x : Ordering). ordering_then x t) (sym e)
+
+-- ---- items of octets above the one that ends them
+
+-- before it they compare as they do alone
+pub above_then : (last : ℕ) (x y s t : List ℕ) → AllByRecursion (λ o. last < o) x → AllByRecursion (λ o. last < o) y → by_octets (x ++ last ∷ s) (y ++ last ∷ t) ≡ ordering_then (by_octets x y) (by_octets s t)
+above_then last [] [] s t above also = rw (tied last) refl
+above_then last [] (b ∷ y) s t above also = rw (less last b also.0) refl
+above_then last (a ∷ x) [] s t above also = rw (greater a last above.0) refl
+above_then last (a ∷ x) (b ∷ y) s t above also =
     elim (three a b) [
       | inl l ↦ rw l.0 refl
       | inr r ↦ elim r [
-        | inl e ↦ rw (e, tied b) (visible_then x y s t seen.1 also.1)
+        | inl e ↦ rw (e, tied b) (above_then last x y s t above.1 also.1)
         | inr g ↦ rw g.0 refl
       ]
     ]
@@ -63,7 +72,7 @@ items_order so_far (x ∷ x' ∷ xs) (y ∷ []) seen also count = absurd (omega 
 items_order so_far (x ∷ x' ∷ xs) (y ∷ y' ∷ ys) seen also count =
     let rest = items_text (map plain (x' ∷ xs)) in
     let rest' = items_text (map plain (y' ∷ ys)) in
-    ap (ordering_then so_far) (visible_then x y rest rest' (recursion_from_All IsVisible x seen.0) (recursion_from_All IsVisible y also.0))
+    ap (ordering_then so_far) (above_then 32 x y rest rest' (recursion_from_All IsVisible x seen.0) (recursion_from_All IsVisible y also.0))
     ∙ then_assoc so_far (by_octets x y) (by_octets rest rest')
     ∙ items_order (ordering_then so_far (by_octets x y)) (x' ∷ xs) (y' ∷ ys) seen.1 also.1 (omega arith)
 

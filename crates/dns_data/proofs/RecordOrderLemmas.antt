@@ -76,15 +76,6 @@ module _ (a b : Data) (is : IsRdata a) (also : IsRdata b) where
   pub data_answers : (order : Ordering) → order ≡ data_order a b → (order ≡ Equal) ↔ (a ≡ b)
   data_answers order e = (λ even. ties_same (sym e ∙ even), λ same. e ∙ same_ties same)
 
--- the first order decides, unless it ties
-pub decided : (o t : Ordering) → o ≢ Equal → o ≡ ordering_then o t
-decided Less t differ = refl
-decided Equal t differ = absurd (differ refl)
-decided Greater t differ = refl
-
-pub tied_then : (o t : Ordering) → o ≡ Equal → t ≡ ordering_then o t
-tied_then o t e = ap (λ (x : Ordering). ordering_then x t) (sym e)
-
 -- ---- records
 
 -- by owner, and then by data

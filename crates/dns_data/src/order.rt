@@ -3,13 +3,15 @@
 ghost use Rattle.std.specs.Prelude.{◌≡◌, ◌↔◌, ◌∷◌, ◌++◌, ◌<◌, [], decimal};
 ghost use Rattle.std.specs.Ordering.{nat_cmp};
 ghost use Rattle.std.specs.Cmp.Lexicographic.{slice_cmp};
+ghost use Rattle.std.specs.Net.Addr.{ipv4_octets};
+ghost use Rattle.std.specs.Net.Text.{ipv4_text};
 ghost use Rattle.dns_data.specs.Items.{items_text};
 ghost use Rattle.dns_data.specs.Strings.{string_text};
 ghost use Rattle.dns_data.specs.Text.{soa_items, strings_items, data_text};
 ghost use Rattle.dns_data.specs.Rdata.{type_of, SameRecord};
 ghost use Rattle.dns_data.specs.RecordOrder.{data_order, record_order};
 
-use crate::address_text::{ipv4_text, ipv6_text};
+use crate::address_text::ipv6_text;
 use crate::rdata::Data;
 use crate::record::Record;
 use crate::record_type::RecordType;
@@ -18,6 +20,7 @@ use crate::strings::Strings;
 use crate::text::spelling;
 use itoa::Buffer;
 use std::cmp::Ordering;
+use std::net::Ipv4Addr;
 
 /// The order of two numbers by the octets of their decimals.
 fn cmp_decimals(first: u32, second: u32) -> Ordering
@@ -26,6 +29,23 @@ fn cmp_decimals(first: u32, second: u32) -> Ordering
     let (mut ours, mut theirs) = (Buffer::new(), Buffer::new());
     let (ours, theirs) = (ours.format(first), theirs.format(second));
     ours.as_bytes().cmp(theirs.as_bytes())
+}
+
+/// The order of two IPv4 addresses by their texts. A dot stands before all digits, so the first numbers that differ decide.
+fn cmp_ipv4(first: Ipv4Addr, second: Ipv4Addr) -> Ordering
+    ensures { result ≡ slice_cmp nat_cmp (ipv4_text (ipv4_octets first)) (ipv4_text (ipv4_octets second)) }
+{
+    let ([a, b, c, d], [e, f, g, h]) = (first.octets(), second.octets());
+    if a != e {
+        return cmp_decimals(u32::from(a), u32::from(e));
+    }
+    if b != f {
+        return cmp_decimals(u32::from(b), u32::from(f));
+    }
+    if c != g {
+        return cmp_decimals(u32::from(c), u32::from(g));
+    }
+    cmp_decimals(u32::from(d), u32::from(h))
 }
 
 /// The order of two character-strings with a quote behind each, by their texts.
@@ -173,11 +193,7 @@ fn cmp_rdata(first: &Data, second: &Data) -> Ordering
     ensures { result ≡ slice_cmp nat_cmp (data_text first.now) (data_text second.now) }
 {
     match (first, second) {
-        (Data::A(first), Data::A(second)) => {
-            ipv4_text(*first)
-                .as_slice()
-                .cmp(ipv4_text(*second).as_slice())
-        }
+        (Data::A(first), Data::A(second)) => cmp_ipv4(*first, *second),
         (Data::Ns(first), Data::Ns(second))
         | (Data::Cname(first), Data::Cname(second))
         | (Data::Ptr(first), Data::Ptr(second)) => first.cmp_text(second),

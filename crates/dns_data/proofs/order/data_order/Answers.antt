@@ -1,7 +1,7 @@
 use Rattle.std.proofs.Common.{◌≡◌, sym, refl}
-use Rattle.dns_data.proofs.RecordOrderLemmas.{by_type, data_answers, tied_then}
+use Rattle.dns_data.proofs.RecordOrderLemmas.{by_type, data_answers}
 use Rattle.dns_data.specs.Text.{data_text}
-use Rattle.dns_data.proofs.OrderLemmas.{by_octets}
+use Rattle.dns_data.proofs.OrderLemmas.{by_octets, tied_then}
 use Rattle.dns_data.proofs.order.data_order.Goals as goal
 
 pub returns-in-Equal-clause-same : goal.returns-in-Equal-clause-same

@@ -1,6 +1,7 @@
 use Rattle.std.proofs.Common.{◌≢◌, sym, ◌∙◌, Equal}
 use Rattle.dns_data.specs.RecordOrder.{data_order}
-use Rattle.dns_data.proofs.RecordOrderLemmas.{record_is, answers, differ_answers, decided}
+use Rattle.dns_data.proofs.OrderLemmas.{decided}
+use Rattle.dns_data.proofs.RecordOrderLemmas.{record_is, answers, differ_answers}
 use Rattle.dns_data.proofs.order.record_order.Goals as goal
 
 pub returns-in-Equal-clause-same : goal.returns-in-Equal-clause-same
