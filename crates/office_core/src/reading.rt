@@ -37,34 +37,33 @@ fn may_list(policy: &Policy, caller: &Identifier, rr: &Record) -> bool
     .is_granted()
 }
 
-/// Records, and a copy of one more, if the caller may list it. The only error is want of memory.
+/// Records, and one more, if the caller may list it. The only error is want of memory.
 fn with_listed(
-    alloc: Global,
     mut all: Vec<Record>,
     policy: &Policy,
     caller: &Identifier,
-    rr: &Record,
+    rr: Record,
 ) -> Result<Vec<Record>, AllocError>
-    ensures { IfOk result (λ rs. rs.items ≡ all.items ++ listed policy.now caller.now (rr.now ∷ [])) }
+    ensures { IfOk result (λ rs. rs.items ≡ all.items ++ listed policy.now caller.now (rr ∷ [])) }
 {
-    if may_list(policy, caller, rr) {
-        all.push(rr.try_copy(alloc)?)?;
+    if may_list(policy, caller, &rr) {
+        all.push(rr)?;
     }
     Ok(all)
 }
 
-/// Copies of the records that a caller may list. The only error is want of memory.
+/// The records that a caller may list. The only error is want of memory.
 fn listed(
     alloc: Global,
     policy: &Policy,
     caller: &Identifier,
-    records: &[Record],
+    records: Vec<Record>,
 ) -> Result<Vec<Record>, AllocError>
-    ensures { IfOk result (λ rs. rs.items ≡ listed policy.now caller.now records.now) }
+    ensures { IfOk result (λ rs. rs.items ≡ listed policy.now caller.now records.items) }
 {
     let mut all = Vec::new(alloc);
     for record in records {
-        all = with_listed(alloc, all, policy, caller, record)?;
+        all = with_listed(all, policy, caller, record)?;
     }
     Ok(all)
 }
@@ -86,7 +85,7 @@ pub(crate) fn list<T: ZoneTable>(
     let Some(zone) = table.zone(alloc, origin)? else {
         return Ok(Reply::NotAuth);
     };
-    let records = listed(alloc, policy, caller, zone.records())?;
+    let records = listed(alloc, policy, caller, zone.into_records())?;
     Ok(Reply::Records(records))
 }
 
@@ -111,7 +110,7 @@ pub(crate) fn list_within<T: ZoneTable>(
     if !top.is_within(origin) {
         return Ok(Reply::NotZone);
     }
-    let records = listed(alloc, policy, caller, &records)?;
+    let records = listed(alloc, policy, caller, records)?;
     Ok(Reply::Records(records))
 }
 
@@ -132,7 +131,7 @@ pub(crate) fn file<T: ZoneTable>(
     let Some(zone) = table.zone(alloc, origin)? else {
         return Ok(Reply::NotAuth);
     };
-    let records = listed(alloc, policy, caller, zone.records())?;
+    let records = listed(alloc, policy, caller, zone.into_records())?;
     let origin = origin.try_copy(alloc)?;
     Ok(Reply::File { origin, records })
 }
@@ -154,7 +153,7 @@ pub(crate) fn delegations<T: ZoneTable>(
     let Some(zone) = table.zone(alloc, origin)? else {
         return Ok(Reply::NotAuth);
     };
-    let records = listed(alloc, policy, caller, zone.records())?;
+    let records = listed(alloc, policy, caller, zone.into_records())?;
     Ok(Reply::Delegations(delegation_report(alloc, origin, &records)?))
 }
 
@@ -163,13 +162,13 @@ fn seen_of(
     alloc: Global,
     policy: &Policy,
     caller: &Identifier,
-    change: &Change,
+    change: Change,
 ) -> Result<Change, AllocError>
-    ensures { IfOk result (λ c. change_in c ≡ seen_of policy.now caller.now (change_in change.now)) }
+    ensures { IfOk result (λ c. change_in c ≡ seen_of policy.now caller.now (change_in change)) }
 {
     Ok(Change {
-        removed: listed(alloc, policy, caller, &change.removed)?,
-        added: listed(alloc, policy, caller, &change.added)?,
+        removed: listed(alloc, policy, caller, change.removed)?,
+        added: listed(alloc, policy, caller, change.added)?,
     })
 }
 
@@ -179,9 +178,9 @@ fn with_seen(
     mut all: Vec<Change>,
     policy: &Policy,
     caller: &Identifier,
-    change: &Change,
+    change: Change,
 ) -> Result<Vec<Change>, AllocError>
-    ensures { IfOk result (λ cs. map change_in cs.items ≡ map change_in all.items ++ if_some (seen_of policy.now caller.now (change_in change.now))) }
+    ensures { IfOk result (λ cs. map change_in cs.items ≡ map change_in all.items ++ if_some (seen_of policy.now caller.now (change_in change))) }
 {
     let seen = seen_of(alloc, policy, caller, change)?;
     if !seen.is_nothing() {
@@ -196,9 +195,9 @@ fn seen(
     alloc: Global,
     policy: &Policy,
     caller: &Identifier,
-    changes: &[Change],
+    changes: Vec<Change>,
 ) -> Result<Vec<Change>, AllocError>
-    ensures { IfOk result (λ cs. map change_in cs.items ≡ seen policy.now caller.now (map change_in changes.now)) }
+    ensures { IfOk result (λ cs. map change_in cs.items ≡ seen policy.now caller.now (map change_in changes.items)) }
 {
     let mut all = Vec::new(alloc);
     for change in changes {
@@ -262,7 +261,7 @@ pub(crate) fn changes<T: ZoneTable>(
     let Some(changes) = table.changes(alloc, origin)? else {
         return Ok(Reply::NotAuth);
     };
-    let seen = seen(alloc, policy, caller, &changes)?;
+    let seen = seen(alloc, policy, caller, changes)?;
     Ok(Reply::Changes(numbered_from(alloc, from, seen)?))
 }
 

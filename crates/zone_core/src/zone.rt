@@ -76,6 +76,14 @@ impl Zone {
         &self.records
     }
 
+    /// The records, in record order, without the zone.
+    pub fn into_records(self) -> Vec<Record>
+        ensures value { result.items ≡ listing self.records }
+        ensures order { InOrder result.items }
+    {
+        self.records
+    }
+
     /// The SOA.
     pub fn soa(&self) -> &Record
         ensures one { IsSoaOf self.now result.now }

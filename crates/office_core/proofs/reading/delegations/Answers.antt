@@ -7,4 +7,4 @@ use Rattle.office_core.proofs.reading.delegations.Goals as goal
 pub delegation_report-requires : goal.delegation_report-requires
 delegation_report-requires g c =
     subst InOrder (sym (c.deref.ensures.value ∙ c.in_ok-records.ensures))
-    (InOrder-filter (may_list c.args.policy.now c.args.caller.now) c.records.result.now c.records.ensures.order)
+    (InOrder-filter (may_list c.args.policy.now c.args.caller.now) c.into_records.result.items c.into_records.ensures.order)
