@@ -2,6 +2,7 @@ pub mod AddressLemmas
 pub mod AppendLemmas
 pub mod DataLemmas
 pub mod DelegationLemmas
+pub mod EscapeLemmas
 pub mod FormLaws
 pub mod KindLemmas
 pub mod ListLemmas

@@ -1,6 +1,10 @@
 -- JSON texts (RFC 8259), without white space.
-use Rattle.std.specs.Prelude.{ℕ, List, [], ◌∷◌, ◌++◌, ◌||◌, ◌==◌, if◌then◌else◌}
+use Rattle.std.specs.Prelude.{ℕ, List, [], ◌∷◌, ◌++◌, Bool, not, ◌&&◌, ◌||◌, ◌==◌, if◌then◌else◌}
 use Rattle.std.specs.List.{flat_map, join_with_byte}
+
+-- an octet that is not escaped
+abbrev pub is_plain_octet : ℕ → Bool
+is_plain_octet o = not (o == 34) && not (o == 92)
 
 -- an octet of a string: a quote and a backslash have a backslash before them (RFC 8259 section 7)
 abbrev pub escaped_octet : ℕ → List ℕ

@@ -1,9 +1,9 @@
 //! Pieces of JSON texts, which are appended to a row of octets.
 
 ghost use Rattle.std.specs.Prelude.{◌≡◌, ◌<◌, ◌+◌, ◌++◌, length, decimal, OnErr, vec_len};
-ghost use Rattle.std.specs.List.{flat_map};
+ghost use Rattle.std.specs.List.{flat_map, list_all};
 ghost use Rattle.std.specs.Vec.{vec_capacity};
-ghost use Rattle.office_json.specs.Json.{escaped_octet, escaped, quoted};
+ghost use Rattle.office_json.specs.Json.{is_plain_octet, escaped_octet, escaped, quoted};
 ghost use Rattle.office_json.specs.Appending.{Appends, comma_before};
 
 use std::alloc::AllocError;
@@ -40,14 +40,33 @@ fn push_octet(out: &mut Vec<u8>, octet: u8) -> Result<(), AllocError>
     Ok(())
 }
 
-/// Appends the octets of a string.
+/// Appends the octets of a string one by one.
 #[tactic(auto, using(crate::proofs::AppendLemmas::front_on))]
-fn push_escaped(out: &mut Vec<u8>, text: &[u8]) -> Result<(), AllocError>
+fn push_octets(out: &mut Vec<u8>, text: &[u8]) -> Result<(), AllocError>
     ensures { Appends out.old out.new (escaped text.now) result }
 {
     for octet in text {
         push_octet(out, *octet)?;
     }
+    Ok(())
+}
+
+/// Whether no octet of a string is escaped.
+fn is_plain(text: &[u8]) -> bool
+    ensures { result ≡ list_all is_plain_octet text.now }
+{
+    text.iter().all(|octet| *octet != b'"' && *octet != b'\\')
+}
+
+/// Appends the octets of a string: at once, if none is escaped, as in most.
+#[tactic(auto, using(crate::proofs::EscapeLemmas::escaped_plain))]
+fn push_escaped(out: &mut Vec<u8>, text: &[u8]) -> Result<(), AllocError>
+    ensures { Appends out.old out.new (escaped text.now) result }
+{
+    if !is_plain(text) {
+        return push_octets(out, text);
+    }
+    out.extend_from_slice(text)?;
     Ok(())
 }
 
