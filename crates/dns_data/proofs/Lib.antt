@@ -7,6 +7,7 @@ pub mod DigestLaws
 pub mod DsLaws
 pub mod EachLemmas
 pub mod FieldLaws
+pub mod GroupOrderLemmas
 pub mod NumberLaws
 pub mod NumberLemmas
 pub mod OrderLemmas

@@ -1,6 +1,6 @@
 //! The texts of addresses, for which no memory is taken.
 
-ghost use Rattle.std.specs.Prelude.{◌≡◌, ◌≤◌, ◌<◌, ◌+◌, ◌*◌, ◌++◌, length, decimal};
+ghost use Rattle.std.specs.Prelude.{◌≡◌, ◌≤◌, ◌<◌, ◌+◌, ◌*◌, ◌∷◌, [], ◌++◌, length, take, drop, decimal};
 ghost use Rattle.std.specs.Char.{digit_char};
 ghost use Rattle.std.specs.Net.Addr.{ipv4_octets, ipv6_segments};
 ghost use Rattle.std.specs.Net.Text.{ipv4_text, hex, leading_zero_digits, groups_text, longest_zero_run, hex_groups_text};
@@ -86,6 +86,25 @@ fn push_hex(text: &mut ArrayVec<u8, 48>, segment: u16)
     push_octets(text, shown);
 }
 
+/// The text of a segment.
+pub(crate) fn group_text(segment: u16) -> ArrayVec<u8, 48>
+    ensures { result.items ≡ hex segment }
+{
+    let mut text = ArrayVec::new();
+    push_hex(&mut text, segment);
+    text
+}
+
+/// The text of a segment with a colon behind it.
+pub(crate) fn ended_group_text(segment: u16) -> ArrayVec<u8, 48>
+    ensures { result.items ≡ hex segment ++ 58 ∷ [] }
+{
+    let mut text = ArrayVec::new();
+    push_hex(&mut text, segment);
+    text.push(b':');
+    text
+}
+
 /// Appends segments with colons between them.
 fn push_groups(text: &mut ArrayVec<u8, 48>, segments: &[u16])
     requires { array_vec_len text.old + 5 * length segments.now ≤ 48 }
@@ -103,7 +122,7 @@ fn push_groups(text: &mut ArrayVec<u8, 48>, segments: &[u16])
 }
 
 /// Where the longest run of zeros starts and how many they are, of two such runs the first.
-fn longest_zero_run(segments: &[u16]) -> (usize, usize)
+pub(crate) fn longest_zero_run(segments: &[u16]) -> (usize, usize)
     ensures value { result ≡ longest_zero_run segments.now }
     ensures within { result.0 + result.1 ≤ length segments.now }
 {
@@ -120,6 +139,17 @@ fn longest_zero_run(segments: &[u16]) -> (usize, usize)
     (start, len)
 }
 
+/// The segments before a run and those behind it.
+pub(crate) fn around(segments: &[u16], start: usize, len: usize) -> (&[u16], &[u16])
+    requires { start + len ≤ length segments.now }
+    ensures before { result.0.now ≡ take start segments.now }
+    ensures behind { result.1.now ≡ drop (start + len) segments.now }
+{
+    let (before, rest) = segments.split_at(start);
+    let (_, behind) = rest.split_at(len);
+    (before, behind)
+}
+
 /// The text of an IPv6 address as RFC 5952 section 4 has it, with no dotted tail.
 #[tactic(auto, unfolding(std::specs::Net::Text::hex_groups_text))]
 pub(crate) fn ipv6_text(address: Ipv6Addr) -> ArrayVec<u8, 48>
@@ -132,8 +162,7 @@ pub(crate) fn ipv6_text(address: Ipv6Addr) -> ArrayVec<u8, 48>
         push_groups(&mut text, &segments);
         return text;
     }
-    let (before, rest) = segments.split_at(start);
-    let (_, behind) = rest.split_at(len);
+    let (before, behind) = around(&segments, start, len);
     push_groups(&mut text, before);
     text.push(b':');
     text.push(b':');

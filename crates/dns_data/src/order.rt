@@ -1,17 +1,17 @@
 //! The order in which records are listed.
 
-ghost use Rattle.std.specs.Prelude.{◌≡◌, ◌↔◌, ◌∷◌, ◌++◌, ◌<◌, [], decimal};
-ghost use Rattle.std.specs.Ordering.{nat_cmp};
+ghost use Rattle.std.specs.Prelude.{◌≡◌, ◌≢◌, ◌↔◌, ◌∷◌, ◌++◌, ◌<◌, [], ℕ, List, length, decimal, flat_map};
+ghost use Rattle.std.specs.Ordering.{nat_cmp, ordering_then};
 ghost use Rattle.std.specs.Cmp.Lexicographic.{slice_cmp};
-ghost use Rattle.std.specs.Net.Addr.{ipv4_octets};
-ghost use Rattle.std.specs.Net.Text.{ipv4_text};
+ghost use Rattle.std.specs.Net.Addr.{ipv4_octets, ipv6_segments};
+ghost use Rattle.std.specs.Net.Text.{ipv4_text, hex, groups_text, hex_groups_text};
 ghost use Rattle.dns_data.specs.Items.{items_text};
 ghost use Rattle.dns_data.specs.Strings.{string_text};
 ghost use Rattle.dns_data.specs.Text.{soa_items, strings_items, data_text};
 ghost use Rattle.dns_data.specs.Rdata.{type_of, SameRecord};
 ghost use Rattle.dns_data.specs.RecordOrder.{data_order, record_order};
 
-use crate::address_text::ipv6_text;
+use crate::address_text::{around, ended_group_text, group_text, ipv6_text, longest_zero_run};
 use crate::rdata::Data;
 use crate::record::Record;
 use crate::record_type::RecordType;
@@ -20,7 +20,7 @@ use crate::strings::Strings;
 use crate::text::spelling;
 use itoa::Buffer;
 use std::cmp::Ordering;
-use std::net::Ipv4Addr;
+use std::net::{Ipv4Addr, Ipv6Addr};
 
 /// The order of two numbers by the octets of their decimals.
 fn cmp_decimals(first: u32, second: u32) -> Ordering
@@ -46,6 +46,73 @@ fn cmp_ipv4(first: Ipv4Addr, second: Ipv4Addr) -> Ordering
         return cmp_decimals(u32::from(c), u32::from(g));
     }
     cmp_decimals(u32::from(d), u32::from(h))
+}
+
+/// The order of two groups that differ, by their texts with a colon behind each. What stands behind the colons does not count.
+fn cmp_ended_group(first: u16, second: u16) -> Ordering
+    requires { first ≢ second }
+    ensures decides { (u v : List ℕ) → result ≡ slice_cmp nat_cmp (hex first ++ 58 ∷ u) (hex second ++ 58 ∷ v) }
+    ensures differs { result ≢ Ordering.Equal }
+{
+    ended_group_text(first)
+        .as_slice()
+        .cmp(ended_group_text(second).as_slice())
+}
+
+/// The order of as many groups of two addresses, by their texts with a colon behind each: the first groups that differ decide.
+fn cmp_ended_groups(first: &[u16], second: &[u16]) -> Ordering
+    requires { length first.now ≡ length second.now }
+    ensures { (u v : List ℕ) → ordering_then result (slice_cmp nat_cmp u v) ≡ slice_cmp nat_cmp (flat_map (λ s. hex s ++ 58 ∷ []) first.now ++ u) (flat_map (λ s. hex s ++ 58 ∷ []) second.now ++ v) }
+{
+    let (mut ours, mut theirs) = (first, second);
+    loop {
+        match (ours.split_first(), theirs.split_first()) {
+            (Some((our, _)), Some((their, _))) if our != their => {
+                return cmp_ended_group(*our, *their);
+            }
+            (Some((_, our_rest)), Some((_, their_rest))) => {
+                ours = our_rest;
+                theirs = their_rest;
+            }
+            _ => return Ordering::Equal,
+        }
+    }
+}
+
+/// The order of as many groups of two addresses, by their texts with colons between them.
+fn cmp_groups(first: &[u16], second: &[u16]) -> Ordering
+    requires { length first.now ≡ length second.now }
+    ensures { result ≡ slice_cmp nat_cmp (groups_text first.now) (groups_text second.now) }
+{
+    match (first.split_last(), second.split_last()) {
+        (Some((our, ours)), Some((their, theirs))) => {
+            let last = group_text(*our)
+                .as_slice()
+                .cmp(group_text(*their).as_slice());
+            cmp_ended_groups(ours, theirs).then(last)
+        }
+        _ => Ordering::Equal,
+    }
+}
+
+/// The order of two IPv6 addresses by their texts. Where the same run of zeros is left out of both, their texts have groups at the
+/// same places, and the first that differ decide.
+fn cmp_ipv6(first: Ipv6Addr, second: Ipv6Addr) -> Ordering
+    ensures { result ≡ slice_cmp nat_cmp (hex_groups_text (ipv6_segments first)) (hex_groups_text (ipv6_segments second)) }
+{
+    let (ours, theirs) = (first.segments(), second.segments());
+    let (start, len) = longest_zero_run(&ours);
+    if longest_zero_run(&theirs) != (start, len) {
+        return ipv6_text(first)
+            .as_slice()
+            .cmp(ipv6_text(second).as_slice());
+    }
+    if len < 2 {
+        return cmp_groups(&ours, &theirs);
+    }
+    let (our_front, our_back) = around(&ours, start, len);
+    let (their_front, their_back) = around(&theirs, start, len);
+    cmp_ended_groups(our_front, their_front).then(cmp_groups(our_back, their_back))
 }
 
 /// The order of two character-strings with a quote behind each, by their texts.
@@ -200,11 +267,7 @@ fn cmp_rdata(first: &Data, second: &Data) -> Ordering
         (Data::Soa(first), Data::Soa(second)) => cmp_soa(first.fields(), second.fields()),
         (Data::Mx { .. }, Data::Mx { .. }) => cmp_mx(first, second),
         (Data::Txt(first), Data::Txt(second)) => cmp_txt(first, second),
-        (Data::Aaaa(first), Data::Aaaa(second)) => {
-            ipv6_text(*first)
-                .as_slice()
-                .cmp(ipv6_text(*second).as_slice())
-        }
+        (Data::Aaaa(first), Data::Aaaa(second)) => cmp_ipv6(*first, *second),
         (Data::Srv { .. }, Data::Srv { .. }) => cmp_srv(first, second),
         (Data::Ds { .. }, Data::Ds { .. }) => cmp_ds(first, second),
         _ => unreachable!(),
