@@ -1,5 +1,6 @@
 pub mod Faults
 pub mod Holds
+pub mod Kept
 pub mod Asks
 pub mod Turns
 pub mod Additions

@@ -5,6 +5,7 @@
 mod asking;
 mod fault;
 mod file;
+mod kept;
 mod migrating;
 mod opening;
 mod table;

@@ -1,6 +1,7 @@
 //! The table in SQLite.
 
 ghost use Rattle.std.specs.Prelude.{pos, ◌≡◌, ◌≢◌, ◌↔◌, ◌⊎◌, ◌<◌, false, IfOk, IfErr, IsErrAnd, OnOk, OnErr};
+ghost use Rattle.std.specs.Option.{ForSome};
 ghost use Rattle.sqlite.specs.Held.{state};
 ghost use Rattle.sqlite.specs.State.{HasCleanDisk};
 ghost use Rattle.office_core.specs.States.{State};
@@ -13,15 +14,17 @@ ghost use Rattle.office_writes.specs.Writings.{nothing_held};
 ghost use Rattle.office_store.specs.declared.fault.StoreFault.TheVariants.{BadRow, WrongVersion};
 ghost use Rattle.office_store.specs.Faults.{CountsFailure, CountsCall, Gives, IsFailure, IsOfRows};
 ghost use Rattle.office_store.specs.Holds.{HoldsState, HasNone, HasVersion, IsOfVersion, IsStateIn, LeavesStates};
+ghost use Rattle.office_store.specs.Kept.{IsHeldZone};
 ghost use Rattle.office_store.specs.Migrating.{HoldsOld, IsMigratedIn, IsMigrated};
 ghost use Rattle.office_store.specs.Asks.{Asked, Only};
 ghost use Rattle.office_store.specs.Turns.{Turns};
 ghost use Rattle.office_store.specs.Zones.{exported, imported, replaced, with_imported, with_replaced};
 
 use crate::fault::StoreFault;
+use crate::kept::zone_kept;
 use crate::migrating::migrate;
 use crate::opening::{Refused, check_state, make};
-use crate::views::{changes_at, part_at, receipt_at, subtree_at, zone_at};
+use crate::views::{changes_at, part_at, receipt_at, subtree_at};
 use crate::writing::commit;
 use crate::zones::{export, import, replace};
 use dns_data::Record;
@@ -33,13 +36,16 @@ use std::alloc::Global;
 use std::sync::ledger::{Blank, Book, Ledger, Share};
 use zone_core::Zone;
 
-/// Zones with their changes, and receipts, in the tables of a database. It counts the failures of its store by a ledger.
+/// Zones with their changes, and receipts, in the tables of a database. It counts the failures of its store by a ledger, and keeps
+/// the zone that was read last until something is written.
 #[derive(Drop)]
 pub struct SqlTable<S: Alter + Drop, L: Ledger> {
     conn: Connection<S>,
     book: Book<L>,
     share: Share<L>,
+    kept: Option<Zone>,
     ghost counts: { 0 < share.parts },
+    ghost fits: { ForSome kept (IsHeldZone (state S.Store conn)) },
 }
 
 /// Counts a fault, if it is a failure of the store.
@@ -80,7 +86,12 @@ impl<S: Alter + Drop, L: Ledger> SqlTable<S, L> {
         ensures none { result.book.total ≡ 0 }
     {
         let (book, share) = blank.open::<L>();
-        SqlTable { conn, book, share }
+        SqlTable {
+            conn,
+            book,
+            share,
+            kept: None,
+        }
     }
 
     /// Makes the tables, without zones and receipts, in a database that has none, in one transaction. No transaction is open. The
@@ -202,6 +213,7 @@ impl<S: Alter + Drop, L: Ledger> SqlTable<S, L> {
         ensures turns { Turns (state S.Store self.old.conn) (state S.Store self.new.conn) result (λ s. with_imported s (imported s origin records.items)) }
         ensures counts { CountsCall self.old.book.total self.new.book.total result }
     {
+        self.kept = None;
         match import(alloc, &mut self.conn, origin, records) {
             Ok(zone) => Ok(zone),
             Err(fault) => Err(counted(&mut self.book, &mut self.share, fault)),
@@ -224,6 +236,7 @@ impl<S: Alter + Drop, L: Ledger> SqlTable<S, L> {
         ensures turns { Turns (state S.Store self.old.conn) (state S.Store self.new.conn) result (λ s. with_replaced s (replaced s origin records.items)) }
         ensures counts { CountsCall self.old.book.total self.new.book.total result }
     {
+        self.kept = None;
         match replace(alloc, &mut self.conn, origin, records) {
             Ok(zone) => Ok(zone),
             Err(fault) => Err(counted(&mut self.book, &mut self.share, fault)),
@@ -242,6 +255,7 @@ impl<S: Alter + Drop, L: Ledger> SqlTable<S, L> {
         ensures only { HasCleanDisk (state S.Store self.new.conn) → OnOk result (Only (state S.Store self.old.conn) (state S.Store self.new.conn)) }
         ensures counts { CountsCall self.old.book.total self.new.book.total result }
     {
+        self.kept = None;
         match export(alloc, &mut self.conn, origin) {
             Ok(records) => Ok(records),
             Err(fault) => Err(counted(&mut self.book, &mut self.share, fault)),
@@ -262,7 +276,7 @@ impl<S: Alter + Drop, L: Ledger> ZoneTable for SqlTable<S, L> {
     ghost failures = { λ t. t.book.total };
 
     fn zone(&mut self, alloc: Global, origin: &Name) -> Result<Option<Zone>, TableFault> {
-        match zone_at(alloc, &mut self.conn, origin) {
+        match zone_kept(alloc, &mut self.conn, &mut self.kept, origin) {
             Ok(zone) => Ok(zone),
             Err(fault) => Err(refused(&mut self.book, &mut self.share, fault)),
         }
@@ -276,7 +290,10 @@ impl<S: Alter + Drop, L: Ledger> ZoneTable for SqlTable<S, L> {
     ) -> Result<Option<Zone>, TableFault> {
         match part_at(alloc, &mut self.conn, origin, names) {
             Ok(part) => Ok(part),
-            Err(fault) => Err(refused(&mut self.book, &mut self.share, fault)),
+            Err(fault) => {
+                self.kept = None;
+                Err(refused(&mut self.book, &mut self.share, fault))
+            }
         }
     }
 
@@ -288,7 +305,10 @@ impl<S: Alter + Drop, L: Ledger> ZoneTable for SqlTable<S, L> {
     ) -> Result<Option<Vec<Record>>, TableFault> {
         match subtree_at(alloc, &mut self.conn, origin, top) {
             Ok(records) => Ok(records),
-            Err(fault) => Err(refused(&mut self.book, &mut self.share, fault)),
+            Err(fault) => {
+                self.kept = None;
+                Err(refused(&mut self.book, &mut self.share, fault))
+            }
         }
     }
 
@@ -300,18 +320,25 @@ impl<S: Alter + Drop, L: Ledger> ZoneTable for SqlTable<S, L> {
     ) -> Result<Option<Receipt>, TableFault> {
         match receipt_at(alloc, &mut self.conn, caller, id) {
             Ok(receipt) => Ok(receipt),
-            Err(fault) => Err(refused(&mut self.book, &mut self.share, fault)),
+            Err(fault) => {
+                self.kept = None;
+                Err(refused(&mut self.book, &mut self.share, fault))
+            }
         }
     }
 
     fn changes(&mut self, alloc: Global, origin: &Name) -> Result<Option<Vec<Change>>, TableFault> {
         match changes_at(alloc, &mut self.conn, origin) {
             Ok(changes) => Ok(changes),
-            Err(fault) => Err(refused(&mut self.book, &mut self.share, fault)),
+            Err(fault) => {
+                self.kept = None;
+                Err(refused(&mut self.book, &mut self.share, fault))
+            }
         }
     }
 
     fn commit(&mut self, alloc: Global, addition: Addition) -> Result<(), TableFault> {
+        self.kept = None;
         match commit(alloc, &mut self.conn, &addition) {
             Ok(()) => Ok(()),
             Err(fault) => Err(refused(&mut self.book, &mut self.share, fault)),
