@@ -9,3 +9,4 @@ pub mod PartViews
 pub mod Rights
 pub mod Import
 pub mod Migrate
+pub mod Serve

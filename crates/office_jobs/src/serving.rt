@@ -1,13 +1,16 @@
 //! Serving callers over TCP, one connection after the other.
 
 ghost use Rattle.std.specs.Prelude.{◌≡◌, ◌<◌};
+ghost use Rattle.office_jobs.specs.Replies.{IsSent};
+ghost use Rattle.office_jobs.specs.Serve.{connection_line};
 
 use crate::device::{read_input, tell, write_text};
 use crate::line_fault::{JobFault, LineFault};
 use crate::policy_file::PolicyFile;
 use crate::store_file::{FileTable, open_store};
-use dns_master::{Counted, Sink, Source};
+use dns_master::{Counted, DeviceFailed, Sink, Source};
 use grant_policy::{Policy, read_policy};
+use itoa::Buffer;
 use office_core::ZoneTable;
 use office_wire::{ServeFault, serve};
 use office_words::Service;
@@ -69,9 +72,15 @@ fn listening_text(alloc: Global, address: SocketAddr) -> Result<String, AllocErr
     format!(in alloc; "listening {address}\n")
 }
 
-/// The line that tells that serving a connection ended by a fault.
-fn connection_text(alloc: Global, fault: ServeFault) -> Result<String, AllocError> {
-    format!(in alloc; "connection {}\n", fault.number())
+/// Writes the line that tells that serving a connection ended by a fault. It takes no memory, so that a connection for which there
+/// is none does not end the office.
+fn tell_ended<W: Sink>(writer: &mut W, fault: ServeFault) -> Result<(), DeviceFailed>
+    ensures { IsSent (W.contents writer.old) (W.contents writer.new) (connection_line fault) result (W.failures writer.old) (W.failures writer.new) }
+{
+    let mut digits = Buffer::new();
+    write_text(writer, b"connection ")?;
+    write_text(writer, digits.format(fault.number()).as_bytes())?;
+    write_text(writer, b"\n")
 }
 
 /// Serves a connection. The fault by which it ends, where there is one, is told by a line.
@@ -92,12 +101,9 @@ fn serve_connection<T: ZoneTable, W: Sink>(
         Blank::new(1),
         Blank::new(1),
     );
-    let Err(fault) = served else {
-        return Ok(());
-    };
-    match connection_text(alloc, fault) {
-        Ok(text) => Ok(write_text(writer, text.as_bytes())?),
-        Err(_) => tell(alloc, writer, LineFault::NoMemory),
+    match served {
+        Ok(()) => Ok(()),
+        Err(fault) => Ok(tell_ended(writer, fault)?),
     }
 }
 
