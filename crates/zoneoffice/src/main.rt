@@ -39,15 +39,15 @@ fn do_job(rt: &HostRuntime, job: Job<'_>) -> ExitCode {
     }
 }
 
-/// Does the job that words ask for, and tells where they ask for none: help on standard output, with status 0, and what is wrong
-/// with them on standard error, with status 2.
+/// Does the job that words ask for, and tells where they ask for none: help on standard output, with status 0 where it could be
+/// printed and else 1, and what is wrong with them on standard error, with status 2.
 fn told(rt: &HostRuntime, words: &[&str]) -> ExitCode {
     match read_words(rt.alloc(), words) {
         Ok(job) => do_job(rt, job),
-        Err(WordsFault::Help(text)) => {
-            let _ = rt.print(text);
-            ExitCode::SUCCESS
-        }
+        Err(WordsFault::Help(text)) => match rt.print(text) {
+            Ok(()) => ExitCode::SUCCESS,
+            Err(_) => ExitCode::FAILURE,
+        },
         Err(WordsFault::Misused(text)) => {
             let _ = rt.eprint(text);
             ExitCode::from(2)
