@@ -67,7 +67,7 @@ const FORMS: [Row; 12] = [
 ];
 
 /// What is refused.
-const REFUSED: [Row; 37] = [
+const REFUSED: [Row; 38] = [
     ("{", "85", "an object that does not end"),
     ("", "85", "no text"),
     (
@@ -86,6 +86,11 @@ const REFUSED: [Row; 37] = [
         r#"{"id":"\ud800","operations":[]}"#,
         "85",
         "half of a surrogate pair",
+    ),
+    (
+        r#"{"id":"a1","operations":[{"op":"add","name":"a.","ttl":1e999,"type":"A","data":"192.0.2.5"}]}"#,
+        "85",
+        "a number that cannot be read",
     ),
     ("[]", "88", "an array"),
     ("null", "88", "null"),

@@ -20,7 +20,7 @@ const BAD_REQUEST: &str = "400 Bad Request";
 
 const NOT_FOUND: &str = "404 Not Found";
 
-const REFUSALS: [Refused; 31] = [
+const REFUSALS: [Refused; 32] = [
     (
         "GET / HTTP/2.0\r\n\r\n",
         "",
@@ -223,6 +223,14 @@ const REFUSALS: [Refused; 31] = [
         "a number out of range",
     ),
     (
+        "GET /zones/example.org./changes/+1 HTTP/1.1\r\nX-Office-Caller: a\r\n\r\n",
+        "",
+        BAD_REQUEST,
+        "88",
+        false,
+        "a number with a sign",
+    ),
+    (
         "GET /zones/example%2Eorg./records HTTP/1.1\r\n\r\n",
         "",
         BAD_REQUEST,
@@ -342,13 +350,22 @@ fn refusals(rt: HostRuntime) -> Result<(), Fail> {
     expect_refusals_in_sqlite::<Brand>(&rt, alloc, Blank::new(1))
 }
 
-/// How many octets one field has, how many fields more there are, whether all of it is a head, and the reason.
-const HEADS: [(usize, usize, bool, &str); 4] = [
-    (16_327, 0, true, "16,384 octets"),
-    (16_328, 0, false, "one octet more"),
-    (1, 62, true, "64 fields"),
-    (1, 63, false, "one field more"),
+/// What stands before a head, how many octets one field has, how many fields more there are, whether all of it is a head, and the
+/// reason.
+const HEADS: [(&str, usize, usize, bool, &str); 9] = [
+    ("", 16_327, 0, true, "16,384 octets"),
+    ("", 16_328, 0, false, "one octet more"),
+    ("", 1, 62, true, "64 fields"),
+    ("", 1, 63, false, "one field more"),
+    ("\r\n", 16_325, 0, true, "16,384 octets with an empty line"),
+    ("\r\n", 16_326, 0, false, "the empty line counts too"),
+    ("\n", 16_326, 0, true, "an empty line of one octet"),
+    (ASKED, 16_327, 0, true, "the count begins behind a request"),
+    (ASKED, 16_328, 0, false, "and one octet more is too much"),
 ];
+
+/// A question about a right.
+const ASKED: &str = "GET /rights/./A/add HTTP/1.1\r\nX-Office-Caller: a\r\n\r\n";
 
 /// A question about a right, with a field of so many octets, and so many fields more.
 fn long_head(alloc: Global, octets: usize, fields: usize) -> Result<String, Fail> {
@@ -359,18 +376,34 @@ fn long_head(alloc: Global, octets: usize, fields: usize) -> Result<String, Fail
     )?)
 }
 
+/// The response to a question about a right, which is denied.
+fn denied(alloc: Global) -> Result<String, Fail> {
+    let body = r#"{"by":"closing","granted":false}"#;
+    response(alloc, "200 OK", "application/json", body)
+}
+
+/// What is answered to a long head, and to what stands before it.
+fn long_wanted(alloc: Global, before: &str, is_head: bool) -> Result<String, Fail> {
+    let mut want = String::new(alloc);
+    if before == ASKED {
+        want.push_str(denied(alloc)?.as_str())?;
+    }
+    if is_head {
+        want.push_str(denied(alloc)?.as_str())?;
+    } else {
+        want.push_str(refusal(alloc, BAD_REQUEST, "81", true)?.as_str())?;
+    }
+    Ok(want)
+}
+
 /// Heads of the greatest length and with the most fields, and beyond.
 #[test]
 fn long_heads(rt: HostRuntime) -> Result<(), Fail> {
     let alloc = rt.alloc();
-    let body = r#"{"by":"closing","granted":false}"#;
-    for (octets, fields, is_head, why) in HEADS {
-        let stream = long_head(alloc, octets, fields)?;
-        let want = if is_head {
-            response(alloc, "200 OK", "application/json", body)?
-        } else {
-            refusal(alloc, BAD_REQUEST, "81", true)?
-        };
+    for (before, octets, fields, is_head, why) in HEADS {
+        let head = long_head(alloc, octets, fields)?;
+        let stream = format!(in alloc; "{before}{head}")?;
+        let want = long_wanted(alloc, before, is_head)?;
         let mut table = mem_table(alloc)?;
         expect(&rt, alloc, &mut table, stream.as_str(), want.as_str(), why)?;
     }
@@ -432,16 +465,35 @@ const LAST: [(&str, &str, bool, &str); 4] = [
 
 /// A response of a right that is denied, and behind it that of an update, unless the stream ends with the first.
 fn last_wanted(alloc: Global, closes: bool) -> Result<String, Fail> {
-    let body = r#"{"by":"closing","granted":false}"#;
     if closes {
+        let body = r#"{"by":"closing","granted":false}"#;
         return Ok(format!(in alloc;
             "HTTP/1.1 200 OK\r\nContent-Type: application/json\r\nContent-Length: 32\r\nConnection: close\r\n\r\n{body}"
         )?);
     }
-    Ok(format!(in alloc;
-        "HTTP/1.1 200 OK\r\nContent-Type: application/json\r\nContent-Length: 32\r\n\r\n{body}{}",
-        ADDED.1
-    )?)
+    let first = denied(alloc)?;
+    Ok(format!(in alloc; "{first}{}", ADDED.1)?)
+}
+
+/// A question with a body, which is left aside, and behind it an update.
+#[test]
+fn a_body_of_a_question(rt: HostRuntime) -> Result<(), Fail> {
+    let alloc = rt.alloc();
+    let stream = format!(in alloc;
+        "GET /rights/./A/add HTTP/1.1\r\nContent-Length: 4\r\nX-Office-Caller: a\r\n\r\nGET {}",
+        ADDED.0
+    )?;
+    let want = last_wanted(alloc, false)?;
+    let mut table = mem_table(alloc)?;
+    expect(
+        &rt,
+        alloc,
+        &mut table,
+        stream.as_str(),
+        want.as_str(),
+        "the body of a GET",
+    )?;
+    expect_zone(&rt, alloc, &mut table, "8", ADDED_LINE)
 }
 
 #[test]

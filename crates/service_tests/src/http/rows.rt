@@ -185,7 +185,7 @@ const DENIALS: [Row; 4] = [
 ];
 
 /// What callers see.
-const SIGHTS: [Row; 11] = [
+const SIGHTS: [Row; 12] = [
     (
         UPDATES,
         "admin",
@@ -230,6 +230,13 @@ const SIGHTS: [Row; 11] = [
     ),
     (
         "/zones/example.org./changes/02",
+        "phys",
+        "",
+        OK,
+        r#"{"changes":[]}"#,
+    ),
+    (
+        "/zones/example.org./changes/4294967295",
         "phys",
         "",
         OK,

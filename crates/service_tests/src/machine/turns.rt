@@ -14,7 +14,7 @@ use std::process::Abort;
 use std::sync::ledger::{Blank, Ledger};
 use std::test::Fail;
 
-const ADDITIONS: [Turn; 6] = [
+const ADDITIONS: [Turn; 7] = [
     (
         "admin",
         "update a1 example.org. add www.example.org. 300 A 192.0.2.5",
@@ -50,6 +50,12 @@ const ADDITIONS: [Turn; 6] = [
         "list example.org.",
         "E 9|www.example.org. 600 A 192.0.2.5",
         "it takes the place of the other",
+    ),
+    (
+        "admin",
+        "list example.org.",
+        "E 9|www.example.org. 600 A 192.0.2.5",
+        "the same question again",
     ),
 ];
 
@@ -320,7 +326,13 @@ const DELEGATIONS: [Turn; 10] = [
     ),
 ];
 
-const OUTSIDE: [Turn; 11] = [
+const OUTSIDE: [Turn; 12] = [
+    (
+        "admin",
+        "list example.org.",
+        "E 7",
+        "the zone that is there",
+    ),
     (
         "admin",
         "update a1 example.org.",
