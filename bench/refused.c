@@ -1,11 +1,13 @@
-/* Put before the C library (LD_PRELOAD), it refuses one growth of memory: the one whose number is in the variable GROWTH, counted from
- * the first connection that is accepted, or none where it is 0. As the program ends, the count goes to the file in the variable COUNT. */
+/* Put before the C library (LD_PRELOAD), it refuses one growth of memory: the one whose number is in the variable GROWTH, or none where
+ * it is 0, counted from the first connection that is accepted, or from the program's start where the variable FROM is `start`. As the
+ * program ends, the count goes to the file in the variable COUNT. */
 #define _GNU_SOURCE
 #include <dlfcn.h>
 #include <errno.h>
 #include <fcntl.h>
 #include <stdio.h>
 #include <stdlib.h>
+#include <string.h>
 #include <sys/socket.h>
 #include <unistd.h>
 
@@ -62,6 +64,12 @@ int accept4(int at, struct sockaddr *from, socklen_t *size, int flags) {
     int got = next(at, from, size, flags);
     start();
     return got;
+}
+
+__attribute__((constructor)) static void begin(void) {
+    const char *from = getenv("FROM");
+    if (from && !strcmp(from, "start"))
+        start();
 }
 
 __attribute__((destructor)) static void tell(void) {
