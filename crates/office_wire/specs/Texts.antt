@@ -1,5 +1,6 @@
 -- The texts of responses (RFC 9112 sections 4 and 5).
-use Rattle.std.specs.Prelude.{ℕ, List, ◌++◌, length, Bool, true, false, codes, decimal}
+use Rattle.std.specs.Prelude.{ℕ, List, [], ◌++◌, length, Bool, true, false, codes, decimal, unwrap_or}
+use Rattle.http.specs.StatusCode.{code_digits, reason_phrase}
 use Rattle.office_core.specs.declared.reply.UpdateReply.{UpdateReply}
 use Rattle.office_core.specs.declared.reply.UpdateReply.TheVariants as updates
 use Rattle.office_core.specs.declared.reply.Reply.{Reply}
@@ -9,67 +10,49 @@ use Rattle.office_wire.specs.declared.refusal.Refusal.{Refusal}
 use Rattle.office_wire.specs.declared.refusal.Refusal.TheVariants.{BadHead, NoCaller, NoLength, BodyTooLarge, BadPart, NoRoute, CutShort}
 use Rattle.office_wire.specs.declared.response.Response.{Response}
 use Rattle.office_wire.specs.declared.response.Response.TheVariants.{Refused, BadBody, Replied}
-use Rattle.office_wire.specs.declared.status.Status.{Status}
-use Rattle.office_wire.specs.declared.status.Status.TheVariants.{Okay, BadRequest, Forbidden, NotFound, Conflict, LengthRequired, PreconditionFailed, PayloadTooLarge, InternalServerError}
 use Rattle.office_wire.specs.Refusals.{refusal_number}
 
--- the digits of a status (RFC 9110 section 15)
-abbrev pub status_code : Status → List ℕ
-status_code Okay = codes "200"
-status_code BadRequest = codes "400"
-status_code Forbidden = codes "403"
-status_code NotFound = codes "404"
-status_code Conflict = codes "409"
-status_code LengthRequired = codes "411"
-status_code PreconditionFailed = codes "412"
-status_code PayloadTooLarge = codes "413"
-status_code InternalServerError = codes "500"
-
--- its phrase
-abbrev pub status_phrase : Status → List ℕ
-status_phrase Okay = codes "OK"
-status_phrase BadRequest = codes "Bad Request"
-status_phrase Forbidden = codes "Forbidden"
-status_phrase NotFound = codes "Not Found"
-status_phrase Conflict = codes "Conflict"
-status_phrase LengthRequired = codes "Length Required"
-status_phrase PreconditionFailed = codes "Precondition Failed"
-status_phrase PayloadTooLarge = codes "Payload Too Large"
-status_phrase InternalServerError = codes "Internal Server Error"
+-- the phrase of a status, and none where it is not a registered one (RFC 9110 section 15.1)
+abbrev pub phrase_of : ℕ → List ℕ
+phrase_of status = unwrap_or (reason_phrase status) []
 
 -- ---- which status
 
-abbrev pub refusal_status : Refusal → Status
-refusal_status BadHead = BadRequest
-refusal_status NoCaller = BadRequest
-refusal_status NoLength = LengthRequired
-refusal_status BodyTooLarge = PayloadTooLarge
-refusal_status BadPart = BadRequest
-refusal_status NoRoute = NotFound
-refusal_status CutShort = BadRequest
+-- of a refusal (RFC 9110 section 15.5)
+abbrev pub refusal_status : Refusal → ℕ
+refusal_status BadHead = 400
+refusal_status NoCaller = 400
+refusal_status NoLength = 411
+refusal_status BodyTooLarge = 413
+refusal_status BadPart = 400
+refusal_status NoRoute = 404
+refusal_status CutShort = 400
 
-abbrev pub update_status : UpdateReply → Status
-update_status updates.NoError = Okay
-update_status updates.NotAuth = NotFound
-update_status (updates.NotZone place) = BadRequest
-update_status (updates.Refused place by) = Forbidden
-update_status (updates.Failed failed) = PreconditionFailed
+-- of a reply to an update
+abbrev pub update_status : UpdateReply → ℕ
+update_status updates.NoError = 200
+update_status updates.NotAuth = 404
+update_status (updates.NotZone place) = 400
+update_status (updates.Refused place by) = 403
+update_status (updates.Failed failed) = 412
 
-abbrev pub reply_status : Reply → Status
+-- of a reply
+abbrev pub reply_status : Reply → ℕ
 reply_status (replies.Update reply) = update_status reply
-reply_status replies.IdReused = Conflict
-reply_status (replies.Servfail fault) = InternalServerError
-reply_status replies.NotAuth = NotFound
-reply_status replies.NotZone = BadRequest
-reply_status (replies.Records records) = Okay
-reply_status (replies.File origin records) = Okay
-reply_status (replies.Delegations delegations) = Okay
-reply_status (replies.Changes changes) = Okay
-reply_status (replies.Right right) = Okay
+reply_status replies.IdReused = 409
+reply_status (replies.Servfail fault) = 500
+reply_status replies.NotAuth = 404
+reply_status replies.NotZone = 400
+reply_status (replies.Records records) = 200
+reply_status (replies.File origin records) = 200
+reply_status (replies.Delegations delegations) = 200
+reply_status (replies.Changes changes) = 200
+reply_status (replies.Right right) = 200
 
-abbrev pub status_of : Response → Status
+-- of a response
+abbrev pub status_of : Response → ℕ
 status_of (Refused refusal) = refusal_status refusal
-status_of (BadBody number) = BadRequest
+status_of (BadBody number) = 400
 status_of (Replied reply) = reply_status reply
 
 -- ---- the text
@@ -100,8 +83,8 @@ head_parts code phrase media digits end =
     codes "HTTP/1.1 " ++ (code ++ (codes " " ++ (phrase ++ (codes "\r\nContent-Type: " ++ (media ++ (codes "\r\nContent-Length: " ++ (digits ++ end)))))))
 
 -- the same by its status, its media type, how long its body is, and whether it is the last
-abbrev pub head_text : Status → List ℕ → ℕ → Bool → List ℕ
-head_text status media n closing = head_parts (status_code status) (status_phrase status) media (decimal n) (head_end closing)
+abbrev pub head_text : ℕ → List ℕ → ℕ → Bool → List ℕ
+head_text status media n closing = head_parts (code_digits status) (phrase_of status) media (decimal n) (head_end closing)
 
 -- the text of a response
 unfoldable pub text_of : Response → Bool → List ℕ

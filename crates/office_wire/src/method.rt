@@ -17,9 +17,9 @@ impl Method {
     pub(crate) fn read(text: &[u8]) -> Method
         ensures { result ≡ method_of text.now }
     {
-        if text == b"POST".as_slice() {
+        if text == http::Method::POST.as_str().as_bytes() {
             Method::Post
-        } else if text == b"GET".as_slice() {
+        } else if text == http::Method::GET.as_str().as_bytes() {
             Method::Get
         } else {
             Method::Other

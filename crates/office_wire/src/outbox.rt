@@ -7,6 +7,7 @@ ghost use Rattle.office_wire.specs.Texts.{text_of, head_end, head_text, head_par
 ghost use Rattle.office_wire.specs.Outbox.{IsShortResponse, IsPut};
 
 use crate::response::Response;
+use crate::status::phrase;
 use itoa::Buffer;
 use office_core::{Reply, TableFault};
 use std::alloc::{AllocError, Global};
@@ -104,11 +105,11 @@ fn put_head(out: &mut Vec<u8>, response: &Response, count: usize, closing: bool)
 {
     out.clear();
     let mut digits = Buffer::new();
-    let (code, phrase) = response.status().row();
+    let status = response.status();
     let Ok(()) = push_parts(
         out,
-        code,
-        phrase,
+        status.as_str(),
+        phrase(status),
         response.media_type(),
         digits.format(count),
         head_end(closing),

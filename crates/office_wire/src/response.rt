@@ -3,12 +3,13 @@
 ghost use Rattle.std.specs.Prelude.{◌≡◌, ◌≤◌, ◌+◌, ◌++◌, length, IsOk, OnOk, OnErr};
 ghost use Rattle.std.specs.Vec.{vec_capacity};
 ghost use Rattle.office_wire.specs.Exchange.{refusing};
-ghost use Rattle.office_wire.specs.Texts.{status_of, type_of, reply_type, response_body};
+ghost use Rattle.office_wire.specs.Texts.{phrase_of, status_of, type_of, reply_type, response_body};
 ghost use Rattle.office_wire.specs.Outbox.{IsShortResponse};
 
 use crate::refusal::Refusal;
 use crate::request_fault::RequestFault;
-use crate::status::Status;
+use crate::status::{refusal_status, reply_status};
+use http::StatusCode;
 use office_core::{Reply, TableFault};
 use office_json::{form_error_text, refusal_text, reply_text};
 use std::alloc::AllocError;
@@ -48,13 +49,14 @@ impl Response {
     }
 
     /// The status.
-    pub(crate) const fn status(&self) -> Status
-        ensures { result ≡ status_of self.now }
+    pub(crate) fn status(&self) -> StatusCode
+        ensures status { result ≡ status_of self.now }
+        ensures short { length (phrase_of result) ≤ 21 }
     {
         match self {
-            Response::Refused(refusal) => Status::of_refusal(*refusal),
-            Response::BadBody(_) => Status::BadRequest,
-            Response::Replied(reply) => Status::of_reply(reply),
+            Response::Refused(refusal) => refusal_status(*refusal),
+            Response::BadBody(_) => StatusCode::BAD_REQUEST,
+            Response::Replied(reply) => reply_status(reply),
         }
     }
 

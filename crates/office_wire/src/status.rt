@@ -1,88 +1,63 @@
-//! The statuses of responses.
+//! Which status a response has, as the `http` crate has them.
 
 ghost use Rattle.std.specs.Prelude.{◌≡◌, ◌≤◌, length};
-ghost use Rattle.office_wire.specs.Texts.{status_code, status_phrase, refusal_status, update_status, reply_status};
+ghost use Rattle.office_wire.specs.Texts.{phrase_of, refusal_status, update_status, reply_status};
 
 use crate::refusal::Refusal;
+use http::StatusCode;
 use office_core::{Reply, UpdateReply};
 
-/// The status of a response (RFC 9110 section 15).
-#[derive(Clone, Copy, Debug, PartialEq, Eq)]
-pub(crate) enum Status {
-    Okay,
-    BadRequest,
-    Forbidden,
-    NotFound,
-    Conflict,
-    LengthRequired,
-    PreconditionFailed,
-    PayloadTooLarge,
-    InternalServerError,
+/// The phrase of a status, and none where it is not a registered one (RFC 9110 section 15.1).
+pub(crate) fn phrase(status: StatusCode) -> &'static str
+    ensures { result.now ≡ phrase_of status }
+{
+    status.canonical_reason().unwrap_or("")
 }
 
-impl Status {
-    /// Its three digits and its phrase.
-    pub(crate) const fn row(self) -> (&'static str, &'static str)
-        ensures code { result.0.now ≡ status_code self }
-        ensures phrase { result.1.now ≡ status_phrase self }
-        ensures three { length result.0.now ≤ 3 }
-        ensures short { length result.1.now ≤ 21 }
-    {
-        match self {
-            Status::Okay => ("200", "OK"),
-            Status::BadRequest => ("400", "Bad Request"),
-            Status::Forbidden => ("403", "Forbidden"),
-            Status::NotFound => ("404", "Not Found"),
-            Status::Conflict => ("409", "Conflict"),
-            Status::LengthRequired => ("411", "Length Required"),
-            Status::PreconditionFailed => ("412", "Precondition Failed"),
-            Status::PayloadTooLarge => ("413", "Payload Too Large"),
-            Status::InternalServerError => ("500", "Internal Server Error"),
+/// The status of a refusal.
+pub(crate) fn refusal_status(refusal: Refusal) -> StatusCode
+    ensures status { result ≡ refusal_status refusal }
+    ensures short { length (phrase_of result) ≤ 21 }
+{
+    match refusal {
+        Refusal::NoLength => StatusCode::LENGTH_REQUIRED,
+        Refusal::BodyTooLarge => StatusCode::PAYLOAD_TOO_LARGE,
+        Refusal::NoRoute => StatusCode::NOT_FOUND,
+        Refusal::BadHead | Refusal::NoCaller | Refusal::BadPart | Refusal::CutShort => {
+            StatusCode::BAD_REQUEST
         }
     }
+}
 
-    /// The status of a refusal.
-    pub(crate) const fn of_refusal(refusal: Refusal) -> Status
-        ensures { result ≡ refusal_status refusal }
-    {
-        match refusal {
-            Refusal::NoLength => Status::LengthRequired,
-            Refusal::BodyTooLarge => Status::PayloadTooLarge,
-            Refusal::NoRoute => Status::NotFound,
-            Refusal::BadHead | Refusal::NoCaller | Refusal::BadPart | Refusal::CutShort => {
-                Status::BadRequest
-            }
-        }
+/// The status of a reply to an update.
+fn update_status(reply: &UpdateReply) -> StatusCode
+    ensures status { result ≡ update_status reply.now }
+    ensures short { length (phrase_of result) ≤ 21 }
+{
+    match reply {
+        UpdateReply::NoError => StatusCode::OK,
+        UpdateReply::NotAuth => StatusCode::NOT_FOUND,
+        UpdateReply::NotZone(_) => StatusCode::BAD_REQUEST,
+        UpdateReply::Refused { .. } => StatusCode::FORBIDDEN,
+        UpdateReply::Failed(_) => StatusCode::PRECONDITION_FAILED,
     }
+}
 
-    /// The status of a reply to an update.
-    const fn of_update(reply: &UpdateReply) -> Status
-        ensures { result ≡ update_status reply.now }
-    {
-        match reply {
-            UpdateReply::NoError => Status::Okay,
-            UpdateReply::NotAuth => Status::NotFound,
-            UpdateReply::NotZone(_) => Status::BadRequest,
-            UpdateReply::Refused { .. } => Status::Forbidden,
-            UpdateReply::Failed(_) => Status::PreconditionFailed,
-        }
-    }
-
-    /// The status of a reply.
-    pub(crate) const fn of_reply(reply: &Reply) -> Status
-        ensures { result ≡ reply_status reply.now }
-    {
-        match reply {
-            Reply::Update(reply) => Status::of_update(reply),
-            Reply::IdReused => Status::Conflict,
-            Reply::Servfail(_) => Status::InternalServerError,
-            Reply::NotAuth => Status::NotFound,
-            Reply::NotZone => Status::BadRequest,
-            Reply::Records(_)
-            | Reply::File { .. }
-            | Reply::Delegations(_)
-            | Reply::Changes(_)
-            | Reply::Right(_) => Status::Okay,
-        }
+/// The status of a reply.
+pub(crate) fn reply_status(reply: &Reply) -> StatusCode
+    ensures status { result ≡ reply_status reply.now }
+    ensures short { length (phrase_of result) ≤ 21 }
+{
+    match reply {
+        Reply::Update(reply) => update_status(reply),
+        Reply::IdReused => StatusCode::CONFLICT,
+        Reply::Servfail(_) => StatusCode::INTERNAL_SERVER_ERROR,
+        Reply::NotAuth => StatusCode::NOT_FOUND,
+        Reply::NotZone => StatusCode::BAD_REQUEST,
+        Reply::Records(_)
+        | Reply::File { .. }
+        | Reply::Delegations(_)
+        | Reply::Changes(_)
+        | Reply::Right(_) => StatusCode::OK,
     }
 }
