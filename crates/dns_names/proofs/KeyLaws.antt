@@ -1,6 +1,6 @@
 -- The laws of keys: their order, their beginnings and their ranges.
-use Rattle.std.proofs.Common.{◌≡◌, ℕ, zero, suc, ◌+◌, ◌-◌, ◌<◌, ◌≤◌, ◌⊎◌, inl, inr, true, List, [], ◌∷◌, ◌++◌, length, take, drop, reverse, Some, None, refl, sym, ap, subst, ◌∙◌, append_assoc, append-nil, arith, leb, ltb, ltb-true, ne_eqb, add-one, length-append, length-drop}
-use Rattle.std.specs.List.{flat_map, list_all}
+use Rattle.std.proofs.Common.{◌≡◌, ℕ, zero, suc, ◌+◌, ◌-◌, ◌*◌, ◌<◌, ◌≤◌, ◌⊎◌, inl, inr, true, List, [], ◌∷◌, ◌++◌, length, take, drop, reverse, Some, None, refl, sym, ap, subst, ◌∙◌, append_assoc, append-nil, arith, leb, ltb, ltb-true, ne_eqb, add-one, length-append, length-drop}
+use Rattle.std.specs.List.{concat, flat_map, list_all}
 use Rattle.std.specs.Option.{IfSome}
 use Rattle.std.specs.declared.cmp.Ordering.{Ordering}
 use Rattle.std.specs.declared.cmp.Ordering.TheVariants.{Less, Equal, Greater}
@@ -62,6 +62,14 @@ octet_order a b s t =
         ]
       ]
     ]
+
+-- a key has no more than two octets for an octet
+octet_at_most : (o : ℕ) → length (key_octet o) ≤ 2
+octet_at_most o = elim (octet_cases o) [ inl o0 ↦ rw o0 (omega arith) | inr o1 ↦ elim o1 [ inl o1 ↦ rw o1 (omega arith) | inr o2 ↦ rw o2.1 (omega arith) ] ]
+
+front_at_most : (label : List ℕ) → length (label_front label) ≤ 2 * length label
+front_at_most [] = omega arith
+front_at_most (o ∷ label) = omega (arith, length-append (key_octet o) (label_front label), octet_at_most o, front_at_most label)
 
 -- octets that stand for themselves
 pub front_stands : (label : List ℕ) → list_all (λ o. ltb 1 o) label ≡ true → label_front label ≡ label
@@ -229,9 +237,14 @@ begins_range [] (k ∷ rest) = (refl, refl)
 begins_range (o ∷ front) rest = let more = begins_range front rest in (rw (tied o) more.0, rw (tied o) more.1)
 
 -- the key of a name that is no root, and the end of its range
-key_cons : (label : List ℕ) (labels : List (List ℕ)) → key_of (label ∷ labels) ≡ (key_of labels ++ label_front label) ++ 0 ∷ []
+pub key_cons : (label : List ℕ) (labels : List (List ℕ)) → key_of (label ∷ labels) ≡ (key_of labels ++ label_front label) ++ 0 ∷ []
 key_cons label labels =
     ap keys (reverse-append (label ∷ []) labels) ∙ keys-append (reverse labels) (label ∷ []) ∙ ap (λ (l : List ℕ). key_of labels ++ l) (append-nil (label_key label)) ∙ sym (append_assoc (key_of labels) (label_front label) (0 ∷ []))
+
+pub key_at_most : (name : List (List ℕ)) → length (key_of name) ≤ 2 * (length name + length (concat name))
+key_at_most [] = omega arith
+key_at_most (label ∷ labels) =
+    omega (arith, ap (length {A = ℕ}) (key_cons label labels), length-append (key_of labels ++ label_front label) (0 ∷ []), length-append (key_of labels) (label_front label), front_at_most label, key_at_most labels, length-append label (concat labels))
 
 root_first : (key : List ℕ) → is_le (by_octets [] key) ≡ true
 root_first [] = refl

@@ -1,14 +1,17 @@
 -- Labels that a row of lengths cuts from a row of octets.
-use Rattle.std.proofs.Common.{◌≡◌, ℕ, ◌+◌, ◌-◌, ◌≤◌, List, [], ◌∷◌, ◌++◌, length, get_or, map, reverse, sum, take, drop, ◌<◌, refl, sym, ap, subst, ◌∙◌, append_assoc, append-nil, arith, length-append, length-drop}
-use Rattle.std.specs.List.{concat}
+use Rattle.std.proofs.Common.{◌≡◌, ℕ, ◌+◌, ◌-◌, ◌≤◌, List, [], ◌∷◌, ◌++◌, length, get_or, map, reverse, sum, take, drop, ◌<◌, inl, inr, true, ltb, ne_eqb, refl, sym, ap, subst, ◌∙◌, append_assoc, append-nil, arith, length-append, length-drop}
+use Rattle.std.specs.List.{concat, list_all}
+use Rattle.std.proofs.Math.Seq.{take-append_seam, drop-append_seam, take-append-add, drop-append-add}
+use Rattle.std.proofs.lemmas.Bool.{and_parts}
 use Rattle.std.proofs.lemmas.List.{take-append-le, drop-append-le, drop-drop, take_all, length-take, length-map, take-append-drop, drop_at, map-append, reverse-append}
 use Rattle.std.proofs.lemmas.List.Concat.{flat_map-append}
-use Rattle.std.proofs.lemmas.List.Folds.{concat-append}
+use Rattle.std.proofs.lemmas.List.Folds.{list_all-append}
 use Rattle.std.proofs.lemmas.List.Sums.{sum_by-append, sum_by-cons}
 use Rattle.std.specs.List.{flat_map}
 use Rattle.dns_names.specs.Labels.{labels_of, wire_len, IsName}
-use Rattle.dns_names.specs.Keys.{key_of, label_key}
-use Rattle.dns_names.specs.Rows.{rows_of, name_in, AreRows, AreNameRows}
+use Rattle.dns_names.specs.Keys.{key_of, label_key, label_front}
+use Rattle.dns_names.proofs.KeyLaws.{key_cons, key_at_most, front_stands}
+use Rattle.dns_names.specs.Rows.{row_label, row_of, labels_in, plain_rows, escaped_rows, escaped_in, name_in, AreRows, AreEscaped, AreRowsOf, IsPlain}
 
 pub sum-cons : (n : ℕ) (ns : List ℕ) → sum (n ∷ ns) ≡ n + sum ns
 sum-cons n ns = sum_by-cons (λ (k : ℕ). k) n ns
@@ -42,7 +45,70 @@ last_label ns ms n os front back cut whole front-is back-is =
     let first : labels_of ms (front ++ back) ≡ labels_of ms front = labels_of-append_octets ms front back (omega arith) in
     ap (λ (ks : List ℕ). labels_of ks os) cut ∙ ap (λ (o : List ℕ). labels_of (ms ++ n ∷ []) o) (sym parts) ∙ labels_of-append ms (n ∷ []) (front ++ back) ∙ rw (first, last) refl
 
--- ---- a name's rows
+-- ---- labels in a row
+
+-- the last label, which stands first
+pub labels_in-last : (ms : List ℕ) (n : ℕ) (front back : List ℕ) → length front ≡ n + 1 → sum ms + length ms ≡ length back → labels_in (ms ++ n ∷ []) (front ++ back) ≡ labels_in ms back ++ take n front ∷ []
+labels_in-last [] n front back long whole =
+    let none : length (front ++ back) - (n + 1) ≡ 0 = omega (arith, length-append front back) in
+    ap (λ (k : ℕ). take n (drop k (front ++ back)) ∷ []) none ∙ ap (λ (l : List ℕ). l ∷ []) (take-append-le n front back (omega arith))
+labels_in-last (m ∷ ms) n front back long whole =
+    let left : length (front ++ back) - (m + 1) ≡ length front + (length back - (m + 1)) = omega (arith, length-append front back, sum-cons m ms) in
+    let there : drop (length (front ++ back) - (m + 1)) (front ++ back) ≡ drop (length back - (m + 1)) back =
+    ap (λ (k : ℕ). drop k (front ++ back)) left ∙ drop-append-add front back (length back - (m + 1)) in
+    let before : take (length (front ++ back) - (m + 1)) (front ++ back) ≡ front ++ take (length back - (m + 1)) back =
+    ap (λ (k : ℕ). take k (front ++ back)) left ∙ take-append-add front back (length back - (m + 1)) in
+    let rest = labels_in-last ms n front (take (length back - (m + 1)) back) long (omega (arith, length-take (length back - (m + 1)) back, sum-cons m ms)) in
+    rw (there, before) (ap (λ (ls : List (List ℕ)). take m (drop (length back - (m + 1)) back) ∷ ls) rest)
+
+-- the same, as a row is cut
+pub last_in_row : (ns ms : List ℕ) (n : ℕ) (row front back : List ℕ) → ns ≡ ms ++ n ∷ [] → sum ns + length ns ≡ length row → front ≡ take (n + 1) row → back ≡ drop (n + 1) row
+    → (sum ms + length ms ≡ length back) × (labels_in ns row ≡ labels_in ms back ++ take n front ∷ [])
+last_in_row ns ms n row front back cut whole front-is back-is =
+    let total : sum ms + length ms + (n + 1) ≡ length row = omega (arith, sum-append ms (n ∷ []), length-append ms (n ∷ []), ap sum cut, ap (length {A = ℕ}) cut, whole) in
+    let parts : front ++ back ≡ row = rw (front-is, back-is) (take-append-drop (n + 1) row) in
+    let long : length front ≡ n + 1 = rw front-is (omega (arith, length-take (n + 1) row)) in
+    let short : sum ms + length ms ≡ length back = rw back-is (omega (arith, length-drop (n + 1) row)) in
+    (short, ap (λ (ks : List ℕ). labels_in ks row) cut ∙ ap (λ (r : List ℕ). labels_in (ms ++ n ∷ []) r) (sym parts) ∙ labels_in-last ms n front back long short)
+
+-- ---- a name's row
+
+pub row_cons : (label : List ℕ) (labels : List (List ℕ)) → row_of (label ∷ labels) ≡ row_of labels ++ (label ++ 0 ∷ [])
+row_cons label labels =
+    ap (flat_map row_label) (reverse-append (label ∷ []) labels) ∙ flat_map-append row_label (reverse labels) (label ∷ []) ∙ ap (λ (l : List ℕ). row_of labels ++ l) (append-nil (label ++ 0 ∷ []))
+
+pub row_append : (front tail : List (List ℕ)) → row_of (front ++ tail) ≡ row_of tail ++ row_of front
+row_append front tail = ap (flat_map row_label) (reverse-append front tail) ∙ flat_map-append row_label (reverse tail) (reverse front)
+
+pub sum-lengths : (name : List (List ℕ)) → sum (map length name) ≡ length (concat name)
+sum-lengths [] = refl
+sum-lengths (label ∷ name) = omega (arith, sum-cons (length label) (map length name), sum-lengths name, length-append label (concat name))
+
+pub length-row : (name : List (List ℕ)) → length (row_of name) ≡ length name + length (concat name)
+length-row [] = refl
+length-row (label ∷ name) =
+    omega (arith, ap (length {A = ℕ}) (row_cons label name), length-append (row_of name) (label ++ 0 ∷ []), length-append label (0 ∷ []), length-row name, length-append label (concat name))
+
+-- the labels that a name's own lengths cut from its row
+pub labels_in-name : (name : List (List ℕ)) → labels_in (map length name) (row_of name) ≡ name
+labels_in-name [] = refl
+labels_in-name (label ∷ name) =
+    let row = row_of name in
+    let left : length (row ++ (label ++ 0 ∷ [])) - (length label + 1) ≡ length row = omega (arith, length-append row (label ++ 0 ∷ []), length-append label (0 ∷ [])) in
+    let there : drop (length (row ++ (label ++ 0 ∷ [])) - (length label + 1)) (row ++ (label ++ 0 ∷ [])) ≡ label ++ 0 ∷ [] = ap (λ (k : ℕ). drop k (row ++ (label ++ 0 ∷ []))) left ∙ drop-append_seam row (label ++ 0 ∷ []) in
+    let before : take (length (row ++ (label ++ 0 ∷ [])) - (length label + 1)) (row ++ (label ++ 0 ∷ [])) ≡ row = ap (λ (k : ℕ). take k (row ++ (label ++ 0 ∷ []))) left ∙ take-append_seam row (label ++ 0 ∷ []) in
+    ap (labels_in (map length (label ∷ name))) (row_cons label name) ∙ rw (there, before, take-append_seam label (0 ∷ [])) (ap (λ (ls : List (List ℕ)). label ∷ ls) (labels_in-name name))
+
+-- a row of octets above 1 is the key
+pub stands : (name : List (List ℕ)) → list_all (λ o. ltb 1 o) (concat name) ≡ true → IsPlain name
+stands [] all = refl
+stands (label ∷ name) all =
+    let both = and_parts (list_all (λ o. ltb 1 o) label) (list_all (λ o. ltb 1 o) (concat name)) (sym (list_all-append (λ o. ltb 1 o) label (concat name)) ∙ all) in
+    row_cons label name ∙ sym (append_assoc (row_of name) label (0 ∷ []))
+    ∙ ap (λ (l : List ℕ). (row_of name ++ l) ++ 0 ∷ []) (sym (front_stands label both.0)) ∙ ap (λ (l : List ℕ). (l ++ label_front label) ++ 0 ∷ []) (stands name both.1)
+    ∙ sym (key_cons label name)
+
+-- ---- labels in the order of a text
 
 -- the labels that a name's own lengths cut from its octets
 pub labels_of-name : (name : List (List ℕ)) (rest : List ℕ) → labels_of (map length name) (concat name ++ rest) ≡ name
@@ -52,10 +118,6 @@ labels_of-name (label ∷ name) rest =
     let here : take (length label) ((label ++ concat name) ++ rest) ≡ label = rw parts (take-append-le (length label) label (concat name ++ rest) (omega arith) ∙ take_all (length label) label (omega arith)) in
     let there : drop (length label) ((label ++ concat name) ++ rest) ≡ concat name ++ rest = rw parts (drop_at label (concat name ++ rest) (length label) refl) in
     rw (here, there) (ap (λ (ls : List (List ℕ)). label ∷ ls) (labels_of-name name rest))
-
-pub sum-lengths : (name : List (List ℕ)) → sum (map length name) ≡ length (concat name)
-sum-lengths [] = refl
-sum-lengths (label ∷ name) = omega (arith, sum-cons (length label) (map length name), sum-lengths name, length-append label (concat name))
 
 pub lengths_back : (ns os : List ℕ) → sum ns ≤ length os → map length (labels_of ns os) ≡ ns
 lengths_back [] os fits = refl
@@ -71,92 +133,127 @@ octets_back (n ∷ ns) os whole =
     let total = sum-cons n ns in
     ap (λ (rest : List ℕ). take n os ++ rest) (octets_back ns (drop n os) (omega (arith, total, length-drop n os))) ∙ take-append-drop n os
 
--- a name's rows hold it
-pub name_in-rows_of : (name : List (List ℕ)) → name_in (rows_of name) ≡ name
-name_in-rows_of name =
-    let rest = concat name ++ key_of name in
-    let lengths : take (length name) (map length name ++ rest) ≡ map length name = take-append-le (length name) (map length name) rest (omega (arith, length-map name length)) ∙ take_all (length name) (map length name) (omega (arith, length-map name length)) in
-    let octets : drop (length name) (map length name ++ rest) ≡ rest = drop_at (map length name) rest (length name) (length-map name length) in
-    rw (lengths, octets) (labels_of-name name (key_of name))
-
-pub rows_are : (memory : List ℕ) (name : List (List ℕ)) → memory ≡ rows_of name → IsName name → AreRows memory
-rows_are memory name e is =
-    let held : name_in memory ≡ name = ap name_in e ∙ name_in-rows_of name in
-    record { name = subst IsName (sym held) is; whole = e ∙ ap rows_of (sym held) }
-
--- what memory that holds a name is cut into
-pub record AreCut (memory : List ℕ) (name : List (List ℕ)) (lengths octets key : List ℕ) : Type 0 where
-  pub lengths_are : lengths ≡ map length name
-  pub octets_are : octets ≡ concat name
-  pub key_is : key ≡ key_of name
-
-pub cut_rows : (memory : List ℕ) (name : List (List ℕ)) (count total : ℕ) (lengths rest octets key : List ℕ) → memory ≡ rows_of name → count ≡ get_or memory 0 0 → total ≡ get_or memory 1 0
-    → lengths ≡ take count (take (length memory - 2) (drop 2 memory)) → rest ≡ drop count (take (length memory - 2) (drop 2 memory)) → octets ≡ take total rest → key ≡ drop total rest
-    → AreCut memory name lengths octets key
-cut_rows memory name count total lengths rest octets key whole count-is total-is lengths-are rest-is octets-are key-is =
-    let behind = concat name ++ key_of name in
-    let rows = map length name ++ behind in
-    let all : take (length memory - 2) (drop 2 memory) ≡ rows = ap (λ (m : List ℕ). take (length m - 2) (drop 2 m)) whole ∙ take_all (length (rows_of name) - 2) rows (omega arith) in
-    let labels : count ≡ length name = count-is ∙ ap (λ (m : List ℕ). get_or m 0 0) whole in
-    let sum-is : total ≡ length (concat name) = total-is ∙ ap (λ (m : List ℕ). get_or m 1 0) whole in
-    let there : rest ≡ behind = rest-is ∙ ap (drop count) all ∙ ap (λ (n : ℕ). drop n rows) labels ∙ drop_at (map length name) behind (length name) (length-map name length) in
-    record {
-      lengths_are = lengths-are ∙ ap (take count) all ∙ ap (λ (n : ℕ). take n rows) labels ∙ take-append-le (length name) (map length name) behind (omega (arith, length-map name length)) ∙ take_all (length name) (map length name) (omega (arith, length-map name length));
-      octets_are = octets-are ∙ ap (take total) there ∙ ap (λ (n : ℕ). take n behind) sum-is ∙ take-append-le (length (concat name)) (concat name) (key_of name) (omega arith) ∙ take_all (length (concat name)) (concat name) (omega arith);
-      key_is = key-is ∙ ap (drop total) there ∙ ap (λ (n : ℕ). drop n behind) sum-is ∙ drop_at (concat name) (key_of name) (length (concat name)) refl;
-    }
-
-module _ (memory : List ℕ) (name : List (List ℕ)) (lengths octets key : List ℕ) (are : AreCut memory name lengths octets key) where
-  pub cut_labels : labels_of lengths octets ≡ name
-  cut_labels = ap (λ (ns : List ℕ). labels_of ns octets) are.lengths_are ∙ ap (labels_of (map length name)) (are.octets_are ∙ sym (append-nil (concat name))) ∙ labels_of-name name []
-
-  pub cut_name_rows : AreNameRows lengths octets key
-  cut_name_rows = record {
-    whole = ap sum are.lengths_are ∙ sum-lengths name ∙ ap (length {A = ℕ}) (sym are.octets_are);
-    is_key = are.key_is ∙ ap key_of (sym cut_labels);
-  }
-
--- ---- a name of labels before another
+-- ---- a name's memory
 
 pub wire_len-name : (name : List (List ℕ)) → wire_len name ≡ 1 + (length name + length (concat name))
 wire_len-name [] = refl
 wire_len-name (label ∷ name) = omega (arith, wire_len-name name, length-append label (concat name))
 
-module _ (ns os ms ps key : List ℕ) (tail : List (List ℕ)) (whole : sum ns ≡ length os) (rows : AreNameRows ms ps key) (held : labels_of ms ps ≡ tail) where
+-- no name has as many labels as the mark of an escape says
+pub few_labels : (name : List (List ℕ)) → IsName name → length name < 255
+few_labels name is = omega (arith, wire_len-name name, is.short)
+
+take_lengths : (name : List (List ℕ)) (rest : List ℕ) → take (length name) (map length name ++ rest) ≡ map length name
+take_lengths name rest = take-append-le (length name) (map length name) rest (omega (arith, length-map name length)) ∙ take_all (length name) (map length name) (omega (arith, length-map name length))
+
+drop_lengths : (name : List (List ℕ)) (rest : List ℕ) → drop (length name) (map length name ++ rest) ≡ rest
+drop_lengths name rest = drop_at (map length name) rest (length name) (length-map name length)
+
+-- a name's memory holds it
+pub in_escaped : (name : List (List ℕ)) → escaped_in (escaped_rows name) ≡ name
+in_escaped name = rw (take_lengths name (row_of name ++ key_of name), drop_lengths name (row_of name ++ key_of name), take-append_seam (row_of name) (key_of name)) (labels_in-name name)
+
+pub in_plain : (name : List (List ℕ)) → IsName name → IsPlain name → name_in (plain_rows name) ≡ name
+in_plain name is plain =
+    rw (ne_eqb (length name) 255 (λ e. omega (arith, few_labels name is)), take_lengths name (key_of name), drop_lengths name (key_of name), sym plain) (labels_in-name name)
+
+pub rows_escaped : (memory : List ℕ) (name : List (List ℕ)) → memory ≡ 255 ∷ escaped_rows name → IsName name → AreRows memory
+rows_escaped memory name e is =
+    let held : name_in memory ≡ name = ap name_in e ∙ in_escaped name in
+    record { name = subst IsName (sym held) is; whole = inl (e ∙ ap (λ (n : List (List ℕ)). 255 ∷ escaped_rows n) (sym held)) }
+
+pub rows_plain : (memory : List ℕ) (name : List (List ℕ)) → memory ≡ plain_rows name → IsName name → IsPlain name → AreRows memory
+rows_plain memory name e is plain =
+    let held : name_in memory ≡ name = ap name_in e ∙ in_plain name is plain in
+    record { name = subst IsName (sym held) is; whole = inr (e ∙ ap plain_rows (sym held), subst IsPlain (sym held) plain) }
+
+-- ---- what a name's memory is cut into
+
+module _ (name : List (List ℕ)) (lengths row key : List ℕ) (are : AreRowsOf name lengths row key) where
+  pub rows_hold : labels_in lengths row ≡ name
+  rows_hold = ap (λ (ns : List ℕ). labels_in ns row) are.lengths_are ∙ ap (labels_in (map length name)) are.row_is ∙ labels_in-name name
+
+  pub rows_of_labels : AreRowsOf (labels_in lengths row) lengths row key
+  rows_of_labels = subst (λ (n : List (List ℕ)). AreRowsOf n lengths row key) (sym rows_hold) are
+
+  pub rows_whole : sum lengths + length lengths ≡ length row
+  rows_whole =
+      omega (arith, ap sum are.lengths_are, ap (length {A = ℕ}) are.lengths_are, length-map name length, sum-lengths name, ap (length {A = ℕ}) are.row_is, length-row name)
+
+-- what stands behind the mark of an escape
+pub behind_mark : (memory : List ℕ) → AreRows memory → get_or memory 0 0 ≡ 255 → AreEscaped (take (length memory - 1) (drop 1 memory))
+behind_mark memory are marked =
+    let name = name_in memory in
+    elim are.whole [
+      | inl e ↦
+          let rest : take (length memory - 1) (drop 1 memory) ≡ escaped_rows name = ap (λ (m : List ℕ). take (length m - 1) (drop 1 m)) e ∙ take_all (length (255 ∷ escaped_rows name) - 1) (escaped_rows name) (omega arith) in
+          rest ∙ ap escaped_rows (sym (ap escaped_in rest ∙ in_escaped name))
+      | inr p ↦ absurd (omega (arith, few_labels name are.name, ap (λ (m : List ℕ). get_or m 0 0) p.0, marked))
+    ]
+
+-- ---- the name without its first label
+
+module _ (name : List (List ℕ)) (lengths row key : List ℕ) (n : ℕ) (ns : List ℕ) (cut : lengths ≡ n ∷ ns) where
+  pub first_fits : AreRowsOf name lengths row key → n + 1 ≤ length row
+  first_fits are = omega (arith, rows_whole name lengths row key are, ap sum cut, sum-cons n ns, ap (length {A = ℕ}) cut)
+
+-- ---- a name of labels before another
+
+module _ (ns os ms row key : List ℕ) (tail : List (List ℕ)) (whole : sum ns ≡ length os) (rows : AreRowsOf (labels_in ms row) ms row key) (held : labels_in ms row ≡ tail) where
   abbrev front : List (List ℕ)
   front = labels_of ns os
 
-  lengths_joined : map length (front ++ tail) ≡ ns ++ ms
-  lengths_joined = map-append length front tail ∙ ap (λ (l : List ℕ). l ++ map length tail) (lengths_back ns os (omega arith)) ∙ ap (λ (l : List ℕ). ns ++ l) (ap (map (length {A = ℕ})) (sym held) ∙ lengths_back ms ps (omega (arith, rows.whole)))
+  tail_rows : AreRowsOf tail ms row key
+  tail_rows = subst (λ (n : List (List ℕ)). AreRowsOf n ms row key) held rows
 
-  octets_joined : concat (front ++ tail) ≡ os ++ ps
-  octets_joined = concat-append front tail ∙ ap (λ (l : List ℕ). l ++ concat tail) (octets_back ns os whole) ∙ ap (λ (l : List ℕ). os ++ l) (ap concat (sym held) ∙ octets_back ms ps rows.whole)
+  lengths_joined : map length (front ++ tail) ≡ ns ++ ms
+  lengths_joined = map-append length front tail ∙ ap (λ (l : List ℕ). l ++ map length tail) (lengths_back ns os (omega arith)) ∙ ap (λ (l : List ℕ). ns ++ l) (sym tail_rows.lengths_are)
+
+  row_joined : row_of (front ++ tail) ≡ row ++ row_of front
+  row_joined = row_append front tail ∙ ap (λ (l : List ℕ). l ++ row_of front) (sym tail_rows.row_is)
 
   key_joined : key_of (front ++ tail) ≡ key ++ key_of front
-  key_joined = ap (flat_map label_key) (reverse-append front tail) ∙ flat_map-append label_key (reverse tail) (reverse front) ∙ ap (λ (l : List ℕ). l ++ key_of front) (ap key_of (sym held) ∙ sym rows.is_key)
+  key_joined = ap (flat_map label_key) (reverse-append front tail) ∙ flat_map-append label_key (reverse tail) (reverse front) ∙ ap (λ (l : List ℕ). l ++ key_of front) (sym tail_rows.key_is)
 
   labels_joined : length (front ++ tail) ≡ length ns + length ms
   labels_joined = sym (length-map (front ++ tail) length) ∙ ap (length {A = ℕ}) lengths_joined ∙ length-append ns ms
 
-  total_joined : length (concat (front ++ tail)) ≡ length os + length ps
-  total_joined = ap (length {A = ℕ}) octets_joined ∙ length-append os ps
+  total_joined : length (row_of (front ++ tail)) ≡ length row + (length os + length ns)
+  total_joined =
+      omega (arith, ap (length {A = ℕ}) row_joined, length-append row (row_of front), length-row front, ap (length {A = ℕ}) (octets_back ns os whole), ap (length {A = ℕ}) (lengths_back ns os (omega arith)), length-map front length)
 
-  pub counts_fit : IsName (front ++ tail) → length ns + length ms + (length os + length ps) < 255
-  counts_fit is = omega (arith, wire_len-name (front ++ tail), labels_joined, total_joined, is.short)
+  pub counts_fit : IsName (front ++ tail) → (length ns + length ms < 255) × (length row + (length os + length ns) < 255)
+  counts_fit is =
+      (omega (arith, few_labels (front ++ tail) is, labels_joined), omega (arith, wire_len-name (front ++ tail), length-row (front ++ tail), total_joined, is.short))
 
-  pub joined_rows : ((((((([] ++ (length ns + length ms) ∷ []) ++ (length os + length ps) ∷ []) ++ ns) ++ ms) ++ os) ++ ps) ++ key) ++ key_of front ≡ rows_of (front ++ tail)
-  joined_rows =
-      let parts : ((((ns ++ ms) ++ os) ++ ps) ++ key) ++ key_of front ≡ (ns ++ ms) ++ ((os ++ ps) ++ (key ++ key_of front)) = simp append_assoc in
-      ap (λ (r : List ℕ). (length ns + length ms) ∷ (length os + length ps) ∷ r) parts
-      ∙ sym (ap (λ (n : ℕ). n ∷ length (concat (front ++ tail)) ∷ (map length (front ++ tail) ++ (concat (front ++ tail) ++ key_of (front ++ tail)))) labels_joined
-      ∙ ap (λ (n : ℕ). (length ns + length ms) ∷ n ∷ (map length (front ++ tail) ++ (concat (front ++ tail) ++ key_of (front ++ tail)))) total_joined
-      ∙ ap (λ (l : List ℕ). (length ns + length ms) ∷ (length os + length ps) ∷ (l ++ (concat (front ++ tail) ++ key_of (front ++ tail)))) lengths_joined
-      ∙ ap (λ (l : List ℕ). (length ns + length ms) ∷ (length os + length ps) ∷ ((ns ++ ms) ++ (l ++ key_of (front ++ tail)))) octets_joined
-      ∙ ap (λ (l : List ℕ). (length ns + length ms) ∷ (length os + length ps) ∷ ((ns ++ ms) ++ ((os ++ ps) ++ l))) key_joined)
+  pub key_fits : IsName (front ++ tail) → length key < 510
+  key_fits is =
+      omega (arith, ap (length {A = ℕ}) tail_rows.key_is, key_at_most tail, ap (length {A = ℕ}) tail_rows.row_is, length-row tail, (counts_fit is).1)
 
--- how long a name is, by its rows
-pub wire_len-rows : (ms ps key : List ℕ) (name : List (List ℕ)) → AreNameRows ms ps key → labels_of ms ps ≡ name → (length name ≡ length ms) × (length (concat name) ≡ length ps)
-wire_len-rows ms ps key name rows held = (
-  ap (length {A = List ℕ}) (sym held) ∙ sym (length-map (labels_of ms ps) length) ∙ ap (length {A = ℕ}) (lengths_back ms ps (omega (arith, rows.whole))),
-  ap (length {A = ℕ}) (ap concat (sym held) ∙ octets_back ms ps rows.whole),
-)
+  pub plain_joined : row ≡ key → list_all (λ o. ltb 1 o) os ≡ true → IsPlain (front ++ tail)
+  plain_joined same all =
+      let stand : row_of front ≡ key_of front = stands front (ap (list_all (λ o. ltb 1 o)) (octets_back ns os whole) ∙ all) in
+      row_joined ∙ ap (λ (l : List ℕ). l ++ row_of front) same ∙ ap (λ (l : List ℕ). key ++ l) stand ∙ sym key_joined
+
+  pub joined_plain : IsPlain (front ++ tail) → (((([] ++ (length ns + length ms) ∷ []) ++ ns) ++ ms) ++ row) ++ row_of front ≡ plain_rows (front ++ tail)
+  joined_plain plain =
+      let parts : ((ns ++ ms) ++ row) ++ row_of front ≡ (ns ++ ms) ++ (row ++ row_of front) = simp append_assoc in
+      ap (λ (r : List ℕ). (length ns + length ms) ∷ r) parts
+      ∙ sym (ap (λ (n : ℕ). n ∷ (map length (front ++ tail) ++ key_of (front ++ tail))) labels_joined
+      ∙ ap (λ (l : List ℕ). (length ns + length ms) ∷ (l ++ key_of (front ++ tail))) lengths_joined
+      ∙ ap (λ (l : List ℕ). (length ns + length ms) ∷ ((ns ++ ms) ++ l)) (sym plain ∙ row_joined))
+
+  pub joined_escaped : (total : ℕ) → total ≡ length row + (length os + length ns) → (((((((([] ++ 255 ∷ []) ++ (length ns + length ms) ∷ []) ++ total ∷ []) ++ ns) ++ ms) ++ row) ++ row_of front) ++ key) ++ key_of front ≡ 255 ∷ escaped_rows (front ++ tail)
+  joined_escaped total is =
+      let parts : ((((ns ++ ms) ++ row) ++ row_of front) ++ key) ++ key_of front ≡ (ns ++ ms) ++ ((row ++ row_of front) ++ (key ++ key_of front)) = simp append_assoc in
+      let count = length ns + length ms in
+      ap (λ (r : List ℕ). 255 ∷ count ∷ total ∷ r) parts
+      ∙ sym (ap (λ (n : ℕ). 255 ∷ n ∷ length (row_of (front ++ tail)) ∷ (map length (front ++ tail) ++ (row_of (front ++ tail) ++ key_of (front ++ tail)))) labels_joined
+      ∙ ap (λ (n : ℕ). 255 ∷ count ∷ n ∷ (map length (front ++ tail) ++ (row_of (front ++ tail) ++ key_of (front ++ tail)))) (total_joined ∙ sym is)
+      ∙ ap (λ (l : List ℕ). 255 ∷ count ∷ total ∷ (l ++ (row_of (front ++ tail) ++ key_of (front ++ tail)))) lengths_joined
+      ∙ ap (λ (l : List ℕ). 255 ∷ count ∷ total ∷ ((ns ++ ms) ++ (l ++ key_of (front ++ tail)))) row_joined
+      ∙ ap (λ (l : List ℕ). 255 ∷ count ∷ total ∷ ((ns ++ ms) ++ ((row ++ row_of front) ++ l))) key_joined)
+
+-- how long a name is, by its row
+pub length-held : (ms row key : List ℕ) (name : List (List ℕ)) → AreRowsOf (labels_in ms row) ms row key → labels_in ms row ≡ name → length row ≡ length name + length (concat name)
+length-held ms row key name rows held = ap (length {A = ℕ}) (rows.row_is ∙ ap row_of held) ∙ length-row name

@@ -1,34 +1,65 @@
 -- How a name stands in memory, and what is kept of a text while it is cut into labels.
-use Rattle.std.specs.Prelude.{◌≡◌, ◌≤◌, ℕ, List, [], ◌∷◌, ◌++◌, length, take, drop, map, sum, min, false, ◌==◌, if◌then◌else◌, Option, Some, None, Result, Ok, Err}
-use Rattle.std.specs.List.{concat, list_any}
+use Rattle.std.specs.Prelude.{◌≡◌, ◌≤◌, ◌⊎◌, ℕ, ◌+◌, ◌-◌, List, [], ◌∷◌, ◌++◌, length, take, drop, map, reverse, min, false, ◌==◌, if◌then◌else◌, Option, Some, None, Result, Ok, Err}
+use Rattle.std.specs.List.{concat, flat_map, list_any}
 use Rattle.dns_names.specs.declared.fault.NameFault.{NameFault}
 use Rattle.dns_names.specs.declared.pieces.PieceRows.{PieceRows}
 use Rattle.dns_names.specs.Faults.{Refuses}
-use Rattle.dns_names.specs.Labels.{IsName, wire_len, labels_of}
+use Rattle.dns_names.specs.Labels.{IsName, wire_len}
 use Rattle.dns_names.specs.Keys.{key_of}
 use Rattle.dns_names.specs.Reading.{Pieces, is_empty, is_long}
 
 -- ---- names
 
--- how many labels, how many octets they have, their lengths, their octets, and the key
-abbrev pub rows_of : List (List ℕ) → List ℕ
-rows_of name = length name ∷ length (concat name) ∷ (map length name ++ (concat name ++ key_of name))
+-- a label's octets, and then 0
+abbrev pub row_label : List ℕ → List ℕ
+row_label label = label ++ 0 ∷ []
 
--- the name that stands there
+-- a name's labels from the right to the left: the key, but for its escapes
+abbrev pub row_of : List (List ℕ) → List ℕ
+row_of name = flat_map row_label (reverse name)
+
+-- the labels that a row has, when it is cut from its end into pieces of these lengths and one octet more
+abbrev pub labels_in : List ℕ → List ℕ → List (List ℕ)
+labels_in [] row = []
+labels_in (len ∷ lengths) row = take len (drop (length row - (len + 1)) row) ∷ labels_in lengths (take (length row - (len + 1)) row)
+
+-- of a name whose row is its key: how many labels there are, their lengths, and the key
+abbrev pub plain_rows : List (List ℕ) → List ℕ
+plain_rows name = length name ∷ (map length name ++ key_of name)
+
+-- of any other, behind a 255: how many labels there are, how long the row is, the labels' lengths, the row, and the key
+abbrev pub escaped_rows : List (List ℕ) → List ℕ
+escaped_rows name = length name ∷ length (row_of name) ∷ (map length name ++ (row_of name ++ key_of name))
+
+-- the name that stands behind a 255
+abbrev pub escaped_in : List ℕ → List (List ℕ)
+escaped_in [] = []
+escaped_in (count ∷ []) = []
+escaped_in (count ∷ total ∷ rows) = labels_in (take count rows) (take total (drop count rows))
+
+-- the name that stands in memory
 abbrev pub name_in : List ℕ → List (List ℕ)
 name_in [] = []
-name_in (count ∷ []) = []
-name_in (count ∷ total ∷ rows) = labels_of (take count rows) (drop count rows)
+name_in (count ∷ rows) = if count == 255 then escaped_in rows else labels_in (take count rows) (drop count rows)
+
+-- memory that holds a name behind a 255
+abbrev pub AreEscaped : List ℕ → Type 0
+AreEscaped rows = rows ≡ escaped_rows (escaped_in rows)
+
+-- a name without an octet 0 or 1, whose key has no escapes
+abbrev pub IsPlain : List (List ℕ) → Type 0
+IsPlain name = row_of name ≡ key_of name
 
 -- memory that holds a name, as each of that name does
 pub record AreRows (memory : List ℕ) : Type 0 where
   pub name : IsName (name_in memory)
-  pub whole : memory ≡ rows_of (name_in memory)
+  pub whole : (memory ≡ 255 ∷ escaped_rows (name_in memory)) ⊎ ((memory ≡ plain_rows (name_in memory)) × IsPlain (name_in memory))
 
--- the lengths cut the whole row of octets, and the key is that of the labels
-pub record AreNameRows (lengths octets key : List ℕ) : Type 0 where
-  pub whole : sum lengths ≡ length octets
-  pub is_key : key ≡ key_of (labels_of lengths octets)
+-- the lengths of a name's labels, its row, and its key
+pub record AreRowsOf (name : List (List ℕ)) (lengths row key : List ℕ) : Type 0 where
+  pub lengths_are : lengths ≡ map length name
+  pub row_is : row ≡ row_of name
+  pub key_is : key ≡ key_of name
 
 -- what stands behind the first octet 0 of a key, which ends the key of a label
 abbrev pub behind_label : List ℕ → Option (List ℕ)

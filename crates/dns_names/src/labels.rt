@@ -1,8 +1,8 @@
 //! The labels of a name, one after the other.
 
-ghost use Rattle.std.specs.Prelude.{◌≡◌, List, ℕ, length, sum};
+ghost use Rattle.std.specs.Prelude.{◌≡◌, ◌+◌, List, ℕ, length, sum};
 ghost use Rattle.std.specs.Iterator.{YieldsFirstRef, YieldsLastRef, item_count};
-ghost use Rattle.dns_names.specs.Labels.{labels_of};
+ghost use Rattle.dns_names.specs.Rows.{labels_in};
 
 use std::marker::Model;
 
@@ -10,24 +10,25 @@ use std::marker::Model;
 #[derive(Drop)]
 pub struct Labels<'a> {
     lengths: &'a [u8],
-    octets: &'a [u8],
+    /// The labels from the right to the left, with an octet 0 behind each.
+    row: &'a [u8],
 }
 
 impl<'a> Model for Labels<'a> {
     ghost Value = { List (List ℕ) };
 
-    ghost view = { λ l. labels_of l.lengths.now l.octets.now };
+    ghost view = { λ l. labels_in l.lengths.now l.row.now };
 
-    ghost invariant = { λ l. sum l.lengths.now ≡ length l.octets.now };
+    ghost invariant = { λ l. sum l.lengths.now + length l.lengths.now ≡ length l.row.now };
 }
 
 impl<'a> Labels<'a> {
-    /// The labels that a row of octets has when it is cut into pieces of these lengths.
-    pub(crate) fn of_rows(lengths: &'a [u8], octets: &'a [u8]) -> Labels<'a>
-        requires { sum lengths.now ≡ length octets.now }
-        ensures { result ≡ labels_of lengths.now octets.now }
+    /// The labels of a row, leftmost first by their lengths.
+    pub(crate) fn of_row(lengths: &'a [u8], row: &'a [u8]) -> Labels<'a>
+        requires { sum lengths.now + length lengths.now ≡ length row.now }
+        ensures { result ≡ labels_in lengths.now row.now }
     {
-        Labels { lengths, octets }
+        Labels { lengths, row }
     }
 }
 
@@ -40,10 +41,11 @@ impl<'a> Iterator for Labels<'a> {
 
     fn next(&mut self) -> Option<&'a [u8]> {
         let (length, lengths) = self.lengths.split_first()?;
-        let (label, octets) = self.octets.split_at(*length as usize);
+        let length = usize::from(*length);
+        let (row, last) = self.row.split_at(self.row.len() - (length + 1));
         self.lengths = lengths;
-        self.octets = octets;
-        Some(label)
+        self.row = row;
+        Some(&last[..length])
     }
 }
 
@@ -52,10 +54,10 @@ impl<'a> DoubleEndedIterator for Labels<'a> {
 
     fn next_back(&mut self) -> Option<&'a [u8]> {
         let (length, lengths) = self.lengths.split_last()?;
-        let start = self.octets.len() - *length as usize;
-        let (octets, label) = self.octets.split_at(start);
+        let length = usize::from(*length);
+        let (first, row) = self.row.split_at(length + 1);
         self.lengths = lengths;
-        self.octets = octets;
-        Some(label)
+        self.row = row;
+        Some(&first[..length])
     }
 }

@@ -8,7 +8,7 @@ ghost use Rattle.dns_names.specs.Faults.{Reads};
 ghost use Rattle.dns_names.specs.Labels.{IsName, IsWithin, IsBelow, is_within, parent_of, labels_of};
 ghost use Rattle.dns_names.specs.Order.{canonical_cmp, same_name, canonical_total, same_name_equiv, same_name_partial, canonical_partial};
 ghost use Rattle.dns_names.specs.Keys.{key_of, key_end, ancestor_key, OrdersNames, IsKeyOfOne, RangesOver, BeginsAll, BeginsAtAncestor};
-ghost use Rattle.dns_names.specs.Rows.{AreRows, name_in};
+ghost use Rattle.dns_names.specs.Rows.{AreRows, IsPlain, name_in};
 ghost use Rattle.dns_names.specs.Spelling.{SpellsAbsolute, SpellsRelative, name_text};
 ghost use Rattle.dns_names.specs.Reading.{absolute_name, ended_name, relative_name, placed_name};
 
@@ -16,7 +16,9 @@ use crate::fault::NameFault;
 use crate::labels::Labels;
 use crate::octets::cmp_octets;
 use crate::pieces::PieceRows;
-use crate::rows::{Rows, behind_label, key_in, push_key};
+use crate::rows::{
+    ESCAPED, NewLabels, Rows, behind_label, escapes, push_key, push_row, stand_in_keys,
+};
 use std::alloc::{AllocError, Global};
 use std::cmp::Ordering;
 use std::marker::Model;
@@ -60,17 +62,60 @@ impl Name {
         requires name { IsName (labels_of lengths.now octets.now ++ tail.now) }
         ensures { IfOk result (λ name. name ≡ labels_of lengths.now octets.now ++ tail.now) }
     {
-        let labels = lengths.len() + tail.lengths.len();
-        let total = octets.len() + tail.octets.len();
-        let mut memory = Vec::with_capacity(alloc, 2 + 2 * (labels + total))?;
-        memory.push(labels as u8)?;
+        if stand_in_keys(octets) && tail.row == tail.key {
+            return Name::joined_plain(alloc, lengths, octets, tail);
+        }
+        Name::joined_escaped(alloc, lengths, octets, tail)
+    }
+
+    /// The same, where the name has no octet 0 or 1. Its row is its key, and stands once.
+    fn joined_plain(
+        alloc: Global,
+        lengths: &[u8],
+        octets: &[u8],
+        tail: &Rows,
+    ) -> Result<Name, AllocError>
+        requires whole { sum lengths.now ≡ length octets.now }
+        requires name { IsName (labels_of lengths.now octets.now ++ tail.now) }
+        requires plain { IsPlain (labels_of lengths.now octets.now ++ tail.now) }
+        ensures { IfOk result (λ name. name ≡ labels_of lengths.now octets.now ++ tail.now) }
+    {
+        let count = lengths.len() + tail.lengths.len();
+        let total = tail.row.len() + octets.len() + lengths.len();
+        let mut memory = Vec::with_capacity(alloc, 1 + count + total)?;
+        memory.push(count as u8)?;
+        memory.extend_from_slice(lengths)?;
+        memory.extend_from_slice(tail.lengths)?;
+        memory.extend_from_slice(tail.row)?;
+        push_row(&mut memory, NewLabels::of_rows(lengths, octets))?;
+        Ok(Name { memory })
+    }
+
+    /// The same, where the name has an octet 0 or 1. Its row stands beside its key.
+    fn joined_escaped(
+        alloc: Global,
+        lengths: &[u8],
+        octets: &[u8],
+        tail: &Rows,
+    ) -> Result<Name, AllocError>
+        requires whole { sum lengths.now ≡ length octets.now }
+        requires name { IsName (labels_of lengths.now octets.now ++ tail.now) }
+        ensures { IfOk result (λ name. name ≡ labels_of lengths.now octets.now ++ tail.now) }
+    {
+        let count = lengths.len() + tail.lengths.len();
+        let added = octets.len() + lengths.len();
+        let total = tail.row.len() + added;
+        let key_total = tail.key.len() + added + escapes(octets);
+        let mut memory = Vec::with_capacity(alloc, 3 + count + total + key_total)?;
+        memory.push(ESCAPED)?;
+        memory.push(count as u8)?;
         memory.push(total as u8)?;
         memory.extend_from_slice(lengths)?;
         memory.extend_from_slice(tail.lengths)?;
-        memory.extend_from_slice(octets)?;
-        memory.extend_from_slice(tail.octets)?;
+        memory.extend_from_slice(tail.row)?;
+        push_row(&mut memory, NewLabels::of_rows(lengths, octets))?;
         memory.extend_from_slice(tail.key)?;
-        push_key(&mut memory, Labels::of_rows(lengths, octets))?;
+        push_key(&mut memory, NewLabels::of_rows(lengths, octets))?;
         Ok(Name { memory })
     }
 
@@ -164,7 +209,7 @@ impl Name {
         requires name { ArePlaced pieces.now tail.now }
         ensures { (given : Pieces) → AreKept pieces.now given → AreEnded given → Reads (λ name. name) result (fitting (given.ended ++ tail.now)) }
     {
-        let room = NAME_MAX - 1 - tail.octets.len() - tail.lengths.len();
+        let room = NAME_MAX - 1 - tail.row.len();
         if pieces.total + pieces.ended > room {
             return Err(NameFault::NameTooLong);
         }
@@ -200,7 +245,7 @@ impl Name {
         ensures name { IsName self.now }
     {
         let rows = self.rows();
-        Labels::of_rows(rows.lengths, rows.octets)
+        Labels::of_row(rows.lengths, rows.row)
     }
 
     /// The key: for the labels from the right to the left their octets, with 0 as 1 1 and 1 as 1 2, and then an octet 0. The
@@ -215,7 +260,7 @@ impl Name {
         ensures range { RangesOver self.now }
         ensures begins { BeginsAll self.now }
     {
-        key_in(&self.memory)
+        self.rows().key
     }
 
     /// The key of the name that the last `labels` labels are, which is a front of `key()`; `None` where there are not so
@@ -276,8 +321,11 @@ impl Name {
         let Some((length, lengths)) = rows.lengths.split_first() else {
             return Ok(None);
         };
-        let octets = &rows.octets[usize::from(*length)..];
-        let parent = Name::joined(alloc, lengths, octets, &Rows::of_root())?;
+        let row = &rows.row[..rows.row.len() - (usize::from(*length) + 1)];
+        let Some(key) = self.ancestor_key(lengths.len()) else {
+            unreachable!();
+        };
+        let parent = Name::joined(alloc, &[], &[], &Rows { lengths, row, key })?;
         Ok(Some(parent))
     }
 

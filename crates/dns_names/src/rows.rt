@@ -1,30 +1,33 @@
 //! How a name stands in memory.
 
-ghost use Rattle.std.specs.Prelude.{◌≡◌, ◌++◌, [], List, ℕ, OnOk, nat_lt};
+ghost use Rattle.std.specs.Prelude.{◌≡◌, ◌≤◌, ◌++◌, [], ◌∷◌, List, ℕ, IfNone, IfSome, OnOk, length, nat_lt, sum};
 ghost use Rattle.std.specs.List.{list_all};
 ghost use Rattle.std.specs.Option.{option_copied};
 ghost use Rattle.dns_names.specs.Labels.{labels_of};
 ghost use Rattle.dns_names.specs.Keys.{label_front, key_of};
-ghost use Rattle.dns_names.specs.Rows.{AreRows, AreNameRows, name_in, behind_label};
+ghost use Rattle.dns_names.specs.Rows.{AreRows, AreRowsOf, AreEscaped, row_of, labels_in, name_in, escaped_in, behind_label};
 
-use crate::labels::Labels;
 use std::alloc::AllocError;
 use std::marker::Model;
 
-/// The lengths of a name's labels, their octets, and the name's key.
+/// What stands in place of the number of labels in a name with an octet 0 or 1, which has a row beside its key.
+pub(crate) const ESCAPED: u8 = 255;
+
+/// The lengths of a name's labels, the labels from the right to the left with an octet 0 behind each, and the name's key. The
+/// last two are one in a name without an octet 0 or 1.
 #[derive(Drop)]
 pub(crate) struct Rows<'a> {
     pub lengths: &'a [u8],
-    pub octets: &'a [u8],
+    pub row: &'a [u8],
     pub key: &'a [u8],
 }
 
 impl<'a> Model for Rows<'a> {
     ghost Value = { List (List ℕ) };
 
-    ghost view = { λ r. labels_of r.lengths.now r.octets.now };
+    ghost view = { λ r. labels_in r.lengths.now r.row.now };
 
-    ghost invariant = { λ r. AreNameRows r.lengths.now r.octets.now r.key.now };
+    ghost invariant = { λ r. AreRowsOf (labels_in r.lengths.now r.row.now) r.lengths.now r.row.now r.key.now };
 }
 
 impl<'a> Rows<'a> {
@@ -34,38 +37,81 @@ impl<'a> Rows<'a> {
     {
         Rows {
             lengths: &[],
-            octets: &[],
+            row: &[],
             key: &[],
         }
     }
 
-    /// Those that stand in memory: behind two octets, which say how many labels there are and how many octets they have.
+    /// Those that stand in memory: behind an octet, which says how many labels there are, or behind three, which say that the
+    /// key has escapes, how many labels there are and how long their row is.
     pub fn cut(memory: &'a [u8]) -> Rows<'a>
         requires { AreRows memory.now }
         ensures { result ≡ name_in memory.now }
+    {
+        let [count, rest @ ..] = memory else {
+            unreachable!();
+        };
+        if *count == ESCAPED {
+            return Rows::cut_escaped(rest);
+        }
+        let (lengths, key) = rest.split_at(usize::from(*count));
+        Rows {
+            lengths,
+            row: key,
+            key,
+        }
+    }
+
+    /// Those of a name with an octet 0 or 1.
+    fn cut_escaped(memory: &'a [u8]) -> Rows<'a>
+        requires { AreEscaped memory.now }
+        ensures { result ≡ escaped_in memory.now }
     {
         let [count, total, rest @ ..] = memory else {
             unreachable!();
         };
         let (lengths, rest) = rest.split_at(usize::from(*count));
-        let (octets, key) = rest.split_at(usize::from(*total));
-        Rows {
-            lengths,
-            octets,
-            key,
-        }
+        let (row, key) = rest.split_at(usize::from(*total));
+        Rows { lengths, row, key }
     }
 }
 
-/// The key that stands in the memory of a name, behind the lengths and the octets of its labels.
-pub(crate) fn key_in(memory: &[u8]) -> &[u8]
-    requires { AreRows memory.now }
-    ensures { result.now ≡ key_of (name_in memory.now) }
-{
-    let [count, total, rest @ ..] = memory else {
-        unreachable!();
-    };
-    &rest[usize::from(*count) + usize::from(*total)..]
+/// Labels whose octets stand leftmost first, as a text gives them.
+#[derive(Drop)]
+pub(crate) struct NewLabels<'a> {
+    lengths: &'a [u8],
+    octets: &'a [u8],
+}
+
+impl<'a> Model for NewLabels<'a> {
+    ghost Value = { List (List ℕ) };
+
+    ghost view = { λ l. labels_of l.lengths.now l.octets.now };
+
+    ghost invariant = { λ l. sum l.lengths.now ≡ length l.octets.now };
+}
+
+impl<'a> NewLabels<'a> {
+    /// The labels that a row of octets has when it is cut into pieces of these lengths.
+    pub fn of_rows(lengths: &'a [u8], octets: &'a [u8]) -> NewLabels<'a>
+        requires { sum lengths.now ≡ length octets.now }
+        ensures { result ≡ labels_of lengths.now octets.now }
+    {
+        NewLabels { lengths, octets }
+    }
+
+    /// Takes the last label off.
+    fn take_last(&mut self) -> Option<&'a [u8]>
+        ensures none { IfNone result (self.old ≡ []) }
+        ensures some { IfSome result (λ label. self.old ≡ self.new ++ label.now ∷ []) }
+    {
+        let (length, lengths) = self.lengths.split_last()?;
+        let start = self.octets.len() - usize::from(*length);
+        let (octets, label) = self.octets.split_at(start);
+        self.lengths = lengths;
+        self.octets = octets;
+        Some(label)
+    }
 }
 
 /// What stands behind the key of the first label, where there is one.
@@ -82,18 +128,25 @@ pub(crate) fn behind_label(key: &[u8]) -> Option<&[u8]>
     None
 }
 
-/// Whether all octets of a label stand for themselves in keys.
-fn stands_in_keys(label: &[u8]) -> bool
-    ensures { result ≡ list_all (λ o. nat_lt 1 o) label.now }
+/// Whether octets of labels all stand for themselves in keys.
+pub(crate) fn stand_in_keys(octets: &[u8]) -> bool
+    ensures { result ≡ list_all (λ o. nat_lt 1 o) octets.now }
 {
-    label.iter().all(|octet| *octet > 1)
+    octets.iter().all(|octet| *octet > 1)
+}
+
+/// How many octets of labels take two in keys.
+pub(crate) fn escapes(octets: &[u8]) -> usize
+    ensures { result ≤ length octets.now }
+{
+    octets.iter().filter(|octet| **octet <= 1).count()
 }
 
 /// Puts the octets of a label behind a key. The only error is want of memory.
 fn push_label(key: &mut Vec<u8>, label: &[u8]) -> Result<(), AllocError>
     ensures { OnOk result (key.new.items ≡ key.old.items ++ label_front label.now) }
 {
-    if stands_in_keys(label) {
+    if stand_in_keys(label) {
         key.extend_from_slice(label)?;
         return Ok(());
     }
@@ -108,13 +161,25 @@ fn push_label(key: &mut Vec<u8>, label: &[u8]) -> Result<(), AllocError>
 }
 
 /// Puts the key of labels behind that of a name that they stand before. The only error is want of memory.
-pub(crate) fn push_key(key: &mut Vec<u8>, labels: Labels) -> Result<(), AllocError>
+pub(crate) fn push_key(key: &mut Vec<u8>, labels: NewLabels) -> Result<(), AllocError>
     ensures { OnOk result (key.new.items ≡ key.old.items ++ key_of labels.entry) }
 {
     let mut labels = labels;
-    while let Some(label) = labels.next_back() {
+    while let Some(label) = labels.take_last() {
         push_label(key, label)?;
         key.push(0)?;
+    }
+    Ok(())
+}
+
+/// Puts the row of labels behind that of a name that they stand before. The only error is want of memory.
+pub(crate) fn push_row(row: &mut Vec<u8>, labels: NewLabels) -> Result<(), AllocError>
+    ensures { OnOk result (row.new.items ≡ row.old.items ++ row_of labels.entry) }
+{
+    let mut labels = labels;
+    while let Some(label) = labels.take_last() {
+        row.extend_from_slice(label)?;
+        row.push(0)?;
     }
     Ok(())
 }

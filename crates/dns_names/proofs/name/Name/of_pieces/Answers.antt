@@ -1,20 +1,17 @@
 use Rattle.std.proofs.Common.{◌++◌, List, ℕ, Ok, sym, ap, ◌∙◌, arith}
-use Rattle.dns_names.proofs.RowLemmas.{wire_len-name, wire_len-rows}
+use Rattle.dns_names.proofs.RowLemmas.{wire_len-name, length-held}
 use Rattle.dns_names.proofs.KeptLemmas.{wire_len-kept, ended_fits, kept_whole, kept_labels}
 use Rattle.dns_names.proofs.PieceLaws.{fitting_again}
 use Rattle.dns_names.proofs.PlacedLemmas.{too_long}
 use Rattle.dns_names.proofs.name.Name.of_pieces.Goals as goal
 
 pub overflow_sub-room-2 : goal.overflow_sub-room-2
-overflow_sub-room-2 c = omega (arith, wire_len-name c.args.tail.now, wire_len-rows _ _ _ c.args.tail.now c.tail.invariant c.tail.view_is, c.requires.tail.short)
-
-pub overflow_sub-room-3 : goal.overflow_sub-room-3
-overflow_sub-room-3 c = omega (arith, wire_len-name c.args.tail.now, wire_len-rows _ _ _ c.args.tail.now c.tail.invariant c.tail.view_is, c.requires.tail.short)
+overflow_sub-room-2 c = omega (arith, wire_len-name c.args.tail.now, length-held _ _ _ c.args.tail.now c.tail.invariant c.tail.view_is, c.requires.tail.short)
 
 pub returns-then-pieces-room : goal.returns-then-pieces-room
 returns-then-pieces-room c = λ given kept ends.
     let tail = c.args.tail.now in
-    too_long (given.ended ++ tail) (omega (arith, wire_len-kept c.args.pieces.now given kept ends tail, wire_len-name tail, wire_len-rows _ _ _ tail c.tail.invariant c.tail.view_is, c.requires.tail.short, c.if-pieces-room.true))
+    too_long (given.ended ++ tail) (omega (arith, wire_len-kept c.args.pieces.now given kept ends tail, wire_len-name tail, length-held _ _ _ tail c.tail.invariant c.tail.view_is, c.requires.tail.short, c.if-pieces-room.true))
 
 pub shared_ref_as_front-lengths : goal.shared_ref_as_front-lengths
 shared_ref_as_front-lengths c =
@@ -32,11 +29,11 @@ joined-requires-clause-name c =
     let tail = c.args.tail.now in
     let labels = kept_labels c.args.pieces.now p.0 p.1 p.2 (omega (arith, c.if-pieces-room.false)) in
     rw labels
-    (p.3 (omega (arith, wire_len-kept c.args.pieces.now p.0 p.1 p.2 tail, wire_len-name tail, wire_len-rows _ _ _ tail c.tail.invariant c.tail.view_is, c.requires.tail.short, c.if-pieces-room.false)))
+    (p.3 (omega (arith, wire_len-kept c.args.pieces.now p.0 p.1 p.2 tail, wire_len-name tail, length-held _ _ _ tail c.tail.invariant c.tail.view_is, c.requires.tail.short, c.if-pieces-room.false)))
 
 pub returns : goal.returns
 returns c = λ given kept ends.
     let tail = c.args.tail.now in
     let labels = kept_labels c.args.pieces.now given kept ends (omega (arith, c.if-pieces-room.false)) in
-    let fits = fitting_again (given.ended ++ tail) (omega (arith, wire_len-kept c.args.pieces.now given kept ends tail, wire_len-name tail, wire_len-rows _ _ _ tail c.tail.invariant c.tail.view_is, c.requires.tail.short, c.if-pieces-room.false)) in
+    let fits = fitting_again (given.ended ++ tail) (omega (arith, wire_len-kept c.args.pieces.now given kept ends tail, wire_len-name tail, length-held _ _ _ tail c.tail.invariant c.tail.view_is, c.requires.tail.short, c.if-pieces-room.false)) in
     fits ∙ ap (λ (n : List (List ℕ)). Ok n) (sym (c.in_ok-joined.ensures ∙ ap (λ (ls : List (List ℕ)). ls ++ tail) labels))
