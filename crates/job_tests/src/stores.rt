@@ -140,6 +140,17 @@ fn zones_are_imported_once_and_then_replaced(rt: HostRuntime) -> Result<(), Fail
     Ok(())
 }
 
+/// The octets 16 and 17 of an SQLite file are the size of its pages.
+#[test]
+fn the_pages_of_a_new_store_are_small(rt: HostRuntime) -> Result<(), Fail> {
+    let path = fresh_path(&rt, "pages")?;
+    let _told = imported(&rt, stored(&path, "example.org."), Existing::Kept, ZONE)?;
+    let octets = fs::read(&rt, &path)?;
+    assert_eq!(rt; octets.get(16..18), Some(&[4, 0][..]));
+    fs::remove_file(&rt, &path)?;
+    Ok(())
+}
+
 #[test]
 fn no_store_is_made_where_none_is_asked_for(rt: HostRuntime) -> Result<(), Fail> {
     let path = fresh_path(&rt, "none")?;

@@ -4,6 +4,7 @@ ghost use Rattle.std.specs.Prelude.{◌≡◌, ◌<◌, false, IfOk};
 
 use crate::line_fault::LineFault;
 use crate::refusal::Refusal;
+use office_files::connect_at;
 use office_store::{Refused, SqlTable, StoreFault};
 use sqlite::{Connection, Error, ErrorCode, File, FileStore, Unknown};
 use std::alloc::Global;
@@ -21,7 +22,7 @@ const CANNOT_OPEN: StoreFault = StoreFault::Store(Error::SqliteFailure(ErrorCode
 fn connected(rt: &HostRuntime, path: &str) -> Result<Connection<FileStore<File>>, LineFault>
     ensures { IfOk result (λ conn. conn.in_transaction ≡ false) }
 {
-    match Connection::open(rt, path) {
+    match connect_at(rt, path, Unknown) {
         Ok(conn) => Ok(conn),
         Err(error) => Err(LineFault::from(StoreFault::from(error))),
     }

@@ -1,5 +1,6 @@
 //! Stores in files of memory.
 
+use office_files::connect;
 use sqlite::{Connection, FileStore, Files, Options};
 use sqlite_disk::{Disk, Memory};
 use std::alloc::Global;
@@ -24,7 +25,7 @@ pub(crate) fn opened<D: Disk + Drop>(
     if !files.db.may_be_used() {
         return Err(files);
     }
-    match Connection::open_files(alloc, files, options()) {
+    match connect(alloc, files, options()) {
         Ok(conn) => Ok(conn),
         Err((_, left)) => Err(left.into_files()),
     }

@@ -1,0 +1,37 @@
+use Rattle.std.proofs.Common.{arith, ap, sym, subst, ◌∙◌}
+use Rattle.std.proofs.lemmas.Result.{err_from_is_err_and}
+use Rattle.sqlite_trees.proofs.Doubt.{clean_of as sure, no_doubt}
+use Rattle.sqlite_store.specs.FileStore.{view}
+use Rattle.sqlite.specs.Files.{IsEmpty}
+use Rattle.office_files.proofs.BlankLaws.{blank_holds_none}
+use Rattle.office_files.proofs.files.new.Goals as goal
+
+pub over-requires : goal.over-requires
+over-requires g c none = (c.in_ok-store.ensures.made (sure _ none)).fresh
+
+pub returns-in-Ok-clause-shows : goal.returns-in-Ok-clause-shows
+returns-in-Ok-clause-shows g c now =
+    let store = c.in_ok-store.store in
+    let made = c.in_ok-store.ensures.made (sure (view store).is_clean (omega (arith, c.in-Ok.ensures.clean))) in
+    let trees = sym (ap (λ d. d.trees) (c.in-Ok.ensures.opens now).0.clean) ∙ c.in-Ok.ensures.trees now in
+    record {
+      honest = made.honest;
+      shows = record {
+        held = λ db holds. absurd (blank_holds_none _ db holds (c.requires.blank made.honest));
+        empty = λ _. subst IsEmpty (sym trees) made.empty;
+      };
+    }
+
+pub returns-in-Ok-clause-guarded : goal.returns-in-Ok-clause-guarded
+returns-in-Ok-clause-guarded g c now =
+    c.in-Ok.ensures.shield (c.in_ok-store.ensures.guarded (sure (view c.in_ok-store.store).is_clean (omega (arith, c.in-Ok.ensures.clean))))
+
+pub returns-in_err-store-clause-honest : goal.returns-in_err-store-clause-honest
+returns-in_err-store-clause-honest g c =
+    let p = err_from_is_err_and c.from_residual.result c.from_residual.ensures.1 in
+    rw (p.1, p.2) (c.in_err-store.ensures.honest)
+
+pub returns-in-Err-clause-honest : goal.returns-in-Err-clause-honest
+returns-in-Err-clause-honest g c late =
+    let now = no_doubt _ late in
+    (c.in_ok-store.ensures.made (sure (view c.in_ok-store.store).is_clean (omega (arith, c.in-Err.ensures.unharmed.clean)))).honest
