@@ -1,5 +1,5 @@
 -- Files that hold no database, and what a connection to files shows.
-use Rattle.std.specs.Prelude.{◌≡◌, ℕ}
+use Rattle.std.specs.Prelude.{◌≡◌, ◌≤◌, ℕ}
 use Rattle.sqlite_disk.specs.declared.Disk.{Ghosts}
 use Rattle.sqlite_disk.specs.declared.Files.{Files}
 use Rattle.sqlite_wal.specs.Recovery.{Image}
@@ -7,8 +7,8 @@ use Rattle.sqlite_wal.specs.Reads.{AreClean}
 use Rattle.sqlite_pool.specs.Opening.{IsBlankFile}
 use Rattle.sqlite_trees.specs.Tree.{Trees}
 use Rattle.sqlite_store.specs.declared.store.FileStore.{FileStore}
-use Rattle.sqlite_store.specs.FileStore.{view}
-use Rattle.sqlite.specs.Files.{HoldsDatabase, IsEmpty, file_state, image_of}
+use Rattle.sqlite_store.specs.FileStore.{faults, view}
+use Rattle.sqlite.specs.Files.{HoldsDatabase, IsEmpty, faults_of, file_state, image_of}
 use Rattle.sqlite.specs.Held.{Held}
 use Rattle.sqlite.specs.State.{State}
 use Rattle.sqlite.specs.Steps.{IsFresh}
@@ -36,4 +36,5 @@ module _ {D : Type 0} {g : Ghosts D} where
   pub record IsMadeIn (files : Files D) (store : FileStore D g) : Type 0 where
     pub honest : AreClean g files.log files.db
     pub fresh : IsFresh (view store)
+    pub counts : faults_of g files ≤ faults store
     pub empty : IsEmpty (view store).trees

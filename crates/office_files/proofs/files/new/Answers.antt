@@ -1,9 +1,13 @@
 use Rattle.std.proofs.Common.{arith, ap, sym, subst, ◌∙◌}
+use Rattle.std.proofs.Common.{le_refl}
 use Rattle.std.proofs.lemmas.Result.{err_from_is_err_and}
+use Rattle.sqlite_trees.specs.declared.error.StoreError.TheVariants.{Io}
 use Rattle.sqlite_trees.proofs.Doubt.{clean_of as sure, no_doubt}
 use Rattle.sqlite_store.specs.FileStore.{view}
 use Rattle.sqlite.specs.Files.{IsEmpty}
-use Rattle.office_files.proofs.BlankLaws.{blank_holds_none}
+use Rattle.sqlite.proofs.FileLemmas.{from_connection}
+use Rattle.sqlite.proofs.ListingLemmas.{empty_is_sound}
+use Rattle.office_files.proofs.BlankLaws.{blank_holds_none, fails_before}
 use Rattle.office_files.proofs.files.new.Goals as goal
 
 pub over-requires : goal.over-requires
@@ -17,7 +21,7 @@ returns-in-Ok-clause-shows g c now =
     record {
       honest = made.honest;
       shows = record {
-        held = λ db holds. absurd (blank_holds_none _ db holds (c.requires.blank made.honest));
+        held = λ db holds. absurd (blank_holds_none _ _ db (omega (arith, c.args.size.smallest)) holds (c.requires.blank made.honest));
         empty = λ _. subst IsEmpty (sym trees) made.empty;
       };
     }
@@ -35,3 +39,14 @@ pub returns-in-Err-clause-honest : goal.returns-in-Err-clause-honest
 returns-in-Err-clause-honest g c late =
     let now = no_doubt _ late in
     (c.in_ok-store.ensures.made (sure (view c.in_ok-store.store).is_clean (omega (arith, c.in-Err.ensures.unharmed.clean)))).honest
+
+pub returns-in_err-store-clause-cause : goal.returns-in_err-store-clause-cause
+returns-in_err-store-clause-cause g c =
+    let p = err_from_is_err_and c.from_residual.result c.from_residual.ensures.1 in
+    rw (p.1, p.2) (λ clean. fails_before Io _ _ _ _ _ _ _ (le_refl _) (λ _. c.requires.blank (c.in_err-store.ensures.honest clean)) (c.in_err-store.ensures.cause clean))
+
+pub returns-in-Err-clause-cause : goal.returns-in-Err-clause-cause
+returns-in-Err-clause-cause g c late =
+    let now = no_doubt _ late in
+    let made = c.in_ok-store.ensures.made (sure (view c.in_ok-store.store).is_clean (omega (arith, c.in-Err.ensures.unharmed.clean))) in
+    rw c.blurred.ensures.value (from_connection _ _ _ _ _ c.in-Err.error made.counts c.in-Err.ensures.unharmed.counts (λ _. (_, empty_is_sound _ made.empty.1)) (c.in-Err.ensures.err now))
