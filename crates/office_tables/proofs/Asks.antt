@@ -1,12 +1,12 @@
 -- A query inside a transaction keeps what was committed, whatever its text means.
 use Rattle.office_tables.specs.Holds.{Keeps}
 use Rattle.office_tables.proofs.Commits.{unchanged_keeps_all, rolled_keeps_all}
-use Rattle.std.proofs.Common.{zero, suc, ◌+◌, ◌<◌, ◌++◌, ◌∷◌, [], length, map, take, get_or, arith, ◌≡◌, ◌⊎◌, inl, inr, ℕ, Bool, true, false, cond, List, Ok, Err, Result, IfOk, OnOk, OnErr, IfErr, IsTrue, Option, Some, None, refl, sym, ap, subst, ◌∙◌}
+use Rattle.std.proofs.Common.{◌⊎◌, inl, inr, ℕ, List, Ok, Err, Result, IfOk, IfErr, IsTrue, Option, Some, None}
 use Rattle.sqlite_value.specs.Order.{Row}
 use Rattle.sqlite_schema.specs.declared.command.Returning.{Returning}
 use Rattle.sqlite_resolve.specs.declared.compiled.Compiled.{Compiled}
 use Rattle.sqlite.specs.declared.error.Error.{Error}
-use Rattle.sqlite.specs.State.{State, HasCleanDisk, KeepsCommit, Shows, IsUnchanged, IsRolledBack, IsNotRun, FailsToQuery, FailsToShow, IsTooLate, ShowsRows, Shown, Fails, RunsCommand}
+use Rattle.sqlite.specs.State.{State, KeepsCommit, IsUnchanged, IsRolledBack, IsNotRun, FailsToQuery, FailsToShow, IsTooLate, ShowsRows, Shown, RunsCommand}
 
 module _ (old new : State) where
   unchanged_keeps : IsUnchanged old new → KeepsCommit old new

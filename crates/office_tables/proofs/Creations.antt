@@ -1,5 +1,5 @@
 -- What makes the tables.
-use Rattle.std.proofs.Common.{◌≡◌, ◌⊎◌, inl, inr, ℕ, ℤ, false, List, [], ◌∷◌, slice_get, Some, None, Ok, Err, Result, refl, sym, ap, subst, ◌∙◌}
+use Rattle.std.proofs.Common.{◌≡◌, ◌⊎◌, inl, inr, ℕ, false, List, [], ◌∷◌, slice_get, Some, None, Ok, Err, Result, refl, sym, ap, subst, ◌∙◌}
 use Rattle.std.proofs.lemmas.List.Sorted.{IsPermutation-refl}
 use Rattle.sqlite_value.specs.Order.{Row}
 use Rattle.sqlite_trees.specs.Tree.{Trees}
@@ -14,10 +14,9 @@ use Rattle.sqlite.specs.Listing.{understood}
 use Rattle.sqlite.specs.Does.{Tally, Does, lacks_sequence}
 use Rattle.sqlite.specs.State.{State, mode_of, Writes, Executes}
 use Rattle.sqlite.proofs.Callers.{IsPlain, command_of, statement_of, runs_as}
-use Rattle.office_tables.specs.Rows.{RowsOf}
-use Rattle.office_tables.specs.Tables.{keyed, meta_columns, zones_columns, records_columns, receipts_columns, changes_columns, records as the_records, records_by_key, no_schema, with_meta, with_zones, with_records, with_records_by_key, with_receipts, office_schema}
+use Rattle.office_tables.specs.Tables.{keyed, meta_columns, zones_columns, records_columns, receipts_columns, changes_columns, records as the_records, records_by_key, no_schema, with_meta, with_zones, with_records, with_records_by_key, with_receipts}
 use Rattle.office_tables.specs.Stores.{Stores}
-use Rattle.office_tables.specs.Holds.{AreRows, Reads, AreEmpty}
+use Rattle.office_tables.specs.Holds.{Reads, AreEmpty}
 use Rattle.office_tables.proofs.Texts as the
 
 went : {B E R : Type 0} {b : B} {Stops : E → Type 0} → ((stop : E) × Stops stop × (Ok b ≡ Err stop)) ⊎ R → R

@@ -1,31 +1,28 @@
 -- What one INSERT, DELETE or SELECT does to a table of the office.
-use Rattle.std.proofs.Common.{◌≡◌, ◌≢◌, ◌⊎◌, inl, inr, ℕ, ◌/◌, ℤ, pos, negsuc, Bool, true, false, not, cond, ◌&&◌, IsTrue, List, [], ◌∷◌, ◌++◌, map, filter, drop, flat_map, length, slice_get, Option, Some, None, Ok, Err, Result, refl, sym, ap, subst, ◌∙◌, IsPermutation, append-nil}
+use Rattle.std.proofs.Common.{◌≡◌, ◌≢◌, ◌⊎◌, inl, inr, ℕ, ◌/◌, Bool, true, false, not, cond, List, [], ◌∷◌, ◌++◌, map, filter, drop, flat_map, length, slice_get, Option, Some, None, Ok, Err, Result, refl, sym, ap, subst, ◌∙◌, IsPermutation, append-nil, append_assoc}
 use Rattle.std.specs.List.{AllByRecursion, list_all}
 use Rattle.std.proofs.lemmas.Bool.{and_parts, not-true}
-use Rattle.std.proofs.lemmas.List.Sorted.{IsPermutation-refl, IsPermutation-trans, IsPermutation-map, IsPermutation-sym}
-use Rattle.sqlite_value.specs.declared.value.Value.{Value}
-use Rattle.sqlite_value.specs.declared.value.Value.TheVariants.{Int, Null, Text}
+use Rattle.std.proofs.lemmas.List.Sorted.{IsPermutation-trans, IsPermutation-map}
+use Rattle.sqlite_value.specs.declared.value.Value.TheVariants.{Int, Null}
 use Rattle.sqlite_value.specs.Order.{Row}
 use Rattle.sqlite_trees.specs.Tree.{Trees, rowid, put_row}
 use Rattle.sqlite_trees.proofs.ListLemmas.{IsPermutation-filter}
 use Rattle.sqlite_schema.specs.declared.schema.Column.{Column}
 use Rattle.sqlite_schema.specs.declared.schema.Table.{Table}
-use Rattle.sqlite_schema.specs.declared.schema.Schema.{Schema}
-use Rattle.sqlite_schema.specs.declared.command.Command.{Command}
 use Rattle.sqlite_schema.specs.declared.command.Command.TheVariants.{Insert, Select, Delete}
 use Rattle.sqlite_schema.specs.declared.command.Source.TheVariants.{Values}
 use Rattle.sqlite_rules.specs.declared.error.Rowids.TheVariants.{Chosen, Given}
-use Rattle.sqlite_rules.specs.Edit.{Edit, Applies, id_in, is_taken, edit_of, edited, next_rowid, with_rowid, without_all, IsNoIndex}
+use Rattle.sqlite_rules.specs.Edit.{Edit, Applies, id_in, are_fresh, edit_of, next_rowid, numbered, put_all, without_all, IsNoIndex}
 use Rattle.sqlite_rules.specs.Cast.{cast_row}
 use Rattle.sqlite_rules.specs.Calls.{ids_of}
-use Rattle.sqlite_sql.specs.Term.{Term, lit, col, holds, eval_all}
-use Rattle.sqlite_sql.specs.Query.{Query, IsAnswer, Output, output, page, matches}
+use Rattle.sqlite_sql.specs.Term.{Term, col, holds, eval_all}
+use Rattle.sqlite_sql.specs.Query.{Query, IsAnswer, Output, output}
 use Rattle.sqlite_sql.specs.Program.{overlay}
 use Rattle.sqlite.specs.Listing.{understood, reads_listing}
 use Rattle.sqlite.specs.Effect.{Database, value_rows}
 use Rattle.sqlite.specs.Does.{Tally, Does}
 use Rattle.sqlite.specs.Rows.{Written}
-use Rattle.sqlite.specs.State.{State, mode_of, Writes, Shows, Executes, Shown}
+use Rattle.sqlite.specs.State.{State, mode_of, Shows, Executes, Shown}
 use Rattle.sqlite.proofs.Callers.{IsPlain, command_of, statement_of, runs_as, reads_as, one_step}
 use Rattle.sqlite.specs.declared.run.Mode.{Mode}
 use Rattle.sqlite_schema.specs.declared.schema.Keys.TheVariants.{Enforced}
@@ -33,6 +30,7 @@ use Rattle.office_tables.specs.Tables.{keyed, office_schema}
 use Rattle.office_tables.specs.Stores.{IsReadableRow, Stores}
 use Rattle.office_tables.proofs.Texts.{select_from}
 use Rattle.office_tables.proofs.Tree.{stores_put, stores_without}
+use Rattle.office_tables.proofs.Values.{stores_last}
 
 -- a part that gave a value did not stop on the way
 went : {B E R : Type 0} {b : B} {Stops : E → Type 0} → ((stop : E) × Stops stop × (Ok b ≡ Err stop)) ⊎ R → R
@@ -81,6 +79,19 @@ answered tree plainly filters project p params db rows test a =
     outputs [] = refl
     outputs (r ∷ rs) = ap (λ l. eval_all project (params ∷ r ∷ []) ∷ l) (outputs rs)
 
+-- rows of a table that chooses their rowids
+abbrev given_rowids : {X : Type 0} → (X → Row) → List Row → List X → List Row
+given_rowids f rows all = numbered Chosen rows (map (λ x. Null ∷ f x) all)
+
+puts : {X : Type 0} (f : X → Row) (rows : List Row) (ys all : List X) → AllByRecursion (λ x. IsReadableRow (f x)) all → are_fresh rows (given_rowids f rows all) ≡ true
+    → Stores rows (map f ys) → Stores (put_all rows (given_rowids f rows all)) (map f (ys ++ all))
+puts f rows ys [] readable fresh h = subst (λ l. Stores rows (map f l)) (sym (append-nil ys)) h
+puts f rows ys (x ∷ all) readable fresh h =
+    let new : Row = Int (next_rowid rows) ∷ f x in
+    let parts = and_parts _ _ fresh in
+    let more = stores_last f ys x (put_row new rows) (stores_put rows (map f ys) new h readable.0 refl (not-true _ parts.0)) in
+    subst (λ l. Stores (put_all (put_row new rows) (given_rowids f (put_row new rows) all)) (map f l)) (append_assoc ys (x ∷ []) all) (puts f (put_row new rows) (ys ++ x ∷ []) all readable.1 parts.1 more)
+
 module _ (name : List ℕ) (tree : ℕ) (columns : List Column) (key : List ℕ) (at : ℕ) (place : slice_get office_schema.tables at ≡ Some (keyed name tree columns key)) (plainly : (db : Trees) → overlay db [] tree ≡ db tree) where
   abbrev table : Table
   table = keyed name tree columns key
@@ -120,16 +131,18 @@ module _ (name : List ℕ) (tree : ℕ) (columns : List Column) (key : List ℕ)
         },
       )
 
-  put_one : (db : Trees) (body : Row) (xs : List Row) (after : Database) → IsReadableRow body → cast_row table (Null ∷ body) ≡ Null ∷ body → Stepped db (edit_of db table [] Chosen 0 ((Null ∷ body) ∷ [])) after
-      → Stores (db tree) xs → Stores (after.trees tree) (body ∷ xs)
-  put_one db body xs after readable casts it h =
-      let new : Row = Int (next_rowid (db tree)) ∷ body in
-      let edit : edit_of db table [] Chosen 0 ((Null ∷ body) ∷ []) ≡ record { table = table; gone = []; news = new ∷ [] } =
-      ap (λ r. let e : Edit = record { table = table; gone = []; news = with_rowid Chosen (db tree) r ∷ [] } in e) casts in
+  put_each : {X : Type 0} (db : Trees) (f : X → Row) (ys all : List X) (after : Database) → AllByRecursion (λ x. IsReadableRow (f x)) all → ((x : X) → cast_row table (Null ∷ f x) ≡ Null ∷ f x)
+      → Stepped db (edit_of db table [] Chosen 0 (map (λ x. Null ∷ f x) all)) after → Stores (db tree) (map f ys) → Stores (after.trees tree) (map f (ys ++ all))
+  put_each db f ys all after readable casts it h =
+      let edit : edit_of db table [] Chosen 0 (map (λ x. Null ∷ f x) all) ≡ record { table = table; gone = []; news = given_rowids f (db tree) all } =
+      ap (λ rows. let e : Edit = record { table = table; gone = []; news = numbered Chosen (db tree) rows } in e) (map_cast f casts all) in
       let step = subst (λ e. Applies office_schema Enforced db e it.next) edit it.applied in
-      let rows : after.trees tree ≡ put_row new (db tree) = ap (λ (d : Database). d.trees tree) it.is ∙ step.rows in
-      let free = not-true _ (and_parts _ _ step.fresh).0 in
-      rw rows (stores_put (db tree) xs new h readable refl free)
+      let rows : after.trees tree ≡ put_all (db tree) (given_rowids f (db tree) all) = ap (λ (d : Database). d.trees tree) it.is ∙ step.rows in
+      rw rows (puts f (db tree) ys all readable step.fresh h)
+    where
+      map_cast : {X : Type 0} (f : X → Row) → ((x : X) → cast_row table (Null ∷ f x) ≡ Null ∷ f x) → (all : List X) → map (λ s. cast_row table (drop 0 s)) (map (λ x. Null ∷ f x) all) ≡ map (λ x. Null ∷ f x) all
+      map_cast f casts [] = refl
+      map_cast f casts (x ∷ all) = rw (casts x, map_cast f casts all) refl
 
   take_some : (db : Trees) (p : Row → Bool) (rows xs : List Row) (after : Database) → IsPermutation (map (λ (r : Row). rowid r ∷ []) (filter (λ r. p (drop 1 r)) (db tree))) rows
       → Stepped db (edit_of db table (ids_of rows) Given 0 []) after → Stores (db tree) xs → Stores (after.trees tree) (filter (λ x. not (p x)) xs)
@@ -150,15 +163,15 @@ module _ (name : List ℕ) (tree : ℕ) (columns : List Column) (key : List ℕ)
       shown = shown;
     }
 
-    pub inserts : (terms : List Term) (width : ℕ) (body : Row) (xs : List Row) → IsReadableRow body → command_of (understood office_schema sql) ≡ Insert at (Values terms width)
-        → value_rows (params ++ []) width (length terms / width) terms ≡ (Null ∷ body) ∷ [] → cast_row table (Null ∷ body) ≡ Null ∷ body
-        → Stores (old.now.trees tree) xs → Rewrites old new tree × Stores (new.now.trees tree) (body ∷ xs)
-    inserts terms width body xs readable is one casts h =
+    pub inserts : {X : Type 0} (terms : List Term) (width : ℕ) (f : X → Row) (ys all : List X) → AllByRecursion (λ x. IsReadableRow (f x)) all → command_of (understood office_schema sql) ≡ Insert at (Values terms width)
+        → value_rows (params ++ []) width (length terms / width) terms ≡ map (λ x. Null ∷ f x) all → ((x : X) → cast_row table (Null ∷ f x) ≡ Null ∷ f x)
+        → Stores (old.now.trees tree) (map f ys) → Rewrites old new tree × Stores (new.now.trees tree) (map f (ys ++ all))
+    inserts terms width f ys all readable is these casts h =
         let w = runs_as sql params old new office_schema has (Insert at (Values terms width)) is plain count ran in
         let text = statement_of sql (understood office_schema sql) in
         let does = subst (λ s. Does old.step_limit (mode_of old) params (record old.now { schema = s }) text None (Insert at (Values terms width)) (Ok (w.tally, new.now))) has w.changed in
-        let it = subst (λ all. Stepped old.now.trees (edit_of old.now.trees table [] Chosen 0 all) new.now) one (insert_does old.step_limit params old.now.trees text terms width w.tally new.now does) in
-        (rewrites _ refl it w.shown, put_one old.now.trees body xs new.now readable casts it h)
+        let it = subst (λ rows. Stepped old.now.trees (edit_of old.now.trees table [] Chosen 0 rows) new.now) these (insert_does old.step_limit params old.now.trees text terms width w.tally new.now does) in
+        (rewrites _ refl it w.shown, put_each old.now.trees f ys all new.now readable casts it h)
 
     pub deletes : (filters : List Term) (p : Row → Bool) (xs : List Row) → command_of (understood office_schema sql) ≡ Delete at (record { lets = []; body = select_from tree filters (col 1 0 ∷ []) })
         → ((r : Row) → list_all (holds (params ∷ r ∷ [])) filters ≡ p (drop 1 r))

@@ -1,5 +1,5 @@
 -- The greatest number of a change of a zone.
-use Rattle.std.proofs.Common.{◌≡◌, ◌⊎◌, inl, inr, ℕ, zero, suc, ◌+◌, ◌<◌, ◌≤◌, ℤ, pos, Bool, true, false, cond, ◌||◌, List, [], ◌∷◌, ◌++◌, map, filter, drop, length, get_or, take, codes, slice_get, Option, Some, None, refl, sym, ap, subst, ◌∙◌, IsPermutation, bytes_eq, arith}
+use Rattle.std.proofs.Common.{◌≡◌, ℕ, suc, ◌+◌, ◌<◌, ◌≤◌, ℤ, Bool, true, false, cond, ◌||◌, List, [], ◌∷◌, map, filter, drop, length, get_or, take, slice_get, Option, Some, None, refl, sym, ap, subst, ◌∙◌, IsPermutation, bytes_eq, arith}
 use Rattle.std.specs.List.{AllByRecursion, list_any}
 use Rattle.std.specs.Ordering.{is_lt, int_cmp, int_eq}
 use Rattle.std.specs.List.Sorted.{IsSorted}
@@ -10,22 +10,18 @@ use Rattle.std.proofs.lemmas.Cmp.{int_eq_equiv}
 use Rattle.std.proofs.lemmas.List.Sorted.{sorted_far, IsPermutation-trans, IsPermutation-map, IsPermutation-sym, length_permutation, list_any-IsPermutation}
 use Rattle.sqlite_value.specs.declared.keys.Collation.TheVariants.{Binary}
 use Rattle.sqlite_value.specs.declared.keys.Key.{Key}
-use Rattle.sqlite_value.specs.declared.value.Value.{Value}
 use Rattle.sqlite_value.specs.declared.value.Value.TheVariants.{Int, Null, Text}
 use Rattle.sqlite_value.specs.Order.{Row, column, value_cmp}
 use Rattle.sqlite_value.proofs.OrderLemmas.{value_cmp-Int, then-Equal}
-use Rattle.sqlite_trees.specs.Tree.{Trees}
 use Rattle.sqlite_trees.proofs.ListLemmas.{pull_back, IsPermutation-filter, all-permutation}
 use Rattle.sqlite_schema.specs.declared.command.Command.TheVariants.{Select}
-use Rattle.sqlite_sql.specs.Program.{overlay}
-use Rattle.sqlite_sql.specs.Query.{IsAnswer, Output, output, output_cmp, key_cmp}
-use Rattle.sqlite_sql.specs.Term.{col}
+use Rattle.sqlite_sql.specs.Query.{Output, output, output_cmp}
 use Rattle.sqlite_sql.proofs.QueryLemmas.{key_cmp_total}
 use Rattle.sqlite.specs.State.{State, Shown}
 use Rattle.sqlite.proofs.Callers.{reads_as}
 use Rattle.office_tables.specs.Rows.{ChangeRowOf, RowsOf}
 use Rattle.office_tables.specs.Tables.{office_schema, stored_change, stored_version}
-use Rattle.office_tables.specs.Stores.{IsReadableRow, Stores}
+use Rattle.office_tables.specs.Stores.{IsReadableRow}
 use Rattle.office_tables.specs.Holds.{Reads}
 use Rattle.office_tables.specs.Questions.{changes_of, IsLast}
 use Rattle.office_tables.proofs.Texts.{by_first, last_text, last_query, last_is, last_plain}

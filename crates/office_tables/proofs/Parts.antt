@@ -1,10 +1,10 @@
 -- Parts of a transaction, and how they go on from one another.
-use Rattle.std.proofs.Common.{◌+◌, ◌<◌, ◌++◌, take, length, get_or, ◌≡◌, ◌⊎◌, inl, inr, ℕ, Bool, true, false, not, ◌&&◌, ◌||◌, List, [], ◌∷◌, Ok, Err, Result, OnOk, IsTrue, refl, sym, ap, subst, ◌∙◌, arith, filter, map, cond, append-nil, append_assoc}
+use Rattle.std.proofs.Common.{◌+◌, ◌<◌, ◌≤◌, ◌++◌, take, length, get_or, ◌≡◌, inl, ℕ, Bool, true, false, not, ◌&&◌, ◌||◌, List, [], ◌∷◌, Ok, Err, Result, OnOk, refl, sym, ap, subst, ◌∙◌, arith, filter, map, cond, append-nil, append_assoc}
 use Rattle.std.specs.List.{list_any}
 use Rattle.std.proofs.lemmas.List.{take_more}
 use Rattle.sqlite_value.specs.Order.{Row}
 use Rattle.sqlite.specs.declared.error.Error.{Error}
-use Rattle.sqlite.specs.State.{State, HasCleanDisk, Survives, KeepsCommit, Executes}
+use Rattle.sqlite.specs.State.{State, HasCleanDisk, KeepsCommit, Executes}
 use Rattle.sqlite.proofs.StateLemmas.{survives_then}
 use Rattle.office_tables.specs.Rows.{RecordRowOf, ReceiptRowOf, ChangeRowOf, RowsOf, WritingOf, same_key, without, versions_with, written}
 use Rattle.office_tables.specs.Holds.{Reads, Stays, Part}
@@ -50,7 +50,26 @@ part_then a b c f h one two =
 pub part_same : (a b : State) (f h : RowsOf → RowsOf) → ((x : RowsOf) → f x ≡ h x) → Part a b f → Part a b h
 part_same a b f h each it = record { stays = it.stays; reads = λ clean x there. subst (Reads b.now) (each x) (it.reads clean x there) }
 
+-- ---- the rows of a short slice
+
+pub the_two : {X : Type 0} (xs : List X) (a b : X) → 2 ≤ length xs → length xs < 3 → a ≡ get_or xs 0 a → b ≡ get_or xs 1 b → a ∷ b ∷ [] ≡ xs
+the_two [] a b low high one two = absurd (omega (arith, low))
+the_two (x ∷ []) a b low high one two = absurd (omega (arith, low))
+the_two (x ∷ y ∷ []) a b low high one two = rw (one, two) refl
+the_two (x ∷ y ∷ z ∷ xs) a b low high one two = absurd (omega (arith, high))
+
+pub the_three : {X : Type 0} (xs : List X) (a b c : X) → 3 ≤ length xs → length xs < 4 → a ≡ get_or xs 0 a → b ≡ get_or xs 1 b → c ≡ get_or xs 2 c → a ∷ b ∷ c ∷ [] ≡ xs
+the_three [] a b c low high one two three = absurd (omega (arith, low))
+the_three (x ∷ []) a b c low high one two three = absurd (omega (arith, low))
+the_three (x ∷ y ∷ []) a b c low high one two three = absurd (omega (arith, low))
+the_three (x ∷ y ∷ z ∷ []) a b c low high one two three = rw (one, two, three) refl
+the_three (x ∷ y ∷ z ∷ w ∷ xs) a b c low high one two three = absurd (omega (arith, high))
+
 -- ---- one row more
+
+pub each_append : {X : Type 0} (with : X → RowsOf → RowsOf) (xs ys : List X) (rows : RowsOf) → with_each with (xs ++ ys) rows ≡ with_each with ys (with_each with xs rows)
+each_append with [] ys rows = refl
+each_append with (x ∷ xs) ys rows = each_append with xs ys (with x rows)
 
 each_push : {X : Type 0} (with : X → RowsOf → RowsOf) (xs : List X) (x : X) (rows : RowsOf) → with_each with (xs ++ x ∷ []) rows ≡ with x (with_each with xs rows)
 each_push with [] x rows = refl

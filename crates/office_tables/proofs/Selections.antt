@@ -1,10 +1,9 @@
 -- What each question answers.
-use Rattle.std.proofs.Common.{◌≡◌, ◌≢◌, ℕ, ℤ, pos, Bool, true, false, not, ◌&&◌, List, [], ◌∷◌, map, filter, drop, cond, ◌||◌, ◌==◌, length, codes, slice_get, Some, refl, sym, ap, subst, ◌∙◌, IsPermutation, bytes_eq, arith}
+use Rattle.std.proofs.Common.{◌≡◌, ℕ, ℤ, Bool, true, false, not, ◌&&◌, List, [], ◌∷◌, map, filter, drop, cond, ◌||◌, ◌==◌, length, codes, slice_get, Some, refl, sym, ap, subst, ◌∙◌, IsPermutation, bytes_eq, arith}
 use Rattle.std.specs.List.{AllByRecursion, list_all, list_any}
 use Rattle.std.proofs.lemmas.Bool.Decides.{nat_tests}
 use Rattle.std.proofs.lemmas.List.Sorted.{length_permutation}
-use Rattle.sqlite_value.specs.declared.value.Value.{Value}
-use Rattle.sqlite_value.specs.declared.value.Value.TheVariants.{Int, Null, Text, Blob}
+use Rattle.sqlite_value.specs.declared.value.Value.TheVariants.{Null, Text, Blob}
 use Rattle.sqlite_value.specs.Order.{Row}
 use Rattle.sqlite_trees.specs.Tree.{Trees}
 use Rattle.sqlite_trees.proofs.ListLemmas.{pull_back, all-map, all-filter, all_from_map, all-permutation}
@@ -16,7 +15,7 @@ use Rattle.sqlite.specs.Listing.{understood, reads_listing}
 use Rattle.sqlite.specs.State.{State, Shown}
 use Rattle.sqlite.proofs.Callers.{IsPlain, command_of}
 use Rattle.office_tables.specs.Rows.{RecordRowOf, ReceiptRowOf, ChangeRowOf, RowsOf}
-use Rattle.office_tables.specs.Tables.{keyed, meta_columns, zones_columns, records_columns, receipts_columns, changes_columns, office_schema, stored_version, stored_zone, stored_record, stored_receipt, stored_change}
+use Rattle.office_tables.specs.Tables.{keyed, zones_columns, records_columns, receipts_columns, changes_columns, office_schema, stored_version, stored_zone, stored_record, stored_receipt, stored_change}
 use Rattle.office_tables.specs.Stores.{IsReadableRow, Stores}
 use Rattle.office_tables.specs.Holds.{Reads}
 use Rattle.office_tables.specs.Questions.{records_of, records_at, records_between, receipts_of, changes_of, is_below}

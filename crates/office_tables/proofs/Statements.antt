@@ -1,26 +1,36 @@
 -- What each statement of a writing does to all rows.
-use Rattle.std.proofs.Common.{◌≡◌, ◌≢◌, ℕ, ℤ, ◌^◌, nat_le, Bool, true, false, not, ◌&&◌, List, [], ◌∷◌, ◌++◌, map, filter, drop, codes, Some, Ok, refl, sym, ap, subst, ◌∙◌, arith}
-use Rattle.std.specs.List.{list_all}
+use Rattle.std.proofs.Common.{◌≡◌, ℕ, ℤ, ◌^◌, ◌/◌, length, nat_le, true, false, not, List, [], ◌∷◌, ◌++◌, map, filter, drop, flat_map, codes, Ok, refl, sym, ap, subst, ◌∙◌, append-nil, arith}
+use Rattle.std.specs.List.{AllByRecursion, list_all}
 use Rattle.sqlite_value.specs.declared.value.Value.TheVariants.{Int, Null, Text}
 use Rattle.sqlite_value.specs.Order.{Row}
 use Rattle.sqlite_trees.specs.Tree.{Trees}
 use Rattle.sqlite_sql.specs.Program.{overlay}
-use Rattle.sqlite_sql.specs.Term.{holds}
+use Rattle.sqlite_sql.specs.Term.{Term, holds}
 use Rattle.sqlite_rules.specs.Edit.{IsNoIndex}
 use Rattle.sqlite_rules.specs.Cast.{cast_row}
+use Rattle.sqlite_schema.specs.declared.command.Command.TheVariants.{Insert}
+use Rattle.sqlite_schema.specs.declared.command.Source.TheVariants.{Values}
+use Rattle.sqlite.specs.Listing.{understood}
+use Rattle.sqlite.specs.Effect.{value_rows}
+use Rattle.sqlite_value.specs.declared.value.ValueRef.{ValueRef}
+use Rattle.sqlite_value.specs.Value.{owned}
+use Rattle.sqlite.specs.Values.{bound, bound_value}
 use Rattle.sqlite.specs.State.{State, Executes}
+use Rattle.sqlite.proofs.Callers.{IsPlain, command_of}
 use Rattle.office_tables.specs.Rows.{RecordRowOf, ReceiptRowOf, ChangeRowOf, RowsOf, same_key}
 use Rattle.office_tables.specs.Tables.{meta, zones, records, receipts, changes, meta_columns, zones_columns, records_columns, receipts_columns, changes_columns, office_schema, stored_version, stored_zone, stored_record, stored_receipt, stored_change}
 use Rattle.office_tables.specs.Stores.{IsReadableRow, Stores}
-use Rattle.office_tables.specs.Holds.{AreRows, Reads}
-use Rattle.office_tables.specs.Parts.{with_version, with_zone, with_record, with_receipt, with_change, without_record}
+use Rattle.office_tables.specs.Holds.{Reads}
+use Rattle.office_tables.specs.Parts.{with_version, with_zone, with_record, with_receipt, with_change, with_each, without_record}
+use Rattle.office_tables.proofs.Parts.{with_records, with_changes}
 use Rattle.std.proofs.Common.{bytes_eq}
 use Rattle.std.specs.Ordering.{int_eq}
 use Rattle.std.proofs.lemmas.Cmp.{int_eq_equiv}
+use Rattle.std.proofs.lemmas.List.{map-append}
 use Rattle.office_tables.proofs.Texts as the
 use Rattle.office_tables.proofs.Texts.{by_key}
 use Rattle.office_tables.proofs.Effects.{inserts, deletes}
-use Rattle.office_tables.proofs.Values.{bytes_eq_sym, same_text, same_number, and_true, cast_null, cast_int, hits, filter_stored, stores_last}
+use Rattle.office_tables.proofs.Values.{bytes_eq_sym, same_text, same_number, and_true, cast_null, cast_int, hits, filter_stored}
 
 pub plainly : (tree : ℕ) → nat_le (2 ^ 31) tree ≡ false → (db : Trees) → overlay db [] tree ≡ db tree
 plainly tree low db = rw low refl
@@ -46,11 +56,11 @@ cast_meta k = rw (cast_null, cast_int k) refl
 pub inserts_meta : (old new : State) (k : ℤ) (count : ℕ) (rows : RowsOf) → IsReadableRow (stored_version k) → Executes the.insert_meta_text (stored_version k) old new (Ok count) → Reads old.now rows → Reads new.now (with_version k rows)
 inserts_meta old new k count rows readable ran h =
     let it = inserts (codes "meta") 0 meta_columns ([]) 0 refl (plainly 0 refl) the.insert_meta_text (stored_version k) old new h.schema the.insert_meta_plain count ran
-    the.terms_1 2 (stored_version k) (map stored_version rows.versions) readable the.insert_meta_is refl (cast_meta k) h.tables.versions in
+    the.terms_1 2 stored_version rows.versions (k ∷ []) (readable, tt) the.insert_meta_is refl cast_meta h.tables.versions in
     record {
       schema = it.0.schema;
       tables = record {
-        versions = stores_last stored_version rows.versions k (new.now.trees 0) it.1;
+        versions = it.1;
         zones = rw (it.0.others 1 (omega arith) free_of_index_1) h.tables.zones;
         records = rw (it.0.others 3 (omega arith) free_of_index_3) h.tables.records;
         receipts = rw (it.0.others 6 (omega arith) free_of_index_6) h.tables.receipts;
@@ -64,35 +74,46 @@ cast_zones k = rw cast_null refl
 pub inserts_zones : (old new : State) (k : List ℕ) (count : ℕ) (rows : RowsOf) → IsReadableRow (stored_zone k) → Executes the.insert_zones_text (stored_zone k) old new (Ok count) → Reads old.now rows → Reads new.now (with_zone k rows)
 inserts_zones old new k count rows readable ran h =
     let it = inserts (codes "zones") 1 zones_columns (1 ∷ []) 1 refl (plainly 1 refl) the.insert_zones_text (stored_zone k) old new h.schema the.insert_zones_plain count ran
-    the.terms_1 2 (stored_zone k) (map stored_zone rows.zones) readable the.insert_zones_is refl (cast_zones k) h.tables.zones in
+    the.terms_1 2 stored_zone rows.zones (k ∷ []) (readable, tt) the.insert_zones_is refl cast_zones h.tables.zones in
     record {
       schema = it.0.schema;
       tables = record {
         versions = rw (it.0.others 0 (omega arith) free_of_index_0) h.tables.versions;
-        zones = stores_last stored_zone rows.zones k (new.now.trees 1) it.1;
+        zones = it.1;
         records = rw (it.0.others 3 (omega arith) free_of_index_3) h.tables.records;
         receipts = rw (it.0.others 6 (omega arith) free_of_index_6) h.tables.receipts;
         changes = rw (it.0.others 8 (omega arith) free_of_index_8) h.tables.changes;
       };
     }
 
+-- the parameters of two rows, and of three
+pub bound_two : (a b : List ValueRef) (x y : Row) → bound a ≡ x → bound b ≡ y → bound (flat_map (λ values. values) (a ∷ b ∷ [])) ≡ x ++ y
+bound_two a b x y one two = map-append (λ v. bound_value (owned v)) a (b ++ []) ∙ rw (append-nil b, one, two) refl
+
+pub bound_three : (a b c : List ValueRef) (x y z : Row) → bound a ≡ x → bound b ≡ y → bound c ≡ z → bound (flat_map (λ values. values) (a ∷ b ∷ c ∷ [])) ≡ x ++ (y ++ z)
+bound_three a b c x y z one two three = map-append (λ v. bound_value (owned v)) a (b ++ (c ++ [])) ∙ rw (bound_two b c y z two three, one) refl
+
 cast_records : (k : RecordRowOf) → cast_row records (Null ∷ stored_record k) ≡ Null ∷ stored_record k
 cast_records k = rw (cast_null, cast_int k.record_type, cast_int k.ttl) refl
 
-pub inserts_records : (old new : State) (k : RecordRowOf) (count : ℕ) (rows : RowsOf) → IsReadableRow (stored_record k) → Executes the.insert_records_text (stored_record k) old new (Ok count) → Reads old.now rows → Reads new.now (with_record k rows)
-inserts_records old new k count rows readable ran h =
-    let it = inserts (codes "records") 3 records_columns (1 ∷ 2 ∷ 3 ∷ 4 ∷ []) 2 refl (plainly 3 refl) the.insert_records_text (stored_record k) old new h.schema the.insert_records_plain count ran
-    the.terms_6 7 (stored_record k) (map stored_record rows.records) readable the.insert_records_is refl (cast_records k) h.tables.records in
+-- an INSERT of some rows into `records`, whose terms are columns of these rows
+pub inserts_records : (sql : List ℕ) (params : Row) (terms : List Term) (old new : State) (all : List RecordRowOf) (count : ℕ) (rows : RowsOf) → IsPlain (understood office_schema sql)
+    → command_of (understood office_schema sql) ≡ Insert 2 (Values terms 7) → value_rows (params ++ []) 7 (length terms / 7) terms ≡ map (λ k. Null ∷ stored_record k) all
+    → AllByRecursion (λ k. IsReadableRow (stored_record k)) all → Executes sql params old new (Ok count) → Reads old.now rows → Reads new.now (with_each with_record all rows)
+inserts_records sql params terms old new all count rows plain is these readable ran h =
+    let it = inserts (codes "records") 3 records_columns (1 ∷ 2 ∷ 3 ∷ 4 ∷ []) 2 refl (plainly 3 refl) sql params old new h.schema plain count ran
+    terms 7 stored_record rows.records all readable is these cast_records h.tables.records in
+    subst (Reads new.now) (sym (with_records all rows)) (
     record {
       schema = it.0.schema;
       tables = record {
         versions = rw (it.0.others 0 (omega arith) free_of_index_0) h.tables.versions;
         zones = rw (it.0.others 1 (omega arith) free_of_index_1) h.tables.zones;
-        records = stores_last stored_record rows.records k (new.now.trees 3) it.1;
+        records = it.1;
         receipts = rw (it.0.others 6 (omega arith) free_of_index_6) h.tables.receipts;
         changes = rw (it.0.others 8 (omega arith) free_of_index_8) h.tables.changes;
       };
-    }
+    })
 
 cast_receipts : (k : ReceiptRowOf) → cast_row receipts (Null ∷ stored_receipt k) ≡ Null ∷ stored_receipt k
 cast_receipts k = rw cast_null refl
@@ -100,14 +121,14 @@ cast_receipts k = rw cast_null refl
 pub inserts_receipts : (old new : State) (k : ReceiptRowOf) (count : ℕ) (rows : RowsOf) → IsReadableRow (stored_receipt k) → Executes the.insert_receipts_text (stored_receipt k) old new (Ok count) → Reads old.now rows → Reads new.now (with_receipt k rows)
 inserts_receipts old new k count rows readable ran h =
     let it = inserts (codes "receipts") 6 receipts_columns (1 ∷ 2 ∷ []) 3 refl (plainly 6 refl) the.insert_receipts_text (stored_receipt k) old new h.schema the.insert_receipts_plain count ran
-    the.terms_5 6 (stored_receipt k) (map stored_receipt rows.receipts) readable the.insert_receipts_is refl (cast_receipts k) h.tables.receipts in
+    the.terms_5 6 stored_receipt rows.receipts (k ∷ []) (readable, tt) the.insert_receipts_is refl cast_receipts h.tables.receipts in
     record {
       schema = it.0.schema;
       tables = record {
         versions = rw (it.0.others 0 (omega arith) free_of_index_0) h.tables.versions;
         zones = rw (it.0.others 1 (omega arith) free_of_index_1) h.tables.zones;
         records = rw (it.0.others 3 (omega arith) free_of_index_3) h.tables.records;
-        receipts = stores_last stored_receipt rows.receipts k (new.now.trees 6) it.1;
+        receipts = it.1;
         changes = rw (it.0.others 8 (omega arith) free_of_index_8) h.tables.changes;
       };
     }
@@ -115,10 +136,14 @@ inserts_receipts old new k count rows readable ran h =
 cast_changes : (k : ChangeRowOf) → cast_row changes (Null ∷ stored_change k) ≡ Null ∷ stored_change k
 cast_changes k = rw (cast_null, cast_int k.number, cast_int k.side, cast_int k.record_type, cast_int k.ttl) refl
 
-pub inserts_changes : (old new : State) (k : ChangeRowOf) (count : ℕ) (rows : RowsOf) → IsReadableRow (stored_change k) → Executes the.insert_changes_text (stored_change k) old new (Ok count) → Reads old.now rows → Reads new.now (with_change k rows)
-inserts_changes old new k count rows readable ran h =
-    let it = inserts (codes "changes") 8 changes_columns (1 ∷ 2 ∷ 3 ∷ 4 ∷ 5 ∷ 6 ∷ []) 4 refl (plainly 8 refl) the.insert_changes_text (stored_change k) old new h.schema the.insert_changes_plain count ran
-    the.terms_7 8 (stored_change k) (map stored_change rows.changes) readable the.insert_changes_is refl (cast_changes k) h.tables.changes in
+-- the same of `changes`
+pub inserts_changes : (sql : List ℕ) (params : Row) (terms : List Term) (old new : State) (all : List ChangeRowOf) (count : ℕ) (rows : RowsOf) → IsPlain (understood office_schema sql)
+    → command_of (understood office_schema sql) ≡ Insert 4 (Values terms 8) → value_rows (params ++ []) 8 (length terms / 8) terms ≡ map (λ k. Null ∷ stored_change k) all
+    → AllByRecursion (λ k. IsReadableRow (stored_change k)) all → Executes sql params old new (Ok count) → Reads old.now rows → Reads new.now (with_each with_change all rows)
+inserts_changes sql params terms old new all count rows plain is these readable ran h =
+    let it = inserts (codes "changes") 8 changes_columns (1 ∷ 2 ∷ 3 ∷ 4 ∷ 5 ∷ 6 ∷ []) 4 refl (plainly 8 refl) sql params old new h.schema plain count ran
+    terms 8 stored_change rows.changes all readable is these cast_changes h.tables.changes in
+    subst (Reads new.now) (sym (with_changes all rows)) (
     record {
       schema = it.0.schema;
       tables = record {
@@ -126,9 +151,9 @@ inserts_changes old new k count rows readable ran h =
         zones = rw (it.0.others 1 (omega arith) free_of_index_1) h.tables.zones;
         records = rw (it.0.others 3 (omega arith) free_of_index_3) h.tables.records;
         receipts = rw (it.0.others 6 (omega arith) free_of_index_6) h.tables.receipts;
-        changes = stores_last stored_change rows.changes k (new.now.trees 8) it.1;
+        changes = it.1;
       };
-    }
+    })
 
 key_test : (params r : Row) → list_all (holds (params ∷ r ∷ [])) by_key ≡ hits by_key params (drop 1 r)
 key_test params [] = refl

@@ -1,5 +1,5 @@
 -- What each text means.
-use Rattle.std.proofs.Common.{◌≡◌, Bool, true, false, ℕ, pos, negsuc, List, [], ◌∷◌, codes, Some, None, Ok, Err, Result, refl, slice_get}
+use Rattle.std.proofs.Common.{◌≡◌, Bool, true, false, ℕ, pos, negsuc, List, [], ◌∷◌, codes, None, Ok, refl}
 use Rattle.sqlite_value.specs.declared.keys.Collation.TheVariants.{Binary}
 use Rattle.sqlite_value.specs.declared.keys.Key.{Key}
 use Rattle.sqlite_value.specs.declared.value.Value.TheVariants.{Null, Int}
@@ -74,14 +74,26 @@ columns_6 = col 1 1 ∷ col 1 2 ∷ col 1 3 ∷ col 1 4 ∷ col 1 5 ∷ col 1 6 
 abbrev pub terms_6 : List Term
 terms_6 = lit Null ∷ col 0 0 ∷ col 0 1 ∷ col 0 2 ∷ col 0 3 ∷ col 0 4 ∷ col 0 5 ∷ []
 
+abbrev pub terms_6_two : List Term
+terms_6_two = lit Null ∷ col 0 0 ∷ col 0 1 ∷ col 0 2 ∷ col 0 3 ∷ col 0 4 ∷ col 0 5 ∷ lit Null ∷ col 0 6 ∷ col 0 7 ∷ col 0 8 ∷ col 0 9 ∷ col 0 10 ∷ col 0 11 ∷ []
+
+abbrev pub terms_6_three : List Term
+terms_6_three = lit Null ∷ col 0 0 ∷ col 0 1 ∷ col 0 2 ∷ col 0 3 ∷ col 0 4 ∷ col 0 5 ∷ lit Null ∷ col 0 6 ∷ col 0 7 ∷ col 0 8 ∷ col 0 9 ∷ col 0 10 ∷ col 0 11 ∷ lit Null ∷ col 0 12 ∷ col 0 13 ∷ col 0 14 ∷ col 0 15 ∷ col 0 16 ∷ col 0 17 ∷ []
+
 abbrev pub columns_7 : List Term
 columns_7 = col 1 1 ∷ col 1 2 ∷ col 1 3 ∷ col 1 4 ∷ col 1 5 ∷ col 1 6 ∷ col 1 7 ∷ []
 
 abbrev pub terms_7 : List Term
 terms_7 = lit Null ∷ col 0 0 ∷ col 0 1 ∷ col 0 2 ∷ col 0 3 ∷ col 0 4 ∷ col 0 5 ∷ col 0 6 ∷ []
 
+abbrev pub terms_7_two : List Term
+terms_7_two = lit Null ∷ col 0 0 ∷ col 0 1 ∷ col 0 2 ∷ col 0 3 ∷ col 0 4 ∷ col 0 5 ∷ col 0 6 ∷ lit Null ∷ col 0 7 ∷ col 0 8 ∷ col 0 9 ∷ col 0 10 ∷ col 0 11 ∷ col 0 12 ∷ col 0 13 ∷ []
+
+abbrev pub terms_7_three : List Term
+terms_7_three = lit Null ∷ col 0 0 ∷ col 0 1 ∷ col 0 2 ∷ col 0 3 ∷ col 0 4 ∷ col 0 5 ∷ col 0 6 ∷ lit Null ∷ col 0 7 ∷ col 0 8 ∷ col 0 9 ∷ col 0 10 ∷ col 0 11 ∷ col 0 12 ∷ col 0 13 ∷ lit Null ∷ col 0 14 ∷ col 0 15 ∷ col 0 16 ∷ col 0 17 ∷ col 0 18 ∷ col 0 19 ∷ col 0 20 ∷ []
+
 abbrev pub insert_meta_text : List ℕ
-insert_meta_text = codes "INSERT INTO meta VALUES (?1)"
+insert_meta_text = codes "INSERT INTO meta VALUES (?)"
 
 pub insert_meta_is : command_of (understood office_schema insert_meta_text) ≡ Insert 0 (Values terms_1 2)
 unfolding understood everything
@@ -92,7 +104,7 @@ unfolding understood everything
 insert_meta_plain = (refl, refl)
 
 abbrev pub insert_zones_text : List ℕ
-insert_zones_text = codes "INSERT INTO zones VALUES (?1)"
+insert_zones_text = codes "INSERT INTO zones VALUES (?)"
 
 pub insert_zones_is : command_of (understood office_schema insert_zones_text) ≡ Insert 1 (Values terms_1 2)
 unfolding understood everything
@@ -103,7 +115,7 @@ unfolding understood everything
 insert_zones_plain = (refl, refl)
 
 abbrev pub insert_records_text : List ℕ
-insert_records_text = codes "INSERT INTO records VALUES (?1, ?2, ?3, ?4, ?5, ?6)"
+insert_records_text = codes "INSERT INTO records VALUES (?, ?, ?, ?, ?, ?)"
 
 pub insert_records_is : command_of (understood office_schema insert_records_text) ≡ Insert 2 (Values terms_6 7)
 unfolding understood everything
@@ -113,8 +125,30 @@ pub insert_records_plain : IsPlain (understood office_schema insert_records_text
 unfolding understood everything
 insert_records_plain = (refl, refl)
 
+abbrev pub insert_two_records_text : List ℕ
+insert_two_records_text = codes "INSERT INTO records VALUES (?, ?, ?, ?, ?, ?), (?, ?, ?, ?, ?, ?)"
+
+pub insert_two_records_is : command_of (understood office_schema insert_two_records_text) ≡ Insert 2 (Values terms_6_two 7)
+unfolding understood everything
+insert_two_records_is = refl
+
+pub insert_two_records_plain : IsPlain (understood office_schema insert_two_records_text)
+unfolding understood everything
+insert_two_records_plain = (refl, refl)
+
+abbrev pub insert_three_records_text : List ℕ
+insert_three_records_text = codes "INSERT INTO records VALUES (?, ?, ?, ?, ?, ?), (?, ?, ?, ?, ?, ?), (?, ?, ?, ?, ?, ?)"
+
+pub insert_three_records_is : command_of (understood office_schema insert_three_records_text) ≡ Insert 2 (Values terms_6_three 7)
+unfolding understood everything
+insert_three_records_is = refl
+
+pub insert_three_records_plain : IsPlain (understood office_schema insert_three_records_text)
+unfolding understood everything
+insert_three_records_plain = (refl, refl)
+
 abbrev pub insert_receipts_text : List ℕ
-insert_receipts_text = codes "INSERT INTO receipts VALUES (?1, ?2, ?3, ?4, ?5)"
+insert_receipts_text = codes "INSERT INTO receipts VALUES (?, ?, ?, ?, ?)"
 
 pub insert_receipts_is : command_of (understood office_schema insert_receipts_text) ≡ Insert 3 (Values terms_5 6)
 unfolding understood everything
@@ -125,7 +159,7 @@ unfolding understood everything
 insert_receipts_plain = (refl, refl)
 
 abbrev pub insert_changes_text : List ℕ
-insert_changes_text = codes "INSERT INTO changes VALUES (?1, ?2, ?3, ?4, ?5, ?6, ?7)"
+insert_changes_text = codes "INSERT INTO changes VALUES (?, ?, ?, ?, ?, ?, ?)"
 
 pub insert_changes_is : command_of (understood office_schema insert_changes_text) ≡ Insert 4 (Values terms_7 8)
 unfolding understood everything
@@ -134,6 +168,28 @@ insert_changes_is = refl
 pub insert_changes_plain : IsPlain (understood office_schema insert_changes_text)
 unfolding understood everything
 insert_changes_plain = (refl, refl)
+
+abbrev pub insert_two_changes_text : List ℕ
+insert_two_changes_text = codes "INSERT INTO changes VALUES (?, ?, ?, ?, ?, ?, ?), (?, ?, ?, ?, ?, ?, ?)"
+
+pub insert_two_changes_is : command_of (understood office_schema insert_two_changes_text) ≡ Insert 4 (Values terms_7_two 8)
+unfolding understood everything
+insert_two_changes_is = refl
+
+pub insert_two_changes_plain : IsPlain (understood office_schema insert_two_changes_text)
+unfolding understood everything
+insert_two_changes_plain = (refl, refl)
+
+abbrev pub insert_three_changes_text : List ℕ
+insert_three_changes_text = codes "INSERT INTO changes VALUES (?, ?, ?, ?, ?, ?, ?), (?, ?, ?, ?, ?, ?, ?), (?, ?, ?, ?, ?, ?, ?)"
+
+pub insert_three_changes_is : command_of (understood office_schema insert_three_changes_text) ≡ Insert 4 (Values terms_7_three 8)
+unfolding understood everything
+insert_three_changes_is = refl
+
+pub insert_three_changes_plain : IsPlain (understood office_schema insert_three_changes_text)
+unfolding understood everything
+insert_three_changes_plain = (refl, refl)
 
 abbrev pub delete_record_text : List ℕ
 delete_record_text = codes "DELETE FROM records WHERE origin = ?1 AND owner = ?2 AND type = ?3 AND data = ?4"

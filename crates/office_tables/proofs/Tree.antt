@@ -1,12 +1,11 @@
 -- Edits of a table, as it is seen without its rowids.
-use Rattle.std.proofs.Common.{◌≡◌, ◌⊎◌, inl, inr, ℕ, ℤ, pos, Bool, true, false, not, cond, ◌&&◌, ◌||◌, IsTrue, List, [], ◌∷◌, ◌++◌, map, filter, drop, flat_map, refl, sym, ap, subst, ◌∙◌, Less, Equal, Greater, Ordering, IsPermutation}
-use Rattle.std.specs.List.{AllByRecursion, list_any, list_all}
+use Rattle.std.proofs.Common.{◌≡◌, inl, inr, ℤ, Bool, true, false, not, cond, ◌&&◌, ◌||◌, IsTrue, List, [], ◌∷◌, map, filter, drop, refl, sym, ap, subst, ◌∙◌, Less, Equal, Greater, Ordering, IsPermutation}
+use Rattle.std.specs.List.{AllByRecursion, list_any}
 use Rattle.std.specs.Ordering.{is_eq, match_ordering}
-use Rattle.std.proofs.lemmas.Bool.{or_parts, cases_Bool, false_from_ne_true}
+use Rattle.std.proofs.lemmas.Bool.{or_parts, false_from_ne_true}
 use Rattle.std.proofs.lemmas.Cmp.{tied_itself, eq_by_cmp_equiv}
 use Rattle.std.proofs.lemmas.List.Sorted.{IsPermutation-refl, IsPermutation-cons, IsPermutation-trans, IsPermutation-map, IsPermutation-sym, IsPermutation-middle, list_any-IsPermutation}
-use Rattle.sqlite_value.specs.declared.value.Value.{Value}
-use Rattle.sqlite_value.specs.declared.value.Value.TheVariants.{Int, Null}
+use Rattle.sqlite_value.specs.declared.value.Value.TheVariants.{Int}
 use Rattle.sqlite_value.specs.Order.{Row, value_cmp}
 use Rattle.sqlite_value.proofs.OrderLemmas.{value_cmp_total}
 use Rattle.sqlite_trees.specs.Tree.{rowid, has_rowid, put_row, without_rowid}
@@ -14,11 +13,11 @@ use Rattle.sqlite_trees.specs.View.{is_int}
 use Rattle.sqlite_trees.proofs.TreeLemmas.{all-put_row}
 use Rattle.sqlite_trees.proofs.ListLemmas.{ascending-filter, all-filter, IsPermutation-filter}
 use Rattle.sqlite_rules.specs.Lists.{Has}
-use Rattle.sqlite_rules.specs.Edit.{id_in, is_taken, without_all, row_at}
+use Rattle.sqlite_rules.specs.Edit.{id_in, is_taken, without_all}
 use Rattle.sqlite_rules.specs.Calls.{ids_of}
 use Rattle.sqlite_rules.proofs.ListLemmas.{has_filtered, has_kept, all_has, some_has, some_from}
 use Rattle.sqlite_rules.proofs.TableLemmas.{int_is}
-use Rattle.office_tables.specs.Stores.{AreApart, HasOwnRowid, IsReadableRow, Stores}
+use Rattle.office_tables.specs.Stores.{AreApart, IsReadableRow, Stores}
 use Rattle.office_tables.proofs.Apart.{one_row, apart_put}
 
 -- a row that is put where its rowid is free

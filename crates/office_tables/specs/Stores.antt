@@ -1,5 +1,5 @@
 -- What a table stores, whatever rowids it gave and in whatever order.
-use Rattle.std.specs.Prelude.{◌≡◌, ℕ, false, List, map, drop, IsTrue, IsUtf8, IsPermutation}
+use Rattle.std.specs.Prelude.{◌≡◌, false, List, map, drop, IsTrue, IsUtf8, IsPermutation}
 use Rattle.std.specs.List.{AllByRecursion}
 use Rattle.std.specs.Ordering.{is_eq}
 use Rattle.sqlite_value.specs.declared.value.Value.{Value}

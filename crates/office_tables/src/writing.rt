@@ -1,12 +1,14 @@
 //! Writing rows, all in one transaction.
 
-ghost use Rattle.std.specs.Prelude.{◌≡◌, ◌⊎◌, ℕ, Ok, false, IsTrue, OnOk, OnErr};
+ghost use Rattle.std.specs.Prelude.{◌≡◌, ◌⊎◌, ◌∷◌, [], ℕ, Ok, false, IsTrue, OnOk, OnErr};
 ghost use Rattle.sqlite.specs.Values.{bound};
 ghost use Rattle.sqlite.specs.Held.{state};
 ghost use Rattle.sqlite.specs.State.{HasCleanDisk, Executes};
 ghost use Rattle.office_tables.specs.Rows.{RowsOf, without, versions_with, written};
 ghost use Rattle.office_tables.specs.Holds.{AreRows, Holds, Leaves, IsGoing, Keeps, Stays, Part};
 ghost use Rattle.office_tables.specs.Parts.{with_each, without_record, without_records};
+ghost use Rattle.office_tables.specs.Stores.{IsReadableRow};
+ghost use Rattle.office_tables.specs.Tables.{stored_record, stored_change};
 
 use crate::ask::check_open;
 use crate::fault::RowsFault;
@@ -41,13 +43,38 @@ pub(crate) trait Insert {
         ensures going { HasCleanDisk (state S.Store tx.new.conn.now) → OnOk result (IsGoing (state S.Store tx.new.conn.now)) };
 }
 
+/// A row that is put into its table together with others, by one statement: what a statement costs beside its rows is
+/// spent once.
+trait InsertTogether: Insert {
+    fn insert_two<'a, S: Alter>(
+        tx: &mut Transaction<'_, S>,
+        first: &'a Self,
+        second: &'a Self,
+    ) -> Result<(), Error>
+        ensures same_reference { tx.new.conn.ghost_name ≡ tx.old.conn.ghost_name }
+        ensures stays { Stays (state S.Store tx.old.conn.now) (state S.Store tx.new.conn.now) }
+        ensures part { OnOk result (Part (state S.Store tx.old.conn.now) (state S.Store tx.new.conn.now) (with_each Self.Insert.with (first.now ∷ second.now ∷ []))) }
+        ensures going { HasCleanDisk (state S.Store tx.new.conn.now) → OnOk result (IsGoing (state S.Store tx.new.conn.now)) };
+
+    fn insert_three<'a, S: Alter>(
+        tx: &mut Transaction<'_, S>,
+        first: &'a Self,
+        second: &'a Self,
+        third: &'a Self,
+    ) -> Result<(), Error>
+        ensures same_reference { tx.new.conn.ghost_name ≡ tx.old.conn.ghost_name }
+        ensures stays { Stays (state S.Store tx.old.conn.now) (state S.Store tx.new.conn.now) }
+        ensures part { OnOk result (Part (state S.Store tx.old.conn.now) (state S.Store tx.new.conn.now) (with_each Self.Insert.with (first.now ∷ second.now ∷ third.now ∷ []))) }
+        ensures going { HasCleanDisk (state S.Store tx.new.conn.now) → OnOk result (IsGoing (state S.Store tx.new.conn.now)) };
+}
+
 impl Insert for i64 {
     ghost use Rattle.office_tables.specs.Parts.{with_version};
 
     ghost with = { with_version };
 
     fn insert<S: Alter>(&self, tx: &mut Transaction<'_, S>) -> Result<(), Error> {
-        run(tx, "INSERT INTO meta VALUES (?1)", params![self])
+        run(tx, "INSERT INTO meta VALUES (?)", params![self])
     }
 }
 
@@ -58,7 +85,24 @@ impl Insert for String {
     ghost with = { λ t. with_zone (string_bytes t) };
 
     fn insert<S: Alter>(&self, tx: &mut Transaction<'_, S>) -> Result<(), Error> {
-        run(tx, "INSERT INTO zones VALUES (?1)", params![self.as_str()])
+        run(tx, "INSERT INTO zones VALUES (?)", params![self.as_str()])
+    }
+}
+
+impl RecordRow {
+    /// The values of its columns.
+    fn values(&self) -> [ValueRef<'_>; 6]
+        ensures value { bound result ≡ stored_record self.now }
+        ensures readable { IsReadableRow (stored_record self.now) }
+    {
+        [
+            ValueRef::Text(self.origin.as_bytes()),
+            ValueRef::Text(self.owner.as_bytes()),
+            ValueRef::Int(self.record_type),
+            ValueRef::Text(self.rdata.as_bytes()),
+            ValueRef::Int(self.ttl),
+            ValueRef::Blob(self.owner_key.as_slice()),
+        ]
     }
 }
 
@@ -70,15 +114,35 @@ impl Insert for RecordRow {
     fn insert<S: Alter>(&self, tx: &mut Transaction<'_, S>) -> Result<(), Error> {
         run(
             tx,
-            "INSERT INTO records VALUES (?1, ?2, ?3, ?4, ?5, ?6)",
-            params![
-                self.origin.as_str(),
-                self.owner.as_str(),
-                &self.record_type,
-                self.rdata.as_str(),
-                &self.ttl,
-                self.owner_key.as_slice(),
-            ],
+            "INSERT INTO records VALUES (?, ?, ?, ?, ?, ?)",
+            &self.values(),
+        )
+    }
+}
+
+impl InsertTogether for RecordRow {
+    fn insert_two<'a, S: Alter>(
+        tx: &mut Transaction<'_, S>,
+        first: &'a Self,
+        second: &'a Self,
+    ) -> Result<(), Error> {
+        run(
+            tx,
+            "INSERT INTO records VALUES (?, ?, ?, ?, ?, ?), (?, ?, ?, ?, ?, ?)",
+            [first.values(), second.values()].as_flattened(),
+        )
+    }
+
+    fn insert_three<'a, S: Alter>(
+        tx: &mut Transaction<'_, S>,
+        first: &'a Self,
+        second: &'a Self,
+        third: &'a Self,
+    ) -> Result<(), Error> {
+        run(
+            tx,
+            "INSERT INTO records VALUES (?, ?, ?, ?, ?, ?), (?, ?, ?, ?, ?, ?), (?, ?, ?, ?, ?, ?)",
+            [first.values(), second.values(), third.values()].as_flattened(),
         )
     }
 }
@@ -91,7 +155,7 @@ impl Insert for ReceiptRow {
     fn insert<S: Alter>(&self, tx: &mut Transaction<'_, S>) -> Result<(), Error> {
         run(
             tx,
-            "INSERT INTO receipts VALUES (?1, ?2, ?3, ?4, ?5)",
+            "INSERT INTO receipts VALUES (?, ?, ?, ?, ?)",
             params![
                 self.caller.as_str(),
                 self.id.as_str(),
@@ -103,6 +167,24 @@ impl Insert for ReceiptRow {
     }
 }
 
+impl ChangeRow {
+    /// The values of its columns.
+    fn values(&self) -> [ValueRef<'_>; 7]
+        ensures value { bound result ≡ stored_change self.now }
+        ensures readable { IsReadableRow (stored_change self.now) }
+    {
+        [
+            ValueRef::Text(self.origin.as_bytes()),
+            ValueRef::Int(self.number),
+            ValueRef::Int(self.side),
+            ValueRef::Text(self.owner.as_bytes()),
+            ValueRef::Int(self.record_type),
+            ValueRef::Text(self.rdata.as_bytes()),
+            ValueRef::Int(self.ttl),
+        ]
+    }
+}
+
 impl Insert for ChangeRow {
     ghost use Rattle.office_tables.specs.Parts.{with_change};
 
@@ -111,16 +193,35 @@ impl Insert for ChangeRow {
     fn insert<S: Alter>(&self, tx: &mut Transaction<'_, S>) -> Result<(), Error> {
         run(
             tx,
-            "INSERT INTO changes VALUES (?1, ?2, ?3, ?4, ?5, ?6, ?7)",
-            params![
-                self.origin.as_str(),
-                &self.number,
-                &self.side,
-                self.owner.as_str(),
-                &self.record_type,
-                self.rdata.as_str(),
-                &self.ttl,
-            ],
+            "INSERT INTO changes VALUES (?, ?, ?, ?, ?, ?, ?)",
+            &self.values(),
+        )
+    }
+}
+
+impl InsertTogether for ChangeRow {
+    fn insert_two<'a, S: Alter>(
+        tx: &mut Transaction<'_, S>,
+        first: &'a Self,
+        second: &'a Self,
+    ) -> Result<(), Error> {
+        run(
+            tx,
+            "INSERT INTO changes VALUES (?, ?, ?, ?, ?, ?, ?), (?, ?, ?, ?, ?, ?, ?)",
+            [first.values(), second.values()].as_flattened(),
+        )
+    }
+
+    fn insert_three<'a, S: Alter>(
+        tx: &mut Transaction<'_, S>,
+        first: &'a Self,
+        second: &'a Self,
+        third: &'a Self,
+    ) -> Result<(), Error> {
+        run(
+            tx,
+            "INSERT INTO changes VALUES (?, ?, ?, ?, ?, ?, ?), (?, ?, ?, ?, ?, ?, ?), (?, ?, ?, ?, ?, ?, ?)",
+            [first.values(), second.values(), third.values()].as_flattened(),
         )
     }
 }
@@ -133,6 +234,39 @@ fn insert_all<S: Alter, T: Insert>(tx: &mut Transaction<'_, S>, all: &[T]) -> Re
 {
     for one in all {
         one.insert(tx)?;
+    }
+    Ok(())
+}
+
+/// One to three rows by one statement, and others one by one.
+fn insert_some<S: Alter, T: InsertTogether>(
+    tx: &mut Transaction<'_, S>,
+    some: &[T],
+) -> Result<(), Error>
+    ensures same_reference { tx.new.conn.ghost_name ≡ tx.old.conn.ghost_name }
+    ensures stays { Stays (state S.Store tx.old.conn.now) (state S.Store tx.new.conn.now) }
+    ensures part { OnOk result (Part (state S.Store tx.old.conn.now) (state S.Store tx.new.conn.now) (with_each T.Insert.with some.now)) }
+    ensures going { IsGoing (state S.Store tx.old.conn.now) → HasCleanDisk (state S.Store tx.new.conn.now) → OnOk result (IsGoing (state S.Store tx.new.conn.now)) }
+{
+    match some {
+        [first, second, third] => T::insert_three(tx, first, second, third),
+        [first, second] => T::insert_two(tx, first, second),
+        others => insert_all(tx, others),
+    }
+}
+
+/// All rows, three by three.
+fn insert_together<S: Alter, T: InsertTogether>(
+    tx: &mut Transaction<'_, S>,
+    all: &[T],
+) -> Result<(), Error>
+    ensures same_reference { tx.new.conn.ghost_name ≡ tx.old.conn.ghost_name }
+    ensures stays { Stays (state S.Store tx.old.conn.now) (state S.Store tx.new.conn.now) }
+    ensures part { OnOk result (Part (state S.Store tx.old.conn.now) (state S.Store tx.new.conn.now) (with_each T.Insert.with all.now)) }
+    ensures going { IsGoing (state S.Store tx.old.conn.now) → HasCleanDisk (state S.Store tx.new.conn.now) → OnOk result (IsGoing (state S.Store tx.new.conn.now)) }
+{
+    for some in all.chunks(3) {
+        insert_some(tx, some)?;
     }
     Ok(())
 }
@@ -189,8 +323,8 @@ fn write_all<S: Alter>(tx: &mut Transaction<'_, S>, writing: &Writing) -> Result
 {
     delete_records(tx, &writing.removed)?;
     insert_all(tx, &writing.zones)?;
-    insert_all(tx, &writing.added)?;
-    insert_all(tx, &writing.changes)?;
+    insert_together(tx, &writing.added)?;
+    insert_together(tx, &writing.changes)?;
     insert_all(tx, &writing.receipts)?;
     set_version(tx, writing.version)
 }

@@ -1,7 +1,6 @@
-use Rattle.std.proofs.Common.{◌≡◌, ◌⊎◌, inl, inr, ◌∙◌, true, List, [], map, sym, ap, subst, refl, IfOk, OnOk}
+use Rattle.std.proofs.Common.{inl, inr, ◌∙◌, true, [], map, sym, ap, subst, refl}
 use Rattle.sqlite.specs.Effect.{Database}
 use Rattle.sqlite.specs.Held.{state}
-use Rattle.sqlite.specs.State.{HasCleanDisk}
 use Rattle.office_tables.specs.Tables.{stored_receipt}
 use Rattle.office_tables.specs.Stores.{Stores}
 use Rattle.office_tables.specs.Holds.{Reads}
@@ -9,7 +8,7 @@ use Rattle.office_tables.proofs.Asks.{shown_keeps}
 use Rattle.office_tables.proofs.Commits.{if_ok_all, held_before}
 use Rattle.office_tables.proofs.Parts.{on_part}
 use Rattle.office_tables.proofs.Selections.{never_bad_rows}
-use Rattle.office_tables.proofs.Texts.{rowids_receipts_text, all_receipts_text}
+use Rattle.office_tables.proofs.Texts.{rowids_receipts_text}
 use Rattle.office_tables.proofs.Whole.{all_receipts, never_bad_receipts, shows_all_receipts}
 use Rattle.office_tables.proofs.all.all_receipts.Goals as goal
 

@@ -1,4 +1,3 @@
-use Rattle.std.proofs.Common.{◌≡◌, IsPermutation}
 use Rattle.sqlite.specs.Held.{state}
 use Rattle.sqlite.specs.State.{HasCleanDisk}
 use Rattle.office_tables.specs.Tables.{stored_version, stored_zone, stored_record, stored_receipt, stored_change}

@@ -1,6 +1,5 @@
 use Rattle.std.proofs.Common.{◌≡◌, ℕ, ℤ, ◌+◌, ◌<◌, false, get_or}
-use Rattle.std.specs.Ordering.{int_eq, int_cmp}
-use Rattle.std.specs.List.Sorted.{IsSorted, IsPermutation}
+use Rattle.std.specs.Ordering.{int_eq}
 use Rattle.office_tables.proofs.all.are_apart.Given as goal
 
 abbrev pub invariant-loop-place : goal.invariant-loop-place

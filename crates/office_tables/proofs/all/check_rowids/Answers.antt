@@ -1,8 +1,7 @@
-use Rattle.std.proofs.Common.{◌≡◌, ◌⊎◌, inl, inr, ◌∙◌, true, List, map, sym, ap, subst, IsTrue, rules, refl}
+use Rattle.std.proofs.Common.{◌≡◌, ◌∙◌, true, map, sym, ap, subst, rules}
 use Rattle.std.specs.List.{IsDistinct}
 use Rattle.std.specs.Ordering.{int_eq}
 use Rattle.sqlite.specs.Effect.{Database}
-use Rattle.sqlite.specs.Held.{state}
 use Rattle.office_tables.specs.Tables.{stored_version}
 use Rattle.office_tables.proofs.Whole.{readable_if, numbers_same}
 use Rattle.office_tables.proofs.all.check_rowids.Goals as goal

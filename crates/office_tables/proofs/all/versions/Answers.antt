@@ -1,7 +1,6 @@
-use Rattle.std.proofs.Common.{◌≡◌, ◌⊎◌, inl, inr, ◌∙◌, true, List, [], map, sym, ap, subst, refl, IfOk, OnOk}
+use Rattle.std.proofs.Common.{inl, inr, ◌∙◌, true, [], map, sym, ap, subst, refl}
 use Rattle.sqlite.specs.Effect.{Database}
 use Rattle.sqlite.specs.Held.{state}
-use Rattle.sqlite.specs.State.{HasCleanDisk}
 use Rattle.office_tables.specs.Tables.{stored_version}
 use Rattle.office_tables.specs.Stores.{Stores}
 use Rattle.office_tables.specs.Holds.{Reads}
@@ -9,7 +8,7 @@ use Rattle.office_tables.proofs.Asks.{shown_keeps}
 use Rattle.office_tables.proofs.Commits.{if_ok_all, held_before}
 use Rattle.office_tables.proofs.Parts.{on_part}
 use Rattle.office_tables.proofs.Selections.{never_bad_rows}
-use Rattle.office_tables.proofs.Texts.{rowids_meta_text, all_meta_text}
+use Rattle.office_tables.proofs.Texts.{rowids_meta_text}
 use Rattle.office_tables.proofs.Whole.{all_meta, never_bad_meta, shows_all_meta}
 use Rattle.office_tables.proofs.all.versions.Goals as goal
 

@@ -1,4 +1,4 @@
-use Rattle.std.proofs.Common.{◌≡◌, ◌∙◌, true, map, subst, sym, IfOk}
+use Rattle.std.proofs.Common.{◌∙◌, true, subst, sym}
 use Rattle.std.specs.List.{AllByRecursion}
 use Rattle.sqlite.specs.Values.{bound}
 use Rattle.sqlite.specs.Held.{state}

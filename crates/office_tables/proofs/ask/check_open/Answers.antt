@@ -1,6 +1,6 @@
 use Rattle.sqlite.specs.Held.{state}
 use Rattle.sqlite.specs.State.{HasCleanDisk}
-use Rattle.std.proofs.Common.{[], IsTrue}
+use Rattle.std.proofs.Common.{[]}
 use Rattle.office_tables.proofs.Asks.{not_run_keeps, not_run_keeps_all}
 use Rattle.office_tables.proofs.Commits.{clean_if_open, unchanged_keeps_all}
 use Rattle.office_tables.proofs.ask.check_open.Goals as goal

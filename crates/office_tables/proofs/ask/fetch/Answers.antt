@@ -1,7 +1,7 @@
 use Rattle.std.proofs.Common.{◌≡◌, IsTrue, rules, subst, arith, refl, true}
 use Rattle.sqlite.specs.Values.{bound}
 use Rattle.sqlite.specs.Held.{state}
-use Rattle.sqlite.specs.State.{HasCleanDisk, KeepsCommit}
+use Rattle.sqlite.specs.State.{HasCleanDisk}
 use Rattle.office_tables.specs.Holds.{Keeps, Stays}
 use Rattle.office_tables.proofs.Asks.{query_keeps, rolled_keeps}
 use Rattle.office_tables.proofs.Commits.{clean_if_open, undone_keeps, if_ok_then}

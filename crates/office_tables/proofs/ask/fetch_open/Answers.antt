@@ -1,4 +1,4 @@
-use Rattle.std.proofs.Common.{◌≡◌, ◌∙◌, IsTrue, not, sym, ap, arith}
+use Rattle.std.proofs.Common.{◌∙◌, not, sym, ap, arith}
 use Rattle.sqlite.specs.Held.{state}
 use Rattle.sqlite.specs.State.{HasCleanDisk}
 use Rattle.office_tables.specs.Holds.{IsSettled}

@@ -1,8 +1,8 @@
-use Rattle.std.proofs.Common.{◌≡◌, ◌⊎◌, inl, ◌≤◌, ℕ, Ok, Err, OnOk, OnErr, IsTrue, rules, sym, subst, arith, refl}
+use Rattle.std.proofs.Common.{◌≡◌, ◌⊎◌, inl, OnOk, OnErr, IsTrue, rules, subst}
 use Rattle.std.specs.Int.{w64}
 use Rattle.std.proofs.lemmas.Int.{to_z-of_z}
-use Rattle.sqlite.specs.Held.{Held, state}
-use Rattle.sqlite.specs.State.{State, HasCleanDisk}
+use Rattle.sqlite.specs.Held.{state}
+use Rattle.sqlite.specs.State.{HasCleanDisk}
 use Rattle.office_tables.specs.Holds.{AreRows, Holds, Leaves, Keeps, made_rows}
 use Rattle.office_tables.proofs.Commits.{clean_if_open, on_ok_when, on_err_when, on_err, made_first, durable_first, undone_keeps, left_nothing, failed_end, left_first}
 use Rattle.office_tables.proofs.making.commit.Goals as goal

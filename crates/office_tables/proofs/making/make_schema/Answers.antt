@@ -1,4 +1,4 @@
-use Rattle.std.proofs.Common.{OnOk, arith}
+use Rattle.std.proofs.Common.{arith}
 use Rattle.sqlite.specs.Held.{state}
 use Rattle.sqlite.specs.State.{HasCleanDisk}
 use Rattle.office_tables.proofs.Creations.{creates_all}

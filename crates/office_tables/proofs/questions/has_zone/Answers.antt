@@ -1,8 +1,6 @@
-use Rattle.std.proofs.Common.{◌≡◌, true, ◌∙◌, [], ◌∷◌, map, refl, sym}
+use Rattle.std.proofs.Common.{true, [], ◌∷◌, refl, sym}
 use Rattle.sqlite_value.specs.declared.value.Value.TheVariants.{Text}
-use Rattle.sqlite_value.specs.Order.{Row}
 use Rattle.sqlite.specs.Held.{state}
-use Rattle.sqlite_trees.proofs.ListLemmas.{map-map}
 use Rattle.office_tables.proofs.Asks.{shown_keeps}
 use Rattle.office_tables.proofs.Commits.{held_before}
 use Rattle.office_tables.proofs.RowLemmas.{never_bad}

@@ -1,4 +1,4 @@
-use Rattle.std.proofs.Common.{◌≡◌, true, ◌∙◌, [], ◌∷◌, map, refl, subst, sym, slice_get, rules}
+use Rattle.std.proofs.Common.{◌≡◌, true, ◌∙◌, [], ◌∷◌, refl, subst, sym, slice_get, rules}
 use Rattle.sqlite_value.specs.declared.value.Value.TheVariants.{Text}
 use Rattle.office_tables.specs.Questions.{IsLast, changes_of}
 use Rattle.sqlite.specs.Held.{state}

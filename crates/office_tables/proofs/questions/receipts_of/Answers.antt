@@ -1,9 +1,8 @@
-use Rattle.std.proofs.Common.{◌≡◌, ◌&&◌, not, List, [], ◌∷◌, map, bytes_eq, refl, true, IfOk, OnOk}
-use Rattle.sqlite_value.specs.declared.value.Value.TheVariants.{Text, Blob}
+use Rattle.std.proofs.Common.{◌&&◌, [], ◌∷◌, map, bytes_eq, refl, true}
+use Rattle.sqlite_value.specs.declared.value.Value.TheVariants.{Text}
 use Rattle.sqlite.specs.Held.{state}
 use Rattle.office_tables.specs.Rows.{ReceiptRowOf}
 use Rattle.office_tables.specs.Tables.{stored_receipt}
-use Rattle.office_tables.specs.Questions.{is_below}
 use Rattle.office_tables.proofs.Asks.{shown_keeps}
 use Rattle.office_tables.proofs.Commits.{if_ok_then, held_before}
 use Rattle.office_tables.proofs.Parts.{on_part}

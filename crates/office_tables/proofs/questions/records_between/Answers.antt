@@ -1,4 +1,4 @@
-use Rattle.std.proofs.Common.{◌≡◌, ◌&&◌, not, List, [], ◌∷◌, map, bytes_eq, refl, true, IfOk, OnOk}
+use Rattle.std.proofs.Common.{◌&&◌, not, [], ◌∷◌, map, bytes_eq, refl, true}
 use Rattle.sqlite_value.specs.declared.value.Value.TheVariants.{Text, Blob}
 use Rattle.sqlite.specs.Held.{state}
 use Rattle.office_tables.specs.Rows.{RecordRowOf}

@@ -1,4 +1,4 @@
-use Rattle.std.proofs.Common.{◌≡◌, ◌∙◌, true, false, true≢false, get_or, ap, sym, arith, rules}
+use Rattle.std.proofs.Common.{◌≡◌, ◌∙◌, true, true≢false, get_or, ap, sym, arith, rules}
 use Rattle.office_tables.proofs.Texts.{indexes_are}
 use Rattle.office_tables.proofs.Whole.{five}
 use Rattle.office_tables.proofs.schema.are_indexes.Goals as goal

@@ -1,4 +1,4 @@
-use Rattle.std.proofs.Common.{◌≡◌, ◌∙◌, true, false, [], ◌∷◌, codes, get_or, ap, sym, arith, rules}
+use Rattle.std.proofs.Common.{◌≡◌, ◌∙◌, true, [], ◌∷◌, codes, get_or, ap, sym, arith, rules}
 use Rattle.sqlite_schema.specs.declared.schema.Table.{Table}
 use Rattle.office_tables.specs.Tables.{keyed}
 use Rattle.office_tables.proofs.Whole.{five}

@@ -1,6 +1,6 @@
-use Rattle.std.proofs.Common.{◌≡◌, ◌⊎◌, inl, ◌≤◌, ℕ, Ok, Err, OnOk, OnErr, IsTrue, rules, sym, subst, arith, refl}
-use Rattle.sqlite.specs.Held.{Held, state}
-use Rattle.sqlite.specs.State.{State, HasCleanDisk}
+use Rattle.std.proofs.Common.{◌≡◌, ◌⊎◌, inl, OnOk, OnErr, IsTrue, rules, subst, arith, refl}
+use Rattle.sqlite.specs.Held.{state}
+use Rattle.sqlite.specs.State.{HasCleanDisk}
 use Rattle.office_tables.specs.Rows.{RowsOf, written}
 use Rattle.office_tables.specs.Holds.{AreRows, Holds, Leaves, IsGoing, Keeps}
 use Rattle.office_tables.proofs.Commits.{clean_if_open, on_ok_when, on_err_when, on_err, made, durable, undone_keeps, left_nothing, failed_end, left_either}

@@ -1,7 +1,6 @@
 use Rattle.std.proofs.Common.{◌∙◌, sym, ap, arith}
 use Rattle.std.proofs.lemmas.List.{take_all}
 use Rattle.office_tables.specs.Parts.{with_each}
-use Rattle.sqlite.specs.Held.{state}
 use Rattle.office_tables.proofs.Parts.{part_then, part_same, each_more}
 use Rattle.office_tables.proofs.writing.insert_all.Goals as goal
 

@@ -1,9 +1,8 @@
-use Rattle.std.proofs.Common.{◌≡◌, List, [], ◌∷◌, Ok, refl, arith, rules}
+use Rattle.std.proofs.Common.{[], Ok, rules}
 use Rattle.std.specs.Int.{w64}
 use Rattle.std.specs.Prelude.{FitsSigned}
 use Rattle.std.proofs.lemmas.Int.{to_z-of_z}
 use Rattle.sqlite.specs.Held.{state}
-use Rattle.sqlite.specs.State.{HasCleanDisk}
 use Rattle.office_tables.specs.Rows.{RowsOf}
 use Rattle.office_tables.specs.Parts.{with_version}
 use Rattle.office_tables.proofs.Texts.{delete_meta_text}

@@ -1,8 +1,5 @@
-use Rattle.std.proofs.Common.{◌≡◌, ◌⊎◌, inl, inr, OnOk, OnErr, arith}
+use Rattle.std.proofs.Common.{inl, inr}
 use Rattle.sqlite.specs.Held.{state}
-use Rattle.sqlite.specs.State.{HasCleanDisk}
-use Rattle.office_tables.specs.Rows.{RowsOf, written}
-use Rattle.office_tables.specs.Holds.{Holds}
 use Rattle.office_tables.proofs.Commits.{on_err, holds_on, keeps_then, left_before}
 use Rattle.office_tables.proofs.writing.write.Goals as goal
 

@@ -1,4 +1,3 @@
-use Rattle.std.proofs.Common.{string_bytes}
 use Rattle.sqlite.specs.Held.{state}
 use Rattle.office_tables.specs.Tables.{stored_version}
 use Rattle.office_tables.specs.Stores.{IsReadableRow}

@@ -1,9 +1,8 @@
-use Rattle.std.proofs.Common.{string_bytes}
+use Rattle.std.proofs.Common.{[], ◌∷◌, refl}
 use Rattle.sqlite.specs.Held.{state}
 use Rattle.office_tables.specs.Tables.{stored_record}
-use Rattle.office_tables.specs.Stores.{IsReadableRow}
 use Rattle.office_tables.specs.Parts.{with_record}
-use Rattle.office_tables.proofs.Texts.{insert_records_text}
+use Rattle.office_tables.proofs.Texts as the
 use Rattle.office_tables.proofs.Statements.{inserts_records}
 use Rattle.office_tables.proofs.Parts.{part_from}
 use Rattle.office_tables.proofs.writing.RecordRowInsert.insert.Goals as goal
@@ -13,7 +12,5 @@ returns-clause-part g c =
     let old = state g.S.Store c.args.tx.now.conn.now in
     let new = state g.S.Store c.run.new.tx.conn.now in
     let k = c.args.self.now in
-    let readable : IsReadableRow (stored_record k) = rw (← c.self.view_is) (rw c.as_str.ensures.value at c.as_str.utf8, (rw c.as_str-2.ensures.value at c.as_str-2.utf8, (tt, (rw c.as_str-3.ensures.value at c.as_str-3.utf8, (tt, (tt, tt)))))) in
-    part_from insert_records_text (stored_record k) old new (with_record k) c.run.result c.run.ensures.stays
-    (λ clean. rw (← c.self.view_is) (rw (c.params-to_sql.ensures, c.params-to_sql-2.ensures, c.params-to_sql-3.ensures, c.params-to_sql-4.ensures, c.params-to_sql-5.ensures, c.params-to_sql-6.ensures, c.as_str.ensures.value, c.as_str-2.ensures.value, c.as_str-3.ensures.value, c.as_slice.ensures.value) at (c.run.ensures.ran clean)))
-    (λ n rows it h. inserts_records old new k n rows readable it h)
+    part_from the.insert_records_text (stored_record k) old new (with_record k) c.run.result c.run.ensures.stays (λ clean. rw c.values.ensures.value at (c.run.ensures.ran clean))
+    (λ n rows it h. inserts_records the.insert_records_text (stored_record k) the.terms_6 old new (k ∷ []) n rows the.insert_records_plain the.insert_records_is refl (c.values.ensures.readable, tt) it h)
