@@ -24,7 +24,7 @@ use std::alloc::{AllocFailed, Global};
 /// The size of the pages of a new database, in octets. A change writes some ten pages, and each of them costs by its octets.
 const NEW_SIZE: usize = 1024;
 
-const NO_MEMORY: Error = Error::SqliteFailure(ErrorCode::OutOfMemory);
+pub(crate) const NO_MEMORY: Error = Error::SqliteFailure(ErrorCode::OutOfMemory);
 
 const FULL: Error = Error::SqliteFailure(ErrorCode::DiskFull);
 

@@ -9,14 +9,12 @@ ghost use Rattle.sqlite.specs.State.{HasCleanDisk};
 ghost use Rattle.sqlite_std_file.specs.File.{IsFresh, file_is_usable};
 ghost use Rattle.office_files.specs.New.{Shows};
 
-use crate::files::connect;
+use crate::files::{NO_MEMORY, connect};
 use sqlite::{Connection, Error, ErrorCode, FileFrom, FileStore, Options, Start};
 use sqlite_disk::Files;
 use sqlite_std_file::OpenError;
 use std::hash::{BuildHasher, RandomState};
 use std::io::ErrorKind;
-
-const NO_MEMORY: Error = Error::SqliteFailure(ErrorCode::OutOfMemory);
 
 const CANNOT_OPEN: Error = Error::SqliteFailure(ErrorCode::CannotOpen);
 
