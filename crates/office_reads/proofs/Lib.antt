@@ -5,6 +5,7 @@ pub mod ContentLemmas
 pub mod ZoneLemmas
 pub mod ReceiptLemmas
 pub mod StateLaws
+pub mod OriginLaws
 pub mod CheckLemmas
 pub mod StateChecks
 pub mod TurnLemmas

@@ -1,10 +1,15 @@
 //! What the definitions promise. The functions do nothing: their contracts are the laws.
 
-ghost use Rattle.office_reads.specs.States.{ZonesAreListed, LastNumbersCount, StatesAreSound, OrderDoesNotCount};
+ghost use Rattle.office_reads.specs.States.{ZonesAreListed, ZonesStandAtOrigins, LastNumbersCount, StatesAreSound, OrderDoesNotCount};
 
 /// A zone is held of an origin exactly where its row is there.
 pub fn zones_are_listed()
     ensures { ZonesAreListed }
+{}
+
+/// No zone is held of an origin exactly where no record stands at it.
+pub fn zones_stand_at_origins()
+    ensures { ZonesStandAtOrigins }
 {}
 
 /// The last number of a zone's changes is how many they are.

@@ -8,6 +8,9 @@ pub mod state;
 pub mod views;
 pub mod zones;
 
-pub use laws::{last_numbers_count, order_does_not_count, states_are_sound, zones_are_listed};
+pub use laws::{
+    last_numbers_count, order_does_not_count, states_are_sound, zones_are_listed,
+    zones_stand_at_origins,
+};
 pub use state::is_state;
 pub use views::{changes_of, part_of, receipt_of, records_within, zone_of};

@@ -1,16 +1,19 @@
 -- Questions, one after the other.
-use Rattle.std.proofs.Common.{◌≡◌, ℕ, List, Bool, true, false, Option, Some, None, is_some, pos, refl, sym, ap, ◌∙◌, bytes_eq}
+use Rattle.std.proofs.Common.{◌≡◌, ℕ, List, Bool, true, false, Option, Some, None, is_some, pos, Ok, Err, Result, IfOk, refl, sym, ap, ◌∙◌, bytes_eq}
 use Rattle.std.specs.List.{list_any}
 use Rattle.sqlite.specs.State.{State as Shown, HasCleanDisk}
+use Rattle.dns_names.specs.Keys.{key_of}
 use Rattle.dns_names.specs.Labels.{IsName}
 use Rattle.dns_names.specs.Spelling.{name_text}
 use Rattle.office_core.specs.States.{Held, State}
 use Rattle.office_tables.specs.Rows.{RowsOf}
+use Rattle.office_tables.specs.Questions.{records_at}
 use Rattle.office_rows.specs.Contents.{AreOfState}
 use Rattle.office_tables.specs.Holds.{Holds, Leaves, OnlyAsks}
 use Rattle.office_reads.proofs.StateLaws.{zones_are_listed}
+use Rattle.office_reads.proofs.OriginLaws.{zones_stand_at_origins}
 use Rattle.office_store.specs.Holds.{HoldsState}
-use Rattle.office_store.specs.Asks.{Asked, Only}
+use Rattle.office_store.specs.Asks.{Asked, Only, Finds, Stands}
 
 pub asked_of : (old new : Shown) → ((rows : RowsOf) → Holds old rows → Holds new rows) → Leaves new old.may_leave → (HasCleanDisk new → HasCleanDisk old) → Asked old new
 asked_of old new keeps left honest = record {
@@ -72,3 +75,18 @@ found Q old mid origin asked there answer s h =
     let now = asked.same s h in
     let held = some_held (s.zones origin) (there s h) in
     (now.rows, now.are, held.0, held.1, answer now.rows now.held)
+
+-- what stands at an origin tells whether there is the zone
+pub stands : {X : Type 0} (Q : RowsOf → X → Type 0) (conn : Shown) (origin : List (List ℕ)) (found : Option X) → IsName origin
+    → ((all : RowsOf) → Holds conn all → Stands (records_at (name_text origin) (key_of origin) all.records) (Q all) found) → (s : State) → HoldsState conn s → Finds Q s origin found
+stands Q conn origin None name tells s h = (zones_stand_at_origins (pos 2) h.rows s origin h.are name).0 (tells h.rows h.held)
+stands Q conn origin (Some x) name tells s h = go (s.zones origin) refl
+  where
+    go : (held : Option Held) → s.zones origin ≡ held → Finds Q s origin (Some x)
+    go None none = absurd ((tells h.rows h.held).0 ((zones_stand_at_origins (pos 2) h.rows s origin h.are name).1 none))
+    go (Some held) is = (h.rows, h.are, held, is, (tells h.rows h.held).1)
+
+-- what a value says, if there is one
+pub on_found : {X E : Type 0} (r : Result X E) (A B : X → Type 0) → ((x : X) → A x → B x) → IfOk r A → IfOk r B
+on_found (Ok x) A B f h = f x h
+on_found (Err e) A B f h = tt

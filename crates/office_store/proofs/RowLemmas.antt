@@ -1,6 +1,7 @@
 -- Rows that are gathered name by name.
-use Rattle.std.proofs.Common.{◌≡◌, ◌⊎◌, inl, inr, ℕ, zero, suc, ◌+◌, ◌<◌, Bool, true, false, ◌&&◌, ◌||◌, cond, List, [], ◌∷◌, ◌++◌, length, filter, IsPermutation, refl, sym, ap, ◌∙◌, bytes_eq, map, take, get_or, subst, arith}
+use Rattle.std.proofs.Common.{◌≡◌, ◌≢◌, ◌==◌, ◌⊎◌, inl, inr, ℕ, zero, suc, ◌+◌, ◌<◌, Bool, true, false, ◌&&◌, ◌||◌, cond, List, [], ◌∷◌, ◌++◌, length, filter, IsPermutation, refl, sym, ap, ◌∙◌, bytes_eq, map, take, get_or, subst, arith}
 use Rattle.std.specs.List.{AllByRecursion, Contains, list_any}
+use Rattle.std.proofs.Math.Dec.{eqb-suc-zero}
 use Rattle.std.proofs.lemmas.List.{map-append, take_more}
 use Rattle.std.proofs.lemmas.List.Folds.{list_any-append}
 use Rattle.std.proofs.lemmas.List.Elements.{Contains-append_left, Contains-append_right}
@@ -9,6 +10,7 @@ use Rattle.dns_names.specs.Keys.{key_of}
 use Rattle.office_tables.specs.Rows.{RecordRowOf}
 use Rattle.office_tables.specs.Questions.{records_at}
 use Rattle.office_reads.specs.Parts.{rows_at, AreRowsAt}
+use Rattle.office_reads.proofs.ListLemmas.{none_moved}
 
 -- ---- what is contained
 
@@ -109,6 +111,16 @@ rows_none origin all = record {
 -- the rows at one key
 pub rows_first : (origin k : List ℕ) (all rows : List RecordRowOf) → IsPermutation (records_at origin k all) rows → AreRowsAt origin (k ∷ []) all rows
 rows_first origin k all rows same = rows_more origin k [] all [] rows (rows_none origin all) same
+
+-- whether rows are none, by the same in another order
+pub none_stand : (there rows : List RecordRowOf) → IsPermutation there rows → (length rows == 0) ≡ true → there ≡ []
+none_stand there [] same empty = none_moved there (IsPermutation-sym there [] same)
+none_stand there (r ∷ rows) same empty = absurd (let bad : true ≡ false = sym empty ∙ eqb-suc-zero (length rows) in cc)
+
+pub some_stand : (there rows : List RecordRowOf) → IsPermutation there rows → (length rows == 0) ≡ false → there ≢ []
+some_stand there [] same some none = cc
+some_stand [] (r ∷ rows) same some none = let e = none_moved (r ∷ rows) same in cc
+some_stand (t ∷ there) (r ∷ rows) same some none = cc
 
 -- the rows at a name and at the first of some others, and at the next
 pub rows_next : (text : List ℕ) (origin name : List (List ℕ)) (names : List (List (List ℕ))) (i : ℕ) (all rows more : List RecordRowOf) → i < length names → name ≡ get_or names i name

@@ -1,8 +1,8 @@
 -- What is asked of a connection that holds a state.
-use Rattle.std.specs.Prelude.{◌≡◌, ℕ, List, Option, Some, None, pos}
+use Rattle.std.specs.Prelude.{◌≡◌, ◌≢◌, ℕ, List, [], Option, Some, None, pos}
 use Rattle.sqlite.specs.State.{State as Shown, HasCleanDisk}
 use Rattle.office_core.specs.States.{Held, State}
-use Rattle.office_tables.specs.Rows.{RowsOf}
+use Rattle.office_tables.specs.Rows.{RecordRowOf, RowsOf}
 use Rattle.office_tables.specs.Holds.{Holds, Leaves}
 use Rattle.office_rows.specs.Contents.{AreOfState}
 use Rattle.office_store.specs.Holds.{HoldsState, LeavesStates}
@@ -25,3 +25,8 @@ pub record Only (old new : Shown) : Type 0 where
 abbrev pub Finds : {X : Type 0} → (RowsOf → X → Type 0) → State → List (List ℕ) → Option X → Type 0
 Finds P s origin None = s.zones origin ≡ None
 Finds P s origin (Some x) = (all : RowsOf) × AreOfState (pos 2) all s × (held : Held) × (s.zones origin ≡ Some held) × P all x
+
+-- A question about the records of a zone is answered by what stands at its origin: by nothing where nothing stands there.
+abbrev pub Stands : {X : Type 0} → List RecordRowOf → (X → Type 0) → Option X → Type 0
+Stands there P None = there ≡ []
+Stands there P (Some x) = (there ≢ []) × P x

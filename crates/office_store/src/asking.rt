@@ -9,11 +9,11 @@ ghost use Rattle.dns_names.specs.Spelling.{name_text};
 ghost use Rattle.office_core.specs.States.{State};
 ghost use Rattle.office_tables.specs.Rows.{RowsOf};
 ghost use Rattle.office_tables.specs.Holds.{Holds, OnlyAsks};
-ghost use Rattle.office_tables.specs.Questions.{records_of as rows_of, changes_of as changes_in};
+ghost use Rattle.office_tables.specs.Questions.{records_of as rows_of, records_at, changes_of as changes_in};
 ghost use Rattle.office_reads.specs.Parts.{AreRowsAt, rows_within};
 ghost use Rattle.office_store.specs.Faults.{IsFailure};
 ghost use Rattle.office_store.specs.Holds.{HoldsState};
-ghost use Rattle.office_store.specs.Asks.{Asked, Only, Finds};
+ghost use Rattle.office_store.specs.Asks.{Asked, Only, Finds, Stands};
 
 use crate::fault::StoreFault;
 use dns_names::Name;
@@ -91,32 +91,35 @@ pub(crate) fn part_rows<S: Alter>(
     ensures asked { Asked (state S.Store conn.old) (state S.Store conn.new) }
     ensures only { HasCleanDisk (state S.Store conn.new) → OnOk result (Only (state S.Store conn.old) (state S.Store conn.new)) }
 {
-    let Some(text) = held_text(alloc, conn, origin)? else {
-        return Ok(None);
-    };
-    let rows = rows_at(alloc, conn, &text, origin, names)?;
-    Ok(Some(rows))
+    check_alone(conn)?;
+    let text = origin.text(alloc)?;
+    notes_name(origin);
+    rows_at(alloc, conn, &text, origin, names)
 }
 
-/// The rows of the records at the origin of a text and at some names.
+/// The rows of the records at the origin of a text and at some names, where some stand at the origin.
 fn rows_at<S: Alter>(
     alloc: Global,
     conn: &mut Connection<S>,
     text: &str,
     origin: &Name,
     names: &[Name],
-) -> Result<Vec<RecordRow>, StoreFault>
+) -> Result<Option<Vec<RecordRow>>, StoreFault>
     requires { conn.old.in_transaction ≡ false }
-    ensures found { HasCleanDisk (state S.Store conn.new) → IfOk result (λ rows. (all : RowsOf) → Holds (state S.Store conn.old) all → AreRowsAt text.now (map key_of (origin.now ∷ names.now)) all.records rows.items) }
+    ensures found { HasCleanDisk (state S.Store conn.new) → IfOk result (λ found. (all : RowsOf) → Holds (state S.Store conn.old) all → Stands (records_at text.now (key_of origin.now) all.records) (λ rows. AreRowsAt text.now (map key_of (origin.now ∷ names.now)) all.records rows.items) found) }
     ensures asks { OnlyAsks (state S.Store conn.old) (state S.Store conn.new) }
     ensures only { HasCleanDisk (state S.Store conn.new) → OnOk result ((rows : RowsOf) → Holds (state S.Store conn.new) rows → Holds (state S.Store conn.old) rows) }
 {
     let mut rows = records_at(alloc, conn, text, origin.key())?;
+    // Each zone has an SOA at its origin.
+    if rows.is_empty() {
+        return Ok(None);
+    }
     for name in names {
         let mut more = records_at(alloc, conn, text, name.key())?;
         rows.append(&mut more)?;
     }
-    Ok(rows)
+    Ok(Some(rows))
 }
 
 /// The rows of a zone's records within a name, in any order, where there is the zone.

@@ -1,4 +1,4 @@
-use Rattle.std.proofs.Common.{◌∷◌, ◌+◌, map, take, sym, subst, IsPermutation, arith}
+use Rattle.std.proofs.Common.{◌∷◌, ◌+◌, map, take, sym, subst, rules, IsPermutation, arith}
 use Rattle.std.proofs.lemmas.List.{take_all}
 use Rattle.sqlite.specs.Held.{state}
 use Rattle.sqlite.specs.State.{HasCleanDisk}
@@ -6,7 +6,7 @@ use Rattle.dns_names.specs.Keys.{key_of}
 use Rattle.office_tables.specs.Questions.{records_at}
 use Rattle.office_tables.proofs.Commits.{asks_then}
 use Rattle.office_reads.specs.Parts.{AreRowsAt}
-use Rattle.office_store.proofs.RowLemmas.{rows_first, rows_next}
+use Rattle.office_store.proofs.RowLemmas.{rows_first, rows_next, none_stand, some_stand}
 use Rattle.office_store.proofs.asking.rows_at.Goals as goal
 
 pub loop-name-init : goal.loop-name-init
@@ -14,6 +14,8 @@ loop-name-init g c =
     record {
       asks = c.records_at.ensures.asks;
       only = λ clean. c.in_ok-rows.ensures.only clean;
+      stands = λ clean all h. some_stand (records_at c.args.text.now (key_of c.args.origin.now) all.records) c.in_ok-rows.rows.items
+          (subst (λ k. IsPermutation (records_at c.args.text.now k all.records) c.in_ok-rows.rows.items) c.key.ensures.key (c.in_ok-rows.ensures.answer clean all h)) (search (rules, c.is_empty.ensures, c.if-is_empty.false));
       found = λ clean all h. rows_first c.args.text.now (key_of c.args.origin.now) all.records c.in_ok-rows.rows.items
           (subst (λ k. IsPermutation (records_at c.args.text.now k all.records) c.in_ok-rows.rows.items) c.key.ensures.key (c.in_ok-rows.ensures.answer clean all h));
     }
@@ -27,6 +29,7 @@ loop-name-preserved g c =
     record {
       asks = asks_then (state g.S.Store c.args.conn.now) before after c.loop-name.invariant.asks asks;
       only = λ clean rows h. c.loop-name.invariant.only (asks.honest clean) rows (c.in_ok-more.ensures.only clean rows h);
+      stands = λ clean all h. c.loop-name.invariant.stands (asks.honest clean) all h;
       found = λ clean all h.
           let early : HasCleanDisk before = asks.honest clean in
           let more = subst (λ k. IsPermutation (records_at c.args.text.now k all.records) c.in_ok-more.more.items) c.key-in-loop-name.ensures.key (c.in_ok-more.ensures.answer clean all (c.loop-name.invariant.asks.same all h)) in
@@ -36,5 +39,13 @@ loop-name-preserved g c =
 
 pub returns-clause-found : goal.returns-clause-found
 returns-clause-found g c =
-    λ clean all h. subst (λ ns. AreRowsAt c.args.text.now (map key_of (c.args.origin.now ∷ ns)) all.records c.loop-name.rows.items)
-    (take_all c.loop-name.name-index c.args.names.now (omega arith)) (c.loop-name.invariant.found clean all h)
+    λ clean all h. (
+      c.loop-name.invariant.stands clean all h,
+      subst (λ ns. AreRowsAt c.args.text.now (map key_of (c.args.origin.now ∷ ns)) all.records c.loop-name.rows.items)
+          (take_all c.loop-name.name-index c.args.names.now (omega arith)) (c.loop-name.invariant.found clean all h),
+    )
+
+pub returns-then-is_empty-clause-found : goal.returns-then-is_empty-clause-found
+returns-then-is_empty-clause-found g c =
+    λ clean all h. none_stand (records_at c.args.text.now (key_of c.args.origin.now) all.records) c.in_ok-rows.rows.items
+    (subst (λ k. IsPermutation (records_at c.args.text.now k all.records) c.in_ok-rows.rows.items) c.key.ensures.key (c.in_ok-rows.ensures.answer clean all h)) (search (rules, c.is_empty.ensures, c.if-is_empty.true))
