@@ -4,8 +4,6 @@
 #[cfg(test)]
 mod master;
 #[cfg(test)]
-mod names;
-#[cfg(test)]
 mod policy;
 #[cfg(test)]
 mod rdata;

@@ -1,0 +1,53 @@
+use crate::octets::push_octets;
+use std::alloc::{AllocError, Global};
+
+/// A row: what is asked, and of what.
+#[derive(Drop)]
+pub struct Row<'a> {
+    /// The first word of the line.
+    pub verb: &'a str,
+    /// What stands behind the first word and a space.
+    pub text: Vec<u8>,
+    /// The lines below.
+    pub body: Vec<u8>,
+}
+
+impl<'a> Row<'a> {
+    /// Reads the line of a row, whose body is empty.
+    pub fn read(alloc: Global, line: &'a str) -> Result<Self, AllocError> {
+        let (verb, rest) = line.split_once(' ').unwrap_or((line, ""));
+        let mut text = Vec::new(alloc);
+        push_octets(alloc, rest, &mut text)?;
+        Ok(Row {
+            verb,
+            text,
+            body: Vec::new(alloc),
+        })
+    }
+
+    /// Appends a line, which begins with `|`, to the body.
+    pub fn push_line(&mut self, alloc: Global, line: &str) -> Result<(), AllocError> {
+        match line.strip_prefix("|- ") {
+            Some(text) => push_octets(alloc, text, &mut self.body),
+            None => {
+                let text = line.strip_prefix("| ").unwrap_or("");
+                push_octets(alloc, text, &mut self.body)?;
+                self.body.push(b'\n')?;
+                Ok(())
+            }
+        }
+    }
+
+    /// The text before its first space, and what stands behind it; all of it, and nothing, where there is no space.
+    pub fn split(&self) -> (&[u8], &[u8]) {
+        match self.text.iter().position(|octet| *octet == b' ') {
+            Some(at) => (&self.text[..at], &self.text[at + 1..]),
+            None => (&self.text, &[]),
+        }
+    }
+
+    /// The words of the text, with one space between two.
+    pub fn words(&self, alloc: Global) -> Result<Vec<&[u8]>, AllocError> {
+        self.text.split(|octet| *octet == b' ').collect(alloc)
+    }
+}
