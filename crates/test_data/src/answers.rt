@@ -1,0 +1,111 @@
+use crate::items::{data, first_word};
+use crate::records::{line, rank, sameness};
+use dns_data::{Data, DataFault, Record, RecordType, Ttl, data_text};
+use dns_names::Name;
+use std::alloc::{AllocError, Global};
+use std::net::{Ipv4Addr, Ipv6Addr};
+use test_rows::{Answers, Row};
+
+/// Answers to rows of record data, with the records that are ranked so far.
+#[derive(Drop)]
+pub struct Records {
+    ranked: Vec<Record>,
+}
+
+impl Records {
+    /// Answers, with no record ranked.
+    pub fn new(alloc: Global) -> Records {
+        Records {
+            ranked: Vec::new(alloc),
+        }
+    }
+
+    fn answer_to(&mut self, alloc: Global, row: &Row<'_>) -> Result<String, DataFault> {
+        match row.verb {
+            "type" => type_answer(alloc, &row.text),
+            "numbered" => numbered(alloc, &row.text),
+            "ttl" => ttl(alloc, &row.text),
+            "data" => Ok(data_text(alloc, &data(alloc, &row.text, None)?)?),
+            "data-at" => data_at(alloc, &row.text),
+            "count" => count(alloc, &data(alloc, &row.text, None)?),
+            "ipv4" => ipv4(alloc, &row.text),
+            "ipv6" => ipv6(alloc, &row.text),
+            "line" => line(alloc, &row.text),
+            "same" => Ok(String::from_str(alloc, sameness(alloc, &row.body)?)?),
+            "ranked" => rank(alloc, &mut self.ranked, &row.text),
+            "no-memory" => Err(DataFault::NoMemory),
+            _ => Ok(String::from_str(alloc, "no such verb")?),
+        }
+    }
+}
+
+impl Answers for Records {
+    fn answer(
+        &mut self,
+        alloc: Global,
+        row: &Row<'_>,
+        answer: &mut Vec<u8>,
+    ) -> Result<(), AllocError> {
+        let told = match self.answer_to(alloc, row) {
+            Ok(told) => told,
+            Err(fault) => format!(in alloc; "refused {}: {fault}", fault.number())?,
+        };
+        answer.extend_from_slice(told.as_bytes())
+    }
+}
+
+fn type_answer(alloc: Global, text: &[u8]) -> Result<String, DataFault> {
+    let record_type = RecordType::read(text)?;
+    Ok(format!(in alloc; "{} {}", record_type.text(), record_type.number())?)
+}
+
+fn numbered(alloc: Global, number: &[u8]) -> Result<String, DataFault> {
+    let record_type = decimal(number).and_then(RecordType::from_number);
+    let text = record_type.map_or("none", RecordType::text);
+    Ok(String::from_str(alloc, text)?)
+}
+
+fn decimal(text: &[u8]) -> Option<u16> {
+    str::from_utf8(text).ok()?.parse().ok()
+}
+
+fn hexadecimal(text: &[u8]) -> Option<u16> {
+    u16::from_str_radix(str::from_utf8(text).ok()?, 16).ok()
+}
+
+fn ttl(alloc: Global, text: &[u8]) -> Result<String, DataFault> {
+    let seconds = Ttl::read(text)?.seconds();
+    Ok(format!(in alloc; "{seconds}")?)
+}
+
+fn data_at(alloc: Global, text: &[u8]) -> Result<String, DataFault> {
+    let (origin, rest) = first_word(text);
+    let origin = Name::read_absolute(alloc, origin)?;
+    Ok(data_text(alloc, &data(alloc, rest, Some(&origin))?)?)
+}
+
+fn count(alloc: Global, rdata: &Data) -> Result<String, DataFault> {
+    Ok(match rdata {
+        Data::Txt(strings) => format!(in alloc; "{} strings", strings.as_slice().len())?,
+        Data::Ds { digest, .. } => format!(in alloc; "{} octets", digest.octets().len())?,
+        _ => String::from_str(alloc, "neither strings nor a digest")?,
+    })
+}
+
+fn ipv4(alloc: Global, text: &[u8]) -> Result<String, DataFault> {
+    let mut octets = [0u8; 4];
+    for (octet, word) in octets.iter_mut().zip(text.split(|octet| *octet == b' ')) {
+        *octet = decimal(word)
+            .and_then(|number| u8::try_from(number).ok())
+            .unwrap_or(0);
+    }
+    Ok(data_text(alloc, &Data::A(Ipv4Addr::from(octets)))?)
+}
+
+fn ipv6(alloc: Global, text: &[u8]) -> Result<String, DataFault> {
+    let mut groups = [0u16; 8];
+    for (group, word) in groups.iter_mut().zip(text.split(|octet| *octet == b' ')) {
+        *group = hexadecimal(word).unwrap_or(0);
+    }
+    Ok(data_text(alloc, &Data::Aaaa(Ipv6Addr::from(groups)))?)
+}
