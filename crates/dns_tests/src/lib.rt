@@ -1,9 +1,7 @@
-//! Outside vectors and worked examples for master files, policies and zones.
+//! Outside vectors and worked examples for master files and zones.
 #![tactic(auto)]
 
 #[cfg(test)]
 mod master;
-#[cfg(test)]
-mod policy;
 #[cfg(test)]
 mod zones;
