@@ -1,7 +1,7 @@
 -- What `==` says of records and their data.
 use Rattle.std.proofs.Common.{◌≡◌, ◌↔◌, ℕ, Bool, true, false, List, IsTrue, refl, ap}
 use Rattle.std.specs.Bool.{Decides}
-use Rattle.std.specs.Prelude.{◌&&◌}
+use Rattle.std.specs.Prelude.{◌&&◌, ◌==◌}
 use Rattle.std.proofs.lemmas.Bool.Decides.{Decides-eqb}
 use Rattle.std.proofs.lemmas.Slice.Eq.{bytes_eq-Decides, slice_eq-Decides}
 use Rattle.std.specs.declared.net.ipv4_addr.Ipv4Addr.{Ipv4Addr}
@@ -23,6 +23,15 @@ both false t p q = (λ e. absurd cc, λ h. p.1 h.0)
 
 via : {P Q : Type 0} (t : Bool) → Decides t P → (P → Q) → (Q → P) → Decides t Q
 via t d to from = (λ e. to (d.0 e), λ q. d.1 (from q))
+
+untrue : (s : Bool) → s ≡ false → IsTrue s → ⊥
+untrue true e h = cc
+untrue false e h = cc
+
+-- values of two variants, by the numbers of these, are not the same
+pub apart : {A : Type 0} (variant : A → ℕ) (s : Bool) (a b : A) → s ≡ false → (variant a == variant b) ≡ false → Decides s (a ≡ b)
+apart variant s a b differ other =
+    (λ e. absurd (untrue s differ e), λ e. absurd (untrue (variant a == variant b) other ((Decides-eqb (variant a) (variant b)).1 (ap variant e))))
 
 -- ---- fields
 
@@ -76,6 +85,19 @@ ds_decides k a t k' a' t' d d' =
 
 -- ---- data
 
+-- the number of a variant
+abbrev variant : Data → ℕ
+variant (A a) = 0
+variant (Ns n) = 1
+variant (Cname n) = 2
+variant (Soa f) = 3
+variant (Ptr n) = 4
+variant (Mx p n) = 5
+variant (Txt s) = 6
+variant (Aaaa a) = 7
+variant (Srv p w o t) = 8
+variant (Ds k a t d) = 9
+
 pub data_decides : (a b : Data) → Decides (of_data.ghosts.eq a b) (a ≡ b)
 data_decides (A a) (A b) = ipv4_decides a b
 data_decides (Ns a) (Ns b) = via _ (same_name-Decides a b) (λ e. ap Ns e) (λ e. cc)
@@ -87,7 +109,7 @@ data_decides (Txt a) (Txt b) = strings_decides a b
 data_decides (Aaaa a) (Aaaa b) = ipv6_decides a b
 data_decides (Srv p w o t) (Srv p' w' o' t') = srv_decides p w o p' w' o' t t'
 data_decides (Ds k a t d) (Ds k' a' t' d') = ds_decides k a t k' a' t' d d'
-data_decides a b = (λ e. absurd cc, λ e. absurd cc)
+data_decides a b = apart variant (of_data.ghosts.eq a b) a b refl refl
 
 -- ---- records
 
@@ -95,8 +117,4 @@ pub same_then : (a b : Record) (s t : Bool) → s ≡ true → Decides s (a.owne
 same_then a b s t e p q = (λ h. (p.0 e, q.0 h), λ h. q.1 h.1)
 
 pub same_else : (a b : Record) (s : Bool) → s ≡ false → Decides s (a.owner ≡ b.owner) → IsTrue s ↔ SameRecord a b
-same_else a b s e p = (λ h. absurd (absurd_test s e h), λ h. p.1 h.0)
-  where
-    absurd_test : (s : Bool) → s ≡ false → IsTrue s → ⊥
-    absurd_test true e h = cc
-    absurd_test false e h = cc
+same_else a b s e p = (λ h. absurd (untrue s e h), λ h. p.1 h.0)

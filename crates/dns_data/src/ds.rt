@@ -27,7 +27,7 @@ fn octets_of(alloc: Global, text: &[u8]) -> Result<Vec<u8>, DataFault>
 }
 
 /// A digest of a key: 1 to 65,531 octets (RFC 4034 section 5.1.4).
-#[derive(Debug, Drop)]
+#[derive(Drop)]
 pub struct Digest {
     octets: Vec<u8>,
 }

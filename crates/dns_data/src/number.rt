@@ -11,15 +11,15 @@ use crate::fault::DataFault;
 use std::marker::Model;
 
 /// The version of a zone, a number of 32 bits that wraps (RFC 1035 section 3.3.13, RFC 1982).
-#[derive(Clone, Copy, Debug, PartialEq, Eq)]
+#[derive(Clone, Copy, PartialEq, Eq)]
 pub struct Serial(pub u32);
 
 /// A duration in seconds, 0 to 4,294,967,295 (RFC 1035 section 3.3.13).
-#[derive(Clone, Copy, Debug, PartialEq, Eq)]
+#[derive(Clone, Copy, PartialEq, Eq)]
 pub struct Seconds(pub u32);
 
 /// How long a record may be cached, in seconds, 0 to 2,147,483,647 (RFC 2181 section 8).
-#[derive(Clone, Copy, Debug, PartialEq, Eq)]
+#[derive(Clone, Copy, PartialEq, Eq)]
 pub struct Ttl {
     seconds: u32,
 }

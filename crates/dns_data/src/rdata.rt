@@ -12,7 +12,7 @@ use std::alloc::{AllocError, Global};
 use std::net::{Ipv4Addr, Ipv6Addr};
 
 /// The data of a record, a variant for each type that is kept.
-#[derive(Debug, PartialEq, Eq, Drop)]
+#[derive(PartialEq, Eq, Drop)]
 pub enum Data {
     /// An IPv4 address (RFC 1035 section 3.4.1).
     A(Ipv4Addr),

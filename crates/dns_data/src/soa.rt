@@ -8,7 +8,7 @@ use std::alloc::{AllocError, Global};
 use std::marker::Model;
 
 /// The fields of an SOA record (RFC 1035 section 3.3.13).
-#[derive(Debug, PartialEq, Eq, Drop)]
+#[derive(PartialEq, Eq, Drop)]
 pub struct SoaFields {
     /// The primary server of the zone.
     pub mname: Name,
@@ -40,7 +40,7 @@ impl SoaFields {
 
 /// The data of an SOA record, in an allocation of their own: a zone has one such record among many, and the others need no
 /// room for it.
-#[derive(Debug, Drop)]
+#[derive(Drop)]
 pub struct Soa {
     fields: Box<SoaFields>,
 }

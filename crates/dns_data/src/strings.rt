@@ -40,7 +40,7 @@ fn octets_of(alloc: Global, raw: &[u8]) -> Result<Vec<u8>, DataFault>
 }
 
 /// A character-string: 0 to 255 octets (RFC 1035 section 3.3).
-#[derive(Debug, Drop)]
+#[derive(Drop)]
 pub struct CharacterString {
     octets: Vec<u8>,
 }
@@ -115,7 +115,7 @@ impl Eq for CharacterString {
 
 /// The data of a TXT record: one or more character-strings, at most 65,535 octets with one for the length of each
 /// (RFC 1035 sections 3.2.1 and 3.3.14).
-#[derive(Debug, Drop)]
+#[derive(Drop)]
 pub struct Strings {
     strings: Vec<CharacterString>,
 }

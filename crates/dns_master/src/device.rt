@@ -8,7 +8,7 @@ use std::io::{self, ErrorKind, Read, Write};
 use std::sync::ledger::{Blank, Book, Ledger, Share};
 
 /// A device failed. What it was asked to do is not tried again.
-#[derive(Clone, Copy, Debug, PartialEq, Eq)]
+#[derive(Clone, Copy, PartialEq, Eq)]
 pub struct DeviceFailed;
 
 /// A device whose failed reads or writes are counted, for contracts alone: the count has no greatest value and takes no

@@ -75,14 +75,14 @@ fn is_other_class(raw: &[u8]) -> bool
 }
 
 /// The TTL, and whether the class, was read between the owner and the type.
-#[derive(Clone, Copy, Debug)]
+#[derive(Clone, Copy)]
 pub(crate) struct TtlAndClass {
     pub ttl: Option<Ttl>,
     pub has_class: bool,
 }
 
 /// An item between the owner and the data.
-#[derive(Clone, Copy, Debug)]
+#[derive(Clone, Copy)]
 pub(crate) enum Part {
     /// A TTL or the class, with which this was read.
     More(TtlAndClass),
@@ -115,7 +115,7 @@ fn next_part(read: TtlAndClass, item: Item) -> Result<Part, EntryFault>
 }
 
 /// What stands between the owner and the data.
-#[derive(Clone, Copy, Debug)]
+#[derive(Clone, Copy)]
 pub(crate) struct Lead {
     pub ttl: Option<Ttl>,
     pub record_type: RecordType,

@@ -27,7 +27,7 @@ use std::alloc::{AllocError, Global};
 const FILE_MAX: usize = 4_194_304;
 
 /// Why a text has no records, while it is read. The numbers say how many octets are left from the place on.
-#[derive(Clone, Copy, Debug, PartialEq, Eq)]
+#[derive(Clone, Copy, PartialEq, Eq)]
 enum FileFault {
     /// Its parentheses or quotes are wrong.
     Shape(ShapeFault),
@@ -89,7 +89,7 @@ fn minimum_in(rdata: &Data) -> Option<u32>
 }
 
 /// The records that were read, and what is in force behind them. The owner in force is that of the last of them.
-#[derive(Debug, Drop)]
+#[derive(Drop)]
 struct FileRead {
     origin: Name,
     default_ttl: Option<Ttl>,

@@ -6,7 +6,7 @@ ghost use Rattle.dns_master.specs.Lines.{line_ends, line_at, Marks};
 use crate::scan::first_octet;
 
 /// A place of a text, and its line.
-#[derive(Clone, Copy, Debug)]
+#[derive(Clone, Copy)]
 pub(crate) struct Mark {
     /// How many octets stand before it.
     pub at: usize,

@@ -11,7 +11,7 @@ use crate::shape::ShapeFault;
 use dns_data::Item;
 
 /// A place in a text: what is left of it, and the parentheses that are open there.
-#[derive(Clone, Copy, Debug)]
+#[derive(Clone, Copy)]
 pub(crate) struct Place<'a> {
     pub rest: &'a [u8],
     pub depth: usize,

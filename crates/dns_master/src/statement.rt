@@ -14,7 +14,7 @@ use dns_names::Name;
 use std::alloc::Global;
 
 /// A record as its entry states it: the owner and the TTL may be left to the entries before.
-#[derive(Debug, Drop)]
+#[derive(Drop)]
 pub(crate) struct StatedRecord {
     pub owner: Option<Name>,
     pub ttl: Option<Ttl>,
@@ -22,7 +22,7 @@ pub(crate) struct StatedRecord {
 }
 
 /// What an entry states (RFC 1035 section 5.1, RFC 2308 section 4).
-#[derive(Debug, Drop)]
+#[derive(Drop)]
 pub(crate) enum Statement {
     /// `$ORIGIN`: names are relative to this one from here on.
     Origin(Name),
@@ -33,7 +33,7 @@ pub(crate) enum Statement {
 }
 
 /// The items of an entry, and whether it begins with white space.
-#[derive(Clone, Copy, Debug)]
+#[derive(Clone, Copy)]
 pub(crate) struct EntryItems<'a> {
     pub white: bool,
     pub items: &'a [Item<'a>],

@@ -16,7 +16,7 @@ use dns_data::Item;
 use std::alloc::Global;
 
 /// An item of a master file, with its place.
-#[derive(Clone, Copy, Debug)]
+#[derive(Clone, Copy)]
 pub struct Token<'a> {
     pub item: Item<'a>,
     /// How many octets stand before the first of the item's own, which is no quote around it.

@@ -29,7 +29,7 @@ const NAME_MAX: usize = 255;
 /// A domain name: labels of 1 to 63 octets, at most 255 octets in all, with the letters A to Z folded to lower case
 /// (RFC 1034 section 3.1, RFC 1035 section 2.3). The order is the canonical one (RFC 4034 section 6.1). A name stands in
 /// one allocation, with its key.
-#[derive(Debug, Drop)]
+#[derive(Drop)]
 pub struct Name {
     memory: Vec<u8>,
 }
@@ -43,7 +43,7 @@ impl Model for Name {
 }
 
 /// The range of the keys of all names within a name: from the first to before the end.
-#[derive(Debug, Drop)]
+#[derive(Drop)]
 pub struct KeyRange<'a> {
     /// The key of the name itself.
     pub first: &'a [u8],

@@ -8,7 +8,7 @@ ghost use Rattle.dns_names.specs.Reading.{symbol_at, escaped, numbered};
 use crate::fault::NameFault;
 
 /// What stands in the text of a name (RFC 1035 section 5.1).
-#[derive(Clone, Copy, Debug, PartialEq, Eq)]
+#[derive(Clone, Copy, PartialEq, Eq)]
 pub enum Symbol {
     /// A dot without a backslash before it, which ends a label.
     Dot,

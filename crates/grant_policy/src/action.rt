@@ -4,7 +4,7 @@ ghost use Rattle.std.specs.Prelude.{◌≡◌, ◌↔◌, Some, bytes_eq};
 ghost use Rattle.std.specs.List.{find};
 
 /// What a caller asks to do with the records of a name and type.
-#[derive(Clone, Copy, Debug, PartialEq, Eq)]
+#[derive(Clone, Copy, PartialEq, Eq)]
 pub enum Action {
     /// To see them in lists, files, changes and reports.
     List,

@@ -5,7 +5,7 @@ ghost use Rattle.std.specs.Prelude.{◌≡◌, ◌↔◌, IsTrue};
 use crate::identifier::Identifier;
 
 /// Whom a rule speaks of.
-#[derive(Debug, Drop)]
+#[derive(Drop)]
 pub enum Callers {
     /// Every caller, which is written `*`.
     Every,

@@ -5,7 +5,7 @@ ghost use Rattle.std.specs.Prelude.{◌≡◌};
 use crate::identifier::Identifier;
 
 /// What a policy decides of a question.
-#[derive(Clone, Copy, Debug)]
+#[derive(Clone, Copy)]
 pub enum Decision<'a> {
     /// The rule of this identifier grants it.
     Granted(&'a Identifier),

@@ -43,7 +43,7 @@ impl<T: Drop> From<AllocFailed<T>> for IdentifierFault {
 
 /// The identifier of a caller, a request or a rule: 1 to 64 octets out of a to z, A to Z, 0 to 9, `-`, `_` and `.`.
 /// Two are compared exactly, octet by octet: capitals count.
-#[derive(Debug, Drop)]
+#[derive(Drop)]
 pub struct Identifier {
     octets: Vec<u8>,
 }

@@ -13,7 +13,7 @@ use dns_data::RecordType;
 use dns_names::Name;
 
 /// A rule of a policy: it grants or denies some callers some actions on the records of some types at some names.
-#[derive(Debug, Drop)]
+#[derive(Drop)]
 pub struct Rule {
     /// By what the rule is named where it decides.
     pub id: Identifier,

@@ -7,7 +7,7 @@ ghost use Rattle.grant_policy.specs.Scopes.{Covers, covers as covers_of};
 use dns_names::Name;
 
 /// Which names a rule speaks of, counted from the name that it names.
-#[derive(Clone, Copy, Debug, PartialEq, Eq)]
+#[derive(Clone, Copy, PartialEq, Eq)]
 pub enum Scope {
     /// That name alone.
     Name,

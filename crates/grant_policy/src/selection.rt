@@ -9,7 +9,7 @@ use dns_data::RecordType;
 use std::marker::Model;
 
 /// The record types of which a rule speaks: every kept one, or those that are listed.
-#[derive(Debug, Drop)]
+#[derive(Drop)]
 pub struct Types {
     listed: Option<Vec<RecordType>>,
 }
@@ -52,7 +52,7 @@ impl Types {
 }
 
 /// The actions of which a rule speaks: every one, or those that are listed.
-#[derive(Debug, Drop)]
+#[derive(Drop)]
 pub struct Actions {
     listed: Option<Vec<Action>>,
 }

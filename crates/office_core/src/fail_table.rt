@@ -16,7 +16,7 @@ use std::sync::ledger::{Blank, Book, Ledger, Share};
 use zone_core::Zone;
 
 /// A kind of call of a table.
-#[derive(Clone, Copy, Debug, PartialEq, Eq)]
+#[derive(Clone, Copy, PartialEq, Eq)]
 pub enum TableCall {
     Zone,
     Part,

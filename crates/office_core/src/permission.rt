@@ -15,7 +15,7 @@ use grant_policy::{Decision, Identifier, LookUps, Policy, decide};
 use zone_core::{ItemList, Operation, Place, Prerequisite, Update};
 
 /// The denial of an update: the item that asks for its first point that is not granted, and by what that is denied.
-#[derive(Clone, Copy, Debug)]
+#[derive(Clone, Copy)]
 pub struct Denial<'a> {
     /// The item that asks for the point.
     pub place: Place,

@@ -12,14 +12,14 @@ use std::alloc::{AllocError, Global};
 use zone_core::Update;
 
 /// A change of a zone: the records that went and those that came, with their TTLs, each side in record order.
-#[derive(Debug, Drop)]
+#[derive(Drop)]
 pub struct Change {
     pub removed: Vec<Record>,
     pub added: Vec<Record>,
 }
 
 /// The receipt of an update that was answered: the update, the origin of the zone that it is of, and the reply.
-#[derive(Debug, Drop)]
+#[derive(Drop)]
 pub struct Receipt {
     pub origin: Name,
     pub update: Update,
@@ -28,7 +28,7 @@ pub struct Receipt {
 
 /// What is added to a table at once: the receipt of an update of a caller's under an identifier, and the change that it made of
 /// the zone, if it made one.
-#[derive(Debug, Drop)]
+#[derive(Drop)]
 pub struct Addition {
     pub caller: Identifier,
     pub id: Identifier,

@@ -11,7 +11,7 @@ use std::alloc::{AllocError, Global};
 use zone_core::{Delegation, Failed, Place, Rcode};
 
 /// The reply to an update (RFC 2136 section 3), which its receipt keeps.
-#[derive(Debug, Drop)]
+#[derive(Drop)]
 pub enum UpdateReply {
     /// The update was made.
     NoError,
@@ -29,7 +29,7 @@ pub enum UpdateReply {
 }
 
 /// What a policy decides, with the identifier of the rule that did. A denial by no rule is that of the closing default.
-#[derive(Debug, Drop)]
+#[derive(Drop)]
 pub enum Right {
     /// A rule grants it.
     Granted(Identifier),
@@ -38,7 +38,7 @@ pub enum Right {
 }
 
 /// What a caller sees of a change, with its number among the changes of which the caller sees something, from 1.
-#[derive(Debug, Drop)]
+#[derive(Drop)]
 pub struct NumberedChange {
     pub number: u64,
     /// The records that went, in record order.
@@ -48,7 +48,7 @@ pub struct NumberedChange {
 }
 
 /// A reply.
-#[derive(Debug, Drop)]
+#[derive(Drop)]
 pub enum Reply {
     /// To an update.
     Update(UpdateReply),

@@ -6,7 +6,7 @@ use grant_policy::{Action, Identifier};
 use zone_core::Update;
 
 /// A request.
-#[derive(Debug, Drop)]
+#[derive(Drop)]
 pub enum Request {
     /// To update the zone of an origin (RFC 2136 section 2), under an identifier of the caller's choice. A delegation is
     /// requested by the update that it becomes.
@@ -46,7 +46,7 @@ pub enum Request {
 }
 
 /// A caller's request.
-#[derive(Debug, Drop)]
+#[derive(Drop)]
 pub struct Call {
     /// Who asks.
     pub caller: Identifier,

@@ -1,8 +1,0 @@
-pub mod DeviceLemmas
-pub mod ItemLemmas
-pub mod JobLemmas
-pub mod LineLemmas
-pub mod PartLemmas
-pub mod SendLemmas
-pub mod StepLemmas
-pub mod ReadAgainLemmas

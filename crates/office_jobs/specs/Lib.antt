@@ -1,12 +1,3 @@
-pub mod Device
-pub mod Refusals
-pub mod LineFaults
-pub mod Replies
-pub mod Canon
-pub mod Parts
-pub mod Apply
-pub mod PartViews
-pub mod Rights
 pub mod Import
 pub mod Migrate
 pub mod Serve

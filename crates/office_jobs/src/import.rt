@@ -3,9 +3,6 @@
 ghost use Rattle.std.specs.Prelude.{◌≡◌, ◌<◌, Some, string_bytes, IfOk};
 ghost use Rattle.office_jobs.specs.Import.{imported_line};
 
-use crate::canon::{read_name, read_zone};
-use crate::device::{ended, tell, write_text};
-use crate::line_fault::{JobFault, LineFault};
 use crate::store_file::{open_or_make_store, open_store};
 use dns_data::Record;
 use dns_master::{Sink, Source, print_zone};
@@ -16,6 +13,7 @@ use sqlite::Alter;
 use std::alloc::{AllocError, Global};
 use std::fmt::{self, Display, Formatter, Write};
 use std::sync::ledger::{Blank, Ledger};
+use text_commands::{JobFault, LineFault, ended, read_name, read_zone, tell, write_text};
 use zone_core::Zone;
 
 /// The line that tells of a zone that it was imported: its origin, its serial, and the number of its records.

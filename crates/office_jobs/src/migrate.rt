@@ -1,13 +1,12 @@
 //! Taking a store from version 1 of the tables to version 2.
 
 ghost use Rattle.office_jobs.specs.Migrate.{migrated_line};
-ghost use Rattle.office_jobs.specs.Replies.{IsSent};
+ghost use Rattle.text_commands.specs.Replies.{IsSent};
 
-use crate::device::{tell, write_text};
-use crate::line_fault::JobFault;
 use crate::store_file::migrate_store;
 use dns_master::{DeviceFailed, Sink};
 use itoa::Buffer;
+use text_commands::{JobFault, tell, write_text};
 
 /// Writes the line that tells how many zones a migration changed. It takes no memory, so that none is wanting behind the migration.
 fn tell_migrated<W: Sink>(writer: &mut W, zones: usize) -> Result<(), DeviceFailed>

@@ -1,12 +1,9 @@
 //! Serving callers over TCP, one connection after the other.
 
 ghost use Rattle.std.specs.Prelude.{◌≡◌, ◌<◌};
-ghost use Rattle.office_jobs.specs.Replies.{IsSent};
+ghost use Rattle.text_commands.specs.Replies.{IsSent};
 ghost use Rattle.office_jobs.specs.Serve.{connection_line};
 
-use crate::device::{read_input, tell, write_text};
-use crate::line_fault::{JobFault, LineFault};
-use crate::policy_file::PolicyFile;
 use crate::store_file::{FileTable, open_store};
 use dns_master::{Counted, DeviceFailed, Sink, Source};
 use grant_policy::{Policy, read_policy};
@@ -18,6 +15,7 @@ use std::alloc::{AllocError, Global};
 use std::marker::Brand;
 use std::net::{SocketAddr, TcpListener, TcpStream};
 use std::sync::ledger::{Blank, Ledger};
+use text_commands::{JobFault, LineFault, PolicyFile, read_input, tell, write_text};
 
 /// The policy that a reader gives.
 fn read_policy_from<R: Source>(alloc: Global, reader: &mut R) -> Result<Policy, LineFault> {

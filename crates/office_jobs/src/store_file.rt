@@ -2,8 +2,6 @@
 
 ghost use Rattle.std.specs.Prelude.{◌≡◌, ◌<◌, false, IfOk};
 
-use crate::line_fault::LineFault;
-use crate::refusal::Refusal;
 use office_files::connect_at;
 use office_store::{Refused, SqlTable, StoreFault};
 use sqlite::{Connection, Error, ErrorCode, File, FileStore, Unknown};
@@ -11,6 +9,7 @@ use std::alloc::Global;
 use std::fs;
 use std::marker::Brand;
 use std::sync::ledger::{Blank, Ledger};
+use text_commands::{LineFault, Refusal};
 
 /// The table of a store in a file.
 pub type FileTable<L> = SqlTable<FileStore<File>, L>;

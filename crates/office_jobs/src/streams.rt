@@ -1,55 +1,16 @@
 //! The jobs with readers and writers of std.
 
-ghost use Rattle.std.specs.Prelude.{◌≡◌, ◌<◌, ℕ};
-ghost use Rattle.office_jobs.specs.Replies.{Answered};
+ghost use Rattle.std.specs.Prelude.{◌≡◌, ◌<◌};
 
 use crate::import::{export, import};
-use crate::line_fault::JobFault;
 use crate::migrate::migrate;
 use crate::serving::serve_callers;
-use crate::task::Task;
 use dns_master::Counted;
 use office_words::{Existing, Service, StoredZone};
-use std::alloc::Global;
 use std::io::{Read, Write};
 use std::marker::Brand;
 use std::sync::ledger::{Blank, Ledger};
-
-/// Does a task with a reader and a writer of std, whose failures are counted, and hands the writer back.
-fn answer<T: Task, R: Read + Drop, W: Write + Drop, A: Ledger, B: Ledger>(
-    alloc: Global,
-    task: T,
-    reader: R,
-    writer: W,
-    reads: Blank,
-    writes: Blank,
-) -> (W, Result<(), JobFault>)
-    requires reads_name { reads.name ≡ A.name }
-    requires reads_parts { reads.parts ≡ A.parts }
-    requires reads_some { 0 < reads.parts }
-    requires writes_name { writes.name ≡ B.name }
-    requires writes_parts { writes.parts ≡ B.parts }
-    requires writes_some { 0 < writes.parts }
-    ensures { (failed_reads : ℕ) × (failed_writes : ℕ) × Answered (R.remaining reader) (T.answer task) (W.contents writer) (W.contents result.0) result.1 0 failed_reads 0 failed_writes }
-{
-    let mut source: Counted<R, A> = Counted::new(reader, reads);
-    let mut sink: Counted<W, B> = Counted::new(writer, writes);
-    let outcome = task.run(alloc, &mut source, &mut sink);
-    (sink.into_inner(), outcome)
-}
-
-/// Does a task with a reader and a writer of std, and hands the writer back.
-pub fn do_task<T: Task, R: Read + Drop, W: Write + Drop>(
-    alloc: Global,
-    task: T,
-    reader: R,
-    writer: W,
-) -> (W, Result<(), JobFault>)
-    ensures { (failed_reads : ℕ) × (failed_writes : ℕ) × Answered (R.remaining reader) (T.answer task) (W.contents writer) (W.contents result.0) result.1 0 failed_reads 0 failed_writes }
-{
-    let (reads, writes) = (Blank::new(1), Blank::new(1));
-    answer::<_, _, _, Brand, Brand>(alloc, task, reader, writer, reads, writes)
-}
+use text_commands::JobFault;
 
 /// Puts a zone, whose master file a reader of std gives, into a store, and hands the writer back that was told how it went.
 fn import_in<R: Read + Drop, W: Write + Drop, A: Ledger, B: Ledger, C: Ledger>(

@@ -4,7 +4,7 @@ use grant_policy::Identifier;
 use zone_core::Update;
 
 /// An update, under an identifier of the caller's choice.
-#[derive(Debug, Drop)]
+#[derive(Drop)]
 pub struct UpdateBody {
     pub id: Identifier,
     pub update: Update,

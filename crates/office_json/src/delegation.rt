@@ -22,7 +22,7 @@ use std::alloc::Global;
 use zone_core::{DelegationRequest, Update, delegation_update};
 
 /// The request of a delegation, under an identifier of the caller's choice.
-#[derive(Debug, Drop)]
+#[derive(Drop)]
 struct RequestedDelegation {
     id: Identifier,
     request: DelegationRequest,

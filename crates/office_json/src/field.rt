@@ -6,7 +6,7 @@ ghost use Rattle.office_json.specs.Fields.{field_text, prerequisite_fields, oper
 use zone_core::{OperationKind, PrerequisiteKind};
 
 /// A field of an object.
-#[derive(Clone, Copy, Debug, PartialEq, Eq)]
+#[derive(Clone, Copy, PartialEq, Eq)]
 pub(crate) enum Field {
     Addresses,
     Child,

@@ -17,7 +17,7 @@ use office_tables::{AllRows, ChangeRow, RecordRow, Writing, ZoneRow};
 use std::alloc::Global;
 
 /// What takes tables of version 1 to version 2.
-#[derive(Debug, Drop)]
+#[derive(Drop)]
 pub struct Migration {
     /// What is written.
     pub writing: Writing,

@@ -1,11 +1,3 @@
-pub mod TextLemmas
-pub mod FieldLemmas
-pub mod KindLemmas
-pub mod GatherLemmas
-pub mod EntryLemmas
-pub mod ItemLaws
-pub mod UpdateLaws
-pub mod PrintLaws
 pub mod RowSteps
 pub mod FieldsLaws
 pub mod TypedLaws

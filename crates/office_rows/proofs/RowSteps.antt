@@ -5,7 +5,7 @@ use Rattle.std.specs.Prelude.{bytes_eq, IfOk}
 use Rattle.dns_names.specs.declared.fault.NameFault.{NameFault}
 use Rattle.dns_data.specs.declared.fault.DataFault.{DataFault}
 use Rattle.dns_master.specs.declared.fault.MasterFault.{MasterFault}
-use Rattle.office_rows.specs.declared.fault.ItemsFault.{ItemsFault}
+use Rattle.item_lines.specs.declared.fault.ItemsFault.{ItemsFault}
 use Rattle.office_rows.specs.declared.row_fault.RowFault.{RowFault}
 use Rattle.office_rows.specs.declared.row_fault.RowFault.TheVariants.{BadRow, NoMemory}
 use Rattle.office_rows.specs.RowFaults.{◌>>=◌, Refuses, Reads, of_names, of_datas, of_masters, of_updates_in, canonical}

@@ -1,8 +1,3 @@
-pub mod Faults
-pub mod ItemLines
-pub mod Reading
-pub mod Views
-pub mod Texts
 pub mod RowFaults
 pub mod RecordRows
 pub mod ReplyWords
@@ -10,3 +5,4 @@ pub mod ReceiptRows
 pub mod ChangeRows
 pub mod Contents
 pub mod RowReading
+pub mod StoreFaults

@@ -6,7 +6,7 @@ use Rattle.grant_policy.specs.Identifiers.{IsIdentifier}
 use Rattle.zone_core.specs.Updates.{IsUpdate}
 use Rattle.office_core.specs.declared.receipt.Receipt.{Receipt}
 use Rattle.office_tables.specs.Rows.{ReceiptRowOf}
-use Rattle.office_rows.specs.Texts.{update_text}
+use Rattle.item_lines.specs.Texts.{update_text}
 use Rattle.office_rows.specs.ReplyWords.{reply_words, IsReply}
 
 -- the receipt of a caller under an identifier: the request by its item lines, and the reply by its words

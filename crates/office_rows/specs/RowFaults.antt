@@ -8,8 +8,8 @@ use Rattle.dns_master.specs.declared.fault.MasterFault.{MasterFault}
 use Rattle.dns_master.specs.declared.fault.MasterFault.TheVariants as masters
 use Rattle.grant_policy.specs.declared.identifier.IdentifierFault.{IdentifierFault}
 use Rattle.grant_policy.specs.declared.identifier.IdentifierFault.TheVariants as identifiers
-use Rattle.office_rows.specs.declared.fault.ItemsFault.{ItemsFault}
-use Rattle.office_rows.specs.declared.fault.ItemsFault.TheVariants as items
+use Rattle.item_lines.specs.declared.fault.ItemsFault.{ItemsFault}
+use Rattle.item_lines.specs.declared.fault.ItemsFault.TheVariants as items
 use Rattle.office_rows.specs.declared.row_fault.RowFault.{RowFault}
 use Rattle.office_rows.specs.declared.row_fault.RowFault.TheVariants.{BadRow, NoMemory}
 

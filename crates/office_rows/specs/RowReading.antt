@@ -34,8 +34,8 @@ use Rattle.office_rows.specs.declared.row_fault.RowFault.TheVariants.{BadRow}
 use Rattle.office_rows.specs.declared.side.Side.{Side}
 use Rattle.office_rows.specs.declared.side.Side.TheVariants as sides
 use Rattle.office_rows.specs.RowFaults.{◌>>=◌, of_names, of_datas, of_masters, of_updates_in, canonical}
-use Rattle.office_rows.specs.Reading.{items_of}
-use Rattle.office_rows.specs.Texts.{update_text}
+use Rattle.item_lines.specs.Reading.{items_of}
+use Rattle.item_lines.specs.Texts.{update_text}
 use Rattle.office_rows.specs.ReplyWords.{list_word, reply_words}
 
 -- what is found, or that a row is none

@@ -19,7 +19,7 @@ use office_tables::ChangeRow;
 use std::alloc::{AllocError, Global};
 
 /// A record on a side of a change of a zone, as a row has it.
-#[derive(Debug, Drop)]
+#[derive(Drop)]
 pub struct ChangedRecord {
     /// The origin of the zone.
     pub origin: Name,

@@ -10,12 +10,12 @@ ghost use Rattle.dns_data.specs.Types.{kept_types, type_number};
 ghost use Rattle.office_rows.specs.RowFaults.{Reads};
 ghost use Rattle.office_rows.specs.RowReading.{name_in, fields_of, type_in, data_in, ttl_in, identifier_in, record_at};
 
-use crate::reading::entry_items;
 use crate::row_fault::RowFault;
 use dns_data::{Data, Item, Record, RecordType, Ttl, data_text, read_data};
 use dns_master::tokens;
 use dns_names::Name;
 use grant_policy::Identifier;
+use item_lines::entry_items;
 use std::alloc::Global;
 use std::str;
 

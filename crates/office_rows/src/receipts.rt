@@ -8,11 +8,10 @@ ghost use Rattle.office_rows.specs.RowFaults.{Reads};
 ghost use Rattle.office_rows.specs.RowReading.{request_in, receipt_in};
 
 use crate::columns::{identifier_in, identifier_text, name_in};
-use crate::reading::read_items;
 use crate::replies::{notes_reply, reply_in, reply_words};
 use crate::row_fault::RowFault;
-use crate::text::items_text;
 use grant_policy::Identifier;
+use item_lines::{items_text, read_items};
 use office_core::Receipt;
 use office_tables::ReceiptRow;
 use std::alloc::{AllocError, Global};

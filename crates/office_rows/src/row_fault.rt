@@ -2,11 +2,11 @@
 
 ghost use Rattle.std.specs.Prelude.{◌≡◌};
 
-use crate::fault::ItemsFault;
 use dns_data::DataFault;
 use dns_master::MasterFault;
 use dns_names::NameFault;
 use grant_policy::IdentifierFault;
+use item_lines::ItemsFault;
 use std::alloc::{AllocError, AllocFailed};
 use thiserror::Error;
 

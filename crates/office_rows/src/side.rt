@@ -7,7 +7,7 @@ ghost use Rattle.office_rows.specs.RowReading.{side_in};
 use crate::row_fault::RowFault;
 
 /// A side of a change.
-#[derive(Clone, Copy, Debug, PartialEq, Eq)]
+#[derive(Clone, Copy, PartialEq, Eq)]
 pub enum Side {
     /// The records that went.
     Removed,

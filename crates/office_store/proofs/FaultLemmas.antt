@@ -4,9 +4,9 @@ use Rattle.office_tables.specs.declared.fault.RowsFault.{RowsFault}
 use Rattle.office_tables.specs.declared.fault.RowsFault.TheVariants as tables
 use Rattle.office_rows.specs.declared.row_fault.RowFault.{RowFault}
 use Rattle.office_rows.specs.declared.row_fault.RowFault.TheVariants as rows
-use Rattle.office_store.specs.declared.fault.StoreFault.{StoreFault}
-use Rattle.office_store.specs.declared.fault.StoreFault.TheVariants.{ZoneExists, NoZone, SerialNotGreater, WrongVersion, Store, BadRow, Zone, NoMemory}
-use Rattle.office_store.specs.Faults.{of_rows, of_row, IsFailure, Refuses, Gives}
+use Rattle.office_rows.specs.declared.store_fault.StoreFault.{StoreFault}
+use Rattle.office_rows.specs.declared.store_fault.StoreFault.TheVariants.{ZoneExists, NoZone, SerialNotGreater, WrongVersion, Store, BadRow, Zone, NoMemory}
+use Rattle.office_rows.specs.StoreFaults.{of_rows, of_row, IsFailure, Refuses, Gives}
 
 pub rows_fail : (f : RowsFault) → IsFailure (of_rows f)
 rows_fail (tables.Store cause) = tt

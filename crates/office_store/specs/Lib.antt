@@ -1,4 +1,3 @@
-pub mod Faults
 pub mod Holds
 pub mod Kept
 pub mod Asks

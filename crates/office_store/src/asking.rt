@@ -11,12 +11,12 @@ ghost use Rattle.office_tables.specs.Rows.{RowsOf};
 ghost use Rattle.office_tables.specs.Holds.{Holds, OnlyAsks};
 ghost use Rattle.office_tables.specs.Questions.{records_of as rows_of, records_at, changes_of as changes_in};
 ghost use Rattle.office_reads.specs.Parts.{AreRowsAt, rows_within};
-ghost use Rattle.office_store.specs.Faults.{IsFailure};
+ghost use Rattle.office_rows.specs.StoreFaults.{IsFailure};
 ghost use Rattle.office_store.specs.Holds.{HoldsState};
 ghost use Rattle.office_store.specs.Asks.{Asked, Only, Finds, Stands};
 
-use crate::fault::StoreFault;
 use dns_names::Name;
+use office_rows::StoreFault;
 use office_tables::{
     ChangeRow, RecordRow, changes_of, has_zone, records_at, records_between, records_of,
 };

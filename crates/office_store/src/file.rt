@@ -6,13 +6,13 @@ ghost use Rattle.sqlite.specs.WalFiles.{image_at};
 ghost use Rattle.sqlite.specs.Files.{file_state, HoldsDatabase};
 ghost use Rattle.sqlite.specs.State.{HasCleanDisk};
 ghost use Rattle.office_core.specs.States.{State};
-ghost use Rattle.office_store.specs.declared.fault.StoreFault.TheVariants.{WrongVersion};
-ghost use Rattle.office_store.specs.Faults.{IsFailure, IsOfRows};
+ghost use Rattle.office_rows.specs.declared.store_fault.StoreFault.TheVariants.{WrongVersion};
+ghost use Rattle.office_rows.specs.StoreFaults.{IsFailure, IsOfRows};
 ghost use Rattle.office_store.specs.Files.{HoldStateIn};
 ghost use Rattle.office_store.specs.Holds.{HoldsState, IsStateIn, LeavesStates};
 
-use crate::fault::StoreFault;
 use crate::table::SqlTable;
+use office_rows::StoreFault;
 use sqlite::{Alter, Connection, FileFrom, FileStore, Start};
 use std::sync::ledger::{Blank, Ledger};
 

@@ -9,9 +9,9 @@ ghost use Rattle.office_store.specs.Asks.{Asked, Only};
 ghost use Rattle.office_store.specs.Holds.{HoldsState};
 ghost use Rattle.office_store.specs.Kept.{IsHeldZone};
 
-use crate::fault::StoreFault;
 use crate::views::zone_at;
 use dns_names::Name;
+use office_rows::StoreFault;
 use sqlite::{Alter, Connection};
 use std::alloc::{AllocError, Global};
 use zone_core::Zone;

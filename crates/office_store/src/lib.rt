@@ -3,7 +3,6 @@
 #![tactic(auto)]
 
 mod asking;
-mod fault;
 mod file;
 mod kept;
 mod migrating;
@@ -13,7 +12,7 @@ mod views;
 mod writing;
 mod zones;
 
-pub use fault::StoreFault;
 pub use file::Unopened;
+pub use office_rows::StoreFault;
 pub use opening::Refused;
 pub use table::SqlTable;

@@ -9,14 +9,14 @@ ghost use Rattle.office_tables.specs.Holds.{Holds, Leaves};
 ghost use Rattle.office_tables.specs.Rows.{RowsOf};
 ghost use Rattle.office_tables.specs.Tables.{no_schema, office_schema};
 ghost use Rattle.office_writes.specs.Writings.{nothing_held};
-ghost use Rattle.office_store.specs.declared.fault.StoreFault.TheVariants.{BadRow, WrongVersion};
-ghost use Rattle.office_store.specs.Faults.{IsFailure, IsOfRows, of_found};
+ghost use Rattle.office_rows.specs.declared.store_fault.StoreFault.TheVariants.{BadRow, WrongVersion};
+ghost use Rattle.office_rows.specs.StoreFaults.{IsFailure, IsOfRows, of_found};
 ghost use Rattle.office_store.specs.Holds.{HoldsState, HasNone, HasVersion, IsOfVersion, IsStateIn, LeavesStates};
 ghost use Rattle.office_store.specs.Asks.{Asked, Only};
 
-use crate::fault::StoreFault;
 use office_reads::is_state;
 use office_reads::state::is_alone;
+use office_rows::StoreFault;
 use office_tables::{RowsFault, all_rows, has_no_tables, has_tables, make_tables, versions};
 use sqlite::{Alter, Connection};
 use std::alloc::Global;

@@ -8,15 +8,15 @@ ghost use Rattle.office_core.specs.Tables.{Fits, addition_in, change_in, committ
 ghost use Rattle.office_reads.specs.States.{last_of};
 ghost use Rattle.office_writes.specs.Writings.{Leads, IsNext, receipt_rows};
 ghost use Rattle.office_store.specs.Additions.{Writes};
-ghost use Rattle.office_store.specs.Faults.{IsFailure};
+ghost use Rattle.office_rows.specs.StoreFaults.{IsFailure};
 ghost use Rattle.office_store.specs.Holds.{HoldsState, LeavesStates};
 ghost use Rattle.office_store.specs.Asks.{Asked};
 ghost use Rattle.office_store.specs.Turns.{Turns};
 
 use crate::asking::check_alone;
-use crate::fault::StoreFault;
 use dns_names::Name;
 use office_core::Addition;
+use office_rows::StoreFault;
 use office_tables::{Writing, last_number, write};
 use office_writes::{addition_writing, receipt_writing};
 use sqlite::{Alter, Connection, Error as StoreError, ErrorCode};

@@ -22,7 +22,7 @@ use std::alloc::Global;
 use std::marker::Model;
 
 /// All rows of the tables.
-#[derive(Debug, Drop)]
+#[derive(Drop)]
 pub struct AllRows {
     /// One where this crate made the tables.
     pub versions: Vec<i64>,

@@ -3,7 +3,7 @@
 use std::marker::Model;
 
 /// A row of `zones`: the origin of a zone.
-#[derive(Debug, Drop)]
+#[derive(Drop)]
 pub struct ZoneRow {
     pub origin: String,
 }
@@ -20,7 +20,7 @@ impl Model for ZoneRow {
 }
 
 /// A row of `records`: a record of the zone of an origin.
-#[derive(Debug, Drop)]
+#[derive(Drop)]
 pub struct RecordRow {
     pub origin: String,
     pub owner: String,
@@ -45,7 +45,7 @@ impl Model for RecordRow {
 }
 
 /// A row of `receipts`: the receipt of a caller under an identifier.
-#[derive(Debug, Drop)]
+#[derive(Drop)]
 pub struct ReceiptRow {
     pub caller: String,
     pub id: String,
@@ -67,7 +67,7 @@ impl Model for ReceiptRow {
 }
 
 /// A row of `changes`: a record that a change of a zone took away or brought.
-#[derive(Debug, Drop)]
+#[derive(Drop)]
 pub struct ChangeRow {
     pub origin: String,
     /// The number of the change among those of its zone.
@@ -94,7 +94,7 @@ impl Model for ChangeRow {
 }
 
 /// What is written at once: rows of `records` that go, and rows of each table that come; and another version, if there is one.
-#[derive(Debug, Drop)]
+#[derive(Drop)]
 pub struct Writing {
     pub version: Option<i64>,
     /// Origins.

@@ -9,7 +9,7 @@ use crate::refusal::Refusal;
 use httparse::spans::HeaderSpan;
 
 /// What stands at the front of the octets that have come.
-#[derive(Clone, Copy, Debug)]
+#[derive(Clone, Copy)]
 pub(crate) enum Front<'a> {
     /// No whole request yet, nor before there are so many octets.
     Waiting(usize),

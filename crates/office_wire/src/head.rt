@@ -16,7 +16,7 @@ pub(crate) const HEAD_MAX: usize = 16_384;
 pub(crate) const SPANS: usize = 5_462;
 
 /// What is kept of a head.
-#[derive(Clone, Copy, Debug)]
+#[derive(Clone, Copy)]
 pub(crate) struct Heading<'a> {
     /// How many octets it has.
     pub(crate) len: usize,
@@ -30,7 +30,7 @@ pub(crate) struct Heading<'a> {
 }
 
 /// What a window of the octets begins with.
-#[derive(Clone, Copy, Debug)]
+#[derive(Clone, Copy)]
 pub(crate) enum HeadRead<'a> {
     /// No whole head.
     Partial,

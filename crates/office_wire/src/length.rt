@@ -19,7 +19,7 @@ const BODY_MAX: u32 = 65_536;
 const FIELDS_MAX: usize = 64;
 
 /// What is read behind a head.
-#[derive(Clone, Copy, Debug)]
+#[derive(Clone, Copy)]
 pub(crate) enum Ask {
     /// A body of so many octets.
     Body(usize),

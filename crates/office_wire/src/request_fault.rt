@@ -8,7 +8,7 @@ use office_json::BodyFault;
 use std::alloc::{AllocError, AllocFailed};
 
 /// Why a head and a body are no call of the office.
-#[derive(Clone, Copy, Debug, PartialEq, Eq)]
+#[derive(Clone, Copy, PartialEq, Eq)]
 pub(crate) enum RequestFault {
     /// The request is refused.
     Refused(Refusal),

@@ -15,7 +15,7 @@ use office_json::{form_error_text, refusal_text, reply_text};
 use std::alloc::AllocError;
 
 /// What is answered to a request.
-#[derive(Debug, Drop)]
+#[derive(Drop)]
 pub(crate) enum Response {
     /// It is refused.
     Refused(Refusal),

@@ -9,7 +9,7 @@ use std::alloc::Global;
 use std::str::from_utf8;
 
 /// What is asked by a method and a target.
-#[derive(Clone, Copy, Debug, PartialEq, Eq)]
+#[derive(Clone, Copy, PartialEq, Eq)]
 pub(crate) enum Route {
     /// To update a zone.
     Update,

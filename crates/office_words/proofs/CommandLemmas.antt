@@ -6,14 +6,14 @@ use Rattle.clap.specs.Faults.{is_simple_and_free}
 use Rattle.clap.specs.Walk.{Held, Names, Waiting, Walk, arg_by_id, finished, idle, most_values, nothing_held, option, pending_count, pushed, rows_after, walk_from, walked}
 use Rattle.clap.specs.Simple.{filled, filled_from, help_rule}
 use Rattle.clap.proofs.OnLiterals.{clap_on_literals}
-use Rattle.office_words.specs.Words.{IsValue, JobOf, canon, canon_app, needed_rule, office, job_named, job_of, job_met}
+use Rattle.office_words.specs.Words.{IsValue, JobOf, canon, canon_app, needed_rule, first_commands, more_commands, office, job_named, job_of, job_met}
 
 pub office_simple : is_simple office ≡ true
-unfolding office clap_on_literals
+unfolding office more_commands first_commands clap_on_literals
 office_simple = refl
 
 pub office_free : is_simple_and_free office ≡ true
-unfolding office clap_on_literals
+unfolding office more_commands first_commands clap_on_literals
 office_free = refl
 
 -- ---- the plain form of `canon`
@@ -35,7 +35,7 @@ abbrev at_canon : Text → List Text
 at_canon o = codes "--origin" ∷ o ∷ []
 
 canon_entered : (o : Text) → subcommand_of office (codes "canon" ∷ at_canon o) ≡ Some (codes "canon", rows_after canon_rules [] (at_canon o))
-unfolding office clap_on_literals
+unfolding office more_commands first_commands clap_on_literals
 canon_entered o = refl
 
 abbrev ordered : Walk → Option JobOf

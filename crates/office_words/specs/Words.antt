@@ -66,11 +66,14 @@ serve_app =
 abbrev pub without_name : Shape → Shape
 without_name s = record s { no_binary_name = true }
 
+unfoldable pub first_commands : App
+first_commands = with_subcommand (with_subcommand (on_top without_name (new_app (codes "zoneoffice"))) apply_app.top) canon_app.top
+
+unfoldable pub more_commands : App
+more_commands = with_subcommand (with_subcommand (with_subcommand first_commands import_app.top) export_app.top) migrate_app.top
+
 unfoldable pub office : App
-office =
-    with_subcommand (with_subcommand (with_subcommand (with_subcommand (with_subcommand (with_subcommand (with_subcommand
-    (on_top without_name (new_app (codes "zoneoffice")))
-    apply_app.top) canon_app.top) import_app.top) export_app.top) migrate_app.top) rights_app.top) serve_app.top
+office = with_subcommand (with_subcommand more_commands rights_app.top) serve_app.top
 
 -- ---- the jobs
 

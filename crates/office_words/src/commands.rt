@@ -3,7 +3,7 @@
 ghost use Rattle.std.specs.Prelude.{◌≡◌, IfOk, false};
 ghost use Rattle.clap.specs.Words.{app_of, new_app, rule_of};
 ghost use Rattle.clap.specs.declared.builder.command.Command.TheViews.{out-Command};
-ghost use Rattle.office_words.specs.Words.{needed_rule, number_rule, flag_rule, place_rule, canon_app, import_app, export_app, migrate_app, rights_app, serve_app, office};
+ghost use Rattle.office_words.specs.Words.{needed_rule, number_rule, flag_rule, place_rule, canon_app, import_app, export_app, migrate_app, rights_app, serve_app, first_commands, more_commands, office};
 
 use clap::{Arg, ArgAction, Command};
 use std::alloc::{AllocError, Global};
@@ -134,24 +134,36 @@ fn serve_command<'a>(alloc: Global) -> Result<Command<'a>, AllocError>
         .arg(number(alloc, "connections", "After how many to end"))
 }
 
+/// The program, with the commands `apply` and `canon`.
+fn first_commands<'a>(alloc: Global) -> Result<Command<'a>, AllocError>
+    ensures { IfOk result (λ c. app_of c ≡ first_commands) }
+{
+    let apply = command(alloc, "apply", "Updates a zone, as without any word");
+    let canon = canon_command(alloc)?;
+    Command::new(alloc, "zoneoffice")
+        .no_binary_name(true)
+        .subcommand(apply)?
+        .subcommand(canon)
+}
+
+/// The same, with the commands that move zones of a store: `import`, `export` and `migrate`.
+fn more_commands<'a>(alloc: Global) -> Result<Command<'a>, AllocError>
+    ensures { IfOk result (λ c. app_of c ≡ more_commands) }
+{
+    let import = import_command(alloc)?;
+    let export = export_command(alloc)?;
+    let migrate = migrate_command(alloc)?;
+    first_commands(alloc)?
+        .subcommand(import)?
+        .subcommand(export)?
+        .subcommand(migrate)
+}
+
 /// All commands.
 pub fn office_command<'a>(alloc: Global) -> Result<Command<'a>, AllocError>
     ensures { IfOk result (λ c. app_of c ≡ office) }
 {
-    let apply = command(alloc, "apply", "Updates a zone, as without any word");
-    let canon = canon_command(alloc)?;
-    let import = import_command(alloc)?;
-    let export = export_command(alloc)?;
-    let migrate = migrate_command(alloc)?;
     let rights = rights_command(alloc)?;
     let serve = serve_command(alloc)?;
-    Command::new(alloc, "zoneoffice")
-        .no_binary_name(true)
-        .subcommand(apply)?
-        .subcommand(canon)?
-        .subcommand(import)?
-        .subcommand(export)?
-        .subcommand(migrate)?
-        .subcommand(rights)?
-        .subcommand(serve)
+    more_commands(alloc)?.subcommand(rights)?.subcommand(serve)
 }

@@ -1,7 +1,7 @@
 //! What the program is to do.
 
 /// What the program is to do.
-#[derive(Clone, Copy, Debug, PartialEq, Eq)]
+#[derive(Clone, Copy, PartialEq, Eq)]
 pub enum Job<'a> {
     /// To update a zone that is read from standard input.
     Apply,
@@ -42,7 +42,7 @@ pub enum Job<'a> {
 }
 
 /// A zone of a store, as the words of `import` and of `export` name it.
-#[derive(Clone, Copy, Debug, PartialEq, Eq)]
+#[derive(Clone, Copy, PartialEq, Eq)]
 pub struct StoredZone<'a> {
     /// The path of the store.
     pub store: &'a str,
@@ -51,7 +51,7 @@ pub struct StoredZone<'a> {
 }
 
 /// What becomes of a zone of a store when one of its origin is imported.
-#[derive(Clone, Copy, Debug, PartialEq, Eq)]
+#[derive(Clone, Copy, PartialEq, Eq)]
 pub enum Existing {
     /// It stays, and the import is refused.
     Kept,
@@ -60,7 +60,7 @@ pub enum Existing {
 }
 
 /// What is asked of a policy.
-#[derive(Clone, Copy, Debug, PartialEq, Eq)]
+#[derive(Clone, Copy, PartialEq, Eq)]
 pub struct QuestionWords<'a> {
     /// Who asks.
     pub caller: &'a str,
@@ -73,7 +73,7 @@ pub struct QuestionWords<'a> {
 }
 
 /// What the words of `serve` name.
-#[derive(Clone, Copy, Debug, PartialEq, Eq)]
+#[derive(Clone, Copy, PartialEq, Eq)]
 pub struct Service<'a> {
     /// The path of the store.
     pub store: &'a str,

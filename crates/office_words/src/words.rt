@@ -11,7 +11,7 @@ use clap::{ArgMatches, Error};
 use std::alloc::Global;
 
 /// Why words are no job.
-#[derive(Debug, Drop)]
+#[derive(Drop)]
 pub enum WordsFault {
     /// They ask for help: its text.
     Help(String),

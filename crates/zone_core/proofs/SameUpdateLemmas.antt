@@ -1,5 +1,5 @@
 -- Updates that are equal are one.
-use Rattle.std.proofs.Common.{◌≡◌, List, [], ◌∷◌, Bool, true, false, ◌&&◌, ◌==◌, refl, sym, ap, ◌∙◌}
+use Rattle.std.proofs.Common.{◌≡◌, ℕ, List, [], ◌∷◌, Bool, true, false, ◌&&◌, ◌==◌, refl, sym, ap, ◌∙◌}
 use denote.Enum.Bare.{same_true, true_same}
 use Rattle.std.specs.Bool.{Decides}
 use Rattle.std.specs.Ordering.{is_eq}
@@ -18,7 +18,7 @@ use Rattle.dns_data.specs.contracts.record.RecordPartialEq.TheImpl as of_record
 use Rattle.dns_data.specs.contracts.record_type.RecordType.{the_type}
 use Rattle.dns_data.specs.contracts.record_type.RecordTypePartialEq.TheImpl as of_type
 use Rattle.dns_data.proofs.RecordOrderLemmas.{one_rank, data_answers}
-use Rattle.dns_data.proofs.SameLemmas.{data_decides}
+use Rattle.dns_data.proofs.SameLemmas.{apart, data_decides}
 use Rattle.zone_core.specs.declared.update.Prerequisite.{Prerequisite}
 use Rattle.zone_core.specs.declared.update.Prerequisite.TheVariants.{RrsetExists, RrsetEquals, RrsetAbsent, NameUsed, NameUnused}
 use Rattle.zone_core.specs.declared.update.Operation.{Operation}
@@ -51,20 +51,33 @@ record_same r s is also =
 
 -- ---- items
 
+abbrev test : Prerequisite → ℕ
+test (RrsetExists n t) = 0
+test (RrsetEquals n d) = 1
+test (RrsetAbsent n t) = 2
+test (NameUsed n) = 3
+test (NameUnused n) = 4
+
+abbrev kind : Operation → ℕ
+kind (Add r) = 0
+kind (DeleteRrset n t) = 1
+kind (DeleteName n) = 2
+kind (DeleteRecord n d) = 3
+
 prerequisite_same : (p q : Prerequisite) → IsPrerequisite p → IsPrerequisite q → Decides (same_prerequisite p q) (p ≡ q)
 prerequisite_same (RrsetExists n t) (RrsetExists m u) is also = two _ _ (same_name-Decides n m) (type_same t u) (λ e f. λ i. RrsetExists (e i) (f i)) (λ e. cc) (λ e. cc)
 prerequisite_same (RrsetEquals n d) (RrsetEquals m f) is also = two _ _ (same_name-Decides n m) (data_same d f is.1 also.1) (λ e f. λ i. RrsetEquals (e i) (f i)) (λ e. cc) (λ e. cc)
 prerequisite_same (RrsetAbsent n t) (RrsetAbsent m u) is also = two _ _ (same_name-Decides n m) (type_same t u) (λ e f. λ i. RrsetAbsent (e i) (f i)) (λ e. cc) (λ e. cc)
 prerequisite_same (NameUsed n) (NameUsed m) is also = Decides-like _ (ap NameUsed) (λ e. cc) (same_name-Decides n m)
 prerequisite_same (NameUnused n) (NameUnused m) is also = Decides-like _ (ap NameUnused) (λ e. cc) (same_name-Decides n m)
-prerequisite_same p q is also = (λ e. absurd cc, λ e. absurd cc)
+prerequisite_same p q is also = apart test (same_prerequisite p q) p q refl refl
 
 operation_same : (p q : Operation) → IsOperation p → IsOperation q → Decides (same_operation p q) (p ≡ q)
 operation_same (Add r) (Add s) is also = Decides-like _ (ap Add) (λ e. cc) (record_same r s is also)
 operation_same (DeleteRrset n t) (DeleteRrset m u) is also = two _ _ (same_name-Decides n m) (type_same t u) (λ e f. λ i. DeleteRrset (e i) (f i)) (λ e. cc) (λ e. cc)
 operation_same (DeleteName n) (DeleteName m) is also = Decides-like _ (ap DeleteName) (λ e. cc) (same_name-Decides n m)
 operation_same (DeleteRecord n d) (DeleteRecord m f) is also = two _ _ (same_name-Decides n m) (data_same d f is.1 also.1) (λ e f. λ i. DeleteRecord (e i) (f i)) (λ e. cc) (λ e. cc)
-operation_same p q is also = (λ e. absurd cc, λ e. absurd cc)
+operation_same p q is also = apart kind (same_operation p q) p q refl refl
 
 -- ---- lists of items
 
@@ -101,14 +114,14 @@ prerequisite_eq (RrsetEquals n d) (RrsetEquals m f) = two _ _ (same_name-Decides
 prerequisite_eq (RrsetAbsent n t) (RrsetAbsent m u) = two _ _ (same_name-Decides n m) (type_eq t u) (λ e f. λ i. RrsetAbsent (e i) (f i)) (λ e. cc) (λ e. cc)
 prerequisite_eq (NameUsed n) (NameUsed m) = Decides-like _ (ap NameUsed) (λ e. cc) (same_name-Decides n m)
 prerequisite_eq (NameUnused n) (NameUnused m) = Decides-like _ (ap NameUnused) (λ e. cc) (same_name-Decides n m)
-prerequisite_eq p q = (λ e. absurd cc, λ e. absurd cc)
+prerequisite_eq p q = apart test (of_prerequisite.ghosts.eq p q) p q refl refl
 
 operation_eq : (p q : Operation) → Decides (of_operation.ghosts.eq p q) (p ≡ q)
 operation_eq (Add r) (Add s) = Decides-like _ (ap Add) (λ e. cc) (record_eq r s)
 operation_eq (DeleteRrset n t) (DeleteRrset m u) = two _ _ (same_name-Decides n m) (type_eq t u) (λ e f. λ i. DeleteRrset (e i) (f i)) (λ e. cc) (λ e. cc)
 operation_eq (DeleteName n) (DeleteName m) = Decides-like _ (ap DeleteName) (λ e. cc) (same_name-Decides n m)
 operation_eq (DeleteRecord n d) (DeleteRecord m f) = two _ _ (same_name-Decides n m) (data_decides d f) (λ e f. λ i. DeleteRecord (e i) (f i)) (λ e. cc) (λ e. cc)
-operation_eq p q = (λ e. absurd cc, λ e. absurd cc)
+operation_eq p q = apart kind (of_operation.ghosts.eq p q) p q refl refl
 
 -- updates as they are in memory
 module _ (a b x y : UpdateOf) (inside : x ≡ a) (other : y ≡ b) (s : Bool) (first : s ≡ pointwise of_prerequisite.ghosts.eq x.prerequisites y.prerequisites) where

@@ -16,7 +16,7 @@ use dns_names::Name;
 use std::alloc::{AllocError, Global};
 
 /// Records that are taken away from a zone, and records that are brought, each with its TTL.
-#[derive(Debug, Drop)]
+#[derive(Drop)]
 pub(crate) struct Change {
     pub(crate) removed: Vec<Record>,
     pub(crate) added: Vec<Record>,

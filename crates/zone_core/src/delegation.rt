@@ -13,14 +13,14 @@ use std::alloc::{AllocError, Global};
 use std::net::IpAddr;
 
 /// A server of a child zone, and its addresses. Those of a server that is not within the child are left aside.
-#[derive(Debug, Drop)]
+#[derive(Drop)]
 pub struct ChildServer {
     pub name: Name,
     pub addresses: Vec<IpAddr>,
 }
 
 /// What makes a name below the origin the top of a zone of its own: its servers, with the TTL of all records that are added.
-#[derive(Debug, Drop)]
+#[derive(Drop)]
 pub struct DelegationRequest {
     pub child: Name,
     pub ttl: Ttl,

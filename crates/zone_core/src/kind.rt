@@ -7,7 +7,7 @@ ghost use Rattle.zone_core.specs.Kinds.{prerequisite_word, operation_word, prere
 use crate::update::{Operation, Prerequisite};
 
 /// A kind of prerequisite (RFC 2136 section 2.4).
-#[derive(Clone, Copy, Debug, PartialEq, Eq)]
+#[derive(Clone, Copy, PartialEq, Eq)]
 pub enum PrerequisiteKind {
     /// Some record has this owner and type (section 2.4.1).
     RrsetExists,
@@ -22,7 +22,7 @@ pub enum PrerequisiteKind {
 }
 
 /// A kind of operation (RFC 2136 section 2.5).
-#[derive(Clone, Copy, Debug, PartialEq, Eq)]
+#[derive(Clone, Copy, PartialEq, Eq)]
 pub enum OperationKind {
     /// Adds a record to a set (section 2.5.1).
     Add,

@@ -52,7 +52,7 @@ pub(crate) fn with_copies(
 }
 
 /// Rows that are merged so far, and what is left of the records that go and of those that come.
-#[derive(Debug, Drop)]
+#[derive(Drop)]
 struct Merging<'a> {
     rows: Vec<Record>,
     gone: &'a [Record],

@@ -15,7 +15,7 @@ use dns_data::Record;
 use std::alloc::{AllocError, Global};
 
 /// What an update made of a zone.
-#[derive(Debug, Drop)]
+#[derive(Drop)]
 pub struct Outcome {
     /// The zone after the update.
     pub zone: Zone,

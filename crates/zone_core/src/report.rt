@@ -13,7 +13,7 @@ use dns_names::Name;
 use std::alloc::{AllocError, Global};
 
 /// What there is of a server's addresses, its glue (RFC 1034 section 4.2.1).
-#[derive(Clone, Copy, Debug, PartialEq, Eq)]
+#[derive(Clone, Copy, PartialEq, Eq)]
 pub enum Glue {
     /// The server is not within the child, and needs none.
     Outside,
@@ -24,14 +24,14 @@ pub enum Glue {
 }
 
 /// A server of a child zone, and what there is of its glue.
-#[derive(Debug, Drop)]
+#[derive(Drop)]
 pub struct DelegatedServer {
     pub name: Name,
     pub glue: Glue,
 }
 
 /// A child zone and its servers, in canonical order.
-#[derive(Debug, Drop)]
+#[derive(Drop)]
 pub struct Delegation {
     pub child: Name,
     pub servers: Vec<DelegatedServer>,

@@ -14,7 +14,7 @@ use std::alloc::{AllocError, Global};
 use std::marker::Model;
 
 /// A test of the records before an update (RFC 2136 section 2.4).
-#[derive(Debug, PartialEq, Eq, Drop)]
+#[derive(PartialEq, Eq, Drop)]
 pub enum Prerequisite {
     /// Some record has this owner and type (section 2.4.1).
     RrsetExists { name: Name, record_type: RecordType },
@@ -30,7 +30,7 @@ pub enum Prerequisite {
 }
 
 /// A change of the records at a name (RFC 2136 section 2.5).
-#[derive(Debug, PartialEq, Eq, Drop)]
+#[derive(PartialEq, Eq, Drop)]
 pub enum Operation {
     /// Adds a record to a set (section 2.5.1).
     Add(Record),
@@ -43,7 +43,7 @@ pub enum Operation {
 }
 
 /// One of the two lists of an update.
-#[derive(Clone, Copy, Debug, PartialEq, Eq)]
+#[derive(Clone, Copy, PartialEq, Eq)]
 pub enum ItemList {
     /// The prerequisites.
     Prerequisites,
@@ -52,7 +52,7 @@ pub enum ItemList {
 }
 
 /// An item of an update: its list, and its number in it, from 0.
-#[derive(Clone, Copy, Debug, PartialEq, Eq)]
+#[derive(Clone, Copy, PartialEq, Eq)]
 pub struct Place {
     /// The list.
     pub list: ItemList,
@@ -140,7 +140,7 @@ impl Operation {
 }
 
 /// Prerequisites and operations: at most 64 and 256, and at most one operation that adds an SOA.
-#[derive(Debug, Drop)]
+#[derive(Drop)]
 pub struct Update {
     prerequisites: Vec<Prerequisite>,
     operations: Vec<Operation>,

@@ -15,7 +15,7 @@ use dns_data::{Data, Record, RecordType};
 use dns_names::Name;
 
 /// A prerequisite that does not hold: the code of the reply, and the item's number among the prerequisites, from 0.
-#[derive(Clone, Copy, Debug, PartialEq, Eq)]
+#[derive(Clone, Copy, PartialEq, Eq)]
 pub struct Failed {
     /// The code of the reply.
     pub code: Rcode,

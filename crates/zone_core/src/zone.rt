@@ -17,7 +17,7 @@ use std::marker::Model;
 /// A zone: an origin and a set of records (RFC 1034 section 4.2). It has one SOA, which is at the origin, and an NS there
 /// (RFC 1035 section 5.2); a CNAME stands alone at its name (RFC 1034 section 3.6.2); all owners are within the origin, and
 /// those of a DS below it; no two records are the same, and those of one owner and type have one TTL (RFC 2181 section 5).
-#[derive(Debug, Drop)]
+#[derive(Drop)]
 pub struct Zone {
     origin: Name,
     // in record order, in which the SOA comes first

@@ -2,7 +2,7 @@ use Rattle.std.proofs.Common.{◌++◌, ◌∷◌, [], codes, Err}
 use Rattle.std.proofs.lemmas.Result.{err_from_is_err_and}
 use Rattle.std.specs.Prelude.{decimal}
 use Rattle.office_wire.specs.Refusals.{fault_number}
-use Rattle.office_jobs.proofs.SendLemmas.{sent_front, sent_behind}
+use Rattle.text_commands.proofs.SendLemmas.{sent_front, sent_behind}
 use Rattle.office_jobs.proofs.serving.tell_ended.Goals as goal
 
 pub returns-in_err-write_text : goal.returns-in_err-write_text

@@ -6,7 +6,7 @@ use Rattle.office_tables.specs.Rows.{RowsOf}
 use Rattle.office_tables.specs.Holds.{Holds}
 use Rattle.office_tables.proofs.Commits.{on_err}
 use Rattle.office_rows.specs.Contents.{ContentOf}
-use Rattle.office_store.specs.Faults.{IsFailure}
+use Rattle.office_rows.specs.StoreFaults.{IsFailure}
 use Rattle.office_store.specs.Migrating.{HoldsOld}
 use Rattle.office_store.proofs.FaultLemmas.{if_err_at}
 use Rattle.office_store.proofs.MigratingLemmas.{is_migrated, migrated_so, read_behind}

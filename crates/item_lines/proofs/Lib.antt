@@ -1,0 +1,8 @@
+pub mod TextLemmas
+pub mod FieldLemmas
+pub mod KindLemmas
+pub mod GatherLemmas
+pub mod EntryLemmas
+pub mod ItemLaws
+pub mod UpdateLaws
+pub mod PrintLaws

@@ -1,0 +1,5 @@
+pub mod Faults
+pub mod ItemLines
+pub mod Reading
+pub mod Views
+pub mod Texts

@@ -1,5 +1,0 @@
-use Rattle.office_jobs.proofs.PartLemmas.{is_divided, divided_is}
-use Rattle.office_jobs.proofs.laws.text_is_divided.Goals as goal
-
-pub returns : goal.returns
-returns c = λ text parts. (is_divided text parts, divided_is text parts)

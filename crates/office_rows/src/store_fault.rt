@@ -1,0 +1,121 @@
+//! Why the table in SQLite refuses a call.
+
+ghost use Rattle.std.specs.Prelude.{◌≡◌};
+ghost use Rattle.office_rows.specs.StoreFaults.{store_fault_number, of_rows, of_store, of_row, of_zone};
+ghost use Rattle.office_rows.specs.declared.store_fault.StoreFault.TheVariants.{NoMemory};
+
+use crate::row_fault::RowFault;
+use office_tables::RowsFault;
+use sqlite::{Error as StoreError, ErrorCode};
+use std::alloc::{AllocError, AllocFailed};
+use thiserror::Error;
+use zone_core::ZoneFault;
+
+/// Why a call of the table in SQLite was refused. What it holds has not changed.
+#[derive(Clone, Copy, Debug, PartialEq, Eq, Error)]
+pub enum StoreFault {
+    /// There is a zone of the origin.
+    #[error("there is a zone of this origin")]
+    ZoneExists,
+    /// There is no zone of the origin.
+    #[error("there is no zone of this origin")]
+    NoZone,
+    /// The serial is not greater than that of the zone that is there (RFC 1982 section 3.2).
+    #[error("the serial is not greater than that of the zone in the store")]
+    SerialNotGreater,
+    /// The store has no tables, others, or those of another version; or it has some where they are to be made.
+    #[error("the store has not the tables of this version")]
+    WrongVersion,
+    /// The store failed, or does not keep what was written to it.
+    #[error("{0}")]
+    Store(StoreError),
+    /// The rows of the tables are not those of a state.
+    #[error("the store has rows that zoneoffice does not write")]
+    BadRow,
+    /// The records are no zone.
+    #[error("{0}")]
+    Zone(ZoneFault),
+    /// Memory ran out. This says nothing of the store.
+    #[error("out of memory")]
+    NoMemory,
+}
+
+impl StoreFault {
+    /// The published number of the refusal: 71 to 76, that of the zone's (41 to 47, 50), or 99 for want of memory.
+    pub const fn number(self) -> u8
+        ensures { result ≡ store_fault_number self }
+    {
+        match self {
+            StoreFault::ZoneExists => 71,
+            StoreFault::NoZone => 72,
+            StoreFault::SerialNotGreater => 73,
+            StoreFault::WrongVersion => 74,
+            StoreFault::Store(_) => 75,
+            StoreFault::BadRow => 76,
+            StoreFault::Zone(fault) => fault.number(),
+            StoreFault::NoMemory => 99,
+        }
+    }
+}
+
+impl From<RowsFault> for StoreFault {
+    ghost from_gives = { λ f e. e ≡ of_rows f };
+
+    fn from(fault: RowsFault) -> StoreFault {
+        match fault {
+            RowsFault::Store(cause) => StoreFault::Store(cause),
+            RowsFault::BadRow => StoreFault::Store(StoreError::SqliteFailure(
+                ErrorCode::DatabaseCorrupt,
+            )),
+            RowsFault::NoMemory => StoreFault::NoMemory,
+        }
+    }
+}
+
+impl From<StoreError> for StoreFault {
+    ghost from_gives = { λ f e. e ≡ of_store f };
+
+    fn from(error: StoreError) -> StoreFault {
+        StoreFault::from(RowsFault::from(error))
+    }
+}
+
+impl From<RowFault> for StoreFault {
+    ghost from_gives = { λ f e. e ≡ of_row f };
+
+    fn from(fault: RowFault) -> StoreFault {
+        match fault {
+            RowFault::BadRow => StoreFault::Store(StoreError::SqliteFailure(
+                ErrorCode::DatabaseCorrupt,
+            )),
+            RowFault::NoMemory => StoreFault::NoMemory,
+        }
+    }
+}
+
+impl From<ZoneFault> for StoreFault {
+    ghost from_gives = { λ f e. e ≡ of_zone f };
+
+    fn from(fault: ZoneFault) -> StoreFault {
+        match fault {
+            ZoneFault::NoMemory => StoreFault::NoMemory,
+            _ => StoreFault::Zone(fault),
+        }
+    }
+}
+
+impl From<AllocError> for StoreFault {
+    ghost from_gives = { λ _ e. e ≡ NoMemory };
+
+    fn from(_e: AllocError) -> StoreFault {
+        StoreFault::NoMemory
+    }
+}
+
+impl<T: Drop> From<AllocFailed<T>> for StoreFault {
+    ghost from_gives = { λ _ e. e ≡ NoMemory };
+
+    fn from(_e: AllocFailed<T>) -> StoreFault {
+        StoreFault::NoMemory
+    }
+}

@@ -1,0 +1,100 @@
+-- What a job writes, where it is known what its steps made.
+use Rattle.std.proofs.Common.{◌≡◌, ◌+◌, ℕ, ◌<◌, ◌≤◌, List, ◌++◌, length, take, Option, Result, Ok, Err, inl, inr, refl, sym, subst, arith, length-append}
+use Rattle.std.proofs.Math.Seq.{take-append-add}
+use Rattle.std.specs.Io.KnownBytes.{Appends}
+use Rattle.std.proofs.KnownBytes.{Appends-trans}
+use Rattle.dns_master.specs.declared.fault.MasterFault.{MasterFault}
+use Rattle.dns_master.specs.declared.fault.MasterFault.TheVariants as master
+use Rattle.dns_master.specs.Device.{TextWritten}
+use Rattle.text_commands.specs.declared.refusal.Refusal.{Refusal}
+use Rattle.text_commands.specs.declared.line_fault.LineFault.{LineFault}
+use Rattle.text_commands.specs.declared.line_fault.LineFault.TheVariants.{Refused, ReadFailed, NoMemory}
+use Rattle.text_commands.specs.declared.line_fault.JobFault.{JobFault}
+use Rattle.text_commands.specs.declared.line_fault.JobFault.TheVariants.{Told, WriteFailed}
+use Rattle.text_commands.specs.Device.{AppendsFront}
+use Rattle.text_commands.specs.LineFaults.{◌>>=◌, Makes, GivesOf}
+use Rattle.text_commands.specs.Replies.{told, MayTell, IsTold, IsPrinted, IsReply, Answered}
+use Rattle.text_commands.proofs.StepLemmas.{refused_before, given_before}
+
+-- ---- printing
+
+-- a front of a text went out behind another text
+pub front_behind : (a b c : Option (List ℕ)) (first second : List ℕ) → Appends a b first → AppendsFront b c second → AppendsFront a c (first ++ second)
+front_behind a b c first second whole front =
+    let short : length first + front.0 ≤ length (first ++ second) = omega (arith, front.1, length-append first second) in
+    (length first + front.0, short, subst (Appends a c) (sym (take-append-add first second front.0)) (Appends-trans a b c first (take front.0 second) whole front.2))
+
+module _ (a b c : Option (List ℕ)) (text : List ℕ) (first second third : ℕ) where
+  told_behind : (n : ℕ) (result : Result (Unit {0}) JobFault) → n ≤ length text → Appends a b (take n text) → second ≡ first → IsTold b c NoMemory result second third → IsPrinted a c text result first third
+  told_behind n (Ok done) small front fine wrote = absurd wrote
+  told_behind n (Err (Told NoMemory)) small front fine wrote =
+      ((take n text ++ told NoMemory, (n, small, refl), Appends-trans a b c (take n text) (told NoMemory) front wrote.1), omega (arith, fine, wrote.2))
+  told_behind n (Err (Told (Refused refusal))) small front fine wrote = absurd (cc (wrote.0))
+  told_behind n (Err (Told ReadFailed)) small front fine wrote = absurd (cc (wrote.0))
+  told_behind n (Err WriteFailed) small front fine sent =
+      let same = sent.0.1 in
+      ((take n text ++ told NoMemory, inr (n, small, refl), front_behind a b c (take n text) (told NoMemory) front (subst (λ l. AppendsFront b c (told l)) same sent.0.2)), omega (arith, fine, sent.1))
+
+  -- memory ran out while the text was written, and that was told
+  pub printed_short : (fault : MasterFault) (result : Result (Unit {0}) JobFault) → ¬ (fault ≡ master.WriteFailed) → TextWritten a b text (Err fault) first second → IsTold b c NoMemory result second third → IsPrinted a c text result first third
+  printed_short master.WriteFailed result other wrote line = absurd (other refl)
+  printed_short master.NoMemory result other wrote line = told_behind wrote.0.0 result wrote.0.1 wrote.0.2 wrote.1 line
+  printed_short fault result other wrote line = absurd wrote
+
+-- ---- jobs
+
+module _ (left : Option (List ℕ)) (answer : List ℕ → Result (List ℕ) Refusal) (old new : Option (List ℕ)) (reads reads_after writes writes_after : ℕ) where
+  -- the answer was sent
+  pub answered_sent : (text : List ℕ) → Makes left answer (Ok text) → reads_after ≡ reads → Appends old new text × (writes_after ≡ writes) → Answered left answer old new (Ok tt) reads reads_after writes writes_after
+  answered_sent text makes fine sent = ((text, makes, sent.0), fine, sent.1)
+
+  pub answered_front : (text : List ℕ) → Makes left answer (Ok text) → reads_after ≡ reads → AppendsFront old new text × (writes < writes_after) → Answered left answer old new (Err WriteFailed) reads reads_after writes writes_after
+  answered_front text makes fine sent = ((text, inl ((Ok text, makes, refl), fine), sent.0), sent.1)
+
+  pub answered_printed : (text : List ℕ) (result : Result (Unit {0}) JobFault) → Makes left answer (Ok text) → reads_after ≡ reads → IsPrinted old new text result writes writes_after → Answered left answer old new result reads reads_after writes writes_after
+  answered_printed text (Ok done) makes fine wrote = answered_sent text makes fine wrote
+  answered_printed text (Err (Told NoMemory)) makes fine wrote = ((wrote.0.0, inr (text, makes, wrote.0.1), wrote.0.2), fine, wrote.1)
+  answered_printed text (Err (Told (Refused refusal))) makes fine wrote = absurd wrote
+  answered_printed text (Err (Told ReadFailed)) makes fine wrote = absurd wrote
+  answered_printed text (Err WriteFailed) makes fine wrote =
+      let sent = wrote.0.0 in
+      let reply : IsReply left answer reads reads_after sent = elim wrote.0.1 [
+        | inl whole ↦ inl ((Ok text, makes, whole), fine)
+        | inr short ↦ inr (inr (inr (text, makes, short), fine))
+      ] in
+      ((sent, reply, wrote.0.2), wrote.1)
+
+  -- a fault was told by the line of its own, or by that of want of memory
+  own_line : {X : Type 0} (view : X → List ℕ) (fault : LineFault) → GivesOf view left answer (Err fault) reads reads_after → Appends old new (told fault) → writes_after ≡ writes → Answered left answer old new (Err (Told fault)) reads reads_after writes writes_after
+  own_line view (Refused refusal) given line fine = (given.0, line, given.1, fine)
+  own_line view ReadFailed given line fine = (line, given, fine)
+  own_line view NoMemory given line fine = ((told NoMemory, inl refl, line), given, fine)
+
+  own_front : {X : Type 0} (view : X → List ℕ) (fault : LineFault) → GivesOf view left answer (Err fault) reads reads_after → AppendsFront old new (told fault) → writes < writes_after → Answered left answer old new (Err WriteFailed) reads reads_after writes writes_after
+  own_front view (Refused refusal) given front failed = ((told (Refused refusal), inl ((Err refusal, given.0, refl), given.1), front), failed)
+  own_front view ReadFailed given front failed = ((told ReadFailed, inr (inl (refl, given)), front), failed)
+  own_front view NoMemory given front failed = ((told NoMemory, inr (inr (inl refl, given)), front), failed)
+
+  -- which fault was told in the place of another
+  told_as : {X : Type 0} (view : X → List ℕ) (fault line : LineFault) → MayTell fault line → GivesOf view left answer (Err fault) reads reads_after → GivesOf view left answer (Err line) reads reads_after
+  told_as {X} view (Refused refusal) line (inl same) given = subst (λ l. GivesOf {X = X} view left answer (Err l) reads reads_after) (sym same) given
+  told_as {X} view (Refused refusal) line (inr short) given = subst (λ l. GivesOf {X = X} view left answer (Err l) reads reads_after) (sym short) given.1
+  told_as {X} view ReadFailed line same given = subst (λ l. GivesOf {X = X} view left answer (Err l) reads reads_after) (sym same) given
+  told_as {X} view NoMemory line same given = subst (λ l. GivesOf {X = X} view left answer (Err l) reads reads_after) (sym same) given
+
+  pub answered_told : {X : Type 0} (view : X → List ℕ) (fault : LineFault) (result : Result (Unit {0}) JobFault) → GivesOf view left answer (Err fault) reads reads_after → IsTold old new fault result writes writes_after → Answered left answer old new result reads reads_after writes writes_after
+  answered_told view fault (Ok done) given wrote = absurd wrote
+  answered_told view fault (Err (Told line)) given wrote = own_line view line (told_as view fault line wrote.0 given) wrote.1 wrote.2
+  answered_told view fault (Err WriteFailed) given wrote = own_front view wrote.0.0 (told_as view fault wrote.0.0 wrote.0.1 given) wrote.0.2 wrote.1
+
+-- ---- an answer that is the text of what was made
+
+module _ {A : Type 0} (left : Option (List ℕ)) (make : List ℕ → Result A Refusal) (text : A → List ℕ) where
+  pub text_made : (a : A) → Makes left make (Ok a) → Makes left (λ input. make input >>= λ made. Ok (text made)) (Ok (text a))
+  text_made a makes = (makes.0, makes.1, given_before (make makes.0) (λ made. Ok (text made)) a makes.2)
+
+  pub text_refused : {X : Type 0} (view : X → A) (fault : LineFault) (before after : ℕ) → GivesOf view left make (Err fault) before after → GivesOf (λ (t : List ℕ). t) left (λ input. make input >>= λ made. Ok (text made)) (Err fault) before after
+  text_refused view (Refused refusal) before after given =
+      ((given.0.0, given.0.1, refused_before (make given.0.0) (λ made. Ok (text made)) refusal given.0.2), given.1)
+  text_refused view ReadFailed before after given = given
+  text_refused view NoMemory before after given = given

@@ -1,0 +1,11 @@
+use Rattle.text_commands.specs.Apply.{zone_lines, apply_text}
+use Rattle.text_commands.proofs.JobLemmas.{answered_printed, answered_told}
+use Rattle.text_commands.proofs.apply.ApplyTask.run.Goals as goal
+
+pub returns-in-Ok : goal.returns-in-Ok
+returns-in-Ok g c =
+    let read = c.in-Ok.ensures in
+    answered_printed _ apply_text _ _ _ _ _ _ (zone_lines c.in-Ok.zone) c.print.result read.0 read.1 c.print.ensures
+
+pub returns-in-Err : goal.returns-in-Err
+returns-in-Err g c = answered_told _ apply_text _ _ _ _ _ _ zone_lines c.in-Err.fault c.tell.result c.in-Err.ensures c.tell.ensures

@@ -1,0 +1,83 @@
+-- What a job writes: its answer, or the line that tells why it has none.
+use Rattle.std.specs.Prelude.{◌≡◌, ◌⊎◌, ℕ, ◌<◌, ◌≤◌, List, [], ◌∷◌, ◌++◌, codes, length, take, Option, Result, Ok, Err}
+use Rattle.std.specs.Io.KnownBytes.{Appends}
+use Rattle.dns_master.specs.declared.device.DeviceFailed.{DeviceFailed}
+use Rattle.text_commands.specs.declared.refusal.Refusal.{Refusal}
+use Rattle.text_commands.specs.declared.line_fault.LineFault.{LineFault}
+use Rattle.text_commands.specs.declared.line_fault.LineFault.TheVariants.{Refused, ReadFailed, NoMemory}
+use Rattle.text_commands.specs.declared.line_fault.JobFault.{JobFault}
+use Rattle.text_commands.specs.declared.line_fault.JobFault.TheVariants.{Told, WriteFailed}
+use Rattle.text_commands.specs.Device.{AppendsFront}
+use Rattle.text_commands.specs.Refusals.{told_refusal}
+use Rattle.text_commands.specs.LineFaults.{Makes}
+
+-- the line that tells a fault
+abbrev pub told : LineFault → List ℕ
+told (Refused refusal) = told_refusal refusal
+told ReadFailed = codes "refused 93" ++ 10 ∷ []
+told NoMemory = codes "refused 99" ++ 10 ∷ []
+
+-- ---- one text
+
+-- What the writer held before and after, the text, the answer, and the writer's failures before and after: all of the text went
+-- out; or the writer failed, and a front of it did.
+abbrev pub IsSent : Option (List ℕ) → Option (List ℕ) → List ℕ → Result (Unit {0}) DeviceFailed → ℕ → ℕ → Type 0
+IsSent old new text (Ok done) before after = Appends old new text × (after ≡ before)
+IsSent old new text (Err failed) before after = AppendsFront old new text × (before < after)
+
+-- a fault is told by its line; where there is no memory for that of a refusal, want of memory is told in its place
+abbrev pub MayTell : LineFault → LineFault → Type 0
+MayTell (Refused refusal) line = (line ≡ Refused refusal) ⊎ (line ≡ NoMemory)
+MayTell fault line = line ≡ fault
+
+-- What the writer held before and after, the fault, the answer, and the writer's failures before and after.
+abbrev pub IsTold : Option (List ℕ) → Option (List ℕ) → LineFault → Result (Unit {0}) JobFault → ℕ → ℕ → Type 0
+IsTold old new fault (Ok done) before after = ⊥
+IsTold old new fault (Err (Told line)) before after = MayTell fault line × Appends old new (told line) × (after ≡ before)
+IsTold old new fault (Err WriteFailed) before after = ((line : LineFault) × MayTell fault line × AppendsFront old new (told line)) × (before < after)
+
+-- a front of a text, and then the line of want of memory
+abbrev pub IsCutShort : List ℕ → List ℕ → Type 0
+IsCutShort text cut = (n : ℕ) × (n ≤ length text) × (cut ≡ take n text ++ told NoMemory)
+
+-- What the writer held before and after, the text, the answer, and the writer's failures before and after: a text that takes
+-- memory while it is written.
+abbrev pub IsPrinted : Option (List ℕ) → Option (List ℕ) → List ℕ → Result (Unit {0}) JobFault → ℕ → ℕ → Type 0
+IsPrinted old new text (Ok done) before after = Appends old new text × (after ≡ before)
+IsPrinted old new text (Err (Told NoMemory)) before after = ((cut : List ℕ) × IsCutShort text cut × Appends old new cut) × (after ≡ before)
+IsPrinted old new text (Err WriteFailed) before after =
+    ((sent : List ℕ) × ((sent ≡ text) ⊎ IsCutShort text sent) × AppendsFront old new sent) × (before < after)
+IsPrinted old new text (Err fault) before after = ⊥
+
+-- ---- a job
+
+-- what a definition answers, or the line of its refusal
+abbrev pub reply : Result (List ℕ) Refusal → List ℕ
+reply (Ok text) = text
+reply (Err refusal) = told_refusal refusal
+
+-- the line of want of memory, before which a front of the answer may stand
+abbrev pub IsShortReply : Option (List ℕ) → (List ℕ → Result (List ℕ) Refusal) → List ℕ → Type 0
+IsShortReply left answer text = (text ≡ told NoMemory) ⊎ ((whole : List ℕ) × Makes left answer (Ok whole) × IsCutShort whole text)
+
+-- a text that is to be written where this was left to read, and the reader's failures are these before and after
+abbrev pub IsReply : Option (List ℕ) → (List ℕ → Result (List ℕ) Refusal) → ℕ → ℕ → List ℕ → Type 0
+IsReply left answer reads reads_after text =
+    (((made : Result (List ℕ) Refusal) × Makes left answer made × (text ≡ reply made)) × (reads_after ≡ reads))
+    ⊎ (((text ≡ told ReadFailed) × (reads < reads_after))
+    ⊎ (IsShortReply left answer text × (reads_after ≡ reads)))
+
+-- What was left to read, what is answered to it, what the writer held before and after, how the job went, the reader's failures
+-- before and after, and the writer's failures before and after. A failed write leaves a front of what was to be written; else it
+-- is all written.
+abbrev pub Answered : Option (List ℕ) → (List ℕ → Result (List ℕ) Refusal) → Option (List ℕ) → Option (List ℕ) → Result (Unit {0}) JobFault → ℕ → ℕ → ℕ → ℕ → Type 0
+Answered left answer old new (Ok done) reads reads_after writes writes_after =
+    ((text : List ℕ) × Makes left answer (Ok text) × Appends old new text) × (reads_after ≡ reads) × (writes_after ≡ writes)
+Answered left answer old new (Err (Told (Refused refusal))) reads reads_after writes writes_after =
+    Makes left answer (Err refusal) × Appends old new (told_refusal refusal) × (reads_after ≡ reads) × (writes_after ≡ writes)
+Answered left answer old new (Err (Told ReadFailed)) reads reads_after writes writes_after =
+    Appends old new (told ReadFailed) × (reads < reads_after) × (writes_after ≡ writes)
+Answered left answer old new (Err (Told NoMemory)) reads reads_after writes writes_after =
+    ((text : List ℕ) × IsShortReply left answer text × Appends old new text) × (reads_after ≡ reads) × (writes_after ≡ writes)
+Answered left answer old new (Err WriteFailed) reads reads_after writes writes_after =
+    ((text : List ℕ) × IsReply left answer reads reads_after text × AppendsFront old new text) × (writes < writes_after)

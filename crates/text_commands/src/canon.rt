@@ -1,0 +1,83 @@
+//! A zone in canonical form.
+
+ghost use Rattle.std.specs.Prelude.{◌≡◌};
+ghost use Rattle.dns_names.specs.Reading.{absolute_name};
+ghost use Rattle.dns_master.specs.Files.{file_of};
+ghost use Rattle.text_commands.specs.LineFaults.{Gives, GivesOf, of_names, of_masters};
+ghost use Rattle.text_commands.specs.Replies.{IsPrinted};
+ghost use Rattle.text_commands.specs.Canon.{zone_of_file, zone_read, text_of_zone};
+
+use crate::device::{ended, read_input, tell};
+use crate::line_fault::{JobFault, LineFault};
+use crate::task::Task;
+use dns_data::Record;
+use dns_master::{Sink, Source, print_zone, read_file};
+use dns_names::Name;
+use std::alloc::Global;
+use zone_core::Zone;
+
+/// The absolute name that a word is.
+pub fn read_name(alloc: Global, word: &str) -> Result<Name, LineFault>
+    ensures { Gives (λ name. name) result (of_names (absolute_name word.now)) }
+{
+    Ok(Name::read_absolute(alloc, word.as_bytes())?)
+}
+
+/// The records of a master file, whose octets are given back.
+fn read_records(alloc: Global, text: Vec<u8>, origin: &Name) -> Result<Vec<Record>, LineFault>
+    ensures { Gives (λ records. records.items) result (of_masters (file_of text.items origin.now)) }
+{
+    Ok(read_file(alloc, &text, origin)?)
+}
+
+/// The zone of an origin and a master file.
+fn zone_of_file(alloc: Global, origin: Name, text: Vec<u8>) -> Result<Zone, LineFault>
+    ensures { Gives (λ zone. zone) result (zone_of_file origin text.items) }
+{
+    let records = read_records(alloc, text, &origin)?;
+    Ok(Zone::build(alloc, origin, records)?)
+}
+
+/// The zone of a word that is its origin, and a reader that gives its master file.
+pub fn read_zone<R: Source>(alloc: Global, origin: &str, reader: &mut R) -> Result<Zone, LineFault>
+    ensures { GivesOf (λ zone. zone) (R.remaining reader.old) (zone_read origin.now) result (R.failures reader.old) (R.failures reader.new) }
+{
+    let origin = read_name(alloc, origin)?;
+    let text = read_input(alloc, reader)?;
+    zone_of_file(alloc, origin, text)
+}
+
+/// Prints a zone. Where memory runs out, a line tells it behind what went out.
+fn print<W: Sink>(alloc: Global, zone: &Zone, writer: &mut W) -> Result<(), JobFault>
+    ensures { IsPrinted (W.contents writer.old) (W.contents writer.new) (text_of_zone zone.now) result (W.failures writer.old) (W.failures writer.new) }
+{
+    let printed = print_zone(alloc, zone.origin(), zone.records(), writer);
+    ended(writer, printed)
+}
+
+/// The task `canon`: to read a master file (RFC 1035 section 5.1), to build its zone, and to print it: the line `$ORIGIN` and the
+/// origin, and its record lines in record order. Otherwise one line tells the refusal that comes first: of the origin, that the
+/// input is too large, of the master file, of its records as a zone.
+#[derive(Clone, Copy)]
+pub struct Canon<'a> {
+    /// The name of the zone's origin, a word of the command line.
+    pub origin: &'a str,
+}
+
+impl Task for Canon<'_> {
+    ghost use Rattle.text_commands.specs.Canon.{canon_text};
+
+    ghost answer = { λ c. canon_text c.origin.now };
+
+    fn run<R: Source, W: Sink>(
+        self,
+        alloc: Global,
+        reader: &mut R,
+        writer: &mut W,
+    ) -> Result<(), JobFault> {
+        match read_zone(alloc, self.origin, reader) {
+            Ok(zone) => print(alloc, &zone, writer),
+            Err(fault) => tell(alloc, writer, fault),
+        }
+    }
+}

@@ -1,0 +1,99 @@
+//! Reading all of an input, and writing a text or the line of a fault.
+
+ghost use Rattle.std.specs.Prelude.{◌≡◌, ℕ, List, Option, string_bytes, IfOk};
+ghost use Rattle.dns_master.specs.Device.{TextWritten};
+ghost use Rattle.text_commands.specs.LineFaults.{GivesOf, limited};
+ghost use Rattle.text_commands.specs.Refusals.{told_refusal};
+ghost use Rattle.text_commands.specs.Replies.{IsSent, IsTold, IsPrinted};
+
+use crate::line_fault::{JobFault, LineFault, NO_MEMORY_LINE, READ_FAILED_LINE};
+use crate::refusal::{Refusal, RefusalLine};
+use dns_master::{DeviceFailed, MasterFault, Sink, Source};
+use std::alloc::{AllocError, Global};
+
+/// The most octets of an input.
+const INPUT_MAX: usize = 4_194_304;
+
+/// How many octets are read at a time.
+const PIECE: usize = 65_536;
+
+/// All octets that a reader gives. More than 4,194,304 are `TooLarge`.
+pub fn read_input<R: Source>(alloc: Global, reader: &mut R) -> Result<Vec<u8>, LineFault>
+    ensures { GivesOf (λ input. input.items) (R.remaining reader.old) limited result (R.failures reader.old) (R.failures reader.new) }
+{
+    let mut input = Vec::new(alloc);
+    let mut piece = vec![in alloc; 0u8; PIECE]?;
+    while input.len() <= INPUT_MAX {
+        let Ok(count) = reader.read_some(&mut piece) else {
+            return Err(LineFault::ReadFailed);
+        };
+        if count == 0 {
+            return Ok(input);
+        }
+        input.extend_from_slice(&piece[..count])?;
+    }
+    Err(LineFault::Refused(Refusal::TooLarge))
+}
+
+/// Writes all octets, in as many pieces as the writer takes.
+pub fn write_text<W: Sink>(writer: &mut W, text: &[u8]) -> Result<(), DeviceFailed>
+    ensures { IsSent (W.contents writer.old) (W.contents writer.new) text.now result (W.failures writer.old) (W.failures writer.new) }
+{
+    let mut rest = text;
+    while !rest.is_empty() {
+        let count = writer.write_some(rest)?;
+        rest = &rest[count..];
+    }
+    Ok(())
+}
+
+/// The line that tells a refusal. The only error is want of memory.
+fn refusal_text(alloc: Global, refusal: Refusal) -> Result<String, AllocError>
+    ensures { IfOk result (λ text. string_bytes text ≡ told_refusal refusal) }
+{
+    format!(in alloc; "{}", RefusalLine(refusal))
+}
+
+/// Tells want of memory, and hands it on.
+fn tell_no_memory<W: Sink>(writer: &mut W) -> Result<(), JobFault>
+    ensures { IsTold (W.contents writer.old) (W.contents writer.new) LineFault.NoMemory result (W.failures writer.old) (W.failures writer.new) }
+{
+    write_text(writer, NO_MEMORY_LINE.as_bytes())?;
+    Err(JobFault::Told(LineFault::NoMemory))
+}
+
+/// What came of a printing that `dns_master` did. Where memory ran out, a line tells it behind what went out.
+pub fn ended<W: Sink>(writer: &mut W, printed: Result<(), MasterFault>) -> Result<(), JobFault>
+    ensures { (old : Option (List ℕ)) (text : List ℕ) (failures : ℕ) → TextWritten old (W.contents writer.old) text printed failures (W.failures writer.old)
+        → IsPrinted old (W.contents writer.new) text result failures (W.failures writer.new) }
+{
+    match printed {
+        Ok(()) => Ok(()),
+        Err(fault) => match fault {
+            MasterFault::WriteFailed => Err(JobFault::WriteFailed),
+            _ => tell_no_memory(writer),
+        },
+    }
+}
+
+/// Tells a fault by its line, and hands it on: `NoMemory` where there is no memory for the line, and `WriteFailed` where the
+/// writer failed.
+pub fn tell<W: Sink>(alloc: Global, writer: &mut W, fault: LineFault) -> Result<(), JobFault>
+    ensures { IsTold (W.contents writer.old) (W.contents writer.new) fault result (W.failures writer.old) (W.failures writer.new) }
+{
+    match fault {
+        LineFault::Refused(refusal) => {
+            let Ok(text) = refusal_text(alloc, refusal) else {
+                return tell_no_memory(writer);
+            };
+            write_text(writer, text.as_bytes())?;
+            Err(JobFault::Told(fault))
+        }
+        // Told without memory, so that want of memory never hides it.
+        LineFault::ReadFailed => {
+            write_text(writer, READ_FAILED_LINE.as_bytes())?;
+            Err(JobFault::Told(fault))
+        }
+        LineFault::NoMemory => tell_no_memory(writer),
+    }
+}
