@@ -3,6 +3,7 @@
 import os
 import re
 import shutil
+import signal
 import subprocess
 import sys
 import tempfile
@@ -79,11 +80,15 @@ def go_inside(seconds, machine=True):
             make_machine(f"{folder}/memory")
         return folder
     folder = tempfile.mkdtemp(prefix="zoneoffice-try-")
+    signal.signal(signal.SIGTERM, lambda *_: sys.exit(1))
+    inside = subprocess.Popen(["timeout", "--kill-after=10", str(seconds), "unshare", "--mount", "--net", "--pid", "--fork",
+                               "--kill-child", "--mount-proc", sys.executable, "-B", os.path.abspath(sys.argv[0]), *sys.argv[1:]],
+                              env={**os.environ, "TRYING": folder, "ZONEOFFICE": os.path.abspath(PROGRAM)})
     try:
-        status = subprocess.run(["timeout", "--kill-after=10", str(seconds), "unshare", "--mount", "--net", "--pid", "--fork",
-                                 "--kill-child", "--mount-proc", sys.executable, "-B", os.path.abspath(sys.argv[0]), *sys.argv[1:]],
-                                env={**os.environ, "TRYING": folder, "ZONEOFFICE": os.path.abspath(PROGRAM)}).returncode
+        status = inside.wait()
     finally:
+        inside.terminate()
+        inside.wait()
         shutil.rmtree(folder)
     if status not in (0, 1):
         print(f"{sys.argv[0]}: ended with status {status} (124: after {seconds} seconds)")
