@@ -1,0 +1,113 @@
+"""What try-front, try-service and try-backup share: lines of results, the program, and a machine of their own."""
+
+import os
+import re
+import shutil
+import signal
+import subprocess
+import sys
+import tempfile
+import time
+
+HERE = os.path.dirname(os.path.abspath(__file__))
+PROGRAM = os.environ.get("ZONEOFFICE") or os.path.join(HERE, "../../crates/zoneoffice/out/zoneoffice")
+differing = 0
+
+
+def check(matter, differs=None):
+    """Prints one line on a matter: that it is so, or what differs."""
+    global differing
+    if differs:
+        differing += 1
+        print(f"{matter}: {differs}", flush=True)
+    else:
+        print(f"ok {matter}", flush=True)
+
+
+def expect(matter, got, wanted):
+    check(matter, None if got == wanted else f"got {got!r}, not {wanted!r}")
+
+
+def finish():
+    sys.exit(1 if differing else 0)
+
+
+def need(**packages):
+    """Ends with status 2 where a command is missing. A word is a command (with _ for -), and its value Debian's package."""
+    os.environ["PATH"] = "/usr/local/sbin:/usr/local/bin:/usr/sbin:/usr/bin:/sbin:/bin"
+    missing = sorted({package for command, package in packages.items() if not shutil.which(command.replace("_", "-"))})
+    if missing:
+        sys.exit(f"{sys.argv[0]}: install Debian's {' '.join(missing)}")
+    if os.geteuid():
+        sys.exit(f"{sys.argv[0]}: only root makes namespaces")
+    if not os.access(PROGRAM, os.X_OK):
+        sys.exit(f"{sys.argv[0]}: there is no program {PROGRAM}: build it, or say in ZONEOFFICE where it is")
+
+
+def run(command, **more):
+    """Runs a command of the shell, and gives its status and what it printed, errors too."""
+    done = subprocess.run(command, shell=True, text=True, stdout=subprocess.PIPE, stderr=subprocess.STDOUT,
+                          **{"timeout": 60, **more})
+    return done.returncode, done.stdout.strip()
+
+
+def must(command, **more):
+    """Runs a command that has to succeed, and gives what it printed."""
+    status, said = run(command, **more)
+    if status:
+        raise RuntimeError(f"{command}: status {status}: {said}")
+    return said
+
+
+def wait_for(what, seconds=10):
+    """Asks until the answer is true, and gives it; or the last one, when the time is over."""
+    until = time.monotonic() + seconds
+    while True:
+        answer = what()
+        if answer or time.monotonic() > until:
+            return answer
+        time.sleep(0.05)
+
+
+def go_inside(seconds, machine=True):
+    """Runs the script anew in namespaces of its own (network, processes, mounts), which go with it, for at most so many seconds;
+    and unless it makes its own, as a machine with its own /etc, /var, /usr/local and /run, in which what is written is kept in
+    memory. Gives a folder on the disk, whose folder `memory` is in memory."""
+    folder = os.environ.get("TRYING")
+    if folder:
+        must(f"mkdir {folder}/memory && mount -t tmpfs tmpfs {folder}/memory && ip link set lo up")
+        if machine:
+            make_machine(f"{folder}/memory")
+        return folder
+    folder = tempfile.mkdtemp(prefix="zoneoffice-try-")
+    signal.signal(signal.SIGTERM, lambda *_: sys.exit(1))
+    inside = subprocess.Popen(["timeout", "--kill-after=10", str(seconds), "unshare", "--mount", "--net", "--pid", "--fork",
+                               "--kill-child", "--mount-proc", sys.executable, "-B", os.path.abspath(sys.argv[0]), *sys.argv[1:]],
+                              env={**os.environ, "TRYING": folder, "ZONEOFFICE": os.path.abspath(PROGRAM)})
+    try:
+        status = inside.wait()
+    finally:
+        inside.terminate()
+        inside.wait()
+        shutil.rmtree(folder)
+    if status not in (0, 1):
+        print(f"{sys.argv[0]}: ended with status {status} (124: after {seconds} seconds)")
+    sys.exit(1 if status else 0)
+
+
+def make_machine(folder):
+    for kept in "/etc", "/var", "/usr/local":
+        name = kept.replace("/", "")
+        must(f"mkdir {folder}/{name} {folder}/{name}-work && mount -t overlay overlay "
+             f"-o lowerdir={kept},upperdir={folder}/{name},workdir={folder}/{name}-work {kept}")
+    must("mount -t tmpfs -o mode=755 tmpfs /run && mkdir -p /run/lock")
+    must(f"install -m 755 {PROGRAM} /usr/local/bin/zoneoffice")
+
+
+def shown(page, start):
+    """The commands that a page shows in the indented block which begins with this text."""
+    text = open(os.path.join(HERE, "../../docs", page)).read()
+    for block in re.findall(r"(?:^    .*\n)+", text, re.M):
+        if block.strip().startswith(start):
+            return re.sub(r"^    ", "", block, flags=re.M)
+    raise LookupError(f"{page} shows no {start}")
