@@ -1,7 +1,5 @@
-//! Outside vectors and worked examples for master files and zones.
+//! Tests of zones.
 #![tactic(auto)]
 
-#[cfg(test)]
-mod master;
 #[cfg(test)]
 mod zones;

@@ -1,4 +1,4 @@
-//! Readers and writers that give and take octets in pieces, and fail.
+//! Readers and writers by themselves.
 
 ghost use Rattle.std.specs.Prelude.{◌≡◌, ◌<◌};
 
@@ -39,7 +39,7 @@ fn filled<S: Sink>(sink: &mut S, octets: &[u8]) -> bool {
     false
 }
 
-/// What pieces give, with their failures counted.
+/// What a reader gives, with its failures counted.
 fn read_counted<L: Ledger>(
     alloc: Global,
     pieces: Pieces,
@@ -53,7 +53,7 @@ fn read_counted<L: Ledger>(
     drained(alloc, &mut source)
 }
 
-/// What pieces take, with their failures counted.
+/// What a writer takes, with its failures counted.
 fn write_counted<L: Ledger>(pieces: Pieces, blank: Blank, octets: &[u8]) -> (Vec<u8>, bool)
     requires name { blank.name ≡ L.name }
     requires parts { blank.parts ≡ L.parts }
@@ -64,57 +64,67 @@ fn write_counted<L: Ledger>(pieces: Pieces, blank: Blank, octets: &[u8]) -> (Vec
     (sink.into_inner().octets, has_failed)
 }
 
-/// What the devices of the tests are asked to give and to take.
+/// What the devices are asked to give and to take.
 const OCTETS: &[u8] = b"abcdefghij";
+
+/// How many octets a call moves at most, and the number of the call that fails, or 0; what comes of it, whether a call failed,
+/// and the reason.
+type Row = (usize, usize, &'static str, bool, &'static str);
+
+static READS: [Row; 7] = [
+    (1, 0, "abcdefghij", false, "an octet a call"),
+    (3, 0, "abcdefghij", false, "three octets a call"),
+    (100, 0, "abcdefghij", false, "the buffer bounds a call"),
+    (0, 0, "abcdefghij", false, "one octet at least"),
+    (3, 1, "", true, "the first call fails"),
+    (3, 3, "abcdef", true, "the third call fails"),
+    (
+        3,
+        5,
+        "abcdefghij",
+        true,
+        "the call that finds the end fails",
+    ),
+];
 
 #[test]
 fn reads_in_pieces(rt: HostRuntime) -> Result<(), Fail> {
-    let rows = [
-        (1, 0, "abcdefghij", false, "an octet a call"),
-        (3, 0, "abcdefghij", false, "three octets a call"),
-        (100, 0, "abcdefghij", false, "the buffer bounds a call"),
-        (0, 0, "abcdefghij", false, "one octet at least"),
-        (3, 1, "", true, "the first call fails"),
-        (3, 3, "abcdef", true, "the third call fails"),
-        (
-            3,
-            5,
-            "abcdefghij",
-            true,
-            "the call that finds the end fails",
-        ),
-    ];
-    for (most, fails, want, failed, why) in rows {
-        let pieces = Pieces::new(Vec::from_slice(rt.alloc(), OCTETS)?, most, fails);
+    for (most, fails, want, failed, why) in &READS {
+        let pieces = Pieces::new(Vec::from_slice(rt.alloc(), OCTETS)?, *most, *fails);
         let (got, has_failed) = read_counted::<Brand>(rt.alloc(), pieces, Blank::new(1))?;
-        assert!(rt; got.as_slice() == want.as_bytes(), "{why}");
-        assert!(rt; has_failed == failed, "{why}");
+        assert!(rt;
+            got.as_slice() == want.as_bytes() && has_failed == *failed,
+            "{why}"
+        );
     }
     Ok(())
 }
 
+static WRITES: [Row; 7] = [
+    (1, 0, "abcdefghij", false, "an octet a call"),
+    (3, 0, "abcdefghij", false, "three octets a call"),
+    (100, 0, "abcdefghij", false, "all in one call"),
+    (0, 0, "", true, "a write of none fails"),
+    (3, 1, "", true, "the first call fails"),
+    (3, 2, "abc", true, "the second call fails"),
+    (
+        3,
+        5,
+        "abcdefghij",
+        false,
+        "the call that fails does not come",
+    ),
+];
+
 #[test]
 fn writes_in_pieces(rt: HostRuntime) -> Result<(), Fail> {
-    let rows = [
-        (1, 0, "abcdefghij", false, "an octet a call"),
-        (3, 0, "abcdefghij", false, "three octets a call"),
-        (100, 0, "abcdefghij", false, "all in one call"),
-        (0, 0, "", true, "a write of none fails"),
-        (3, 1, "", true, "the first call fails"),
-        (3, 2, "abc", true, "the second call fails"),
-        (
-            3,
-            5,
-            "abcdefghij",
-            false,
-            "the call that fails does not come",
-        ),
-    ];
-    for (most, fails, want, failed, why) in rows {
-        let pieces = Pieces::new(Vec::new(rt.alloc()), most, fails);
+    for (most, fails, want, failed, why) in &WRITES {
+        let pieces = Pieces::new(Vec::new(rt.alloc()), *most, *fails);
         let (got, has_failed) = write_counted::<Brand>(pieces, Blank::new(1), OCTETS);
-        assert!(rt; got.as_slice() == want.as_bytes(), "{why}");
-        assert!(rt; has_failed == failed, "{why}");
+        assert!(rt;
+            got.as_slice() == want.as_bytes() && has_failed == *failed,
+            "{why}"
+        );
     }
     Ok(())
 }

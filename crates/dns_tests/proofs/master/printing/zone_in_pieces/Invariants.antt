@@ -1,4 +1,0 @@
-use Rattle.dns_tests.proofs.master.printing.zone_in_pieces.Given as goal
-
-abbrev pub ghosts-written : goal.ghosts-written
-ghosts-written g a = record { name = a.blank.name; parts = a.blank.parts }

@@ -1,0 +1,172 @@
+use crate::page::{Sheet, printed};
+use dns_data::{DataFault, Record, record_line};
+use dns_master::{MasterFault, Token, read_file, tokens};
+use dns_names::Name;
+use std::alloc::{AllocError, Global};
+use std::str;
+use test_rows::{Answers, Row};
+
+/// Answers to rows of master files.
+#[derive(Drop)]
+pub struct Files;
+
+impl Answers for Files {
+    fn answer(
+        &mut self,
+        alloc: Global,
+        row: &Row<'_>,
+        answer: &mut Vec<u8>,
+    ) -> Result<(), AllocError> {
+        match answer_to(alloc, row, answer) {
+            Ok(()) => Ok(()),
+            Err(fault) => push_fault(alloc, fault, answer),
+        }
+    }
+}
+
+fn answer_to(alloc: Global, row: &Row<'_>, answer: &mut Vec<u8>) -> Result<(), MasterFault> {
+    let (first, rest) = row.split();
+    match row.verb {
+        "tokens" => push_tokens(alloc, &tokens(alloc, &row.body)?, answer),
+        "entries" => push_entries(alloc, &tokens(alloc, &row.body)?, answer),
+        "file" => push_records(alloc, &records(alloc, first, &row.body)?, answer),
+        "print" => push_zone(alloc, number(first), rest, &row.body, answer),
+        "print-records" => push_lines(alloc, number(first), rest, &row.body, answer),
+        "no-memory" => Err(MasterFault::NoMemory),
+        _ => push("no such verb", answer),
+    }
+}
+
+fn push(text: &str, answer: &mut Vec<u8>) -> Result<(), MasterFault> {
+    Ok(answer.extend_from_slice(text.as_bytes())?)
+}
+
+/// Appends a refusal: its numbers, the line if it has one, and its words.
+fn push_fault(alloc: Global, fault: MasterFault, answer: &mut Vec<u8>) -> Result<(), AllocError> {
+    let number = fault.number();
+    answer.extend_from_slice(format!(in alloc; "refused {number}")?.as_bytes())?;
+    if let MasterFault::Data { fault, .. } = fault {
+        answer.extend_from_slice(format!(in alloc; ".{}", fault.number())?.as_bytes())?;
+        if let DataFault::Name(fault) = fault {
+            answer.extend_from_slice(format!(in alloc; ".{}", fault.number())?.as_bytes())?;
+        }
+    }
+    if let Some(line) = fault.line() {
+        answer.extend_from_slice(format!(in alloc; " at {line}")?.as_bytes())?;
+    }
+    answer.extend_from_slice(format!(in alloc; ": {fault}")?.as_bytes())
+}
+
+fn number(text: &[u8]) -> usize {
+    str::from_utf8(text)
+        .ok()
+        .and_then(|text| text.parse::<usize>().ok())
+        .unwrap_or(0)
+}
+
+/// The origin of a row; a fault of it is told as one of line 0.
+fn origin(alloc: Global, text: &[u8]) -> Result<Name, MasterFault> {
+    match Name::read_absolute(alloc, text) {
+        Ok(name) => Ok(name),
+        Err(fault) => Err(MasterFault::Data {
+            line: 0,
+            fault: DataFault::from(fault),
+        }),
+    }
+}
+
+fn records(alloc: Global, top: &[u8], text: &[u8]) -> Result<Vec<Record>, MasterFault> {
+    read_file(alloc, text, &origin(alloc, top)?)
+}
+
+fn push_tokens(
+    alloc: Global,
+    tokens: &[Token<'_>],
+    answer: &mut Vec<u8>,
+) -> Result<(), MasterFault> {
+    if tokens.is_empty() {
+        return push("no item", answer);
+    }
+    for (i, token) in tokens.iter().enumerate() {
+        if i > 0 {
+            push(" ", answer)?;
+        }
+        let quote = if token.item.quoted { "\"" } else { "" };
+        push(quote, answer)?;
+        answer.extend_from_slice(token.item.raw)?;
+        push(quote, answer)?;
+        let place = format!(in alloc; "@{}:{}:{}", token.start, token.line, token.entry)?;
+        push(place.as_str(), answer)?;
+    }
+    Ok(())
+}
+
+/// Appends how many items there are, and a line for each entry: the line that it begins on, and how many items it has.
+fn push_entries(
+    alloc: Global,
+    tokens: &[Token<'_>],
+    answer: &mut Vec<u8>,
+) -> Result<(), MasterFault> {
+    push(
+        format!(in alloc; "{} items", tokens.len())?.as_str(),
+        answer,
+    )?;
+    for (i, token) in tokens.iter().enumerate() {
+        let entry = token.entry;
+        if !tokens[..i].iter().any(|token| token.entry == entry) {
+            let items = tokens.iter().filter(|token| token.entry == entry).count();
+            let line = format!(in alloc; "\nentry {entry}, line {}: {items} items", token.line)?;
+            push(line.as_str(), answer)?;
+        }
+    }
+    Ok(())
+}
+
+fn push_records(
+    alloc: Global,
+    records: &[Record],
+    answer: &mut Vec<u8>,
+) -> Result<(), MasterFault> {
+    if records.is_empty() {
+        return push("no record", answer);
+    }
+    for (i, record) in records.iter().enumerate() {
+        if i > 0 {
+            push("\n", answer)?;
+        }
+        push(record_line(alloc, record)?.as_str(), answer)?;
+    }
+    Ok(())
+}
+
+/// Appends the zone that is printed of a file, which has to be printed so again once it is read.
+fn push_zone(
+    alloc: Global,
+    most: usize,
+    top: &[u8],
+    text: &[u8],
+    answer: &mut Vec<u8>,
+) -> Result<(), MasterFault> {
+    let name = origin(alloc, top)?;
+    let zone = read_file(alloc, text, &name)?;
+    let page = printed(alloc, Sheet::Zone(&name, &zone), most)?;
+    answer.extend_from_slice(&page)?;
+    let again = records(alloc, b".", &page)?;
+    if printed(alloc, Sheet::Zone(&name, &again), most)? != page {
+        push("and otherwise once it is read", answer)?;
+    }
+    Ok(())
+}
+
+/// Appends the lines that are printed of a file.
+fn push_lines(
+    alloc: Global,
+    most: usize,
+    top: &[u8],
+    text: &[u8],
+    answer: &mut Vec<u8>,
+) -> Result<(), MasterFault> {
+    let lines = records(alloc, top, text)?;
+    let page = printed(alloc, Sheet::Lines(&lines), most)?;
+    Ok(answer.extend_from_slice(&page)?)
+}

@@ -1,0 +1,43 @@
+//! What is printed on a page that takes so many octets at a time.
+
+ghost use Rattle.std.specs.Prelude.{◌≡◌, ◌<◌};
+
+use dns_data::Record;
+use dns_master::{Counted, MasterFault, Pieces, print_records, print_zone};
+use dns_names::Name;
+use std::alloc::Global;
+use std::marker::Brand;
+use std::sync::ledger::{Blank, Ledger};
+
+/// Records as they are printed.
+#[derive(Clone, Copy)]
+pub enum Sheet<'a> {
+    /// The zone of an origin.
+    Zone(&'a Name, &'a [Record]),
+    /// Their lines alone.
+    Lines(&'a [Record]),
+}
+
+/// What a page takes of a sheet, at most so many octets at a time.
+pub fn printed(alloc: Global, sheet: Sheet<'_>, most: usize) -> Result<Vec<u8>, MasterFault> {
+    printed_on::<Brand>(alloc, sheet, most, Blank::new(1))
+}
+
+fn printed_on<L: Ledger>(
+    alloc: Global,
+    sheet: Sheet<'_>,
+    most: usize,
+    blank: Blank,
+) -> Result<Vec<u8>, MasterFault>
+    requires name { blank.name ≡ L.name }
+    requires parts { blank.parts ≡ L.parts }
+    requires some { 0 < blank.parts }
+{
+    let pieces = Pieces::new(Vec::new(alloc), most, 0);
+    let mut page: Counted<Pieces, L> = Counted::new(pieces, blank);
+    match sheet {
+        Sheet::Zone(origin, records) => print_zone(alloc, origin, records, &mut page)?,
+        Sheet::Lines(records) => print_records(alloc, records, &mut page)?,
+    }
+    Ok(page.into_inner().octets)
+}
