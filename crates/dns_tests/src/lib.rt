@@ -1,5 +1,0 @@
-//! Tests of zones.
-#![tactic(auto)]
-
-#[cfg(test)]
-mod zones;

@@ -1,0 +1,67 @@
+//! Rows of delegations.
+
+use crate::lines::{push, push_name, push_operation};
+use crate::reading::{name, servers, word};
+use crate::refusal::Refusal;
+use dns_data::Ttl;
+use std::alloc::Global;
+use test_rows::Row;
+use zone_core::{
+    DelegationRequest, Glue, Update, Zone, cuts, delegation_report, delegation_update,
+};
+
+/// The update that a row of an origin, a child, a TTL and servers asks for.
+fn delegation(alloc: Global, row: &Row<'_>) -> Result<Update, Refusal> {
+    let (origin, rest) = row.split();
+    let (child, ttl) = word(rest);
+    let request = DelegationRequest {
+        child: name(alloc, child)?,
+        ttl: Ttl::read(ttl)?,
+        servers: servers(alloc, &row.body)?,
+    };
+    Ok(delegation_update(alloc, &name(alloc, origin)?, &request)?)
+}
+
+/// Appends the operations of a delegation.
+pub fn push_delegation(alloc: Global, row: &Row<'_>, answer: &mut Vec<u8>) -> Result<(), Refusal> {
+    let update = delegation(alloc, row)?;
+    if !update.prerequisites().is_empty() {
+        push("with prerequisites\n", answer)?;
+    }
+    for operation in update.operations() {
+        push_operation(alloc, operation, answer)?;
+        push("\n", answer)?;
+    }
+    Ok(())
+}
+
+/// Appends how many operations a delegation has.
+pub fn push_count(alloc: Global, row: &Row<'_>, answer: &mut Vec<u8>) -> Result<(), Refusal> {
+    let count = delegation(alloc, row)?.operations().len();
+    push(format!(in alloc; "operations: {count}")?.as_str(), answer)
+}
+
+fn glue(glue: Glue) -> &'static str {
+    match glue {
+        Glue::Outside => "outside",
+        Glue::Listed => "listed",
+        Glue::Unlisted => "unlisted",
+    }
+}
+
+/// Appends how many cuts a zone has, and its delegations: each child, its servers and their glue.
+pub fn push_report(alloc: Global, zone: &Zone, answer: &mut Vec<u8>) -> Result<(), Refusal> {
+    let cuts = cuts(alloc, zone.origin(), zone.records())?.len();
+    push(format!(in alloc; "cuts: {cuts}")?.as_str(), answer)?;
+    for delegation in &delegation_report(alloc, zone.origin(), zone.records())? {
+        push("\n", answer)?;
+        push_name(alloc, &delegation.child, answer)?;
+        for server in &delegation.servers {
+            push(" ", answer)?;
+            push_name(alloc, &server.name, answer)?;
+            push(" ", answer)?;
+            push(glue(server.glue), answer)?;
+        }
+    }
+    Ok(())
+}

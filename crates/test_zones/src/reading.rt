@@ -1,0 +1,142 @@
+//! Records, updates and servers that rows write.
+
+use crate::refusal::Refusal;
+use dns_data::{DataFault, Record, RecordType};
+use dns_master::read_file;
+use dns_names::Name;
+use std::alloc::Global;
+use std::net::IpAddr;
+use std::str;
+use zone_core::{ChildServer, Operation, OperationKind, Prerequisite, PrerequisiteKind, Update};
+
+/// The name of an absolute text.
+pub fn name(alloc: Global, text: &[u8]) -> Result<Name, Refusal> {
+    Ok(Name::read_absolute(alloc, text)?)
+}
+
+/// The type of this name.
+pub fn record_type(text: &[u8]) -> Result<RecordType, Refusal> {
+    Ok(RecordType::read(text)?)
+}
+
+/// The number that a text writes, or 0.
+pub fn number(text: &[u8]) -> u32 {
+    str::from_utf8(text)
+        .ok()
+        .and_then(|text| text.parse::<u32>().ok())
+        .unwrap_or(0)
+}
+
+/// A text up to its first space, and what stands behind it.
+pub fn word(text: &[u8]) -> (&[u8], &[u8]) {
+    match text.iter().position(|octet| *octet == b' ') {
+        Some(at) => (&text[..at], &text[at + 1..]),
+        None => (text, &[]),
+    }
+}
+
+/// Whether an octet ends an item: a line end, or a bar.
+pub fn ends_item(octet: u8) -> bool {
+    matches!(octet, b'\n' | b'|')
+}
+
+/// The record of a line. Where that has no TTL, it is 0.
+fn record(alloc: Global, line: &[u8]) -> Result<Record, Refusal> {
+    let mut text = Vec::from_slice(alloc, b"$TTL 0\n")?;
+    text.extend_from_slice(line)?;
+    let mut records = read_file(alloc, &text, &name(alloc, b".")?)?;
+    Ok(records.pop().ok_or(DataFault::FieldMissing)?)
+}
+
+/// A prerequisite, from what stands behind its first word.
+fn prerequisite(
+    alloc: Global,
+    kind: PrerequisiteKind,
+    text: &[u8],
+) -> Result<Prerequisite, Refusal> {
+    let (owner, rest) = word(text);
+    let name = name(alloc, owner)?;
+    Ok(match kind {
+        PrerequisiteKind::NameUsed => Prerequisite::NameUsed(name),
+        PrerequisiteKind::NameUnused => Prerequisite::NameUnused(name),
+        PrerequisiteKind::RrsetExists => Prerequisite::RrsetExists {
+            name,
+            record_type: record_type(rest)?,
+        },
+        PrerequisiteKind::RrsetAbsent => Prerequisite::RrsetAbsent {
+            name,
+            record_type: record_type(rest)?,
+        },
+        PrerequisiteKind::RrsetEquals => Prerequisite::RrsetEquals {
+            name,
+            rdata: record(alloc, text)?.rdata,
+        },
+    })
+}
+
+/// An operation, from what stands behind its first word.
+fn operation(alloc: Global, kind: OperationKind, text: &[u8]) -> Result<Operation, Refusal> {
+    let (owner, rest) = word(text);
+    let name = name(alloc, owner)?;
+    Ok(match kind {
+        OperationKind::Add => Operation::Add(record(alloc, text)?),
+        OperationKind::DeleteName => Operation::DeleteName(name),
+        OperationKind::DeleteRrset => Operation::DeleteRrset {
+            name,
+            record_type: record_type(rest)?,
+        },
+        OperationKind::DeleteRecord => Operation::DeleteRecord {
+            name,
+            rdata: record(alloc, text)?.rdata,
+        },
+    })
+}
+
+/// The update of items.
+pub fn update(alloc: Global, items: &[u8]) -> Result<Update, Refusal> {
+    let mut prerequisites = Vec::new(alloc);
+    let mut operations = Vec::new(alloc);
+    for item in items.split(|octet| ends_item(*octet)) {
+        let (kind, rest) = word(item);
+        if let Some(kind) = PrerequisiteKind::read(kind) {
+            prerequisites.push(prerequisite(alloc, kind, rest)?)?;
+        } else if let Some(kind) = OperationKind::read(kind) {
+            operations.push(operation(alloc, kind, rest)?)?;
+        } else if !item.is_empty() {
+            return Err(Refusal::from(DataFault::FieldExtra));
+        }
+    }
+    Ok(Update::build(prerequisites, operations)?)
+}
+
+fn address(text: &[u8]) -> Result<IpAddr, Refusal> {
+    let address = str::from_utf8(text)
+        .ok()
+        .and_then(|text| text.parse::<IpAddr>().ok());
+    Ok(address.ok_or(DataFault::BadAddress)?)
+}
+
+/// The servers of a child, each with its addresses.
+pub fn servers(alloc: Global, items: &[u8]) -> Result<Vec<ChildServer>, Refusal> {
+    let mut servers = Vec::new(alloc);
+    for item in items.split(|octet| ends_item(*octet)) {
+        if !item.is_empty() {
+            servers.push(server(alloc, item)?)?;
+        }
+    }
+    Ok(servers)
+}
+
+fn server(alloc: Global, item: &[u8]) -> Result<ChildServer, Refusal> {
+    let (first, rest) = word(item);
+    let mut addresses = Vec::new(alloc);
+    for text in rest.split(|octet| *octet == b' ') {
+        if !text.is_empty() {
+            addresses.push(address(text)?)?;
+        }
+    }
+    Ok(ChildServer {
+        name: name(alloc, first)?,
+        addresses,
+    })
+}

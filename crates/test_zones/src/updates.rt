@@ -1,0 +1,144 @@
+//! Rows of updates.
+
+use crate::lines::{push, push_marked};
+use crate::reading::{name, update};
+use crate::refusal::Refusal;
+use std::alloc::{AllocError, Global};
+use zone_core::{ItemList, Outcome, Update, Zone, apply, apply_owned, holds};
+
+/// What an update makes of a zone, if it is within it.
+fn applied(alloc: Global, zone: &Zone, update: &Update) -> Result<Option<Outcome>, AllocError> {
+    match update.outside(zone.origin()) {
+        Some(_) => Ok(None),
+        None => Ok(Some(apply(alloc, zone, update)?)),
+    }
+}
+
+/// The same of a zone that is needed no more.
+fn applied_owned(
+    alloc: Global,
+    zone: Zone,
+    update: &Update,
+) -> Result<Option<Outcome>, AllocError> {
+    match update.outside(zone.origin()) {
+        Some(_) => Ok(None),
+        None => Ok(Some(apply_owned(alloc, zone, update)?)),
+    }
+}
+
+/// Appends which prerequisite fails first, and with which code.
+pub fn push_verdict(
+    alloc: Global,
+    zone: &Zone,
+    items: &[u8],
+    answer: &mut Vec<u8>,
+) -> Result<(), Refusal> {
+    match holds(zone, &update(alloc, items)?) {
+        Ok(()) => push("all hold", answer),
+        Err(failed) => {
+            let code = failed.code.text();
+            push(
+                format!(in alloc; "{code} at {}", failed.item)?.as_str(),
+                answer,
+            )
+        }
+    }
+}
+
+/// Appends the records that an update removes, and those that it adds.
+pub fn push_change(
+    alloc: Global,
+    zone: &Zone,
+    items: &[u8],
+    answer: &mut Vec<u8>,
+) -> Result<(), Refusal> {
+    let Some(outcome) = applied(alloc, zone, &update(alloc, items)?)? else {
+        return push("outside", answer);
+    };
+    push_marked(alloc, "- ", &outcome.removed, answer)?;
+    push_marked(alloc, "+ ", &outcome.added, answer)?;
+    if answer.is_empty() {
+        push("no change", answer)?;
+    }
+    Ok(())
+}
+
+/// Appends the zone after an update.
+pub fn push_after(
+    alloc: Global,
+    zone: &Zone,
+    items: &[u8],
+    answer: &mut Vec<u8>,
+) -> Result<(), Refusal> {
+    match applied_owned(alloc, zone.try_copy(alloc)?, &update(alloc, items)?)? {
+        Some(outcome) => push_marked(alloc, "", outcome.zone.records(), answer),
+        None => push("outside", answer),
+    }
+}
+
+/// Appends the serial of the zone after an update.
+pub fn push_serial_after(
+    alloc: Global,
+    zone: &Zone,
+    items: &[u8],
+    answer: &mut Vec<u8>,
+) -> Result<(), Refusal> {
+    match applied(alloc, zone, &update(alloc, items)?)? {
+        Some(outcome) => {
+            let serial = outcome.zone.serial();
+            push(format!(in alloc; "{serial}")?.as_str(), answer)
+        }
+        None => push("outside", answer),
+    }
+}
+
+/// Appends how many items an update has, which a copy of it has to have too.
+pub fn push_update(alloc: Global, items: &[u8], answer: &mut Vec<u8>) -> Result<(), Refusal> {
+    let update = update(alloc, items)?;
+    let prerequisites = update.prerequisites().len();
+    let operations = update.operations().len();
+    push(
+        format!(in alloc; "prerequisites: {prerequisites}, operations: {operations}")?.as_str(),
+        answer,
+    )?;
+    if !update.try_copy(alloc)?.is_same(&update) {
+        push(", and other ones in its copy", answer)?;
+    }
+    Ok(())
+}
+
+/// Appends the first item outside an origin.
+pub fn push_outside(
+    alloc: Global,
+    origin: &[u8],
+    items: &[u8],
+    answer: &mut Vec<u8>,
+) -> Result<(), Refusal> {
+    let Some(place) = update(alloc, items)?.outside(&name(alloc, origin)?) else {
+        return push("none", answer);
+    };
+    let list = match place.list {
+        ItemList::Prerequisites => "prerequisite",
+        ItemList::Operations => "operation",
+    };
+    push(format!(in alloc; "{list} {}", place.item)?.as_str(), answer)
+}
+
+/// Appends whether two updates are the same, which has to be so from both sides.
+pub fn push_same(
+    alloc: Global,
+    first: &[u8],
+    second: &[u8],
+    answer: &mut Vec<u8>,
+) -> Result<(), Refusal> {
+    let (first, second) = (update(alloc, first)?, update(alloc, second)?);
+    let is_same = first.is_same(&second);
+    push(if is_same { "the same" } else { "another" }, answer)?;
+    if second.is_same(&first) != is_same {
+        push(", and not from the other side", answer)?;
+    }
+    if !first.is_same(&first) || !second.is_same(&second) {
+        push(", and one is another than itself", answer)?;
+    }
+    Ok(())
+}

@@ -1,0 +1,118 @@
+//! Answers to rows, and rows of one zone.
+
+use crate::delegations::{push_count, push_delegation, push_report};
+use crate::lines::{push, push_name, push_records};
+use crate::reading::{name, record_type};
+use crate::refusal::Refusal;
+use crate::serials::{push_less, push_sum};
+use crate::updates::{
+    push_after, push_change, push_outside, push_same, push_serial_after, push_update, push_verdict,
+};
+use dns_data::record_line;
+use dns_master::read_file;
+use std::alloc::{AllocError, Global};
+use test_rows::{Answers, Row};
+use zone_core::{DelegationFault, Zone, ZoneFault};
+
+/// Answers to rows, and the zone that the last `zone` built.
+#[derive(Drop)]
+pub struct Zones {
+    pub zone: Option<Zone>,
+}
+
+impl Answers for Zones {
+    fn answer(
+        &mut self,
+        alloc: Global,
+        row: &Row<'_>,
+        answer: &mut Vec<u8>,
+    ) -> Result<(), AllocError> {
+        match self.answer_to(alloc, row, answer) {
+            Ok(()) => Ok(()),
+            Err(refusal) => answer.extend_from_slice(refusal.text(alloc)?.as_bytes()),
+        }
+    }
+}
+
+impl Zones {
+    fn answer_to(
+        &mut self,
+        alloc: Global,
+        row: &Row<'_>,
+        answer: &mut Vec<u8>,
+    ) -> Result<(), Refusal> {
+        match (row.verb, &self.zone) {
+            ("zone", _) => {
+                let zone = built(alloc, row)?;
+                let count = zone.records().len();
+                self.zone = Some(zone);
+                push(format!(in alloc; "records: {count}")?.as_str(), answer)
+            }
+            ("tells", Some(zone)) => push_told(alloc, zone, answer),
+            ("at" | "set" | "within", Some(zone)) => push_listed(alloc, zone, row, answer),
+            ("report", Some(zone)) => push_report(alloc, zone, answer),
+            ("holds", Some(zone)) => push_verdict(alloc, zone, &row.body, answer),
+            ("change", Some(zone)) => push_change(alloc, zone, &row.body, answer),
+            ("after", Some(zone)) => push_after(alloc, zone, &row.body, answer),
+            ("serial-after", Some(zone)) => push_serial_after(alloc, zone, &row.body, answer),
+            _ => answer_without_zone(alloc, row, answer),
+        }
+    }
+}
+
+fn answer_without_zone(alloc: Global, row: &Row<'_>, answer: &mut Vec<u8>) -> Result<(), Refusal> {
+    let (first, rest) = row.split();
+    match row.verb {
+        "build" => push_records(alloc, built(alloc, row)?.records(), answer),
+        "read" => push_update(alloc, &row.body, answer),
+        "outside" => push_outside(alloc, first, &row.body, answer),
+        "same" => push_same(alloc, &row.text, &row.body, answer),
+        "delegate" => push_delegation(alloc, row, answer),
+        "delegate-count" => push_count(alloc, row, answer),
+        "less" => push_less(first, rest, answer),
+        "sum" => push_sum(alloc, first, rest, answer),
+        "no-memory" if first == b"zone".as_slice() => Err(Refusal::Zone(ZoneFault::NoMemory)),
+        "no-memory" => Err(Refusal::Delegation(DelegationFault::NoMemory)),
+        _ => push("no such verb", answer),
+    }
+}
+
+/// The zone of a row's origin and record lines.
+fn built(alloc: Global, row: &Row<'_>) -> Result<Zone, Refusal> {
+    let origin = name(alloc, &row.text)?;
+    let records = read_file(alloc, &row.body, &origin)?;
+    Ok(Zone::build(alloc, origin, records)?)
+}
+
+/// Appends the origin, the serial and the SOA of a zone, and how many records a copy has.
+fn push_told(alloc: Global, zone: &Zone, answer: &mut Vec<u8>) -> Result<(), Refusal> {
+    push("origin ", answer)?;
+    push_name(alloc, zone.origin(), answer)?;
+    push(
+        format!(in alloc; "\nserial {}\n", zone.serial())?.as_str(),
+        answer,
+    )?;
+    push(record_line(alloc, zone.soa())?.as_str(), answer)?;
+    let count = zone.try_copy(alloc)?.records().len();
+    push(
+        format!(in alloc; "\nrecords in a copy: {count}")?.as_str(),
+        answer,
+    )
+}
+
+/// Appends the records of a zone at a name, of a set, or within a name.
+fn push_listed(
+    alloc: Global,
+    zone: &Zone,
+    row: &Row<'_>,
+    answer: &mut Vec<u8>,
+) -> Result<(), Refusal> {
+    let (first, rest) = row.split();
+    let name = name(alloc, first)?;
+    let records = match row.verb {
+        "at" => zone.records_at(&name),
+        "set" => zone.record_set(&name, record_type(rest)?),
+        _ => zone.records_within(&name),
+    };
+    push_records(alloc, records, answer)
+}
