@@ -1,0 +1,78 @@
+use dns_master::Pieces;
+use office_jobs::{Apply, Canon, JobFault, Task, do_task};
+use office_words::QuestionWords;
+use std::alloc::{AllocError, Global};
+
+/// How a device works.
+#[derive(Clone, Copy)]
+pub struct Manner {
+    /// The most octets that it moves in a call.
+    pub most: usize,
+    /// The number of the call that fails, from 1, and 0 where none does.
+    pub fails: usize,
+}
+
+impl Manner {
+    /// A device that never fails.
+    pub const SOUND: Manner = Manner {
+        most: 4096,
+        fails: 0,
+    };
+
+    fn device(self, octets: Vec<u8>) -> Pieces {
+        Pieces::new(octets, self.most, self.fails)
+    }
+}
+
+/// What a command printed, and how it went.
+pub type Printed = (Vec<u8>, Result<(), JobFault>);
+
+/// A command, its words, and its input.
+#[derive(Clone, Copy)]
+pub struct Command<'a> {
+    pub name: &'a str,
+    pub words: &'a str,
+    pub input: &'a [u8],
+}
+
+impl Command<'_> {
+    /// What the command prints with devices that work so; `None` where there is no such command.
+    pub fn run(
+        self,
+        alloc: Global,
+        reading: Manner,
+        writing: Manner,
+    ) -> Result<Option<Printed>, AllocError> {
+        let words = self.words;
+        match self.name {
+            "apply" => self.run_task(alloc, Apply, reading, writing),
+            "canon" => self.run_task(alloc, Canon { origin: words }, reading, writing),
+            "rights" => self.run_task(alloc, question(words), reading, writing),
+            _ => Ok(None),
+        }
+    }
+
+    fn run_task<T: Task>(
+        self,
+        alloc: Global,
+        task: T,
+        reading: Manner,
+        writing: Manner,
+    ) -> Result<Option<Printed>, AllocError> {
+        let reader = reading.device(Vec::from_slice(alloc, self.input)?);
+        let writer = writing.device(Vec::new(alloc));
+        let (page, done) = do_task(alloc, task, reader, writer);
+        Ok(Some((page.octets, done)))
+    }
+}
+
+/// What words with bars between them ask of a policy.
+fn question(words: &str) -> QuestionWords<'_> {
+    let mut words = words.split('|');
+    QuestionWords {
+        caller: words.next().unwrap_or(""),
+        name: words.next().unwrap_or(""),
+        record_type: words.next().unwrap_or(""),
+        action: words.next().unwrap_or(""),
+    }
+}
