@@ -1,0 +1,120 @@
+//! An office over sockets, in one thread: what callers send lies in the sockets before they are served.
+
+ghost use Rattle.std.specs.Prelude.{◌≡◌, ◌<◌};
+
+use crate::office::{POLICY, ZONE, listening};
+use dns_master::{Counted, read_file};
+use dns_names::Name;
+use grant_policy::{Policy, read_policy};
+use office_core::MemTable;
+use office_jobs::serve_connections;
+use std::alloc::Global;
+use std::io::{Read, Write};
+use std::marker::Brand;
+use std::net::{Shutdown, TcpListener, TcpStream};
+use std::sync::ledger::{Blank, Ledger};
+use std::test::Fail;
+use zone_core::Zone;
+
+/// What two callers send, each over a connection of its own, and what they are answered: an update and the same again, and then
+/// what the first of them left.
+static CALLS: [(&str, &str); 2] = [
+    (
+        "POST /zones/example.org./updates HTTP/1.1\r\nX-Office-Caller: admin\r\nContent-Length: 105\r\n\r\n{\"id\":\"a1\",\"operations\":[{\"op\":\"add\",\"name\":\"www.example.org.\",\"ttl\":300,\"type\":\"A\",\"data\":\"192.0.2.5\"}]}POST /zones/example.org./updates HTTP/1.1\r\nX-Office-Caller: admin\r\nContent-Length: 105\r\n\r\n{\"id\":\"a1\",\"operations\":[{\"op\":\"add\",\"name\":\"www.example.org.\",\"ttl\":300,\"type\":\"A\",\"data\":\"192.0.2.5\"}]}",
+        "HTTP/1.1 200 OK\r\nContent-Type: application/json\r\nContent-Length: 27\r\n\r\n{\"code\":0,\"name\":\"NOERROR\"}HTTP/1.1 200 OK\r\nContent-Type: application/json\r\nContent-Length: 27\r\n\r\n{\"code\":0,\"name\":\"NOERROR\"}",
+    ),
+    (
+        "GET /zones/example.org./records/www.example.org. HTTP/1.1\r\nX-Office-Caller: admin\r\n\r\n",
+        "HTTP/1.1 200 OK\r\nContent-Type: application/json\r\nContent-Length: 51\r\n\r\n{\"records\":[\"www.example.org. 300 IN A 192.0.2.5\"]}",
+    ),
+];
+
+/// The policy that callers find.
+fn policy(alloc: Global) -> Result<Policy, Fail> {
+    Ok(read_policy(alloc, POLICY.as_bytes())?)
+}
+
+/// The zone that they find.
+fn table(alloc: Global) -> Result<MemTable, Fail> {
+    let origin = Name::read_absolute(alloc, b"example.org.")?;
+    let records = read_file(alloc, ZONE.as_bytes(), &origin)?;
+    let mut zones = Vec::new(alloc);
+    zones.push(Zone::build(alloc, origin, records)?)?;
+    Ok(MemTable::new(alloc, zones)?)
+}
+
+/// A connection to a listener, over which a text was sent, and nothing comes behind it.
+fn sent(rt: &HostRuntime, listener: &TcpListener, text: &str) -> Result<TcpStream, Fail> {
+    let mut caller = TcpStream::connect(rt, listener.local_addr()?)?;
+    caller.write_all(text.as_bytes())?;
+    caller.shutdown(Shutdown::Write)?;
+    Ok(caller)
+}
+
+/// What a caller was answered.
+fn answered(alloc: Global, caller: TcpStream) -> Result<Vec<u8>, Fail> {
+    let mut caller = caller;
+    let mut answer = Vec::new(alloc);
+    caller.read_to_end(&mut answer)?;
+    Ok(answer)
+}
+
+/// Serves so many connections, and answers what the office tells of them.
+fn served_in<L: Ledger>(
+    alloc: Global,
+    listener: &TcpListener,
+    connections: u64,
+    writes: Blank,
+) -> Result<Vec<u8>, Fail>
+    requires name { writes.name ≡ L.name }
+    requires parts { writes.parts ≡ L.parts }
+    requires some { 0 < writes.parts }
+{
+    let (policy, mut table) = (policy(alloc)?, table(alloc)?);
+    let mut sink: Counted<Vec<u8>, L> = Counted::new(Vec::new(alloc), writes);
+    if serve_connections(alloc, listener, &mut table, &policy, connections, &mut sink).is_err() {
+        return Err(Fail::new("a connection is not served"));
+    }
+    Ok(sink.into_inner())
+}
+
+/// The same, with a ledger of its own.
+fn served(alloc: Global, listener: &TcpListener, connections: u64) -> Result<Vec<u8>, Fail> {
+    served_in::<Brand>(alloc, listener, connections, Blank::new(1))
+}
+
+/// The callers, each with what it sent.
+fn calling(rt: &HostRuntime, listener: &TcpListener) -> Result<Vec<TcpStream>, Fail> {
+    let mut callers = Vec::new(rt.alloc());
+    for (text, _) in &CALLS {
+        callers.push(sent(rt, listener, text)?)?;
+    }
+    Ok(callers)
+}
+
+#[test]
+fn callers_are_answered_over_sockets(rt: HostRuntime) -> Result<(), Fail> {
+    let listener = listening(&rt)?;
+    let callers = calling(&rt, &listener)?;
+    let told = served(rt.alloc(), &listener, 2)?;
+    assert!(rt; told.is_empty(), "no connection ends by a fault");
+    for (caller, (_, want)) in callers.into_iter().zip(&CALLS) {
+        let got = answered(rt.alloc(), caller)?;
+        assert!(rt; got.as_slice() == want.as_bytes(), "{want}");
+    }
+    Ok(())
+}
+
+/// A caller asks a hundred times, and is gone before it is answered.
+#[test]
+fn a_caller_that_leaves_is_told(rt: HostRuntime) -> Result<(), Fail> {
+    let listener = listening(&rt)?;
+    let asked = CALLS[1].0.repeat(rt.alloc(), 100)?;
+    drop(sent(&rt, &listener, asked.as_str())?);
+    let told = served(rt.alloc(), &listener, 1)?;
+    assert!(rt;
+        told.as_slice() == b"connection 94\n".as_slice(),
+        "its responses meet nobody"
+    );
+    Ok(())
+}
