@@ -1,7 +1,7 @@
 use crate::devices::{Command, Manner};
-use office_jobs::{JobFault, LineFault};
 use std::alloc::{AllocError, Global};
 use test_rows::{Answers, Row};
+use text_commands::{JobFault, LineFault};
 
 /// Answers to rows of commands.
 #[derive(Drop)]

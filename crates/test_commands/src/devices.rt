@@ -1,7 +1,7 @@
 use dns_master::Pieces;
-use office_jobs::{Apply, Canon, JobFault, Task, do_task};
 use office_words::QuestionWords;
 use std::alloc::{AllocError, Global};
+use text_commands::{Apply, Canon, JobFault, Task, do_task};
 
 /// How a device works.
 #[derive(Clone, Copy)]
