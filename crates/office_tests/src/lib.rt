@@ -1,12 +1,10 @@
-//! Outside vectors and worked examples for the machine, the tables, their rows and the JSON bodies.
+//! Outside vectors and worked examples for the machine, the tables and their rows.
 #![tactic(auto)]
 
 #[cfg(test)]
 mod faults;
 #[cfg(test)]
 mod items;
-#[cfg(test)]
-mod json;
 #[cfg(test)]
 mod machine;
 #[cfg(test)]

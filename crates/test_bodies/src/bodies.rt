@@ -1,0 +1,106 @@
+//! What is read of bodies.
+
+use crate::replies::{push_refusals, reply_of};
+use dns_names::Name;
+use office_json::{BodyFault, UpdateBody, read_delegation, read_update, reply_text};
+use std::alloc::{AllocError, Global};
+use test_rows::{Answers, Row};
+use zone_core::{Operation, Prerequisite};
+
+/// Answers to rows of bodies.
+#[derive(Drop)]
+pub struct Bodies;
+
+impl Answers for Bodies {
+    fn answer(
+        &mut self,
+        alloc: Global,
+        row: &Row<'_>,
+        answer: &mut Vec<u8>,
+    ) -> Result<(), AllocError> {
+        match answer_to(alloc, row, answer) {
+            Ok(()) => Ok(()),
+            Err(fault) => push_fault(alloc, &fault, answer),
+        }
+    }
+}
+
+fn answer_to(alloc: Global, row: &Row<'_>, answer: &mut Vec<u8>) -> Result<(), BodyFault> {
+    match row.verb {
+        "update" => push_body(alloc, &read_update(alloc, &row.text)?, answer),
+        "update-size" => push_size(alloc, &read_update(alloc, &row.text)?, answer),
+        "delegation" => push_body(alloc, &delegation(alloc, row)?, answer),
+        "delegation-size" => push_size(alloc, &delegation(alloc, row)?, answer),
+        "refusals" => push_refusals(row, answer),
+        "no-memory" => Err(BodyFault::NoMemory),
+        _ => match reply_of(alloc, row)? {
+            Some(reply) => Ok(reply_text(&reply, answer)?),
+            None => Ok(answer.extend_from_slice(b"no such verb")?),
+        },
+    }
+}
+
+fn push_fault(alloc: Global, fault: &BodyFault, answer: &mut Vec<u8>) -> Result<(), AllocError> {
+    let number = fault.number();
+    answer.extend_from_slice(format!(in alloc; "refused {number}: {fault}")?.as_bytes())
+}
+
+/// The delegation of a row, behind the origin of its zone.
+fn delegation(alloc: Global, row: &Row<'_>) -> Result<UpdateBody, BodyFault> {
+    let (origin, body) = row.split();
+    read_delegation(alloc, body, &Name::read_absolute(alloc, origin)?)
+}
+
+/// Appends the identifier and the items, each on a line.
+fn push_body(alloc: Global, body: &UpdateBody, answer: &mut Vec<u8>) -> Result<(), BodyFault> {
+    answer.extend_from_slice(body.id.as_bytes())?;
+    for test in body.update.prerequisites() {
+        answer.push(b'\n')?;
+        answer.extend_from_slice(prerequisite_words(alloc, test)?.as_bytes())?;
+    }
+    for change in body.update.operations() {
+        answer.push(b'\n')?;
+        answer.extend_from_slice(operation_words(alloc, change)?.as_bytes())?;
+    }
+    Ok(())
+}
+
+/// Appends the identifier, and how many items there are.
+fn push_size(alloc: Global, body: &UpdateBody, answer: &mut Vec<u8>) -> Result<(), BodyFault> {
+    let tests = body.update.prerequisites().len();
+    let changes = body.update.operations().len();
+    let size = format!(in alloc; ": {tests} prerequisites, {changes} operations")?;
+    answer.extend_from_slice(body.id.as_bytes())?;
+    answer.extend_from_slice(size.as_bytes())?;
+    Ok(())
+}
+
+fn prerequisite_words(alloc: Global, test: &Prerequisite) -> Result<String, AllocError> {
+    let (kind, name) = (test.kind().text(), test.name());
+    match test {
+        Prerequisite::RrsetExists { record_type, .. }
+        | Prerequisite::RrsetAbsent { record_type, .. } => {
+            format!(in alloc; "{kind} {name} {}", record_type.text())
+        }
+        Prerequisite::RrsetEquals { rdata, .. } => {
+            format!(in alloc; "{kind} {name} {} {rdata}", rdata.record_type().text())
+        }
+        Prerequisite::NameUsed(_) | Prerequisite::NameUnused(_) => {
+            format!(in alloc; "{kind} {name}")
+        }
+    }
+}
+
+fn operation_words(alloc: Global, change: &Operation) -> Result<String, AllocError> {
+    let (kind, name) = (change.kind().text(), change.name());
+    match change {
+        Operation::Add(record) => format!(in alloc; "{kind} {record}"),
+        Operation::DeleteRrset { record_type, .. } => {
+            format!(in alloc; "{kind} {name} {}", record_type.text())
+        }
+        Operation::DeleteName(_) => format!(in alloc; "{kind} {name}"),
+        Operation::DeleteRecord { rdata, .. } => {
+            format!(in alloc; "{kind} {name} {} {rdata}", rdata.record_type().text())
+        }
+    }
+}
