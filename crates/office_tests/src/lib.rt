@@ -1,12 +1,8 @@
-//! Outside vectors and worked examples for the machine, the tables and their rows.
+//! Outside vectors and worked examples for the tables and their rows.
 #![tactic(auto)]
 
 #[cfg(test)]
 mod faults;
-#[cfg(test)]
-mod items;
-#[cfg(test)]
-mod machine;
 #[cfg(test)]
 mod rows;
 #[cfg(test)]

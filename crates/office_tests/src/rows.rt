@@ -5,9 +5,10 @@ use dns_data::Record;
 use dns_names::Name;
 use grant_policy::Identifier;
 use office_core::{Change, Receipt, UpdateReply};
+use item_lines::{ItemsFault, read_items};
 use office_rows::{
-    ItemsFault, RowFault, change_rows, read_changes, read_items, read_origin, read_receipt,
-    read_record, read_reply, receipt_row, record_row, reply_words,
+    RowFault, change_rows, read_changes, read_origin, read_receipt, read_record, read_reply,
+    receipt_row, record_row, reply_words,
 };
 use office_tables::{ChangeRow, ReceiptRow, RecordRow};
 use std::alloc::{AllocError, Global};
