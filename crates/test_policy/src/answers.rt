@@ -35,9 +35,18 @@ impl Policies {
             "covers" => covering(alloc, first, rest),
             "identifier" => identifier(alloc, &row.text),
             "identifiers" => identifiers(alloc, first, rest),
-            "effect" => Ok(format!(in alloc; "{:?}", Effect::read(&row.text))?),
-            "scope" => Ok(format!(in alloc; "{:?}", Scope::read(&row.text))?),
-            "action" => Ok(format!(in alloc; "{:?}", Action::read(&row.text))?),
+            "effect" => told(
+                alloc,
+                Effect::read(&row.text).map_or("none", |effect| effect.text()),
+            ),
+            "scope" => told(
+                alloc,
+                Scope::read(&row.text).map_or("none", |scope| scope.text()),
+            ),
+            "action" => told(
+                alloc,
+                Action::read(&row.text).map_or("none", |action| action.text()),
+            ),
             "no-memory" => Err(Fault::Policy(PolicyFault::NoMemory)),
             _ => told(alloc, "no such verb"),
         }

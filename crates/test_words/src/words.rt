@@ -1,4 +1,4 @@
-use office_words::{Job, WordsFault, read_words};
+use office_words::{Existing, Job, QuestionWords, Service, WordsFault, read_words};
 use std::alloc::{AllocError, Global};
 use test_rows::{Answers, Row};
 
@@ -35,13 +35,54 @@ fn push(text: &str, answer: &mut Vec<u8>) -> Result<(), AllocError> {
     answer.extend_from_slice(text.as_bytes())
 }
 
+/// What a job was told by the words.
+fn job_text(alloc: Global, job: &Job<'_>) -> Result<String, AllocError> {
+    match job {
+        Job::Apply => String::from_str(alloc, "apply"),
+        Job::Canon { origin } => format!(in alloc; "canon ({origin})"),
+        Job::Import { zone, existing } => {
+            let existing = match existing {
+                Existing::Kept => "kept",
+                Existing::Replaced => "replaced",
+            };
+            format!(in alloc; "import ({}) ({}) {existing}", zone.store, zone.origin)
+        }
+        Job::Export { zone } => format!(in alloc; "export ({}) ({})", zone.store, zone.origin),
+        Job::Migrate { store } => format!(in alloc; "migrate ({store})"),
+        Job::Rights { policy, asked } => question_text(alloc, policy, asked),
+        Job::Serve { service } => service_text(alloc, service),
+    }
+}
+
+fn question_text(
+    alloc: Global,
+    policy: &str,
+    asked: &QuestionWords<'_>,
+) -> Result<String, AllocError> {
+    format!(in alloc;
+        "rights ({policy}) ({}) ({}) ({}) ({})",
+        asked.caller, asked.name, asked.record_type, asked.action
+    )
+}
+
+fn service_text(alloc: Global, service: &Service<'_>) -> Result<String, AllocError> {
+    let text = format!(in alloc;
+        "serve ({}) ({}) ({})",
+        service.store, service.policy, service.listen
+    )?;
+    match service.connections {
+        None => Ok(text),
+        Some(number) => format!(in alloc; "{text} {number}"),
+    }
+}
+
 fn push_job(
     alloc: Global,
     read: &Result<Job<'_>, WordsFault>,
     answer: &mut Vec<u8>,
 ) -> Result<(), AllocError> {
     match read {
-        Ok(job) => push(format!(in alloc; "{job:?}")?.as_str(), answer),
+        Ok(job) => push(job_text(alloc, job)?.as_str(), answer),
         Err(WordsFault::Help(_)) => push("help", answer),
         Err(WordsFault::Misused(_)) => push("misused", answer),
         Err(WordsFault::NoMemory) => push("no memory", answer),
