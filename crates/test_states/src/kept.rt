@@ -1,0 +1,104 @@
+//! The rows that are kept, and whether they are a state.
+
+use crate::lines::{no_rows, push_row};
+use crate::reads::push_read;
+use crate::writings::{push_addition, push_new_zone, push_replacement};
+use anyhow::{Result, bail};
+use office_reads::is_state;
+use office_tables::AllRows;
+use std::alloc::{AllocError, Global};
+use test_rows::{Answers, Row};
+
+/// The lines of the rows that are kept.
+#[derive(Drop)]
+pub struct Kept {
+    lines: Vec<u8>,
+}
+
+impl Answers for Kept {
+    fn answer(
+        &mut self,
+        alloc: Global,
+        row: &Row<'_>,
+        answer: &mut Vec<u8>,
+    ) -> Result<(), AllocError> {
+        match self.answer_to(alloc, row, answer) {
+            Ok(()) => Ok(()),
+            Err(fault) => {
+                answer.extend_from_slice(format!(in alloc; "not answered: {fault}")?.as_bytes())
+            }
+        }
+    }
+}
+
+/// Whether a text has a line.
+fn has_line(text: &[u8], line: &str) -> bool {
+    text.split(|octet| *octet == b'\n')
+        .any(|other| other == line.as_bytes())
+}
+
+impl Kept {
+    pub fn new(alloc: Global) -> Kept {
+        Kept {
+            lines: Vec::new(alloc),
+        }
+    }
+
+    fn answer_to(&mut self, alloc: Global, row: &Row<'_>, answer: &mut Vec<u8>) -> Result<()> {
+        match row.verb {
+            "rows" => {
+                self.lines = Vec::from_slice(alloc, &row.body)?;
+                Ok(())
+            }
+            "state" | "also" | "without" => {
+                let rows = self.rows(alloc, row)?;
+                push_is_state(alloc, row, &rows, answer)
+            }
+            "reversed" => {
+                let rows = self.reversed(alloc, row)?;
+                push_is_state(alloc, row, &rows, answer)
+            }
+            "addition" => push_addition(alloc, row, answer),
+            "new-zone" => push_new_zone(alloc, row, answer),
+            "replacement" => push_replacement(alloc, row, answer),
+            "zone" | "part" | "subtree" | "receipt" | "changes" => push_read(alloc, row, answer),
+            _ => bail!("no such verb"),
+        }
+    }
+
+    /// The rows that are kept, with those of a body behind them, or without those.
+    fn rows(&self, alloc: Global, row: &Row<'_>) -> Result<AllRows> {
+        let mut rows = no_rows(alloc);
+        for line in str::from_utf8(&self.lines)?.lines() {
+            if row.verb != "without" || !has_line(&row.body, line) {
+                push_row(alloc, line, &mut rows)?;
+            }
+        }
+        if row.verb == "also" {
+            for line in str::from_utf8(&row.body)?.lines() {
+                push_row(alloc, line, &mut rows)?;
+            }
+        }
+        Ok(rows)
+    }
+
+    /// The rows that are kept, the other way round.
+    fn reversed(&self, alloc: Global, row: &Row<'_>) -> Result<AllRows> {
+        let mut rows = self.rows(alloc, row)?;
+        rows.zones.reverse();
+        rows.records.reverse();
+        rows.receipts.reverse();
+        rows.changes.reverse();
+        Ok(rows)
+    }
+}
+
+fn push_is_state(alloc: Global, row: &Row<'_>, rows: &AllRows, answer: &mut Vec<u8>) -> Result<()> {
+    let version = str::from_utf8(&row.text)?.parse()?;
+    let text = if is_state(alloc, version, rows)? {
+        "a state"
+    } else {
+        "no state"
+    };
+    Ok(answer.extend_from_slice(text.as_bytes())?)
+}

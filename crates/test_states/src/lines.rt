@@ -1,0 +1,152 @@
+//! Rows of tables as lines.
+
+use anyhow::{Result, bail};
+use office_tables::{AllRows, ChangeRow, ReceiptRow, RecordRow, Writing, ZoneRow};
+use std::alloc::{AllocError, Global};
+
+/// The first word of a text, and what stands behind it.
+pub fn word(text: &str) -> (&str, &str) {
+    text.split_once(' ').unwrap_or((text, ""))
+}
+
+/// No rows.
+pub fn no_rows(alloc: Global) -> AllRows {
+    AllRows {
+        versions: Vec::new(alloc),
+        zones: Vec::new(alloc),
+        records: Vec::new(alloc),
+        receipts: Vec::new(alloc),
+        changes: Vec::new(alloc),
+    }
+}
+
+/// Adds the row of a line.
+pub fn push_row(alloc: Global, line: &str, rows: &mut AllRows) -> Result<()> {
+    let (table, text) = word(line);
+    match table {
+        "version" => rows.versions.push(text.parse()?)?,
+        "zone" => rows.zones.push(ZoneRow {
+            origin: String::from_str(alloc, text)?,
+        })?,
+        "record" => rows.records.push(record_row(alloc, text)?)?,
+        "change" => rows.changes.push(change_row(alloc, text)?)?,
+        "receipt" => rows.receipts.push(receipt_row(alloc, text)?)?,
+        _ => bail!("there is no such table"),
+    }
+    Ok(())
+}
+
+/// The rows of lines.
+pub fn rows_of(alloc: Global, text: &[u8]) -> Result<AllRows> {
+    let mut rows = no_rows(alloc);
+    for line in str::from_utf8(text)?.lines() {
+        push_row(alloc, line, &mut rows)?;
+    }
+    Ok(rows)
+}
+
+fn record_row(alloc: Global, text: &str) -> Result<RecordRow> {
+    let (origin, rest) = word(text);
+    let (owner, rest) = word(rest);
+    let (record_type, rest) = word(rest);
+    let (ttl, rest) = word(rest);
+    let (key, rdata) = word(rest);
+    Ok(RecordRow {
+        origin: String::from_str(alloc, origin)?,
+        owner: String::from_str(alloc, owner)?,
+        record_type: record_type.parse()?,
+        rdata: String::from_str(alloc, rdata)?,
+        ttl: ttl.parse()?,
+        owner_key: Vec::from_slice(alloc, key.as_bytes())?,
+    })
+}
+
+fn change_row(alloc: Global, text: &str) -> Result<ChangeRow> {
+    let (origin, rest) = word(text);
+    let (number, rest) = word(rest);
+    let (side, rest) = word(rest);
+    let (owner, rest) = word(rest);
+    let (record_type, rest) = word(rest);
+    let (ttl, rdata) = word(rest);
+    Ok(ChangeRow {
+        origin: String::from_str(alloc, origin)?,
+        number: number.parse()?,
+        side: side.parse()?,
+        owner: String::from_str(alloc, owner)?,
+        record_type: record_type.parse()?,
+        rdata: String::from_str(alloc, rdata)?,
+        ttl: ttl.parse()?,
+    })
+}
+
+fn receipt_row(alloc: Global, text: &str) -> Result<ReceiptRow> {
+    let (caller, rest) = word(text);
+    let (id, rest) = word(rest);
+    let (origin, rest) = word(rest);
+    let (items, reply) = rest.rsplit_once('|').unwrap_or(("", rest));
+    let items = items.replace(alloc, "|", "\n")?;
+    Ok(ReceiptRow {
+        caller: String::from_str(alloc, caller)?,
+        id: String::from_str(alloc, id)?,
+        origin: String::from_str(alloc, origin)?,
+        request: format!(in alloc; "{items}\n")?,
+        reply: String::from_str(alloc, reply)?,
+    })
+}
+
+fn push_record(
+    alloc: Global,
+    table: &str,
+    row: &RecordRow,
+    answer: &mut Vec<u8>,
+) -> Result<(), AllocError> {
+    let (origin, owner, record_type) = (&row.origin, &row.owner, row.record_type);
+    let text = format!(in alloc; "{table} {origin} {owner} {record_type} {} ", row.ttl)?;
+    answer.extend_from_slice(text.as_bytes())?;
+    answer.extend_from_slice(&row.owner_key)?;
+    answer.extend_from_slice(format!(in alloc; " {}\n", row.rdata)?.as_bytes())
+}
+
+fn push_change(alloc: Global, row: &ChangeRow, answer: &mut Vec<u8>) -> Result<(), AllocError> {
+    let (origin, number, side, owner) = (&row.origin, row.number, row.side, &row.owner);
+    let (record_type, ttl) = (row.record_type, row.ttl);
+    let text = format!(in alloc;
+        "change {origin} {number} {side} {owner} {record_type} {ttl} {}\n",
+        row.rdata
+    )?;
+    answer.extend_from_slice(text.as_bytes())
+}
+
+fn push_receipt(alloc: Global, row: &ReceiptRow, answer: &mut Vec<u8>) -> Result<(), AllocError> {
+    let (caller, id, origin) = (&row.caller, &row.id, &row.origin);
+    let items = row.request.replace(alloc, "\n", "|")?;
+    let text = format!(in alloc; "receipt {caller} {id} {origin} {items}{}\n", row.reply)?;
+    answer.extend_from_slice(text.as_bytes())
+}
+
+/// Appends a line for each row that is written, and `gone` in the place of `record` for those that go.
+pub fn push_writing(
+    alloc: Global,
+    writing: &Writing,
+    answer: &mut Vec<u8>,
+) -> Result<(), AllocError> {
+    if let Some(version) = writing.version {
+        answer.extend_from_slice(format!(in alloc; "version {version}\n")?.as_bytes())?;
+    }
+    for origin in &writing.zones {
+        answer.extend_from_slice(format!(in alloc; "zone {origin}\n")?.as_bytes())?;
+    }
+    for row in &writing.removed {
+        push_record(alloc, "gone", row, answer)?;
+    }
+    for row in &writing.added {
+        push_record(alloc, "record", row, answer)?;
+    }
+    for row in &writing.changes {
+        push_change(alloc, row, answer)?;
+    }
+    for row in &writing.receipts {
+        push_receipt(alloc, row, answer)?;
+    }
+    Ok(())
+}

@@ -1,0 +1,77 @@
+//! What is read of rows.
+
+use crate::lines::rows_of;
+use anyhow::Result;
+use dns_data::Record;
+use dns_names::Name;
+use office_core::Change;
+use office_reads::{changes_of, part_of, receipt_of, records_within, zone_of};
+use office_rows::RowFault;
+use std::alloc::{AllocError, Global};
+use test_rows::Row;
+use zone_core::Zone;
+
+fn push_records(
+    alloc: Global,
+    sign: &str,
+    records: &[Record],
+    answer: &mut Vec<u8>,
+) -> Result<(), AllocError> {
+    for record in records {
+        answer.extend_from_slice(format!(in alloc; "{sign}{record}\n")?.as_bytes())?;
+    }
+    Ok(())
+}
+
+fn push_changes(alloc: Global, changes: &[Change], answer: &mut Vec<u8>) -> Result<(), AllocError> {
+    for change in changes {
+        answer.extend_from_slice(b"change\n")?;
+        push_records(alloc, "- ", &change.removed, answer)?;
+        push_records(alloc, "+ ", &change.added, answer)?;
+    }
+    Ok(())
+}
+
+fn push_zone(
+    alloc: Global,
+    zone: Result<Zone, RowFault>,
+    answer: &mut Vec<u8>,
+) -> Result<(), AllocError> {
+    match zone {
+        Ok(zone) => push_records(alloc, "", zone.records(), answer),
+        Err(fault) => push_fault(alloc, fault, answer),
+    }
+}
+
+fn push_fault(alloc: Global, fault: RowFault, answer: &mut Vec<u8>) -> Result<(), AllocError> {
+    answer.extend_from_slice(format!(in alloc; "refused: {fault}\n")?.as_bytes())
+}
+
+/// Appends what is read of the rows of a body.
+pub fn push_read(alloc: Global, row: &Row<'_>, answer: &mut Vec<u8>) -> Result<()> {
+    let rows = rows_of(alloc, &row.body)?;
+    match row.verb {
+        "zone" => {
+            let origin = Name::read_absolute(alloc, &row.text)?;
+            push_zone(alloc, zone_of(alloc, &origin, &rows.records), answer)?;
+        }
+        "part" => {
+            let origin = Name::read_absolute(alloc, &row.text)?;
+            push_zone(alloc, part_of(alloc, &origin, &rows.records), answer)?;
+        }
+        "subtree" => match records_within(alloc, &rows.records) {
+            Ok(records) => push_records(alloc, "", &records, answer)?,
+            Err(fault) => push_fault(alloc, fault, answer)?,
+        },
+        "receipt" => match receipt_of(alloc, &rows.receipts) {
+            Ok(Some(_)) => answer.extend_from_slice(b"a receipt\n")?,
+            Ok(None) => answer.extend_from_slice(b"no receipt\n")?,
+            Err(fault) => push_fault(alloc, fault, answer)?,
+        },
+        _ => match changes_of(alloc, rows.changes) {
+            Ok(changes) => push_changes(alloc, &changes, answer)?,
+            Err(fault) => push_fault(alloc, fault, answer)?,
+        },
+    }
+    Ok(())
+}
