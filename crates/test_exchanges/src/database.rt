@@ -56,7 +56,7 @@ impl Database {
         self.do_act(alloc, given, Act::Execute(script), answer)?;
         let act = match row.text.as_slice() {
             b"migrate" => Act::Migrate,
-            _ => Act::Adopt(Request::Hold),
+            _ => Act::Adopt(vec![in alloc; Request::Hold]?),
         };
         self.do_act(alloc, given, act, answer)
     }

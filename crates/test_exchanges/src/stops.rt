@@ -1,7 +1,7 @@
 //! Disks that stop at one call after the other: what is found behind a stop, and that the same can be done then.
 
 use crate::files::opened;
-use crate::stores::{Act, act_of, done};
+use crate::stores::{Act, act_of, done, request_of};
 use crate::tables::Given;
 use anyhow::{Result, anyhow, bail};
 use grant_policy::Policy;
@@ -35,17 +35,32 @@ impl Deed {
         })
     }
 
-    fn act(&self, alloc: Global) -> Result<Act> {
-        let row = Row {
+    fn row(&self, alloc: Global) -> Result<Row<'_>> {
+        Ok(Row {
             verb: self.verb.as_str(),
             text: Vec::from_slice(alloc, &self.text)?,
             body: Vec::from_slice(alloc, &self.body)?,
-        };
-        match act_of(alloc, &row)? {
+        })
+    }
+
+    fn act(&self, alloc: Global) -> Result<Act> {
+        match act_of(alloc, &self.row(alloc)?)? {
             Some(act) => Ok(act),
             None => bail!("no such verb"),
         }
     }
+}
+
+/// All that is looked at, at once.
+fn look_of(alloc: Global, looks: &[Deed]) -> Result<Act> {
+    let mut requests = Vec::new(alloc);
+    for look in looks {
+        match request_of(alloc, &look.row(alloc)?)? {
+            Some(request) => requests.push(request)?,
+            None => bail!("no such verb"),
+        }
+    }
+    Ok(Act::Adopt(requests))
 }
 
 /// The disk that stops.
@@ -148,27 +163,14 @@ fn settled(alloc: Global, disks: Disks) -> Result<Disks> {
 }
 
 /// Does something to the store on some disks.
-fn acted(alloc: Global, disks: Disks, policy: &Policy, deed: &Deed) -> Result<Done> {
+fn acted(alloc: Global, disks: Disks, policy: &Policy, act: Act) -> Result<Done> {
     match opened(alloc, disks) {
         Ok(conn) => {
-            let (text, conn) = done(alloc, conn, policy, deed.act(alloc)?)?;
+            let (text, conn) = done(alloc, conn, policy, act)?;
             Ok((text, conn.into_store().close()))
         }
         Err(disks) => Ok((Vec::from_slice(alloc, b"not opened")?, disks)),
     }
-}
-
-/// Looks at the store on some disks.
-fn looked(alloc: Global, disks: Disks, policy: &Policy, looks: &[Deed]) -> Result<Done> {
-    let mut disks = disks;
-    let mut found = Vec::new(alloc);
-    for look in looks {
-        let (text, after) = acted(alloc, disks, policy, look)?;
-        found.extend_from_slice(&text)?;
-        found.push(b'\n')?;
-        disks = after;
-    }
-    Ok((found, disks))
 }
 
 /// Disks behind some deeds.
@@ -178,7 +180,7 @@ fn prepared(alloc: Global, policy: &Policy, before: &[Deed]) -> Result<Disks> {
         db: disk(alloc, b"", u64::MAX)?,
     };
     for deed in before {
-        let (_, after) = acted(alloc, disks, policy, deed)?;
+        let (_, after) = acted(alloc, disks, policy, deed.act(alloc)?)?;
         disks = settled(alloc, after)?;
     }
     Ok(disks)
@@ -206,10 +208,10 @@ impl<'a> Trial<'a> {
         looks: &'a [Deed],
     ) -> Result<Trial<'a>> {
         let disks = copied(alloc, disks, ALL)?;
-        let (old, disks) = looked(alloc, disks, policy, looks)?;
-        let (told, disks) = acted(alloc, disks, policy, deed)?;
-        let (new, disks) = looked(alloc, disks, policy, looks)?;
-        let (twice, _) = acted(alloc, disks, policy, deed)?;
+        let (old, disks) = acted(alloc, disks, policy, look_of(alloc, looks)?)?;
+        let (told, disks) = acted(alloc, disks, policy, deed.act(alloc)?)?;
+        let (new, disks) = acted(alloc, disks, policy, look_of(alloc, looks)?)?;
+        let (twice, _) = acted(alloc, disks, policy, deed.act(alloc)?)?;
         Ok(Trial {
             policy,
             deed,
@@ -224,19 +226,19 @@ impl<'a> Trial<'a> {
     /// Does it over disks that stop, and looks at what is found behind that, before and after it is done again. Tells whether it was
     /// done at first.
     fn is_done(&self, alloc: Global, disks: Disks, loss: Loss) -> Result<bool> {
-        let (text, disks) = acted(alloc, disks, self.policy, self.deed)?;
+        let (text, disks) = acted(alloc, disks, self.policy, self.deed.act(alloc)?)?;
         let is_done = text == self.told;
         let disks = restarted(alloc, disks, loss)?;
-        let (found, disks) = looked(alloc, disks, self.policy, self.looks)?;
+        let (found, disks) = acted(alloc, disks, self.policy, look_of(alloc, self.looks)?)?;
         let is_old = found == self.old;
         if found != self.new && (is_done || !is_old) {
             bail!("the store is another");
         }
-        let (text, disks) = acted(alloc, disks, self.policy, self.deed)?;
+        let (text, disks) = acted(alloc, disks, self.policy, self.deed.act(alloc)?)?;
         if text != *(if is_old { &self.told } else { &self.twice }) {
             bail!("the same is told otherwise");
         }
-        let (found, _) = looked(alloc, disks, self.policy, self.looks)?;
+        let (found, _) = acted(alloc, disks, self.policy, look_of(alloc, self.looks)?)?;
         if found != self.new {
             bail!("the same does something else");
         }
@@ -259,11 +261,11 @@ impl<'a> Trial<'a> {
     fn push(&self, answer: &mut Vec<u8>) -> Result<(), AllocError> {
         answer.extend_from_slice(b"before:\n")?;
         answer.extend_from_slice(&self.old)?;
-        answer.extend_from_slice(b"told:\n")?;
+        answer.extend_from_slice(b"\ntold:\n")?;
         answer.extend_from_slice(&self.told)?;
         answer.extend_from_slice(b"\nbehind:\n")?;
         answer.extend_from_slice(&self.new)?;
-        answer.extend_from_slice(b"told of the same again:\n")?;
+        answer.extend_from_slice(b"\ntold of the same again:\n")?;
         answer.extend_from_slice(&self.twice)?;
         answer.push(b'\n')?;
         Ok(())

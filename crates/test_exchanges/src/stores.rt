@@ -30,8 +30,8 @@ pub enum Act {
     Create,
     /// They are taken from version 1 to version 2.
     Migrate,
-    /// What stands in the tables is looked at, or asked or changed.
-    Adopt(Request),
+    /// The table that holds what stands in them is found, and asked some things.
+    Adopt(Vec<Request>),
 }
 
 /// What is asked of the table of a store.
@@ -58,13 +58,14 @@ pub fn act_of(alloc: Global, row: &Row<'_>) -> Result<Option<Act>> {
         "create" => Ok(Some(Act::Create)),
         "migrate" => Ok(Some(Act::Migrate)),
         _ => match request_of(alloc, row)? {
-            Some(request) => Ok(Some(Act::Adopt(request))),
+            Some(request) => Ok(Some(Act::Adopt(vec![in alloc; request]?))),
             None => Ok(None),
         },
     }
 }
 
-fn request_of(alloc: Global, row: &Row<'_>) -> Result<Option<Request>> {
+/// What a row asks of the table of a store, unless its verb is another.
+pub fn request_of(alloc: Global, row: &Row<'_>) -> Result<Option<Request>> {
     let (first, rest) = word(&row.text);
     Ok(Some(match row.verb {
         "adopt" => Request::Hold,
@@ -179,6 +180,22 @@ fn told<S: Alter + Drop, L: Ledger>(
     }
 }
 
+fn all_told<S: Alter + Drop, L: Ledger>(
+    alloc: Global,
+    table: &mut SqlTable<S, L>,
+    policy: &Policy,
+    requests: Vec<Request>,
+) -> Result<Vec<u8>> {
+    let mut all = Vec::new(alloc);
+    for request in requests {
+        if !all.is_empty() {
+            all.push(b'\n')?;
+        }
+        all.extend_from_slice(&told(alloc, table, policy, request)?)?;
+    }
+    Ok(all)
+}
+
 /// Makes the tables.
 fn created<S: Alter + Drop, L: Ledger>(
     alloc: Global,
@@ -198,12 +215,12 @@ fn created<S: Alter + Drop, L: Ledger>(
     }
 }
 
-/// Finds the table of a store, and asks it something.
+/// Finds the table of a store, and asks it some things. What it tells of each stands on lines of its own.
 fn adopted<S: Alter + Drop, L: Ledger>(
     alloc: Global,
     conn: Connection<S>,
     policy: &Policy,
-    request: Request,
+    requests: Vec<Request>,
     blank: Blank,
 ) -> Result<Done<S>>
     requires name { blank.name ≡ L.name }
@@ -216,7 +233,7 @@ fn adopted<S: Alter + Drop, L: Ledger>(
     match SqlTable::<S, L>::adopt(alloc, conn, blank) {
         Ok(table) => {
             let mut table = table;
-            let text = told(alloc, &mut table, policy, request)?;
+            let text = all_told(alloc, &mut table, policy, requests)?;
             Ok((text, table.into_connection()))
         }
         Err(refused) => Ok((refusal_text(alloc, refused.fault)?, refused.conn)),
@@ -255,6 +272,6 @@ pub fn done<S: Alter + Drop>(
         Act::Execute(script) => executed(alloc, conn, script.as_str()),
         Act::Create => created::<S, Brand>(alloc, conn, Blank::new(1)),
         Act::Migrate => migrated(alloc, conn),
-        Act::Adopt(request) => adopted::<S, Brand>(alloc, conn, policy, request, Blank::new(1)),
+        Act::Adopt(requests) => adopted::<S, Brand>(alloc, conn, policy, requests, Blank::new(1)),
     }
 }

@@ -1,4 +1,0 @@
-use Rattle.service_tests.proofs.store.stops.prepared.Given as goal
-
-abbrev pub ghosts-acted : goal.ghosts-acted
-ghosts-acted a = record { name = a.blank.name; parts = a.blank.parts }
