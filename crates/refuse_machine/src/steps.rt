@@ -1,0 +1,34 @@
+//! One step of the machine.
+
+ghost use Rattle.office_core.specs.States.{State};
+ghost use Rattle.office_core.specs.Steps.{Steps, CountsReply};
+
+use grant_policy::{Identifier, Policy};
+use office_core::{Reply, Request, ZoneTable};
+use std::alloc::Global;
+
+/// `step`.
+pub fn step<T: ZoneTable>(
+    alloc: Global,
+    table: &mut T,
+    policy: &Policy,
+    caller: &Identifier,
+    request: &Request,
+) -> Reply
+    ensures { T.is_honest table.new → (s : State) → T.holds table.old s → Steps (T.holds table.new) policy.now s caller.now request.now result }
+{
+    office_core::step(alloc, table, policy, caller, request)
+}
+
+/// `step`, by the failures of the table.
+pub fn counted_step<T: ZoneTable>(
+    alloc: Global,
+    table: &mut T,
+    policy: &Policy,
+    caller: &Identifier,
+    asked: &Request,
+) -> Reply
+    ensures { CountsReply (T.failures table.old) (T.failures table.new) result }
+{
+    office_core::step(alloc, table, policy, caller, asked)
+}
