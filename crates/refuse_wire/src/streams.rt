@@ -1,0 +1,51 @@
+//! Streams of requests.
+
+ghost use Rattle.std.specs.Prelude.{◌≡◌, ◌<◌, ℕ, List, [], Option, Some};
+ghost use Rattle.office_core.specs.States.{State};
+ghost use Rattle.office_wire.specs.Exchange.{Turn, Run};
+ghost use Rattle.office_wire.specs.Serving.{standing, IsDone};
+
+use dns_master::{Counted, Pieces, Sink, Source};
+use grant_policy::Policy;
+use office_core::ZoneTable;
+use office_wire::ServeFault;
+use std::alloc::Global;
+use std::sync::ledger::{Blank, Ledger};
+
+/// `serve`.
+pub fn serve<R: Source, W: Sink, T: ZoneTable>(
+    alloc: Global,
+    reader: &mut R,
+    writer: &mut W,
+    table: &mut T,
+    policy: &Policy,
+) -> Result<(), ServeFault>
+    ensures { T.is_honest table.new → (s : State) → T.holds table.old s → (turns : List Turn) × (t : State) × T.holds table.new t × Run policy.now (standing s (T.failures table.old)) turns (standing t (T.failures table.new)) × IsDone turns result (R.remaining reader.old) (R.remaining reader.new) (W.contents writer.old) (W.contents writer.new) }
+{
+    office_wire::serve(alloc, reader, writer, table, policy)
+}
+
+/// `serve`, of octets in memory, to a text in memory.
+pub fn serve_octets<L: Ledger, T: ZoneTable>(
+    alloc: Global,
+    octets: Vec<u8>,
+    reads: Blank,
+    writes: Blank,
+    table: &mut T,
+    policy: &Policy,
+) -> (Vec<u8>, Result<(), ServeFault>)
+    requires reads_name { reads.name ≡ L.name }
+    requires reads_parts { reads.parts ≡ L.parts }
+    requires reads_some { 0 < reads.parts }
+    requires writes_name { writes.name ≡ L.name }
+    requires writes_parts { writes.parts ≡ L.parts }
+    requires writes_some { 0 < writes.parts }
+    ensures { T.is_honest table.new → (s : State) → T.holds table.old s → (turns : List Turn) × (t : State) × (left : Option (List ℕ)) × T.holds table.new t × Run policy.now (standing s (T.failures table.old)) turns (standing t (T.failures table.new)) × IsDone turns result.1 (Some octets.items) left (Some []) (Some result.0.items) }
+{
+    let mut reader: Counted<Pieces, L> = Counted::new(Pieces::new(octets, usize::MAX, 0), reads);
+    let room = Pieces::new(Vec::new(alloc), usize::MAX, 0);
+    let mut writer: Counted<Pieces, L> = Counted::new(room, writes);
+    let served = office_wire::serve(alloc, &mut reader, &mut writer, table, policy);
+    let text = writer.into_inner().octets;
+    (text, served)
+}
