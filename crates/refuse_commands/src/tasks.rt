@@ -1,0 +1,54 @@
+//! The commands that need no store, with an input and an answer in memory, and how a refusal is told.
+
+ghost use Rattle.std.specs.Prelude.{◌≡◌, ℕ, [], Some, IfOk, string_bytes};
+ghost use Rattle.text_commands.specs.Apply.{apply_text};
+ghost use Rattle.text_commands.specs.Canon.{canon_text};
+ghost use Rattle.text_commands.specs.Refusals.{told_refusal};
+ghost use Rattle.text_commands.specs.Replies.{Answered};
+ghost use Rattle.text_commands.specs.Rights.{rights_text};
+
+use dns_master::Pieces;
+use office_words::QuestionWords;
+use std::alloc::{AllocError, Global};
+use text_commands::{Apply, Canon, JobFault, Refusal, RefusalLine, do_task};
+
+/// `do_task` of `Canon`.
+pub fn canon(alloc: Global, origin: &str, input: Vec<u8>) -> (Vec<u8>, Result<(), JobFault>)
+    ensures { (failed_reads : ℕ) × (failed_writes : ℕ) × Answered (Some input.items) (canon_text origin.now) (Some []) (Some result.0.items) result.1 0 failed_reads 0 failed_writes }
+{
+    let reader = Pieces::new(input, usize::MAX, 0);
+    let writer = Pieces::new(Vec::new(alloc), usize::MAX, 0);
+    let (writer, outcome) = do_task(alloc, Canon { origin }, reader, writer);
+    (writer.octets, outcome)
+}
+
+/// `do_task` of `Apply`.
+pub fn apply(alloc: Global, input: Vec<u8>) -> (Vec<u8>, Result<(), JobFault>)
+    ensures { (failed_reads : ℕ) × (failed_writes : ℕ) × Answered (Some input.items) apply_text (Some []) (Some result.0.items) result.1 0 failed_reads 0 failed_writes }
+{
+    let reader = Pieces::new(input, usize::MAX, 0);
+    let writer = Pieces::new(Vec::new(alloc), usize::MAX, 0);
+    let (writer, outcome) = do_task(alloc, Apply, reader, writer);
+    (writer.octets, outcome)
+}
+
+/// `do_task` of `QuestionWords`.
+pub fn rights(
+    alloc: Global,
+    words: QuestionWords<'_>,
+    policy: Vec<u8>,
+) -> (Vec<u8>, Result<(), JobFault>)
+    ensures { (failed_reads : ℕ) × (failed_writes : ℕ) × Answered (Some policy.items) (rights_text words.entry) (Some []) (Some result.0.items) result.1 0 failed_reads 0 failed_writes }
+{
+    let reader = Pieces::new(policy, usize::MAX, 0);
+    let writer = Pieces::new(Vec::new(alloc), usize::MAX, 0);
+    let (writer, outcome) = do_task(alloc, words, reader, writer);
+    (writer.octets, outcome)
+}
+
+/// `Display` of a `RefusalLine`.
+pub fn refusal_text(alloc: Global, refusal: Refusal) -> Result<String, AllocError>
+    ensures { IfOk result (λ text. string_bytes text ≡ told_refusal refusal) }
+{
+    format!(in alloc; "{}", RefusalLine(refusal))
+}
