@@ -1,4 +1,0 @@
-use Rattle.test_exchanges.proofs.tables.over_files.Given as goal
-
-abbrev pub ghosts-over_connection : goal.ghosts-over_connection
-ghosts-over_connection a = record { name = a.blank.name; parts = a.blank.parts }
