@@ -6,7 +6,7 @@ use Rattle.std.proofs.lemmas.Bool.{cases_lt}
 use Rattle.std.proofs.lemmas.Grind.{common_steps}
 use Rattle.std.proofs.lemmas.List.Elements.{All-head, All-tail}
 use Rattle.std.proofs.Math.Seq.{take-append-add, drop-append_seam}
-use Rattle.httparse.specs.Grammar.{Field, IsField, print_field, print_end, LineEnd, crlf, lf, RequestHead, IsRequestHead, ReadsRequest, print_request, HasNoRequest}
+use Rattle.httparse.specs.Grammar.{Field, IsField, print_field, print_end, LineEnd, crlf, lf, RequestHead, IsRequestHead, ReadsRequest, print_request, HasNoRequest, MayBecomeRequest}
 use Rattle.httparse.specs.Spans.{RequestOverflows, header_bytes, name_and_value}
 use Rattle.httparse.specs.declared.spans.HeaderSpan.{HeaderSpan}
 use Rattle.httparse.proofs.GrammarLemmas.{request_unique, ReadsRequest-append}
@@ -14,7 +14,7 @@ use Rattle.office_wire.specs.declared.length.Ask.{Ask}
 use Rattle.office_wire.specs.declared.length.Ask.TheVariants.{Body}
 use Rattle.office_wire.specs.Lengths.{ask_of}
 use Rattle.office_wire.specs.Heads.{WaitsUpTo}
-use Rattle.office_wire.specs.Exchange.{Waits, NeverHead, AsksMore}
+use Rattle.office_wire.specs.Exchange.{IsHead, IsUnderWay, nothing, in_head, in_body, Waits, NeverHead, AsksMore}
 
 end_long : (e : LineEnd) → 1 ≤ length (print_end e)
 end_long crlf = omega arith
@@ -70,8 +70,8 @@ never_from_none bytes enough none = record {
   ];
 }
 
-pub waits_from_none : (bytes : List ℕ) → HasNoRequest bytes → Waits bytes
-waits_from_none bytes none = record { more = λ h rest reads. absurd (none h rest reads) }
+pub waits_from_none : (bytes : List ℕ) → HasNoRequest bytes → length bytes < 16384 → MayBecomeRequest bytes → Waits bytes
+waits_from_none bytes none short may = record { more = λ h rest reads. absurd (none h rest reads); under_way = in_head short may }
 
 -- what a window reads, all the octets do
 pub reads_all : (bytes tail : List ℕ) (h : RequestHead) → ReadsRequest (take 16384 bytes) h tail → ReadsRequest bytes h (tail ++ drop 16384 bytes)
@@ -90,8 +90,9 @@ reads_whole bytes tail h n reads len =
     let all = reads_all bytes tail h reads in
     subst (λ (l : List ℕ). ReadsRequest bytes h l) (rest_is bytes _ h n all len) all
 
-pub waits_from_short : (bytes rest : List ℕ) (h : RequestHead) (n : ℕ) → ReadsRequest bytes h rest → ask_of h ≡ Body n → length rest < n → Waits bytes
-waits_from_short bytes rest h n reads asks short = record {
+pub waits_from_short : (bytes rest : List ℕ) (h : RequestHead) (n : ℕ) → IsHead h → ReadsRequest bytes h rest → ask_of h ≡ Body n → length rest < n → Waits bytes
+waits_from_short bytes rest h n is reads asks short = record {
+  under_way = in_body h rest n is reads asks short;
   more = λ k q other.
       let same = request_unique bytes h k rest q reads other in
       let ask : ask_of k ≡ Body n = ap ask_of (sym same.0) ∙ asks in
@@ -104,12 +105,12 @@ waits_from_short bytes rest h n reads asks short = record {
 pub waits_up_to_none : (bytes : List ℕ) → WaitsUpTo bytes 0
 waits_up_to_none bytes more small = absurd (omega arith)
 
-pub waits_up_to_body : (bytes : List ℕ) (h : RequestHead) (len n : ℕ) → ReadsRequest bytes h (drop len bytes) → len ≤ length bytes → ask_of h ≡ Body n
+pub waits_up_to_body : (bytes : List ℕ) (h : RequestHead) (len n : ℕ) → IsHead h → ReadsRequest bytes h (drop len bytes) → len ≤ length bytes → ask_of h ≡ Body n
     → WaitsUpTo bytes (len + n)
-waits_up_to_body bytes h len n reads within asks more small =
+waits_up_to_body bytes h len n is reads within asks more small =
     let whole = length-append bytes more in
     let left : length (drop len bytes ++ more) < n = simp (length-append, length-drop) (omega (arith, whole)) in
-    waits_from_short (bytes ++ more) (drop len bytes ++ more) h n (ReadsRequest-append bytes h (drop len bytes) more reads) asks left
+    waits_from_short (bytes ++ more) (drop len bytes ++ more) h n is (ReadsRequest-append bytes h (drop len bytes) more reads) asks left
 
 pub waits_with_more : (old got now : List ℕ) (n : ℕ) → now ≡ old ++ got → WaitsUpTo old n → WaitsUpTo now n
 waits_with_more old got now n is waits more small =
@@ -127,3 +128,22 @@ same_number n m e = cc
 pub spans_count : (buf : List ℕ) (spans : List HeaderSpan) (fields : List Field) → map (header_bytes buf) spans ≡ map name_and_value fields → length spans ≡ length fields
 spans_count buf spans fields e =
     sym (length-map spans (header_bytes buf)) ∙ ap (λ (l : List (List ℕ × List ℕ)). length l) e ∙ length-map fields name_and_value
+
+-- where a request is under way, and what stands at the front is no head within the limit, no head stands there whole
+shorter : (bytes rest : List ℕ) (h : RequestHead) → ReadsRequest bytes h rest → length (print_request h) ≤ length bytes
+shorter bytes rest h reads =
+    let whole = ap (λ (l : List ℕ). length l) reads.1 ∙ length-append (print_request h) rest in omega arith
+
+never_now : (bytes rest : List ℕ) (h : RequestHead) → NeverHead bytes → ReadsRequest bytes h rest → 16384 < length (print_request h)
+never_now bytes rest h never reads = never.never [] h rest (reads.0, append-nil bytes ∙ reads.1)
+
+none_under_way : (bytes : List ℕ) → IsUnderWay bytes → NeverHead bytes → HasNoRequest bytes
+none_under_way bytes (nothing none) never = λ h rest reads.
+    let long = never_now bytes rest h never reads in let fits = shorter bytes rest h reads in omega arith
+none_under_way bytes (in_head short may) never = λ h rest reads.
+    let long = never_now bytes rest h never reads in let fits = shorter bytes rest h reads in omega arith
+none_under_way bytes (in_body k q n is reads asks less) never = λ h rest other.
+    let long = never_now bytes q k never reads in let fits = is.short in absurd (omega arith)
+
+pub none_while_waiting : (bytes : List ℕ) → Waits bytes → NeverHead bytes → HasNoRequest bytes
+none_while_waiting bytes waits never = none_under_way bytes waits.under_way never

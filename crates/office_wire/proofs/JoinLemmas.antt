@@ -22,7 +22,7 @@ open_join : (ts us : List Turn) → AllByRecursion IsOpenTurn ts → AllByRecurs
 open_join [] us p q = q
 open_join (t ∷ ts) us p q = (p.0, open_join ts us p.1 q)
 
-run_join : (rules : List Rule) (c m d : Standing) (ts us : List Turn) → Run rules c ts m → Run rules m us d → Run rules c (ts ++ us) d
+pub run_join : (rules : List Rule) (c m d : Standing) (ts us : List Turn) → Run rules c ts m → Run rules m us d → Run rules c (ts ++ us) d
 run_join rules c m d [] us p q = subst (λ (k : Standing). Run rules k us d) p q
 run_join rules c m d (t ∷ ts) us p q = (p.0, p.1, run_join rules p.0 m d ts us p.2 q)
 

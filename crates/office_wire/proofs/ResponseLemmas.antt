@@ -18,6 +18,7 @@ use Rattle.office_core.specs.Machine.{Turn, step, updated, answered, refusal}
 use Rattle.office_core.specs.Runs.{HasUpdate, turn}
 use Rattle.office_core.specs.Steps.{Steps, CountsReply}
 use Rattle.office_json.specs.Replies.{IsShort}
+use Rattle.office_wire.specs.declared.method.Method.{Method}
 use Rattle.office_wire.specs.declared.request_fault.RequestFault.{RequestFault}
 use Rattle.office_wire.specs.declared.request_fault.RequestFault.TheVariants as wrong
 use Rattle.office_wire.specs.declared.response.Response.{Response}
@@ -99,7 +100,7 @@ unfolding call_of
 asked_call g h body is = λ i. call_by (is.caller i) (is.method i) (is.target i) body
 
 -- what is put is the text of what is answered
-pub put_answers : (rules : List Rule) (c d : Standing) (read : Result Call RequestFault) (response : Response) (closing whole : Bool) (text : List ℕ) → Answers rules c read response d → IsPut response closing whole text
-    → IsReplied rules c read closing text d
-put_answers rules c d read response closing true text a put = record { response = response; answers = a; text_is = put }
-put_answers rules c d read response closing false text a put = record { response = servfail; answers = servfail_instead rules c d read response a put.0; text_is = put.1 }
+pub put_answers : (rules : List Rule) (c d : Standing) (read : Result Call RequestFault) (response : Response) (method : Method) (closing whole : Bool) (text : List ℕ) → Answers rules c read response d
+    → IsPut method response closing whole text → IsReplied rules c read method closing text d
+put_answers rules c d read response method closing true text a put = record { response = response; answers = a; text_is = put }
+put_answers rules c d read response method closing false text a put = record { response = servfail; answers = servfail_instead rules c d read response a put.0; text_is = put.1 }

@@ -5,10 +5,11 @@ use Rattle.std.specs.Io.KnownBytes.{Appends, Consumes, Keeps, IsAtEnd}
 use Rattle.std.proofs.lemmas.List.{nil_from_length}
 use Rattle.httparse.specs.Grammar.{print_request}
 use Rattle.grant_policy.specs.declared.rule.Rule.{Rule}
+use Rattle.office_wire.specs.declared.method.Method.{Method}
 use Rattle.office_wire.specs.declared.refusal.Refusal.TheVariants.{CutShort}
 use Rattle.office_wire.specs.declared.response.Response.TheVariants.{Refused}
 use Rattle.office_wire.specs.Texts.{text_of}
-use Rattle.office_wire.specs.Exchange.{Turn, Standing, Run, Waits, Ends, closed, quiet, cut, IsPart, is_line_end}
+use Rattle.office_wire.specs.Exchange.{Turn, Standing, Run, Waits, nothing, IsMethodAt, Ends, closed, quiet, cut, IsPart, is_line_end}
 use Rattle.office_wire.specs.Serving.{IsCurrent, IsClosed, IsBroken, IsAnswered, IsCut, IsRead}
 use Rattle.office_wire.proofs.KnownLemmas.{appends_none, appends_more, consumes_more, consumes_kept, on_stream, on_end}
 use Rattle.office_wire.proofs.TurnLemmas.{head_some}
@@ -32,6 +33,7 @@ waits_nil rest none = record {
       let some = head_some h in
       let long = ap (λ (l : List ℕ). length l) reads.1 ∙ length-append (print_request h) later in
       absurd (too_long _ _ _ none long some);
+  under_way = nothing none;
 }
 
 module _ (rules : List Rule) (c : Standing) where
@@ -44,10 +46,10 @@ module _ (rules : List Rule) (c : Standing) where
 
   pub ended : (d : Standing) (read rest : List ℕ) (known left before mid after : Option (List ℕ)) → Consumes known left read → IsAtEnd left → Waits rest
       → IsCurrent rules c read rest before mid d
-      → ((text : List ℕ) × Appends mid after text × (((list_all is_line_end rest ≡ true) × (text ≡ [])) ⊎ ((list_all is_line_end rest ≡ false) × (text ≡ text_of (Refused CutShort) true))))
+      → ((text : List ℕ) × Appends mid after text × (((list_all is_line_end rest ≡ true) × (text ≡ [])) ⊎ ((list_all is_line_end rest ≡ false) × (m : Method) × IsMethodAt rest m × (text ≡ text_of m (Refused CutShort) true))))
       → Ran d (λ all. IfSome known (λ stream. IsAnswered all stream before after))
   ended d read rest known left before mid after took at_end waits p said =
-      let ends : Ends rest [] said.0 = elim said.2 [ inl both ↦ quiet both.0 refl both.1 | inr both ↦ cut waits both.0 refl both.1 ] in (
+      let ends : Ends rest [] said.0 = elim said.2 [ inl both ↦ quiet both.0 refl both.1 | inr both ↦ cut both.1 waits both.2 both.0 refl both.3 ] in (
         p.0,
         p.1,
         on_end known left read (λ stream. IsAnswered p.0 stream before after) took at_end
@@ -56,13 +58,13 @@ module _ (rules : List Rule) (c : Standing) where
 
   pub ended_part : (d : Standing) (read rest : List ℕ) (known left before mid after : Option (List ℕ)) → Consumes known left read → IsAtEnd left → Waits rest
       → IsCurrent rules c read rest before mid d
-      → ((list_all is_line_end rest ≡ false) × (part : List ℕ) × IsPart part (text_of (Refused CutShort) true) × Appends mid after part)
+      → ((list_all is_line_end rest ≡ false) × (m : Method) × IsMethodAt rest m × (part : List ℕ) × IsPart part (text_of m (Refused CutShort) true) × Appends mid after part)
       → Ran d (λ all. IfSome known (λ stream. IsCut all stream before after))
   ended_part d read rest known left before mid after took at_end waits p wrote = (
     p.0,
     p.1,
     on_end known left read (λ stream. IsCut p.0 stream before after) took at_end
-        (p.0, [], rest, text_of (Refused CutShort) true, wrote.1, sym (append-nil p.0), p.2, inr (cut waits wrote.0 refl refl), wrote.2, appends_more before mid after _ _ p.3 wrote.3),
+        (p.0, [], rest, text_of wrote.1 (Refused CutShort) true, wrote.3, sym (append-nil p.0), p.2, inr (cut wrote.1 waits wrote.2 wrote.0 refl refl), wrote.4, appends_more before mid after _ _ p.3 wrote.5),
   )
 
   pub went_closed : (d e : Standing) (read got old now : List ℕ) (known left left' before mid after : Option (List ℕ)) → Consumes known left read → Consumes left left' got → now ≡ old ++ got

@@ -1,5 +1,5 @@
 -- A request at the front of octets, and its turn.
-use Rattle.std.proofs.Common.{◌≡◌, ◌<◌, ◌≤◌, ◌-◌, ◌+◌, ℕ, Bool, drop, take, length, List, [], ◌∷◌, ◌++◌, ◌∙◌, sym, ap, refl, arith, length-append, length-drop, append_assoc}
+use Rattle.std.proofs.Common.{◌≡◌, ◌<◌, ◌≤◌, ◌-◌, ◌+◌, ℕ, drop, take, length, List, [], ◌∷◌, ◌++◌, ◌∙◌, sym, ap, refl, arith, length-append, length-drop, append_assoc}
 use Rattle.std.specs.List.{slice_range}
 use Rattle.std.proofs.lemmas.List.{take-append-drop, length-take-le, drop-drop}
 use Rattle.httparse.specs.Grammar.{RequestHead, print_request}
@@ -37,7 +37,7 @@ pub record IsReady (rules : List Rule) (c : Standing) (pending out : List ℕ) (
 
 pub ready : (rules : List Rule) (c d : Standing) (pending out : List ℕ) (h : RequestHead) (g : Heading) (n : ℕ) (response : Response)
     → IsHeading g h → IsHead h → ask_of h ≡ Body n → pending ≡ print_request h ++ drop g.len pending → g.len + n ≤ length pending
-    → Answers rules c (call_of h (slice_range pending g.len (g.len + n))) response d → out ≡ text_of response g.closes
+    → Answers rules c (call_of h (slice_range pending g.len (g.len + n))) response d → out ≡ text_of g.method response g.closes
     → IsReady rules c pending out g n d
 unfolding octets_of turn_text
 ready rules c d pending out h g n response is head asks front within answers text =
@@ -48,7 +48,7 @@ ready rules c d pending out h g n response is head asks front within answers tex
       run = (d, answers, refl);
       closing = sym is.closes;
       octets = front ∙ ap (λ (l : List ℕ). print_request h ++ l) (slice_split pending g.len n) ∙ sym (append_assoc (print_request h) body (drop (g.len + n) pending));
-      text = text ∙ ap (λ (b : Bool). text_of response b) is.closes;
+      text = text ∙ (λ i. text_of (is.asked.method i) response (is.closes i));
     }
 
 pub head_some : (h : RequestHead) → 0 < length (print_request h)

@@ -5,7 +5,7 @@ use Rattle.httparse.proofs.GrammarLemmas.{request_unique}
 use Rattle.office_wire.specs.declared.length.Ask.{Ask}
 use Rattle.office_wire.specs.declared.length.Ask.TheVariants.{Body}
 use Rattle.office_wire.specs.Lengths.{ask_of}
-use Rattle.office_wire.specs.Exchange.{Turn, octets_of, IsTurn, FramingIsUnique}
+use Rattle.office_wire.specs.Exchange.{octets_of, FramingIsUnique}
 
 -- two lists of one length at the front of one list are equal
 fronts_equal : (a b x y : List ℕ) → length a ≡ length b → a ++ x ≡ b ++ y → (a ≡ b) × (x ≡ y)

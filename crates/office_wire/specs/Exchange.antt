@@ -1,7 +1,7 @@
 -- A stream of requests, what they are answered, and what is written to it.
-use Rattle.std.specs.Prelude.{◌≡◌, ℕ, ◌<◌, ◌≤◌, Bool, true, false, List, [], ◌∷◌, ◌++◌, length, ◌==◌, ◌||◌, codes, Result, Ok, Err, Some}
+use Rattle.std.specs.Prelude.{◌≡◌, ℕ, ◌<◌, ◌≤◌, ◌⊎◌, Bool, true, false, List, [], ◌∷◌, ◌++◌, length, ◌==◌, ◌||◌, codes, Result, Ok, Err, Some}
 use Rattle.std.specs.List.{flat_map, list_any, list_all, AllByRecursion}
-use Rattle.httparse.specs.Grammar.{RequestHead, IsRequestHead, ReadsRequest, print_request}
+use Rattle.httparse.specs.Grammar.{RequestHead, IsRequestHead, ReadsRequest, HasNoRequest, MayBecomeRequest, print_request}
 use Rattle.grant_policy.specs.declared.rule.Rule.{Rule}
 use Rattle.office_core.specs.declared.fault.TableFault.{TableFault}
 use Rattle.office_core.specs.declared.fault.TableFault.TheVariants as faults
@@ -12,6 +12,8 @@ use Rattle.office_core.specs.Replies.{reply_of}
 use Rattle.office_core.specs.Runs.{HasUpdate, turn}
 use Rattle.office_core.specs.States.{State}
 use Rattle.office_core.specs.Tables.{CountsFault}
+use Rattle.office_wire.specs.declared.method.Method.{Method}
+use Rattle.office_wire.specs.declared.method.Method.TheVariants.{Other}
 use Rattle.office_wire.specs.declared.refusal.Refusal.{Refusal}
 use Rattle.office_wire.specs.declared.refusal.Refusal.TheVariants.{BadHead, CutShort}
 use Rattle.office_wire.specs.declared.request_fault.RequestFault.{RequestFault}
@@ -21,7 +23,7 @@ use Rattle.office_wire.specs.declared.response.Response.TheVariants.{Refused as 
 use Rattle.office_wire.specs.declared.length.Ask.{Ask}
 use Rattle.office_wire.specs.declared.length.Ask.TheVariants.{Body, Refused}
 use Rattle.office_wire.specs.Fields.{fields_of, values_of, is_same_text}
-use Rattle.office_wire.specs.Lengths.{ask_of}
+use Rattle.office_wire.specs.Lengths.{method_of, ask_of}
 use Rattle.office_wire.specs.Requests.{call_of}
 use Rattle.office_wire.specs.Texts.{text_of}
 
@@ -52,7 +54,7 @@ octets_of t = print_request t.head ++ t.body
 
 -- the text of its response
 unfoldable pub turn_text : Turn → List ℕ
-turn_text t = text_of t.response (closes t.head)
+turn_text t = text_of (method_of t.head.method) t.response (closes t.head)
 
 abbrev pub octets : List Turn → List ℕ
 octets turns = flat_map octets_of turns
@@ -111,9 +113,17 @@ abbrev pub AsksMore : Ask → ℕ → Type 0
 AsksMore (Body n) k = k < n
 AsksMore (Refused r) k = ⊥
 
--- no request stands whole at the front, and no head that is refused
+-- A request can still come of octets: there are none; they are fewer than a head may have, and with more of them they are a head, or the
+-- target is still being read; or a head stands there whole, and of the body that it states some octets are missing.
+pub data IsUnderWay (bytes : List ℕ) : Type 0 where
+  nothing : length bytes ≡ 0 → IsUnderWay bytes
+  in_head : length bytes < 16384 → MayBecomeRequest bytes → IsUnderWay bytes
+  in_body : (h : RequestHead) (rest : List ℕ) (n : ℕ) → IsHead h → ReadsRequest bytes h rest → ask_of h ≡ Body n → length rest < n → IsUnderWay bytes
+
+-- no request stands whole at the front, and no head that is refused; and one can still come
 pub record Waits (bytes : List ℕ) : Type 0 where
   pub more : (h : RequestHead) (rest : List ℕ) → ReadsRequest bytes h rest → AsksMore (ask_of h) (length rest)
+  pub under_way : IsUnderWay bytes
 
 -- however it goes on, no head within the limit stands at the front
 pub record NeverHead (bytes : List ℕ) : Type 0 where
@@ -129,15 +139,20 @@ pub data Closes (rest : List ℕ) (last : List Turn) (text : List ℕ) : Type 0 
   whole : (t : Turn) (more : List ℕ) → IsTurn t → closes t.head ≡ true → rest ≡ octets_of t ++ more → last ≡ t ∷ [] → text ≡ turn_text t
       → Closes rest last text
   bad_length : (h : RequestHead) (more : List ℕ) (r : Refusal) → IsHead h → ask_of h ≡ Refused r → rest ≡ print_request h ++ more
-      → last ≡ [] → text ≡ text_of (Refusing r) true → Closes rest last text
-  bad_head : NeverHead rest → last ≡ [] → text ≡ text_of (Refusing BadHead) true → Closes rest last text
+      → last ≡ [] → text ≡ text_of (method_of h.method) (Refusing r) true → Closes rest last text
+  bad_head : NeverHead rest → last ≡ [] → text ≡ text_of Other (Refusing BadHead) true → Closes rest last text
+
+-- the method of the request at the front, where its head stands there whole
+abbrev pub IsMethodAt : List ℕ → Method → Type 0
+IsMethodAt bytes m = (HasNoRequest bytes × (m ≡ Other)) ⊎ ((h : RequestHead) × (rest : List ℕ) × ReadsRequest bytes h rest × (m ≡ method_of h.method))
 
 -- How the rest of a stream is answered at its end: by a last response; not at all, where it is nothing but line ends; and else, where no
 -- request stands whole there, as a request that was cut short.
 pub data Ends (rest : List ℕ) (last : List Turn) (text : List ℕ) : Type 0 where
   closed : Closes rest last text → Ends rest last text
   quiet : list_all is_line_end rest ≡ true → last ≡ [] → text ≡ [] → Ends rest last text
-  cut : Waits rest → list_all is_line_end rest ≡ false → last ≡ [] → text ≡ text_of (Refusing CutShort) true → Ends rest last text
+  cut : (m : Method) → Waits rest → IsMethodAt rest m → list_all is_line_end rest ≡ false → last ≡ [] → text ≡ text_of m (Refusing CutShort) true
+      → Ends rest last text
 
 -- the next response on the stream, with its turn where it has one
 pub data Says (rest : List ℕ) (last : List Turn) (text : List ℕ) : Type 0 where

@@ -1,6 +1,6 @@
 -- What stands at the front of the octets that have come.
 use Rattle.std.specs.Prelude.{◌≡◌, ℕ, ◌+◌, ◌<◌, ◌≤◌, List, ◌++◌, length, drop, option_map, IsUtf8}
-use Rattle.httparse.specs.Grammar.{RequestHead, ReadsRequest, print_request, HasNoRequest}
+use Rattle.httparse.specs.Grammar.{RequestHead, ReadsRequest, print_request, HasNoRequest, MayBecomeRequest}
 use Rattle.office_wire.specs.declared.length.Ask.TheVariants.{Body, Refused as Refuse}
 use Rattle.office_wire.specs.declared.head.Heading.{Heading}
 use Rattle.office_wire.specs.declared.head.HeadRead.{HeadRead}
@@ -27,7 +27,7 @@ pub record IsHeading (g : Heading) (h : RequestHead) : Type 0 where
 
 -- what a window of the octets begins with
 abbrev pub ReadsHead : List ℕ → HeadRead → Type 0
-ReadsHead window Partial = HasNoRequest window
+ReadsHead window Partial = HasNoRequest window × MayBecomeRequest window
 ReadsHead window Hopeless = NeverHead window
 ReadsHead window (Whole g) = (h : RequestHead) × IsHeading g h × ReadsRequest window h (drop g.len window) × (g.len ≤ length window) × BodyUpTo 65536 g.ask
 
@@ -39,5 +39,6 @@ WaitsUpTo bytes n = (more : List ℕ) → length (bytes ++ more) < n → Waits (
 abbrev pub IsFront : List ℕ → Front → Type 0
 IsFront bytes (Waiting n) = Waits bytes × (length bytes < 81920) × WaitsUpTo bytes n × (n ≤ 81920)
 IsFront bytes Bad = NeverHead bytes
-IsFront bytes (Refused r) = (h : RequestHead) × (rest : List ℕ) × IsHead h × (ask_of h ≡ Refuse r) × (bytes ≡ print_request h ++ rest)
+IsFront bytes (Refused m r) =
+    (h : RequestHead) × (rest : List ℕ) × IsHead h × (m ≡ method_of h.method) × (ask_of h ≡ Refuse r) × (bytes ≡ print_request h ++ rest)
 IsFront bytes (Ready g n) = (h : RequestHead) × IsHeading g h × IsHead h × (ask_of h ≡ Body n) × (bytes ≡ print_request h ++ drop g.len bytes) × (g.len + n ≤ length bytes)

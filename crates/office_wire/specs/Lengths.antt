@@ -7,17 +7,20 @@ use Rattle.office_wire.specs.declared.refusal.Refusal.TheVariants.{BadHead, NoLe
 use Rattle.office_wire.specs.declared.length.Ask.{Ask}
 use Rattle.office_wire.specs.declared.length.Ask.TheVariants.{Body, Refused}
 use Rattle.office_wire.specs.declared.method.Method.{Method}
-use Rattle.office_wire.specs.declared.method.Method.TheVariants.{Get, Post, Other}
+use Rattle.office_wire.specs.declared.method.Method.TheVariants.{Get, Post, Head, Other}
 use Rattle.office_wire.specs.Fields.{fields_of, values_of, is_any, is_number, number_up_to}
 
 -- the method of a request (RFC 9110 section 9)
 abbrev pub method_of : List ℕ → Method
-method_of text = if bytes_eq text (codes "POST") then Post else (if bytes_eq text (codes "GET") then Get else Other)
+method_of text =
+    if bytes_eq text (codes "POST") then Post
+    else (if bytes_eq text (codes "GET") then Get else (if bytes_eq text (codes "HEAD") then Head else Other))
 
 -- a POST has to state its length
 abbrev pub needs_length : Method → Bool
 needs_length Post = true
 needs_length Get = false
+needs_length Head = false
 needs_length Other = false
 
 -- texts that are one number, however many zeros stand before it

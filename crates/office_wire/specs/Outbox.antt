@@ -3,6 +3,7 @@ use Rattle.std.specs.Prelude.{◌≡◌, ℕ, Bool, true, false, List}
 use Rattle.office_core.specs.declared.fault.TableFault.TheVariants.{NoMemory}
 use Rattle.office_core.specs.declared.reply.Reply.TheVariants.{Servfail}
 use Rattle.office_json.specs.Replies.{IsShort}
+use Rattle.office_wire.specs.declared.method.Method.{Method}
 use Rattle.office_wire.specs.declared.response.Response.{Response}
 use Rattle.office_wire.specs.declared.response.Response.TheVariants.{Refused, BadBody, Replied}
 use Rattle.office_wire.specs.Texts.{text_of}
@@ -18,6 +19,6 @@ abbrev pub servfail : Response
 servfail = Replied (Servfail NoMemory)
 
 -- The text of a response stands there; in place of one that is not short, where there was no memory for it, that of SERVFAIL.
-abbrev pub IsPut : Response → Bool → Bool → List ℕ → Type 0
-IsPut response closing true text = text ≡ text_of response closing
-IsPut response closing false text = (IsShortResponse response → ⊥) × (text ≡ text_of servfail closing)
+abbrev pub IsPut : Method → Response → Bool → Bool → List ℕ → Type 0
+IsPut method response closing true text = text ≡ text_of method response closing
+IsPut method response closing false text = (IsShortResponse response → ⊥) × (text ≡ text_of method servfail closing)

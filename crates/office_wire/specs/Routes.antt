@@ -8,7 +8,7 @@ use Rattle.matchit.specs.Route.{Scan, parse_route}
 use Rattle.matchit.specs.Seek.{first}
 use Rattle.matchit.specs.declared.error.InsertError.{InsertError}
 use Rattle.office_wire.specs.declared.method.Method.{Method}
-use Rattle.office_wire.specs.declared.method.Method.TheVariants.{Get, Post, Other}
+use Rattle.office_wire.specs.declared.method.Method.TheVariants.{Get, Post, Head, Other}
 use Rattle.office_wire.specs.declared.route.Route.{Route}
 use Rattle.office_wire.specs.declared.route.Route.TheVariants.{Update, Delegate, Delegations, Records, RecordsWithin, File, Changes, Rights}
 
@@ -46,6 +46,7 @@ found_in rows path = option_map (λ r. r.value) (first rows path)
 abbrev pub found_by : Method → List ℕ → Option Route
 found_by Post path = found_in post_rows path
 found_by Get path = found_in get_rows path
+found_by Head path = None
 found_by Other path = None
 
 -- the route of a target, which has no query (RFC 3986 section 3.4)

@@ -1,11 +1,12 @@
 -- What serving a stream does.
-use Rattle.std.specs.Prelude.{◌≡◌, ℕ, ◌-◌, ◌^◌, ◌<◌, ◌≤◌, ◌⊎◌, Bool, true, false, List, [], ◌∷◌, ◌++◌, length, drop, Option, Result, Ok, Err, IfSome, ⊤}
+use Rattle.std.specs.Prelude.{◌≡◌, ℕ, ◌+◌, ◌-◌, ◌^◌, ◌<◌, ◌≤◌, ◌⊎◌, Bool, true, false, List, [], ◌∷◌, ◌++◌, length, drop, Option, Result, Ok, Err, IfSome, ⊤}
 use Rattle.std.specs.List.{list_all}
 use Rattle.std.specs.Io.KnownBytes.{Appends, Consumes}
 use Rattle.dns_master.specs.declared.device.DeviceFailed.{DeviceFailed}
 use Rattle.grant_policy.specs.declared.rule.Rule.{Rule}
 use Rattle.office_core.specs.declared.request.Call.{Call}
 use Rattle.office_core.specs.States.{State}
+use Rattle.office_wire.specs.declared.method.Method.{Method}
 use Rattle.office_wire.specs.declared.refusal.Refusal.TheVariants.{CutShort}
 use Rattle.office_wire.specs.declared.request_fault.RequestFault.{RequestFault}
 use Rattle.office_wire.specs.declared.response.Response.{Response}
@@ -16,7 +17,7 @@ use Rattle.office_wire.specs.declared.fault.ServeFault.{ServeFault}
 use Rattle.office_wire.specs.declared.fault.ServeFault.TheVariants.{ReadFailed, WriteFailed, StreamTooLong, NoMemory}
 use Rattle.office_wire.specs.Texts.{text_of}
 use Rattle.office_wire.specs.Heads.{WaitsUpTo}
-use Rattle.office_wire.specs.Exchange.{Turn, octets_of, turn_text, texts, IsOpenTurn, Standing, Answers, Run, Exchange, Waits, Closes, Ends, Says, IsPart, is_line_end}
+use Rattle.office_wire.specs.Exchange.{Turn, octets_of, turn_text, texts, IsOpenTurn, Standing, Answers, Run, Exchange, Waits, IsMethodAt, Closes, Ends, Says, IsPart, is_line_end}
 
 -- how a table stands
 abbrev pub standing : State → ℕ → Standing
@@ -51,13 +52,21 @@ IsDone all (Err ReadFailed) known left before after = IsRead 0 all known left be
 IsDone all (Err StreamTooLong) known left before after = IsRead (2 ^ 64 - 1) all known left before after
 IsDone all (Err NoMemory) known left before after = (all ≡ []) × (left ≡ known) × (after ≡ before)
 
+-- How often the reader and the writer failed, by the result: none where the call answers, the stream is too long or there was no memory;
+-- and else the one that is told, once. So a read or a write that failed is not tried again, and nothing is written behind a read that
+-- failed: since any read may be that one, all requests that stand whole are answered before each read.
+abbrev pub CountsServed : Result (Unit {0}) ServeFault → ℕ → ℕ → ℕ → ℕ → Type 0
+CountsServed (Err ReadFailed) reads reads_now writes writes_now = (reads_now ≡ reads + 1) × (writes_now ≡ writes)
+CountsServed (Err WriteFailed) reads reads_now writes writes_now = (reads_now ≡ reads) × (writes_now ≡ writes + 1)
+CountsServed result reads reads_now writes writes_now = (reads_now ≡ reads) × (writes_now ≡ writes)
+
 -- ---- one request
 
 -- this was answered to what was read of a request, in this text, and how the table stands behind it
-pub record IsReplied (rules : List Rule) (c : Standing) (read : Result Call RequestFault) (closing : Bool) (text : List ℕ) (d : Standing) : Type 0 where
+pub record IsReplied (rules : List Rule) (c : Standing) (read : Result Call RequestFault) (method : Method) (closing : Bool) (text : List ℕ) (d : Standing) : Type 0 where
   pub response : Response
   pub answers : Answers rules c read response d
-  pub text_is : text ≡ text_of response closing
+  pub text_is : text ≡ text_of method response closing
 
 -- this was answered to what stands at the front, in this text, and how the table stands behind it
 abbrev pub IsSaid : List Rule → Standing → List ℕ → Said → List ℕ → Standing → Type 0
@@ -106,5 +115,6 @@ IsServed rules c stream (Err e) rest before after d = IsBroken rules c stream be
 -- how the end of the stream is answered
 abbrev pub Finishes : List ℕ → Result (Unit {0}) DeviceFailed → Option (List ℕ) → Option (List ℕ) → Type 0
 Finishes rest (Ok u) before after =
-    (text : List ℕ) × Appends before after text × (((list_all is_line_end rest ≡ true) × (text ≡ [])) ⊎ ((list_all is_line_end rest ≡ false) × (text ≡ text_of (Refused CutShort) true)))
-Finishes rest (Err e) before after = (list_all is_line_end rest ≡ false) × (part : List ℕ) × IsPart part (text_of (Refused CutShort) true) × Appends before after part
+    (text : List ℕ) × Appends before after text × (((list_all is_line_end rest ≡ true) × (text ≡ [])) ⊎ ((list_all is_line_end rest ≡ false) × (m : Method) × IsMethodAt rest m × (text ≡ text_of m (Refused CutShort) true)))
+Finishes rest (Err e) before after =
+    (list_all is_line_end rest ≡ false) × (m : Method) × IsMethodAt rest m × (part : List ℕ) × IsPart part (text_of m (Refused CutShort) true) × Appends before after part

@@ -6,6 +6,8 @@ use Rattle.office_core.specs.declared.reply.UpdateReply.TheVariants as updates
 use Rattle.office_core.specs.declared.reply.Reply.{Reply}
 use Rattle.office_core.specs.declared.reply.Reply.TheVariants as replies
 use Rattle.office_json.specs.Replies.{body_of, refusal_body, form_error_body}
+use Rattle.office_wire.specs.declared.method.Method.{Method}
+use Rattle.office_wire.specs.declared.method.Method.TheVariants.{Head}
 use Rattle.office_wire.specs.declared.refusal.Refusal.{Refusal}
 use Rattle.office_wire.specs.declared.refusal.Refusal.TheVariants.{BadHead, NoCaller, NoLength, BodyTooLarge, BadPart, NoRoute, CutShort}
 use Rattle.office_wire.specs.declared.response.Response.{Response}
@@ -86,7 +88,12 @@ head_parts code phrase media digits end =
 abbrev pub head_text : ℕ → List ℕ → ℕ → Bool → List ℕ
 head_text status media n closing = head_parts (code_digits status) (phrase_of status) media (decimal n) (head_end closing)
 
--- the text of a response
-unfoldable pub text_of : Response → Bool → List ℕ
-text_of response closing =
-    head_text (status_of response) (type_of response) (length (response_body response)) closing ++ response_body response
+-- what is sent of a body, by the method of the request: nothing to HEAD (RFC 9110 section 9.3.2)
+abbrev pub sent_body : Method → List ℕ → List ℕ
+sent_body Head body = []
+sent_body method body = body
+
+-- the text of a response to a request of a method, with the length of the body also where the body is not sent
+unfoldable pub text_of : Method → Response → Bool → List ℕ
+text_of method response closing =
+    head_text (status_of response) (type_of response) (length (response_body response)) closing ++ sent_body method (response_body response)

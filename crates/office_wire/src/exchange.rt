@@ -1,6 +1,6 @@
 //! Answering requests, one after the other.
 
-ghost use Rattle.std.specs.Prelude.{◌≡◌, ◌<◌, ◌≤◌, ◌++◌, ℕ, List, length, IsUtf8, OnOk, OnErr};
+ghost use Rattle.std.specs.Prelude.{◌≡◌, ◌≤◌, ◌+◌, ◌++◌, ℕ, List, length, IsUtf8, OnOk, OnErr};
 ghost use Rattle.std.specs.Io.KnownBytes.{Appends};
 ghost use Rattle.httparse.specs.Grammar.{RequestHead};
 ghost use Rattle.office_core.specs.States.{State};
@@ -12,6 +12,7 @@ ghost use Rattle.office_wire.specs.Serving.{standing, IsReplied, IsSaid, Stands,
 use crate::front::{Front, front_of};
 use crate::head::Heading;
 use crate::inbox::Inbox;
+use crate::method::Method;
 use crate::outbox::Outbox;
 use crate::refusal::Refusal;
 use crate::request::read_call;
@@ -65,11 +66,11 @@ impl<'a> Service<'a> {
         out: &mut Outbox,
     )
         requires { IsUtf8 heading.now.target.now }
-        ensures said { T.is_honest table.new → (s : State) → T.holds table.old s → (h : RequestHead) → IsAsked heading.now h → (t : State) × T.holds table.new t × IsReplied self.now.policy.now (standing s (T.failures table.old)) (call_of h body.now) heading.now.closes out.new (standing t (T.failures table.new)) }
+        ensures said { T.is_honest table.new → (s : State) → T.holds table.old s → (h : RequestHead) → IsAsked heading.now h → (t : State) × T.holds table.new t × IsReplied self.now.policy.now (standing s (T.failures table.old)) (call_of h body.now) heading.now.method heading.now.closes out.new (standing t (T.failures table.new)) }
         ensures honest { T.is_honest table.new → T.is_honest table.old }
     {
         let response = self.respond(table, heading, body);
-        let _whole = out.put(&response, heading.closes);
+        let _whole = out.put(heading.method, &response, heading.closes);
     }
 
     /// Answers the request at the front, where it stands there whole.
@@ -88,11 +89,11 @@ impl<'a> Service<'a> {
         match front_of(pending, spans) {
             Front::Waiting(n) => Said::Nothing(n),
             Front::Bad => {
-                out.put_short(&Response::Refused(Refusal::BadHead), true);
+                out.put_short(Method::Other, &Response::Refused(Refusal::BadHead), true);
                 Said::Last
             }
-            Front::Refused(refusal) => {
-                out.put_short(&Response::Refused(refusal), true);
+            Front::Refused(method, refusal) => {
+                out.put_short(method, &Response::Refused(refusal), true);
                 Said::Last
             }
             Front::Ready(heading, n) => {
@@ -122,7 +123,7 @@ impl<'a> Service<'a> {
         ensures served { T.is_honest table.new → (s : State) → T.holds table.old s → (t : State) × T.holds table.new t × IsServed self.now.policy.now (standing s (T.failures table.old)) inbox.old result inbox.new (W.contents writer.old) (W.contents writer.new) (standing t (T.failures table.new)) }
         ensures honest { T.is_honest table.new → T.is_honest table.old }
         ensures same { OnOk result (W.failures writer.new ≡ W.failures writer.old) }
-        ensures rose { OnErr result (W.failures writer.old < W.failures writer.new) }
+        ensures rose { OnErr result (W.failures writer.new ≡ W.failures writer.old + 1) }
     {
         if inbox.is_awaiting() {
             return Ok(false);
@@ -151,7 +152,7 @@ pub(crate) fn write_whole<W: Sink>(writer: &mut W, text: &[u8]) -> Result<(), De
     ensures ok { OnOk result (Appends (W.contents writer.old) (W.contents writer.new) text.now) }
     ensures err { OnErr result ((part : List ℕ) × IsPart part text.now × Appends (W.contents writer.old) (W.contents writer.new) part) }
     ensures same { OnOk result (W.failures writer.new ≡ W.failures writer.old) }
-    ensures rose { OnErr result (W.failures writer.old < W.failures writer.new) }
+    ensures rose { OnErr result (W.failures writer.new ≡ W.failures writer.old + 1) }
 {
     let mut at = 0;
     while at < text.len() {

@@ -1,10 +1,12 @@
 //! What stands at the front of the octets that have come.
 
 ghost use Rattle.std.specs.Prelude.{◌≡◌, take, length};
+ghost use Rattle.office_wire.specs.Exchange.{Waits, IsMethodAt};
 ghost use Rattle.office_wire.specs.Heads.{IsFront};
 
 use crate::head::{HEAD_MAX, HeadRead, Heading, read_head};
 use crate::length::Ask;
+use crate::method::Method;
 use crate::refusal::Refusal;
 use httparse::spans::HeaderSpan;
 
@@ -15,8 +17,8 @@ pub(crate) enum Front<'a> {
     Waiting(usize),
     /// No head, however it goes on.
     Bad,
-    /// A head that is refused.
-    Refused(Refusal),
+    /// A head that is refused, and its method.
+    Refused(Method, Refusal),
     /// A head, and a body of so many octets.
     Ready(Heading<'a>, usize),
 }
@@ -42,9 +44,22 @@ pub(crate) fn front_of<'a>(bytes: &'a [u8], spans: &mut [HeaderSpan]) -> Front<'
         HeadRead::Partial if bytes.len() < HEAD_MAX => Front::Waiting(0),
         HeadRead::Partial => Front::Bad,
         HeadRead::Whole(heading) => match heading.ask {
-            Ask::Refused(refusal) => Front::Refused(refusal),
+            Ask::Refused(refusal) => Front::Refused(heading.method, refusal),
             Ask::Body(n) if bytes.len() - heading.len < n => Front::Waiting(heading.len + n),
             Ask::Body(n) => Front::Ready(heading, n),
         },
+    }
+}
+
+/// The method of the request at the front, where its head has come whole; no request stands whole there.
+pub(crate) fn method_at(bytes: &[u8], spans: &mut [HeaderSpan]) -> Method
+    requires spans { length spans.old ≡ 5462 }
+    requires waits { Waits bytes.now }
+    ensures { IsMethodAt bytes.now result }
+{
+    match read_head(window_of(bytes), spans) {
+        HeadRead::Whole(heading) => heading.method,
+        HeadRead::Partial => Method::Other,
+        HeadRead::Hopeless => Method::Other,
     }
 }

@@ -1,6 +1,6 @@
 //! The octets that have come and are not answered yet.
 
-ghost use Rattle.std.specs.Prelude.{◌≡◌, ◌<◌, ◌≤◌, ◌++◌, ◌-◌, ℕ, List, true, vec_len, take, drop, length, IfOk, OnErr, OnOk};
+ghost use Rattle.std.specs.Prelude.{◌≡◌, ◌<◌, ◌≤◌, ◌+◌, ◌++◌, ◌-◌, ℕ, List, true, vec_len, take, drop, length, IfOk, OnErr, OnOk};
 ghost use Rattle.std.specs.Io.KnownBytes.{Consumes, IsAtEnd, Keeps};
 ghost use Rattle.std.specs.List.{slice_range};
 ghost use Rattle.office_wire.specs.Exchange.{Waits};
@@ -75,7 +75,7 @@ impl Inbox {
         ensures got { IfOk result (λ n. (got : List ℕ) × (self.new ≡ self.old ++ got) × (length got ≡ n) × Consumes (R.remaining reader.old) (R.remaining reader.new) got × (n ≡ 0 → IsAtEnd (R.remaining reader.new))) }
         ensures kept { OnErr result ((self.new ≡ self.old) × Keeps (R.remaining reader.old) (R.remaining reader.new)) }
         ensures fine { OnOk result (R.failures reader.new ≡ R.failures reader.old) }
-        ensures failed { OnErr result (R.failures reader.old < R.failures reader.new) }
+        ensures failed { OnErr result (R.failures reader.new ≡ R.failures reader.old + 1) }
     {
         self.end = to_front(&mut self.bytes, self.start, self.end);
         self.start = 0;

@@ -8,6 +8,8 @@ ghost use Rattle.office_wire.specs.Lengths.{method_of, needs_length};
 pub(crate) enum Method {
     Get,
     Post,
+    /// There is no route for it either, and no response to it has a body (section 9.3.2).
+    Head,
     /// Another one, for which there is no route.
     Other,
 }
@@ -21,6 +23,8 @@ impl Method {
             Method::Post
         } else if text == http::Method::GET.as_str().as_bytes() {
             Method::Get
+        } else if text == http::Method::HEAD.as_str().as_bytes() {
+            Method::Head
         } else {
             Method::Other
         }
@@ -32,7 +36,7 @@ impl Method {
     {
         match self {
             Method::Post => true,
-            Method::Get | Method::Other => false,
+            Method::Get | Method::Head | Method::Other => false,
         }
     }
 }

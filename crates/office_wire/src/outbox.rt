@@ -3,9 +3,10 @@
 ghost use Rattle.std.specs.Prelude.{◌≡◌, ◌≤◌, ◌<◌, ◌+◌, ◌++◌, ℕ, List, length, drop, vec_len, IsOk, OnErr, OnOk};
 ghost use Rattle.std.specs.List.{flat_map};
 ghost use Rattle.std.specs.Vec.{vec_capacity};
-ghost use Rattle.office_wire.specs.Texts.{text_of, head_end, head_text, head_parts, status_of, type_of};
+ghost use Rattle.office_wire.specs.Texts.{text_of, head_end, head_text, head_parts, sent_body, status_of, type_of};
 ghost use Rattle.office_wire.specs.Outbox.{IsShortResponse, IsPut};
 
+use crate::method::Method;
 use crate::response::Response;
 use crate::status::phrase;
 use itoa::Buffer;
@@ -132,6 +133,19 @@ fn place_head(text: &mut Vec<u8>, head: &[u8]) -> usize
     start
 }
 
+/// Lets a body go that is not sent, since the request's method is HEAD; it stands behind the room for the head.
+fn drop_unsent(text: &mut Vec<u8>, method: Method)
+    requires { 256 ≤ vec_len text.old }
+    ensures sent { drop 256 text.new.items ≡ sent_body method (drop 256 text.old.items) }
+    ensures len { 256 ≤ vec_len text.new }
+    ensures capacity { vec_capacity text.old ≤ vec_capacity text.new }
+{
+    match method {
+        Method::Head => text.truncate(HALF),
+        Method::Get | Method::Post | Method::Other => {}
+    }
+}
+
 impl Outbox {
     /// An empty one, with room for a short response. The only error is want of memory.
     pub(crate) fn new(alloc: Global) -> Result<Outbox, AllocError> {
@@ -149,10 +163,15 @@ impl Outbox {
         &self.text[self.start..]
     }
 
-    /// Puts the whole text of a response in place of what was there. The only error is want of memory, which does not come where
-    /// the response is short.
-    fn try_put(&mut self, response: &Response, closing: bool) -> Result<(), AllocError>
-        ensures text { OnOk result (self.new ≡ text_of response.now closing) }
+    /// Puts the whole text of a response to a request of a method in place of what was there. The only error is want of memory,
+    /// which does not come where the response is short.
+    fn try_put(
+        &mut self,
+        method: Method,
+        response: &Response,
+        closing: bool,
+    ) -> Result<(), AllocError>
+        ensures text { OnOk result (self.new ≡ text_of method response.now closing) }
         ensures room { OnErr result (IsShortResponse response.now → ⊥) }
     {
         self.text.truncate(HALF);
@@ -160,6 +179,7 @@ impl Outbox {
         match response.push_body(&mut self.text) {
             Ok(()) => {
                 put_head(&mut self.head, response, self.text.len() - HALF, closing);
+                drop_unsent(&mut self.text, method);
                 self.start = place_head(&mut self.text, self.head.as_slice());
                 Ok(())
             }
@@ -168,23 +188,24 @@ impl Outbox {
     }
 
     /// Puts the text of a short response, for which there is room.
-    pub(crate) fn put_short(&mut self, response: &Response, closing: bool)
+    pub(crate) fn put_short(&mut self, method: Method, response: &Response, closing: bool)
         requires { IsShortResponse response.now }
-        ensures { self.new ≡ text_of response.now closing }
+        ensures { self.new ≡ text_of method response.now closing }
     {
-        let Ok(()) = self.try_put(response, closing) else {
+        let Ok(()) = self.try_put(method, response, closing) else {
             unreachable!()
         };
     }
 
     /// Puts the text of a response. Where there is no memory for it that of SERVFAIL is put, and the answer is false.
-    pub(crate) fn put(&mut self, response: &Response, closing: bool) -> bool
-        ensures { IsPut response.now closing result self.new }
+    pub(crate) fn put(&mut self, method: Method, response: &Response, closing: bool) -> bool
+        ensures { IsPut method response.now closing result self.new }
     {
-        match self.try_put(response, closing) {
+        match self.try_put(method, response, closing) {
             Ok(()) => true,
             Err(_) => {
                 self.put_short(
+                    method,
                     &Response::Replied(Reply::Servfail(TableFault::NoMemory)),
                     closing,
                 );

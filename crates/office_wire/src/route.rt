@@ -95,7 +95,7 @@ impl Routes {
         match method {
             Method::Post => found_in(&self.posts, path),
             Method::Get => found_in(&self.gets, path),
-            Method::Other => None,
+            Method::Head | Method::Other => None,
         }
     }
 }

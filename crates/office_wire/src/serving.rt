@@ -1,14 +1,15 @@
 //! Serving a stream.
 
-ghost use Rattle.std.specs.Prelude.{◌≡◌, ◌<◌, ℕ, List, [], length, IsErrOf, OnOk, OnErr};
+ghost use Rattle.std.specs.Prelude.{◌≡◌, ◌+◌, ℕ, List, [], length, OnOk, OnErr};
 ghost use Rattle.std.specs.List.{list_all};
 ghost use Rattle.office_core.specs.States.{State};
-ghost use Rattle.office_wire.specs.Exchange.{Turn, Run, is_line_end};
+ghost use Rattle.office_wire.specs.Exchange.{Turn, Run, Waits, is_line_end};
 ghost use Rattle.office_wire.specs.Promises.{ArePromised};
-ghost use Rattle.office_wire.specs.Serving.{standing, IsDone, Finishes};
+ghost use Rattle.office_wire.specs.Serving.{standing, IsDone, CountsServed, Finishes};
 
 use crate::exchange::{Service, write_whole};
 use crate::fault::ServeFault;
+use crate::front::method_at;
 use crate::head::SPANS;
 use crate::inbox::Inbox;
 use crate::outbox::Outbox;
@@ -29,19 +30,24 @@ fn is_quiet(bytes: &[u8]) -> bool
 }
 
 /// Answers the end of a stream at what is left of it.
-fn finish<W: Sink>(rest: &[u8], writer: &mut W, out: &mut Outbox) -> Result<(), DeviceFailed>
+fn finish<W: Sink>(
+    rest: &[u8],
+    spans: &mut [HeaderSpan],
+    writer: &mut W,
+    out: &mut Outbox,
+) -> Result<(), DeviceFailed>
+    requires spans { length spans.old ≡ 5462 }
+    requires waits { Waits rest.now }
     ensures finishes { Finishes rest.now result (W.contents writer.old) (W.contents writer.new) }
     ensures same { OnOk result (W.failures writer.new ≡ W.failures writer.old) }
-    ensures rose { OnErr result (W.failures writer.old < W.failures writer.new) }
+    ensures rose { OnErr result (W.failures writer.new ≡ W.failures writer.old + 1) }
 {
     if is_quiet(rest) {
         return Ok(());
     }
-    out.put_short(&Response::Refused(Refusal::CutShort), true);
-    match write_whole(writer, out.as_slice()) {
-        Ok(()) => Ok(()),
-        Err(fault) => Err(fault),
-    }
+    let method = method_at(rest, spans);
+    out.put_short(method, &Response::Refused(Refusal::CutShort), true);
+    write_whole(writer, out.as_slice())
 }
 
 /// Answers each request of a stream, in the rooms that were made for it.
@@ -58,8 +64,7 @@ fn serve_in<R: Source, W: Sink, T: ZoneTable>(
     requires spans { length spans.old ≡ 5462 }
     ensures run { T.is_honest table.new → (s : State) → T.holds table.old s → (turns : List Turn) × (t : State) × T.holds table.new t × Run service.now.policy.now (standing s (T.failures table.old)) turns (standing t (T.failures table.new)) × IsDone turns result (R.remaining reader.old) (R.remaining reader.new) (W.contents writer.old) (W.contents writer.new) }
     ensures honest { T.is_honest table.new → T.is_honest table.old }
-    ensures read_failed { IsErrOf result ServeFault.ReadFailed → R.failures reader.old < R.failures reader.new }
-    ensures write_failed { IsErrOf result ServeFault.WriteFailed → W.failures writer.old < W.failures writer.new }
+    ensures devices { CountsServed result (R.failures reader.old) (R.failures reader.new) (W.failures writer.old) (W.failures writer.new) }
 {
     'reads: for _ in 0..u64::MAX {
         let got = match inbox.fill(reader) {
@@ -67,7 +72,7 @@ fn serve_in<R: Source, W: Sink, T: ZoneTable>(
             Ok(got) => got,
         };
         if got == 0 {
-            match finish(inbox.as_slice(), writer, out) {
+            match finish(inbox.as_slice(), spans, writer, out) {
                 Err(_) => return Err(ServeFault::WriteFailed),
                 Ok(()) => return Ok(()),
             }
@@ -103,9 +108,8 @@ pub fn serve<R: Source, W: Sink, T: ZoneTable>(
     ensures run { T.is_honest table.new → (s : State) → T.holds table.old s → (turns : List Turn) × (t : State) × T.holds table.new t × Run policy.now (standing s (T.failures table.old)) turns (standing t (T.failures table.new)) × IsDone turns result (R.remaining reader.old) (R.remaining reader.new) (W.contents writer.old) (W.contents writer.new) × ArePromised policy.now s turns t }
     // A store that has kept its word had kept it before.
     ensures honest { T.is_honest table.new → T.is_honest table.old }
-    // A failure is told only where the device failed.
-    ensures read_failed { IsErrOf result ServeFault.ReadFailed → R.failures reader.old < R.failures reader.new }
-    ensures write_failed { IsErrOf result ServeFault.WriteFailed → W.failures writer.old < W.failures writer.new }
+    // A device that failed in this call is told, and it failed once; so all requests that stand whole are answered before each read.
+    ensures devices { CountsServed result (R.failures reader.old) (R.failures reader.new) (W.failures writer.old) (W.failures writer.new) }
 {
     let Ok(routes) = Routes::new(alloc) else {
         return Err(ServeFault::NoMemory);

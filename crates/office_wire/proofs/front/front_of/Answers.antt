@@ -1,6 +1,7 @@
 use Rattle.std.proofs.Common.{◌≡◌, ◌≤◌, ◌<◌, ◌-◌, length, sym, take, drop, arith, ◌∙◌, subst, ℕ, List, length-take, length-drop}
 use Rattle.std.proofs.lemmas.List.{take_all}
-use Rattle.httparse.specs.Grammar.{HasNoRequest}
+use Rattle.httparse.specs.Grammar.{HasNoRequest, MayBecomeRequest}
+use Rattle.office_wire.specs.Exchange.{IsHead}
 use Rattle.office_wire.proofs.HeadLemmas.{never_from_window, never_from_none, waits_from_none, waits_from_short, waits_up_to_none, waits_up_to_body, same_number, reads_whole}
 use Rattle.office_wire.proofs.front.front_of.Goals as goal
 
@@ -20,16 +21,17 @@ returns-in-Hopeless c = never_from_window c.args.bytes.now (rw c.window_of.ensur
 pub returns-in-Partial : goal.returns-in-Partial
 returns-in-Partial c =
     let bytes = c.args.bytes.now in
-    let short : length bytes ≤ 16384 = omega arith in
-    let whole = take_all 16384 bytes short in
-    let none = rw c.window_of.ensures at c.in-Partial.ensures in
-    (waits_from_none bytes (subst (λ (l : List ℕ). HasNoRequest l) whole none), omega arith, waits_up_to_none bytes, omega arith)
+    let fits : length bytes ≤ 16384 = omega arith in
+    let whole = take_all 16384 bytes fits in
+    let is = rw c.window_of.ensures at c.in-Partial.ensures in
+    let short : length bytes < 16384 = c.if-bytes-lt-HEAD_MAX.true in
+    (waits_from_none bytes (subst (λ (l : List ℕ). HasNoRequest l) whole is.0) short (subst (λ (l : List ℕ). MayBecomeRequest l) whole is.1), omega arith, waits_up_to_none bytes, omega arith)
 
 pub returns-in-Partial-2 : goal.returns-in-Partial-2
 returns-in-Partial-2 c =
     let bytes = c.args.bytes.now in
     let many : 16384 ≤ length bytes = c.if-bytes-lt-HEAD_MAX.false in
-    never_from_none bytes many (rw c.window_of.ensures at c.in-Partial-2.ensures)
+    never_from_none bytes many (rw c.window_of.ensures at c.in-Partial-2.ensures).0
 
 pub returns-in-Refused : goal.returns-in-Refused
 returns-in-Refused c =
@@ -39,7 +41,7 @@ returns-in-Refused c =
     let k = length-take 16384 bytes in
     let within : c.in-Whole.heading.len ≤ length (take 16384 bytes) = is.3 in
     let len = is.1.len in
-    (is.0, _, record { valid = is.2.0; short = omega arith }, sym is.1.ask ∙ c.in-Refused.is, reads.1)
+    (is.0, _, record { valid = is.2.0; short = omega arith }, is.1.asked.method, sym is.1.ask ∙ c.in-Refused.is, reads.1)
 
 pub returns-in-Body : goal.returns-in-Body
 returns-in-Body c =
@@ -51,7 +53,9 @@ returns-in-Body c =
     let small : c.in-Body.n ≤ 65536 = rw c.in-Body.is at is.4 in
     let left : length (drop c.in-Whole.heading.len bytes) < c.in-Body.n = simp length-drop (omega arith) in
     let asks = sym is.1.ask ∙ c.in-Body.is in
-    (waits_from_short bytes _ is.0 c.in-Body.n reads asks left, omega arith, waits_up_to_body bytes is.0 c.in-Whole.heading.len c.in-Body.n reads (omega arith) asks, omega arith)
+    let len = is.1.len in
+    let head : IsHead is.0 = record { valid = is.2.0; short = omega arith } in
+    (waits_from_short bytes _ is.0 c.in-Body.n head reads asks left, omega arith, waits_up_to_body bytes is.0 c.in-Whole.heading.len c.in-Body.n head reads (omega arith) asks, omega arith)
 
 pub returns-in-Body-2 : goal.returns-in-Body-2
 returns-in-Body-2 c =

@@ -28,8 +28,13 @@ returns-in-Err-clause-run g c = λ honest s held.
 pub returns-in-Err-clause-honest : goal.returns-in-Err-clause-honest
 returns-in-Err-clause-honest g c = c.reads.invariant.honest
 
-pub returns-in-Err-clause-read_failed : goal.returns-in-Err-clause-read_failed
-returns-in-Err-clause-read_failed g c = λ e. omega (arith, c.in-Err.ensures.failed, c.reads.invariant.reads)
+pub returns-in-Err-clause-devices : goal.returns-in-Err-clause-devices
+returns-in-Err-clause-devices g c = (omega (arith, c.in-Err.ensures.failed, c.reads.invariant.reads), c.reads.invariant.writes)
+
+pub finish-requires-clause-waits : goal.finish-requires-clause-waits
+finish-requires-clause-waits g c =
+    let f = c.in-Ok.ensures.got in
+    subst (λ (l : List ℕ). Waits l) (sym (c.as_slice.ensures.value ∙ none_came c.fill.new.self c.reads.inbox f.0 c.in-Ok.got f.1 f.2 c.if-got-eq0.true)) c.reads.invariant.waits
 
 pub returns-in-Ok-finish-clause-run : goal.returns-in-Ok-finish-clause-run
 returns-in-Ok-finish-clause-run g c = λ honest s held.
@@ -65,8 +70,8 @@ returns-in-Err-finish-clause-run g c = λ honest s held.
 pub returns-in-Err-finish-clause-honest : goal.returns-in-Err-finish-clause-honest
 returns-in-Err-finish-clause-honest g c = c.reads.invariant.honest
 
-pub returns-in-Err-finish-clause-write_failed : goal.returns-in-Err-finish-clause-write_failed
-returns-in-Err-finish-clause-write_failed g c = λ e. omega (arith, c.in-Err-finish.ensures.rose, c.reads.invariant.writes)
+pub returns-in-Err-finish-clause-devices : goal.returns-in-Err-finish-clause-devices
+returns-in-Err-finish-clause-devices g c = (c.in-Ok.ensures.fine ∙ c.reads.invariant.reads, omega (arith, c.in-Err-finish.ensures.rose, c.reads.invariant.writes))
 
 pub returns-in-Err-answer_all-clause-run : goal.returns-in-Err-answer_all-clause-run
 returns-in-Err-answer_all-clause-run g c = λ honest s held.
@@ -82,8 +87,8 @@ returns-in-Err-answer_all-clause-run g c = λ honest s held.
 pub returns-in-Err-answer_all-clause-honest : goal.returns-in-Err-answer_all-clause-honest
 returns-in-Err-answer_all-clause-honest g c = λ honest. c.reads.invariant.honest (c.in-Err-answer_all.ensures.honest honest)
 
-pub returns-in-Err-answer_all-clause-write_failed : goal.returns-in-Err-answer_all-clause-write_failed
-returns-in-Err-answer_all-clause-write_failed g c = λ e. omega (arith, c.in-Err-answer_all.ensures.rose, c.reads.invariant.writes)
+pub returns-in-Err-answer_all-clause-devices : goal.returns-in-Err-answer_all-clause-devices
+returns-in-Err-answer_all-clause-devices g c = (c.in-Ok.ensures.fine ∙ c.reads.invariant.reads, omega (arith, c.in-Err-answer_all.ensures.rose, c.reads.invariant.writes))
 
 pub returns-in-Ok-true-clause-run : goal.returns-in-Ok-true-clause-run
 returns-in-Ok-true-clause-run g c = λ honest s held.

@@ -1,5 +1,8 @@
-use Rattle.std.proofs.Common.{[], ◌∷◌, refl, ◌∙◌, arith}
+use Rattle.std.proofs.Common.{[], ◌∷◌, refl, ◌∙◌, ap, true, arith}
 use Rattle.office_wire.specs.Exchange.{bad_length, bad_head, whole}
+use Rattle.office_wire.specs.declared.method.Method.{Method}
+use Rattle.office_wire.specs.declared.response.Response.TheVariants.{Refused}
+use Rattle.office_wire.specs.Texts.{text_of}
 use Rattle.office_wire.specs.Serving.{standing}
 use Rattle.office_wire.proofs.TurnLemmas.{ready, head_some}
 use Rattle.office_wire.proofs.exchange.Service.answer.Goals as goal
@@ -9,7 +12,7 @@ returns-in-Bad-clause-said g c = λ honest s held. (s, held, ([], refl, bad_head
 
 pub returns-in-Refused-clause-said : goal.returns-in-Refused-clause-said
 returns-in-Refused-clause-said g c = λ honest s held. let f = c.in-Refused.ensures in
-    (s, held, ([], refl, bad_length f.0 f.1 c.in-Refused.refusal f.2 f.3 f.4 refl c.put_short-in-Refused.ensures))
+    (s, held, ([], refl, bad_length f.0 f.1 c.in-Refused.refusal f.2 f.4 f.5 refl (c.put_short-in-Refused.ensures ∙ ap (λ (m : Method). text_of m (Refused c.in-Refused.refusal) true) f.3)))
 
 pub returns-then-heading-clause-said : goal.returns-then-heading-clause-said
 returns-then-heading-clause-said g c = λ honest s held.

@@ -9,5 +9,5 @@ returns-clause-said g c = λ honest s held h asked.
       a.0,
       a.1,
       put_answers c.args.self.now.policy.now (standing s (g.T.ZoneTable.failures c.args.table.now)) (standing a.0 (g.T.ZoneTable.failures c.respond-response.new.table)) (call_of h c.args.body.now)
-          c.respond-response.result c.args.heading.now.closes c.put-whole.result c.put-whole.new.self a.2 c.put-whole.ensures,
+          c.respond-response.result c.args.heading.now.method c.args.heading.now.closes c.put-whole.result c.put-whole.new.self a.2 c.put-whole.ensures,
     )
