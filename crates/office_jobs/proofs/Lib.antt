@@ -1,0 +1,2 @@
+pub mod ConnectionLemmas
+pub mod StoreLemmas

@@ -3,11 +3,12 @@
 
 mod import;
 mod migrate;
+mod patience;
 mod serving;
 mod store_file;
 mod streams;
 
-pub use serving::serve_connections;
+pub use serving::{Callers, serve_connections};
 pub use streams::{do_export, do_import, do_migrate, do_serve};
 pub use text_commands::{
     Apply, Canon, JobFault, LineFault, NO_MEMORY_LINE, PolicyFile, Refusal, RefusalLine, Task,

@@ -1,15 +1,16 @@
 //! The store of a path, which is one SQLite file.
 
-ghost use Rattle.std.specs.Prelude.{◌≡◌, ◌<◌, false, IfOk};
+ghost use Rattle.std.specs.Prelude.{◌≡◌, ◌<◌, false, IfOk, IfErr};
+ghost use Rattle.office_jobs.specs.Stores.{IsStoreLine};
 
 use office_files::connect_at;
-use office_store::{Refused, SqlTable, StoreFault};
-use sqlite::{Connection, Error, ErrorCode, File, FileStore, Unknown};
+use office_store::{Refused, SqlTable, StoreFault, Unopened};
+use sqlite::{Alter, Connection, Error, ErrorCode, File, FileStore, Unknown};
 use std::alloc::Global;
 use std::fs;
 use std::marker::Brand;
 use std::sync::ledger::{Blank, Ledger};
-use text_commands::{LineFault, Refusal};
+use text_commands::LineFault;
 
 /// The table of a store in a file.
 pub type FileTable<L> = SqlTable<FileStore<File>, L>;
@@ -17,22 +18,46 @@ pub type FileTable<L> = SqlTable<FileStore<File>, L>;
 /// The file could not be looked for.
 const CANNOT_OPEN: StoreFault = StoreFault::Store(Error::SqliteFailure(ErrorCode::CannotOpen));
 
+/// A refusal of a store, as a line.
+pub fn store_line(fault: StoreFault) -> LineFault
+    ensures { IsStoreLine result }
+{
+    LineFault::from(fault)
+}
+
+/// Why a file is not opened, as a line.
+fn unopened_line<S: Alter + Drop>(unopened: Unopened<S>) -> LineFault
+    ensures { IsStoreLine result }
+{
+    store_line(unopened.fault)
+}
+
+/// Why a connection has no table, as a line.
+fn refused_line<S: Alter + Drop>(refused: Refused<S>) -> LineFault
+    ensures { IsStoreLine result }
+{
+    store_line(refused.fault)
+}
+
 /// A connection to the file of a path, which is made where it is not there.
 fn connected(rt: &HostRuntime, path: &str) -> Result<Connection<FileStore<File>>, LineFault>
-    ensures { IfOk result (λ conn. conn.in_transaction ≡ false) }
+    ensures alone { IfOk result (λ conn. conn.in_transaction ≡ false) }
+    ensures named { IfErr result IsStoreLine }
 {
     match connect_at(rt, path, Unknown) {
         Ok(conn) => Ok(conn),
-        Err(error) => Err(LineFault::from(StoreFault::from(error))),
+        Err(error) => Err(store_line(StoreFault::from(error))),
     }
 }
 
 /// Whether there is a file at a path: where there is none, that is `NoZone`.
-fn found(rt: &HostRuntime, path: &str) -> Result<(), LineFault> {
+fn found(rt: &HostRuntime, path: &str) -> Result<(), LineFault>
+    ensures { IfErr result IsStoreLine }
+{
     match fs::exists(rt, path) {
         Ok(true) => Ok(()),
-        Ok(false) => Err(LineFault::from(StoreFault::NoZone)),
-        Err(_) => Err(LineFault::from(CANNOT_OPEN)),
+        Ok(false) => Err(store_line(StoreFault::NoZone)),
+        Err(_) => Err(store_line(CANNOT_OPEN)),
     }
 }
 
@@ -47,11 +72,24 @@ pub fn open_store<L: Ledger>(
     requires name { blank.name ≡ L.name }
     requires parts { blank.parts ≡ L.parts }
     requires some { 0 < blank.parts }
+    ensures { IfErr result IsStoreLine }
 {
     found(rt, path)?;
     match SqlTable::open(rt, path, Unknown, blank) {
         Ok(table) => Ok(table),
-        Err(unopened) => Err(LineFault::from(unopened.fault)),
+        Err(unopened) => Err(unopened_line(unopened)),
+    }
+}
+
+/// Takes the tables of a connection from version 1 to version 2.
+fn migrate_tables<S: Alter + Drop>(alloc: Global, conn: Connection<S>) -> Result<usize, LineFault>
+    requires { conn.in_transaction ≡ false }
+    ensures { IfErr result IsStoreLine }
+{
+    let mut conn = conn;
+    match SqlTable::<S, Brand>::migrate(alloc, &mut conn) {
+        Ok(zones) => Ok(zones),
+        Err(fault) => Err(store_line(fault)),
     }
 }
 
@@ -59,29 +97,52 @@ pub fn open_store<L: Ledger>(
 /// none is made: that is `NoZone`. `WrongVersion` comes where the file has not the tables of version 1, `BadRow` where their rows are
 /// none that a program of that version wrote, and `Store` where the file is no database or cannot be read or written. Then the file
 /// is as it was.
-pub fn migrate_store(rt: &HostRuntime, path: &str) -> Result<usize, LineFault> {
+pub fn migrate_store(rt: &HostRuntime, path: &str) -> Result<usize, LineFault>
+    ensures { IfErr result IsStoreLine }
+{
     found(rt, path)?;
-    let mut conn = connected(rt, path)?;
-    match FileTable::<Brand>::migrate(rt.alloc(), &mut conn) {
-        Ok(zones) => Ok(zones),
-        Err(fault) => Err(LineFault::from(fault)),
+    migrate_tables(rt.alloc(), connected(rt, path)?)
+}
+
+/// The table that a connection has, where none could be made for this reason.
+fn adopted<S: Alter + Drop, L: Ledger>(
+    alloc: Global,
+    refused: Refused<S>,
+) -> Result<SqlTable<S, L>, LineFault>
+    requires alone { refused.conn.in_transaction ≡ false }
+    requires name { refused.blank.name ≡ L.name }
+    requires parts { refused.blank.parts ≡ L.parts }
+    requires some { 0 < refused.blank.parts }
+    ensures { IfErr result IsStoreLine }
+{
+    match refused {
+        Refused {
+            fault: StoreFault::WrongVersion,
+            conn,
+            blank,
+        } => match SqlTable::adopt(alloc, conn, blank) {
+            Ok(table) => Ok(table),
+            Err(refused) => Err(refused_line(refused)),
+        },
+        refused => Err(refused_line(refused)),
     }
 }
 
-/// The table that a connection has.
-fn adopted<L: Ledger>(
+/// The table that a connection has, which is made where it has none.
+fn made_or_adopted<S: Alter + Drop, L: Ledger>(
     alloc: Global,
-    conn: Connection<FileStore<File>>,
+    conn: Connection<S>,
     blank: Blank,
-) -> Result<FileTable<L>, LineFault>
+) -> Result<SqlTable<S, L>, LineFault>
     requires alone { conn.in_transaction ≡ false }
     requires name { blank.name ≡ L.name }
     requires parts { blank.parts ≡ L.parts }
     requires some { 0 < blank.parts }
+    ensures { IfErr result IsStoreLine }
 {
-    match SqlTable::adopt(alloc, conn, blank) {
+    match SqlTable::create(conn, blank) {
         Ok(table) => Ok(table),
-        Err(refused) => Err(LineFault::from(refused.fault)),
+        Err(refused) => adopted(alloc, refused),
     }
 }
 
@@ -95,16 +156,7 @@ pub fn open_or_make_store<L: Ledger>(
     requires name { blank.name ≡ L.name }
     requires parts { blank.parts ≡ L.parts }
     requires some { 0 < blank.parts }
+    ensures { IfErr result IsStoreLine }
 {
-    match SqlTable::create(connected(rt, path)?, blank) {
-        Ok(table) => Ok(table),
-        Err(
-            Refused {
-                fault: StoreFault::WrongVersion,
-                conn,
-                blank,
-            },
-        ) => adopted(rt.alloc(), conn, blank),
-        Err(refused) => Err(LineFault::from(refused.fault)),
-    }
+    made_or_adopted(rt.alloc(), connected(rt, path)?, blank)
 }

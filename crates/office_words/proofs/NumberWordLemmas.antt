@@ -1,5 +1,5 @@
 -- A number among the words, as it is read.
-use Rattle.std.proofs.Common.{ap, ◌≡◌, ◌^◌, ◌&&◌, ℕ, Bool, true, false, refl, List, ◌∷◌, length, Option, Some, None, Result, Ok, Err, nat_lt, lt-ltb, ltb-true, true≢false, []}
+use Rattle.std.proofs.Common.{ap, ◌≡◌, ◌^◌, ◌&&◌, ℕ, Bool, true, false, refl, List, ◌∷◌, length, Option, Some, None, Result, Ok, Err, nat_lt, lt-ltb, ltb-true, []}
 use Rattle.std.specs.Prelude.{option_map}
 use Rattle.std.specs.List.{list_all}
 use Rattle.std.specs.Result.{result_ok}

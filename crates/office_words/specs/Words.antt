@@ -59,8 +59,8 @@ rights_app =
 
 abbrev pub serve_app : App
 serve_app =
-    with_rule (with_rule (with_rule (with_rule (new_app (codes "serve")) (needed_rule (codes "store")))
-    (needed_rule (codes "policy"))) (needed_rule (codes "listen"))) (number_rule (codes "connections"))
+    with_rule (with_rule (with_rule (with_rule (with_rule (new_app (codes "serve")) (needed_rule (codes "store")))
+    (needed_rule (codes "policy"))) (needed_rule (codes "listen"))) (number_rule (codes "connections"))) (number_rule (codes "patience"))
 
 -- the first word is not the program's name
 abbrev pub without_name : Shape → Shape
@@ -90,7 +90,7 @@ pub data JobOf : Type 0 where
   export : StoredOf → JobOf
   migrate : (store : Text) → JobOf
   rights : (policy caller name record_type action : Text) → JobOf
-  serve : (store policy listen : Text) → Option ℕ → JobOf
+  serve : (store policy listen : Text) → (connections patience : Option ℕ) → JobOf
 
 abbrev pub zone_asked : StoredZone → StoredOf
 zone_asked zone = record { store = zone.store.now; origin = zone.origin.now }
@@ -102,7 +102,7 @@ asks (job.Import zone existing) = imports (zone_asked zone) existing
 asks (job.Export zone) = export (zone_asked zone)
 asks (job.Migrate store) = migrate store.now
 asks (job.Rights policy asked) = rights policy.now asked.caller.now asked.name.now asked.record_type.now asked.action.now
-asks (job.Serve service) = serve service.store.now service.policy.now service.listen.now service.connections
+asks (job.Serve service) = serve service.store.now service.policy.now service.listen.now service.connections service.patience
 
 -- ---- what words ask for
 
@@ -149,7 +149,8 @@ rights_of rows =
 
 abbrev pub serve_of : List Row → Option JobOf
 serve_of rows =
-    option_and_then (λ s. option_and_then (λ p. option_and_then (λ l. option_map (λ n. serve s p l n) (number_if (one_of (codes "connections") rows)))
+    option_and_then (λ s. option_and_then (λ p. option_and_then (λ l. option_and_then (λ n. option_map (λ w. serve s p l n w)
+    (number_if (one_of (codes "patience") rows))) (number_if (one_of (codes "connections") rows)))
     (first_of (codes "listen") rows)) (first_of (codes "policy") rows)) (first_of (codes "store") rows)
 
 abbrev pub job_named : Text → List Row → Option JobOf

@@ -131,7 +131,12 @@ fn serve_command<'a>(alloc: Global) -> Result<Command<'a>, AllocError>
         .arg(needed(alloc, "store", "The path of the store"))?
         .arg(needed(alloc, "policy", "The path of the policy"))?
         .arg(needed(alloc, "listen", "The address and port to listen at"))?
-        .arg(number(alloc, "connections", "After how many to end"))
+        .arg(number(alloc, "connections", "After how many to end"))?
+        .arg(number(
+            alloc,
+            "patience",
+            "Seconds to wait for a peer, 30 if left out",
+        ))
 }
 
 /// The program, with the commands `apply` and `canon`.

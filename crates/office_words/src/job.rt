@@ -83,4 +83,6 @@ pub struct Service<'a> {
     pub listen: &'a str,
     /// After how many connections to end, where a number is given.
     pub connections: Option<u64>,
+    /// For how many seconds to wait for a peer, where a number is given.
+    pub patience: Option<u64>,
 }

@@ -95,11 +95,13 @@ fn serve_in<'a>(matches: &ArgMatches<'a>) -> Option<Job<'a>>
     let policy = text_at(matches, "policy")?;
     let listen = text_at(matches, "listen")?;
     let connections = number_at(matches, "connections")?;
+    let patience = number_at(matches, "patience")?;
     let service = Service {
         store,
         policy,
         listen,
         connections,
+        patience,
     };
     Some(Job::Serve { service })
 }
@@ -173,7 +175,7 @@ fn told(alloc: Global, error: Error) -> WordsFault
 /// `import --store PATH --origin NAME [--replace]`; `export --store PATH --origin NAME`;
 /// `migrate --store PATH`;
 /// `rights --policy PATH --caller CALLER NAME TYPE ACTION`; and
-/// `serve --store PATH --policy PATH --listen ADDRESS:PORT [--connections N]`. The words behind a command may stand in any order.
+/// `serve --store PATH --policy PATH --listen ADDRESS:PORT [--connections N] [--patience SECONDS]`. The words behind a command may stand in any order.
 /// `Help` comes where they ask for help, and `Misused` for all other words.
 pub fn read_words<'a>(alloc: Global, words: &'a [&'a str]) -> Result<Job<'a>, WordsFault>
     // The job is the one that the words ask for.

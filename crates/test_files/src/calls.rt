@@ -7,13 +7,14 @@ use dns_master::{Counted, read_file};
 use dns_names::Name;
 use grant_policy::{Policy, read_policy};
 use office_core::MemTable;
-use office_jobs::serve_connections;
+use office_jobs::{Callers, serve_connections};
 use std::alloc::Global;
 use std::io::{Read, Write};
 use std::marker::Brand;
 use std::net::{Shutdown, TcpListener, TcpStream};
 use std::sync::ledger::{Blank, Ledger};
 use std::test::Fail;
+use std::time::Duration;
 use zone_core::Zone;
 
 /// What two callers send, each over a connection of its own, and what they are answered: an update and the same again, and then
@@ -43,10 +44,19 @@ fn table(alloc: Global) -> Result<MemTable, Fail> {
     Ok(MemTable::new(alloc, zones)?)
 }
 
-/// A connection to a listener, over which a text was sent, and nothing comes behind it.
-fn sent(rt: &HostRuntime, listener: &TcpListener, text: &str) -> Result<TcpStream, Fail> {
+/// For how long callers are waited for.
+const PATIENCE: Duration = Duration::from_millis(300);
+
+/// A connection to a listener, over which a text was sent, and more can come behind it.
+fn begun(rt: &HostRuntime, listener: &TcpListener, text: &str) -> Result<TcpStream, Fail> {
     let mut caller = TcpStream::connect(rt, listener.local_addr()?)?;
     caller.write_all(text.as_bytes())?;
+    Ok(caller)
+}
+
+/// The same, and nothing comes behind it.
+fn sent(rt: &HostRuntime, listener: &TcpListener, text: &str) -> Result<TcpStream, Fail> {
+    let caller = begun(rt, listener, text)?;
     caller.shutdown(Shutdown::Write)?;
     Ok(caller)
 }
@@ -61,7 +71,7 @@ fn answered(alloc: Global, caller: TcpStream) -> Result<Vec<u8>, Fail> {
 
 /// Serves so many connections, and answers what the office tells of them.
 fn served_in<L: Ledger>(
-    alloc: Global,
+    rt: &HostRuntime,
     listener: &TcpListener,
     connections: u64,
     writes: Blank,
@@ -70,17 +80,23 @@ fn served_in<L: Ledger>(
     requires parts { writes.parts ≡ L.parts }
     requires some { 0 < writes.parts }
 {
+    let alloc = rt.alloc();
     let (policy, mut table) = (policy(alloc)?, table(alloc)?);
     let mut sink: Counted<Vec<u8>, L> = Counted::new(Vec::new(alloc), writes);
-    if serve_connections(alloc, listener, &mut table, &policy, connections, &mut sink).is_err() {
+    let callers = Callers {
+        listener,
+        clock: rt,
+        patience: Some(PATIENCE),
+    };
+    if serve_connections(alloc, &callers, &mut table, &policy, connections, &mut sink).is_err() {
         return Err(Fail::new("a connection is not served"));
     }
     Ok(sink.into_inner())
 }
 
 /// The same, with a ledger of its own.
-fn served(alloc: Global, listener: &TcpListener, connections: u64) -> Result<Vec<u8>, Fail> {
-    served_in::<Brand>(alloc, listener, connections, Blank::new(1))
+fn served(rt: &HostRuntime, listener: &TcpListener, connections: u64) -> Result<Vec<u8>, Fail> {
+    served_in::<Brand>(rt, listener, connections, Blank::new(1))
 }
 
 /// The callers, each with what it sent.
@@ -96,7 +112,7 @@ fn calling(rt: &HostRuntime, listener: &TcpListener) -> Result<Vec<TcpStream>, F
 fn callers_are_answered_over_sockets(rt: HostRuntime) -> Result<(), Fail> {
     let listener = listening(&rt)?;
     let callers = calling(&rt, &listener)?;
-    let told = served(rt.alloc(), &listener, 2)?;
+    let told = served(&rt, &listener, 2)?;
     assert!(rt; told.is_empty(), "no connection ends by a fault");
     for (caller, (_, want)) in callers.into_iter().zip(&CALLS) {
         let got = answered(rt.alloc(), caller)?;
@@ -111,10 +127,54 @@ fn a_caller_that_leaves_is_told(rt: HostRuntime) -> Result<(), Fail> {
     let listener = listening(&rt)?;
     let asked = CALLS[1].0.repeat(rt.alloc(), 100)?;
     drop(sent(&rt, &listener, asked.as_str())?);
-    let told = served(rt.alloc(), &listener, 1)?;
+    let told = served(&rt, &listener, 1)?;
     assert!(rt;
         told.as_slice() == b"connection 94\n".as_slice(),
         "its responses meet nobody"
+    );
+    Ok(())
+}
+
+/// A caller that keeps its side open is answered before it sends anything more, and is not waited for for ever.
+#[test]
+fn a_caller_that_waits_is_answered(rt: HostRuntime) -> Result<(), Fail> {
+    let listener = listening(&rt)?;
+    let (text, want) = CALLS[0];
+    let caller = begun(&rt, &listener, text)?;
+    let told = served(&rt, &listener, 1)?;
+    assert!(rt;
+        told.as_slice() == b"connection 93\n".as_slice(),
+        "it sends no third request"
+    );
+    let got = answered(rt.alloc(), caller)?;
+    assert!(rt; got.as_slice() == want.as_bytes(), "{want}");
+    Ok(())
+}
+
+/// A caller sends nothing, and one the half of a request; the next is served all the same.
+#[test]
+fn silent_callers_are_let_go(rt: HostRuntime) -> Result<(), Fail> {
+    let listener = listening(&rt)?;
+    let silent = begun(&rt, &listener, "")?;
+    let half = begun(&rt, &listener, "GET /zones/example.org.")?;
+    let next = sent(&rt, &listener, CALLS[0].0)?;
+    let told = served(&rt, &listener, 3)?;
+    assert!(rt;
+        told.as_slice() == b"connection 93\nconnection 93\n".as_slice(),
+        "two are let go"
+    );
+    assert!(rt;
+        answered(rt.alloc(), silent)?.is_empty(),
+        "nothing was asked"
+    );
+    assert!(rt;
+        answered(rt.alloc(), half)?.is_empty(),
+        "nothing was asked whole"
+    );
+    let got = answered(rt.alloc(), next)?;
+    assert!(rt;
+        got.as_slice() == CALLS[0].1.as_bytes(),
+        "the next is served"
     );
     Ok(())
 }

@@ -65,15 +65,26 @@ fn question_text(
     )
 }
 
+/// A text, and a number behind it where one was given.
+fn with_number(
+    alloc: Global,
+    text: String,
+    word: &str,
+    number: Option<u64>,
+) -> Result<String, AllocError> {
+    match number {
+        None => Ok(text),
+        Some(number) => format!(in alloc; "{text}{word} {number}"),
+    }
+}
+
 fn service_text(alloc: Global, service: &Service<'_>) -> Result<String, AllocError> {
     let text = format!(in alloc;
         "serve ({}) ({}) ({})",
         service.store, service.policy, service.listen
     )?;
-    match service.connections {
-        None => Ok(text),
-        Some(number) => format!(in alloc; "{text} {number}"),
-    }
+    let text = with_number(alloc, text, "", service.connections)?;
+    with_number(alloc, text, " patience", service.patience)
 }
 
 fn push_job(
