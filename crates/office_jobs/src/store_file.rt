@@ -2,7 +2,7 @@
 
 ghost use Rattle.std.specs.Prelude.{◌≡◌, ◌<◌, false, IfOk};
 
-use office_files::connect_at;
+use office_sql::connect_at;
 use office_store::{Refused, SqlTable, StoreFault};
 use sqlite::{Connection, Error, ErrorCode, File, FileStore, Unknown};
 use std::alloc::Global;
