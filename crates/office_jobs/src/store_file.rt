@@ -3,7 +3,7 @@
 ghost use Rattle.std.specs.Prelude.{◌≡◌, ◌<◌, false, IfOk, IfErr};
 ghost use Rattle.office_jobs.specs.Stores.{IsStoreLine};
 
-use office_files::connect_at;
+use office_sql::connect_at;
 use office_store::{Refused, SqlTable, StoreFault, Unopened};
 use sqlite::{Alter, Connection, Error, ErrorCode, File, FileStore, Unknown};
 use std::alloc::Global;

@@ -1,19 +1,16 @@
 -- Columns: what is written is read, and what is read was written so.
-use Rattle.std.proofs.Common.{◌≡◌, ℕ, ◌<◌, ◌≤◌, Bool, true, false, cond, eqb, List, [], ◌∷◌, Option, Some, None, Result, Ok, Err, refl, sym, ap, subst, ◌∙◌, arith, eqb-true}
+use Rattle.std.proofs.Common.{◌≡◌, ℕ, ◌≤◌, Bool, cond, eqb, List, None, Result, Ok, Err, refl, sym, ap, ◌∙◌, eqb-true}
 use Rattle.std.proofs.lemmas.Bool.{le-leb}
 use Rattle.std.specs.Prelude.{ℤ, pos, negsuc, nat_le}
 use Rattle.std.specs.List.{find}
-use Rattle.dns_names.specs.declared.fault.NameFault.{NameFault}
 use Rattle.dns_names.specs.Labels.{IsName}
 use Rattle.dns_names.specs.Reading.{absolute_name}
 use Rattle.dns_names.specs.Spelling.{name_text}
 use Rattle.dns_names.proofs.ReadingLaws.{absolute_again}
-use Rattle.dns_data.specs.declared.fault.DataFault.{DataFault}
 use Rattle.dns_data.specs.declared.rdata.Data.{Data}
 use Rattle.dns_data.specs.declared.record.Record.{Record}
 use Rattle.dns_data.specs.declared.record_type.RecordType.{RecordType}
 use Rattle.dns_data.specs.declared.record_type.RecordType.TheVariants as types
-use Rattle.dns_data.specs.Items.{ItemText}
 use Rattle.dns_data.specs.Rdata.{type_of, IsRdata, IsRecord}
 use Rattle.dns_data.specs.Reading.{data_of}
 use Rattle.dns_data.specs.Text.{data_items, data_text}
@@ -24,8 +21,8 @@ use Rattle.dns_master.proofs.CleanLaws.{data_clean}
 use Rattle.office_rows.specs.declared.row_fault.RowFault.{RowFault}
 use Rattle.office_rows.specs.declared.row_fault.RowFault.TheVariants.{BadRow}
 use Rattle.office_rows.specs.RowFaults.{◌>>=◌, of_names, of_datas, canonical}
-use Rattle.office_rows.specs.RowReading.{or_bad, name_in, fields_of, type_in, data_in, ttl_in, record_at}
-use Rattle.office_rows.proofs.RowSteps.{done, ok_is, step_ok, names_ok, datas_ok, or_bad_ok, needed_ok, canonical_again, canonical_ok}
+use Rattle.office_rows.specs.RowReading.{name_in, fields_of, type_in, data_in, ttl_in, record_at}
+use Rattle.office_rows.proofs.RowSteps.{done, ok_is, step_ok, datas_ok, or_bad_ok, needed_ok, canonical_again, canonical_ok}
 use Rattle.office_rows.proofs.FieldsLaws.{fields_read}
 use Rattle.office_rows.proofs.TypedLaws.{data_typed}
 

@@ -1,18 +1,17 @@
 -- What was gathered has the rows from which it was gathered.
-use Rattle.std.proofs.Common.{◌≡◌, ℕ, zero, suc, ◌+◌, ◌<◌, ◌≤◌, Bool, true, false, cond, eqb, ◌&&◌, ◌||◌, List, [], ◌∷◌, ◌++◌, length, map, IsPermutation, refl, sym, ap, subst, ◌∙◌, arith, append_assoc, append-nil, length-append, inl, inr, eqb-true, ne_eqb}
+use Rattle.std.proofs.Common.{◌≡◌, ℕ, suc, ◌+◌, Bool, true, false, cond, eqb, ◌&&◌, ◌||◌, List, [], ◌∷◌, ◌++◌, length, map, IsPermutation, refl, sym, ap, subst, ◌∙◌, arith, append_assoc, append-nil, length-append, inl, inr, eqb-true, ne_eqb}
 use Rattle.std.proofs.lemmas.Bool.{and_parts, or_cases}
-use Rattle.std.proofs.lemmas.Bool.Decides.{Decides-eqb}
 use Rattle.std.proofs.lemmas.Cmp.{tied_itself}
 use Rattle.std.proofs.lemmas.List.{map-append}
 use Rattle.std.specs.declared.cmp.Ordering.{Ordering}
-use Rattle.std.specs.declared.cmp.Ordering.TheVariants.{Less, Equal, Greater}
+use Rattle.std.specs.declared.cmp.Ordering.TheVariants.{Less, Equal}
 use Rattle.std.specs.List.{AllByRecursion, fold, list_all}
 use Rattle.std.specs.List.Sorted.{IsStrictlySortedBy}
 use Rattle.std.specs.Ordering.{nat_cmp, ordering_then, is_lt}
 use Rattle.sqlite_trees.specs.Tree.{IsAscending}
 use Rattle.sqlite_keyed.proofs.ListLemmas.{all-append, all_weaker}
 use Rattle.dns_names.specs.Labels.{IsName}
-use Rattle.dns_names.specs.Order.{canonical_cmp, canonical_total, same_name}
+use Rattle.dns_names.specs.Order.{canonical_total, same_name}
 use Rattle.dns_names.proofs.KeyLaws.{tied}
 use Rattle.dns_data.specs.declared.record.Record.{Record}
 use Rattle.dns_data.specs.Rdata.{IsRecord}
@@ -21,12 +20,13 @@ use Rattle.zone_core.specs.Sets.{InOrder}
 use Rattle.zone_core.proofs.SetLemmas.{name_is, name_self}
 use Rattle.office_core.specs.States.{ChangeOf}
 use Rattle.office_core.specs.Machine.{is_nothing}
-use Rattle.office_tables.specs.Rows.{ChangeRowOf}
+use Rattle.office_sql.specs.Rows.{ChangeRowOf}
 use Rattle.office_rows.specs.declared.changes.ChangedRecord.{ChangedRecord}
 use Rattle.office_rows.specs.declared.side.Side.{Side}
 use Rattle.office_rows.specs.declared.side.Side.TheVariants.{Removed, Added}
 use Rattle.office_rows.specs.ChangeRows.{row_of, IsChanged, changes_rows, IsChange, side_cmp, side_total, changed_order, changed_order_total, follows_in_number, follows, are_behind, are_numbered, are_of_one, nothing, with_record, placed, gathered}
-use Rattle.office_rows.proofs.GatheringLaws.{entry, sides, entries, entries_rows, placed_more, placed_first}
+use Rattle.office_rows.proofs.GatheringLaws.{entry, sides, entries, entries_rows, placed_more, placed_first, ChangeBelow, places}
+use Rattle.office_rows.proofs.OrderLemmas.{less_is}
 
 abbrev Labels : Type 0
 Labels = List (List ℕ)
@@ -148,9 +148,6 @@ same_change o done front last s r e each none =
 
 -- ---- one step
 
-abbrev places : Ordering → Ordering → Ordering → Ordering → Ordering
-places origin number side changed = ordering_then (ordering_then (ordering_then origin number) side) changed
-
 by_side : (o : Labels) (n : ℕ) (s d : Side) (r t : Record) → changed_order (entry o n s r) (entry o n d t) ≡ ordering_then (side_cmp s d) (record_order r t)
 by_side o n s d r t =
     ap (λ (x : Ordering). places x (nat_cmp n n) (side_cmp s d) (record_order r t)) (tied_itself canonical_total o)
@@ -229,24 +226,16 @@ whole x xs one numbered =
 
 -- ---- they are changes
 
-less_is : (r : Ordering) → is_lt r ≡ true → r ≡ Less
-less_is Less e = refl
-less_is Equal e = absurd cc
-less_is Greater e = absurd cc
-
-abbrev Below : ChangedRecord → ChangedRecord → Type 0
-Below a b = changed_order a b ≡ Less
-
-behind_up : (a : ChangedRecord) (bs : List ChangedRecord) → are_behind a bs ≡ true → IsAscending Below (a ∷ bs)
+behind_up : (a : ChangedRecord) (bs : List ChangedRecord) → are_behind a bs ≡ true → IsAscending ChangeBelow (a ∷ bs)
 behind_up a [] e = (tt, tt)
 behind_up a (b ∷ bs) e =
     let p = and_parts (follows a b) (are_behind b bs) e in
     let q = and_parts (is_lt (changed_order a b)) (follows_in_number a b) p.0 in
     let first = less_is (changed_order a b) q.0 in
     let more = behind_up b bs p.1 in
-    ((first, all_weaker (Below b) (Below a) (λ z. changed_order_total.trans a b z first) bs more.0), more)
+    ((first, all_weaker (ChangeBelow b) (ChangeBelow a) (λ z. changed_order_total.trans a b z first) bs more.0), more)
 
-numbered_up : (xs : List ChangedRecord) → are_numbered xs ≡ true → IsAscending Below xs
+numbered_up : (xs : List ChangedRecord) → are_numbered xs ≡ true → IsAscending ChangeBelow xs
 numbered_up [] e = tt
 numbered_up (x ∷ xs) e = behind_up x xs (and_parts (eqb x.number 1) (are_behind x xs) e).1
 
@@ -258,11 +247,11 @@ back_all : (P : ChangedRecord → Type 0) (xs ys : List ChangedRecord) → AllBy
 back_all P [] ys h = h
 back_all P (x ∷ xs) ys h = back_all P xs ys h.1
 
-front_up : (xs ys : List ChangedRecord) → IsAscending Below (xs ++ ys) → IsAscending Below xs
+front_up : (xs ys : List ChangedRecord) → IsAscending ChangeBelow (xs ++ ys) → IsAscending ChangeBelow xs
 front_up [] ys h = tt
-front_up (x ∷ xs) ys h = (front_all (Below x) xs ys h.0, front_up xs ys h.1)
+front_up (x ∷ xs) ys h = (front_all (ChangeBelow x) xs ys h.0, front_up xs ys h.1)
 
-back_up : (xs ys : List ChangedRecord) → IsAscending Below (xs ++ ys) → IsAscending Below ys
+back_up : (xs ys : List ChangedRecord) → IsAscending ChangeBelow (xs ++ ys) → IsAscending ChangeBelow ys
 back_up [] ys h = h
 back_up (x ∷ xs) ys h = back_up xs ys h.1
 
@@ -270,19 +259,19 @@ side_records : (o : Labels) (n : ℕ) (s : Side) (rs : List Record) → AllByRec
 side_records o n s [] h = tt
 side_records o n s (r ∷ rs) h = (h.0.changed, side_records o n s rs h.1)
 
-same_side : (o : Labels) (n : ℕ) (s : Side) (r t : Record) → Below (entry o n s r) (entry o n s t) → record_order r t ≡ Less
+same_side : (o : Labels) (n : ℕ) (s : Side) (r t : Record) → ChangeBelow (entry o n s r) (entry o n s t) → record_order r t ≡ Less
 same_side o n s r t h = ap (λ (x : Ordering). ordering_then x (record_order r t)) (sym (tied_itself side_total s)) ∙ sym (by_side o n s s r t) ∙ h
 
-side_above : (o : Labels) (n : ℕ) (s : Side) (r : Record) (rs : List Record) → AllByRecursion (Below (entry o n s r)) (map (entry o n s) rs) → AllByRecursion (λ t. record_order r t ≡ Less) rs
+side_above : (o : Labels) (n : ℕ) (s : Side) (r : Record) (rs : List Record) → AllByRecursion (ChangeBelow (entry o n s r)) (map (entry o n s) rs) → AllByRecursion (λ t. record_order r t ≡ Less) rs
 side_above o n s r [] h = tt
 side_above o n s r (t ∷ rs) h = (same_side o n s r t h.0, side_above o n s r rs h.1)
 
-side_order : (o : Labels) (n : ℕ) (s : Side) (rs : List Record) → IsAscending Below (map (entry o n s) rs) → InOrder rs
+side_order : (o : Labels) (n : ℕ) (s : Side) (rs : List Record) → IsAscending ChangeBelow (map (entry o n s) rs) → InOrder rs
 unfolding IsStrictlySortedBy
 side_order o n s [] h = tt
 side_order o n s (r ∷ rs) h = (side_above o n s r rs h.0, side_order o n s rs h.1)
 
-changes_are : (o : Labels) (n : ℕ) (cs : List ChangeOf) → AllByRecursion IsSome cs → AllByRecursion IsChanged (entries o n cs) → IsAscending Below (entries o n cs) → AllByRecursion IsChange cs
+changes_are : (o : Labels) (n : ℕ) (cs : List ChangeOf) → AllByRecursion IsSome cs → AllByRecursion IsChanged (entries o n cs) → IsAscending ChangeBelow (entries o n cs) → AllByRecursion IsChange cs
 changes_are o n [] each all up = tt
 changes_are o n (c ∷ cs) each all up =
     let went = map (entry o n Removed) c.removed in
@@ -312,6 +301,6 @@ are_gathered rows (x ∷ xs) same all pass =
     let cs = gathered (x ∷ xs) in (
       x.origin,
       all.0.origin,
-      changes_are x.origin 1 cs w.each (subst (AllByRecursion IsChanged) (sym w.entries_are) all) (subst (IsAscending Below) (sym w.entries_are) (numbered_up (x ∷ xs) p.1)),
+      changes_are x.origin 1 cs w.each (subst (AllByRecursion IsChanged) (sym w.entries_are) all) (subst (IsAscending ChangeBelow) (sym w.entries_are) (numbered_up (x ∷ xs) p.1)),
       subst (λ (l : List ChangeRowOf). IsPermutation l rows) (ap (map row_of) (sym w.entries_are) ∙ entries_rows x.origin 1 cs) same,
     )

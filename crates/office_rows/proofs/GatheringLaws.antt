@@ -1,5 +1,5 @@
 -- Changes that are gathered from what their rows have.
-use Rattle.std.proofs.Common.{◌≡◌, ℕ, zero, suc, ◌+◌, ◌<◌, ◌≤◌, Bool, true, false, cond, eqb, ltb, ◌&&◌, ◌||◌, List, [], ◌∷◌, ◌++◌, length, map, Result, Ok, Err, IsPermutation, IsSorted, refl, sym, ap, subst, ◌∙◌, arith, append_assoc, append-nil, length-append, eq-eqb, inl, inr}
+use Rattle.std.proofs.Common.{◌≡◌, ℕ, suc, ◌+◌, ◌<◌, ◌≤◌, Bool, true, false, cond, eqb, ◌&&◌, ◌||◌, List, [], ◌∷◌, ◌++◌, length, map, Result, Ok, Err, IsPermutation, IsSorted, refl, sym, ap, subst, ◌∙◌, arith, append_assoc, append-nil, length-append, eq-eqb, inl, inr}
 use Rattle.std.proofs.lemmas.Bool.{and_from, lt-ltb, le-ltb, or_cases, or_left, or_right, eqb-true}
 use Rattle.std.proofs.lemmas.Cmp.{tied_itself}
 use Rattle.std.proofs.lemmas.List.{map-append}
@@ -7,8 +7,7 @@ use Rattle.std.proofs.lemmas.List.Elements.{All-from_recursion, recursion_from_A
 use Rattle.std.proofs.lemmas.List.Sorted.{IsPermutation-sym, IsPermutation-trans, All-permutation}
 use Rattle.std.proofs.lemmas.List.Sums.{fold-append}
 use Rattle.std.specs.declared.cmp.Ordering.{Ordering}
-use Rattle.std.specs.declared.cmp.Ordering.TheVariants.{Less, Equal, Greater}
-use Rattle.std.specs.Cmp.{IsTotalOrder, nat_cmp_total}
+use Rattle.std.specs.declared.cmp.Ordering.TheVariants.{Less, Equal}
 use Rattle.std.specs.List.{AllByRecursion, fold, flat_map, list_all}
 use Rattle.std.specs.List.Sorted.{IsStrictlySortedBy}
 use Rattle.std.specs.Ordering.{nat_cmp, ordering_then, is_lt}
@@ -16,7 +15,7 @@ use Rattle.sqlite_trees.specs.Tree.{IsAscending}
 use Rattle.sqlite_keyed.proofs.ListLemmas.{all-append, ascending-append, IsPermutation-flat_map}
 use Rattle.sqlite_keyed.proofs.SortLemmas.{sorted_unique}
 use Rattle.dns_names.specs.Labels.{IsName}
-use Rattle.dns_names.specs.Order.{canonical_cmp, canonical_total, same_name}
+use Rattle.dns_names.specs.Order.{canonical_total, same_name}
 use Rattle.dns_names.proofs.KeyLaws.{less, tied}
 use Rattle.dns_data.specs.declared.record.Record.{Record}
 use Rattle.dns_data.specs.Rdata.{IsRecord}
@@ -27,7 +26,7 @@ use Rattle.office_core.specs.declared.receipt.Change.{Change}
 use Rattle.office_core.specs.States.{ChangeOf}
 use Rattle.office_core.specs.Tables.{change_in}
 use Rattle.office_core.specs.Machine.{is_nothing}
-use Rattle.office_tables.specs.Rows.{ChangeRowOf}
+use Rattle.office_sql.specs.Rows.{ChangeRowOf}
 use Rattle.office_rows.specs.declared.changes.ChangedRecord.{ChangedRecord}
 use Rattle.office_rows.specs.declared.row_fault.RowFault.{RowFault}
 use Rattle.office_rows.specs.declared.side.Side.{Side}
@@ -78,71 +77,71 @@ entries_are o n (c ∷ cs) is some h =
 
 -- ---- they ascend
 
-abbrev Below : ChangedRecord → ChangedRecord → Type 0
-Below a b = changed_order a b ≡ Less
+abbrev pub ChangeBelow : ChangedRecord → ChangedRecord → Type 0
+ChangeBelow a b = changed_order a b ≡ Less
 
-abbrev places : Ordering → Ordering → Ordering → Ordering → Ordering
+abbrev pub places : Ordering → Ordering → Ordering → Ordering → Ordering
 places origin number side changed = ordering_then (ordering_then (ordering_then origin number) side) changed
 
-same_side : (o : Labels) (n : ℕ) (s : Side) (r t : Record) → record_order r t ≡ Less → Below (entry o n s r) (entry o n s t)
+same_side : (o : Labels) (n : ℕ) (s : Side) (r t : Record) → record_order r t ≡ Less → ChangeBelow (entry o n s r) (entry o n s t)
 same_side o n s r t h =
     ap (λ (x : Ordering). places x (nat_cmp n n) (side_cmp s s) (record_order r t)) (tied_itself canonical_total o)
     ∙ ap (λ (x : Ordering). places Equal x (side_cmp s s) (record_order r t)) (tied n)
     ∙ ap (λ (x : Ordering). places Equal Equal x (record_order r t)) (tied_itself side_total s)
     ∙ h
 
-next_side : (o : Labels) (n : ℕ) (r t : Record) → Below (entry o n Removed r) (entry o n Added t)
+next_side : (o : Labels) (n : ℕ) (r t : Record) → ChangeBelow (entry o n Removed r) (entry o n Added t)
 next_side o n r t =
     ap (λ (x : Ordering). places x (nat_cmp n n) Less (record_order r t)) (tied_itself canonical_total o)
     ∙ ap (λ (x : Ordering). places Equal x Less (record_order r t)) (tied n)
 
-next_number : (o : Labels) (n m : ℕ) (s d : Side) (r t : Record) → n < m → Below (entry o n s r) (entry o m d t)
+next_number : (o : Labels) (n m : ℕ) (s d : Side) (r t : Record) → n < m → ChangeBelow (entry o n s r) (entry o m d t)
 next_number o n m s d r t h =
     ap (λ (x : Ordering). places x (nat_cmp n m) (side_cmp s d) (record_order r t)) (tied_itself canonical_total o)
     ∙ ap (λ (x : Ordering). places Equal x (side_cmp s d) (record_order r t)) (less n m h)
 
-side_above : (o : Labels) (n : ℕ) (s : Side) (r : Record) (rs : List Record) → AllByRecursion (λ t. record_order r t ≡ Less) rs → AllByRecursion (Below (entry o n s r)) (map (entry o n s) rs)
+side_above : (o : Labels) (n : ℕ) (s : Side) (r : Record) (rs : List Record) → AllByRecursion (λ t. record_order r t ≡ Less) rs → AllByRecursion (ChangeBelow (entry o n s r)) (map (entry o n s) rs)
 side_above o n s r [] h = tt
 side_above o n s r (t ∷ rs) h = (same_side o n s r t h.0, side_above o n s r rs h.1)
 
-side_up : (o : Labels) (n : ℕ) (s : Side) (rs : List Record) → InOrder rs → IsAscending Below (map (entry o n s) rs)
+side_up : (o : Labels) (n : ℕ) (s : Side) (rs : List Record) → InOrder rs → IsAscending ChangeBelow (map (entry o n s) rs)
 unfolding IsStrictlySortedBy
 side_up o n s [] h = tt
 side_up o n s (r ∷ rs) h = (side_above o n s r rs h.0, side_up o n s rs h.1)
 
-added_above : (o : Labels) (n : ℕ) (r : Record) (rs : List Record) → AllByRecursion (Below (entry o n Removed r)) (map (entry o n Added) rs)
+added_above : (o : Labels) (n : ℕ) (r : Record) (rs : List Record) → AllByRecursion (ChangeBelow (entry o n Removed r)) (map (entry o n Added) rs)
 added_above o n r [] = tt
 added_above o n r (t ∷ rs) = (next_side o n r t, added_above o n r rs)
 
-all_added_above : (o : Labels) (n : ℕ) (rs added : List Record) → AllByRecursion (λ x. AllByRecursion (Below x) (map (entry o n Added) added)) (map (entry o n Removed) rs)
+all_added_above : (o : Labels) (n : ℕ) (rs added : List Record) → AllByRecursion (λ x. AllByRecursion (ChangeBelow x) (map (entry o n Added) added)) (map (entry o n Removed) rs)
 all_added_above o n [] added = tt
 all_added_above o n (r ∷ rs) added = (added_above o n r added, all_added_above o n rs added)
 
-change_up : (o : Labels) (n : ℕ) (c : ChangeOf) → IsChange c → IsAscending Below (sides o n c.removed c.added)
+change_up : (o : Labels) (n : ℕ) (c : ChangeOf) → IsChange c → IsAscending ChangeBelow (sides o n c.removed c.added)
 change_up o n c is =
-    ascending-append Below (map (entry o n Removed) c.removed) (map (entry o n Added) c.added) (side_up o n Removed c.removed is.removed_order) (side_up o n Added c.added is.added_order)
+    ascending-append ChangeBelow (map (entry o n Removed) c.removed) (map (entry o n Added) c.added) (side_up o n Removed c.removed is.removed_order) (side_up o n Added c.added is.added_order)
     (all_added_above o n c.removed c.added)
 
-side_later : (o : Labels) (n m : ℕ) (s d : Side) (r : Record) (rs : List Record) → n < m → AllByRecursion (Below (entry o n s r)) (map (entry o m d) rs)
+side_later : (o : Labels) (n m : ℕ) (s d : Side) (r : Record) (rs : List Record) → n < m → AllByRecursion (ChangeBelow (entry o n s r)) (map (entry o m d) rs)
 side_later o n m s d r [] h = tt
 side_later o n m s d r (t ∷ rs) h = (next_number o n m s d r t h, side_later o n m s d r rs h)
 
-entries_later : (o : Labels) (n m : ℕ) (s : Side) (r : Record) (cs : List ChangeOf) → n < m → AllByRecursion (Below (entry o n s r)) (entries o m cs)
+entries_later : (o : Labels) (n m : ℕ) (s : Side) (r : Record) (cs : List ChangeOf) → n < m → AllByRecursion (ChangeBelow (entry o n s r)) (entries o m cs)
 entries_later o n m s r [] h = tt
 entries_later o n m s r (c ∷ cs) h =
-    all-append (Below (entry o n s r)) (sides o m c.removed c.added) (entries o (suc m) cs)
-    (all-append (Below (entry o n s r)) (map (entry o m Removed) c.removed) (map (entry o m Added) c.added) (side_later o n m s Removed r c.removed h) (side_later o n m s Added r c.added h))
+    all-append (ChangeBelow (entry o n s r)) (sides o m c.removed c.added) (entries o (suc m) cs)
+    (all-append (ChangeBelow (entry o n s r)) (map (entry o m Removed) c.removed) (map (entry o m Added) c.added) (side_later o n m s Removed r c.removed h) (side_later o n m s Added r c.added h))
     (entries_later o n (suc m) s r cs (omega arith))
 
-side_before : (o : Labels) (n : ℕ) (s : Side) (rs : List Record) (cs : List ChangeOf) → AllByRecursion (λ x. AllByRecursion (Below x) (entries o (suc n) cs)) (map (entry o n s) rs)
+side_before : (o : Labels) (n : ℕ) (s : Side) (rs : List Record) (cs : List ChangeOf) → AllByRecursion (λ x. AllByRecursion (ChangeBelow x) (entries o (suc n) cs)) (map (entry o n s) rs)
 side_before o n s [] cs = tt
 side_before o n s (r ∷ rs) cs = (entries_later o n (suc n) s r cs (omega arith), side_before o n s rs cs)
 
-pub entries_up : (o : Labels) (n : ℕ) (cs : List ChangeOf) → AllByRecursion IsChange cs → IsAscending Below (entries o n cs)
+pub entries_up : (o : Labels) (n : ℕ) (cs : List ChangeOf) → AllByRecursion IsChange cs → IsAscending ChangeBelow (entries o n cs)
 entries_up o n [] h = tt
 entries_up o n (c ∷ cs) h =
-    ascending-append Below (sides o n c.removed c.added) (entries o (suc n) cs) (change_up o n c h.0) (entries_up o (suc n) cs h.1)
-    (all-append (λ x. AllByRecursion (Below x) (entries o (suc n) cs)) (map (entry o n Removed) c.removed) (map (entry o n Added) c.added) (side_before o n Removed c.removed cs) (side_before o n Added c.added cs))
+    ascending-append ChangeBelow (sides o n c.removed c.added) (entries o (suc n) cs) (change_up o n c h.0) (entries_up o (suc n) cs h.1)
+    (all-append (λ x. AllByRecursion (ChangeBelow x) (entries o (suc n) cs)) (map (entry o n Removed) c.removed) (map (entry o n Added) c.added) (side_before o n Removed c.removed cs) (side_before o n Added c.added cs))
 
 -- ---- their numbers go on without a gap
 
@@ -181,7 +180,7 @@ entries_go_on : (o : Labels) (n : ℕ) (cs : List ChangeOf) → AllByRecursion I
 entries_go_on o n [] h = λ s r. tt
 entries_go_on o n (c ∷ cs) h = first_goes_on o n c.removed c.added (entries o (suc (suc n)) cs) h.0.something (entries_go_on o (suc n) cs h.1)
 
-behind_from : (a : ChangedRecord) (bs : List ChangedRecord) → IsAscending Below (a ∷ bs) → InTurn a bs → are_behind a bs ≡ true
+behind_from : (a : ChangedRecord) (bs : List ChangedRecord) → IsAscending ChangeBelow (a ∷ bs) → InTurn a bs → are_behind a bs ≡ true
 behind_from a [] up turn = refl
 behind_from a (b ∷ bs) up turn =
     and_from (follows a b) (are_behind b bs) (and_from (is_lt (changed_order a b)) (follows_in_number a b) (ap is_lt up.0.0) turn.0) (behind_from b bs up.1 turn.1)
@@ -191,7 +190,7 @@ first_number : (b : Bool) (n : ℕ) → 0 < n → cond b (eqb n 0 || eqb n 1) (e
 first_number true n some e = elim (or_cases (eqb n 0) (eqb n 1) e) [ inl none ↦ absurd (let no = eqb-true n 0 none in omega arith) | inr one ↦ one ]
 first_number false n some e = e
 
-numbered_from : (o : Labels) (xs : List ChangedRecord) → AllByRecursion IsChanged xs → IsAscending Below xs → GoOn o 0 xs → are_numbered xs ≡ true
+numbered_from : (o : Labels) (xs : List ChangedRecord) → AllByRecursion IsChanged xs → IsAscending ChangeBelow xs → GoOn o 0 xs → are_numbered xs ≡ true
 numbered_from o [] all up on = refl
 numbered_from o (x ∷ xs) all up on =
     let t = on Removed x.changed in

@@ -1,14 +1,14 @@
 -- The rows of receipts: what is written is read, and what is read was written so.
-use Rattle.std.proofs.Common.{◌≡◌, ℕ, Bool, true, false, List, Result, Ok, Err, refl, sym, ap, ◌∙◌}
+use Rattle.std.proofs.Common.{◌≡◌, ℕ, List, Result, Ok, sym, ap, ◌∙◌}
 use Rattle.dns_names.specs.Spelling.{name_text}
 use Rattle.zone_core.specs.Updates.{UpdateOf, IsUpdate}
 use Rattle.office_core.specs.declared.receipt.Receipt.{Receipt}
 use Rattle.office_core.specs.declared.reply.UpdateReply.{UpdateReply}
-use Rattle.office_tables.specs.Rows.{ReceiptRowOf}
+use Rattle.office_sql.specs.Rows.{ReceiptRowOf}
 use Rattle.office_rows.specs.declared.row_fault.RowFault.{RowFault}
 use Rattle.office_rows.specs.Contents.{ReceiptAt, row_of_receipt, IsReceiptAt}
 use Rattle.item_lines.specs.Reading.{items_of}
-use Rattle.office_rows.specs.ReceiptRows.{receipt_row, IsReceipt, ReceiptRowsAreApart}
+use Rattle.office_rows.specs.ReceiptRows.{receipt_row, ReceiptRowsAreApart}
 use Rattle.office_rows.specs.ReplyWords.{reply_words}
 use Rattle.office_rows.specs.RowFaults.{◌>>=◌, of_updates_in, canonical}
 use Rattle.office_rows.specs.RowReading.{name_in, is_identifier, identifier_in, request_in, reply_in, receipt_in}
@@ -16,7 +16,7 @@ use Rattle.item_lines.specs.Texts.{update_text}
 use Rattle.office_rows.proofs.ColumnLaws.{name_read, name_found}
 use Rattle.item_lines.proofs.PrintLaws.{update_read}
 use Rattle.office_rows.proofs.ReplyLaws.{identifier_read, reply_read, reply_found}
-use Rattle.office_rows.proofs.RowSteps.{ok_is, step_ok, updates_ok, needed_ok, canonical_again, canonical_ok}
+use Rattle.office_rows.proofs.RowSteps.{ok_is, step_ok, needed_ok, canonical_again, canonical_ok}
 
 abbrev Read : Type 0
 Read = List ℕ × (List ℕ × Receipt)

@@ -1,5 +1,5 @@
 -- The rows of records: what is written is read, and what is read was written so.
-use Rattle.std.proofs.Common.{◌≡◌, ◌↔◌, ℕ, Bool, true, false, cond, List, Result, Ok, Err, refl, sym, ap, subst, ◌∙◌, ◌&&◌}
+use Rattle.std.proofs.Common.{◌≡◌, ℕ, Bool, true, cond, List, Result, Ok, Err, sym, ap, ◌∙◌, ◌&&◌}
 use Rattle.std.proofs.lemmas.Bool.{and_parts, and_from}
 use Rattle.std.proofs.lemmas.Bool.Decides.{Decides-int_eq}
 use Rattle.std.proofs.lemmas.Slice.Eq.{bytes_eq-Decides}
@@ -11,11 +11,11 @@ use Rattle.dns_names.specs.Spelling.{name_text}
 use Rattle.dns_data.specs.declared.rdata.Data.{Data}
 use Rattle.dns_data.specs.declared.record.Record.{Record}
 use Rattle.dns_data.specs.declared.record_type.RecordType.{RecordType}
-use Rattle.dns_data.specs.Rdata.{type_of, IsRdata, IsRecord, SameRecord}
+use Rattle.dns_data.specs.Rdata.{type_of, IsRecord, SameRecord}
 use Rattle.dns_data.specs.Text.{data_text}
 use Rattle.dns_data.specs.Types.{type_number}
 use Rattle.dns_data.proofs.ApartLaws.{one_text}
-use Rattle.office_tables.specs.Rows.{RecordRowOf, same_key}
+use Rattle.office_sql.specs.Rows.{RecordRowOf, same_key}
 use Rattle.office_rows.specs.declared.row_fault.RowFault.{RowFault}
 use Rattle.office_rows.specs.declared.row_fault.RowFault.TheVariants.{BadRow}
 use Rattle.office_rows.specs.RecordRows.{record_row, RecordRowsAreApart, KeysAreOfRecords}
@@ -23,6 +23,7 @@ use Rattle.office_rows.specs.RowFaults.{◌>>=◌}
 use Rattle.office_rows.specs.RowReading.{name_in, type_in, record_at, with_key, record_in}
 use Rattle.office_rows.proofs.RowSteps.{done, ok_is, step_ok, needed_ok, same_bytes}
 use Rattle.office_rows.proofs.ColumnLaws.{name_read, name_found, type_read, record_read, record_found}
+use Rattle.office_rows.proofs.NameLemmas.{bytes_is, bytes_same, text_one}
 
 abbrev Labels : Type 0
 Labels = List (List ℕ)
@@ -75,18 +76,9 @@ record_rows_are_apart o p r s is also rec other e = pair_is o p r s (sym (row_re
 
 -- ---- keys
 
--- a name by its text, and a type by its number
-name_one : (a b : Labels) → IsName a → IsName b → name_text a ≡ name_text b → a ≡ b
-name_one a b is also e = ok_is a b (sym (name_read a is) ∙ ap name_in e ∙ name_read b also)
-
+-- a type by its number
 type_one : (t u : RecordType) → pos (type_number t) ≡ pos (type_number u) → t ≡ u
 type_one t u e = ok_is t u (sym (type_read t) ∙ ap type_in e ∙ type_read u)
-
-bytes_is : (a b : List ℕ) → bytes_eq a b ≡ true → a ≡ b
-bytes_is a b e = (bytes_eq-Decides a b).0 e
-
-bytes_same : (a b : List ℕ) → a ≡ b → bytes_eq a b ≡ true
-bytes_same a b e = (bytes_eq-Decides a b).1 e
 
 one_of_keys : (o p : Labels) (r s : Record) → IsName o → IsName p → IsRecord r → IsRecord s → same_key (record_row o r) (record_row p s) ≡ true → (o ≡ p) × SameRecord r s
 one_of_keys o p r s is also rec other e =
@@ -96,8 +88,8 @@ one_of_keys o p r s is also rec other e =
     let second = and_parts (bytes_eq a.owner b.owner) (int_eq a.record_type b.record_type && bytes_eq a.rdata b.rdata) first.1 in
     let third = and_parts (int_eq a.record_type b.record_type) (bytes_eq a.rdata b.rdata) second.1 in
     let types = type_one (type_of r.rdata) (type_of s.rdata) ((Decides-int_eq a.record_type b.record_type).0 third.0) in (
-      name_one o p is also (bytes_is a.origin b.origin first.0),
-      (name_one r.owner s.owner rec.owner other.owner (bytes_is a.owner b.owner second.0), one_text r.rdata s.rdata rec.rdata other.rdata types (bytes_is a.rdata b.rdata third.1)),
+      text_one o p is also (bytes_is a.origin b.origin first.0),
+      (text_one r.owner s.owner rec.owner other.owner (bytes_is a.owner b.owner second.0), one_text r.rdata s.rdata rec.rdata other.rdata types (bytes_is a.rdata b.rdata third.1)),
     )
 
 key_of_one : (o p : Labels) (r s : Record) → (o ≡ p) × SameRecord r s → same_key (record_row o r) (record_row p s) ≡ true

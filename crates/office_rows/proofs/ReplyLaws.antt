@@ -1,15 +1,14 @@
 -- Replies in words: what is written is read, and what is read was written so.
-use Rattle.std.proofs.Common.{◌≡◌, ℕ, zero, suc, ◌+◌, ◌-◌, ◌^◌, ◌<◌, ◌≤◌, Bool, true, false, cond, eqb, leb, not, ◌&&◌, ◌||◌, List, [], ◌∷◌, ◌++◌, length, map, Option, Some, None, Result, Ok, Err, refl, sym, ap, subst, ◌∙◌, arith, eqb-true}
+use Rattle.std.proofs.Common.{◌≡◌, ℕ, zero, suc, ◌-◌, ◌^◌, ◌<◌, ◌≤◌, Bool, true, false, cond, eqb, leb, not, ◌&&◌, ◌||◌, List, [], ◌∷◌, length, map, Option, Some, None, Result, Ok, Err, refl, sym, ap, subst, ◌∙◌, arith, eqb-true}
 use Rattle.std.proofs.lemmas.Bool.{agree_below_at, leb-true, le-leb, lt-ltb, and_parts, and_from}
 use Rattle.std.proofs.lemmas.Str.{IsUtf8-from_ascii}
-use Rattle.std.specs.Prelude.{nat_le, nat_lt, decimal, slice_index, bytes_eq, IfSome, IsUtf8}
+use Rattle.std.specs.Prelude.{nat_le, nat_lt, decimal, slice_index, bytes_eq, IsUtf8}
 use Rattle.std.specs.Char.{is_ascii_alphanumeric}
 use Rattle.std.specs.Int.{is_in_range}
 use Rattle.std.specs.List.{AllByRecursion, list_all}
-use Rattle.std.specs.Option.{option_to_list}
 use Rattle.std.specs.Str.Parse.{digits_value}
 use Rattle.dns_data.specs.declared.item.Item.{Item}
-use Rattle.dns_data.specs.Items.{ItemText, item_of, plain, items_text}
+use Rattle.dns_data.specs.Items.{ItemText, item_of, plain}
 use Rattle.dns_data.specs.Numbers.{is_number}
 use Rattle.dns_data.proofs.NumberLaws.{is_numeral, decimal_is_number}
 use Rattle.dns_master.specs.Pieces.{ends_item}
@@ -21,16 +20,14 @@ use Rattle.zone_core.specs.declared.rcode.Rcode.TheVariants as rcodes
 use Rattle.zone_core.specs.declared.update.ItemList.{ItemList}
 use Rattle.zone_core.specs.declared.update.ItemList.TheVariants as lists
 use Rattle.zone_core.specs.declared.update.Place.{Place}
-use Rattle.zone_core.specs.declared.verdict.Failed.{Failed as Failure}
 use Rattle.zone_core.specs.Rcodes.{rcode_text}
-use Rattle.zone_core.specs.Updates.{place_in}
 use Rattle.office_core.specs.declared.reply.UpdateReply.{UpdateReply}
 use Rattle.office_core.specs.declared.reply.UpdateReply.TheVariants.{NoError, NotAuth, NotZone, Refused, Failed}
 use Rattle.office_rows.specs.declared.row_fault.RowFault.{RowFault}
 use Rattle.office_rows.specs.declared.row_fault.RowFault.TheVariants.{BadRow}
 use Rattle.office_rows.specs.ReplyWords.{list_word, place_words, failed_word, words_of, reply_words, IsReply}
 use Rattle.office_rows.specs.RowFaults.{◌>>=◌, canonical}
-use Rattle.office_rows.specs.RowReading.{or_bad, fields_of, is_identifier, identifier_in, code_named, list_named, number_named, reply_alone, reply_with, reply_at, denied_by, reply_of, reply_in}
+use Rattle.office_rows.specs.RowReading.{or_bad, fields_of, identifier_in, code_named, list_named, number_named, reply_with, reply_at, denied_by, reply_of, reply_in}
 use Rattle.office_rows.proofs.RowSteps.{done, step_ok, canonical_again, canonical_ok}
 use Rattle.office_rows.proofs.FieldsLaws.{fields_read}
 

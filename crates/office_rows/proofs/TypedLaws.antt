@@ -1,5 +1,5 @@
 -- Data that are read of a type are of this type.
-use Rattle.std.proofs.Common.{◌≡◌, ℕ, eqb, List, [], length, None, Result, Ok, Err, refl, sym, ap, ◌∙◌}
+use Rattle.std.proofs.Common.{◌≡◌, eqb, List, [], length, None, Result, Ok, Err, refl, sym, ap, ◌∙◌}
 use Rattle.dns_data.specs.declared.fault.DataFault.{DataFault}
 use Rattle.dns_data.specs.declared.fault.DataFault.TheVariants.{FieldExtra}
 use Rattle.dns_data.specs.declared.rdata.Data.{Data}

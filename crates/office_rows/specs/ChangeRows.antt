@@ -15,7 +15,7 @@ use Rattle.dns_data.specs.Text.{data_text}
 use Rattle.zone_core.specs.Sets.{InOrder}
 use Rattle.office_core.specs.States.{ChangeOf}
 use Rattle.office_core.specs.Machine.{is_nothing}
-use Rattle.office_tables.specs.Rows.{ChangeRowOf}
+use Rattle.office_sql.specs.Rows.{ChangeRowOf}
 use Rattle.office_rows.specs.declared.changes.ChangedRecord.{ChangedRecord}
 use Rattle.office_rows.specs.declared.side.Side.{Side}
 use Rattle.office_rows.specs.declared.side.Side.TheVariants.{Removed, Added}

@@ -1,5 +1,5 @@
 -- What rows mean: zones with their changes, and receipts; and the state that these are.
-use Rattle.std.specs.Prelude.{◌≡◌, ◌≢◌, ℕ, ℤ, ◌<◌, List, [], ◌∷◌, map, ◌&&◌, Option, option_map, bytes_eq}
+use Rattle.std.specs.Prelude.{◌≡◌, ◌≢◌, ℕ, ℤ, List, [], ◌∷◌, map, ◌&&◌, Option, option_map, bytes_eq}
 use Rattle.std.specs.List.{AllByRecursion, AllPairs, find, flat_map}
 use Rattle.dns_names.specs.Labels.{IsName}
 use Rattle.dns_names.specs.Order.{same_name}
@@ -10,8 +10,8 @@ use Rattle.zone_core.specs.Sets.{set_of}
 use Rattle.zone_core.specs.Views.{AreOfZone}
 use Rattle.office_core.specs.declared.receipt.Receipt.{Receipt}
 use Rattle.office_core.specs.States.{ChangeOf, Held, State}
-use Rattle.office_tables.specs.Rows.{RecordRowOf, ReceiptRowOf, ChangeRowOf, RowsOf}
-use Rattle.office_tables.specs.Holds.{SameRows}
+use Rattle.office_sql.specs.Rows.{RecordRowOf, ReceiptRowOf, ChangeRowOf, RowsOf}
+use Rattle.office_sql.specs.Holds.{SameRows}
 use Rattle.office_rows.specs.RecordRows.{record_row}
 use Rattle.office_rows.specs.ReceiptRows.{receipt_row, IsReceipt}
 use Rattle.office_rows.specs.ChangeRows.{changes_rows, IsChange}

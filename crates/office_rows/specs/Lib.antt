@@ -6,3 +6,8 @@ pub mod ChangeRows
 pub mod Contents
 pub mod RowReading
 pub mod StoreFaults
+pub mod Orders
+pub mod PartRows
+pub mod States
+pub mod Checks
+pub mod Writings

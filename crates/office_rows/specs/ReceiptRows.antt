@@ -2,10 +2,9 @@
 use Rattle.std.specs.Prelude.{◌≡◌, ℕ, List}
 use Rattle.dns_names.specs.Labels.{IsName}
 use Rattle.dns_names.specs.Spelling.{name_text}
-use Rattle.grant_policy.specs.Identifiers.{IsIdentifier}
 use Rattle.zone_core.specs.Updates.{IsUpdate}
 use Rattle.office_core.specs.declared.receipt.Receipt.{Receipt}
-use Rattle.office_tables.specs.Rows.{ReceiptRowOf}
+use Rattle.office_sql.specs.Rows.{ReceiptRowOf}
 use Rattle.item_lines.specs.Texts.{update_text}
 use Rattle.office_rows.specs.ReplyWords.{reply_words, IsReply}
 

@@ -7,7 +7,7 @@ use Rattle.dns_data.specs.declared.record.Record.{Record}
 use Rattle.dns_data.specs.Rdata.{type_of, IsRecord, SameRecord}
 use Rattle.dns_data.specs.Types.{type_number}
 use Rattle.dns_data.specs.Text.{data_text}
-use Rattle.office_tables.specs.Rows.{RecordRowOf, same_key}
+use Rattle.office_sql.specs.Rows.{RecordRowOf, same_key}
 
 -- a record of the zone of an origin: names and data in canonical text, the type by its number, and the key of the owner
 abbrev pub record_row : List (List ℕ) → Record → RecordRowOf

@@ -1,5 +1,5 @@
 -- A reply to an update as a line of words.
-use Rattle.std.specs.Prelude.{◌≡◌, ℕ, ◌^◌, ◌<◌, List, [], ◌∷◌, ◌++◌, map, Option, Some, None, IfSome, decimal, codes}
+use Rattle.std.specs.Prelude.{ℕ, ◌^◌, ◌<◌, List, [], ◌∷◌, ◌++◌, map, IfSome, decimal, codes}
 use Rattle.std.specs.Option.{option_to_list}
 use Rattle.dns_data.specs.Items.{plain, items_text}
 use Rattle.grant_policy.specs.Identifiers.{IsIdentifier}

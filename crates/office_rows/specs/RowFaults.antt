@@ -10,6 +10,8 @@ use Rattle.grant_policy.specs.declared.identifier.IdentifierFault.{IdentifierFau
 use Rattle.grant_policy.specs.declared.identifier.IdentifierFault.TheVariants as identifiers
 use Rattle.item_lines.specs.declared.fault.ItemsFault.{ItemsFault}
 use Rattle.item_lines.specs.declared.fault.ItemsFault.TheVariants as items
+use Rattle.zone_core.specs.declared.fault.ZoneFault.{ZoneFault}
+use Rattle.zone_core.specs.declared.fault.ZoneFault.TheVariants as zones
 use Rattle.office_rows.specs.declared.row_fault.RowFault.{RowFault}
 use Rattle.office_rows.specs.declared.row_fault.RowFault.TheVariants.{BadRow, NoMemory}
 
@@ -56,6 +58,11 @@ abbrev pub of_identifier : IdentifierFault → RowFault
 of_identifier identifiers.NoMemory = NoMemory
 of_identifier identifiers.Malformed = BadRow
 
+-- records that make no zone
+abbrev pub of_zone : ZoneFault → RowFault
+of_zone zones.NoMemory = NoMemory
+of_zone fault = BadRow
+
 -- what a definition of names gives
 abbrev pub of_names : {A : Type 0} → Result A NameFault → Result A RowFault
 of_names (Ok x) = Ok x
@@ -75,6 +82,11 @@ of_masters (Err fault) = Err (of_master fault)
 abbrev pub of_updates_in : {A : Type 0} → Result A ItemsFault → Result A RowFault
 of_updates_in (Ok x) = Ok x
 of_updates_in (Err fault) = Err (of_items fault)
+
+-- what a definition of zones gives
+abbrev pub of_zones : {A : Type 0} → Result A ZoneFault → Result A RowFault
+of_zones (Ok zone) = Ok zone
+of_zones (Err fault) = Err (of_zone fault)
 
 -- ---- texts that are the one spelling of what they say
 

@@ -15,7 +15,7 @@ use crate::side::Side;
 use dns_data::{Record, data_text};
 use dns_names::Name;
 use office_core::Change;
-use office_tables::ChangeRow;
+use office_sql::ChangeRow;
 use std::alloc::{AllocError, Global};
 
 /// A record on a side of a change of a zone, as a row has it.
@@ -95,7 +95,7 @@ pub fn change_rows(
 /// Reads a row of `changes`. A row that is that of no record on a side of a change is `BadRow`: a text is in another spelling than the
 /// canonical one, a number is no type's, the number of the change is below 1, the side is neither 0 nor 1, a TTL has more than 31
 /// bits or is below 0, or data are of another type.
-pub fn read_change(alloc: Global, row: &ChangeRow) -> Result<ChangedRecord, RowFault>
+pub(crate) fn read_change(alloc: Global, row: &ChangeRow) -> Result<ChangedRecord, RowFault>
     // The row is that of what is read.
     ensures found { IfOk result (λ c. (row.now ≡ row_of c) × IsChanged c) }
     // The row of such a record is read as it, unless memory runs out.

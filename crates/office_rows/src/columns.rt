@@ -120,7 +120,7 @@ pub(crate) fn identifier_in(alloc: Global, text: &[u8]) -> Result<Identifier, Ro
 }
 
 /// The octets of an identifier, as text.
-pub(crate) fn identifier_text(id: &Identifier) -> &str
+pub fn identifier_text(id: &Identifier) -> &str
     ensures { result.now ≡ id.now }
 {
     let Ok(text) = str::from_utf8(id.as_bytes()) else {

@@ -16,7 +16,7 @@ use crate::side::Side;
 use dns_data::{Record, record_order};
 use dns_names::Name;
 use office_core::Change;
-use office_tables::ChangeRow;
+use office_sql::ChangeRow;
 use std::alloc::{AllocError, Global};
 use std::cmp::Ordering;
 

@@ -1,8 +1,10 @@
-//! What the definitions promise.
+//! What the definitions promise. The functions do nothing: their contracts are the laws.
 
 ghost use Rattle.office_rows.specs.ChangeRows.{ChangeRowsAreApart};
 ghost use Rattle.office_rows.specs.ReceiptRows.{ReceiptRowsAreApart};
 ghost use Rattle.office_rows.specs.RecordRows.{RecordRowsAreApart, KeysAreOfRecords};
+ghost use Rattle.office_rows.specs.States.{ZonesAreListed, ZonesStandAtOrigins, LastNumbersCount, StatesAreSound, OrderDoesNotCount};
+ghost use Rattle.office_rows.specs.Writings.{NewTablesHoldNothing};
 
 /// A row of `records` is of one origin and one record; and two rows have one key, which is origin, owner, type and data, exactly
 /// where they are of one origin and of the same record (RFC 2136 section 1.1.1).
@@ -19,4 +21,34 @@ pub fn receipt_rows_are_apart()
 /// A row of `changes` is of one origin, one number, one side and one record.
 pub fn change_rows_are_apart()
     ensures { ChangeRowsAreApart }
+{}
+
+/// A zone is held of an origin exactly where its row is there.
+pub fn zones_are_listed()
+    ensures { ZonesAreListed }
+{}
+
+/// No zone is held of an origin exactly where no record stands at it.
+pub fn zones_stand_at_origins()
+    ensures { ZonesStandAtOrigins }
+{}
+
+/// The last number of a zone's changes is how many they are.
+pub fn last_numbers_count()
+    ensures { LastNumbersCount }
+{}
+
+/// What is held is zones, and receipts of updates.
+pub fn states_are_sound()
+    ensures { StatesAreSound }
+{}
+
+/// The same rows in another order are the same state.
+pub fn order_does_not_count()
+    ensures { OrderDoesNotCount }
+{}
+
+/// Tables that were just made have the rows of the state without zones and receipts.
+pub fn new_tables_hold_nothing()
+    ensures { NewTablesHoldNothing }
 {}

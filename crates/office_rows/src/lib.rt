@@ -1,25 +1,38 @@
-//! What rows say: the words of replies, and the rows of records, receipts and changes, which are written and read; and the state
-//! that rows mean.
+//! Rows and states, both ways: what the rows of the tables say of the office's state, and which rows are written for a state that
+//! follows.
 #![tactic(auto)]
 
+mod ascending;
 mod changes;
 mod columns;
 mod gathering;
 mod laws;
+pub mod ordered;
+pub mod reads;
 mod receipts;
 mod records;
 mod replies;
 mod row_fault;
 mod side;
+pub mod state;
 mod store_fault;
+mod writings;
+pub mod zones;
 
-pub use changes::{ChangedRecord, change_row, change_rows, read_change};
-pub use columns::read_origin;
+pub use changes::{ChangedRecord, change_row, change_rows};
+pub use columns::{identifier_text, read_origin};
 pub use gathering::{are_numbered, read_changes, sorted_changes};
-pub use laws::{change_rows_are_apart, receipt_rows_are_apart, record_rows_are_apart};
+pub use laws::{
+    change_rows_are_apart, last_numbers_count, new_tables_hold_nothing, order_does_not_count,
+    receipt_rows_are_apart, record_rows_are_apart, states_are_sound, zones_are_listed,
+    zones_stand_at_origins,
+};
+pub use reads::{changes_of, part_of, receipt_of, records_within, zone_of};
 pub use receipts::{read_receipt, receipt_row};
 pub use records::{read_record, record_row};
 pub use replies::{read_reply, reply_words};
 pub use row_fault::RowFault;
 pub use side::Side;
+pub use state::is_state;
 pub use store_fault::StoreFault;
+pub use writings::{addition_writing, receipt_writing, replacement_writing, zone_writing};

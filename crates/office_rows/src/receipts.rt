@@ -13,7 +13,7 @@ use crate::row_fault::RowFault;
 use grant_policy::Identifier;
 use item_lines::{items_text, read_items};
 use office_core::Receipt;
-use office_tables::ReceiptRow;
+use office_sql::ReceiptRow;
 use std::alloc::{AllocError, Global};
 use zone_core::Update;
 

@@ -12,7 +12,7 @@ use crate::columns::{name_in, record_at};
 use crate::row_fault::RowFault;
 use dns_data::{Record, data_text};
 use dns_names::Name;
-use office_tables::RecordRow;
+use office_sql::RecordRow;
 use std::alloc::{AllocError, Global};
 
 /// The row of a record of the zone of an origin: names and data in canonical text, the type by its number, and the key of the

@@ -5,7 +5,7 @@ ghost use Rattle.office_rows.specs.StoreFaults.{store_fault_number, of_rows, of_
 ghost use Rattle.office_rows.specs.declared.store_fault.StoreFault.TheVariants.{NoMemory};
 
 use crate::row_fault::RowFault;
-use office_tables::RowsFault;
+use office_sql::RowsFault;
 use sqlite::{Error as StoreError, ErrorCode};
 use std::alloc::{AllocError, AllocFailed};
 use thiserror::Error;

@@ -4,8 +4,8 @@ use Rattle.std.specs.Prelude.{MatchOption}
 use Rattle.office_core.specs.States.{State}
 use Rattle.office_core.specs.Tables.{FitsChange, change_in}
 use Rattle.office_core.specs.declared.receipt.Change.{Change}
-use Rattle.office_tables.specs.Rows.{ReceiptRowOf, WritingOf}
-use Rattle.office_writes.specs.Writings.{IsNext, change_writing, receipts_writing}
+use Rattle.office_sql.specs.Rows.{ReceiptRowOf, WritingOf}
+use Rattle.office_rows.specs.Writings.{IsNext, change_writing, receipts_writing}
 use Rattle.office_store.specs.Additions.{Writes}
 
 -- without a change

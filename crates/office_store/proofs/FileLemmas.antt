@@ -7,8 +7,8 @@ use Rattle.sqlite.specs.Files.{HoldsDatabase}
 use Rattle.sqlite.specs.Start.{FindsIn}
 use Rattle.sqlite.specs.State.{State as Shown, IsLive, Opens}
 use Rattle.office_core.specs.States.{State}
-use Rattle.office_tables.specs.Holds.{AreRows}
-use Rattle.office_store.specs.Asks.{Only}
+use Rattle.office_sql.specs.Holds.{AreRows}
+use Rattle.office_store.specs.Queries.{Only}
 use Rattle.office_store.specs.Files.{HoldStateIn}
 use Rattle.office_store.specs.Holds.{HoldsState, IsStateIn}
 

@@ -1,9 +1,15 @@
-pub mod AskLemmas
+pub mod QueryLemmas
 pub mod FaultLemmas
 pub mod RowLemmas
 pub mod TurnLemmas
 pub mod VersionLemmas
 pub mod ZoneLemmas
 pub mod AdditionLemmas
-pub mod MigratingLemmas
+pub mod GoneRowLemmas
+pub mod MigratedZoneLemmas
+pub mod MigratedContentLemmas
+pub mod NextNumberLemmas
+pub mod MigrationWalkLemmas
+pub mod OldZoneRowLemmas
+pub mod MigrationLemmas
 pub mod FileLemmas

@@ -3,10 +3,10 @@ use Rattle.std.proofs.Common.{inl, inr, Result, Ok, Err, OnOk, OnErr}
 use Rattle.std.specs.Result.{IsErr}
 use Rattle.sqlite.specs.State.{State as Shown, HasCleanDisk}
 use Rattle.office_core.specs.States.{State}
-use Rattle.office_tables.specs.Rows.{WritingOf}
-use Rattle.office_writes.specs.Writings.{Leads}
+use Rattle.office_sql.specs.Rows.{WritingOf}
+use Rattle.office_rows.specs.Writings.{Leads}
 use Rattle.office_store.specs.Holds.{HoldsState, LeavesStates}
-use Rattle.office_store.specs.Asks.{Asked}
+use Rattle.office_store.specs.Queries.{Asked}
 use Rattle.office_store.specs.Turns.{Turns}
 
 -- what a crash leaves for sure it leaves also among two

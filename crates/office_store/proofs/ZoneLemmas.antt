@@ -1,5 +1,5 @@
 -- Zones that come, and zones in the place of others.
-use Rattle.std.proofs.Common.{◌≡◌, ℕ, Bool, true, false, cond, List, [], ◌∷◌, ◌++◌, Option, Some, None, option_map, Result, Ok, Err, IfErr, refl, sym, ap, ◌∙◌, arith}
+use Rattle.std.proofs.Common.{◌≡◌, ℕ, true, false, cond, List, [], ◌∷◌, ◌++◌, Option, Some, None, option_map, Result, Ok, Err, IfErr, refl, sym, ap, ◌∙◌, arith}
 use Rattle.std.proofs.lemmas.Bool.Decides.{nat_tests}
 use Rattle.dns_names.proofs.NameLemmas.{is_within-Decides}
 use Rattle.dns_data.specs.declared.record.Record.{Record}
@@ -9,7 +9,7 @@ use Rattle.zone_core.specs.Zones.{ZoneOf, IsZone, built, serial_of}
 use Rattle.zone_core.proofs.SetLemmas.{by_cases, same_sets, found_in_part}
 use Rattle.zone_core.proofs.ChangedLemmas.{same_sets_are_one}
 use Rattle.office_core.specs.States.{Held, State, zone_held}
-use Rattle.office_reads.proofs.ZoneLemmas.{built_at}
+use Rattle.office_rows.proofs.ZoneReadLemmas.{built_at}
 use Rattle.office_rows.specs.declared.store_fault.StoreFault.{StoreFault}
 use Rattle.office_rows.specs.declared.store_fault.StoreFault.TheVariants.{SerialNotGreater}
 use Rattle.office_rows.specs.StoreFaults.{IsFailure, Gives, of_zones, ◌>>=◌}

@@ -1,8 +1,8 @@
 -- What is written for an addition.
 use Rattle.std.specs.Prelude.{◌≡◌, ℕ, suc, List, length, Option, Some, None}
 use Rattle.office_core.specs.States.{ChangeOf, Held, State}
-use Rattle.office_tables.specs.Rows.{ReceiptRowOf, WritingOf}
-use Rattle.office_writes.specs.Writings.{change_writing, receipts_writing}
+use Rattle.office_sql.specs.Rows.{ReceiptRowOf, WritingOf}
+use Rattle.office_rows.specs.Writings.{change_writing, receipts_writing}
 
 -- Receipts are written, and beside them a change of the zone of an origin, where there is one, under the next number of the zone; and no
 -- other row goes or comes.

@@ -5,7 +5,7 @@ use Rattle.sqlite.specs.Recovery.{Image}
 use Rattle.sqlite.specs.Effect.{Database, IsDatabase}
 use Rattle.sqlite.specs.Files.{HoldsDatabase}
 use Rattle.office_core.specs.States.{State}
-use Rattle.office_tables.specs.Tables.{office_schema}
+use Rattle.office_sql.specs.Tables.{office_schema}
 use Rattle.office_store.specs.Holds.{IsStateIn}
 
 -- trees that list the tables of the office, and no others

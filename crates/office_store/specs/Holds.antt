@@ -3,10 +3,10 @@ use Rattle.std.specs.Prelude.{◌≡◌, ◌⊎◌, ℤ, [], ◌∷◌, pos, map
 use Rattle.sqlite_trees.specs.Tree.{Trees}
 use Rattle.sqlite.specs.State.{State as Shown}
 use Rattle.office_core.specs.States.{State}
-use Rattle.office_tables.specs.Rows.{RowsOf}
-use Rattle.office_tables.specs.Tables.{no_schema, office_schema, stored_version}
-use Rattle.office_tables.specs.Stores.{Stores}
-use Rattle.office_tables.specs.Holds.{AreRows, Holds, Leaves}
+use Rattle.office_sql.specs.Rows.{RowsOf}
+use Rattle.office_sql.specs.Tables.{no_schema, office_schema, stored_version}
+use Rattle.office_sql.specs.Stores.{Stores}
+use Rattle.office_sql.specs.Holds.{AreRows, Holds, Leaves}
 use Rattle.office_rows.specs.Contents.{AreOfState}
 
 -- The connection shows rows that are this state, as far as it is open.

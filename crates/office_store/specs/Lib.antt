@@ -1,8 +1,11 @@
 pub mod Holds
-pub mod Kept
-pub mod Asks
+pub mod Cache
+pub mod Queries
 pub mod Turns
 pub mod Additions
 pub mod Zones
-pub mod Migrating
+pub mod OldZones
+pub mod MigratedContents
+pub mod MigrationSteps
+pub mod Migration
 pub mod Files

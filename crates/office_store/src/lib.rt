@@ -1,18 +1,23 @@
-//! The office's table in SQLite: a connection holds a state of the machine, each call asks for a part of it or makes an addition to
-//! it, and a crash at any moment leaves the state before the call or the one after it.
+//! The machine's table in SQLite: zones are imported, replaced and exported, and a store is opened and migrated; a connection holds a
+//! state, each call asks for a part of it or turns it into the next one, and a crash at any moment leaves the state before the call
+//! or the one after it.
 #![tactic(auto)]
 
-mod asking;
+mod cache;
 mod file;
-mod kept;
-mod migrating;
+mod migration;
+mod migration_change;
+mod migration_rows;
+mod migration_steps;
 mod opening;
+mod queries;
+mod reads;
 mod table;
-mod views;
 mod writing;
 mod zones;
 
 pub use file::Unopened;
+pub use migration_rows::{Migration, migration_of};
 pub use office_rows::StoreFault;
 pub use opening::Refused;
 pub use table::SqlTable;

@@ -1,23 +1,22 @@
 //! The making of the tables, and the test whether those that are there hold a state.
 
-ghost use Rattle.std.specs.Prelude.{◌≡◌, ◌≢◌, ◌⊎◌, ◌↔◌, [], ◌∷◌, true, false, Err, IfErr, OnOk, OnErr};
+ghost use Rattle.std.specs.Prelude.{◌≡◌, ◌≢◌, ◌⊎◌, ◌↔◌, [], ◌∷◌, false, Err, IfErr, OnOk, OnErr};
 ghost use Rattle.std.specs.List.Sorted.{IsPermutation};
 ghost use Rattle.sqlite.specs.Held.{state};
 ghost use Rattle.sqlite.specs.State.{HasCleanDisk};
 ghost use Rattle.office_core.specs.States.{State};
-ghost use Rattle.office_tables.specs.Holds.{Holds, Leaves};
-ghost use Rattle.office_tables.specs.Rows.{RowsOf};
-ghost use Rattle.office_tables.specs.Tables.{no_schema, office_schema};
-ghost use Rattle.office_writes.specs.Writings.{nothing_held};
+ghost use Rattle.office_sql.specs.Holds.{Holds, Leaves};
+ghost use Rattle.office_sql.specs.Rows.{RowsOf};
+ghost use Rattle.office_sql.specs.Tables.{no_schema, office_schema};
+ghost use Rattle.office_rows.specs.Writings.{nothing_held};
 ghost use Rattle.office_rows.specs.declared.store_fault.StoreFault.TheVariants.{BadRow, WrongVersion};
 ghost use Rattle.office_rows.specs.StoreFaults.{IsFailure, IsOfRows, of_found};
 ghost use Rattle.office_store.specs.Holds.{HoldsState, HasNone, HasVersion, IsOfVersion, IsStateIn, LeavesStates};
-ghost use Rattle.office_store.specs.Asks.{Asked, Only};
+ghost use Rattle.office_store.specs.Queries.{Asked, Only};
 
-use office_reads::is_state;
-use office_reads::state::is_alone;
-use office_rows::StoreFault;
-use office_tables::{RowsFault, all_rows, has_no_tables, has_tables, make_tables, versions};
+use office_rows::state::is_alone;
+use office_rows::{StoreFault, is_state};
+use office_sql::{RowsFault, all_rows, has_no_tables, has_tables, make_tables, versions};
 use sqlite::{Alter, Connection};
 use std::alloc::Global;
 use std::sync::ledger::Blank;

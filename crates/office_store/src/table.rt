@@ -6,24 +6,24 @@ ghost use Rattle.sqlite.specs.Held.{state};
 ghost use Rattle.sqlite.specs.State.{HasCleanDisk};
 ghost use Rattle.office_core.specs.States.{State};
 ghost use Rattle.office_core.specs.Tables.{CountsFault};
-ghost use Rattle.office_tables.specs.Rows.{RowsOf};
-ghost use Rattle.office_tables.specs.Holds.{AreRows, Holds, Leaves};
-ghost use Rattle.office_tables.specs.Tables.{no_schema, office_schema};
+ghost use Rattle.office_sql.specs.Rows.{RowsOf};
+ghost use Rattle.office_sql.specs.Holds.{AreRows, Holds, Leaves};
+ghost use Rattle.office_sql.specs.Tables.{no_schema, office_schema};
 ghost use Rattle.office_rows.specs.Contents.{ContentOf};
-ghost use Rattle.office_writes.specs.Writings.{nothing_held};
+ghost use Rattle.office_rows.specs.Writings.{nothing_held};
 ghost use Rattle.office_rows.specs.declared.store_fault.StoreFault.TheVariants.{BadRow, WrongVersion};
 ghost use Rattle.office_rows.specs.StoreFaults.{CountsFailure, CountsCall, Gives, IsFailure, IsOfRows};
 ghost use Rattle.office_store.specs.Holds.{HoldsState, HasNone, HasVersion, IsOfVersion, IsStateIn, LeavesStates};
-ghost use Rattle.office_store.specs.Kept.{IsHeldZone};
-ghost use Rattle.office_store.specs.Migrating.{HoldsOld, IsMigratedIn, IsMigrated};
-ghost use Rattle.office_store.specs.Asks.{Asked, Only};
+ghost use Rattle.office_store.specs.Cache.{IsHeldZone};
+ghost use Rattle.office_store.specs.Migration.{HoldsOld, IsMigratedIn, IsMigrated};
+ghost use Rattle.office_store.specs.Queries.{Asked, Only};
 ghost use Rattle.office_store.specs.Turns.{Turns};
 ghost use Rattle.office_store.specs.Zones.{exported, imported, replaced, with_imported, with_replaced};
 
-use crate::kept::zone_kept;
-use crate::migrating::migrate;
+use crate::cache::zone_kept;
+use crate::migration::migrate;
 use crate::opening::{Refused, check_state, make};
-use crate::views::{changes_at, part_at, receipt_at, subtree_at};
+use crate::reads::{changes_at, part_at, receipt_at, subtree_at};
 use crate::writing::commit;
 use crate::zones::{export, import, replace};
 use dns_data::Record;
@@ -265,7 +265,7 @@ impl<S: Alter + Drop, L: Ledger> SqlTable<S, L> {
 
 impl<S: Alter + Drop, L: Ledger> ZoneTable for SqlTable<S, L> {
     ghost use Rattle.std.proofs.Common.{inl, inr, pos};
-    ghost use Rattle.office_reads.proofs.StateLaws.{states_are_sound};
+    ghost use Rattle.office_rows.proofs.StateLaws.{states_are_sound};
 
     ghost holds = { λ t s. HoldsState (state S.Store t.conn) s };
 

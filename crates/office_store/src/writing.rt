@@ -5,20 +5,19 @@ ghost use Rattle.sqlite.specs.Held.{state};
 ghost use Rattle.sqlite.specs.State.{HasCleanDisk};
 ghost use Rattle.office_core.specs.States.{State};
 ghost use Rattle.office_core.specs.Tables.{Fits, addition_in, change_in, committed};
-ghost use Rattle.office_reads.specs.States.{last_of};
-ghost use Rattle.office_writes.specs.Writings.{Leads, IsNext, receipt_rows};
+ghost use Rattle.office_rows.specs.States.{last_of};
+ghost use Rattle.office_rows.specs.Writings.{Leads, IsNext, receipt_rows};
 ghost use Rattle.office_store.specs.Additions.{Writes};
 ghost use Rattle.office_rows.specs.StoreFaults.{IsFailure};
 ghost use Rattle.office_store.specs.Holds.{HoldsState, LeavesStates};
-ghost use Rattle.office_store.specs.Asks.{Asked};
+ghost use Rattle.office_store.specs.Queries.{Asked};
 ghost use Rattle.office_store.specs.Turns.{Turns};
 
-use crate::asking::check_alone;
+use crate::queries::check_alone;
 use dns_names::Name;
 use office_core::Addition;
-use office_rows::StoreFault;
-use office_tables::{Writing, last_number, write};
-use office_writes::{addition_writing, receipt_writing};
+use office_rows::{StoreFault, addition_writing, receipt_writing};
+use office_sql::{Writing, last_number, write};
 use sqlite::{Alter, Connection, Error as StoreError, ErrorCode};
 use std::alloc::Global;
 

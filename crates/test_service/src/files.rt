@@ -1,6 +1,6 @@
 //! Stores in files of memory.
 
-use office_files::connect;
+use office_sql::connect;
 use sqlite::{Connection, FileStore, Files, Options};
 use sqlite_disk::{Disk, Memory};
 use std::alloc::Global;

@@ -2,9 +2,10 @@
 //! section 3.2.2.
 
 use dns_data::Record;
-use office_reads::{changes_of, is_state, part_of, receipt_of, records_within, zone_of};
-use office_rows::{RowFault, read_origin};
-use office_tables::{AllRows, ChangeRow, ReceiptRow, RecordRow, ZoneRow};
+use office_rows::{
+    RowFault, changes_of, is_state, part_of, read_origin, receipt_of, records_within, zone_of,
+};
+use office_sql::{AllRows, ChangeRow, ReceiptRow, RecordRow, ZoneRow};
 use std::alloc::{AllocError, Global};
 use std::process::Abort;
 use std::test::Fail;

@@ -8,9 +8,11 @@ use dns_names::Name;
 use grant_policy::Identifier;
 use item_lines::{ItemsFault, read_items};
 use office_core::{Addition, Change, Receipt, UpdateReply};
-use office_rows::{RowFault, read_origin};
-use office_tables::{ChangeRow, ReceiptRow, RecordRow, Writing};
-use office_writes::{addition_writing, new_tables_hold_nothing, replacement_writing, zone_writing};
+use office_rows::{
+    RowFault, addition_writing, new_tables_hold_nothing, read_origin, replacement_writing,
+    zone_writing,
+};
+use office_sql::{ChangeRow, ReceiptRow, RecordRow, Writing};
 use std::alloc::{AllocError, Global};
 use std::process::Abort;
 use std::test::Fail;

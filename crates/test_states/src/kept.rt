@@ -4,8 +4,8 @@ use crate::lines::{no_rows, push_row};
 use crate::reads::push_read;
 use crate::writings::{push_addition, push_new_zone, push_replacement};
 use anyhow::{Result, bail};
-use office_reads::is_state;
-use office_tables::AllRows;
+use office_rows::is_state;
+use office_sql::AllRows;
 use std::alloc::{AllocError, Global};
 use test_rows::{Answers, Row};
 

@@ -1,7 +1,7 @@
 //! Rows of tables as lines.
 
 use anyhow::{Result, bail};
-use office_tables::{AllRows, ChangeRow, ReceiptRow, RecordRow, Writing, ZoneRow};
+use office_sql::{AllRows, ChangeRow, ReceiptRow, RecordRow, Writing, ZoneRow};
 use std::alloc::{AllocError, Global};
 
 /// The first word of a text, and what stands behind it.

@@ -10,9 +10,10 @@ use dns_names::Name;
 use grant_policy::Identifier;
 use item_lines::read_items;
 use office_core::{Addition, Change, Receipt};
-use office_rows::read_reply;
-use office_tables::Writing;
-use office_writes::{addition_writing, new_tables_hold_nothing, replacement_writing, zone_writing};
+use office_rows::{
+    addition_writing, new_tables_hold_nothing, read_reply, replacement_writing, zone_writing,
+};
+use office_sql::Writing;
 use std::alloc::{AllocError, Global};
 use test_rows::Row;
 use zone_core::{Operation, Update, Zone};

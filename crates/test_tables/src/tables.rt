@@ -12,7 +12,7 @@ use crate::replies::push_reply;
 use crate::rows;
 use crate::writing::writing_of;
 use office_rows::RowFault;
-use office_tables::{RowsFault, has_no_tables, has_tables, make_tables, write};
+use office_sql::{RowsFault, has_no_tables, has_tables, make_tables, write};
 use sqlite::{Connection, MemStore};
 use std::alloc::{AllocError, Global};
 use test_rows::{Answers, Row};

@@ -2,7 +2,7 @@
 
 use crate::columns::{change_of, receipt_of, record_of};
 use crate::refusal::Refusal;
-use office_tables::Writing;
+use office_sql::Writing;
 use std::alloc::Global;
 
 /// The writing of lines, each a word and the row of its kind.

@@ -1,7 +1,6 @@
-use Rattle.std.proofs.Common.{◌≡◌, Bool, true, false, not, List, map, Ok, IsPermutation, ◌&&◌, sym, ap, subst, ◌∙◌}
+use Rattle.std.proofs.Common.{◌≡◌, true, false, map, Ok, IsPermutation, ◌&&◌, sym, ap, subst, ◌∙◌}
 use Rattle.std.proofs.lemmas.Result.{err_from_is_err_and}
 use Rattle.std.specs.List.{AllByRecursion}
-use Rattle.office_tables.specs.Rows.{ChangeRowOf}
 use Rattle.office_rows.specs.ChangeRows.{IsChangeRow, row_of, are_of_one, are_numbered}
 use Rattle.office_rows.proofs.GatheringLaws.{each_row, sorted_pass, sorted_gathered}
 use Rattle.office_rows.proofs.GatheredLaws.{AreGathered, are_gathered}

@@ -1,8 +1,8 @@
-use Rattle.std.proofs.Common.{◌≡◌, rules, List, map, IsPermutation, subst}
+use Rattle.std.proofs.Common.{rules, List, map, IsPermutation, subst}
 use Rattle.std.proofs.lemmas.List.Elements.{All-from_recursion, recursion_from_All}
 use Rattle.std.proofs.lemmas.List.Sorted.{ranks_by, answers_always, IsPermutation-map, IsPermutation-sym, All-permutation}
 use Rattle.std.specs.Ordering.{is_lt}
-use Rattle.office_tables.specs.Rows.{ChangeRowOf}
+use Rattle.office_sql.specs.Rows.{ChangeRowOf}
 use Rattle.office_rows.specs.ChangeRows.{row_of, IsChanged, changed_order, changed_order_total}
 use Rattle.office_rows.proofs.gathering.sorted_changes.Goals as goal
 

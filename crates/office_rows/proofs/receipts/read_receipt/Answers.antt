@@ -1,5 +1,5 @@
 use Rattle.std.proofs.Common.{◌≡◌, ap, ◌∙◌}
-use Rattle.office_rows.specs.Contents.{ReceiptAt, IsReceiptAt}
+use Rattle.office_rows.specs.Contents.{IsReceiptAt}
 use Rattle.office_rows.specs.ReceiptRows.{receipt_row}
 use Rattle.office_rows.specs.RowReading.{receipt_in}
 use Rattle.office_rows.proofs.ReceiptRowLaws.{receipt_read, receipt_found}

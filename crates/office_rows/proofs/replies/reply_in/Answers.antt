@@ -1,5 +1,4 @@
-use Rattle.std.proofs.Common.{◌≡◌, Ok, map, sym, ap, subst, ◌∙◌}
-use Rattle.std.specs.Prelude.{string_bytes}
+use Rattle.std.proofs.Common.{Ok, map, sym, ap, ◌∙◌}
 use Rattle.dns_data.specs.Items.{item_of}
 use Rattle.office_rows.proofs.ReplyLaws.{reply_bad}
 use Rattle.office_rows.proofs.replies.reply_in.Goals as goal

@@ -1,5 +1,5 @@
 use Rattle.std.proofs.Common.{◌≡◌, true, false, pos, sym, ◌∙◌}
-use Rattle.office_reads.proofs.StateLaws.{order_does_not_count}
+use Rattle.office_rows.proofs.StateLaws.{order_does_not_count}
 use Rattle.office_store.proofs.opening.check_rows.Goals as goal
 
 pub returns-else-is_one-clause-good : goal.returns-else-is_one-clause-good

@@ -4,7 +4,7 @@ use Rattle.sqlite.specs.Held.{state}
 use Rattle.office_core.specs.States.{State}
 use Rattle.office_rows.specs.StoreFaults.{IsFailure}
 use Rattle.office_store.specs.Holds.{HoldsState}
-use Rattle.office_store.proofs.AskLemmas.{asked_then, only_then}
+use Rattle.office_store.proofs.QueryLemmas.{asked_then, only_then}
 use Rattle.office_store.proofs.FaultLemmas.{if_err_at}
 use Rattle.office_store.proofs.opening.check_state.Goals as goal
 

@@ -1,10 +1,10 @@
 use Rattle.std.proofs.Common.{[], arith}
 use Rattle.sqlite.specs.Held.{state}
 use Rattle.sqlite.specs.State.{HasCleanDisk}
-use Rattle.office_tables.specs.Holds.{Keeps}
-use Rattle.office_tables.proofs.Asks.{not_run_keeps_all}
-use Rattle.office_tables.proofs.Commits.{clean_if_open, holds_on, left_before, unchanged_keeps_all}
-use Rattle.office_store.proofs.AskLemmas.{asked_of}
+use Rattle.office_sql.specs.Holds.{Keeps}
+use Rattle.office_sql.proofs.Queries.{not_run_keeps_all}
+use Rattle.office_sql.proofs.Commits.{clean_if_open, holds_on, left_before, unchanged_keeps_all}
+use Rattle.office_store.proofs.QueryLemmas.{asked_of}
 use Rattle.office_store.proofs.opening.check_tables.Goals as goal
 
 pub returns-in_err-_statement-clause-asked : goal.returns-in_err-_statement-clause-asked

@@ -3,8 +3,8 @@ use Rattle.std.proofs.lemmas.Int.{to_z-of_z}
 use Rattle.std.proofs.lemmas.List.Sorted.{IsPermutation-refl}
 use Rattle.sqlite.specs.Effect.{Database}
 use Rattle.sqlite.specs.Held.{state}
-use Rattle.office_tables.specs.Tables.{stored_version}
-use Rattle.office_tables.specs.Stores.{Stores}
+use Rattle.office_sql.specs.Tables.{stored_version}
+use Rattle.office_sql.specs.Stores.{Stores}
 use Rattle.office_store.specs.Holds.{IsOfVersion}
 use Rattle.office_store.proofs.VersionLemmas.{one_version}
 use Rattle.office_store.proofs.opening.check_version.Goals as goal

@@ -1,6 +1,6 @@
 use Rattle.std.proofs.Common.{inl, inr, pos}
-use Rattle.office_tables.specs.Rows.{written}
-use Rattle.office_tables.proofs.Commits.{on_err}
+use Rattle.office_sql.specs.Rows.{written}
+use Rattle.office_sql.proofs.Commits.{on_err}
 use Rattle.office_store.proofs.writing.write_to.Goals as goal
 
 pub returns-in_err-write-clause-failed : goal.returns-in_err-write-clause-failed

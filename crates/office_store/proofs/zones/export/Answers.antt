@@ -3,7 +3,7 @@ use Rattle.std.proofs.lemmas.Result.{err_from_is_err_and}
 use Rattle.zone_core.specs.Sets.{listing, part, within}
 use Rattle.office_core.specs.States.{zone_held, zone_at}
 use Rattle.dns_names.specs.Spelling.{name_text}
-use Rattle.office_tables.specs.Questions.{records_of}
+use Rattle.office_sql.specs.Lookups.{records_of}
 use Rattle.office_store.specs.Zones.{exported}
 use Rattle.office_store.proofs.FaultLemmas.{gives_nothing}
 use Rattle.office_store.proofs.ZoneLemmas.{all_within}

@@ -6,7 +6,7 @@ use Rattle.office_rows.specs.declared.store_fault.StoreFault.{StoreFault}
 use Rattle.office_rows.specs.StoreFaults.{Refuses}
 use Rattle.office_store.specs.Turns.{Turns}
 use Rattle.office_store.specs.Zones.{if_free, with_imported}
-use Rattle.office_store.proofs.AskLemmas.{asked_nothing}
+use Rattle.office_store.proofs.QueryLemmas.{asked_nothing}
 use Rattle.office_store.proofs.FaultLemmas.{gives_refused}
 use Rattle.office_store.proofs.TurnLemmas.{refused_so, handed_ok, handed_err}
 use Rattle.office_store.proofs.ZoneLemmas.{imported_is}

@@ -2,10 +2,10 @@ use Rattle.std.proofs.Common.{◌≡◌, Err, None, sym, ap, subst}
 use Rattle.std.proofs.lemmas.Result.{err_from_is_err_and}
 use Rattle.sqlite.specs.Held.{state}
 use Rattle.office_core.specs.States.{State}
-use Rattle.office_writes.specs.Writings.{Leads}
+use Rattle.office_rows.specs.Writings.{Leads}
 use Rattle.office_store.specs.Holds.{HoldsState}
 use Rattle.office_store.specs.Zones.{if_free, with_imported}
-use Rattle.office_store.proofs.AskLemmas.{none_held}
+use Rattle.office_store.proofs.QueryLemmas.{none_held}
 use Rattle.office_store.proofs.FaultLemmas.{gives_nothing}
 use Rattle.office_store.proofs.TurnLemmas.{written}
 use Rattle.office_store.proofs.ZoneLemmas.{gives_written}

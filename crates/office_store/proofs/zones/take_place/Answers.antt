@@ -5,9 +5,9 @@ use Rattle.std.specs.Int.{w64}
 use Rattle.std.specs.Prelude.{FitsSigned}
 use Rattle.std.proofs.lemmas.Int.{to_z-of_z}
 use Rattle.sqlite.specs.Held.{state}
-use Rattle.office_writes.specs.Writings.{Leads, IsNext}
+use Rattle.office_rows.specs.Writings.{Leads, IsNext}
 use Rattle.office_store.specs.Zones.{if_later, with_place_taken, with_replaced}
-use Rattle.office_store.proofs.AskLemmas.{asked_then}
+use Rattle.office_store.proofs.QueryLemmas.{asked_then}
 use Rattle.office_store.proofs.FaultLemmas.{gives_nothing}
 use Rattle.office_store.proofs.TurnLemmas.{refused_so, written}
 use Rattle.office_store.proofs.ZoneLemmas.{gives_written}

@@ -4,7 +4,7 @@ use Rattle.std.proofs.lemmas.Bool.{and_left}
 use Rattle.dns_data.specs.declared.record.Record.{Record}
 use Rattle.zone_core.specs.Sets.{minus}
 use Rattle.test_service.proofs.writes.have_same.Goals as goal
-use Rattle.office_writes.proofs.WritingLaws.{bare_rows}
+use Rattle.office_rows.proofs.WritingLaws.{bare_rows}
 
 pub returns-then-not-is_empty : goal.returns-then-not-is_empty
 returns-then-not-is_empty c =

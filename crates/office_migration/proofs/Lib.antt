@@ -1,6 +1,0 @@
-pub mod ListLemmas
-pub mod ZoneLemmas
-pub mod ContentLemmas
-pub mod NumberLemmas
-pub mod WalkLemmas
-pub mod TurnLemmas

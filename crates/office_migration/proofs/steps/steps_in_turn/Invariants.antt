@@ -1,6 +1,0 @@
-use Rattle.office_migration.proofs.WalkLemmas.{IsWalked}
-use Rattle.office_migration.proofs.steps.steps_in_turn.Given as goal
-
--- what is left, with what is written already, is the whole
-abbrev pub invariant-loop-origin : goal.invariant-loop-origin
-invariant-loop-origin l = IsWalked l.fn.origins l.fn.records l.fn.changes l.origin-index l.records l.changes l.steps

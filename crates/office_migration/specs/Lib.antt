@@ -1,3 +1,0 @@
-pub mod OldZones
-pub mod Migrations
-pub mod Steps

@@ -1,5 +1,0 @@
-pub mod Faults
-pub mod Orders
-pub mod Parts
-pub mod States
-pub mod Checks

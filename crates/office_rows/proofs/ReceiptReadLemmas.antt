@@ -1,0 +1,86 @@
+-- Receipts, by their callers and identifiers.
+use Rattle.std.proofs.Common.{◌≡◌, ℕ, ℤ, Bool, true, false, List, map, Option, Some, None, IsPermutation, refl, sym, ap, subst, ◌∙◌, ◌&&◌, ◌<◌, ◌≤◌, length, get_or, arith}
+use Rattle.std.proofs.lemmas.Bool.{and_parts, false_from_ne_true}
+use Rattle.std.proofs.lemmas.List.Sorted.{IsPermutation-trans}
+use Rattle.std.specs.Prelude.{option_map, bytes_eq}
+use Rattle.sqlite_keyed.proofs.ListLemmas.{ascending_weaker, filter-map, IsPermutation-filter}
+use Rattle.office_core.specs.States.{State}
+use Rattle.office_sql.specs.Rows.{ReceiptRowOf, RowsOf}
+use Rattle.office_sql.specs.Lookups.{receipts_of}
+use Rattle.office_rows.specs.Contents.{ReceiptAt, receipt_among, row_of_receipt, IsReceiptAt, AreOfState}
+use Rattle.office_rows.proofs.ListLemmas.{ascending_from_pairs, filter_one, found_list, none_moved, one_moved, found_has}
+use Rattle.office_rows.proofs.NameLemmas.{bytes_is}
+
+-- two receipts are of different callers, or under different identifiers
+abbrev pub Differ : ReceiptAt → ReceiptAt → Type 0
+Differ a b = ¬ ((a.caller ≡ b.caller) × (a.id ≡ b.id))
+
+-- a receipt is of a caller, under an identifier
+abbrev pub is_under : List ℕ → List ℕ → ReceiptAt → Bool
+is_under caller id r = bytes_eq r.caller caller && bytes_eq r.id id
+
+under_parts : (caller id : List ℕ) (r : ReceiptAt) → is_under caller id r ≡ true → (r.caller ≡ caller) × (r.id ≡ id)
+under_parts caller id r t =
+    let both = and_parts (bytes_eq r.caller caller) (bytes_eq r.id id) t in
+    (bytes_is r.caller caller both.0, bytes_is r.id id both.1)
+
+not_both : (caller id : List ℕ) (a b : ReceiptAt) → Differ a b → is_under caller id a ≡ true → is_under caller id b ≡ false
+not_both caller id a b differ t =
+    false_from_ne_true (is_under caller id b)
+    (λ also.
+    let p = under_parts caller id a t in
+    let q = under_parts caller id b also in
+    differ (p.0 ∙ sym q.0, p.1 ∙ sym q.1))
+
+-- the rows of what is found
+abbrev pub found_rows : Option ReceiptAt → List ReceiptRowOf
+found_rows found = map row_of_receipt (found_list found)
+
+found_moved : (found : Option ReceiptAt) (rows : List ReceiptRowOf) → IsPermutation (found_rows found) rows → rows ≡ found_rows found
+found_moved None rows same = none_moved rows same
+found_moved (Some r) rows same = one_moved (row_of_receipt r) rows same
+
+module _ (version : ℤ) (all : RowsOf) (s : State) (st : AreOfState version all s) (caller id : List ℕ) where
+  abbrev receipts : List ReceiptAt
+  receipts = st.content.receipts
+
+  -- the rows under a caller and an identifier are that of the receipt there, if there is one
+  pub rows_are : (rows : List ReceiptRowOf) → IsPermutation (receipts_of caller id all.receipts) rows → rows ≡ found_rows (receipt_among receipts caller id)
+  rows_are rows same =
+      let test = λ (r : ReceiptRowOf). bytes_eq r.caller caller && bytes_eq r.id id in
+      let up = ascending_weaker Differ (λ a b. is_under caller id a ≡ true → is_under caller id b ≡ false) (not_both caller id) receipts (ascending_from_pairs Differ receipts st.is_content.receipts_apart) in
+      let mine : receipts_of caller id (map row_of_receipt receipts) ≡ found_rows (receipt_among receipts caller id) =
+      filter-map test row_of_receipt receipts ∙ ap (map row_of_receipt) (filter_one (is_under caller id) receipts up) in
+      let there = subst (λ l. IsPermutation l (receipts_of caller id all.receipts)) mine (IsPermutation-filter test (map row_of_receipt receipts) all.receipts st.same.receipts) in
+      found_moved (receipt_among receipts caller id) rows (IsPermutation-trans (found_rows (receipt_among receipts caller id)) (receipts_of caller id all.receipts) rows there same)
+
+  pub found_is : (r : ReceiptAt) → receipt_among receipts caller id ≡ Some r → IsReceiptAt r
+  found_is r e = found_has (is_under caller id) IsReceiptAt receipts r st.is_content.receipts e
+
+  pub held_is : s.receipts caller id ≡ option_map (λ r. r.receipt) (receipt_among receipts caller id)
+  held_is = st.means.receipts caller id
+
+  by_found : (rows : List ReceiptRowOf) → IsPermutation (receipts_of caller id all.receipts) rows → (found : Option ReceiptAt) → receipt_among receipts caller id ≡ found → rows ≡ found_rows found
+  by_found rows same found e = rows_are rows same ∙ ap found_rows e
+
+  -- no row is no receipt
+  pub none_held : (rows : List ReceiptRowOf) → IsPermutation (receipts_of caller id all.receipts) rows → length rows < 1 → s.receipts caller id ≡ None
+  none_held rows same short = go (receipt_among receipts caller id) refl (by_found rows same (receipt_among receipts caller id) refl) where
+    go : (found : Option ReceiptAt) → receipt_among receipts caller id ≡ found → rows ≡ found_rows found → s.receipts caller id ≡ None
+    go None e is = held_is ∙ ap (option_map (λ r. r.receipt)) e
+    go (Some r) e is = absurd (omega (arith, ap length is))
+
+  -- a row is that of the receipt
+  pub one_held : (rows : List ReceiptRowOf) (row : ReceiptRowOf) → IsPermutation (receipts_of caller id all.receipts) rows → 1 ≤ length rows → row ≡ get_or rows 0 row
+      → (r : ReceiptAt) × IsReceiptAt r × (row ≡ row_of_receipt r) × (s.receipts caller id ≡ Some r.receipt)
+  one_held rows row same long first = go (receipt_among receipts caller id) refl (by_found rows same (receipt_among receipts caller id) refl) where
+    go : (found : Option ReceiptAt) → receipt_among receipts caller id ≡ found → rows ≡ found_rows found → (r : ReceiptAt) × IsReceiptAt r × (row ≡ row_of_receipt r) × (s.receipts caller id ≡ Some r.receipt)
+    go None e is = absurd (omega (arith, ap length is))
+    go (Some r) e is = (r, found_is r e, first ∙ ap (λ l. get_or l 0 row) is, held_is ∙ ap (option_map (λ r. r.receipt)) e)
+
+  -- there are no two rows
+  pub no_two : (rows : List ReceiptRowOf) → IsPermutation (receipts_of caller id all.receipts) rows → 2 ≤ length rows → ⊥
+  no_two rows same long = go (receipt_among receipts caller id) (by_found rows same (receipt_among receipts caller id) refl) where
+    go : (found : Option ReceiptAt) → rows ≡ found_rows found → ⊥
+    go None is = omega (arith, ap length is)
+    go (Some r) is = omega (arith, ap length is)

@@ -1,0 +1,127 @@
+-- Rows of receipts, and all rows: they pass the check exactly where they are a state's.
+use Rattle.std.proofs.Common.{◌≡◌, ℕ, ℤ, true, List, [], ◌∷◌, map, Err, IsPermutation, IsSorted, refl, sym, ap, subst, ◌∙◌}
+use Rattle.std.proofs.lemmas.Cmp.{tied_itself}
+use Rattle.std.proofs.lemmas.List.Sorted.{IsPermutation-sym, IsPermutation-trans}
+use Rattle.std.specs.Prelude.{option_map}
+use Rattle.std.specs.declared.cmp.Ordering.{Ordering}
+use Rattle.std.specs.declared.cmp.Ordering.TheVariants.{Less, Equal, Greater}
+use Rattle.std.specs.Cmp.Lexicographic.{slice_cmp, nat_list_cmp_total}
+use Rattle.std.specs.List.{AllByRecursion}
+use Rattle.std.specs.Ordering.{nat_cmp, ordering_then}
+use Rattle.sqlite_trees.proofs.ListLemmas.{IsPermutation-same}
+use Rattle.sqlite_keyed.proofs.ListLemmas.{all_weaker, all_map, ascending-map, ascending_from_map, ascending_weaker, map-map}
+use Rattle.dns_names.proofs.KeyLaws.{octets_exact}
+use Rattle.office_core.specs.declared.receipt.Receipt.{Receipt}
+use Rattle.office_core.specs.States.{State}
+use Rattle.office_sql.specs.Rows.{ReceiptRowOf, RowsOf}
+use Rattle.office_rows.specs.declared.row_fault.RowFault.{RowFault}
+use Rattle.office_rows.specs.declared.row_fault.RowFault.TheVariants.{BadRow, NoMemory}
+use Rattle.office_rows.specs.Contents.{ReceiptAt, ContentOf, row_of_receipt, IsReceiptAt, held_of, zone_among, receipt_among, AreOfState}
+use Rattle.office_rows.proofs.ReceiptRowLaws.{receipt_rows_are_apart}
+use Rattle.office_rows.specs.declared.ordered.KeptReceipt.{KeptReceipt}
+use Rattle.office_rows.specs.Orders.{rises}
+use Rattle.office_rows.specs.Checks.{AreReceiptRows, AreStateRows, Checks, receipt_at, row_of_kept, IsKept, IsReceiptRow, kept_order, kept_total}
+use Rattle.office_rows.proofs.ListLemmas.{ascending_from_pairs, pairs_from_ascending, all_permutation, moved_back, apart_moved, one_moved}
+use Rattle.office_rows.proofs.OrderLemmas.{rises_from, rises_up, sorted_strict}
+use Rattle.office_rows.proofs.ReceiptReadLemmas.{Differ}
+
+-- ---- checks
+
+-- where no rows as they are wanted are refused but for want of memory
+pub refused : (P : Type 0) (e : RowFault) → (P → e ≡ NoMemory) → Checks P (Err e)
+refused P BadRow memory = λ p. let bad = memory p in cc
+refused P NoMemory memory = tt
+
+-- what refuses a part refuses the whole
+pub refused_part : (P Q : Type 0) (e : RowFault) → (Q → P) → Checks P (Err e) → Checks Q (Err e)
+refused_part P Q BadRow part h = λ q. h (part q)
+refused_part P Q NoMemory part h = tt
+
+-- ---- receipts
+
+-- both are tied where the whole is
+both_tied : (a b : Ordering) → ordering_then a b ≡ Equal → (a ≡ Equal) × (b ≡ Equal)
+both_tied Less b e = absurd cc
+both_tied Equal b e = (refl, e)
+both_tied Greater b e = absurd cc
+
+not_tied : (a b : KeptReceipt) → Differ (receipt_at a) (receipt_at b) → kept_order a b ≡ Equal → ⊥
+not_tied a b differ tie =
+    let both = both_tied (slice_cmp nat_cmp a.caller b.caller) (slice_cmp nat_cmp a.id b.id) tie in
+    differ (octets_exact a.caller b.caller both.0, octets_exact a.id b.id both.1)
+
+differ_from : (a b : KeptReceipt) → kept_order a b ≡ Less → Differ (receipt_at a) (receipt_at b)
+differ_from a b less same =
+    let callers : slice_cmp nat_cmp a.caller b.caller ≡ Equal = ap (λ x. slice_cmp nat_cmp x b.caller) same.0 ∙ tied_itself nat_list_cmp_total b.caller in
+    let ids : slice_cmp nat_cmp a.id b.id ≡ Equal = ap (λ x. slice_cmp nat_cmp x b.id) same.1 ∙ tied_itself nat_list_cmp_total b.id in
+    let tie : kept_order a b ≡ Equal = ap (λ x. ordering_then x (slice_cmp nat_cmp a.id b.id)) callers ∙ ids in
+    let bad : Less ≡ Equal = sym less ∙ tie in
+    cc
+
+one_row : (a b : ReceiptAt) → IsReceiptAt a → IsReceiptAt b → row_of_receipt a ≡ row_of_receipt b → a ≡ b
+one_row a b is also e =
+    let all = receipt_rows_are_apart a.caller b.caller a.id b.id a.receipt b.receipt is.receipt also.receipt e in
+    ap (λ (c : List ℕ). record { caller = c; id = a.id; receipt = a.receipt }) all.0
+    ∙ ap (λ (i : List ℕ). record { caller = b.caller; id = i; receipt = a.receipt }) all.1
+    ∙ ap (λ (r : Receipt). record { caller = b.caller; id = b.id; receipt = r }) all.2
+
+module _ (rows : List ReceiptRowOf) where
+  pub receipt_rows : AreReceiptRows rows → AllByRecursion IsReceiptRow rows
+  receipt_rows are =
+      all_permutation IsReceiptRow (map row_of_receipt are.receipts) rows are.same
+      (all_map IsReceiptRow row_of_receipt are.receipts (all_weaker IsReceiptAt (λ r. IsReceiptRow (row_of_receipt r)) (λ r is. (r, is, refl)) are.receipts are.each))
+
+  module _ (ks : List KeptReceipt) (same : IsPermutation (map row_of_kept ks) rows) (each : AllByRecursion IsKept ks) where
+    mine : IsPermutation (map row_of_receipt (map receipt_at ks)) rows
+    mine = subst (λ l. IsPermutation l rows) (sym (map-map row_of_receipt receipt_at ks)) same
+
+    pub receipts_rise : AreReceiptRows rows → IsSorted kept_order ks → rises kept_order ks ≡ true
+    receipts_rise are sorted =
+        let moved = moved_back IsReceiptAt row_of_receipt one_row are.receipts (map receipt_at ks) are.each (all_map IsReceiptAt receipt_at ks each)
+        (IsPermutation-trans (map row_of_receipt are.receipts) rows (map row_of_receipt (map receipt_at ks)) are.same (IsPermutation-sym (map row_of_receipt (map receipt_at ks)) rows mine)) in
+        let apart = apart_moved Differ (λ a b differ s. differ (sym s.0, sym s.1)) are.receipts (map receipt_at ks) moved (ascending_from_pairs Differ are.receipts are.apart) in
+        let untied = ascending_weaker (λ a b. Differ (receipt_at a) (receipt_at b)) (λ a b. ¬ (kept_order a b ≡ Equal)) not_tied ks (ascending_from_map Differ receipt_at ks apart) in
+        rises_from kept_order ks (sorted_strict kept_order kept_total ks sorted untied)
+
+    pub are_receipt_rows : rises kept_order ks ≡ true → AreReceiptRows rows
+    are_receipt_rows rise = record {
+      receipts = map receipt_at ks;
+      apart = pairs_from_ascending Differ (map receipt_at ks) (ascending-map Differ receipt_at ks (ascending_weaker (λ a b. kept_order a b ≡ Less) (λ a b. Differ (receipt_at a) (receipt_at b)) differ_from ks (rises_up kept_order kept_total ks rise)));
+      each = all_map IsReceiptAt receipt_at ks each;
+      same = mine;
+    }
+
+-- ---- all rows
+
+pub state_of_rows : (version : ℤ) (rows : RowsOf) → AreStateRows version rows → (s : State) × AreOfState version rows s
+state_of_rows version rows are =
+    let content : ContentOf = record { zones = are.zones.zones; receipts = are.receipts.receipts } in
+    let s : State = record { zones = λ origin. option_map held_of (zone_among content.zones origin); receipts = λ caller id. option_map (λ r. r.receipt) (receipt_among content.receipts caller id) } in (
+      s,
+      record {
+        content = content;
+        is_content = record { zones_apart = are.zones.apart; zones = are.zones.each; receipts_apart = are.receipts.apart; receipts = are.receipts.each };
+        means = record { zones = λ origin. refl; receipts = λ caller id. refl };
+        same = record {
+          versions = IsPermutation-same (version ∷ []) rows.versions (sym are.versions);
+          zones = are.zones.same_origins;
+          records = are.zones.same_records;
+          receipts = are.receipts.same;
+          changes = are.zones.same_changes;
+        };
+      },
+    )
+
+pub rows_of_state : (version : ℤ) (rows : RowsOf) (s : State) → AreOfState version rows s → AreStateRows version rows
+rows_of_state version rows s st = record {
+  versions = one_moved version rows.versions st.same.versions;
+  zones = record {
+    zones = st.content.zones;
+    apart = st.is_content.zones_apart;
+    each = st.is_content.zones;
+    same_origins = st.same.zones;
+    same_records = st.same.records;
+    same_changes = st.same.changes;
+  };
+  receipts = record { receipts = st.content.receipts; apart = st.is_content.receipts_apart; each = st.is_content.receipts; same = st.same.receipts };
+}

@@ -1,0 +1,93 @@
+-- One zone after the other: a step of the walk, and its end; and a zone by itself.
+use Rattle.std.proofs.Common.{◌≡◌, ◌↔◌, ℕ, ◌+◌, ◌<◌, ◌≤◌, Bool, true, false, eqb, List, [], ◌∷◌, length, take, drop, get_or, sym, ap, subst, ◌∙◌, ◌&&◌, eqb-true, eq-eqb, Option, Some, None, Result, Ok, Err}
+use Rattle.std.proofs.lemmas.Bool.{and_parts, and_from}
+use Rattle.std.proofs.lemmas.List.{drop_more, drop_all, nil_from_length}
+use Rattle.sqlite_rules.proofs.ListLemmas.{all_from, contains_had}
+use Rattle.zone_core.specs.declared.fault.ZoneFault.{ZoneFault}
+use Rattle.zone_core.specs.Sets.{Records, set_of, listing, InOrder, IsIn}
+use Rattle.zone_core.specs.Zones.{ZoneOf, IsZone, built, evened, latest, fault_in, unless_fault}
+use Rattle.zone_core.specs.Views.{zone_in, AreOfZone}
+use Rattle.zone_core.proofs.RowLemmas.{listing_of}
+use Rattle.zone_core.proofs.RebuiltLemmas.{zones_are_rebuilt}
+use Rattle.office_rows.specs.declared.row_fault.RowFault.TheVariants.{BadRow}
+use Rattle.office_rows.proofs.RowSteps.{ok_is}
+use Rattle.office_rows.specs.RowFaults.{of_zones}
+use Rattle.office_rows.proofs.ZoneReadLemmas.{here, there}
+use Rattle.dns_data.specs.declared.record.Record.{Record}
+use Rattle.office_rows.specs.declared.changes.ChangedRecord.{ChangedRecord}
+use Rattle.office_rows.specs.declared.ordered.ZoneRecord.{ZoneRecord}
+use Rattle.office_rows.specs.Checks.{records_first, changes_first, IsZoneOf, AreZonesInTurn}
+
+abbrev Labels : Type 0
+Labels = List (List ℕ)
+
+module _ (Whole : Type 0) (origins : List Labels) (i : ℕ) (rs : List ZoneRecord) (cs : List ChangedRecord) (left : AreZonesInTurn (drop i origins) rs cs ↔ Whole) where
+  module _ (o : Labels) (below : i < length origins) (is : o ≡ get_or origins i o) (n m : ℕ) (n_is : n ≡ records_first o rs) (m_is : m ≡ changes_first o cs) where
+    -- the next zone, and those behind it
+    abbrev Next : Type 0
+    Next = IsZoneOf o (take n rs) (take m cs) × AreZonesInTurn (drop (i + 1) origins) (drop n rs) (drop m cs)
+
+    opened : drop i origins ≡ o ∷ drop (i + 1) origins
+    opened = drop_more origins i o below ∙ ap (λ p. p ∷ drop (i + 1) origins) (sym is)
+
+    from_next : Next → AreZonesInTurn (drop i origins) rs cs
+    from_next next =
+        subst (λ os. AreZonesInTurn os rs cs) (sym opened)
+        (subst (λ k. IsZoneOf o (take k rs) (take (changes_first o cs) cs) × AreZonesInTurn (drop (i + 1) origins) (drop k rs) (drop (changes_first o cs) cs)) n_is
+        (subst (λ k. IsZoneOf o (take n rs) (take k cs) × AreZonesInTurn (drop (i + 1) origins) (drop n rs) (drop k cs)) m_is next))
+
+    to_next : AreZonesInTurn (drop i origins) rs cs → Next
+    to_next turn =
+        subst (λ k. IsZoneOf o (take n rs) (take k cs) × AreZonesInTurn (drop (i + 1) origins) (drop n rs) (drop k cs)) (sym m_is)
+        (subst (λ k. IsZoneOf o (take k rs) (take (changes_first o cs) cs) × AreZonesInTurn (drop (i + 1) origins) (drop k rs) (drop (changes_first o cs) cs)) (sym n_is)
+        (subst (λ os. AreZonesInTurn os rs cs) opened turn))
+
+    -- a zone that passes leaves those behind it
+    pub passes : IsZoneOf o (take n rs) (take m cs) → AreZonesInTurn (drop (i + 1) origins) (drop n rs) (drop m cs) ↔ Whole
+    passes zone = (λ later. left.0 (from_next (zone, later)), λ whole. (to_next (left.1 whole)).1)
+
+    -- one that does not stops all
+    pub stops : ¬ (IsZoneOf o (take n rs) (take m cs)) → (false ≡ true) ↔ Whole
+    stops none = (λ e. absurd (let bad : false ≡ true = e in cc), λ whole. absurd (none (to_next (left.1 whole)).0))
+
+  -- behind the last zone nothing is left
+  pub ends : length origins ≤ i → (a b : Bool) → a ≡ eqb (length rs) 0 → b ≡ eqb (length cs) 0 → ((a && b) ≡ true) ↔ Whole
+  ends past a b a_is b_is =
+      let none : drop i origins ≡ [] = drop_all i origins past in (
+        λ t. (let both = and_parts a b t in
+            left.0 (subst (λ os. AreZonesInTurn os rs cs) (sym none) (nil_from_length rs (eqb-true (length rs) 0 (sym a_is ∙ both.0)), nil_from_length cs (eqb-true (length cs) 0 (sym b_is ∙ both.1))))),
+        λ whole. (let both = subst (λ os. AreZonesInTurn os rs cs) none (left.1 whole) in and_from a b (a_is ∙ eq-eqb (length rs) 0 (ap length both.0)) (b_is ∙ eq-eqb (length cs) 0 (ap length both.1))),
+      )
+
+-- ---- a zone by itself
+
+built_origin : (o : Labels) (set : Records) (fault : Option ZoneFault) (zone : ZoneOf) → unless_fault o set fault ≡ Ok zone → zone.origin ≡ o
+built_origin o set None zone e = let is : record { origin = o; records = set } ≡ zone = cc in ap (λ (z : ZoneOf). z.origin) (sym is)
+built_origin o set (Some fault) zone e = absurd cc
+
+zones_ok : (b : Result ZoneOf ZoneFault) (zone : ZoneOf) → of_zones b ≡ Ok zone → b ≡ Ok zone
+zones_ok (Ok x) zone e = cc
+zones_ok (Err fault) zone e = absurd cc
+
+module _ (o : Labels) (rs : List Record) where
+  -- records of a zone, in record order, are built as it
+  own_built : AreOfZone o rs → of_zones (built o rs) ≡ Ok (zone_in o rs)
+  own_built is =
+      ap of_zones (zones_are_rebuilt (zone_in o rs) rs is.zone (record { inside = all_from (λ r. IsIn r (set_of rs)) rs (λ r h. here rs r is.order h); whole = λ r h. contains_had rs r (there rs r h) }))
+
+  -- what is built has the same records exactly where they are those of a zone
+  pub is_built : (zone : ZoneOf) (seen : List Record) → of_zones (built o rs) ≡ Ok zone → InOrder seen → set_of seen ≡ zone.records → IsZone zone → (b : Bool) → (b ≡ true) ↔ (seen ≡ rs) → (b ≡ true) ↔ AreOfZone o rs
+  is_built zone seen e order set is b tells = (
+    λ t.
+        (let same = tells.0 t in
+        let origin : zone.origin ≡ o = built_origin o (evened (latest rs)) (fault_in o (evened (latest rs))) zone (zones_ok (built o rs) zone e) in
+        let records : zone.records ≡ set_of rs = sym set ∙ ap set_of same in
+        record { order = subst InOrder same order; zone = subst IsZone ((λ i. record { origin = origin i; records = records i })) is }),
+    λ of.
+        (let own : zone ≡ zone_in o rs = ok_is zone (zone_in o rs) (sym e ∙ own_built of) in
+        tells.1 (sym (listing_of seen order) ∙ ap listing (set ∙ ap (λ (z : ZoneOf). z.records) own) ∙ listing_of rs of.order)),
+  )
+
+  -- where nothing is built they are those of no zone
+  pub none_built : of_zones (built o rs) ≡ Err BadRow → (false ≡ true) ↔ AreOfZone o rs
+  none_built e = (λ f. absurd (let bad : false ≡ true = f in cc), λ of. absurd (let bad = sym e ∙ own_built of in cc))

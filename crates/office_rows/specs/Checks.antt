@@ -1,0 +1,125 @@
+-- When rows are a state, table by table, and how that is checked: rows are read and put in order, and then taken zone by zone.
+use Rattle.std.specs.Prelude.{◌≡◌, ◌≢◌, ℕ, ℤ, List, [], ◌∷◌, map, take, drop, true, not, Result, Ok, Err}
+use Rattle.std.specs.List.{AllByRecursion, AllPairs, flat_map, position_or_len}
+use Rattle.std.specs.List.Sorted.{IsPermutation}
+use Rattle.std.specs.declared.cmp.Ordering.{Ordering}
+use Rattle.std.specs.Cmp.{IsTotalOrder, on_total, then_total}
+use Rattle.std.specs.Cmp.Lexicographic.{slice_cmp, nat_list_cmp_total}
+use Rattle.std.specs.Ordering.{nat_cmp, on, then_cmp}
+use Rattle.dns_names.specs.Labels.{IsName}
+use Rattle.dns_names.specs.Order.{canonical_cmp, canonical_total, same_name}
+use Rattle.dns_names.specs.Spelling.{name_text}
+use Rattle.dns_data.specs.Rdata.{IsRecord}
+use Rattle.dns_data.specs.RecordOrder.{record_order, record_order_total}
+use Rattle.zone_core.specs.Views.{AreOfZone}
+use Rattle.office_sql.specs.Rows.{RecordRowOf, ReceiptRowOf, ChangeRowOf, RowsOf}
+use Rattle.office_rows.specs.declared.changes.ChangedRecord.{ChangedRecord}
+use Rattle.office_rows.specs.declared.row_fault.RowFault.{RowFault}
+use Rattle.office_rows.specs.declared.row_fault.RowFault.TheVariants.{BadRow, NoMemory}
+use Rattle.office_rows.specs.RecordRows.{record_row}
+use Rattle.office_rows.specs.ChangeRows.{are_numbered}
+use Rattle.office_rows.specs.Contents.{ZoneRows, ReceiptAt, zone_records, zone_changes, row_of_receipt, IsZoneRows, IsReceiptAt}
+use Rattle.office_rows.specs.declared.ordered.KeptReceipt.{KeptReceipt}
+use Rattle.office_rows.specs.declared.ordered.ZoneRecord.{ZoneRecord}
+
+-- ---- table by table
+
+-- origins, records and changes are those of zones of which no two have one origin
+pub record AreZoneRows (origins : List (List ℕ)) (records : List RecordRowOf) (changes : List ChangeRowOf) : Type 0 where
+  pub zones : List ZoneRows
+  pub apart : AllPairs (λ a b. a.origin ≢ b.origin) zones
+  pub each : AllByRecursion IsZoneRows zones
+  pub same_origins : IsPermutation (map (λ z. name_text z.origin) zones) origins
+  pub same_records : IsPermutation (flat_map zone_records zones) records
+  pub same_changes : IsPermutation (flat_map zone_changes zones) changes
+
+-- rows are those of receipts of which no two of one caller have one identifier
+pub record AreReceiptRows (rows : List ReceiptRowOf) : Type 0 where
+  pub receipts : List ReceiptAt
+  pub apart : AllPairs (λ a b. ¬ ((a.caller ≡ b.caller) × (a.id ≡ b.id))) receipts
+  pub each : AllByRecursion IsReceiptAt receipts
+  pub same : IsPermutation (map row_of_receipt receipts) rows
+
+-- rows are those of some state, in tables of this version
+pub record AreStateRows (version : ℤ) (rows : RowsOf) : Type 0 where
+  pub versions : rows.versions ≡ version ∷ []
+  pub zones : AreZoneRows rows.zones rows.records rows.changes
+  pub receipts : AreReceiptRows rows.receipts
+
+-- a check passes only where this holds, and refuses a row only where it doesn't; want of memory says nothing of it
+abbrev pub Checks : Type 0 → Result (Unit {0}) RowFault → Type 0
+Checks P (Ok passed) = P
+Checks P (Err BadRow) = ¬ P
+Checks P (Err NoMemory) = Unit {0}
+
+-- ---- rows as they are read
+
+-- the text of an origin
+abbrev pub IsOriginText : List ℕ → Type 0
+IsOriginText text = (origin : List (List ℕ)) × IsName origin × (text ≡ name_text origin)
+
+-- the row of a record of a zone
+abbrev pub row_of_record : ZoneRecord → RecordRowOf
+row_of_record r = record_row r.origin r.rr
+
+-- what every record of a zone is: of a name and a record
+pub record IsZoneRecord (r : ZoneRecord) : Type 0 where
+  pub origin : IsName r.origin
+  pub rr : IsRecord r.rr
+
+-- a row of such a record
+abbrev pub IsZoneRecordRow : RecordRowOf → Type 0
+IsZoneRecordRow row = (r : ZoneRecord) × IsZoneRecord r × (row ≡ row_of_record r)
+
+-- by origin, and then in record order
+abbrev pub zone_record_order : ZoneRecord → ZoneRecord → Ordering
+zone_record_order = then_cmp (on (λ r. r.origin) canonical_cmp) (on (λ r. r.rr) record_order)
+
+-- which is a total order
+pub zone_record_total : IsTotalOrder zone_record_order
+zone_record_total = then_total (on_total (λ r. r.origin) canonical_total) (on_total (λ r. r.rr) record_order_total)
+
+-- a receipt with its caller and its identifier
+abbrev pub receipt_at : KeptReceipt → ReceiptAt
+receipt_at k = record { caller = k.caller; id = k.id; receipt = k.receipt }
+
+-- the row of such a receipt
+abbrev pub row_of_kept : KeptReceipt → ReceiptRowOf
+row_of_kept k = row_of_receipt (receipt_at k)
+
+-- what every such receipt is
+abbrev pub IsKept : KeptReceipt → Type 0
+IsKept k = IsReceiptAt (receipt_at k)
+
+-- a row of such a receipt
+abbrev pub IsReceiptRow : ReceiptRowOf → Type 0
+IsReceiptRow row = (r : ReceiptAt) × IsReceiptAt r × (row ≡ row_of_receipt r)
+
+-- by caller, and then by identifier
+abbrev pub kept_order : KeptReceipt → KeptReceipt → Ordering
+kept_order = then_cmp (on (λ k. k.caller) (slice_cmp nat_cmp)) (on (λ k. k.id) (slice_cmp nat_cmp))
+
+-- which is a total order
+pub kept_total : IsTotalOrder kept_order
+kept_total = then_total (on_total (λ k. k.caller) nat_list_cmp_total) (on_total (λ k. k.id) nat_list_cmp_total)
+
+-- ---- zone by zone
+
+-- how many records stand first that are of the zone of an origin
+abbrev pub records_first : List (List ℕ) → List ZoneRecord → ℕ
+records_first origin records = position_or_len (λ r. not (same_name r.origin origin)) records
+
+-- how many of what changes have stand first that are of the zone of an origin
+abbrev pub changes_first : List (List ℕ) → List ChangedRecord → ℕ
+changes_first origin changes = position_or_len (λ c. not (same_name c.origin origin)) changes
+
+-- one zone: its records in record order, and its changes, numbered from 1 without a gap
+abbrev pub IsZoneOf : List (List ℕ) → List ZoneRecord → List ChangedRecord → Type 0
+IsZoneOf origin records changes = AreOfZone origin (map (λ r. r.rr) records) × (are_numbered changes ≡ true)
+
+-- one zone after the other, each of the next origin, and nothing behind the last
+abbrev pub AreZonesInTurn : List (List (List ℕ)) → List ZoneRecord → List ChangedRecord → Type 0
+AreZonesInTurn [] records changes = (records ≡ []) × (changes ≡ [])
+AreZonesInTurn (origin ∷ origins) records changes =
+    IsZoneOf origin (take (records_first origin records) records) (take (changes_first origin changes) changes)
+    × AreZonesInTurn origins (drop (records_first origin records) records) (drop (changes_first origin changes) changes)

@@ -1,0 +1,152 @@
+//! Parts of a state, read from the rows of them.
+
+ghost use Rattle.std.specs.Prelude.{◌≡◌, ℕ, ℤ, List, [], ◌∷◌, map, Ok, Some, IfOk, MatchOption, bytes_eq};
+ghost use Rattle.std.specs.List.{AllByRecursion, list_all};
+ghost use Rattle.std.specs.List.Sorted.{IsPermutation};
+ghost use Rattle.dns_names.specs.Keys.{key_of};
+ghost use Rattle.dns_names.specs.Labels.{IsName};
+ghost use Rattle.dns_names.specs.Spelling.{name_text};
+ghost use Rattle.dns_data.specs.Rdata.{IsRecord};
+ghost use Rattle.dns_data.specs.RecordOrder.{record_order};
+ghost use Rattle.dns_data.specs.declared.record.Record.{Record as RecordOf};
+ghost use Rattle.zone_core.specs.Sets.{listing, part, within};
+ghost use Rattle.zone_core.specs.Zones.{ZoneOf, built};
+ghost use Rattle.zone_core.specs.Views.{zone_in, AreOfZone};
+ghost use Rattle.zone_core.specs.Parts.{part_of as zone_part, at_names};
+ghost use Rattle.office_core.specs.States.{Held, State, zone_at};
+ghost use Rattle.office_core.specs.Tables.{change_in};
+ghost use Rattle.office_sql.specs.Rows.{RowsOf};
+ghost use Rattle.office_sql.specs.Lookups.{records_of, receipts_of, changes_of as changes_in};
+ghost use Rattle.office_rows.specs.Contents.{AreOfState};
+ghost use Rattle.office_rows.specs.ReceiptRows.{receipt_row};
+ghost use Rattle.office_rows.specs.RecordRows.{record_row};
+ghost use Rattle.office_rows.specs.RowFaults.{Reads, of_zone, of_zones};
+ghost use Rattle.office_rows.specs.Orders.{rises};
+ghost use Rattle.office_rows.specs.PartRows.{AreRowsAt, AreRowsOf, rows_within};
+
+use crate::ascending::rise;
+use crate::gathering::read_changes;
+use crate::receipts::read_receipt;
+use crate::records::read_record;
+use crate::row_fault::RowFault;
+use dns_data::{Record, record_order};
+use dns_names::Name;
+use office_core::{Change, Receipt};
+use office_sql::{ChangeRow, ReceiptRow, RecordRow};
+use std::alloc::Global;
+use zone_core::{Zone, ZoneFault};
+
+/// The records of rows of one zone, in the order of the rows. A row that is that of no record is `BadRow`.
+fn records_in(alloc: Global, rows: &[RecordRow]) -> Result<Vec<Record>, RowFault>
+    ensures { (origin : List (List ℕ)) (rs : List RecordOf) → IsName origin → AllByRecursion IsRecord rs → rows.now ≡ map (record_row origin) rs → Reads (λ records. records.items) result (Ok rs) }
+{
+    let mut records = Vec::with_capacity(alloc, rows.len())?;
+    for row in rows {
+        let (_, record) = read_record(alloc, row)?;
+        records.push(record)?;
+    }
+    Ok(records)
+}
+
+/// Whether all rows have an origin with this text.
+fn are_of(rows: &[RecordRow], origin: &str) -> bool
+    ensures { result ≡ list_all (λ r. bytes_eq r.origin origin.now) rows.now }
+{
+    rows.iter().all(|row| row.origin.as_str() == origin)
+}
+
+/// The refusal of rows whose records are refused as a zone.
+fn of_zone(fault: ZoneFault) -> RowFault
+    ensures { result ≡ of_zone fault }
+{
+    match fault {
+        ZoneFault::NoMemory => RowFault::NoMemory,
+        _ => RowFault::BadRow,
+    }
+}
+
+/// The zone of an origin that is built of records. Records that make no zone are `BadRow`.
+pub fn built(alloc: Global, origin: &Name, records: Vec<Record>) -> Result<Zone, RowFault>
+    ensures origin { IfOk result (λ zone. zone.origin ≡ origin.now) }
+    ensures exact { Reads (λ zone. zone) result (of_zones (built origin.now records.items)) }
+{
+    match Zone::build(alloc, origin.try_copy(alloc)?, records) {
+        Ok(zone) => Ok(zone),
+        Err(fault) => Err(of_zone(fault)),
+    }
+}
+
+/// The zone of an origin by rows of its records, in any order and however often they come. Others are `BadRow`.
+fn zone_in(alloc: Global, origin: &Name, rows: &[RecordRow]) -> Result<Zone, RowFault>
+    ensures origin { IfOk result (λ zone. zone.origin ≡ origin.now) }
+    ensures held { (rs : List RecordOf) → IsName origin.now → AreOfZone origin.now rs → AreRowsOf origin.now rs rows.now → Reads (λ zone. zone) result (Ok (zone_in origin.now rs)) }
+{
+    let text = origin.text(alloc)?;
+    if !are_of(rows, text.as_str()) {
+        return Err(RowFault::BadRow);
+    }
+    let records = records_in(alloc, rows)?;
+    built(alloc, origin, records)
+}
+
+/// The zone of an origin, by the rows of its records in any order. Rows that are those of no zone of this origin are `BadRow`.
+pub fn zone_of(alloc: Global, origin: &Name, rows: &[RecordRow]) -> Result<Zone, RowFault>
+    // What is read is of the origin that was asked for, whatever the rows.
+    ensures origin { IfOk result (λ zone. zone.origin ≡ origin.now) }
+    // In a state that holds the zone, the rows of its records are read as it, unless memory runs out.
+    ensures held { (version : ℤ) (all : RowsOf) (s : State) (zone : ZoneOf) → AreOfState version all s → zone_at s origin.now ≡ Some zone → IsPermutation (records_of (name_text origin.now) all.records) rows.now → Reads (λ z. z) result (Ok zone) }
+{
+    zone_in(alloc, origin, rows)
+}
+
+/// The part of the zone of an origin that has its records at the origin and at some names, by their rows, in any order and however
+/// often they come. Rows that are those of no such part are `BadRow`.
+pub fn part_of(alloc: Global, origin: &Name, rows: &[RecordRow]) -> Result<Zone, RowFault>
+    ensures { (version : ℤ) (all : RowsOf) (s : State) (zone : ZoneOf) (names : List (List (List ℕ))) → AreOfState version all s → zone_at s origin.now ≡ Some zone → AreRowsAt (name_text origin.now) (map key_of (origin.now ∷ names)) all.records rows.now → Reads (λ z. z) result (Ok (zone_part zone (at_names origin.now names))) }
+{
+    zone_in(alloc, origin, rows)
+}
+
+/// Whether each record stands before the next one in record order, so that no two are the same.
+pub fn are_in_order(records: &[Record]) -> bool
+    ensures { result ≡ rises record_order records.now }
+{
+    rise(records)
+}
+
+/// The records of rows of one zone, in record order. A row that is that of no record is `BadRow`, and so are rows of which two are of the same record.
+pub fn records_within(alloc: Global, rows: &[RecordRow]) -> Result<Vec<Record>, RowFault>
+    ensures { (version : ℤ) (all : RowsOf) (s : State) (origin top : List (List ℕ)) (zone : ZoneOf) → AreOfState version all s → zone_at s origin ≡ Some zone → IsPermutation (rows_within (name_text origin) top all.records) rows.now → Reads (λ records. records.items) result (Ok (listing (part zone.records (within top)))) }
+{
+    let mut records = records_in(alloc, rows)?;
+    records.sort_by(|first, second| record_order(first, second))?;
+    if !are_in_order(&records) {
+        return Err(RowFault::BadRow);
+    }
+    Ok(records)
+}
+
+/// The receipt of a caller under an identifier, by its row, where there is one. Another row than that of a receipt is `BadRow`, and so
+/// are two rows.
+pub fn receipt_of(alloc: Global, rows: &[ReceiptRow]) -> Result<Option<Receipt>, RowFault>
+    // There is no row, or the one row is that of what is read.
+    ensures found { IfOk result (λ found. MatchOption found (rows.now ≡ []) (λ receipt. (caller : List ℕ) × (id : List ℕ) × (rows.now ≡ receipt_row caller id receipt ∷ []))) }
+    // In a state, the rows under an identifier of a caller are read as what it has there, unless memory runs out.
+    ensures held { (version : ℤ) (all : RowsOf) (s : State) (caller id : List ℕ) → AreOfState version all s → IsPermutation (receipts_of caller id all.receipts) rows.now → Reads (λ receipt. receipt) result (Ok (s.receipts caller id)) }
+{
+    match rows {
+        [] => Ok(None),
+        [row] => {
+            let (_, _, receipt) = read_receipt(alloc, row)?;
+            Ok(Some(receipt))
+        }
+        _ => Err(RowFault::BadRow),
+    }
+}
+
+/// The changes of a zone, the oldest first, by their rows in any order. Rows that are those of no changes are `BadRow`.
+pub fn changes_of(alloc: Global, rows: Vec<ChangeRow>) -> Result<Vec<Change>, RowFault>
+    ensures { (version : ℤ) (all : RowsOf) (s : State) (origin : List (List ℕ)) (held : Held) → AreOfState version all s → s.zones origin ≡ Some held → IsPermutation (changes_in (name_text origin) all.changes) rows.items → Reads (λ changes. map change_in changes.items) result (Ok held.changes) }
+{
+    read_changes(alloc, rows)
+}

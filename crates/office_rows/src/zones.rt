@@ -1,0 +1,158 @@
+//! Whether the rows of `zones`, `records` and `changes` are those of zones with their changes.
+
+ghost use Rattle.std.specs.Prelude.{◌≡◌, ◌↔◌, ◌≤◌, ◌&&◌, ◌==◌, not, true, map, length, IfOk};
+ghost use Rattle.std.specs.List.{position};
+ghost use Rattle.dns_names.specs.Order.{canonical_cmp, same_name};
+ghost use Rattle.zone_core.specs.Views.{AreOfZone};
+ghost use Rattle.office_rows.specs.Orders.{rises};
+ghost use Rattle.office_rows.specs.Checks.{AreZoneRows, Checks, records_first, changes_first, IsZoneOf, AreZonesInTurn};
+
+use crate::ascending::rise;
+use crate::changes::ChangedRecord;
+use crate::gathering::{are_numbered, sorted_changes};
+use crate::ordered::{self, ZoneRecord};
+use crate::reads::built;
+use crate::row_fault::RowFault;
+use dns_data::{Record, same_record};
+use dns_names::Name;
+use office_sql::{ChangeRow, RecordRow, ZoneRow};
+use std::alloc::{AllocError, Global};
+
+/// Checks the rows of `zones`, `records` and `changes`. They are `BadRow` where they are not those of zones with their changes.
+pub(crate) fn check_zones(
+    alloc: Global,
+    zones: &[ZoneRow],
+    records: &[RecordRow],
+    changes: &[ChangeRow],
+) -> Result<(), RowFault>
+    ensures { Checks (AreZoneRows zones.now records.now changes.now) result }
+{
+    let origins = ordered::origins(alloc, zones)?;
+    if !are_apart(&origins) {
+        return Err(RowFault::BadRow);
+    }
+    let records = ordered::records(alloc, records)?;
+    let changes = sorted_changes(alloc, changes)?;
+    if !are_zones(alloc, &origins, &records, &changes)? {
+        return Err(RowFault::BadRow);
+    }
+    Ok(())
+}
+
+/// Whether each name stands before the next one in canonical order, so that none comes twice.
+pub fn are_apart(names: &[Name]) -> bool
+    ensures { result ≡ rises canonical_cmp names.now }
+{
+    rise(names)
+}
+
+/// Whether records and changes are, one after the other, those of zones of these origins, and nothing is left behind the last. The
+/// only error is want of memory.
+fn are_zones(
+    alloc: Global,
+    origins: &[Name],
+    records: &[ZoneRecord],
+    changes: &[ChangedRecord],
+) -> Result<bool, AllocError>
+    ensures { IfOk result (λ yes. (yes ≡ true) ↔ AreZonesInTurn origins.now records.now changes.now) }
+{
+    let (mut records, mut changes) = (records, changes);
+    for origin in origins {
+        let (own, other) = records.split_at(records_first(origin, records));
+        let (changed, later) = changes.split_at(changes_first(origin, changes));
+        if !is_zone_of(alloc, origin, own, changed)? {
+            return Ok(false);
+        }
+        records = other;
+        changes = later;
+    }
+    Ok(records.is_empty() && changes.is_empty())
+}
+
+/// The first of some records that is not of the zone of an origin.
+fn other_record(origin: &Name, records: &[ZoneRecord]) -> Option<usize>
+    ensures { result ≡ position (λ r. not (same_name r.origin origin.now)) records.now }
+{
+    records.iter().position(|record| record.origin != *origin)
+}
+
+/// How many records stand first that are of the zone of an origin.
+pub fn records_first(origin: &Name, records: &[ZoneRecord]) -> usize
+    ensures value { result ≡ records_first origin.now records.now }
+    ensures within { result ≤ length records.now }
+{
+    other_record(origin, records).unwrap_or(records.len())
+}
+
+/// The first of what some changes have that is not of the zone of an origin.
+fn other_change(origin: &Name, changes: &[ChangedRecord]) -> Option<usize>
+    ensures { result ≡ position (λ c. not (same_name c.origin origin.now)) changes.now }
+{
+    changes.iter().position(|change| change.origin != *origin)
+}
+
+/// How many of what changes have stand first that are of the zone of an origin.
+pub fn changes_first(origin: &Name, changes: &[ChangedRecord]) -> usize
+    ensures value { result ≡ changes_first origin.now changes.now }
+    ensures within { result ≤ length changes.now }
+{
+    other_change(origin, changes).unwrap_or(changes.len())
+}
+
+/// Whether records are those of a zone of an origin, in record order, and its changes are numbered. The only error is want of memory.
+fn is_zone_of(
+    alloc: Global,
+    origin: &Name,
+    records: &[ZoneRecord],
+    changes: &[ChangedRecord],
+) -> Result<bool, AllocError>
+    ensures { IfOk result (λ yes. (yes ≡ true) ↔ IsZoneOf origin.now records.now changes.now) }
+{
+    let is_zone = is_zone(alloc, origin, records)?;
+    Ok(is_zone && are_numbered(changes))
+}
+
+/// Whether records are those of a zone of an origin, in record order: the zone that is built of them has them, and no others. The only
+/// error is want of memory.
+fn is_zone(alloc: Global, origin: &Name, records: &[ZoneRecord]) -> Result<bool, AllocError>
+    ensures { IfOk result (λ yes. (yes ≡ true) ↔ AreOfZone origin.now (map (λ r. r.rr) records.now)) }
+{
+    match built(alloc, origin, copied(alloc, records)?) {
+        Ok(zone) => Ok(are_those(zone.records(), records)),
+        Err(RowFault::BadRow) => Ok(false),
+        Err(RowFault::NoMemory) => Err(AllocError),
+    }
+}
+
+/// Copies of records. The only error is want of memory.
+pub fn copied(alloc: Global, records: &[ZoneRecord]) -> Result<Vec<Record>, AllocError>
+    ensures { IfOk result (λ copies. copies.items ≡ map (λ r. r.rr) records.now) }
+{
+    let mut copies = Vec::with_capacity(alloc, records.len())?;
+    for record in records {
+        copies.push(record.rr.try_copy(alloc)?)?;
+    }
+    Ok(copies)
+}
+
+/// Whether two records are equal, TTLs counted.
+fn is_that(first: &Record, second: &Record) -> bool
+    ensures { (result ≡ true) ↔ (first.now ≡ second.now) }
+{
+    same_record(first, second) && first.ttl.seconds() == second.ttl.seconds()
+}
+
+/// Whether records are these, in the same order, TTLs counted.
+pub fn are_those(first: &[Record], second: &[ZoneRecord]) -> bool
+    ensures { (result ≡ true) ↔ (first.now ≡ map (λ r. r.rr) second.now) }
+{
+    if first.len() != second.len() {
+        return false;
+    }
+    for place in 0..first.len() {
+        if !is_that(&first[place], &second[place].rr) {
+            return false;
+        }
+    }
+    true
+}

@@ -1,0 +1,17 @@
+pub mod BlankLaws
+pub mod Rowids
+pub mod Tree
+pub mod Texts
+pub mod WritingTexts
+pub mod CreationTexts
+pub mod Values
+pub mod Effects
+pub mod TransactionParts
+pub mod StatementLemmas
+pub mod Commits
+pub mod Queries
+pub mod RowLemmas
+pub mod Selections
+pub mod LastNumbers
+pub mod Creations
+pub mod WholeTables

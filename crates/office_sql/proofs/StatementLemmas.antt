@@ -1,0 +1,204 @@
+-- What each statement of a writing does to all rows.
+use Rattle.std.proofs.Common.{◌≡◌, ℕ, ℤ, ◌^◌, ◌/◌, length, nat_le, true, false, not, List, [], ◌∷◌, ◌++◌, map, filter, drop, flat_map, codes, Ok, refl, sym, ap, subst, ◌∙◌, append-nil, arith}
+use Rattle.std.specs.List.{AllByRecursion, list_all}
+use Rattle.sqlite_value.specs.declared.value.Value.TheVariants.{Int, Null, Text}
+use Rattle.sqlite_value.specs.Order.{Row}
+use Rattle.sqlite_trees.specs.Tree.{Trees}
+use Rattle.sqlite_sql.specs.Program.{overlay}
+use Rattle.sqlite_sql.specs.Term.{Term, holds}
+use Rattle.sqlite_rules.specs.Edit.{IsNoIndex}
+use Rattle.sqlite_rules.specs.Cast.{cast_row}
+use Rattle.sqlite_schema.specs.declared.command.Command.TheVariants.{Insert}
+use Rattle.sqlite_schema.specs.declared.command.Source.TheVariants.{Values}
+use Rattle.sqlite.specs.Listing.{understood}
+use Rattle.sqlite.specs.Effect.{value_rows}
+use Rattle.sqlite_value.specs.declared.value.ValueRef.{ValueRef}
+use Rattle.sqlite_value.specs.Value.{owned}
+use Rattle.sqlite.specs.Values.{bound, bound_value}
+use Rattle.sqlite.specs.State.{State, Executes}
+use Rattle.sqlite.proofs.Callers.{IsPlain, command_of}
+use Rattle.office_sql.specs.Rows.{RecordRowOf, ReceiptRowOf, ChangeRowOf, RowsOf, same_key}
+use Rattle.office_sql.specs.Tables.{meta, zones, records, receipts, changes, meta_columns, zones_columns, records_columns, receipts_columns, changes_columns, office_schema, stored_version, stored_zone, stored_record, stored_receipt, stored_change}
+use Rattle.office_sql.specs.Stores.{IsReadableRow, Stores}
+use Rattle.office_sql.specs.Holds.{Reads}
+use Rattle.office_sql.specs.Statements.{with_version, with_zone, with_record, with_receipt, with_change, with_each, without_record}
+use Rattle.office_sql.proofs.TransactionParts.{with_records, with_changes}
+use Rattle.std.proofs.Common.{bytes_eq}
+use Rattle.std.specs.Ordering.{int_eq}
+use Rattle.std.proofs.lemmas.Cmp.{int_eq_equiv}
+use Rattle.std.proofs.lemmas.List.{map-append}
+use Rattle.office_sql.proofs.WritingTexts as the
+use Rattle.office_sql.proofs.Texts.{by_key, terms_1, terms_5}
+use Rattle.office_sql.proofs.Effects.{inserts, deletes}
+use Rattle.office_sql.proofs.Values.{bytes_eq_sym, same_text, same_number, and_true, cast_null, cast_int, hits, filter_stored}
+
+pub plainly : (tree : ℕ) → nat_le (2 ^ 31) tree ≡ false → (db : Trees) → overlay db [] tree ≡ db tree
+plainly tree low db = rw low refl
+
+free_of_index_0 : IsNoIndex office_schema 0
+free_of_index_0 = ((λ e. omega arith), ((λ e. omega arith), ((λ e. omega arith), ((λ e. omega arith), ((λ e. omega arith), tt)))))
+
+free_of_index_1 : IsNoIndex office_schema 1
+free_of_index_1 = ((λ e. omega arith), ((λ e. omega arith), ((λ e. omega arith), ((λ e. omega arith), ((λ e. omega arith), tt)))))
+
+free_of_index_3 : IsNoIndex office_schema 3
+free_of_index_3 = ((λ e. omega arith), ((λ e. omega arith), ((λ e. omega arith), ((λ e. omega arith), ((λ e. omega arith), tt)))))
+
+free_of_index_6 : IsNoIndex office_schema 6
+free_of_index_6 = ((λ e. omega arith), ((λ e. omega arith), ((λ e. omega arith), ((λ e. omega arith), ((λ e. omega arith), tt)))))
+
+free_of_index_8 : IsNoIndex office_schema 8
+free_of_index_8 = ((λ e. omega arith), ((λ e. omega arith), ((λ e. omega arith), ((λ e. omega arith), ((λ e. omega arith), tt)))))
+
+cast_meta : (k : ℤ) → cast_row meta (Null ∷ stored_version k) ≡ Null ∷ stored_version k
+cast_meta k = rw (cast_null, cast_int k) refl
+
+pub inserts_meta : (old new : State) (k : ℤ) (count : ℕ) (rows : RowsOf) → IsReadableRow (stored_version k) → Executes the.insert_meta_text (stored_version k) old new (Ok count) → Reads old.now rows → Reads new.now (with_version k rows)
+inserts_meta old new k count rows readable ran h =
+    let it = inserts (codes "meta") 0 meta_columns ([]) 0 refl (plainly 0 refl) the.insert_meta_text (stored_version k) old new h.schema the.insert_meta_plain count ran
+    terms_1 2 stored_version rows.versions (k ∷ []) (readable, tt) the.insert_meta_is refl cast_meta h.tables.versions in
+    record {
+      schema = it.0.schema;
+      tables = record {
+        versions = it.1;
+        zones = rw (it.0.others 1 (omega arith) free_of_index_1) h.tables.zones;
+        records = rw (it.0.others 3 (omega arith) free_of_index_3) h.tables.records;
+        receipts = rw (it.0.others 6 (omega arith) free_of_index_6) h.tables.receipts;
+        changes = rw (it.0.others 8 (omega arith) free_of_index_8) h.tables.changes;
+      };
+    }
+
+cast_zones : (k : List ℕ) → cast_row zones (Null ∷ stored_zone k) ≡ Null ∷ stored_zone k
+cast_zones k = rw cast_null refl
+
+pub inserts_zones : (old new : State) (k : List ℕ) (count : ℕ) (rows : RowsOf) → IsReadableRow (stored_zone k) → Executes the.insert_zones_text (stored_zone k) old new (Ok count) → Reads old.now rows → Reads new.now (with_zone k rows)
+inserts_zones old new k count rows readable ran h =
+    let it = inserts (codes "zones") 1 zones_columns (1 ∷ []) 1 refl (plainly 1 refl) the.insert_zones_text (stored_zone k) old new h.schema the.insert_zones_plain count ran
+    terms_1 2 stored_zone rows.zones (k ∷ []) (readable, tt) the.insert_zones_is refl cast_zones h.tables.zones in
+    record {
+      schema = it.0.schema;
+      tables = record {
+        versions = rw (it.0.others 0 (omega arith) free_of_index_0) h.tables.versions;
+        zones = it.1;
+        records = rw (it.0.others 3 (omega arith) free_of_index_3) h.tables.records;
+        receipts = rw (it.0.others 6 (omega arith) free_of_index_6) h.tables.receipts;
+        changes = rw (it.0.others 8 (omega arith) free_of_index_8) h.tables.changes;
+      };
+    }
+
+-- the parameters of two rows, and of three
+pub bound_two : (a b : List ValueRef) (x y : Row) → bound a ≡ x → bound b ≡ y → bound (flat_map (λ values. values) (a ∷ b ∷ [])) ≡ x ++ y
+bound_two a b x y one two = map-append (λ v. bound_value (owned v)) a (b ++ []) ∙ rw (append-nil b, one, two) refl
+
+pub bound_three : (a b c : List ValueRef) (x y z : Row) → bound a ≡ x → bound b ≡ y → bound c ≡ z → bound (flat_map (λ values. values) (a ∷ b ∷ c ∷ [])) ≡ x ++ (y ++ z)
+bound_three a b c x y z one two three = map-append (λ v. bound_value (owned v)) a (b ++ (c ++ [])) ∙ rw (bound_two b c y z two three, one) refl
+
+cast_records : (k : RecordRowOf) → cast_row records (Null ∷ stored_record k) ≡ Null ∷ stored_record k
+cast_records k = rw (cast_null, cast_int k.record_type, cast_int k.ttl) refl
+
+-- an INSERT of some rows into `records`, whose terms are columns of these rows
+pub inserts_records : (sql : List ℕ) (params : Row) (terms : List Term) (old new : State) (all : List RecordRowOf) (count : ℕ) (rows : RowsOf) → IsPlain (understood office_schema sql)
+    → command_of (understood office_schema sql) ≡ Insert 2 (Values terms 7) → value_rows (params ++ []) 7 (length terms / 7) terms ≡ map (λ k. Null ∷ stored_record k) all
+    → AllByRecursion (λ k. IsReadableRow (stored_record k)) all → Executes sql params old new (Ok count) → Reads old.now rows → Reads new.now (with_each with_record all rows)
+inserts_records sql params terms old new all count rows plain is these readable ran h =
+    let it = inserts (codes "records") 3 records_columns (1 ∷ 2 ∷ 3 ∷ 4 ∷ []) 2 refl (plainly 3 refl) sql params old new h.schema plain count ran
+    terms 7 stored_record rows.records all readable is these cast_records h.tables.records in
+    subst (Reads new.now) (sym (with_records all rows)) (
+    record {
+      schema = it.0.schema;
+      tables = record {
+        versions = rw (it.0.others 0 (omega arith) free_of_index_0) h.tables.versions;
+        zones = rw (it.0.others 1 (omega arith) free_of_index_1) h.tables.zones;
+        records = it.1;
+        receipts = rw (it.0.others 6 (omega arith) free_of_index_6) h.tables.receipts;
+        changes = rw (it.0.others 8 (omega arith) free_of_index_8) h.tables.changes;
+      };
+    })
+
+cast_receipts : (k : ReceiptRowOf) → cast_row receipts (Null ∷ stored_receipt k) ≡ Null ∷ stored_receipt k
+cast_receipts k = rw cast_null refl
+
+pub inserts_receipts : (old new : State) (k : ReceiptRowOf) (count : ℕ) (rows : RowsOf) → IsReadableRow (stored_receipt k) → Executes the.insert_receipts_text (stored_receipt k) old new (Ok count) → Reads old.now rows → Reads new.now (with_receipt k rows)
+inserts_receipts old new k count rows readable ran h =
+    let it = inserts (codes "receipts") 6 receipts_columns (1 ∷ 2 ∷ []) 3 refl (plainly 6 refl) the.insert_receipts_text (stored_receipt k) old new h.schema the.insert_receipts_plain count ran
+    terms_5 6 stored_receipt rows.receipts (k ∷ []) (readable, tt) the.insert_receipts_is refl cast_receipts h.tables.receipts in
+    record {
+      schema = it.0.schema;
+      tables = record {
+        versions = rw (it.0.others 0 (omega arith) free_of_index_0) h.tables.versions;
+        zones = rw (it.0.others 1 (omega arith) free_of_index_1) h.tables.zones;
+        records = rw (it.0.others 3 (omega arith) free_of_index_3) h.tables.records;
+        receipts = it.1;
+        changes = rw (it.0.others 8 (omega arith) free_of_index_8) h.tables.changes;
+      };
+    }
+
+cast_changes : (k : ChangeRowOf) → cast_row changes (Null ∷ stored_change k) ≡ Null ∷ stored_change k
+cast_changes k = rw (cast_null, cast_int k.number, cast_int k.side, cast_int k.record_type, cast_int k.ttl) refl
+
+-- the same of `changes`
+pub inserts_changes : (sql : List ℕ) (params : Row) (terms : List Term) (old new : State) (all : List ChangeRowOf) (count : ℕ) (rows : RowsOf) → IsPlain (understood office_schema sql)
+    → command_of (understood office_schema sql) ≡ Insert 4 (Values terms 8) → value_rows (params ++ []) 8 (length terms / 8) terms ≡ map (λ k. Null ∷ stored_change k) all
+    → AllByRecursion (λ k. IsReadableRow (stored_change k)) all → Executes sql params old new (Ok count) → Reads old.now rows → Reads new.now (with_each with_change all rows)
+inserts_changes sql params terms old new all count rows plain is these readable ran h =
+    let it = inserts (codes "changes") 8 changes_columns (1 ∷ 2 ∷ 3 ∷ 4 ∷ 5 ∷ 6 ∷ []) 4 refl (plainly 8 refl) sql params old new h.schema plain count ran
+    terms 8 stored_change rows.changes all readable is these cast_changes h.tables.changes in
+    subst (Reads new.now) (sym (with_changes all rows)) (
+    record {
+      schema = it.0.schema;
+      tables = record {
+        versions = rw (it.0.others 0 (omega arith) free_of_index_0) h.tables.versions;
+        zones = rw (it.0.others 1 (omega arith) free_of_index_1) h.tables.zones;
+        records = rw (it.0.others 3 (omega arith) free_of_index_3) h.tables.records;
+        receipts = rw (it.0.others 6 (omega arith) free_of_index_6) h.tables.receipts;
+        changes = it.1;
+      };
+    })
+
+key_test : (params r : Row) → list_all (holds (params ∷ r ∷ [])) by_key ≡ hits by_key params (drop 1 r)
+key_test params [] = refl
+key_test params (v ∷ body) = refl
+
+int_eq_sym : (a b : ℤ) → int_eq a b ≡ int_eq b a
+int_eq_sym a b = int_eq_equiv.symm a b
+
+-- the parameters of a deletion
+abbrev pub key_of : RecordRowOf → Row
+key_of k = Text k.origin ∷ Text k.owner ∷ Int k.record_type ∷ Text k.rdata ∷ []
+
+key_hits : (k r : RecordRowOf) → hits by_key (key_of k) (stored_record r) ≡ same_key k r
+key_hits k r = rw (same_text r.origin k.origin, same_text r.owner k.owner, same_number r.record_type k.record_type, same_text r.rdata k.rdata, and_true (bytes_eq r.rdata k.rdata)) (rw (bytes_eq_sym r.origin k.origin, bytes_eq_sym r.owner k.owner, int_eq_sym r.record_type k.record_type, bytes_eq_sym r.rdata k.rdata) refl)
+
+pub deletes_record : (old new : State) (k : RecordRowOf) (count : ℕ) (rows : RowsOf) → Executes the.delete_record_text (key_of k) old new (Ok count) → Reads old.now rows → Reads new.now (without_record k rows)
+deletes_record old new k count rows ran h =
+    let it = deletes (codes "records") 3 records_columns (1 ∷ 2 ∷ 3 ∷ 4 ∷ []) 2 refl (plainly 3 refl) the.delete_record_text (key_of k) old new h.schema the.delete_record_plain count ran
+    by_key (hits by_key (key_of k)) (map stored_record rows.records) the.delete_record_is (key_test (key_of k)) h.tables.records in
+    record {
+      schema = it.0.schema;
+      tables = record {
+        versions = rw (it.0.others 0 (omega arith) free_of_index_0) h.tables.versions;
+        zones = rw (it.0.others 1 (omega arith) free_of_index_1) h.tables.zones;
+        records = subst (Stores (new.now.trees 3)) (filter_stored stored_record (λ x. not (hits by_key (key_of k) x)) (λ r. not (same_key k r)) (λ r. ap not (key_hits k r)) rows.records) it.1;
+        receipts = rw (it.0.others 6 (omega arith) free_of_index_6) h.tables.receipts;
+        changes = rw (it.0.others 8 (omega arith) free_of_index_8) h.tables.changes;
+      };
+    }
+
+none_left : (xs : List Row) → filter (λ x. false) xs ≡ []
+none_left [] = refl
+none_left (x ∷ xs) = none_left xs
+
+pub deletes_meta : (old new : State) (count : ℕ) (rows : RowsOf) → Executes the.delete_meta_text [] old new (Ok count) → Reads old.now rows → Reads new.now (record rows { versions = [] })
+deletes_meta old new count rows ran h =
+    let it = deletes (codes "meta") 0 meta_columns [] 0 refl (plainly 0 refl) the.delete_meta_text [] old new h.schema the.delete_meta_plain count ran
+    [] (λ x. true) (map stored_version rows.versions) the.delete_meta_is (λ r. refl) h.tables.versions in
+    record {
+      schema = it.0.schema;
+      tables = record {
+        versions = subst (Stores (new.now.trees 0)) (none_left (map stored_version rows.versions)) it.1;
+        zones = rw (it.0.others 1 (omega arith) free_of_index_1) h.tables.zones;
+        records = rw (it.0.others 3 (omega arith) free_of_index_3) h.tables.records;
+        receipts = rw (it.0.others 6 (omega arith) free_of_index_6) h.tables.receipts;
+        changes = rw (it.0.others 8 (omega arith) free_of_index_8) h.tables.changes;
+      };
+    }

@@ -1,0 +1,11 @@
+-- The faults of the tables.
+use Rattle.sqlite.specs.declared.error.Error.{Error}
+use Rattle.sqlite.specs.declared.error.Error.TheVariants.{SqliteFailure}
+use Rattle.sqlite.specs.declared.error.ErrorCode.TheVariants.{OutOfMemory}
+use Rattle.office_sql.specs.declared.fault.RowsFault.{RowsFault}
+use Rattle.office_sql.specs.declared.fault.RowsFault.TheVariants.{Store, NoMemory}
+
+-- an error of the store is told as it is, but for want of memory
+abbrev pub fault_of : Error → RowsFault
+fault_of (SqliteFailure OutOfMemory) = NoMemory
+fault_of e = Store e

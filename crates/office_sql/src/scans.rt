@@ -1,0 +1,220 @@
+//! All rows of the tables, of a store that somebody else may have written.
+
+ghost use Rattle.std.specs.Prelude.{◌≡◌, ◌⊎◌, ◌↔◌, List, [], ℤ, Err, IfOk, OnOk, IsTrue, true, false, map};
+ghost use Rattle.std.specs.List.{AllByRecursion, IsDistinct};
+ghost use Rattle.std.specs.Ordering.{int_eq};
+ghost use Rattle.sqlite.specs.Effect.{IsDatabase};
+ghost use Rattle.sqlite.specs.Held.{state};
+ghost use Rattle.sqlite.specs.State.{HasCleanDisk, Shows, Shown};
+ghost use Rattle.office_sql.specs.Rows.{RowsOf};
+ghost use Rattle.office_sql.specs.Tables.{office_schema, stored_version, stored_zone, stored_record, stored_receipt, stored_change};
+ghost use Rattle.office_sql.specs.Stores.{Stores, IsReadableRow};
+ghost use Rattle.office_sql.specs.Holds.{AreRows, Holds, Leaves, OnlyAsks, SameRows};
+ghost use Rattle.office_sql.specs.declared.fault.RowsFault.TheVariants.{BadRow};
+
+use crate::fault::RowsFault;
+use crate::query::ask;
+use crate::reading::FromRow;
+use crate::rows::{ChangeRow, ReceiptRow, RecordRow, ZoneRow};
+use crate::schema::has_tables;
+use sqlite::{Alter, Connection};
+use std::alloc::Global;
+use std::marker::Model;
+
+/// All rows of the tables.
+#[derive(Drop)]
+pub struct AllRows {
+    /// One where this crate made the tables.
+    pub versions: Vec<i64>,
+    pub zones: Vec<ZoneRow>,
+    pub records: Vec<RecordRow>,
+    pub receipts: Vec<ReceiptRow>,
+    pub changes: Vec<ChangeRow>,
+}
+
+impl Model for AllRows {
+    ghost use Rattle.office_sql.specs.Rows.{RowsOf, rows_code};
+
+    ghost Value = { RowsOf };
+
+    ghost coded = { rows_code };
+
+    ghost view = { λ a. record { versions = a.versions.items; zones = a.zones.items; records = a.records.items; receipts = a.receipts.items; changes = a.changes.items } };
+}
+
+/// Whether each of some numbers comes once.
+fn are_apart(mut numbers: Vec<i64>) -> bool
+    ensures { (result ≡ true) ↔ IsDistinct int_eq numbers.items }
+{
+    numbers.sort_unstable();
+    for place in 1..numbers.len() {
+        if numbers[place - 1] == numbers[place] {
+            return false;
+        }
+    }
+    true
+}
+
+/// `BadRow` comes where the tables are not those of the office, or a rowid comes twice in the answer. No statement here
+/// makes such a row, but a connection that is handed in says nothing of its own.
+fn check_rowids<S: Alter>(
+    alloc: Global,
+    conn: &mut Connection<S>,
+    sql: &str,
+) -> Result<(), RowsFault>
+    requires { conn.old.in_transaction ≡ false }
+    ensures asks { OnlyAsks (state S.Store conn.old) (state S.Store conn.new) }
+    ensures same { HasCleanDisk (state S.Store conn.new) → OnOk result (Shows (state S.Store conn.old) (state S.Store conn.new) (state S.Store conn.old).now (state S.Store conn.old).now false) }
+    ensures live { HasCleanDisk (state S.Store conn.new) → OnOk result (((state S.Store conn.new).now.schema ≡ office_schema) × IsDatabase (state S.Store conn.new).now) }
+    ensures shown { HasCleanDisk (state S.Store conn.new) → OnOk result ((mid : _) × (ids : List ℤ) × Shown sql.now [] (state S.Store (record conn.old { in_transaction = true })) (state S.Store mid) (map stored_version ids) × IsDistinct int_eq ids) }
+    ensures bad { HasCleanDisk (state S.Store conn.new) → result ≡ Err BadRow → (rows : _) × (mid : _) × Shown sql.now [] (state S.Store (record conn.old { in_transaction = true })) (state S.Store mid) rows × ((state S.Store conn.old).now.schema ≡ office_schema → (ids : List ℤ) → rows ≡ map stored_version ids → IsDistinct int_eq ids → ⊥) }
+{
+    let ids: Vec<i64> = ask(alloc, conn, sql, &[])?;
+    if has_tables(conn) && are_apart(ids) {
+        Ok(())
+    } else {
+        Err(RowsFault::BadRow)
+    }
+}
+
+/// All rows of a table, by two texts: one that asks for its rowids, and one for its columns.
+fn all<S: Alter, T: FromRow>(
+    alloc: Global,
+    conn: &mut Connection<S>,
+    rowids: &str,
+    columns: &str,
+) -> Result<Vec<T>, RowsFault>
+    requires { conn.old.in_transaction ≡ false }
+    ensures asks { OnlyAsks (state S.Store conn.old) (state S.Store conn.new) }
+    ensures same { HasCleanDisk (state S.Store conn.new) → OnOk result (Shows (state S.Store conn.old) (state S.Store conn.new) (state S.Store conn.old).now (state S.Store conn.old).now false) }
+    ensures live { HasCleanDisk (state S.Store conn.new) → OnOk result (((state S.Store conn.old).now.schema ≡ office_schema) × IsDatabase (state S.Store conn.old).now) }
+    ensures apart { HasCleanDisk (state S.Store conn.new) → OnOk result ((mid : _) × (ids : List ℤ) × Shown rowids.now [] (state S.Store (record conn.old { in_transaction = true })) (state S.Store mid) (map stored_version ids) × IsDistinct int_eq ids) }
+    ensures shown { HasCleanDisk (state S.Store conn.new) → IfOk result (λ xs. (begun : _) × (mid : _) × ((state S.Store begun).now ≡ (state S.Store conn.old).now) × Shown columns.now [] (state S.Store begun) (state S.Store mid) (map T.FromRow.stored xs.items)) }
+    ensures readable { IfOk result (λ xs. AllByRecursion IsReadableRow (map T.FromRow.stored xs.items)) }
+    ensures bad { HasCleanDisk (state S.Store conn.new) → result ≡ Err BadRow
+        → ((rows : _) × (mid : _) × Shown rowids.now [] (state S.Store (record conn.old { in_transaction = true })) (state S.Store mid) rows × ((state S.Store conn.old).now.schema ≡ office_schema → (ids : List ℤ) → rows ≡ map stored_version ids → IsDistinct int_eq ids → ⊥))
+        ⊎ (IsTrue (state S.Store conn.old).is_open × (rows : _) × (begun : _) × (mid : _) × ((state S.Store begun).now ≡ (state S.Store conn.old).now) × Shown columns.now [] (state S.Store begun) (state S.Store mid) rows × ((xs : List T) → rows ≡ map T.FromRow.stored xs → AllByRecursion IsReadableRow rows → ⊥)) }
+{
+    check_rowids(alloc, conn, rowids)?;
+    ask(alloc, conn, columns, &[])
+}
+
+/// The rows of `meta`. Each of these fails with `Store` where the store does, with `NoMemory` where memory runs out, and with
+/// `BadRow` where the tables are not those of the office or a row is none that is written here.
+pub fn versions<S: Alter>(alloc: Global, conn: &mut Connection<S>) -> Result<Vec<i64>, RowsFault>
+    requires { conn.old.in_transaction ≡ false }
+    ensures found { HasCleanDisk (state S.Store conn.new) → IfOk result (λ xs. ((state S.Store conn.new).now.schema ≡ office_schema) × Stores ((state S.Store conn.new).now.trees 0) (map stored_version xs.items)) }
+    ensures asks { OnlyAsks (state S.Store conn.old) (state S.Store conn.new) }
+    ensures same { HasCleanDisk (state S.Store conn.new) → OnOk result (Shows (state S.Store conn.old) (state S.Store conn.new) (state S.Store conn.old).now (state S.Store conn.old).now false) }
+    ensures only { HasCleanDisk (state S.Store conn.new) → OnOk result ((rows : RowsOf) → Holds (state S.Store conn.new) rows → Holds (state S.Store conn.old) rows) }
+    ensures bad { HasCleanDisk (state S.Store conn.new) → result ≡ Err BadRow → (rows : RowsOf) → Holds (state S.Store conn.old) rows → ⊥ }
+{
+    all(
+        alloc,
+        conn,
+        "SELECT rowid FROM meta",
+        "SELECT version FROM meta",
+    )
+}
+
+/// All zones.
+fn all_zones<S: Alter>(alloc: Global, conn: &mut Connection<S>) -> Result<Vec<ZoneRow>, RowsFault>
+    requires { conn.old.in_transaction ≡ false }
+    ensures found { HasCleanDisk (state S.Store conn.new) → IfOk result (λ xs. ((state S.Store conn.new).now.schema ≡ office_schema) × Stores ((state S.Store conn.new).now.trees 1) (map stored_zone xs.items)) }
+    ensures asks { OnlyAsks (state S.Store conn.old) (state S.Store conn.new) }
+    ensures same { HasCleanDisk (state S.Store conn.new) → OnOk result (Shows (state S.Store conn.old) (state S.Store conn.new) (state S.Store conn.old).now (state S.Store conn.old).now false) }
+    ensures only { HasCleanDisk (state S.Store conn.new) → OnOk result ((rows : RowsOf) → Holds (state S.Store conn.new) rows → Holds (state S.Store conn.old) rows) }
+    ensures bad { HasCleanDisk (state S.Store conn.new) → result ≡ Err BadRow → (rows : RowsOf) → Holds (state S.Store conn.old) rows → ⊥ }
+{
+    all(
+        alloc,
+        conn,
+        "SELECT rowid FROM zones",
+        "SELECT origin FROM zones",
+    )
+}
+
+/// The records of all zones.
+fn all_records<S: Alter>(
+    alloc: Global,
+    conn: &mut Connection<S>,
+) -> Result<Vec<RecordRow>, RowsFault>
+    requires { conn.old.in_transaction ≡ false }
+    ensures found { HasCleanDisk (state S.Store conn.new) → IfOk result (λ xs. ((state S.Store conn.new).now.schema ≡ office_schema) × Stores ((state S.Store conn.new).now.trees 3) (map stored_record xs.items)) }
+    ensures asks { OnlyAsks (state S.Store conn.old) (state S.Store conn.new) }
+    ensures same { HasCleanDisk (state S.Store conn.new) → OnOk result (Shows (state S.Store conn.old) (state S.Store conn.new) (state S.Store conn.old).now (state S.Store conn.old).now false) }
+    ensures only { HasCleanDisk (state S.Store conn.new) → OnOk result ((rows : RowsOf) → Holds (state S.Store conn.new) rows → Holds (state S.Store conn.old) rows) }
+    ensures bad { HasCleanDisk (state S.Store conn.new) → result ≡ Err BadRow → (rows : RowsOf) → Holds (state S.Store conn.old) rows → ⊥ }
+{
+    all(
+        alloc,
+        conn,
+        "SELECT rowid FROM records",
+        "SELECT origin, owner, type, data, ttl, owner_key FROM records",
+    )
+}
+
+/// All receipts.
+fn all_receipts<S: Alter>(
+    alloc: Global,
+    conn: &mut Connection<S>,
+) -> Result<Vec<ReceiptRow>, RowsFault>
+    requires { conn.old.in_transaction ≡ false }
+    ensures found { HasCleanDisk (state S.Store conn.new) → IfOk result (λ xs. ((state S.Store conn.new).now.schema ≡ office_schema) × Stores ((state S.Store conn.new).now.trees 6) (map stored_receipt xs.items)) }
+    ensures asks { OnlyAsks (state S.Store conn.old) (state S.Store conn.new) }
+    ensures same { HasCleanDisk (state S.Store conn.new) → OnOk result (Shows (state S.Store conn.old) (state S.Store conn.new) (state S.Store conn.old).now (state S.Store conn.old).now false) }
+    ensures only { HasCleanDisk (state S.Store conn.new) → OnOk result ((rows : RowsOf) → Holds (state S.Store conn.new) rows → Holds (state S.Store conn.old) rows) }
+    ensures bad { HasCleanDisk (state S.Store conn.new) → result ≡ Err BadRow → (rows : RowsOf) → Holds (state S.Store conn.old) rows → ⊥ }
+{
+    all(
+        alloc,
+        conn,
+        "SELECT rowid FROM receipts",
+        "SELECT caller, id, origin, request, reply FROM receipts",
+    )
+}
+
+/// What all changes took away and brought.
+pub fn all_changes<S: Alter>(
+    alloc: Global,
+    conn: &mut Connection<S>,
+) -> Result<Vec<ChangeRow>, RowsFault>
+    requires { conn.old.in_transaction ≡ false }
+    ensures found { HasCleanDisk (state S.Store conn.new) → IfOk result (λ xs. ((state S.Store conn.new).now.schema ≡ office_schema) × Stores ((state S.Store conn.new).now.trees 8) (map stored_change xs.items)) }
+    ensures asks { OnlyAsks (state S.Store conn.old) (state S.Store conn.new) }
+    ensures same { HasCleanDisk (state S.Store conn.new) → OnOk result (Shows (state S.Store conn.old) (state S.Store conn.new) (state S.Store conn.old).now (state S.Store conn.old).now false) }
+    ensures only { HasCleanDisk (state S.Store conn.new) → OnOk result ((rows : RowsOf) → Holds (state S.Store conn.new) rows → Holds (state S.Store conn.old) rows) }
+    ensures bad { HasCleanDisk (state S.Store conn.new) → result ≡ Err BadRow → (rows : RowsOf) → Holds (state S.Store conn.old) rows → ⊥ }
+{
+    all(
+        alloc,
+        conn,
+        "SELECT rowid FROM changes",
+        "SELECT origin, number, side, owner, type, data, ttl FROM changes",
+    )
+}
+
+/// All rows of the tables. It fails as each of the others does.
+pub fn all_rows<S: Alter>(alloc: Global, conn: &mut Connection<S>) -> Result<AllRows, RowsFault>
+    requires { conn.old.in_transaction ≡ false }
+    // The connection holds them, and a crash leaves them.
+    ensures found { HasCleanDisk (state S.Store conn.new) → IfOk result (λ all. Holds (state S.Store conn.new) all × Leaves (state S.Store conn.new) (λ db. AreRows db all)) }
+    ensures answer { HasCleanDisk (state S.Store conn.new) → IfOk result (λ all. (rows : RowsOf) → Holds (state S.Store conn.old) rows → SameRows rows all) }
+    ensures asks { OnlyAsks (state S.Store conn.old) (state S.Store conn.new) }
+    ensures same { HasCleanDisk (state S.Store conn.new) → OnOk result (Shows (state S.Store conn.old) (state S.Store conn.new) (state S.Store conn.old).now (state S.Store conn.old).now false) }
+    ensures only { HasCleanDisk (state S.Store conn.new) → OnOk result ((rows : RowsOf) → Holds (state S.Store conn.new) rows → Holds (state S.Store conn.old) rows) }
+    ensures bad { HasCleanDisk (state S.Store conn.new) → result ≡ Err BadRow → (rows : RowsOf) → Holds (state S.Store conn.old) rows → ⊥ }
+{
+    let versions = versions(alloc, conn)?;
+    let zones = all_zones(alloc, conn)?;
+    let records = all_records(alloc, conn)?;
+    let receipts = all_receipts(alloc, conn)?;
+    let changes = all_changes(alloc, conn)?;
+    Ok(AllRows {
+        versions,
+        zones,
+        records,
+        receipts,
+        changes,
+    })
+}

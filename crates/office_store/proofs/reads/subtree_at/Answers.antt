@@ -1,0 +1,22 @@
+use Rattle.std.proofs.Common.{◌≡◌, pos, Ok, Some, option_map, sym, ap, ◌∙◌, subst, IsPermutation}
+use Rattle.zone_core.specs.Sets.{listing, part, within}
+use Rattle.office_core.specs.States.{zone_held, zone_at}
+use Rattle.dns_names.specs.Spelling.{name_text}
+use Rattle.office_rows.specs.PartRows.{rows_within}
+use Rattle.office_store.proofs.reads.subtree_at.Goals as goal
+
+pub returns-in_default-clause-answer : goal.returns-in_default-clause-answer
+returns-in_default-clause-answer g c = λ clean s h. sym (ap (λ held. option_map (λ zone. listing (part zone.records (within c.args.top.now))) (option_map (zone_held c.args.origin.now) held)) ((rw c.in_default.is at (c.in_ok-rows.ensures.found clean)) s h))
+
+pub returns-clause-answer : goal.returns-clause-answer
+returns-clause-answer g c =
+    λ clean s h.
+    let o = c.args.origin.now in
+    let f = (rw c.in-Some.is at (c.in_ok-rows.ensures.found clean)) s h in
+    let zone = zone_held o f.2 in
+    let there : zone_at s o ≡ Some zone = ap (option_map (zone_held o)) f.3 in
+    let top = c.args.top.now in
+    let rows = subst (λ rs. IsPermutation (rows_within (name_text o) top f.0.records) rs) (sym c.deref.ensures.value) f.4 in
+    let told : Ok (listing (part zone.records (within top))) ≡ Ok c.in_ok-records.records.items = c.in_ok-records.ensures (pos 2) f.0 s o top zone f.1 there rows in
+    let same : listing (part zone.records (within top)) ≡ c.in_ok-records.records.items = cc in
+    sym (ap (option_map (λ z. listing (part z.records (within top)))) there ∙ ap (λ rs. Some rs) same)

@@ -1,0 +1,78 @@
+//! The migration of a store of version 1 to version 2.
+
+ghost use Rattle.std.specs.Prelude.{◌≡◌, ◌⊎◌, pos, false, Err, IfOk, IfErr, OnErr};
+ghost use Rattle.sqlite.specs.Held.{state};
+ghost use Rattle.sqlite.specs.State.{HasCleanDisk};
+ghost use Rattle.office_sql.specs.Rows.{RowsOf};
+ghost use Rattle.office_sql.specs.Holds.{AreRows, Holds, Leaves, SameRows};
+ghost use Rattle.office_rows.specs.Contents.{ContentOf, rows_of};
+ghost use Rattle.office_store.specs.OldZones.{IsOldContent};
+ghost use Rattle.office_store.specs.MigratedContents.{Migrates};
+ghost use Rattle.office_rows.specs.declared.store_fault.StoreFault.TheVariants.{BadRow, WrongVersion};
+ghost use Rattle.office_store.specs.Queries.{Asked};
+ghost use Rattle.office_rows.specs.StoreFaults.{IsFailure, IsOfRows};
+ghost use Rattle.office_store.specs.Holds.{IsOfVersion};
+ghost use Rattle.office_store.specs.Migration.{HoldsOld, IsMigratedIn, IsMigrated, IsRead};
+
+use crate::migration_rows::{Migration, migration_of};
+use crate::opening::{check_version, found};
+use office_rows::{RowFault, StoreFault};
+use office_sql::{AllRows, all_rows, write};
+use sqlite::{Alter, Connection};
+use std::alloc::Global;
+
+/// The version of the tables that are migrated.
+const OLD_VERSION: i64 = 1;
+
+/// What takes rows to version 2. Rows that are those of no state of version 1 are `BadRow`.
+fn migration_from(alloc: Global, rows: &AllRows) -> Result<Migration, StoreFault>
+    ensures found { IfOk result (λ m. Migrates rows.now m.writing m.zones) }
+    ensures only { IfErr result (λ e. (content : ContentOf) → IsOldContent content → SameRows (rows_of (pos 1) content) rows.now → IsFailure e) }
+    ensures named { IfErr result IsOfRows }
+{
+    match migration_of(alloc, rows) {
+        Ok(migration) => Ok(migration),
+        Err(RowFault::BadRow) => Err(StoreFault::BadRow),
+        Err(RowFault::NoMemory) => Err(StoreFault::NoMemory),
+    }
+}
+
+/// What takes all rows that the connection shows to version 2.
+fn read_migration<S: Alter>(
+    alloc: Global,
+    conn: &mut Connection<S>,
+) -> Result<Migration, StoreFault>
+    requires { conn.old.in_transaction ≡ false }
+    ensures found { HasCleanDisk (state S.Store conn.new) → IfOk result (λ m. IsRead (state S.Store conn.old) (state S.Store conn.new) m.writing m.zones) }
+    ensures good { HasCleanDisk (state S.Store conn.new) → IfErr result (λ e. (content : ContentOf) → HoldsOld (state S.Store conn.old) content → IsFailure e) }
+    ensures named { IfErr result IsOfRows }
+    ensures asked { Asked (state S.Store conn.old) (state S.Store conn.new) }
+    ensures ended { conn.new.in_transaction ≡ false }
+{
+    match all_rows(alloc, conn) {
+        Ok(rows) => migration_from(alloc, &rows),
+        Err(fault) => Err(found(fault)),
+    }
+}
+
+/// Takes the tables from version 1 to version 2, in one transaction, and tells how many zones that changes.
+pub(crate) fn migrate<S: Alter>(
+    alloc: Global,
+    conn: &mut Connection<S>,
+) -> Result<usize, StoreFault>
+    requires { conn.old.in_transaction ≡ false }
+    ensures made { HasCleanDisk (state S.Store conn.new) → IfOk result (IsMigrated (state S.Store conn.old) (state S.Store conn.new)) }
+    ensures failed { OnErr result ((rows : RowsOf) → Holds (state S.Store conn.old) rows → Holds (state S.Store conn.new) rows) }
+    ensures crash { OnErr result ((rows : RowsOf) → Holds (state S.Store conn.old) rows → Leaves (state S.Store conn.old) (λ db. AreRows db rows) → Leaves (state S.Store conn.new) (λ db. AreRows db rows ⊎ IsMigratedIn db rows)) }
+    ensures good { HasCleanDisk (state S.Store conn.new) → IfErr result (λ e. (content : ContentOf) → HoldsOld (state S.Store conn.old) content → IsFailure e) }
+    ensures wrong { HasCleanDisk (state S.Store conn.new) → result ≡ Err WrongVersion → ¬ IsOfVersion (pos 1) (state S.Store conn.old) }
+    ensures bad { HasCleanDisk (state S.Store conn.new) → result ≡ Err BadRow → IsOfVersion (pos 1) (state S.Store conn.old) }
+    ensures named { IfErr result (λ e. (e ≡ WrongVersion) ⊎ IsOfRows e) }
+    ensures honest { HasCleanDisk (state S.Store conn.new) → HasCleanDisk (state S.Store conn.old) }
+    ensures ended { conn.new.in_transaction ≡ false }
+{
+    check_version(alloc, conn, OLD_VERSION)?;
+    let migration = read_migration(alloc, conn)?;
+    write(conn, &migration.writing)?;
+    Ok(migration.zones)
+}

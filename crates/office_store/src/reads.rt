@@ -1,0 +1,113 @@
+//! Parts of the state that a connection holds.
+
+ghost use Rattle.std.specs.Prelude.{◌≡◌, false, map, option_map, IfOk, IfErr, IfSome, OnOk};
+ghost use Rattle.sqlite.specs.Held.{state};
+ghost use Rattle.sqlite.specs.State.{HasCleanDisk};
+ghost use Rattle.office_core.specs.States.{State, zone_at, part_at, subtree_at, changes_at};
+ghost use Rattle.office_core.specs.Tables.{change_in};
+ghost use Rattle.office_rows.specs.StoreFaults.{IsFailure};
+ghost use Rattle.office_store.specs.Holds.{HoldsState};
+ghost use Rattle.office_store.specs.Queries.{Asked, Only};
+
+use crate::queries::{change_rows, check_alone, part_rows, subtree_rows, zone_rows};
+use dns_data::Record;
+use dns_names::Name;
+use grant_policy::Identifier;
+use office_core::{Change, Receipt};
+use office_rows::{
+    StoreFault, changes_of, identifier_text, part_of, receipt_of, records_within, zone_of,
+};
+use office_sql::receipts_of;
+use sqlite::{Alter, Connection};
+use std::alloc::Global;
+use zone_core::Zone;
+
+/// The zone of an origin, where there is one.
+pub(crate) fn zone_at<S: Alter>(
+    alloc: Global,
+    conn: &mut Connection<S>,
+    origin: &Name,
+) -> Result<Option<Zone>, StoreFault>
+    ensures origin { IfOk result (λ found. IfSome found (λ zone. zone.origin ≡ origin.now)) }
+    ensures answer { HasCleanDisk (state S.Store conn.new) → IfOk result (λ zone. (s : State) → HoldsState (state S.Store conn.old) s → zone ≡ zone_at s origin.now) }
+    ensures asked { Asked (state S.Store conn.old) (state S.Store conn.new) }
+    ensures only { HasCleanDisk (state S.Store conn.new) → OnOk result (Only (state S.Store conn.old) (state S.Store conn.new)) }
+    ensures ended { OnOk result (conn.new.in_transaction ≡ false) }
+    ensures named { IfErr result IsFailure }
+{
+    let Some(rows) = zone_rows(alloc, conn, origin)? else {
+        return Ok(None);
+    };
+    let zone = zone_of(alloc, origin, &rows)?;
+    Ok(Some(zone))
+}
+
+/// The part of a zone that has its records at the origin and at some names, where there is the zone.
+pub(crate) fn part_at<S: Alter>(
+    alloc: Global,
+    conn: &mut Connection<S>,
+    origin: &Name,
+    names: &[Name],
+) -> Result<Option<Zone>, StoreFault>
+    ensures answer { HasCleanDisk (state S.Store conn.new) → IfOk result (λ zone. (s : State) → HoldsState (state S.Store conn.old) s → zone ≡ part_at s origin.now names.now) }
+    ensures asked { Asked (state S.Store conn.old) (state S.Store conn.new) }
+    ensures only { HasCleanDisk (state S.Store conn.new) → OnOk result (Only (state S.Store conn.old) (state S.Store conn.new)) }
+{
+    let Some(rows) = part_rows(alloc, conn, origin, names)? else {
+        return Ok(None);
+    };
+    let part = part_of(alloc, origin, &rows)?;
+    Ok(Some(part))
+}
+
+/// The records of a zone within a name, in record order, where there is the zone.
+pub(crate) fn subtree_at<S: Alter>(
+    alloc: Global,
+    conn: &mut Connection<S>,
+    origin: &Name,
+    top: &Name,
+) -> Result<Option<Vec<Record>>, StoreFault>
+    ensures answer { HasCleanDisk (state S.Store conn.new) → IfOk result (λ records. (s : State) → HoldsState (state S.Store conn.old) s → option_map (λ rs. rs.items) records ≡ subtree_at s origin.now top.now) }
+    ensures asked { Asked (state S.Store conn.old) (state S.Store conn.new) }
+    ensures only { HasCleanDisk (state S.Store conn.new) → OnOk result (Only (state S.Store conn.old) (state S.Store conn.new)) }
+{
+    let Some(rows) = subtree_rows(alloc, conn, origin, top)? else {
+        return Ok(None);
+    };
+    let records = records_within(alloc, &rows)?;
+    Ok(Some(records))
+}
+
+/// The changes of a zone, the oldest first, where there is the zone.
+pub(crate) fn changes_at<S: Alter>(
+    alloc: Global,
+    conn: &mut Connection<S>,
+    origin: &Name,
+) -> Result<Option<Vec<Change>>, StoreFault>
+    ensures answer { HasCleanDisk (state S.Store conn.new) → IfOk result (λ changes. (s : State) → HoldsState (state S.Store conn.old) s → option_map (λ cs. map change_in cs.items) changes ≡ changes_at s origin.now) }
+    ensures asked { Asked (state S.Store conn.old) (state S.Store conn.new) }
+    ensures only { HasCleanDisk (state S.Store conn.new) → OnOk result (Only (state S.Store conn.old) (state S.Store conn.new)) }
+{
+    let Some(rows) = change_rows(alloc, conn, origin)? else {
+        return Ok(None);
+    };
+    let changes = changes_of(alloc, rows)?;
+    Ok(Some(changes))
+}
+
+/// The receipt of a caller under an identifier, where there is one.
+pub(crate) fn receipt_at<S: Alter>(
+    alloc: Global,
+    conn: &mut Connection<S>,
+    caller: &Identifier,
+    id: &Identifier,
+) -> Result<Option<Receipt>, StoreFault>
+    ensures answer { HasCleanDisk (state S.Store conn.new) → IfOk result (λ receipt. (s : State) → HoldsState (state S.Store conn.old) s → receipt ≡ s.receipts caller.now id.now) }
+    ensures asked { Asked (state S.Store conn.old) (state S.Store conn.new) }
+    ensures only { HasCleanDisk (state S.Store conn.new) → OnOk result (Only (state S.Store conn.old) (state S.Store conn.new)) }
+{
+    check_alone(conn)?;
+    let rows = receipts_of(alloc, conn, identifier_text(caller), identifier_text(id))?;
+    let receipt = receipt_of(alloc, &rows)?;
+    Ok(receipt)
+}
