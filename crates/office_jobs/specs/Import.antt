@@ -3,6 +3,11 @@ use Rattle.std.specs.Prelude.{◌≡◌, ℕ, List, ◌∷◌, [], ◌++◌, len
 use Rattle.dns_names.specs.Spelling.{name_text}
 use Rattle.zone_core.specs.Sets.{listing}
 use Rattle.zone_core.specs.Zones.{ZoneOf, serial_of}
+use Rattle.office_core.specs.States.{State}
+use Rattle.office_rows.specs.declared.store_fault.StoreFault.{StoreFault}
+use Rattle.office_store.specs.Zones.{if_free, if_later, with_imported, with_replaced}
+use Rattle.office_words.specs.declared.job.Existing.{Existing}
+use Rattle.office_words.specs.declared.job.Existing.TheVariants.{Kept, Replaced}
 use Rattle.text_commands.specs.declared.refusal.Refusal.{Refusal}
 use Rattle.text_commands.specs.LineFaults.{◌>>=◌}
 use Rattle.text_commands.specs.Canon.{zone_read}
@@ -26,3 +31,15 @@ PutsZones put = (zone : ZoneOf) → PutsZone zone (put zone)
 -- makes of the zone
 abbrev pub import_text : List ℕ → (ZoneOf → Result (List ℕ) Refusal) → List ℕ → Result (List ℕ) Refusal
 import_text origin put input = zone_read origin input >>= put
+
+-- ---- the table
+
+-- what a table answers to a zone that is put beside the others, or in the place of the one of its origin: this zone, or its refusal
+abbrev pub put_into : Existing → State → ZoneOf → Result ZoneOf StoreFault
+put_into Kept s zone = if_free (s.zones zone.origin) zone
+put_into Replaced s zone = if_later (s.zones zone.origin) zone
+
+-- and the state behind that
+abbrev pub with_put : Existing → State → ZoneOf → State
+with_put Kept s zone = with_imported s (put_into Kept s zone)
+with_put Replaced s zone = with_replaced s (put_into Replaced s zone)

@@ -1,13 +1,19 @@
 //! Putting a zone into a store, and printing one.
 
 ghost use Rattle.std.specs.Prelude.{◌≡◌, ◌<◌, ℕ, List, Result, None, Some, string_bytes, IfOk, IfErr};
+ghost use Rattle.sqlite.specs.Held.{state};
+ghost use Rattle.sqlite.specs.State.{HasCleanDisk};
 ghost use Rattle.dns_data.specs.declared.record.Record.{Record as RecordOf};
 ghost use Rattle.dns_master.specs.ZoneText.{zone_text};
 ghost use Rattle.zone_core.specs.Zones.{ZoneOf};
+ghost use Rattle.office_core.specs.States.{State};
+ghost use Rattle.office_rows.specs.StoreFaults.{Gives as StoreGives};
+ghost use Rattle.office_store.specs.Holds.{HoldsState};
+ghost use Rattle.office_store.specs.Turns.{Turns};
 ghost use Rattle.text_commands.specs.declared.refusal.Refusal.{Refusal as RefusalOf};
 ghost use Rattle.text_commands.specs.LineFaults.{Gives, GivesOf};
 ghost use Rattle.text_commands.specs.Replies.{Answered, IsPrinted};
-ghost use Rattle.office_jobs.specs.Import.{imported_line, PutsZones, import_text};
+ghost use Rattle.office_jobs.specs.Import.{imported_line, PutsZones, import_text, put_into, with_put};
 ghost use Rattle.office_jobs.specs.Stores.{IsStoreLine};
 ghost use Rattle.office_jobs.specs.Export.{FindsRecords, export_text};
 
@@ -50,27 +56,21 @@ fn imported_text(alloc: Global, zone: &Zone) -> Result<String, AllocError>
     format!(in alloc; "{}", ImportedLine(zone))
 }
 
-/// Copies of the records of a zone. The only error is want of memory.
-fn copied(alloc: Global, zone: &Zone) -> Result<Vec<Record>, AllocError> {
-    let mut records = Vec::with_capacity(alloc, zone.records().len())?;
-    for rr in zone.records() {
-        records.push(rr.try_copy(alloc)?)?;
-    }
-    Ok(records)
-}
-
-/// Puts a zone into a table: beside the others, or in the place of the one of its origin.
+/// Puts a zone into a table: beside the others, or in the place of the one of its origin. The refusals are those of the table:
+/// `ZoneExists`, or `NoZone` and `SerialNotGreater`.
 fn put<S: Alter + Drop, L: Ledger>(
     alloc: Global,
     table: &mut SqlTable<S, L>,
     zone: &Zone,
     existing: Existing,
-) -> Result<Zone, StoreFault> {
-    let origin = zone.origin().try_copy(alloc)?;
-    let records = copied(alloc, zone)?;
+) -> Result<(), StoreFault>
+    // It is this zone that is put, whole or not at all.
+    ensures answer { HasCleanDisk (state S.Store table.new.conn) → (s : State) → HoldsState (state S.Store table.old.conn) s → StoreGives (λ _. zone.now) result (put_into existing s zone.now) }
+    ensures turns { Turns (state S.Store table.old.conn) (state S.Store table.new.conn) result (λ s. with_put existing s zone.now) }
+{
     match existing {
-        Existing::Kept => table.import(alloc, origin, records),
-        Existing::Replaced => table.replace(alloc, origin, records),
+        Existing::Kept => table.put(alloc, zone),
+        Existing::Replaced => table.put_in_place(alloc, zone),
     }
 }
 
@@ -88,7 +88,7 @@ fn put_in<S: Alter + Drop, L: Ledger>(
     let text = imported_text(alloc, zone)?;
     let mut table = table;
     match put(alloc, &mut table, zone, existing) {
-        Ok(_) => Ok(text),
+        Ok(()) => Ok(text),
         Err(fault) => Err(store_line(fault)),
     }
 }

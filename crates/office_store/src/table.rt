@@ -18,14 +18,14 @@ ghost use Rattle.office_store.specs.Cache.{IsHeldZone};
 ghost use Rattle.office_store.specs.Migration.{HoldsOld, IsMigratedIn, IsMigrated};
 ghost use Rattle.office_store.specs.Queries.{Asked, Only};
 ghost use Rattle.office_store.specs.Turns.{Turns};
-ghost use Rattle.office_store.specs.Zones.{exported, imported, replaced, with_imported, with_replaced};
+ghost use Rattle.office_store.specs.Zones.{exported, if_free, if_later, imported, replaced, with_imported, with_replaced};
 
 use crate::cache::zone_kept;
 use crate::migration::migrate;
 use crate::opening::{Refused, check_state, make};
 use crate::reads::{changes_at, part_at, receipt_at, subtree_at};
 use crate::writing::commit;
-use crate::zones::{export, import, replace};
+use crate::zones::{export, import, put_zone, replace, take_place};
 use dns_data::Record;
 use dns_names::Name;
 use grant_policy::Identifier;
@@ -197,6 +197,40 @@ impl<S: Alter + Drop, L: Ledger> SqlTable<S, L> {
         ensures { result ≡ self.conn }
     {
         self.conn
+    }
+
+    /// Puts a zone beside the others, in one transaction. No change is appended.
+    ///
+    /// `ZoneExists` comes exactly where there is a zone of its origin, `Store` where the store fails, and `NoMemory` where memory
+    /// runs out.
+    pub fn put(&mut self, alloc: Global, zone: &Zone) -> Result<(), StoreFault>
+        ensures answer { HasCleanDisk (state S.Store self.new.conn) → (s : State) → HoldsState (state S.Store self.old.conn) s → Gives (λ _. zone.now) result (if_free (s.zones zone.now.origin) zone.now) }
+        ensures turns { Turns (state S.Store self.old.conn) (state S.Store self.new.conn) result (λ s. with_imported s (if_free (s.zones zone.now.origin) zone.now)) }
+        ensures counts { CountsCall self.old.book.total self.new.book.total result }
+    {
+        self.kept = None;
+        match put_zone(alloc, &mut self.conn, zone) {
+            Ok(()) => Ok(()),
+            Err(fault) => Err(counted(&mut self.book, &mut self.share, fault)),
+        }
+    }
+
+    /// Puts a zone in the place of the one of its origin, in one transaction, with one change: the records that went and those that
+    /// came.
+    ///
+    /// The refusals, of which the first is answered: `NoZone` exactly where there is no zone of the origin; and `SerialNotGreater`
+    /// exactly where its serial is not less than the new one (RFC 1982 section 3.2). `Store` comes where the store fails, and
+    /// `NoMemory` where memory runs out.
+    pub fn put_in_place(&mut self, alloc: Global, zone: &Zone) -> Result<(), StoreFault>
+        ensures answer { HasCleanDisk (state S.Store self.new.conn) → (s : State) → HoldsState (state S.Store self.old.conn) s → Gives (λ _. zone.now) result (if_later (s.zones zone.now.origin) zone.now) }
+        ensures turns { Turns (state S.Store self.old.conn) (state S.Store self.new.conn) result (λ s. with_replaced s (if_later (s.zones zone.now.origin) zone.now)) }
+        ensures counts { CountsCall self.old.book.total self.new.book.total result }
+    {
+        self.kept = None;
+        match take_place(alloc, &mut self.conn, zone) {
+            Ok(()) => Ok(()),
+            Err(fault) => Err(counted(&mut self.book, &mut self.share, fault)),
+        }
     }
 
     /// Imports the zone of an origin and records, as `Zone::build` makes it, in one transaction. No change is appended.

@@ -23,7 +23,7 @@ use std::alloc::Global;
 use zone_core::{Zone, serial_less};
 
 /// Puts a zone beside the others, unless there is one of its origin.
-fn put_zone<S: Alter>(
+pub(crate) fn put_zone<S: Alter>(
     alloc: Global,
     conn: &mut Connection<S>,
     zone: &Zone,
@@ -84,7 +84,7 @@ fn zone_before<S: Alter>(
 }
 
 /// Puts a zone in the place of the one of its origin, if its serial is greater.
-fn take_place<S: Alter>(
+pub(crate) fn take_place<S: Alter>(
     alloc: Global,
     conn: &mut Connection<S>,
     zone: &Zone,

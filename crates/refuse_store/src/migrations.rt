@@ -1,7 +1,7 @@
 //! What takes rows from version 1 to version 2.
 
 ghost use Rattle.std.specs.Prelude.{IfOk};
-ghost use Rattle.office_store.specs.Migrations.{Migrates};
+ghost use Rattle.office_store.specs.MigratedContents.{Migrates};
 
 use office_store::Migration;
 use office_rows::RowFault;

@@ -8,7 +8,7 @@ ghost use Rattle.office_sql.specs.Holds.{Holds};
 ghost use Rattle.office_sql.specs.Rows.{RowsOf};
 ghost use Rattle.office_rows.specs.StoreFaults.{IsFailure};
 ghost use Rattle.office_store.specs.Holds.{HoldsState};
-ghost use Rattle.office_store.specs.Migrating.{IsMigrated};
+ghost use Rattle.office_store.specs.Migration.{IsMigrated};
 ghost use Rattle.office_store.specs.Turns.{Turns};
 ghost use Rattle.office_store.specs.Zones.{imported, with_imported};
 

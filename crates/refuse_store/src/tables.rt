@@ -4,10 +4,10 @@ ghost use Rattle.std.specs.Prelude.{◌≡◌, false, IfOk, IsTrue, OnOk, OnErr,
 ghost use Rattle.sqlite.specs.Files.{file_state};
 ghost use Rattle.sqlite.specs.Held.{state};
 ghost use Rattle.sqlite.specs.State.{HasCleanDisk};
-ghost use Rattle.office_sql.specs.New.{ShowsThose};
+ghost use Rattle.office_sql.specs.Files.{ShowsThose};
 ghost use Rattle.office_sql.specs.Holds.{Holds};
-ghost use Rattle.office_sql.specs.Questions as the;
-ghost use Rattle.office_sql.specs.Questions.{IsLast};
+ghost use Rattle.office_sql.specs.Lookups as the;
+ghost use Rattle.office_sql.specs.Lookups.{IsLast};
 ghost use Rattle.office_sql.specs.Rows.{RowsOf, written};
 
 use office_sql::{RecordRow, RowsFault, Writing};
