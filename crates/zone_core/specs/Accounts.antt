@@ -8,7 +8,7 @@ use Rattle.zone_core.specs.declared.update.Operation.{Operation}
 use Rattle.zone_core.specs.declared.update.Operation.TheVariants.{Add, DeleteRrset, DeleteName, DeleteRecord}
 use Rattle.zone_core.specs.Serials.{IsLess}
 use Rattle.zone_core.specs.Sets.{Records, IsIn}
-use Rattle.zone_core.specs.Zones.{ZoneOf, IsZone, serial_in}
+use Rattle.zone_core.specs.Zones.{ZoneOf, AreKept, IsZone, serial_in}
 use Rattle.zone_core.specs.Updates.{UpdateOf, IsUpdate, ActsWithin}
 use Rattle.zone_core.specs.Effects.{effect, zone_after}
 
@@ -72,3 +72,24 @@ Leaves zone update after = (r : Record) → type_of r.rdata ≢ types.Soa → Is
 
 abbrev pub UpdatesLeave : Type 0
 UpdatesLeave = (zone : ZoneOf) (update : UpdateOf) → IsZone zone → IsUpdate update → ActsWithin zone.origin update → Leaves zone update (zone_after zone update)
+
+-- ---- one operation after the other
+
+-- an operation makes a set of another: in it is what the operation puts there, and what was there and it does not take away
+abbrev pub Makes : List (List ℕ) → Records → Operation → Records → Type 0
+Makes origin before op after = (r : Record) → IsIn r after ↔ (Puts origin before op r ⊎ (IsIn r before × ¬ Takes origin before op r))
+
+-- operations make a set of another in turn, each from what the one before it made
+abbrev pub AllMake : List (List ℕ) → Records → List Operation → Records → Type 0
+AllMake origin before [] after = (r : Record) → IsIn r after ↔ IsIn r before
+AllMake origin before (op ∷ ops) after = (between : Records) × AreKept between × Makes origin before op between × AllMake origin between ops after
+
+-- the records of a zone after an update, but for its SOA, are those that the operations make of the records before it in turn
+abbrev pub IsMadeBy : ZoneOf → UpdateOf → ZoneOf → Type 0
+IsMadeBy zone update after =
+    (made : Records) × AllMake zone.origin zone.records update.operations made
+    × ((r : Record) → type_of r.rdata ≢ types.Soa → IsIn r after.records ↔ IsIn r made)
+
+-- so it is after each update of a zone within its origin
+abbrev pub UpdatesMake : Type 0
+UpdatesMake = (zone : ZoneOf) (update : UpdateOf) → IsZone zone → IsUpdate update → ActsWithin zone.origin update → IsMadeBy zone update (zone_after zone update)
