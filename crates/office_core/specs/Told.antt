@@ -48,8 +48,9 @@ IsDue rules s caller id origin update (replies.Refused place by) =
 IsDue rules s caller id origin update (replies.Failed failed) = FailsBy rules s caller origin update failed
 
 -- A zone is made another by an update: its records are those that the operations make of the records before it, one operation
--- after the other (RFC 2136 section 3.4.2); its serial is greater if anything has changed (section 3.6, RFC 1982); what moved
--- was asked for and granted, but for the SOA whose serial the office advanced; it is noted; and no other zone has changed.
+-- after the other (RFC 2136 section 3.4.2), with the next serial where they leave it as it was (section 3.6); so its serial is
+-- greater if anything has changed (RFC 1982); what moved was asked for and granted, but for the SOA whose serial the office
+-- advanced; it is noted; and no other zone has changed.
 pub record IsMadeWhole (rules : List Rule) (before : State) (caller : List ℕ) (origin : List (List ℕ)) (update : UpdateOf) (held : Held) (after : State) : Type 0 where
   pub now : Held
   pub there : after.zones origin ≡ Some now

@@ -33,8 +33,9 @@ pub fn updates_leave_records()
     ensures { UpdatesLeave }
 {}
 
-/// The records of a zone after an update, but for its SOA, are those that the operations make one after the other: each puts
-/// records there and takes some away of what the one before it made, and leaves all others (RFC 2136 section 3.4.2).
+/// The records of a zone after an update are those that the operations make one after the other: each puts records there and
+/// takes some away of what the one before it made, and leaves all others (RFC 2136 section 3.4.2). Where that is another set with
+/// the serial as it was, the SOA is one version further (section 3.6).
 pub fn updates_make_records()
     ensures { UpdatesMake }
 {}
