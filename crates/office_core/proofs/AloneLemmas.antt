@@ -1,5 +1,5 @@
 -- What a run does, and what it tells each caller.
-use Rattle.std.proofs.Common.{List, [], ◌∷◌, ◌++◌, Option, Some, None, Result, Ok, Err, IfOk, ap, ◌∙◌}
+use Rattle.std.proofs.Common.{List, [], ◌∷◌, ◌++◌, Option, Some, None, Result, Ok, Err, IfOk, sym, ap, subst, ◌∙◌}
 use Rattle.grant_policy.specs.declared.rule.Rule.{Rule}
 use Rattle.office_core.specs.declared.request.Call.{Call}
 use Rattle.office_core.specs.declared.reply.Reply.{Reply}
@@ -8,7 +8,9 @@ use Rattle.office_core.specs.States.{State, AreZones, AreReceipts}
 use Rattle.office_core.specs.Runs.{HasUpdate, HaveUpdates, one_kept, kept, given, IsRun}
 use Rattle.office_core.specs.Isolation.{told_to, AreToldAlone}
 use Rattle.office_core.specs.Promises.{CallsAreRight}
+use Rattle.office_core.specs.Told.{AnswersAreRight}
 use Rattle.office_core.proofs.CallLemmas.{calls_are_right}
+use Rattle.office_core.proofs.AnswerLemmas.{answers_are_right}
 use Rattle.office_core.proofs.IsolationLemmas.{callers_are_alone, blind_callers_are_alone, policies_keep_alone}
 
 -- what is kept of calls has updates, where the calls have
@@ -32,6 +34,11 @@ run_alone holds rules s calls rs zones has run =
 
 pub run_right : (rules : List Rule) (s : State) (calls : List Call) (rs : List Reply) → AreZones s → AreReceipts s → HaveUpdates calls → CallsAreRight rules s (kept calls rs)
 run_right rules s calls rs zones receipts has = calls_are_right rules s (kept calls rs) zones receipts (kept_have calls rs has)
+
+pub run_told : (holds : State → Type 0) (rules : List Rule) (s : State) (calls : List Call) (rs : List Reply) → AreZones s → AreReceipts s → HaveUpdates calls → IsRun holds rules s calls rs
+    → AnswersAreRight rules s (kept calls rs) (given calls rs)
+run_told holds rules s calls rs zones receipts has run =
+    subst (AnswersAreRight rules s (kept calls rs)) (sym run.as_machine) (answers_are_right rules s (kept calls rs) zones receipts (kept_have calls rs has))
 
 -- what follows of a value follows of an answer
 pub of_ok : {X E : Type 0} (P Q : X → Type 0) → ((x : X) → P x → Q x) → (r : Result X E) → IfOk r P → IfOk r Q

@@ -17,3 +17,4 @@ pub mod MovedLemmas
 pub mod MadeLemmas
 pub mod PromiseLemmas
 pub mod CallLemmas
+pub mod AnswerLemmas

@@ -11,3 +11,4 @@ pub mod Runs
 pub mod Isolation
 pub mod Memory
 pub mod Promises
+pub mod Told

@@ -3,6 +3,7 @@
 ghost use Rattle.office_core.specs.Footprints.{FootprintsAreAsked, FootprintsAreInOrder};
 ghost use Rattle.office_core.specs.Isolation.{CallersAreAlone, BlindCallersAreAlone, PoliciesKeepAlone};
 ghost use Rattle.office_core.specs.Promises.{ListsAreExact, ChangesAreExact, AllCallsAreRight};
+ghost use Rattle.office_core.specs.Told.{AllAnswersAreRight};
 
 /// The footprint of an update has exactly the points that its items ask for, each once and in order: those of prerequisites
 /// before those of operations, items by their numbers, and the points of an item by type number.
@@ -43,4 +44,13 @@ pub fn changes_are_exact()
 /// and the noted changes lead from the one to the other.
 pub fn calls_are_right()
     ensures { AllCallsAreRight }
+{}
+
+/// The same of what calls are told, by what is held before each call and after it. An update under a new identifier is told exactly
+/// what it is due: that it is made, where it may be, and then the records of its zone are those that its operations make in turn
+/// (RFC 2136 section 3.4.2); or the first item outside the zone, the first point that is not granted, or the first prerequisite that
+/// is not met (section 3.2.5). An update that is called again is told the same again and changes nothing, so that at most one is made
+/// under each identifier of a caller. Any other request is told what the caller may list, see or do.
+pub fn answers_are_right()
+    ensures { AllAnswersAreRight }
 {}

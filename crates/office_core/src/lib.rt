@@ -21,8 +21,8 @@ pub use fail_table::{FailTable, TableCall};
 pub use fault::TableFault;
 pub use footprint::{operation_asks, prerequisite_asks};
 pub use laws::{
-    callers_are_alone, calls_are_right, changes_are_exact, footprints_are_asked_in_order,
-    lists_are_exact,
+    answers_are_right, callers_are_alone, calls_are_right, changes_are_exact,
+    footprints_are_asked_in_order, lists_are_exact,
 };
 pub use memory::MemTable;
 pub use permission::{Denial, denied};

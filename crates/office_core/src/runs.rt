@@ -4,6 +4,7 @@ ghost use Rattle.std.specs.Prelude.{◌≡◌, ◌+◌, IfOk, OnErr, sum_by};
 ghost use Rattle.office_core.specs.States.{State};
 ghost use Rattle.office_core.specs.Runs.{IsRun, HasUpdate, HaveUpdates, kept, given, failures_told};
 ghost use Rattle.office_core.specs.Promises.{CallsAreRight};
+ghost use Rattle.office_core.specs.Told.{AnswersAreRight};
 ghost use Rattle.office_core.specs.Isolation.{AreToldAlone};
 
 use crate::reply::Reply;
@@ -26,6 +27,8 @@ pub fn run<T: ZoneTable>(
     ensures run { T.is_honest table.new → (s : State) → T.holds table.old s → IfOk result (λ replies. IsRun (T.holds table.new) policy.now s calls.now replies.items) }
     // What is promised of calls holds of them: what is made of them is permitted, made whole and in order, and nothing else is.
     ensures promises { T.is_honest table.new → (s : State) → T.holds table.old s → IfOk result (λ replies. CallsAreRight policy.now s (kept calls.now replies.items)) }
+    // What calls are told is right: each reply, by what is held before its call and after it.
+    ensures told { T.is_honest table.new → (s : State) → T.holds table.old s → IfOk result (λ replies. AnswersAreRight policy.now s (kept calls.now replies.items) (given calls.now replies.items)) }
     // Each caller is told what it would be told alone, as far as the law of isolation goes.
     ensures alone { T.is_honest table.new → (s : State) → T.holds table.old s → IfOk result (λ replies. AreToldAlone policy.now s (kept calls.now replies.items) (given calls.now replies.items)) }
     // A store that has kept its word had kept it before.

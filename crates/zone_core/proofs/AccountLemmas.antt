@@ -296,7 +296,7 @@ is_guarded_of t kept =
     ])
 
 -- what an operation leaves
-abbrev LeftBy : List (List ℕ) → Records → Operation → Records → Type 0
+abbrev pub LeftBy : List (List ℕ) → Records → Operation → Records → Type 0
 LeftBy origin set op after = (r : Record) → IsIn r after ↔ (Puts origin set op r ⊎ (IsIn r set × ¬ Takes origin set op r))
 
 abbrev PutsNone : List (List ℕ) → Records → Operation → Type 0
@@ -417,7 +417,7 @@ module _ (origin : List (List ℕ)) (set : Records) (z : Keys origin set) where
             ))
 
   -- what an operation leaves
-  left_effect : (op : Operation) → IsOperation op → LeftBy origin set op (effect origin set op)
+  pub left_effect : (op : Operation) → IsOperation op → LeftBy origin set op (effect origin set op)
   left_effect (Add x) is = left_add origin set z x is
   left_effect (DeleteRrset name t) is = left_rrset name t
   left_effect (DeleteName name) is = left_name name

@@ -24,7 +24,7 @@ use Rattle.zone_core.proofs.AccountLemmas.{left_effects}
 
 -- but for the SOA, the records of a settled set are those after
 module _ (origin : List (List ℕ)) (before after : Records) (z : Keys origin before) (heir : Heir origin before z after) (r : Record) (other : type_of r.rdata ≢ types.Soa) where
-  next_there : get (with_next after (soa_at origin after)) (key_of r) ≡ get after (key_of r)
+  pub next_there : get (with_next after (soa_at origin after)) (key_of r) ≡ get after (key_of r)
   next_there =
       let soa = heir.0.soa_there.0 in
       let p : Key → Bool = at soa.owner types.Soa in

@@ -35,9 +35,13 @@ pub mod AdvancedLemmas
 pub mod NeedLemmas
 pub mod GatherLemmas
 pub mod MetLemmas
+pub mod UnmetLemmas
+pub mod OutsideLemmas
 pub mod NameListLemmas
+pub mod ReportLemmas
 pub mod AccountLemmas
 pub mod LeaveLemmas
+pub mod MakeLemmas
 pub mod OwnLemmas
 pub mod OriginLemmas
 pub mod ListedLemmas

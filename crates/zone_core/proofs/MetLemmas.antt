@@ -29,16 +29,16 @@ use Rattle.zone_core.proofs.ZoneLemmas.{at_has, at_is, kind, no, both_true}
 
 -- ---- elements of lists
 
-abbrev Among : {X : Type 0} → X → List X → Type 0
+abbrev pub Among : {X : Type 0} → X → List X → Type 0
 Among x [] = ⊥
 Among x (y ∷ ys) = (x ≡ y) ⊎ Among x ys
 
-among_of : {X : Type 0} (xs : List X) (x : X) → Contains xs x → Among x xs
+pub among_of : {X : Type 0} (xs : List X) (x : X) → Contains xs x → Among x xs
 among_of [] x c = absurd (omega (arith, c.1))
 among_of (y ∷ ys) x (zero, lt, e) = inl (sym e)
 among_of (y ∷ ys) x (suc k, lt, e) = inr (among_of ys x (k, omega (arith, lt), e))
 
-of_among : {X : Type 0} (xs : List X) (x : X) → Among x xs → Contains xs x
+pub of_among : {X : Type 0} (xs : List X) (x : X) → Among x xs → Contains xs x
 of_among [] x a = absurd a
 of_among {X} (y ∷ ys) x a = (elim a [ inl e ↦ first e | inr later ↦ more (of_among ys x later) ])
   where
@@ -56,12 +56,12 @@ or_is : (a b : Bool) → (a || b) ≡ true → (a ≡ true) ⊎ (b ≡ true)
 or_is true b e = inl refl
 or_is false b e = inr e
 
-any_is : {X : Type 0} (p : X → Bool) (xs : List X) → list_any p xs ≡ true → (x : X) × Among x xs × (p x ≡ true)
+pub any_is : {X : Type 0} (p : X → Bool) (xs : List X) → list_any p xs ≡ true → (x : X) × Among x xs × (p x ≡ true)
 any_is p [] e = absurd cc
 any_is p (y ∷ ys) e =
     (elim (or_is (p y) (list_any p ys) e) [ inl here ↦ (y, inl refl, here) | inr later ↦ (let found = any_is p ys later in (found.0, inr found.1, found.2)) ])
 
-is_any : {X : Type 0} (p : X → Bool) (xs : List X) (x : X) → Among x xs → p x ≡ true → list_any p xs ≡ true
+pub is_any : {X : Type 0} (p : X → Bool) (xs : List X) (x : X) → Among x xs → p x ≡ true → list_any p xs ≡ true
 is_any p [] x a e = absurd a
 is_any p (y ∷ ys) x a e = (elim a [ inl same ↦ first (p y) (list_any p ys) (ap p (sym same) ∙ e) | inr later ↦ second (p y) (list_any p ys) (is_any p ys x later e) ])
   where
@@ -81,7 +81,7 @@ is_all : {X : Type 0} (p : X → Bool) (xs : List X) → ((x : X) → Among x xs
 is_all p [] each = refl
 is_all p (y ∷ ys) each = both_true (p y) (list_all p ys) (each y (inl refl)) (is_all p ys (λ x a. each x (inr a)))
 
-among_append : {X : Type 0} (xs ys : List X) (x : X) → Among x (xs ++ ys) ↔ (Among x xs ⊎ Among x ys)
+pub among_append : {X : Type 0} (xs ys : List X) (x : X) → Among x (xs ++ ys) ↔ (Among x xs ⊎ Among x ys)
 among_append [] ys x = (λ a. inr a, λ a. (elim a [ inl none ↦ absurd none | inr b ↦ b ]))
 among_append (z ∷ xs) ys x =
     let rest = among_append xs ys x in (
@@ -146,7 +146,7 @@ same_is a b is also =
 
 -- no item has a code exactly where each has none
 module _ (code : Prerequisite → Option Rcode) where
-  each_none : (i : ℕ) (ps : List Prerequisite) → first_failed code i ps ≡ None → AllByRecursion (λ p. code p ≡ None) ps
+  pub each_none : (i : ℕ) (ps : List Prerequisite) → first_failed code i ps ≡ None → AllByRecursion (λ p. code p ≡ None) ps
   each_none i [] e = tt
   each_none i (p ∷ ps) e = by_code (each_none (suc i) ps) (code p) refl e
     where
@@ -284,7 +284,7 @@ module _ (rows : List Record) (order : InOrder rows) (kept : AreKept (set_of row
         let one = (met d given.1).1 (of_among all (RrsetEquals name d) given.0) in
         is_any (same_data d) (data_in (part set (at name t))) d ((data_among name t d).1 one) ((same_is d d (given_rdata name d given.0) (given_rdata name d given.0)).1 refl)))
 
-    one_met : (p : Prerequisite) → fails set p ≡ None → set_fails set all p ≡ None → IsMet set all p
+    pub one_met : (p : Prerequisite) → fails set p ≡ None → set_fails set all p ≡ None → IsMet set all p
     one_met (RrsetExists name t) e f = exists_one name t (chosen_first (has set (at name t)) NxRrset e)
     one_met (RrsetEquals name rdata) e f = equal_is name rdata (equal_met name (type_of rdata) (chosen_first (are_data (part set (at name (type_of rdata))) (flat_map (given_for name (type_of rdata)) all)) NxRrset f))
       where
@@ -294,14 +294,14 @@ module _ (rows : List Record) (order : InOrder rows) (kept : AreKept (set_of row
     one_met (NameUsed name) e f = used_one name (chosen_first (has set (at_name name)) NxDomain e)
     one_met (NameUnused name) e f = λ r here own. no (has set (at_name name)) (one_used name r here own) (chosen_second (has set (at_name name)) YxDomain e)
 
-    met_fails : (p : Prerequisite) → IsMet set all p → fails set p ≡ None
+    pub met_fails : (p : Prerequisite) → IsMet set all p → fails set p ≡ None
     met_fails (RrsetExists name t) met = ap (λ b. if b then None else Some NxRrset) (one_exists name t met.0 met.1)
     met_fails (RrsetEquals name rdata) met = refl
     met_fails (RrsetAbsent name t) met = ap (λ b. if b then Some YxRrset else None) (false_from_ne_true (has set (at name t)) (λ e. let one = exists_one name t e in met one.0 one.1))
     met_fails (NameUsed name) met = ap (λ b. if b then None else Some NxDomain) (one_used name met.0 met.1 met.2)
     met_fails (NameUnused name) met = ap (λ b. if b then Some YxDomain else None) (false_from_ne_true (has set (at_name name)) (λ e. let one = used_one name e in met one.0 one.1 one.2))
 
-    met_set : (p : Prerequisite) → IsMet set all p → set_fails set all p ≡ None
+    pub met_set : (p : Prerequisite) → IsMet set all p → set_fails set all p ≡ None
     met_set (RrsetExists name t) met = refl
     met_set (RrsetEquals name rdata) met =
         ap (λ b. if b then None else Some NxRrset) (met_equal name (type_of rdata) (λ d type. subst (λ t. ((r : Record) × Stands set name t r × (r.rdata ≡ d)) ↔ Contains all (RrsetEquals name d)) type (met d type)))

@@ -32,13 +32,13 @@ ordered_are all sorted names there back order is =
 
 -- ---- they are the keys of a map
 
-abbrev Name : Type 0
+abbrev pub Name : Type 0
 Name = List (List ℕ)
 
-abbrev Names : Type 0
+abbrev pub Names : Type 0
 Names = FinMap canonical_cmp (Unit {0})
 
-abbrev paired : List Name → List (Name × Unit {0})
+abbrev pub paired : List Name → List (Name × Unit {0})
 paired names = map (λ name. (name, tt {0})) names
 
 unpaired : (names : List Name) → map (λ (e : Name × Unit {0}). e.0) (paired names) ≡ names
@@ -54,7 +54,7 @@ same_units None (Some y) e = absurd cc
 same_units (Some x) None e = absurd cc
 same_units (Some x) (Some y) e = refl
 
-is_found : (name : Name) (names : List Name) → is_some (find canonical_cmp name (paired names)) ≡ list_any (same_name name) names
+pub is_found : (name : Name) (names : List Name) → is_some (find canonical_cmp name (paired names)) ≡ list_any (same_name name) names
 is_found name names = is_some-find canonical_cmp name (paired names) ∙ ap (list_any (same_name name)) (unpaired names)
 
 both_true : (a b : Bool) → T a → T b → T (a && b)

@@ -1,5 +1,5 @@
 -- What operations take away from a set of records, and what they put there, record by record (RFC 2136 section 3.4.2).
-use Rattle.std.specs.Prelude.{◌≡◌, ◌≢◌, ◌↔◌, ◌⊎◌, ℕ, List, [], ◌∷◌}
+use Rattle.std.specs.Prelude.{◌≡◌, ◌≢◌, ◌↔◌, ◌⊎◌, ℕ, List, [], ◌∷◌, Some}
 use Rattle.dns_data.specs.declared.record.Record.{Record}
 use Rattle.dns_data.specs.declared.record_type.RecordType.{RecordType}
 use Rattle.dns_data.specs.declared.record_type.RecordType.TheVariants as types
@@ -8,9 +8,9 @@ use Rattle.zone_core.specs.declared.update.Operation.{Operation}
 use Rattle.zone_core.specs.declared.update.Operation.TheVariants.{Add, DeleteRrset, DeleteName, DeleteRecord}
 use Rattle.zone_core.specs.Serials.{IsLess}
 use Rattle.zone_core.specs.Sets.{Records, IsIn}
-use Rattle.zone_core.specs.Zones.{ZoneOf, IsZone, serial_in}
+use Rattle.zone_core.specs.Zones.{ZoneOf, AreKept, IsZone, serial_in, soa_at, serial_at}
 use Rattle.zone_core.specs.Updates.{UpdateOf, IsUpdate, ActsWithin}
-use Rattle.zone_core.specs.Effects.{effect, zone_after}
+use Rattle.zone_core.specs.Effects.{effect, next_version, zone_after}
 
 -- a record of a set that has this owner and type
 abbrev pub Stands : Records → List (List ℕ) → RecordType → Record → Type 0
@@ -72,3 +72,38 @@ Leaves zone update after = (r : Record) → type_of r.rdata ≢ types.Soa → Is
 
 abbrev pub UpdatesLeave : Type 0
 UpdatesLeave = (zone : ZoneOf) (update : UpdateOf) → IsZone zone → IsUpdate update → ActsWithin zone.origin update → Leaves zone update (zone_after zone update)
+
+-- ---- one operation after the other
+
+-- an operation makes a set of another: in it is what the operation puts there, and what was there and it does not take away
+abbrev pub Makes : List (List ℕ) → Records → Operation → Records → Type 0
+Makes origin before op after = (r : Record) → IsIn r after ↔ (Puts origin before op r ⊎ (IsIn r before × ¬ Takes origin before op r))
+
+-- operations make a set of another in turn, each from what the one before it made
+abbrev pub AllMake : List (List ℕ) → Records → List Operation → Records → Type 0
+AllMake origin before [] after = (r : Record) → IsIn r after ↔ IsIn r before
+AllMake origin before (op ∷ ops) after = (between : Records) × AreKept between × Makes origin before op between × AllMake origin between ops after
+
+-- a set is another with the next serial: its SOA is that of the other, one version further, and all other records are the same (RFC
+-- 2136 section 3.6)
+abbrev pub IsNextOf : List (List ℕ) → Records → Records → Type 0
+IsNextOf origin before after =
+    ((soa : Record) × (soa_at origin before ≡ Some soa) × (soa_at origin after ≡ Some (next_version soa)))
+    × ((r : Record) → type_of r.rdata ≢ types.Soa → IsIn r after ↔ IsIn r before)
+
+-- What stays of the set that operations made of the one before: the set itself, where it is the one before or has another serial,
+-- and else that with the next serial (RFC 2136 section 3.6).
+abbrev pub IsSettledTo : List (List ℕ) → Records → Records → Records → Type 0
+IsSettledTo origin before made after =
+    (((made ≡ before) ⊎ (serial_at origin made ≢ serial_at origin before)) × (after ≡ made))
+    ⊎ ((made ≢ before) × (serial_at origin made ≡ serial_at origin before) × IsNextOf origin made after)
+
+-- the records of a zone after an update are those that the operations make of the records before it in turn, with the next serial
+-- where that is due (RFC 2136 sections 3.4.2 and 3.6)
+abbrev pub IsMadeBy : ZoneOf → UpdateOf → ZoneOf → Type 0
+IsMadeBy zone update after =
+    (made : Records) × AreKept made × AllMake zone.origin zone.records update.operations made × IsSettledTo zone.origin zone.records made after.records
+
+-- so it is after each update of a zone within its origin
+abbrev pub UpdatesMake : Type 0
+UpdatesMake = (zone : ZoneOf) (update : UpdateOf) → IsZone zone → IsUpdate update → ActsWithin zone.origin update → IsMadeBy zone update (zone_after zone update)

@@ -1,16 +1,17 @@
 -- Delegations (RFC 1034 section 4.2.1): a child zone, its servers, and the addresses of those within it.
-use Rattle.std.specs.Prelude.{◌≡◌, ◌↔◌, ℕ, List, [], ◌∷◌, ◌++◌, length, map, Bool, not, ◌&&◌, ◌||◌, ◌==◌, if◌then◌else◌, Result, Ok, Err}
+use Rattle.std.specs.Prelude.{◌≡◌, ◌↔◌, ◌⊎◌, ℕ, List, [], ◌∷◌, ◌++◌, length, map, Bool, not, ◌&&◌, ◌||◌, ◌==◌, if◌then◌else◌, Result, Ok, Err}
 use Rattle.std.specs.List.{AllByRecursion, Contains, list_any, filter, flat_map}
 use Rattle.std.specs.List.Sorted.{IsStrictlySortedBy}
 use Rattle.std.specs.FinMap.{keys, from_entries}
 use Rattle.std.specs.declared.net.ip_addr.IpAddr.{IpAddr}
 use Rattle.std.specs.declared.net.ip_addr.IpAddr.TheVariants as addresses
-use Rattle.dns_names.specs.Labels.{is_within}
+use Rattle.dns_names.specs.Labels.{IsWithin, IsBelow, is_within}
 use Rattle.dns_names.specs.Order.{canonical_cmp, same_name}
 use Rattle.dns_data.specs.declared.record.Record.{Record}
 use Rattle.dns_data.specs.declared.record_type.RecordType.TheVariants as types
 use Rattle.dns_data.specs.declared.rdata.Data.{Data}
 use Rattle.dns_data.specs.declared.rdata.Data.TheVariants as variants
+use Rattle.dns_data.specs.Rdata.{type_of}
 use Rattle.zone_core.specs.declared.report.Glue.{Glue}
 use Rattle.zone_core.specs.declared.report.Glue.TheVariants as glues
 use Rattle.zone_core.specs.declared.report.DelegatedServer.{DelegatedServer}
@@ -22,7 +23,7 @@ use Rattle.zone_core.specs.declared.fault.DelegationFault.TheVariants.{NotBelowO
 use Rattle.zone_core.specs.declared.fault.UpdateFault.{UpdateFault}
 use Rattle.zone_core.specs.declared.update.Operation.{Operation}
 use Rattle.zone_core.specs.declared.update.Operation.TheVariants.{Add, DeleteRrset}
-use Rattle.zone_core.specs.Sets.{key_of, rank_of, set_of, has, at}
+use Rattle.zone_core.specs.Sets.{key_of, rank_of, set_of, InOrder, has, at}
 use Rattle.zone_core.specs.Updates.{UpdateOf, update_of}
 
 -- whether a name is below another: within it, and not equal
@@ -145,3 +146,39 @@ child_report rs child = record { child = child; servers = map (server_of rs chil
 -- the delegations that records make
 abbrev pub report : List (List ℕ) → List Record → List DelegationOf
 report origin rs = map (child_report rs) (names_in_order (cut_owners origin rs))
+
+-- ---- the same record by record
+
+-- a zone of this origin is cut at a name: below the origin, and an NS stands there (RFC 2181 section 6)
+abbrev pub IsCutAt : List (List ℕ) → List Record → List (List ℕ) → Type 0
+IsCutAt origin rs child = IsBelow child origin × ((r : Record) × Contains rs r × (r.owner ≡ child) × (type_of r.rdata ≡ types.Ns))
+
+-- a server of a child: an NS of the child names it (RFC 1035 section 3.3.11)
+abbrev pub IsServerOf : List Record → List (List ℕ) → List (List ℕ) → Type 0
+IsServerOf rs child server = (r : Record) × Contains rs r × (r.owner ≡ child) × (r.rdata ≡ variants.Ns server)
+
+-- a name has an address: an A or AAAA stands there (RFC 1035 section 3.4.1, RFC 3596 section 2.2)
+abbrev pub HasAddress : List Record → List (List ℕ) → Type 0
+HasAddress rs name = (r : Record) × Contains rs r × (r.owner ≡ name) × ((type_of r.rdata ≡ types.A) ⊎ (type_of r.rdata ≡ types.Aaaa))
+
+-- what is told of the glue of a server of a child: none is needed outside the child, and within it an address is there or not
+abbrev pub IsGlueOf : List Record → List (List ℕ) → List (List ℕ) → Glue → Type 0
+IsGlueOf rs child server glues.Outside = ¬ IsWithin server child
+IsGlueOf rs child server glues.Listed = IsWithin server child × HasAddress rs server
+IsGlueOf rs child server glues.Unlisted = IsWithin server child × ¬ HasAddress rs server
+
+-- a child as it is reported: its servers and no other name, in canonical order (RFC 4034 section 6.1), each once and with its glue
+pub record IsReported (rs : List Record) (d : DelegationOf) : Type 0 where
+  pub order : IsStrictlySortedBy canonical_cmp (map (λ s. s.name) d.servers)
+  pub servers : (name : List (List ℕ)) → Contains (map (λ s. s.name) d.servers) name ↔ IsServerOf rs d.child name
+  pub glue : AllByRecursion (λ s. IsGlueOf rs d.child s.name s.glue) d.servers
+
+-- the delegations that records make as they are reported: the cuts and no other name, in canonical order, each once and as above
+pub record AreReported (origin : List (List ℕ)) (rs : List Record) (ds : List DelegationOf) : Type 0 where
+  pub order : IsStrictlySortedBy canonical_cmp (map (λ d. d.child) ds)
+  pub children : (name : List (List ℕ)) → Contains (map (λ d. d.child) ds) name ↔ IsCutAt origin rs name
+  pub each : AllByRecursion (IsReported rs) ds
+
+-- a report tells exactly these
+abbrev pub ReportsAreExact : Type 0
+ReportsAreExact = (origin : List (List ℕ)) (rs : List Record) → InOrder rs → AreReported origin rs (report origin rs)

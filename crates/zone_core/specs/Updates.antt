@@ -1,5 +1,5 @@
 -- An update: prerequisites and operations (RFC 2136 sections 2.4 and 2.5).
-use Rattle.std.specs.Prelude.{◌≡◌, ◌↔◌, ℕ, ◌≤◌, List, length, Bool, true, false, not, ◌&&◌, ◌||◌, ◌==◌, nat_lt, if◌then◌else◌, Option, Result, Ok, Err}
+use Rattle.std.specs.Prelude.{◌≡◌, ◌↔◌, ◌⊎◌, ℕ, ◌<◌, ◌≤◌, List, length, Bool, true, false, not, ◌&&◌, ◌||◌, ◌==◌, nat_lt, if◌then◌else◌, Option, Some, Result, Ok, Err, slice_get}
 use Rattle.std.specs.List.{filter, AllByRecursion, position}
 use Rattle.std.specs.Option.{option_map, option_or}
 use Rattle.std.specs.Cmp.Lexicographic.{pointwise}
@@ -93,6 +93,26 @@ abbrev pub first_outside : List (List ℕ) → UpdateOf → Option Place
 first_outside origin update =
     option_or (option_map (place_in lists.Prerequisites) (position (λ p. not (is_within (tested_name p) origin)) update.prerequisites))
     (option_map (place_in lists.Operations) (position (λ op. not (is_within (acted_name op) origin)) update.operations))
+
+-- an item of a list of an update has this number and name
+abbrev pub IsNamed : ItemList → UpdateOf → ℕ → List (List ℕ) → Type 0
+IsNamed lists.Prerequisites update i name = (p : Prerequisite) × (slice_get update.prerequisites i ≡ Some p) × (tested_name p ≡ name)
+IsNamed lists.Operations update i name = (op : Operation) × (slice_get update.operations i ≡ Some op) × (acted_name op ≡ name)
+
+-- prerequisites come before operations, and the items of one list by their numbers
+abbrev pub ComesBefore : Place → Place → Type 0
+ComesBefore a b = ((a.list ≡ lists.Prerequisites) × (b.list ≡ lists.Operations)) ⊎ ((a.list ≡ b.list) × (a.item < b.item))
+
+-- an item is the first whose name is not within the origin
+pub record IsFirstOutside (origin : List (List ℕ)) (update : UpdateOf) (place : Place) : Type 0 where
+  pub name : List (List ℕ)
+  pub named : IsNamed place.list update place.item name
+  pub outside : ¬ IsWithin name origin
+  pub first : (earlier : Place) (other : List (List ℕ)) → ComesBefore earlier place → IsNamed earlier.list update earlier.item other → IsWithin other origin
+
+-- what is told of items outside the origin is the first of them
+abbrev pub OutsidesAreFirst : Type 0
+OutsidesAreFirst = (origin : List (List ℕ)) (update : UpdateOf) (place : Place) → (first_outside origin update ≡ Some place) ↔ IsFirstOutside origin update place
 
 -- ---- updates that are equal
 

@@ -3,10 +3,12 @@
 ghost use Rattle.std.specs.Prelude.{◌≡◌, ℕ, List, Bool, true};
 ghost use Rattle.zone_core.specs.Parts.{VerdictsReadTheirNames, OperationsReadTheirNames, UpdatesNeedTheirPart};
 ghost use Rattle.zone_core.specs.Sight.{VerdictsLookAlike, UpdatesLookAlike, QuietUpdatesLookAlike, ListingsLookAlike, PartsLookAlike, ChangesLookAlike, QuietChangesShowNothing};
-ghost use Rattle.zone_core.specs.Accounts.{UpdatesLeave};
+ghost use Rattle.zone_core.specs.Accounts.{UpdatesLeave, UpdatesMake};
 ghost use Rattle.zone_core.specs.Changes.{ChangesMake, SameSetsAreOne};
 ghost use Rattle.zone_core.specs.Rebuilt.{ZonesAreRebuilt};
-ghost use Rattle.zone_core.specs.Updates.{EqualUpdatesAreOne};
+ghost use Rattle.zone_core.specs.Met.{VerdictsAreFirst};
+ghost use Rattle.zone_core.specs.Delegations.{ReportsAreExact};
+ghost use Rattle.zone_core.specs.Updates.{OutsidesAreFirst, EqualUpdatesAreOne};
 ghost use Rattle.zone_core.specs.Versions.{UpdatesKeepZones, UpdatesAdvance};
 
 /// The prerequisites of an update read the records at their names, and no others.
@@ -29,6 +31,31 @@ pub fn updates_need_their_part()
 /// it was there and none took it away (RFC 2136 section 3.4.2).
 pub fn updates_leave_records()
     ensures { UpdatesLeave }
+{}
+
+/// The records of a zone after an update are those that the operations make one after the other: each puts records there and
+/// takes some away of what the one before it made, and leaves all others (RFC 2136 section 3.4.2). Where that is another set with
+/// the serial as it was, the SOA is one version further (section 3.6).
+pub fn updates_make_records()
+    ensures { UpdatesMake }
+{}
+
+/// The verdict on prerequisites tells the first that is not met, with the code of its kind: those of sets that are given whole
+/// are tested behind all others (RFC 2136 section 3.2.5).
+pub fn verdicts_are_first_unmet()
+    ensures { VerdictsAreFirst }
+{}
+
+/// What is told of items outside the origin of a zone is the first of them, prerequisites before operations (RFC 2136 sections
+/// 3.2 and 3.4.1).
+pub fn outsides_are_first()
+    ensures { OutsidesAreFirst }
+{}
+
+/// A report of records in record order has each name below the origin where an NS stands (RFC 2181 section 6), with each server
+/// that an NS there names, and whether a server within that child has an address among the records; and nothing else.
+pub fn reports_are_exact()
+    ensures { ReportsAreExact }
 {}
 
 /// The zone after an update within its origin is a zone (RFC 2136 sections 3.4.2 and 3.6).

@@ -27,10 +27,10 @@ pub use fault::{DelegationFault, UpdateFault, ZoneFault};
 pub use kind::{OperationKind, PrerequisiteKind};
 pub use laws::{
     changes_look_alike, changes_make_the_zone_after, equal_sets_are_one, equal_updates_are_one,
-    listings_look_alike, operations_read_their_names, quiet_updates_look_alike,
-    updates_advance_serials, updates_keep_zones, updates_leave_records, updates_look_alike,
-    updates_need_their_part, verdicts_look_alike, verdicts_read_their_names,
-    zones_are_built_of_their_records,
+    listings_look_alike, operations_read_their_names, outsides_are_first, quiet_updates_look_alike,
+    reports_are_exact, updates_advance_serials, updates_keep_zones, updates_leave_records,
+    updates_look_alike, updates_make_records, updates_need_their_part, verdicts_are_first_unmet,
+    verdicts_look_alike, verdicts_read_their_names, zones_are_built_of_their_records,
 };
 pub use outcome::{Outcome, apply, apply_owned};
 pub use rcode::Rcode;

@@ -1,7 +1,8 @@
 use Rattle.office_core.specs.Runs.{IsRun, kept, given}
 use Rattle.office_core.specs.Promises.{CallsAreRight}
+use Rattle.office_core.specs.Told.{AnswersAreRight}
 use Rattle.office_core.specs.Isolation.{AreToldAlone}
-use Rattle.office_core.proofs.AloneLemmas.{run_alone, run_right, of_ok, all_ok}
+use Rattle.office_core.proofs.AloneLemmas.{run_alone, run_right, run_told, of_ok, all_ok}
 use Rattle.office_core.proofs.runs.run.Goals as goal
 
 pub returns-clause-promises : goal.returns-clause-promises
@@ -10,6 +11,14 @@ returns-clause-promises g c honest s holds =
     (λ replies. run_right c.args.policy.now s c.args.calls.now replies.items (g.met.T.ZoneTable.zones c.args.table.now s holds)
     (g.met.T.ZoneTable.receipts c.args.table.now s holds) c.notes_calls.ensures)
     c.replies_to.result
+
+pub returns-clause-told : goal.returns-clause-told
+returns-clause-told g c honest s holds =
+    of_ok (λ replies. IsRun (g.T.ZoneTable.holds c.replies_to.new.table) c.args.policy.now s c.args.calls.now replies.items)
+    (λ replies. AnswersAreRight c.args.policy.now s (kept c.args.calls.now replies.items) (given c.args.calls.now replies.items))
+    (λ replies run. run_told (g.T.ZoneTable.holds c.replies_to.new.table) c.args.policy.now s c.args.calls.now replies.items (g.met.T.ZoneTable.zones c.args.table.now s holds)
+    (g.met.T.ZoneTable.receipts c.args.table.now s holds) c.notes_calls.ensures run)
+    c.replies_to.result (c.replies_to.ensures.run honest s holds)
 
 pub returns-clause-alone : goal.returns-clause-alone
 returns-clause-alone g c honest s holds =
