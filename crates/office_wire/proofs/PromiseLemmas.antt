@@ -8,6 +8,8 @@ use Rattle.office_core.specs.Replies.{ReplyOf}
 use Rattle.office_core.specs.States.{State}
 use Rattle.office_core.specs.Runs.{Answer, turn, answers, state_after, HasUpdate, HaveUpdates, one_kept, one_given}
 use Rattle.office_core.specs.Isolation.{told_to}
+use Rattle.office_core.specs.Told.{AnswersAreRight}
+use Rattle.office_core.proofs.AnswerLemmas.{answers_are_right}
 use Rattle.office_core.proofs.CallLemmas.{calls_are_right}
 use Rattle.office_core.proofs.IsolationLemmas.{callers_are_alone, blind_callers_are_alone, policies_keep_alone}
 use Rattle.office_wire.specs.declared.request_fault.RequestFault.{RequestFault}
@@ -99,6 +101,7 @@ exchanges_run rules c d turns zones receipts run =
       as_machine = of.given;
       after = of.after;
       right = calls_are_right rules c.state cs zones receipts of.have;
+      answered = subst (λ (ys : List Answer). AnswersAreRight rules c.state cs ys) (sym of.given) (answers_are_right rules c.state cs zones receipts of.have);
       alone = record {
         by_rights = λ caller blind away. ap (told_to caller) of.given ∙ callers_are_alone rules caller c.state cs zones of.have blind away;
         by_sight = λ caller blind quiet. ap (told_to caller) of.given ∙ blind_callers_are_alone rules caller c.state cs zones of.have blind quiet;

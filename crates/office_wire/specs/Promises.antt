@@ -7,6 +7,7 @@ use Rattle.office_core.specs.Replies.{reply_of}
 use Rattle.office_core.specs.Runs.{Answer, answers, state_after, one_kept, one_given}
 use Rattle.office_core.specs.States.{State, AreZones, AreReceipts}
 use Rattle.office_core.specs.Promises.{CallsAreRight}
+use Rattle.office_core.specs.Told.{AnswersAreRight}
 use Rattle.office_core.specs.Isolation.{AreToldAlone}
 use Rattle.office_wire.specs.declared.request_fault.RequestFault.{RequestFault}
 use Rattle.office_wire.specs.declared.response.Response.{Response}
@@ -33,11 +34,13 @@ abbrev pub told : List Turn → List Answer
 told turns = flat_map (λ t. answer_in (call_of t.head t.body) t.response) turns
 
 -- What is promised of turns from a state to another: their calls are a run of the machine, which tells what was told and leads to the
--- other state; what the office promises of calls holds of them, and what it promises each caller of what others do.
+-- other state; what the office promises of calls holds of them; what was told is right, by what was held before each call and after it;
+-- and what it promises each caller of what others do.
 pub record ArePromised (rules : List Rule) (s : State) (turns : List Turn) (t : State) : Type 0 where
   pub as_machine : told turns ≡ answers rules s (calls turns)
   pub after : t ≡ state_after rules s (calls turns)
   pub right : CallsAreRight rules s (calls turns)
+  pub answered : AnswersAreRight rules s (calls turns) (told turns)
   pub alone : AreToldAlone rules s (calls turns) (told turns)
 
 -- exchanges are runs of the machine
