@@ -3,7 +3,7 @@
 ghost use Rattle.std.specs.Prelude.{◌≡◌, ◌<◌, ℕ, List, [], Option, Some};
 ghost use Rattle.office_core.specs.States.{State};
 ghost use Rattle.office_wire.specs.Exchange.{Turn, Run};
-ghost use Rattle.office_wire.specs.Serving.{standing, IsDone};
+ghost use Rattle.office_wire.specs.Serving.{standing, IsDone, CountsServed};
 
 use dns_master::{Counted, Pieces, Sink, Source};
 use grant_policy::Policy;
@@ -23,6 +23,20 @@ pub fn serve<R: Source, W: Sink, T: ZoneTable>(
     ensures { T.is_honest table.new → (s : State) → T.holds table.old s → (turns : List Turn) × (t : State) × T.holds table.new t × Run policy.now (standing s (T.failures table.old)) turns (standing t (T.failures table.new)) × IsDone turns result (R.remaining reader.old) (R.remaining reader.new) (W.contents writer.old) (W.contents writer.new) }
 {
     office_wire::serve(alloc, reader, writer, table, policy)
+}
+
+/// `serve`, by how often its devices fail.
+pub fn serve_counted<R: Source, W: Sink, T: ZoneTable>(
+    alloc: Global,
+    reader: &mut R,
+    writer: &mut W,
+    table: &mut T,
+    policy: &Policy,
+) -> Result<(), ServeFault>
+    ensures { CountsServed result (R.failures reader.old) (R.failures reader.new) (W.failures writer.old) (W.failures writer.new) }
+{
+    let ended = office_wire::serve(alloc, reader, writer, table, policy);
+    ended
 }
 
 /// `serve`, of octets in memory, to a text in memory.
