@@ -679,8 +679,9 @@ async function giveUp(job) {
     job.now?.();
     unsend(job);
     showWaiting();
-    await readRecords();
-    say(`${job.id} is given up. It was made or not: look at the records, which were read anew.`);
+    showDraft();
+    const read = await readRecords();
+    say(`${job.id} is given up. It was made or not: ${read ? "look at the records, which were read anew" : "read the records again once the office is back"}.`);
 }
 
 function unsend(job) {
