@@ -508,7 +508,7 @@ function showDraft() {
     }));
     const fits = prerequisites.length <= MOST_PREREQUISITES && operations.length <= MOST_OPERATIONS && octets <= MOST_OCTETS;
     $("draft-room").textContent = `${operations.length} of ${MOST_OPERATIONS} operations, ${prerequisites.length} of ${MOST_PREREQUISITES} `
-        + `prerequisites, ${octets.toLocaleString("en")} of 65,536 octets${fits ? "." : ": too much for one update. Send it in parts."}`;
+        + `prerequisites, ${octets.toLocaleString("en")} of 65,536 octets${fits ? "." : ": too much for one update. Send it in parts, or leave a guard out."}`;
     $("draft-room").classList.toggle("fault", !fits);
     $("draft-send").disabled = !fits || waiting.size > 0;
     $("draft-clear").disabled = waiting.size > 0;
