@@ -27,6 +27,7 @@ const MOST_PREREQUISITES = 64;
 const MOST_OPERATIONS = 256;
 const MOST_OCTETS = 65536;
 const PIECE = 50; // rows of one body of the table
+const ROW = 40; // pixels that a row is taken to have while the view is hidden
 const LONGEST_PAUSE = 30; // seconds between two tries
 
 let words = {numbers: {}, replies: {}, front: {}};
@@ -345,7 +346,7 @@ const sight = new IntersectionObserver((seen) => {
     for (const {target, isIntersecting, boundingClientRect} of seen) {
         if (isIntersecting) {
             fill(target);
-        } else {
+        } else if (boundingClientRect.height > 0) { // else the view is hidden
             empty(target, boundingClientRect.height);
         }
     }
@@ -360,7 +361,7 @@ function showPieces() {
         fill(pieces[0]);
     }
     if (pieces.length > 1) {
-        const height = pieces[0].offsetHeight / PIECE;
+        const height = pieces[0].offsetHeight / PIECE || ROW;
         pieces.slice(1).forEach((piece) => empty(piece, height * Math.min(PIECE, filtered.length - piece.dataset.from)));
         pieces.forEach((piece) => sight.observe(piece));
     }
@@ -522,11 +523,7 @@ function showDraft() {
 const isAtFault = (list, item) => atFault !== null && atFault.list === list && atFault.item === item;
 
 function readDraft() {
-    try {
-        draft = JSON.parse(sessionStorage.getItem(draftKey())) ?? {edits: [], guards: []};
-    } catch {
-        draft = {edits: [], guards: []};
-    }
+    draft = readStored(sessionStorage, draftKey()) ?? {edits: [], guards: []};
     const kept = keptJobs().map(({id}) => id);
     draft.edits.filter(({sent}) => !kept.includes(sent)).forEach((edit) => delete edit.sent);
     atFault = null;
@@ -559,6 +556,15 @@ function newId() {
 
 const jobKey = (job) => `zoneoffice sent ${job.caller} ${job.id}`;
 
+/** What a storage of the browser has under a key, or null. */
+function readStored(storage, key) {
+    try {
+        return JSON.parse(storage.getItem(key));
+    } catch {
+        return null;
+    }
+}
+
 function keep(job) {
     try {
         localStorage.setItem(jobKey(job), JSON.stringify(job));
@@ -571,7 +577,7 @@ function keep(job) {
 /** What this caller sent and has no reply of, from before a reload too. */
 function keptJobs() {
     const keys = Object.keys(localStorage).filter((key) => key.startsWith(`zoneoffice sent ${caller} `));
-    return keys.map((key) => JSON.parse(localStorage.getItem(key)));
+    return keys.map((key) => readStored(localStorage, key)).filter((job) => job !== null);
 }
 
 async function send() {
@@ -694,7 +700,7 @@ function unsend(job) {
 
 /** Takes what was made out of the list of a zone that is not shown. */
 function takeOutElsewhere(job) {
-    const stored = JSON.parse(sessionStorage.getItem(draftKey(job.zone)));
+    const stored = readStored(sessionStorage, draftKey(job.zone));
     if (stored && job.zone !== zone) {
         stored.edits = stored.edits.filter(({sent}) => sent !== job.id);
         sessionStorage.setItem(draftKey(job.zone), JSON.stringify(stored));
@@ -768,7 +774,9 @@ function showResult(kind, head, children, canRetake = false) {
     $("result-body").replaceChildren(...children);
     $("result-retake").hidden = !canRetake;
     $("result").hidden = false;
-    $("result-head").focus();
+    if (!document.activeElement.matches("input, select")) { // a reply may come late, while something else is typed
+        $("result-head").focus();
+    }
 }
 
 function hideResult() {
