@@ -1,8 +1,8 @@
 // The page of the office: what a department sees and changes of its zones, by the routes that docs/api.md tells of.
 //
 // A change is first a list of operations with guards, which are prerequisites: the sets of records that it touches are still as
-// they were seen. What is sent is kept in localStorage, body and identifier, until a reply came. Texts from the office are put into
-// the page as text only.
+// they were seen. What is sent is kept in localStorage, body and identifier, until a reply came. Texts from the office are put
+// into the page as text only.
 
 const TYPES = ["A", "AAAA", "CNAME", "DS", "MX", "NS", "PTR", "SOA", "SRV", "TXT"];
 const FORMS = {
@@ -17,7 +17,13 @@ const FORMS = {
     SRV: "priority, weight, port and server: 0 5 389 ldap.example.org.",
     TXT: "a text; or several, each in quotes",
 };
-const ACTIONS = {list: "see the records", check: "ask for them in a guard", add: "add one", delete: "delete one", delegate: "delegate (NS, DS)"};
+const ACTIONS = {
+    list: "see the records",
+    check: "ask for them in a guard",
+    add: "add one",
+    delete: "delete one",
+    delegate: "delegate (NS, DS)",
+};
 const GLUE = {
     outside: "outside: the server needs none here",
     listed: "listed: its address is among your records",
@@ -164,9 +170,10 @@ const someName = (item) => {
     const {name, fault} = readName(item);
     return fault ? {fault: 19, within: fault} : {text: name};
 };
-const ipv4 = (item) => (item.split(".").length === 4 && item.split(".").every((part) => /^(0|[1-9][0-9]{0,2})$/.test(part) && Number(part) < 256)
-    ? {text: item} : {fault: 11});
-const ipv6 = (item) => (/^[0-9a-f:.]+$/i.test(item) && item.includes(":") && URL.canParse(`http://[${item}]/`) ? {text: item} : {fault: 11});
+const isIpv4 = (item) => /^((0|[1-9][0-9]{0,2})(\.(?!$)|$)){4}$/.test(item) && item.split(".").every((number) => number < 256);
+const isIpv6 = (item) => /^[0-9a-f:.]*:[0-9a-f:.]*$/i.test(item) && URL.canParse(`http://[${item}]/`);
+const ipv4 = (item) => (isIpv4(item) ? {text: item} : {fault: 11});
+const ipv6 = (item) => (isIpv6(item) ? {text: item} : {fault: 11});
 const digest = (item) => (/^([0-9a-f]{2})+$/i.test(item) ? {text: item} : {fault: 33});
 const [octet, short, long] = [255, 65535, 4294967295].map(numberUpTo);
 const FIELDS = {
@@ -334,13 +341,14 @@ async function readRecords() {
 function showRecords() {
     const sought = $("filter").value.toLowerCase().split(/\s+/).filter(Boolean);
     filtered = sought.length ? records.filter(({low}) => sought.every((word) => low.includes(word))) : records;
-    $("count").textContent = sought.length ? `${count(filtered.length, "record")} of ${records.length.toLocaleString("en")} match.`
-        : records.length ? `${count(records.length, "record")}.` : "There is no record that you may list.";
+    const all = records.length ? `${count(records.length, "record")}.` : "There is no record that you may list.";
+    $("count").textContent = sought.length
+        ? `${count(filtered.length, "record")} of ${records.length.toLocaleString("en")} match.` : all;
     $("table").setAttribute("aria-rowcount", filtered.length + 1);
     showPieces();
 }
 
-// The table has a body for each piece of the records. Only those in sight, or near it, have rows; the others are as high as theirs.
+// The table has a body for each piece of the records. Only those in sight, or near it, have rows; the others keep their height.
 
 const sight = new IntersectionObserver((seen) => {
     for (const {target, isIntersecting, boundingClientRect} of seen) {
@@ -355,7 +363,10 @@ const sight = new IntersectionObserver((seen) => {
 function showPieces() {
     sight.disconnect();
     [...$("table").tBodies].forEach((piece) => piece.remove());
-    const pieces = Array.from({length: Math.ceil(filtered.length / PIECE)}, (_, at) => make("tbody", {role: "rowgroup", "data-from": at * PIECE}));
+    const pieces = [];
+    for (let from = 0; from < filtered.length; from += PIECE) {
+        pieces.push(make("tbody", {role: "rowgroup", "data-from": from}));
+    }
     $("table").append(...pieces);
     if (pieces.length) {
         fill(pieces[0]);
@@ -388,7 +399,7 @@ function recordRow(record, at) {
     const edit = draft.edits.find((edit) => edit.line === line);
     const what = `${name} ${type} ${data}`;
     const actions = edit
-        ? [edit.word, " ", button("Take out", () => takeOut(edit), {"aria-label": `Take out of the list: ${what}`, disabled: edit.sent ? "" : false})]
+        ? [edit.word, " ", takeOutButton(edit, what)]
         : [button("Change", () => openEditor(record), {"aria-label": `Change ${what}`}), " ",
             ...(type === "SOA" ? [] : [button("Delete", () => putIn(deletion(record)), {"aria-label": `Delete ${what}`})])];
     const made = row(rowHead(name), cell("ttl", String(ttl)), cell("type", type), cell("data", data), cell("do", ...actions));
@@ -414,8 +425,8 @@ function redraw(line) {
 
 // ---- the list of what is to be sent
 //
-// An edit has the operations `ops`, the sets that it touches, and the line of the record that it changes or deletes, if any. A guard
-// has a set's name and type and the data that were seen there.
+// An edit has the operations `ops`, the sets that it touches, the line of the record that it changes or deletes, if any, and the
+// identifier under which it was sent. A guard has a set's name and type and the data that were seen there.
 
 const addition = (name, ttl, type, data) => ({op: "add", name, ttl, type, data});
 const removal = (name, type, data) => ({op: "delete-record", name, type, data});
@@ -455,9 +466,14 @@ function putIn(edit) {
     say(`${count(draftBody().operations.length, "operation")} to be sent. Nothing has changed yet.`);
 }
 
+function takeOutButton(edit, what) {
+    return button("Take out", () => takeOut(edit), {"aria-label": `Take out ${what}`, disabled: edit.sent ? "" : false});
+}
+
 function takeOut(...gone) {
     draft.edits = draft.edits.filter((edit) => !gone.includes(edit));
-    draft.guards = draft.guards.filter(({name, type}) => draft.edits.some((edit) => edit.sets.some(([n, t]) => n === name && t === type)));
+    const touched = new Set(draft.edits.flatMap(({sets}) => sets.map(([name, type]) => setKey(name, type))));
+    draft.guards = draft.guards.filter(({name, type}) => touched.has(setKey(name, type)));
     atFault = null;
     showDraft();
     gone.forEach(({line}) => redraw(line));
@@ -488,7 +504,7 @@ function showDraft() {
             shown.append("(its record is no longer as it was) ");
         }
         if (at === 0) {
-            shown.append(button("Take out", () => takeOut(edit), {"aria-label": `Take out ${itemText(op)}`, disabled: edit.sent ? "" : false}));
+            shown.append(takeOutButton(edit, itemText(op)));
         }
         return shown;
     })));
@@ -504,12 +520,14 @@ function showDraft() {
             showDraft();
             $("draft-guards").children[draft.guards.indexOf(guard)].querySelector("input").focus();
         });
-        const what = guard.data.length ? [` has just ${guard.data.join(", ")}`] : [" has no record"];
-        return make("li", {class: faulty ? "at-fault" : false}, make("label", {}, box, " ", code(`${guard.name} ${guard.type}`), ...what));
+        const what = guard.data.length ? ` has just ${guard.data.join(", ")}` : " has no record";
+        const label = make("label", {}, box, " ", code(`${guard.name} ${guard.type}`), what);
+        return make("li", {class: faulty ? "at-fault" : false}, label);
     }));
     const fits = prerequisites.length <= MOST_PREREQUISITES && operations.length <= MOST_OPERATIONS && octets <= MOST_OCTETS;
-    $("draft-room").textContent = `${operations.length} of ${MOST_OPERATIONS} operations, ${prerequisites.length} of ${MOST_PREREQUISITES} `
-        + `prerequisites, ${octets.toLocaleString("en")} of 65,536 octets${fits ? "." : ": too much for one update. Send it in parts, or leave a guard out."}`;
+    $("draft-room").textContent = `${operations.length} of ${MOST_OPERATIONS} operations, ${prerequisites.length} of `
+        + `${MOST_PREREQUISITES} prerequisites, ${octets.toLocaleString("en")} of ${MOST_OCTETS.toLocaleString("en")} octets`
+        + (fits ? "." : ": too much for one update. Send it in parts, or leave a guard out.");
     $("draft-room").classList.toggle("fault", !fits);
     $("draft-send").disabled = !fits || waiting.size > 0;
     $("draft-clear").disabled = waiting.size > 0;
@@ -687,7 +705,8 @@ async function giveUp(job) {
     showWaiting();
     showDraft();
     const read = await readRecords();
-    say(`${job.id} is given up. It was made or not: ${read ? "look at the records, which were read anew" : "read the records again once the office is back"}.`);
+    const next = read ? "look at the records, which were read anew" : "read the records again once the office is back";
+    say(`${job.id} is given up. It was made or not: ${next}.`);
 }
 
 function unsend(job) {
@@ -747,14 +766,17 @@ function differenceOf(before) {
     const went = [...before.keys()].filter((line) => !lines.has(line));
     const came = [...lines.keys()].filter((line) => !before.has(line));
     if (went.length + came.length === 0) {
-        return [make("p", {}, "No record that you may list is another than before: the operations had nothing to do, or you may not list what they did.")];
+        return [make("p", {}, "No record that you may list is another than before: the operations had nothing to do, "
+            + "or you may not list what they did.")];
     }
     return [make("p", {}, "Since the list was read before:"), lineList(went, came)];
 }
 
 function lineList(went, came, most = 200) {
     const all = [...went.map((line) => ["went", line]), ...came.map((line) => ["came", line])];
-    const items = all.slice(0, most).map(([kind, line]) => make("li", {}, make("span", {class: kind}, kind === "went" ? "− went" : "+ came"), " ", code(line)));
+    const signs = {went: "− went", came: "+ came"};
+    const item = ([kind, line]) => make("li", {}, make("span", {class: kind}, signs[kind]), " ", code(line));
+    const items = all.slice(0, most).map(item);
     if (all.length > most) {
         items.push(make("li", {}, `and ${(all.length - most).toLocaleString("en")} more`));
     }
@@ -762,10 +784,13 @@ function lineList(went, came, most = 200) {
 }
 
 function seenAndNow(body, {name, type}) {
-    const seen = body.prerequisites.filter((test) => test.name === name && test.type === type).map(({data}) => data).filter((data) => data !== undefined);
-    const now = setOf(name, type).map(({data}) => data);
-    const list = (data) => (data.length ? make("ul", {}, ...data.map((text) => make("li", {}, code(text)))) : make("p", {}, "no record"));
-    return make("div", {}, make("h3", {}, `You saw at ${name} ${type}`), list(seen), make("h3", {}, "Now there is"), list(now));
+    const seen = body.prerequisites.filter((test) => test.name === name && test.type === type && test.data !== undefined);
+    const now = setOf(name, type);
+    const list = (items) => make("ul", {}, ...items.map(({data}) => make("li", {}, code(data))));
+    const listOrNone = (items) => (items.length ? list(items) : make("p", {}, "no record"));
+    return make("div", {},
+        make("h3", {}, `You saw at ${name} ${type}`), listOrNone(seen),
+        make("h3", {}, "Now there is"), listOrNone(now));
 }
 
 function showResult(kind, head, children, canRetake = false) {
@@ -815,7 +840,7 @@ function openEditor(record) {
 function hint(id, text, fault, always) {
     const field = $(id);
     const isFault = fault !== undefined && (always || field.dataset.touched === "yes");
-    $(`${id}-hint`).textContent = isFault ? faultText(fault) : text ?? "";
+    $(`${id}-hint`).textContent = isFault ? faultText(fault) : text || "";
     $(`${id}-hint`).classList.toggle("fault", isFault);
     field.setAttribute("aria-invalid", isFault);
 }
@@ -831,9 +856,11 @@ function checkEdit(always = false) {
     const ttl = readTtl($("edit-ttl").value);
     const data = readData(type, $("edit-data").value);
     const others = name.fault ? [] : setOf(name.name, type).filter((record) => record !== edited);
-    hint("edit-name", name.outside ? `${name.name} is not within ${zone}` : name.name && `is ${name.name}`, name.fault && name, always);
+    const meaning = name.outside ? `${name.name} is not within ${zone}` : name.name && `is ${name.name}`;
+    hint("edit-name", meaning, name.fault && name, always);
     $("edit-name-hint").classList.toggle("fault", Boolean(name.outside || (name.fault && $("edit-name-hint").textContent)));
-    hint("edit-ttl", others.length && others[0].ttl !== ttl.ttl ? `the other ${count(others.length, "record")} there get this TTL too` : "", ttl.fault && ttl, always);
+    const spreads = others.length > 0 && others[0].ttl !== ttl.ttl;
+    hint("edit-ttl", spreads && `the other ${count(others.length, "record")} there get this TTL too`, ttl.fault && ttl, always);
     hint("edit-data", data.data && `is ${data.data}`, data.fault && data, always);
     $("edit-data-form").textContent = FORMS[type];
     if (name.fault || name.outside || ttl.fault || data.fault) {
@@ -858,7 +885,8 @@ async function askEdit() {
     const reply = await request("GET", `/rights/${part(name)}/${type}/${action}`);
     if (asked === asks && reply.status === 200) {
         const {granted, by} = reply.json;
-        $("edit-right").textContent = granted ? `You may ${action} ${type} there (rule ${by}).` : `You may not ${action} ${type} there: ${decidedBy(by)}.`;
+        $("edit-right").textContent = granted
+            ? `You may ${action} ${type} there (rule ${by}).` : `You may not ${action} ${type} there: ${decidedBy(by)}.`;
         $("edit-right").className = granted ? "granted" : "denied";
     }
 }
@@ -884,9 +912,9 @@ async function readDelegations() {
     if (list === null) {
         return;
     }
+    const change = (one) => button("Change", () => fillDelegation(one), {"aria-label": `Change the servers of ${one.child}`});
     $("children").replaceChildren(...list.flatMap((one) => one.servers.map(({name, glue}, at) => row(
-        rowHead(one.child), cell("data", name), cell(`glue ${glue}`, GLUE[glue] ?? glue),
-        cell("do", ...(at ? [] : [button("Change", () => fillDelegation(one), {"aria-label": `Change the servers of ${one.child}`})]))))));
+        rowHead(one.child), cell("data", name), cell("glue", GLUE[glue] ?? glue), cell("do", ...(at ? [] : [change(one)]))))));
     say(`${count(list.length, "delegation")} of ${zone}, read at ${clock()}.`);
 }
 
@@ -957,7 +985,8 @@ function delegationEdit() {
         if (!isWithin(name.labels, child.labels)) {
             continue;
         }
-        const read = addresses.map((address) => ({type: address.includes(":") ? "AAAA" : "A", ...(address.includes(":") ? ipv6 : ipv4)(address), item: address}));
+        const address = (item) => (item.includes(":") ? {type: "AAAA", item, ...ipv6(item)} : {type: "A", item, ...ipv4(item)});
+        const read = addresses.map(address);
         const bad = read.find(({fault}) => fault);
         if (bad || read.length === 0) {
             return {...(bad ?? {fault: 48, item: name.name}), at: addressField.id};
@@ -1024,7 +1053,8 @@ function showChanges() {
     const end = changes.length - changesShown;
     const piece = changes.slice(Math.max(0, end - 20), end).reverse();
     changesShown += piece.length;
-    $("changes-list").append(...piece.map(({number, removed, added}) => make("li", {}, make("h3", {tabindex: "-1"}, `Change ${number}`), lineList(removed, added))));
+    const head = (number) => make("h3", {tabindex: "-1"}, `Change ${number}`);
+    $("changes-list").append(...piece.map(({number, removed, added}) => make("li", {}, head(number), lineList(removed, added))));
     $("changes-more").hidden = changesShown === changes.length && (changes[0]?.number ?? 1) === 1;
 }
 
@@ -1055,17 +1085,20 @@ async function askRights() {
         return;
     }
     say(`Asking for ${read.name} ${type} …`);
-    const replies = await Promise.all(Object.keys(ACTIONS).map((action) => request("GET", `/rights/${part(read.name)}/${type}/${action}`)));
+    const path = `/rights/${part(read.name)}/${type}`;
+    const replies = await Promise.all(Object.keys(ACTIONS).map((action) => request("GET", `${path}/${action}`)));
     if (asked !== rightAsks) {
         return;
     }
     $("ask-caption").textContent = `${caller}, with ${type} at ${read.name}`;
     $("answers").replaceChildren(...Object.entries(ACTIONS).map(([action, what], at) => {
+        const head = make("th", {role: "rowheader", scope: "row"}, `${action}: ${what}`);
         const {status, json} = replies[at];
-        const granted = status === 200 && json.granted;
-        return row(make("th", {role: "rowheader", scope: "row"}, `${action}: ${what}`),
-            cell(granted ? "granted" : "denied", status !== 200 ? "not answered" : granted ? "yes" : "no"),
-            cell("", status !== 200 ? inWords(replies[at]) : json.by === "closing" ? "closing: no rule speaks of it" : `rule ${json.by}`));
+        if (status !== 200) {
+            return row(head, cell("denied", "not answered"), cell("", inWords(replies[at])));
+        }
+        const by = json.by === "closing" ? "closing: no rule speaks of it" : `rule ${json.by}`;
+        return row(head, json.granted ? cell("granted", "yes") : cell("denied", "no"), cell("", by));
     }));
     say(`Asked for ${read.name} ${type} at ${clock()}.`);
 }
