@@ -1,4 +1,4 @@
-"""What try-front, try-service and try-backup share: lines of results, the program, and a machine of their own."""
+"""What try-front, try-page, try-service and try-backup share: lines of results, the program, a machine of their own, and an office on it."""
 
 import os
 import re
@@ -111,3 +111,44 @@ def shown(page, start):
         if block.strip().startswith(start):
             return re.sub(r"^    ", "", block, flags=re.M)
     raise LookupError(f"{page} shows no {start}")
+
+
+class Office:
+    """The office as a process, since systemd is not here."""
+
+    def __init__(self):
+        self.start()
+
+    def start(self):
+        self.process = subprocess.Popen(
+            ["zoneoffice", "serve", "--store", "/var/lib/zoneoffice/store", "--policy", "/etc/zoneoffice/policy.toml", "--listen",
+             "127.0.0.1:8053"], stdout=subprocess.PIPE, text=True, user="zoneoffice", group="zoneoffice", extra_groups=[])
+        said = self.process.stdout.readline().strip()
+        if said != "listening 127.0.0.1:8053":
+            raise RuntimeError(f"serve: {said}")
+
+    def signal(self, number):
+        self.process.send_signal(number)
+
+    def stop(self):
+        self.process.kill()
+        self.process.wait()
+
+
+def set_up_front(users, password):
+    """Sets up the office's files and the front server as operations.md tells it, by the commands that it shows."""
+    top = os.path.join(HERE, "../..")
+    must("rm -f /etc/nginx/sites-enabled/* /etc/nginx/conf.d/*")
+    for command in shown("operations.md", "useradd --system").splitlines():
+        if not command.startswith(("install -m 755 crates/", "systemctl", "install -m 644 examples/office/zoneoffice.service")):
+            must(command, cwd=top)
+    for command in shown("operations.md", "install -d -m 755 /etc/zoneoffice/front").splitlines():
+        if command.startswith("htpasswd"):
+            for user in users:
+                must(f"htpasswd -i /etc/zoneoffice/front/users '{user}'", input=password(user))
+        elif command.startswith("install -m 644 cert"):
+            must("openssl req -x509 -newkey rsa:2048 -nodes -subj /CN=office.example.org -days 2 "
+                 "-keyout /etc/zoneoffice/front/key.pem -out /etc/zoneoffice/front/cert.pem")
+        elif not command.startswith(("systemctl", "install -m 600 key")):
+            must(command, cwd=top)
+    must("nft -f /etc/nftables.conf && nginx")
