@@ -44,8 +44,8 @@ fn table(alloc: Global) -> Result<MemTable, Fail> {
     Ok(MemTable::new(alloc, zones)?)
 }
 
-/// For how long callers are waited for.
-const PATIENCE: Duration = Duration::from_millis(300);
+/// For how many milliseconds callers are waited for.
+const PATIENCE: u64 = 300;
 
 /// A connection to a listener, over which a text was sent, and more can come behind it.
 fn begun(rt: &HostRuntime, listener: &TcpListener, text: &str) -> Result<TcpStream, Fail> {
@@ -86,7 +86,7 @@ fn served_in<L: Ledger>(
     let callers = Callers {
         listener,
         clock: rt,
-        patience: Some(PATIENCE),
+        patience: Some(Duration::from_millis(PATIENCE)),
     };
     if serve_connections(alloc, &callers, &mut table, &policy, connections, &mut sink).is_err() {
         return Err(Fail::new("a connection is not served"));

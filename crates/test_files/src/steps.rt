@@ -137,6 +137,7 @@ fn served(rt: &HostRuntime, store: &str, policy: &str, listen: &str) -> Vec<u8> 
         policy,
         listen,
         connections: Some(0),
+        patience: None,
     };
     do_serve(rt, service, Vec::new(rt.alloc())).0
 }
