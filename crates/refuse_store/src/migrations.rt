@@ -3,9 +3,9 @@
 ghost use Rattle.std.specs.Prelude.{IfOk};
 ghost use Rattle.office_store.specs.MigratedContents.{Migrates};
 
-use office_store::Migration;
 use office_rows::RowFault;
 use office_sql::AllRows;
+use office_store::Migration;
 use std::alloc::Global;
 
 /// `migration_of`.
