@@ -3,8 +3,8 @@
 ghost use Rattle.std.specs.Prelude.{IsTrue};
 
 use dns_data::RecordType;
-use office_store::Migration;
 use office_sql::{AllRows, ChangeRow, RecordRow, Writing};
+use office_store::Migration;
 use sqlite::{Connection, Error, ErrorCode, FileStore, Leftover, Options};
 use sqlite_disk::{Disk, Files};
 use sqlite_pager::Pager;
