@@ -1,7 +1,7 @@
 //! What takes rows from version 1 to version 2.
 
 ghost use Rattle.std.specs.Prelude.{IfOk};
-ghost use Rattle.office_store.specs.MigratedContents.{Migrates};
+ghost use Rattle.refuse_store.specs.Migrations.{IsMigration};
 
 use office_rows::RowFault;
 use office_sql::AllRows;
@@ -9,8 +9,10 @@ use office_store::Migration;
 use std::alloc::Global;
 
 /// `migration_of`.
+#[tactic(auto, using(crate::proofs::MigrationLemmas::is_migration))]
 pub fn migration_of(alloc: Global, rows: AllRows) -> Result<Migration, RowFault>
-    ensures { IfOk result (λ m. Migrates rows m.writing m.zones) }
+    ensures { IfOk result (λ m. IsMigration rows m.writing m.zones) }
 {
-    office_store::migration_of(alloc, &rows)
+    let migration = office_store::migration_of(alloc, &rows)?;
+    Ok(migration)
 }

@@ -40,7 +40,8 @@ pub fn change_row(
 ) -> Result<ChangeRow, AllocError>
     ensures { (n : ℕ) → number ≡ pos n → IfOk result (λ row. row ≡ change_row origin.now n side rr.now) }
 {
-    office_rows::change_row(alloc, origin, number, side, rr)
+    let row = office_rows::change_row(alloc, origin, number, side, rr)?;
+    Ok(row)
 }
 
 /// `receipt_of`.

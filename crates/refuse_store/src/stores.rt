@@ -15,7 +15,7 @@ ghost use Rattle.office_store.specs.Zones.{imported, with_imported};
 use dns_data::Record;
 use dns_names::Name;
 use office_core::{TableFault, ZoneTable};
-use office_store::{SqlTable, StoreFault};
+use office_store::{Migration, SqlTable, StoreFault};
 use sqlite::{Alter, Connection};
 use std::alloc::Global;
 use std::sync::ledger::{Blank, Ledger};
@@ -39,12 +39,13 @@ pub fn adopt<S: Alter + Drop, L: Ledger>(
     }
 }
 
-/// `SqlTable::import`.
+/// `SqlTable::import`, beside another zone.
 pub fn import<S: Alter + Drop, L: Ledger>(
     alloc: Global,
     table: &mut SqlTable<S, L>,
     origin: Name,
     records: Vec<Record>,
+    _other: Zone,
 ) -> Result<Zone, StoreFault>
     ensures { Turns (state S.Store table.old.conn) (state S.Store table.new.conn) result (λ s. with_imported s (imported s origin records.items)) }
 {
@@ -62,10 +63,11 @@ pub fn migrate<S: Alter + Drop, L: Ledger>(
     SqlTable::<S, L>::migrate(alloc, conn)
 }
 
-/// What `SqlTable::migrate` leaves where it fails.
+/// What `SqlTable::migrate` leaves where it fails, beside what is written for it.
 pub fn migrate_or_not<S: Alter + Drop, L: Ledger>(
     alloc: Global,
     store: &mut Connection<S>,
+    _migration: Migration,
 ) -> Result<usize, StoreFault>
     requires { store.old.in_transaction ≡ false }
     ensures { OnErr result ((rows : RowsOf) → Holds (state S.Store store.old) rows → Holds (state S.Store store.new) rows) }
