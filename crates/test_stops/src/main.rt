@@ -1,0 +1,19 @@
+//! Stores on disks that stop, by rows: what is done to a store is found whole or not at all behind each stop, and can be done then.
+//! The wanted answers are written by hand.
+//!
+//! `policy` takes its text from the body, and `look` the lines by which a store is looked at. `disks` begins with empty disks, and
+//! what `test_calls` says of a store is done to that on them. `stop` prints what the look tells before and behind what the row says,
+//! and what is told of that and of the same once more. Then it does it again and again over disks of which one stops at one call
+//! after the other, until none does, and tells whether each stop left the store as it was or as it is to be, and never as it was
+//! where it was told to be done; and whether the same, done behind the stop, is told and found as it is to be.
+#![tactic(auto)]
+
+mod disks;
+mod stops;
+mod trial;
+
+use std::io;
+
+fn main(rt: HostRuntime) -> io::Result<()> {
+    test_rows::run(&rt, &mut stops::Stops::new(rt.alloc()))
+}

@@ -1,0 +1,94 @@
+//! A database, which rows make, change and look at.
+
+use anyhow::{Result, bail};
+use grant_policy::read_policy;
+use sqlite::{Connection, MemStore};
+use std::alloc::{AllocError, Global};
+use test_calls::{Deed, done};
+use test_rows::{Answers, Row};
+
+/// The texts of the policy and of the script that made a database, and a connection to it, while there is one.
+#[derive(Drop)]
+pub struct Stores {
+    policy: Vec<u8>,
+    script: Vec<u8>,
+    conn: Option<Connection<MemStore>>,
+}
+
+impl Answers for Stores {
+    fn answer(
+        &mut self,
+        alloc: Global,
+        row: &Row<'_>,
+        answer: &mut Vec<u8>,
+    ) -> Result<(), AllocError> {
+        match self.answer_to(alloc, row, answer) {
+            Ok(()) => Ok(()),
+            Err(fault) => {
+                answer.extend_from_slice(format!(in alloc; "not answered: {fault}")?.as_bytes())
+            }
+        }
+    }
+}
+
+fn opened(alloc: Global, script: &[u8]) -> Result<Connection<MemStore>> {
+    let script = str::from_utf8(script)?;
+    let mut conn = Connection::open_in_memory(alloc)?;
+    conn.execute_batch(script)?;
+    Ok(conn)
+}
+
+impl Stores {
+    pub fn new(alloc: Global) -> Stores {
+        Stores {
+            policy: Vec::new(alloc),
+            script: Vec::new(alloc),
+            conn: None,
+        }
+    }
+
+    fn answer_to(&mut self, alloc: Global, row: &Row<'_>, answer: &mut Vec<u8>) -> Result<()> {
+        match row.verb {
+            "policy" => self.take_policy(alloc, row),
+            "database" => self.make(alloc, row),
+            "again" => self.make_again(alloc, row, answer),
+            _ => self.act(alloc, &Deed::of(alloc, row)?, answer),
+        }
+    }
+
+    fn take_policy(&mut self, alloc: Global, row: &Row<'_>) -> Result<()> {
+        self.policy = Vec::from_slice(alloc, &row.body)?;
+        Ok(())
+    }
+
+    /// Makes a database by a script.
+    fn make(&mut self, alloc: Global, row: &Row<'_>) -> Result<()> {
+        self.script = Vec::from_slice(alloc, &row.body)?;
+        self.conn = Some(opened(alloc, &row.body)?);
+        Ok(())
+    }
+
+    /// Makes it anew, runs another script, and migrates it or looks for the table.
+    fn make_again(&mut self, alloc: Global, row: &Row<'_>, answer: &mut Vec<u8>) -> Result<()> {
+        let mut script = Vec::from_slice(alloc, &self.script)?;
+        script.extend_from_slice(&row.body)?;
+        self.conn = Some(opened(alloc, &script)?);
+        let verb = if row.text.is_empty() {
+            "adopt"
+        } else {
+            "migrate"
+        };
+        self.act(alloc, &Deed::below(alloc, verb, &[])?, answer)
+    }
+
+    /// Does something to the database.
+    fn act(&mut self, alloc: Global, deed: &Deed, answer: &mut Vec<u8>) -> Result<()> {
+        let policy = read_policy(alloc, &self.policy)?;
+        let Some(conn) = self.conn.take() else {
+            bail!("there is no database");
+        };
+        let (told, conn) = done(alloc, conn, &policy, deed);
+        self.conn = Some(conn);
+        Ok(answer.extend_from_slice(&told?)?)
+    }
+}
