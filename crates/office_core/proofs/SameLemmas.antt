@@ -25,6 +25,7 @@ use Rattle.zone_core.proofs.ZoneLemmas.{at_is}
 use Rattle.zone_core.proofs.VersionLemmas.{updates_keep}
 use Rattle.zone_core.proofs.ListedLemmas.{nothing_listed}
 use Rattle.zone_core.proofs.SightLemmas.{verdicts_look_alike, updates_look_alike, quiet_updates_look_alike, listings_look_alike, parts_look_alike, changes_look_alike, quiet_changes_show_nothing}
+use Rattle.zone_core.specs.Changes.{ChangeOf, change_between}
 use Rattle.office_core.specs.declared.request.Request.{Request}
 use Rattle.office_core.specs.declared.request.Request.TheVariants as requests
 use Rattle.office_core.specs.declared.reply.UpdateReply.{UpdateReply}
@@ -33,8 +34,8 @@ use Rattle.office_core.specs.declared.receipt.Receipt.{Receipt}
 use Rattle.office_core.specs.Footprints.{footprint}
 use Rattle.office_core.specs.Permissions.{question, IsGranted, IsPermitted, first_denial}
 use Rattle.office_core.specs.Replies.{ReplyOf, records, file, delegations, changes, not_zone}
-use Rattle.office_core.specs.States.{ChangeOf, Held, State, zone_held, AreZones}
-use Rattle.office_core.specs.Machine.{may_list, listed, seen_of, if_some, seen, numbered, of_zone, list_reply, list_within_reply, file_reply, delegations_reply, changes_reply, outside_reply, denied_reply, failed_reply, refused_by, refusal, change_of, with_change, held_after, hold, keep, receipt, Turn, told, answered, updated, step, made_now, made}
+use Rattle.office_core.specs.States.{Held, State, zone_held, AreZones}
+use Rattle.office_core.specs.Machine.{may_list, listed, seen_of, if_some, seen, numbered, of_zone, list_reply, list_within_reply, file_reply, delegations_reply, changes_reply, outside_reply, denied_reply, failed_reply, refused_by, refusal, with_change, held_after, hold, keep, receipt, Turn, told, answered, updated, step, made_now, made}
 use Rattle.office_core.specs.Runs.{HasUpdate}
 use Rattle.office_core.specs.Isolation.{IsOwn, IsBlindAt, SeesNoSoa, origin_of}
 use Rattle.office_core.proofs.PermissionLaws.{none_permits}
@@ -85,7 +86,7 @@ nothing_in a e = ap (λ (s : Records). listing s) (empty_is a e) ∙ nothing_lis
 module _ (rules : List Rule) (caller : List ℕ) where
   -- what is seen of a change
   shown : Records → Records → List ChangeOf
-  shown a b = if_some (seen_of rules caller (change_of a b))
+  shown a b = if_some (seen_of rules caller (change_between a b))
 
   -- of one of which nothing is seen
   shows_none : (a b : Records) → listed rules caller (listing (minus a b)) ≡ [] → listed rules caller (listing (minus b a)) ≡ [] → shown a b ≡ []
@@ -97,12 +98,12 @@ module _ (rules : List Rule) (caller : List ℕ) where
   unfolding shown
   seen_with a b cs = by_test (is_same a b) refl
     where
-      by_test : (t : Bool) → is_same a b ≡ t → seen rules caller (if t then cs else cs ++ change_of a b ∷ []) ≡ seen rules caller cs ++ shown a b
+      by_test : (t : Bool) → is_same a b ≡ t → seen rules caller (if t then cs else cs ++ change_between a b ∷ []) ≡ seen rules caller cs ++ shown a b
       by_test true e =
           let parts = and_parts (len (minus a b) == 0) (len (minus b a) == 0) e in
           let none = shows_none a b (ap (listed rules caller) (nothing_in (minus a b) parts.0)) (ap (listed rules caller) (nothing_in (minus b a) parts.1)) in
           sym (append-nil (seen rules caller cs)) ∙ ap (λ xs. seen rules caller cs ++ xs) (sym none)
-      by_test false e = flat_map-push (λ c. if_some (seen_of rules caller c)) cs (change_of a b)
+      by_test false e = flat_map-push (λ c. if_some (seen_of rules caller c)) cs (change_between a b)
 
   -- ---- the relation
 

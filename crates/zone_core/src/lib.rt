@@ -22,6 +22,7 @@ mod update;
 mod verdict;
 mod zone;
 
+pub use change::Change;
 pub use delegation::{ChildServer, DelegationRequest, delegation_update};
 pub use fault::{DelegationFault, UpdateFault, ZoneFault};
 pub use kind::{OperationKind, PrerequisiteKind};
@@ -35,7 +36,6 @@ pub use laws::{
 pub use outcome::{Outcome, apply, apply_owned};
 pub use rcode::Rcode;
 pub use report::{DelegatedServer, Delegation, Glue, cuts, delegation_report};
-pub use rows::difference;
 pub use serial::{serial_add, serial_less};
 pub use update::{ItemList, Operation, Place, Prerequisite, Update};
 pub use verdict::{Failed, holds};

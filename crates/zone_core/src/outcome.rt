@@ -58,7 +58,7 @@ pub fn apply_owned(alloc: Global, zone: Zone, update: &Update) -> Result<Outcome
     ensures added { IfOk result (λ o. AreRows o.added.items (minus o.zone.records zone.records)) }
 {
     let change = update_change(alloc, &zone, update)?;
-    let after = zone.changed(alloc, &change.removed, &change.added)?;
+    let after = zone.changed(alloc, &change)?;
     Ok(Outcome {
         zone: after,
         removed: change.removed,

@@ -190,7 +190,7 @@ pub(crate) fn with_difference(
 }
 
 /// Copies of the records of a row that another has not, or has with other TTLs, in record order. The only error is want of memory.
-pub fn difference(
+pub(crate) fn difference(
     alloc: Global,
     records: &[Record],
     others: &[Record],

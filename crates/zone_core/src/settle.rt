@@ -1,6 +1,6 @@
 //! The serial of a zone after an update (RFC 2136 section 3.6).
 
-ghost use Rattle.std.specs.Prelude.{◌≡◌, ◌==◌, ◌&&◌, ◌∷◌, if◌then◌else◌, length, IfOk};
+ghost use Rattle.std.specs.Prelude.{◌≡◌, ◌==◌, ◌&&◌, ◌∷◌, [], if◌then◌else◌, length, IfOk};
 ghost use Rattle.zone_core.specs.Sets.{minus, AreRows};
 ghost use Rattle.zone_core.specs.Updates.{IsUpdate, ActsWithin};
 ghost use Rattle.zone_core.specs.Effects.{next_data, next_version, with_next, zone_after};
@@ -77,13 +77,24 @@ pub(crate) fn update_change(
     with_serial(alloc, zone.soa(), change)
 }
 
+/// The change of an SOA to its next version. The only error is out of memory.
+fn advance(alloc: Global, soa: &Record) -> Result<Change, AllocError>
+    ensures removed { IfOk result (λ c. c.removed.items ≡ soa.now ∷ []) }
+    ensures added { IfOk result (λ c. c.added.items ≡ next_version soa.now ∷ []) }
+{
+    let mut removed = Vec::with_capacity(alloc, 1)?;
+    removed.push(soa.try_copy(alloc)?)?;
+    let mut added = Vec::with_capacity(alloc, 1)?;
+    added.push(next_version(alloc, soa)?)?;
+    Ok(Change { removed, added })
+}
+
 impl Zone {
-    /// The zone with its serial one further (RFC 1982 section 3.1). The only error is want of memory.
+    /// The zone with its serial one further (RFC 1982 section 3.1). The only error is out of memory.
     pub fn advanced(self, alloc: Global) -> Result<Zone, AllocError>
         ensures { IfOk result (λ zone. zone ≡ record self { records = with_next self.records (soa_at self.origin self.records) }) }
     {
-        let soa = self.soa().try_copy(alloc)?;
-        let next = next_version(alloc, &soa)?;
-        self.changed(alloc, &[soa], &[next])
+        let change = advance(alloc, self.soa())?;
+        self.changed(alloc, &change)
     }
 }

@@ -1,10 +1,10 @@
 use Rattle.std.proofs.Common.{◌+◌, ◌++◌, List, length, map, sym, ap, ◌∙◌, arith}
-use Rattle.office_core.specs.declared.receipt.Change.{Change}
+use Rattle.zone_core.specs.declared.change.Change.{Change}
+use Rattle.zone_core.specs.Changes.{change_in}
 use Rattle.office_core.specs.Replies.{NumberedOf, numbered_of}
 use Rattle.office_core.specs.Machine.{numbered}
-use Rattle.office_core.specs.Tables.{change_in}
 use Rattle.office_core.proofs.NumberLemmas.{from_on, next_numbered}
-use Rattle.office_core.proofs.reading.numbered_from.Goals as goal
+use Rattle.office_core.proofs.queries.numbered_from.Goals as goal
 
 pub loop-change-preserved : goal.loop-change-preserved
 loop-change-preserved c =

@@ -1,5 +1,5 @@
 use Rattle.office_core.proofs.CommitLemmas.{taken, left, left_by_err}
-use Rattle.office_core.proofs.making.first_reply.Goals as goal
+use Rattle.office_core.proofs.update.first_reply.Goals as goal
 
 pub commit-requires : goal.commit-requires
 commit-requires g c = record { fits = λ honest s held. let k = c.in_ok-reply.ensures.commits honest s held in k.fits }

@@ -1,7 +1,8 @@
 use Rattle.std.proofs.Common.{option_map, ◌∙◌}
-use Rattle.office_core.specs.Tables.{change_in, addition_in}
+use Rattle.zone_core.specs.Changes.{change_in}
+use Rattle.office_core.specs.Tables.{addition_in}
 use Rattle.office_core.proofs.CommitLemmas.{commits}
-use Rattle.office_core.proofs.making.prepared.Goals as goal
+use Rattle.office_core.proofs.update.prepared.Goals as goal
 
 pub returns-clause-commits : goal.returns-clause-commits
 returns-clause-commits g c honest s held =

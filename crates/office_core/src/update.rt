@@ -2,21 +2,22 @@
 
 ghost use Rattle.std.specs.Prelude.{◌≡◌, ◌++◌, None, Some, IfOk, map, option_map};
 ghost use Rattle.zone_core.specs.Updates.{tested_name, acted_name, IsUpdate, ActsWithin};
+ghost use Rattle.zone_core.specs.Changes.{change_in};
 ghost use Rattle.office_core.specs.Replies.{reply_of};
 ghost use Rattle.office_core.specs.States.{State};
-ghost use Rattle.office_core.specs.Tables.{Counts, change_in, addition_in};
+ghost use Rattle.office_core.specs.Tables.{Counts, addition_in};
 ghost use Rattle.office_core.specs.Machine.{again, answered, updated, refusal, zone_refusal};
-ghost use Rattle.office_core.specs.Steps.{IsAnswer, Takes, LeavesTurn, Commits, Makes, MakesAt, held_in, addition_of};
+ghost use Rattle.office_core.specs.Steps.{CountsStep, IsAnswer, Takes, LeavesTurn, Commits, Makes, MakesAt, held_in, addition_of};
 
-use crate::fault::TableFault;
+use crate::fault::{StepFault, TableFault};
 use crate::permission::denied;
-use crate::receipt::{Addition, Change, Receipt};
+use crate::receipt::{Addition, Receipt};
 use crate::reply::{Reply, UpdateReply};
 use crate::table::ZoneTable;
 use dns_names::Name;
 use grant_policy::{Identifier, LookUps, Policy};
 use std::alloc::{AllocError, Global};
-use zone_core::{Update, Zone, apply_owned, holds};
+use zone_core::{Change, Update, Zone, holds};
 
 /// Makes an update, or refuses it, and keeps its receipt; where it has one already, its reply is given again.
 pub(crate) fn update_reply<T: ZoneTable>(
@@ -27,12 +28,12 @@ pub(crate) fn update_reply<T: ZoneTable>(
     id: &Identifier,
     origin: &Name,
     update: &Update,
-) -> Result<Reply, TableFault>
+) -> Result<Reply, StepFault>
     ensures takes { T.is_honest table.new → (s : State) → T.holds table.old s → Takes (T.holds table.new) s (updated policy.now s caller.now id.now origin.now update.now (s.receipts caller.now id.now)) result }
     ensures crash { T.is_honest table.new → (s : State) → T.holds table.old s → T.leaves table.old s s → LeavesTurn (T.leaves table.new) s (updated policy.now s caller.now id.now origin.now update.now (s.receipts caller.now id.now)) result }
     ensures honest { T.is_honest table.new → T.is_honest table.old }
     ensures answers { IfOk result IsAnswer }
-    ensures counts { Counts (T.failures table.old) (T.failures table.new) result }
+    ensures counts { CountsStep (T.failures table.old) (T.failures table.new) result }
 {
     match table.receipt(alloc, caller, id)? {
         Some(kept) => Ok(repeated(kept, origin, update)),
@@ -60,18 +61,20 @@ fn first_reply<T: ZoneTable>(
     id: &Identifier,
     origin: &Name,
     update: &Update,
-) -> Result<Reply, TableFault>
+) -> Result<Reply, StepFault>
     requires fresh { T.is_honest table.old → (s : State) → T.holds table.old s → s.receipts caller.now id.now ≡ None }
     ensures takes { T.is_honest table.new → (s : State) → T.holds table.old s → Takes (T.holds table.new) s (answered s caller.now id.now origin.now update.now (refusal policy.now caller.now origin.now update.now (s.zones origin.now))) result }
     ensures crash { T.is_honest table.new → (s : State) → T.holds table.old s → T.leaves table.old s s → LeavesTurn (T.leaves table.new) s (answered s caller.now id.now origin.now update.now (refusal policy.now caller.now origin.now update.now (s.zones origin.now))) result }
     ensures honest { T.is_honest table.new → T.is_honest table.old }
     ensures answers { IfOk result IsAnswer }
-    ensures counts { Counts (T.failures table.old) (T.failures table.new) result }
+    ensures counts { CountsStep (T.failures table.old) (T.failures table.new) result }
 {
     let (reply, addition) = prepared(alloc, table, policy, caller, id, origin, update)?;
-    table.commit(alloc, addition)?;
-    // nothing takes memory behind a commit
-    Ok(Reply::Update(reply))
+    match table.commit(alloc, addition) {
+        // nothing takes memory behind a commit
+        Ok(()) => Ok(Reply::Update(reply)),
+        Err(fault) => Err(StepFault::Commit(fault)),
+    }
 }
 
 /// The reply to an update that has no receipt, and what is to be kept of it.
@@ -150,7 +153,7 @@ fn made_at(
     ensures { IfOk result (λ r. MakesAt policy.now caller.now update.now part r.0 (option_map change_in r.1)) }
 {
     match part {
-        Some(zone) => made(alloc, policy, caller, zone, update),
+        Some(zone) => made(alloc, policy, caller, &zone, update),
         None => Ok((UpdateReply::NotAuth, None)),
     }
 }
@@ -160,20 +163,16 @@ fn made(
     alloc: Global,
     policy: &Policy,
     caller: &Identifier,
-    zone: Zone,
+    zone: &Zone,
     update: &Update,
 ) -> Result<(UpdateReply, Option<Change>), AllocError>
-    ensures { IfOk result (λ r. Makes zone update.now (zone_refusal policy.now caller.now zone.origin update.now (held_in zone)) r.0 (option_map change_in r.1)) }
+    ensures { IfOk result (λ r. Makes zone.now update.now (zone_refusal policy.now caller.now zone.now.origin update.now (held_in zone.now)) r.0 (option_map change_in r.1)) }
 {
-    if let Some(reply) = refusal(alloc, policy, caller, &zone, update)? {
+    if let Some(reply) = refusal(alloc, policy, caller, zone, update)? {
         return Ok((reply, None));
     }
-    let outcome = apply_owned(alloc, zone, update)?;
-    let change = Change {
-        removed: outcome.removed,
-        added: outcome.added,
-    };
-    let change = if change.is_nothing() {
+    let change = Change::of_update(alloc, zone, update)?;
+    let change = if change.is_empty() {
         None
     } else {
         Some(change)

@@ -1,24 +1,24 @@
-//! Requests that change nothing.
+//! Queries: the requests that change nothing.
 
 ghost use Rattle.std.specs.Prelude.{◌≡◌, ◌++◌, [], ◌∷◌, Some, IfOk, map, nat_le};
 ghost use Rattle.std.specs.List.{filter};
+ghost use Rattle.zone_core.specs.Changes.{change_in};
 ghost use Rattle.grant_policy.specs.Decisions.{decision};
 ghost use Rattle.office_core.specs.Permissions.{question};
 ghost use Rattle.office_core.specs.Replies.{reply_of, right_of, numbered_of, right};
 ghost use Rattle.office_core.specs.States.{State};
-ghost use Rattle.office_core.specs.Tables.{Counts, change_in};
+ghost use Rattle.office_core.specs.Tables.{Counts};
 ghost use Rattle.office_core.specs.Machine.{told, of_zone, may_list, listed, list_reply, list_within_reply, file_reply, delegations_reply, changes_reply, if_some, seen, seen_of, numbered};
-ghost use Rattle.office_core.specs.Steps.{IsAnswer, Takes, LeavesTurn};
+ghost use Rattle.office_core.specs.Steps.{IsAnswer, Takes};
 
 use crate::fault::TableFault;
-use crate::receipt::Change;
 use crate::reply::{NumberedChange, Reply, Right};
 use crate::table::ZoneTable;
 use dns_data::{Record, RecordType};
 use dns_names::Name;
 use grant_policy::{Action, Decision, Identifier, LookUps, Policy, decide};
 use std::alloc::{AllocError, Global};
-use zone_core::delegation_report;
+use zone_core::{Change, delegation_report};
 
 /// Whether a caller may list a record.
 fn may_list(policy: &Policy, caller: &Identifier, rr: &Record) -> bool
@@ -77,7 +77,7 @@ pub(crate) fn list<T: ZoneTable>(
     origin: &Name,
 ) -> Result<Reply, TableFault>
     ensures takes { T.is_honest table.new → (s : State) → T.holds table.old s → Takes (T.holds table.new) s (told s (of_zone (s.zones origin.now) (list_reply policy.now caller.now))) result }
-    ensures crash { T.is_honest table.new → (s : State) → T.holds table.old s → T.leaves table.old s s → LeavesTurn (T.leaves table.new) s (told s (of_zone (s.zones origin.now) (list_reply policy.now caller.now))) result }
+    ensures crash { (s t : State) → T.leaves table.old s t → T.leaves table.new s t }
     ensures honest { T.is_honest table.new → T.is_honest table.old }
     ensures answers { IfOk result IsAnswer }
     ensures counts { Counts (T.failures table.old) (T.failures table.new) result }
@@ -99,7 +99,7 @@ pub(crate) fn list_within<T: ZoneTable>(
     top: &Name,
 ) -> Result<Reply, TableFault>
     ensures takes { T.is_honest table.new → (s : State) → T.holds table.old s → Takes (T.holds table.new) s (told s (of_zone (s.zones origin.now) (list_within_reply policy.now caller.now origin.now top.now))) result }
-    ensures crash { T.is_honest table.new → (s : State) → T.holds table.old s → T.leaves table.old s s → LeavesTurn (T.leaves table.new) s (told s (of_zone (s.zones origin.now) (list_within_reply policy.now caller.now origin.now top.now))) result }
+    ensures crash { (s t : State) → T.leaves table.old s t → T.leaves table.new s t }
     ensures honest { T.is_honest table.new → T.is_honest table.old }
     ensures answers { IfOk result IsAnswer }
     ensures counts { Counts (T.failures table.old) (T.failures table.new) result }
@@ -123,7 +123,7 @@ pub(crate) fn file<T: ZoneTable>(
     origin: &Name,
 ) -> Result<Reply, TableFault>
     ensures takes { T.is_honest table.new → (s : State) → T.holds table.old s → Takes (T.holds table.new) s (told s (of_zone (s.zones origin.now) (file_reply policy.now caller.now origin.now))) result }
-    ensures crash { T.is_honest table.new → (s : State) → T.holds table.old s → T.leaves table.old s s → LeavesTurn (T.leaves table.new) s (told s (of_zone (s.zones origin.now) (file_reply policy.now caller.now origin.now))) result }
+    ensures crash { (s t : State) → T.leaves table.old s t → T.leaves table.new s t }
     ensures honest { T.is_honest table.new → T.is_honest table.old }
     ensures answers { IfOk result IsAnswer }
     ensures counts { Counts (T.failures table.old) (T.failures table.new) result }
@@ -145,7 +145,7 @@ pub(crate) fn delegations<T: ZoneTable>(
     origin: &Name,
 ) -> Result<Reply, TableFault>
     ensures takes { T.is_honest table.new → (s : State) → T.holds table.old s → Takes (T.holds table.new) s (told s (of_zone (s.zones origin.now) (delegations_reply policy.now caller.now origin.now))) result }
-    ensures crash { T.is_honest table.new → (s : State) → T.holds table.old s → T.leaves table.old s s → LeavesTurn (T.leaves table.new) s (told s (of_zone (s.zones origin.now) (delegations_reply policy.now caller.now origin.now))) result }
+    ensures crash { (s t : State) → T.leaves table.old s t → T.leaves table.new s t }
     ensures honest { T.is_honest table.new → T.is_honest table.old }
     ensures answers { IfOk result IsAnswer }
     ensures counts { Counts (T.failures table.old) (T.failures table.new) result }
@@ -183,7 +183,7 @@ fn with_seen(
     ensures { IfOk result (λ cs. map change_in cs.items ≡ map change_in all.items ++ if_some (seen_of policy.now caller.now (change_in change))) }
 {
     let seen = seen_of(alloc, policy, caller, change)?;
-    if !seen.is_nothing() {
+    if !seen.is_empty() {
         all.push(seen)?;
     }
     Ok(all)
@@ -215,11 +215,7 @@ fn with_numbered(
 ) -> Result<Vec<NumberedChange>, AllocError>
     ensures { IfOk result (λ cs. map numbered_of cs.items ≡ map numbered_of all.items ++ filter (λ c. nat_le from c.number) (numbered number (change_in change ∷ []))) }
 {
-    let change = NumberedChange {
-        number,
-        removed: change.removed,
-        added: change.added,
-    };
+    let change = NumberedChange { number, change };
     if number >= u64::from(from) {
         all.push(change)?;
     }
@@ -253,7 +249,7 @@ pub(crate) fn changes<T: ZoneTable>(
     from: u32,
 ) -> Result<Reply, TableFault>
     ensures takes { T.is_honest table.new → (s : State) → T.holds table.old s → Takes (T.holds table.new) s (told s (of_zone (s.zones origin.now) (changes_reply policy.now caller.now from))) result }
-    ensures crash { T.is_honest table.new → (s : State) → T.holds table.old s → T.leaves table.old s s → LeavesTurn (T.leaves table.new) s (told s (of_zone (s.zones origin.now) (changes_reply policy.now caller.now from))) result }
+    ensures crash { (s t : State) → T.leaves table.old s t → T.leaves table.new s t }
     ensures honest { T.is_honest table.new → T.is_honest table.old }
     ensures answers { IfOk result IsAnswer }
     ensures counts { Counts (T.failures table.old) (T.failures table.new) result }

@@ -2,7 +2,7 @@ use Rattle.std.proofs.Common.{sym, subst, ◌∙◌}
 use Rattle.zone_core.specs.Sets.{InOrder}
 use Rattle.zone_core.proofs.RowLemmas.{InOrder-filter}
 use Rattle.office_core.specs.Machine.{may_list}
-use Rattle.office_core.proofs.reading.delegations.Goals as goal
+use Rattle.office_core.proofs.queries.delegations.Goals as goal
 
 pub delegation_report-requires : goal.delegation_report-requires
 delegation_report-requires g c =
