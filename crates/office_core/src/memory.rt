@@ -113,8 +113,8 @@ fn receipt_of<'a>(
     receipts.get(caller)?.get(id)
 }
 
-/// What its type says of the update of a receipt. It does nothing when it runs.
-fn notes_receipt(receipt: &Receipt)
+/// The update of a receipt is one. It does nothing at run time.
+fn receipt_has_update(receipt: &Receipt)
     ensures { IsUpdate receipt.now.update }
 {
     let _ = receipt.update.operations();
@@ -249,7 +249,7 @@ impl ZoneTable for MemTable {
             receipt,
             change,
         } = addition;
-        notes_receipt(&receipt);
+        receipt_has_update(&receipt);
         let Some(change) = change else {
             keep(alloc, &mut self.receipts, caller, id, receipt)?;
             return Ok(());

@@ -9,7 +9,7 @@ use Rattle.zone_core.specs.Changes.{changed, FitsIn}
 use Rattle.zone_core.proofs.ChangedLemmas.{zone_fits, zone_gives, zone_made}
 use Rattle.zone_core.proofs.ZoneLemmas.{Keys, keys_of, zone_of_keys, soa_is}
 use Rattle.zone_core.proofs.VersionLemmas.{next_keys}
-use Rattle.zone_core.proofs.SettleLemmas.{minus_self, step_removed, step_added}
+use Rattle.zone_core.proofs.SerialAdvanceLemmas.{minus_self, step_removed, step_added}
 
 no_order : InOrder []
 unfolding IsStrictlySortedBy

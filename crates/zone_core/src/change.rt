@@ -7,12 +7,12 @@ ghost use Rattle.dns_names.specs.Order.{same_name};
 ghost use Rattle.zone_core.specs.Sets.{set_of, part, minus, at_name, InOrder, AreRows};
 ghost use Rattle.zone_core.specs.Updates.{acted_name, ActsWithin};
 ghost use Rattle.zone_core.specs.Effects.{effects, zone_after};
-ghost use Rattle.zone_core.specs.Sites.{Grows};
+ghost use Rattle.zone_core.specs.Nodes.{Grows};
 ghost use Rattle.zone_core.specs.Changes.{change_in, change_between, is_empty};
 
 use crate::effect::effects;
 use crate::rows::{at_name, copied, difference, in_order, with_difference};
-use crate::settle::update_change;
+use crate::serial_advance::update_change;
 use crate::update::{Operation, Update};
 use crate::zone::Zone;
 use dns_data::Record;

@@ -8,7 +8,7 @@ ghost use Rattle.zone_core.specs.Zones.{IsZone};
 ghost use Rattle.zone_core.specs.Accounts.{Leaves};
 ghost use Rattle.zone_core.specs.Versions.{Advances};
 
-use crate::settle::update_change;
+use crate::serial_advance::update_change;
 use crate::update::Update;
 use crate::zone::Zone;
 use dns_data::Record;

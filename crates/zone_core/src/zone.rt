@@ -111,7 +111,7 @@ impl Zone {
     }
 
     /// The records of a set: those of this owner and type, in record order.
-    pub fn record_set(&self, name: &Name, record_type: RecordType) -> &[Record]
+    pub fn rrset(&self, name: &Name, record_type: RecordType) -> &[Record]
         ensures { result.now ≡ listing (part self.now.records (at name.now record_type)) }
     {
         rows::of_set(&self.records, name, record_type)
