@@ -1,8 +1,7 @@
 -- What is kept of an update that is answered by what it reads of its zone: the machine's own turn.
-use Rattle.std.proofs.Common.{◌≡◌, ℕ, List, ◌∷◌, [], ◌++◌, map, length, Bool, true, false, ◌&&◌, ◌||◌, ◌==◌, if◌then◌else◌, Option, Some, None, option_map, Result, Ok, Err, refl, sym, ap, subst, ◌∙◌}
+use Rattle.std.proofs.Common.{◌≡◌, ℕ, List, ◌∷◌, [], ◌++◌, map, length, Bool, true, false, ◌&&◌, ◌||◌, ◌==◌, if◌then◌else◌, Option, Some, None, option_map, refl, sym, ap, subst, ◌∙◌}
 use Rattle.std.specs.List.{list_any}
 use Rattle.std.specs.Option.{option_or}
-use Rattle.std.specs.Result.{IsErr}
 use Rattle.std.specs.FinMap.{len, entries, len-entries}
 use Rattle.std.proofs.lemmas.List.{length-map}
 use Rattle.std.proofs.lemmas.List.Folds.{list_any-append}
@@ -22,15 +21,13 @@ use Rattle.zone_core.proofs.UpdateLemmas.{none_outside}
 use Rattle.zone_core.proofs.NeedLemmas.{updates_need}
 use Rattle.zone_core.proofs.VersionLemmas.{updates_keep}
 use Rattle.zone_core.proofs.ChangedLemmas.{changes_make, same_sets_are_one}
-use Rattle.office_core.specs.declared.fault.TableFault.{TableFault}
-use Rattle.office_core.specs.declared.reply.Reply.{Reply}
 use Rattle.office_core.specs.declared.reply.UpdateReply.{UpdateReply}
 use Rattle.office_core.specs.declared.reply.UpdateReply.TheVariants.{NoError, NotAuth, NotZone, Failed as FailedReply}
 use Rattle.office_core.specs.Replies.{to_update}
 use Rattle.office_core.specs.States.{Held, State, AreZones, zone_held, part_at}
 use Rattle.office_core.specs.Machine.{Turn, denied_reply, failed_reply, zone_refusal, refusal, with_change, held_after, hold, keep, answered}
 use Rattle.office_core.specs.Tables.{AdditionOf, held_with, committed, FitsHeld}
-use Rattle.office_core.specs.Steps.{LeavesTurn, Commits, held_in, change_made, Makes, MakesAt, addition_of}
+use Rattle.office_core.specs.Steps.{Commits, held_in, change_made, Makes, MakesAt, addition_of}
 
 same_Some : {T : Type 0} (a b : T) → Some a ≡ Some b → a ≡ b
 same_Some a b e = cc

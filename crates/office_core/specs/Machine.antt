@@ -1,7 +1,7 @@
 -- The machine: what the office replies to a caller's request, and the state after it. The order of tests is this office's own: a
 -- receipt, the zone, the names, the policy, and only then the prerequisites (RFC 2136 section 3 has these before permission), so
 -- that a denial tells nothing of a zone's records.
-use Rattle.std.specs.Prelude.{ℕ, suc, List, [], ◌∷◌, ◌++◌, length, Bool, ◌&&◌, ◌==◌, nat_le, if◌then◌else◌, Option, Some, None, option_map, bytes_eq}
+use Rattle.std.specs.Prelude.{ℕ, suc, List, [], ◌∷◌, ◌++◌, Bool, ◌&&◌, nat_le, if◌then◌else◌, Option, Some, None, option_map, bytes_eq}
 use Rattle.std.specs.List.{filter, flat_map}
 use Rattle.std.specs.Option.{option_or}
 use Rattle.dns_names.specs.Labels.{is_within}
@@ -12,7 +12,7 @@ use Rattle.grant_policy.specs.declared.action.Action.TheVariants as action
 use Rattle.grant_policy.specs.declared.rule.Rule.{Rule}
 use Rattle.grant_policy.specs.Decisions.{decision, is_granted}
 use Rattle.zone_core.specs.declared.update.Operation.{Operation}
-use Rattle.zone_core.specs.Sets.{Records, listing, part, within, minus, is_same}
+use Rattle.zone_core.specs.Sets.{Records, listing, part, within, is_same}
 use Rattle.zone_core.specs.Updates.{UpdateOf, first_outside, same_update}
 use Rattle.zone_core.specs.Prerequisites.{verdict}
 use Rattle.zone_core.specs.Effects.{zone_after}

@@ -1,5 +1,5 @@
 -- The zone with its serial one further.
-use Rattle.std.proofs.Common.{◌≡◌, List, [], ◌∷◌, Some, inl, refl, sym, ap, subst, ◌∙◌}
+use Rattle.std.proofs.Common.{◌≡◌, List, [], ◌∷◌, Some, inl, refl, sym, subst, ◌∙◌}
 use Rattle.std.specs.List.Sorted.{IsStrictlySortedBy}
 use Rattle.dns_data.specs.declared.record.Record.{Record}
 use Rattle.zone_core.specs.Sets.{Records, set_of, minus, InOrder, AreRows}

@@ -11,7 +11,7 @@ use Rattle.dns_data.proofs.RecordOrderLemmas.{one_rank}
 use Rattle.zone_core.specs.Sets.{Records, Key, key_of, set_of, minus, same_ttl, InOrder, AreRows}
 use Rattle.zone_core.specs.Zones.{ZoneOf, IsZone, AreKept}
 use Rattle.zone_core.specs.Views.{zone_in, AreOfZone}
-use Rattle.zone_core.specs.Changes.{ChangeOf, change_between}
+use Rattle.zone_core.specs.Changes.{change_between}
 use Rattle.zone_core.proofs.RowLemmas.{listing_of}
 use Rattle.zone_core.proofs.ChangeLemmas.{listed_so}
 

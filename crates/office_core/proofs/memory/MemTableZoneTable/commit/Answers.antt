@@ -64,8 +64,7 @@ changed-requires-clause-zone c =
     let place : position (is_of origin) zones ≡ Some at = sym (c.in-Some-place.ensures ∙ ap (position (is_of origin)) c.deref.ensures.value) in
     let found : find (is_of origin) zones ≡ Some held = found_at (is_of origin) zones at held place ∙ ap Some (sym c.index.ensures) in
     let fits = fits_found old a change held c.self.invariant all_fit c.in-Some.is found in
-    moved (λ z r s. IsZone (record { origin = z.origin; records = changed z.records r s })) c.in_ok-zone.zone held.zone c.deref-2.result.now change.removed.items
-    c.deref-3.result.now change.added.items c.in_ok-zone.ensures refl refl
+    moved (λ z r s. IsZone (record { origin = z.origin; records = changed z.records r s })) c.in_ok-zone.zone held.zone change.removed.items change.removed.items change.added.items change.added.items c.in_ok-zone.ensures refl refl
     (fits_zone origin held change (of_origin zones origin held found) fits)
 
 pub returns-in_err-make_room-clause-failed : goal.returns-in_err-make_room-clause-failed
