@@ -6,11 +6,11 @@ ghost use Rattle.office_core.specs.Machine.{step};
 ghost use Rattle.office_core.specs.Steps.{Steps, Leaves, CountsReply, CountsStep, Takes, LeavesTurn, IsAnswer};
 
 use crate::fault::StepFault;
-use crate::update::update_reply;
 use crate::queries::{changes, delegations, file, list, list_within, right};
 use crate::reply::Reply;
 use crate::request::Request;
 use crate::table::ZoneTable;
+use crate::update::update_reply;
 use grant_policy::{Identifier, Policy};
 use std::alloc::Global;
 

@@ -10,8 +10,8 @@ ghost use Rattle.zone_core.specs.Views.{set_ttl, given_ttls, min_ttl_rows, are_t
 ghost use Rattle.zone_core.specs.Zones.{IsZone, built, latest, zone_of, least_below, beside, fault_in, is_outside, is_soa, is_cname, is_of_two_cnames, is_cname_beside_other};
 
 use crate::fault::ZoneFault;
-use crate::validity::records_are_valid;
 use crate::rows::{has_set, has_type, in_order_behind};
+use crate::validity::records_are_valid;
 use crate::zone::Zone;
 use dns_data::{Record, RecordType, Ttl};
 use dns_names::Name;

@@ -30,11 +30,7 @@ pub struct Change {
 
 impl Change {
     /// The change from some records to others. The only error is out of memory.
-    pub fn between(
-        alloc: Global,
-        before: &[Record],
-        after: &[Record],
-    ) -> Result<Change, AllocError>
+    pub fn between(alloc: Global, before: &[Record], after: &[Record]) -> Result<Change, AllocError>
         // Both are in record order, without repetition.
         requires before { InOrder before.now }
         requires after { InOrder after.now }

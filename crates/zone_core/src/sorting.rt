@@ -53,7 +53,11 @@ fn prefix_behind(name: &Name, shared: usize) -> KeyPrefix
 }
 
 /// The prefixes of the records' owners behind the shared octets.
-fn prefixes_behind(alloc: Global, records: &[Record], shared: usize) -> Result<Vec<KeyPrefix>, AllocError>
+fn prefixes_behind(
+    alloc: Global,
+    records: &[Record],
+    shared: usize,
+) -> Result<Vec<KeyPrefix>, AllocError>
     ensures { IfOk result (λ prefixes. prefixes.items ≡ map (λ r. prefix_behind shared r.owner) records.now) }
 {
     let prefixes = records.iter().map(|rr| prefix_behind(&rr.owner, shared));
@@ -114,7 +118,9 @@ fn sorted_positions(
     ensures permutation { IsPermutation positions.items result.items }
     ensures order { IsSorted (position_order records.now prefixes.now other.now) result.items }
 {
-    positions.sort_unstable_by(|first, second| position_order(records, prefixes, other, *first, *second));
+    positions.sort_unstable_by(|first, second| position_order(
+        records, prefixes, other, *first, *second,
+    ));
     positions
 }
 
