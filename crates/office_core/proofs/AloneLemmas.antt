@@ -28,7 +28,7 @@ run_alone holds rules s calls rs zones has run =
     let have = kept_have calls rs has in
     record {
       by_rights = λ caller blind away. ap (told_to caller) run.as_machine ∙ callers_are_alone rules caller s (kept calls rs) zones have blind away;
-      by_sight = λ caller blind quiet. ap (told_to caller) run.as_machine ∙ blind_callers_are_alone rules caller s (kept calls rs) zones have blind quiet;
+      by_visibility = λ caller blind invisible. ap (told_to caller) run.as_machine ∙ blind_callers_are_alone rules caller s (kept calls rs) zones have blind invisible;
       by_policy = λ caller blind others. ap (told_to caller) run.as_machine ∙ policies_keep_alone rules caller s (kept calls rs) zones have blind others;
     }
 

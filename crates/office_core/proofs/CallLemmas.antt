@@ -8,7 +8,7 @@ use Rattle.zone_core.specs.Sets.{Records}
 use Rattle.zone_core.specs.Zones.{ZoneOf, IsZone}
 use Rattle.zone_core.specs.Updates.{UpdateOf, IsUpdate}
 use Rattle.zone_core.specs.Effects.{zone_after}
-use Rattle.zone_core.specs.Changes.{changed}
+use Rattle.zone_core.specs.Changes.{changed, ChangeOf, change_between}
 use Rattle.zone_core.proofs.SetLemmas.{by_cases, name_is, name_self}
 use Rattle.zone_core.proofs.VersionLemmas.{updates_keep}
 use Rattle.zone_core.proofs.ChangedLemmas.{changes_make}
@@ -17,8 +17,8 @@ use Rattle.office_core.specs.declared.receipt.Receipt.{Receipt}
 use Rattle.office_core.specs.declared.request.Call.{Call}
 use Rattle.office_core.specs.declared.request.Request.{Request}
 use Rattle.office_core.specs.declared.request.Request.TheVariants as requests
-use Rattle.office_core.specs.States.{ChangeOf, Held, State, AreZones, AreReceipts, zone_held}
-use Rattle.office_core.specs.Machine.{step, refusal, change_of}
+use Rattle.office_core.specs.States.{Held, State, AreZones, AreReceipts, zone_held}
+use Rattle.office_core.specs.Machine.{step, refusal}
 use Rattle.office_core.specs.Runs.{HasUpdate, HaveUpdates, turn, state_after}
 use Rattle.office_core.specs.Promises.{IsMade, IsNoted, IsWhole, MakesUpdate, MakesThis, TurnIsRight, AreMade, AllCallsAreRight}
 use Rattle.office_core.proofs.MadeLemmas.{if_made, not_refused}
@@ -42,7 +42,7 @@ record AreNoted (before after : Held) : Type 0 where
 noted_one : (origin : List (List ℕ)) (before after : Held) → IsZone (zone_held origin before) → IsZone (zone_held origin after) → IsNoted before after → AreNoted before after
 noted_one origin before after is also (inl same) = record { noted = []; changes = same.1 ∙ sym (append-nil before.changes); lead = sym same.0 }
 noted_one origin before after is also (inr one) =
-    record { noted = change_of before.records after.records ∷ []; changes = one.1; lead = (changes_make before.records after.records is.kept also.kept).1 }
+    record { noted = change_between before.records after.records ∷ []; changes = one.1; lead = (changes_make before.records after.records is.kept also.kept).1 }
 
 noted_none : (held : Held) → AreNoted held held
 noted_none held = record { noted = []; changes = sym (append-nil held.changes); lead = refl }

@@ -1,8 +1,7 @@
 -- What is kept of an update that is answered by what it reads of its zone: the machine's own turn.
-use Rattle.std.proofs.Common.{◌≡◌, ℕ, List, ◌∷◌, [], ◌++◌, map, length, Bool, true, false, ◌&&◌, ◌||◌, ◌==◌, if◌then◌else◌, Option, Some, None, option_map, Result, Ok, Err, refl, sym, ap, subst, ◌∙◌}
+use Rattle.std.proofs.Common.{◌≡◌, ℕ, List, ◌∷◌, [], ◌++◌, map, length, Bool, true, false, ◌&&◌, ◌||◌, ◌==◌, if◌then◌else◌, Option, Some, None, option_map, refl, sym, ap, subst, ◌∙◌}
 use Rattle.std.specs.List.{list_any}
 use Rattle.std.specs.Option.{option_or}
-use Rattle.std.specs.Result.{IsErr}
 use Rattle.std.specs.FinMap.{len, entries, len-entries}
 use Rattle.std.proofs.lemmas.List.{length-map}
 use Rattle.std.proofs.lemmas.List.Folds.{list_any-append}
@@ -15,22 +14,20 @@ use Rattle.zone_core.specs.Sets.{Records, Key, listing, minus, is_same, at_name}
 use Rattle.zone_core.specs.Zones.{ZoneOf, IsZone}
 use Rattle.zone_core.specs.Updates.{UpdateOf, IsUpdate, ActsWithin, tested_name, acted_name, first_outside}
 use Rattle.zone_core.specs.Effects.{zone_after}
-use Rattle.zone_core.specs.Changes.{changed, FitsIn}
+use Rattle.zone_core.specs.Changes.{changed, FitsIn, ChangeOf, is_empty, change_between}
 use Rattle.zone_core.specs.Parts.{part_of, at_names, tested, touched, Covers, DoesForZone}
 use Rattle.zone_core.proofs.SetLemmas.{name_is}
 use Rattle.zone_core.proofs.UpdateLemmas.{none_outside}
 use Rattle.zone_core.proofs.NeedLemmas.{updates_need}
 use Rattle.zone_core.proofs.VersionLemmas.{updates_keep}
 use Rattle.zone_core.proofs.ChangedLemmas.{changes_make, same_sets_are_one}
-use Rattle.office_core.specs.declared.fault.TableFault.{TableFault}
-use Rattle.office_core.specs.declared.reply.Reply.{Reply}
 use Rattle.office_core.specs.declared.reply.UpdateReply.{UpdateReply}
 use Rattle.office_core.specs.declared.reply.UpdateReply.TheVariants.{NoError, NotAuth, NotZone, Failed as FailedReply}
 use Rattle.office_core.specs.Replies.{to_update}
-use Rattle.office_core.specs.States.{ChangeOf, Held, State, AreZones, zone_held, part_at}
-use Rattle.office_core.specs.Machine.{Turn, is_nothing, denied_reply, failed_reply, zone_refusal, refusal, change_of, with_change, held_after, hold, keep, answered}
+use Rattle.office_core.specs.States.{Held, State, AreZones, zone_held, part_at}
+use Rattle.office_core.specs.Machine.{Turn, denied_reply, failed_reply, zone_refusal, refusal, with_change, held_after, hold, keep, answered}
 use Rattle.office_core.specs.Tables.{AdditionOf, held_with, committed, FitsHeld}
-use Rattle.office_core.specs.Steps.{LeavesTurn, Commits, held_in, change_made, Makes, MakesAt, addition_of}
+use Rattle.office_core.specs.Steps.{Commits, held_in, change_made, Makes, MakesAt, addition_of}
 
 same_Some : {T : Type 0} (a b : T) → Some a ≡ Some b → a ≡ b
 same_Some a b e = cc
@@ -56,7 +53,7 @@ covers origin update names named k found =
 length-listing : (set : Records) → length (listing set) ≡ len set
 length-listing set = length-map (entries set) (λ (e : Key × Record). e.1) ∙ sym (len-entries set)
 
-nothing_same : (a b : Records) → is_nothing (change_of a b) ≡ is_same a b
+nothing_same : (a b : Records) → is_empty (change_between a b) ≡ is_same a b
 nothing_same a b = λ i. (length-listing (minus a b) i == 0) && (length-listing (minus b a) i == 0)
 
 -- what is changed, by what two sets differ in
@@ -126,14 +123,14 @@ module _ (rules : List Rule) (s : State) (caller id : List ℕ) (origin : List (
       same_change : change_made less.records (zone_after less update).records ≡ change_made held.records after
       same_change = let does = needs acts in λ i. change_by (does.removed i) (does.added i)
 
-      made : FitsIn held.records (change_of held.records after).removed (change_of held.records after).added × (changed held.records (change_of held.records after).removed (change_of held.records after).added ≡ after)
+      made : FitsIn held.records (change_between held.records after).removed (change_between held.records after).added × (changed held.records (change_between held.records after).removed (change_between held.records after).added ≡ after)
       made = changes_make held.records after z.kept z_after.kept
 
       -- it changes nothing
       idle : is_same held.records after ≡ true → held_after origin update held ≡ held
       idle same =
           let records : after ≡ held.records = sym ((same_sets_are_one held.records after z.kept z_after.kept).0 same) in
-          let changes : with_change held.records after held.changes ≡ held.changes = ap (λ (b : Bool). if b then held.changes else held.changes ++ change_of held.records after ∷ []) same in
+          let changes : with_change held.records after held.changes ≡ held.changes = ap (λ (b : Bool). if b then held.changes else held.changes ++ change_between held.records after ∷ []) same in
           λ i. record { records = records i; changes = changes i }
 
       idle_state : is_same held.records after ≡ true → hold s origin (option_map (held_after origin update) (s.zones origin)) ≡ s
@@ -143,26 +140,26 @@ module _ (rules : List Rule) (s : State) (caller id : List ℕ) (origin : List (
           ∙ same_state s origin held there
 
       -- it changes something
-      busy : is_same held.records after ≡ false → held_after origin update held ≡ held_with (change_of held.records after) held
+      busy : is_same held.records after ≡ false → held_after origin update held ≡ held_with (change_between held.records after) held
       busy differs =
-          let changes : with_change held.records after held.changes ≡ held.changes ++ change_of held.records after ∷ [] =
-          ap (λ (b : Bool). if b then held.changes else held.changes ++ change_of held.records after ∷ []) differs in
+          let changes : with_change held.records after held.changes ≡ held.changes ++ change_between held.records after ∷ [] =
+          ap (λ (b : Bool). if b then held.changes else held.changes ++ change_between held.records after ∷ []) differs in
           λ i. record { records = sym made.1 i; changes = changes i }
 
-      busy_state : is_same held.records after ≡ false → hold s origin (option_map (held_after origin update) (s.zones origin)) ≡ hold s origin (option_map (held_with (change_of held.records after)) (s.zones origin))
+      busy_state : is_same held.records after ≡ false → hold s origin (option_map (held_after origin update) (s.zones origin)) ≡ hold s origin (option_map (held_with (change_between held.records after)) (s.zones origin))
       busy_state differs =
           ap (λ (o : Option Held). hold s origin (option_map (held_after origin update) o)) there
           ∙ ap (λ (h : Held). hold s origin (Some h)) (busy differs)
-          ∙ ap (λ (o : Option Held). hold s origin (option_map (held_with (change_of held.records after)) o)) (sym there)
+          ∙ ap (λ (o : Option Held). hold s origin (option_map (held_with (change_between held.records after)) o)) (sym there)
 
-      fits_held : is_same held.records after ≡ false → FitsHeld origin held (change_of held.records after)
+      fits_held : is_same held.records after ≡ false → FitsHeld origin held (change_between held.records after)
       fits_held differs = record {
         something = nothing_same held.records after ∙ differs;
         records = made.0;
         zone = subst IsZone (λ i. record { origin = origin; records = sym made.1 i }) z_after;
       }
 
-      by_same : (b : Bool) → is_same held.records after ≡ b → Told None NoError (if b then None else Some (change_of held.records after))
+      by_same : (b : Bool) → is_same held.records after ≡ b → Told None NoError (if b then None else Some (change_between held.records after))
       by_same true same = record {
         fits = record { fresh = fresh; change = tt };
         replied = refl;
@@ -212,6 +209,5 @@ module _ (s : State) (turn : Turn) (a : AdditionOf) (reply : UpdateReply) (k : C
   left leaves kept = subst (λ (t : State). leaves t t) (sym k.after) kept
 
   -- one that failed
-  pub left_by_err : (leaves : State → State → Type 0) (r : Result Reply TableFault) → IsErr r → leaves s (committed a s) → LeavesTurn leaves s turn r
-  left_by_err leaves (Ok answer) is crash = absurd cc
-  left_by_err leaves (Err fault) is crash = subst (leaves s) (sym k.after) crash
+  pub left_by_err : (leaves : State → State → Type 0) → leaves s (committed a s) → leaves s turn.after
+  left_by_err leaves crash = subst (leaves s) (sym k.after) crash

@@ -8,7 +8,7 @@ use Rattle.grant_policy.specs.declared.rule.Rule.{Rule}
 use Rattle.zone_core.specs.declared.update.Operation.{Operation}
 use Rattle.zone_core.specs.declared.update.Operation.TheVariants.{Add, DeleteRrset, DeleteName, DeleteRecord}
 use Rattle.zone_core.specs.Updates.{UpdateOf, acted_name}
-use Rattle.zone_core.specs.Sight.{IsQuiet}
+use Rattle.zone_core.specs.Visibility.{IsInvisible}
 use Rattle.zone_core.proofs.SetLemmas.{by_cases}
 use Rattle.office_core.specs.declared.request.Request.{Request}
 use Rattle.office_core.specs.declared.request.Request.TheVariants as requests
@@ -19,7 +19,7 @@ use Rattle.office_core.specs.Replies.{ReplyOf}
 use Rattle.office_core.specs.States.{State, Held}
 use Rattle.office_core.specs.Machine.{step, refusal, made_now, made}
 use Rattle.office_core.specs.Runs.{Answer, turn, answers, HasUpdate, HaveUpdates}
-use Rattle.office_core.specs.Isolation.{asked_by, told_to, IsOwn, origin_of, OthersStayAway, OthersStayQuiet, OthersMayNot, CallersAreAlone, BlindCallersAreAlone, PoliciesKeepAlone}
+use Rattle.office_core.specs.Isolation.{asked_by, told_to, IsOwn, origin_of, OthersStayAway, OthersStayInvisible, OthersMayNot, CallersAreAlone, BlindCallersAreAlone, PoliciesKeepAlone}
 use Rattle.office_core.proofs.OwnNameLemmas.{permitted_away}
 use Rattle.office_core.proofs.SameLemmas.{Same, Turns, not_refused, step_alike, step_away, same_self}
 
@@ -54,38 +54,38 @@ module _ (rules : List Rule) (caller : List ℕ) where
   step_own s t call same is own =
       subst (λ (c : List ℕ). Turns rules caller (step rules s c call.request) (step rules t c call.request)) (sym own) (step_alike rules caller s t same call.request is)
 
-  runs_alike : (s t : State) (calls : List Call) → Same rules caller s t → HaveUpdates calls → OthersStayQuiet rules caller s calls → told_to caller (answers rules s calls) ≡ told_to caller (answers rules t (asked_by caller calls))
-  runs_alike s t [] same are quiet = refl
-  runs_alike s t (call ∷ calls) same are quiet =
+  runs_alike : (s t : State) (calls : List Call) → Same rules caller s t → HaveUpdates calls → OthersStayInvisible rules caller s calls → told_to caller (answers rules s calls) ≡ told_to caller (answers rules t (asked_by caller calls))
+  runs_alike s t [] same are invisible = refl
+  runs_alike s t (call ∷ calls) same are invisible =
       by_cases (is_own call) (told_to caller (answers rules s (call ∷ calls)) ≡ told_to caller (answers rules t (asked_by caller (call ∷ calls))))
       (λ e.
       let turns : Turns rules caller (turn rules s call) (turn rules t call) =
       step_own s t call same are.0 ((bytes_eq-Decides call.caller caller).0 e) in
       told_own s call calls e
-      ∙ (λ i. turns.reply i ∷ runs_alike (turn rules s call).after (turn rules t call).after calls turns.after are.1 quiet.1 i)
+      ∙ (λ i. turns.reply i ∷ runs_alike (turn rules s call).after (turn rules t call).after calls turns.after are.1 invisible.1 i)
       ∙ sym (told_own t call (asked_by caller calls) e)
       ∙ ap (λ cs. told_to caller (answers rules t cs)) (sym (asked_own call calls e)))
       (λ e.
       let differs = others_call call e in
       told_others s call calls e
-      ∙ runs_alike (turn rules s call).after t calls (step_away rules caller s t same call.caller differs call.request are.0 (quiet.0 differs)) are.1 quiet.1
+      ∙ runs_alike (turn rules s call).after t calls (step_away rules caller s t same call.caller differs call.request are.0 (invisible.0 differs)) are.1 invisible.1
       ∙ ap (λ cs. told_to caller (answers rules t cs)) (sym (asked_others call calls e)))
 
 -- ---- the others
 
--- who stays away is quiet
-quiet_ops : (Seen : List (List ℕ) → Type 0) (origin : List (List ℕ)) (ops : List Operation) → AllByRecursion (λ op. ¬ Seen (acted_name op)) ops → AllByRecursion (IsQuiet Seen origin) ops
-quiet_ops Seen origin [] all = tt
-quiet_ops Seen origin (Add r ∷ ops) all = (inl all.0, quiet_ops Seen origin ops all.1)
-quiet_ops Seen origin (DeleteRrset name t ∷ ops) all = (all.0, quiet_ops Seen origin ops all.1)
-quiet_ops Seen origin (DeleteName name ∷ ops) all = (all.0, quiet_ops Seen origin ops all.1)
-quiet_ops Seen origin (DeleteRecord name rdata ∷ ops) all = (all.0, quiet_ops Seen origin ops all.1)
+-- who stays away stays invisible
+invisible_ops : (Seen : List (List ℕ) → Type 0) (origin : List (List ℕ)) (ops : List Operation) → AllByRecursion (λ op. ¬ Seen (acted_name op)) ops → AllByRecursion (IsInvisible Seen origin) ops
+invisible_ops Seen origin [] all = tt
+invisible_ops Seen origin (Add r ∷ ops) all = (inl all.0, invisible_ops Seen origin ops all.1)
+invisible_ops Seen origin (DeleteRrset name t ∷ ops) all = (all.0, invisible_ops Seen origin ops all.1)
+invisible_ops Seen origin (DeleteName name ∷ ops) all = (all.0, invisible_ops Seen origin ops all.1)
+invisible_ops Seen origin (DeleteRecord name rdata ∷ ops) all = (all.0, invisible_ops Seen origin ops all.1)
 
-quiet_calls : (rules : List Rule) (caller : List ℕ) (s : State) (calls : List Call) → OthersStayAway rules caller s calls → OthersStayQuiet rules caller s calls
-quiet_calls rules caller s [] away = tt
-quiet_calls rules caller s (call ∷ calls) away = (
-  λ differs. quiet_ops (IsOwn rules caller) (origin_of call.request) (made rules s call.caller call.request) (away.0 differs),
-  quiet_calls rules caller (turn rules s call).after calls away.1,
+invisible_calls : (rules : List Rule) (caller : List ℕ) (s : State) (calls : List Call) → OthersStayAway rules caller s calls → OthersStayInvisible rules caller s calls
+invisible_calls rules caller s [] away = tt
+invisible_calls rules caller s (call ∷ calls) away = (
+  λ differs. invisible_ops (IsOwn rules caller) (origin_of call.request) (made rules s call.caller call.request) (away.0 differs),
+  invisible_calls rules caller (turn rules s call).after calls away.1,
 )
 
 -- where the policy keeps the caller's names from the others, they stay away
@@ -111,13 +111,13 @@ module _ (rules : List Rule) (caller : List ℕ) (others : OthersMayNot rules ca
 -- ---- the laws
 
 pub blind_callers_are_alone : BlindCallersAreAlone
-blind_callers_are_alone rules caller s calls zones are blind quiet = runs_alike rules caller s s calls (same_self rules caller s zones blind) are quiet
+blind_callers_are_alone rules caller s calls zones are blind invisible = runs_alike rules caller s s calls (same_self rules caller s zones blind) are invisible
 
 pub callers_are_alone : CallersAreAlone
 callers_are_alone rules caller s calls zones are rights away =
     blind_callers_are_alone rules caller s calls zones are
-    (λ origin held e. record { unlisted = rights origin held e action.List; unchecked = rights origin held e action.Check }) (quiet_calls rules caller s calls away)
+    (λ origin held e. record { unlisted = rights origin held e action.List; unchecked = rights origin held e action.Check }) (invisible_calls rules caller s calls away)
 
 pub policies_keep_alone : PoliciesKeepAlone
 policies_keep_alone rules caller s calls zones are blind others =
-    blind_callers_are_alone rules caller s calls zones are blind (quiet_calls rules caller s calls (stay_away rules caller others s calls))
+    blind_callers_are_alone rules caller s calls zones are blind (invisible_calls rules caller s calls (stay_away rules caller others s calls))

@@ -7,7 +7,7 @@ pub mod OwnNameLemmas
 pub mod SameLemmas
 pub mod IsolationLemmas
 pub mod NumberLemmas
-pub mod MakingLemmas
+pub mod EmptyChangeLemmas
 pub mod CommitLemmas
 pub mod RunLemmas
 pub mod AloneLemmas

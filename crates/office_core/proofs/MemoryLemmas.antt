@@ -21,16 +21,16 @@ use Rattle.std.proofs.lemmas.Option.{slice_get-get_or, slice_get_past}
 use Rattle.std.proofs.lemmas.Slice.Eq.{bytes_eq-Decides}
 use Rattle.dns_names.specs.Order.{same_name}
 use Rattle.zone_core.proofs.SetLemmas.{by_cases, name_is, name_self, name_other}
-use Rattle.zone_core.specs.Changes.{changed}
+use Rattle.zone_core.specs.Changes.{changed, change_in}
 use Rattle.zone_core.specs.Updates.{IsUpdate}
 use Rattle.zone_core.specs.Zones.{ZoneOf, IsZone}
-use Rattle.office_core.specs.declared.receipt.Change.{Change}
+use Rattle.zone_core.specs.declared.change.Change.{Change}
 use Rattle.office_core.specs.declared.receipt.Receipt.{Receipt}
 use Rattle.office_core.specs.declared.receipt.Addition.{Addition}
 use Rattle.office_core.specs.declared.memory.HeldZone.{HeldZone}
 use Rattle.office_core.specs.States.{Held, State, zone_held, zone_at, changes_at}
 use Rattle.office_core.specs.Machine.{keep}
-use Rattle.office_core.specs.Tables.{with_change_of, Fits, FitsChange, FitsHeld, addition_in, change_in, committed, held_with}
+use Rattle.office_core.specs.Tables.{with_change_of, Fits, FitsChange, FitsHeld, addition_in, committed, held_with}
 use Rattle.office_core.specs.Memory.{MemoryOf, IsPutAt, HoldsSame, HoldsChange, Receipts, EachIsZone, IsMemory, HoldsState, state_in, held_among, held_of, is_of, receipt_among, receipt_in, receipt_rows, zone_among, without_changes, state_of}
 
 -- ---- lists

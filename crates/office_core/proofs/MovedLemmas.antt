@@ -25,12 +25,12 @@ use Rattle.zone_core.specs.declared.update.Operation.TheVariants.{Add, DeleteRrs
 use Rattle.zone_core.specs.Sets.{Records, Key, key_of, rank_of, same_key, IsIn, cut, has, at_name, at, put, with_ttl, same_ttl, minus, is_same}
 use Rattle.zone_core.specs.Zones.{ZoneOf, IsZone, is_soa, is_cname, soa_at, serial_in, serial_at}
 use Rattle.zone_core.specs.Updates.{UpdateOf, IsUpdate, ActsWithin, IsOperation, acted_name, place_in}
-use Rattle.zone_core.specs.Effects.{is_other_type, takes_over, add_soa, add_cname, add_other, is_misplaced, add, is_guarded, goes, delete_name, key_at, stays, effect, effects, next_version, with_next, settled, zone_after}
+use Rattle.zone_core.specs.Effects.{is_other_type, takes_over, add_soa, add_cname, add_other, is_misplaced, add, is_guarded, goes, delete_name, key_at, stays, effect, effects, next_version, with_next, serial_advanced, zone_after}
 use Rattle.zone_core.proofs.SetLemmas.{by_cases, name_is, name_self, key_other, get-cut, kept_by_cut, gone_by_cut, kept_by_put, none_there, found_of_part}
 use Rattle.zone_core.proofs.EffectLemmas.{get-with_ttl, untouched, effect_away}
 use Rattle.zone_core.proofs.ZoneLemmas.{Keys, Heir, keys_of, at_is, both_true, no, is_kind, soa_is, effect_heir}
 use Rattle.zone_core.proofs.VersionLemmas.{heir_of, next_keys, updates_keep}
-use Rattle.zone_core.proofs.LeaveLemmas.{settled_there}
+use Rattle.zone_core.proofs.LeaveLemmas.{advanced_there}
 use Rattle.office_core.specs.Footprints.{Point, OperationAsks, is_deleted_with, changes_type, delegates, change_of}
 use Rattle.office_core.specs.Permissions.{IsGranted, IsPermitted}
 use Rattle.office_core.specs.Promises.{IsAdvance, HasMoved, IsAskedAndGranted}
@@ -222,19 +222,19 @@ module _ (zone : ZoneOf) (update : UpdateOf) (is_zone : IsZone zone) (is : IsUpd
   abbrev heir : Heir zone.origin zone.records (keys_of zone.origin zone.records is_zone) (effects zone.origin zone.records update.operations)
   heir = heir_of zone update is_zone is acts
 
-  abbrev last : Keys zone.origin (settled zone.origin zone.records (effects zone.origin zone.records update.operations))
+  abbrev last : Keys zone.origin (serial_advanced zone.origin zone.records (effects zone.origin zone.records update.operations))
   last = keys_of zone.origin (zone_after zone update).records (updates_keep zone update is_zone is acts)
 
   leaves : (k : Key) (t : RecordType) → k.1 ≡ rank_of t → list_any (asks_for origin k.0 t) update.operations ≡ false → get after k ≡ get before k
   leaves k t = effects_leave origin before z update.operations is.operations acts.operations k t
 
   -- an SOA that went or came is that of the origin
-  soa_home : (r : Record) → HasMoved before (settled origin before after) r → type_of r.rdata ≡ types.Soa → r.owner ≡ origin
+  soa_home : (r : Record) → HasMoved before (serial_advanced origin before after) r → type_of r.rdata ≡ types.Soa → r.owner ≡ origin
   soa_home r (inl went) type =
-      let there = (found_of_part before (λ j. not (same_ttl (get before j) (get (settled origin before after) j))) (key_of r) r went).1 in
+      let there = (found_of_part before (λ j. not (same_ttl (get before j) (get (serial_advanced origin before after) j))) (key_of r) r went).1 in
       ap (λ (q : Key). q.0) (z.soa_alone (key_of r) (r, there) (ap rank_of type)) ∙ z.soa_origin
   soa_home r (inr came) type =
-      let there = (found_of_part (settled origin before after) (λ j. not (same_ttl (get (settled origin before after) j) (get before j))) (key_of r) r came).1 in
+      let there = (found_of_part (serial_advanced origin before after) (λ j. not (same_ttl (get (serial_advanced origin before after) j) (get before j))) (key_of r) r came).1 in
       ap (λ (q : Key). q.0) (last.soa_alone (key_of r) (r, there) (ap rank_of type)) ∙ last.soa_origin
 
   module _ (none : list_any (asks_for zone.origin zone.origin types.Soa) update.operations ≡ false) where
@@ -265,7 +265,7 @@ module _ (zone : ZoneOf) (update : UpdateOf) (is_zone : IsZone zone) (is : IsUpd
         ap (λ o. soa_at origin (with_next after o)) (soa_is origin after heir.0) ∙ soa_is origin (with_next after (Some heir.0.soa_there.0)) n.0
         ∙ ap (λ (x : Record). Some x) n.1 ∙ ap (λ (x : Record). Some (next_version x)) soa_left
 
-    advance : (r : Record) → HasMoved before (settled origin before after) r → soa_at origin (settled origin before after) ≡ Some (next_version soa)
+    advance : (r : Record) → HasMoved before (serial_advanced origin before after) r → soa_at origin (serial_advanced origin before after) ≡ Some (next_version soa)
     advance r moved = by_same (is_same before after) moved
       where
         by_serial : (b : Bool) → (serial_at origin before == serial_at origin after) ≡ b → soa_at origin (if b then with_next after (soa_at origin after) else after) ≡ Some (next_version soa)
@@ -277,10 +277,10 @@ module _ (zone : ZoneOf) (update : UpdateOf) (is_zone : IsZone zone) (is : IsUpd
         by_same true m = absurd (stayed before before r m refl)
         by_same false m = by_serial (serial_at origin before == serial_at origin after) refl
 
-  unasked : (r : Record) → HasMoved before (settled origin before after) r → list_any (asks_for origin r.owner (type_of r.rdata)) update.operations ≡ false → IsAdvance origin before (settled origin before after) r
-  unasked r moved none = by_cases (is_soa (key_of r)) (IsAdvance origin before (settled origin before after) r) (λ e. own (is_kind r types.Soa e)) (λ e. absurd (other e))
+  unasked : (r : Record) → HasMoved before (serial_advanced origin before after) r → list_any (asks_for origin r.owner (type_of r.rdata)) update.operations ≡ false → IsAdvance origin before (serial_advanced origin before after) r
+  unasked r moved none = by_cases (is_soa (key_of r)) (IsAdvance origin before (serial_advanced origin before after) r) (λ e. own (is_kind r types.Soa e)) (λ e. absurd (other e))
     where
-      own : type_of r.rdata ≡ types.Soa → IsAdvance origin before (settled origin before after) r
+      own : type_of r.rdata ≡ types.Soa → IsAdvance origin before (serial_advanced origin before after) r
       own type =
           let home = soa_home r moved type in
           let free : list_any (asks_for origin origin types.Soa) update.operations ≡ false = sym (λ i. list_any (asks_for origin (home i) (type i)) update.operations) ∙ none in
@@ -288,8 +288,8 @@ module _ (zone : ZoneOf) (update : UpdateOf) (is_zone : IsZone zone) (is : IsUpd
 
       other : is_soa (key_of r) ≡ false → ⊥
       other e =
-          stayed before (settled origin before after) r moved
-          (settled_there origin before after z heir r (λ type. no (is_soa (key_of r)) (ap (λ n. n == rank_of types.Soa) (ap rank_of type) ∙ self (rank_of types.Soa)) e)
+          stayed before (serial_advanced origin before after) r moved
+          (advanced_there origin before after z heir r (λ type. no (is_soa (key_of r)) (ap (λ n. n == rank_of types.Soa) (ap rank_of type) ∙ self (rank_of types.Soa)) e)
           ∙ leaves (key_of r) (type_of r.rdata) refl none)
 
   -- what moved was asked for and granted, or is the advance

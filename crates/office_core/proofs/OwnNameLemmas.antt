@@ -13,7 +13,7 @@ use Rattle.zone_core.specs.declared.update.Prerequisite.TheVariants.{RrsetExists
 use Rattle.zone_core.specs.declared.update.Operation.{Operation}
 use Rattle.zone_core.specs.declared.update.Operation.TheVariants.{Add, DeleteRrset, DeleteName, DeleteRecord}
 use Rattle.zone_core.specs.Updates.{UpdateOf, tested_name, acted_name}
-use Rattle.zone_core.specs.Sight.{TestsSeen}
+use Rattle.zone_core.specs.Visibility.{TestsSeen}
 use Rattle.office_core.specs.Footprints.{PrerequisiteAsks, OperationAsks, changes_type, delegates, change_of, operation_action}
 use Rattle.office_core.specs.Permissions.{IsGranted, IsPermitted}
 use Rattle.office_core.specs.Isolation.{IsOwn, ChangesRecords, OthersMayNot}

@@ -22,6 +22,7 @@ use Rattle.zone_core.proofs.VersionLemmas.{updates_keep}
 use Rattle.zone_core.proofs.LeaveLemmas.{updates_advance}
 use Rattle.zone_core.proofs.ChangedLemmas.{same_sets_are_one, kept_in_part}
 use Rattle.zone_core.proofs.SameUpdateLemmas.{same_updates}
+use Rattle.zone_core.specs.Changes.{change_between}
 use Rattle.office_core.specs.declared.receipt.Receipt.{Receipt}
 use Rattle.office_core.specs.declared.reply.UpdateReply.{UpdateReply}
 use Rattle.office_core.specs.declared.reply.UpdateReply.TheVariants.{NoError, NotAuth, NotZone, Failed}
@@ -30,7 +31,7 @@ use Rattle.office_core.specs.declared.request.Request.TheVariants as requests
 use Rattle.office_core.specs.Permissions.{question}
 use Rattle.office_core.specs.Replies.{ReplyOf, to_update, id_reused, not_zone, records, file, delegations}
 use Rattle.office_core.specs.States.{Held, State, AreZones, AreReceipts, zone_held}
-use Rattle.office_core.specs.Machine.{Turn, listed, changes_from, of_zone, list_within_reply, changes_reply, told, step, refused_by, refusal, answered, updated, again, hold, keep, receipt, held_after, change_of}
+use Rattle.office_core.specs.Machine.{Turn, listed, changes_from, of_zone, list_within_reply, changes_reply, told, step, refused_by, refusal, answered, updated, again, hold, keep, receipt, held_after}
 use Rattle.office_core.specs.Runs.{HasUpdate}
 use Rattle.office_core.specs.Promises.{IsMade, IsNoted, IsWhole, IsOutside, IsFailing, IsOfZone, TellsList, TellsWithin, TellsChanges, UpdateIsRight, RequestIsRight, TurnIsRight}
 use Rattle.office_core.proofs.ListLemmas.{lists_are_exact}
@@ -96,8 +97,8 @@ module _ (rules : List Rule) (s : State) (zones : AreZones s) (caller id : List 
         one = same_sets_are_one held.records after.records before.kept (updates_keep (zone_held origin held) update before is m.inside).kept
 
         by_test : (b : Bool) → is_same held.records after.records ≡ b
-            → ((after.records ≡ held.records) × ((if b then held.changes else held.changes ++ change_of held.records after.records ∷ []) ≡ held.changes))
-            ⊎ ((after.records ≢ held.records) × ((if b then held.changes else held.changes ++ change_of held.records after.records ∷ []) ≡ held.changes ++ change_of held.records after.records ∷ []))
+            → ((after.records ≡ held.records) × ((if b then held.changes else held.changes ++ change_between held.records after.records ∷ []) ≡ held.changes))
+            ⊎ ((after.records ≢ held.records) × ((if b then held.changes else held.changes ++ change_between held.records after.records ∷ []) ≡ held.changes ++ change_between held.records after.records ∷ []))
         by_test true e = inl (sym (one.0 e), refl)
         by_test false e = inr (λ same. no (is_same held.records after.records) (one.1 (sym same)) e, refl)
 

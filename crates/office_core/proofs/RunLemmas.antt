@@ -7,6 +7,7 @@ use Rattle.grant_policy.specs.declared.rule.Rule.{Rule}
 use Rattle.office_core.specs.declared.request.Call.{Call}
 use Rattle.office_core.specs.declared.reply.Reply.{Reply}
 use Rattle.office_core.specs.declared.fault.TableFault.TheVariants.{Store, NoMemory}
+use Rattle.office_core.specs.declared.fault.StepFault.TheVariants.{BeforeCommit, Commit}
 use Rattle.office_core.specs.declared.reply.Reply.TheVariants.{Servfail}
 use Rattle.office_core.specs.Replies.{ReplyOf, reply_of}
 use Rattle.office_core.specs.States.{State}
@@ -85,8 +86,10 @@ module _ (rules : List Rule) where
 
 -- a step tells a failure where the table counted one
 one_told : (before after : ℕ) (r : Reply) → CountsReply before after r → after ≡ before + failures_told r
-one_told before after (Servfail Store) e = e
-one_told before after (Servfail NoMemory) e = omega (arith, e)
+one_told before after (Servfail (BeforeCommit Store)) e = e
+one_told before after (Servfail (BeforeCommit NoMemory)) e = omega (arith, e)
+one_told before after (Servfail (Commit Store)) e = e
+one_told before after (Servfail (Commit NoMemory)) e = omega (arith, e)
 one_told before after r e = omega (arith, e)
 
 -- and so do all steps with one more

@@ -18,13 +18,14 @@ use Rattle.zone_core.specs.Sets.{Records, key_of, listing, part, within, at, min
 use Rattle.zone_core.specs.Zones.{IsZone, AreKept}
 use Rattle.zone_core.specs.Updates.{UpdateOf, IsUpdate, ActsWithin, first_outside}
 use Rattle.zone_core.specs.Delegations.{report}
-use Rattle.zone_core.specs.Sight.{LookAlike, IsQuiet, PassesSeen}
+use Rattle.zone_core.specs.Visibility.{Indistinguishable, IsInvisible, PassesSeen}
 use Rattle.zone_core.proofs.SetLemmas.{name_is, empty_is}
 use Rattle.zone_core.proofs.UpdateLemmas.{none_outside}
 use Rattle.zone_core.proofs.ZoneLemmas.{at_is}
 use Rattle.zone_core.proofs.VersionLemmas.{updates_keep}
 use Rattle.zone_core.proofs.ListedLemmas.{nothing_listed}
-use Rattle.zone_core.proofs.SightLemmas.{verdicts_look_alike, updates_look_alike, quiet_updates_look_alike, listings_look_alike, parts_look_alike, changes_look_alike, quiet_changes_show_nothing}
+use Rattle.zone_core.proofs.VisibilityLemmas.{verdicts_are_indistinguishable, updates_stay_indistinguishable, invisible_updates_are_indistinguishable, listings_are_indistinguishable, parts_are_indistinguishable, changes_are_indistinguishable, invisible_changes_show_nothing}
+use Rattle.zone_core.specs.Changes.{ChangeOf, change_between}
 use Rattle.office_core.specs.declared.request.Request.{Request}
 use Rattle.office_core.specs.declared.request.Request.TheVariants as requests
 use Rattle.office_core.specs.declared.reply.UpdateReply.{UpdateReply}
@@ -33,8 +34,8 @@ use Rattle.office_core.specs.declared.receipt.Receipt.{Receipt}
 use Rattle.office_core.specs.Footprints.{footprint}
 use Rattle.office_core.specs.Permissions.{question, IsGranted, IsPermitted, first_denial}
 use Rattle.office_core.specs.Replies.{ReplyOf, records, file, delegations, changes, not_zone}
-use Rattle.office_core.specs.States.{ChangeOf, Held, State, zone_held, AreZones}
-use Rattle.office_core.specs.Machine.{may_list, listed, seen_of, if_some, seen, numbered, of_zone, list_reply, list_within_reply, file_reply, delegations_reply, changes_reply, outside_reply, denied_reply, failed_reply, refused_by, refusal, change_of, with_change, held_after, hold, keep, receipt, Turn, told, answered, updated, step, made_now, made}
+use Rattle.office_core.specs.States.{Held, State, zone_held, AreZones}
+use Rattle.office_core.specs.Machine.{may_list, listed, seen_of, if_some, seen, numbered, of_zone, list_reply, list_within_reply, file_reply, delegations_reply, changes_reply, outside_reply, denied_reply, failed_reply, refused_by, refusal, with_change, held_after, hold, keep, receipt, Turn, told, answered, updated, step, made_now, made}
 use Rattle.office_core.specs.Runs.{HasUpdate}
 use Rattle.office_core.specs.Isolation.{IsOwn, IsBlindAt, SeesNoSoa, origin_of}
 use Rattle.office_core.proofs.PermissionLaws.{none_permits}
@@ -85,7 +86,7 @@ nothing_in a e = ap (λ (s : Records). listing s) (empty_is a e) ∙ nothing_lis
 module _ (rules : List Rule) (caller : List ℕ) where
   -- what is seen of a change
   shown : Records → Records → List ChangeOf
-  shown a b = if_some (seen_of rules caller (change_of a b))
+  shown a b = if_some (seen_of rules caller (change_between a b))
 
   -- of one of which nothing is seen
   shows_none : (a b : Records) → listed rules caller (listing (minus a b)) ≡ [] → listed rules caller (listing (minus b a)) ≡ [] → shown a b ≡ []
@@ -97,12 +98,12 @@ module _ (rules : List Rule) (caller : List ℕ) where
   unfolding shown
   seen_with a b cs = by_test (is_same a b) refl
     where
-      by_test : (t : Bool) → is_same a b ≡ t → seen rules caller (if t then cs else cs ++ change_of a b ∷ []) ≡ seen rules caller cs ++ shown a b
+      by_test : (t : Bool) → is_same a b ≡ t → seen rules caller (if t then cs else cs ++ change_between a b ∷ []) ≡ seen rules caller cs ++ shown a b
       by_test true e =
           let parts = and_parts (len (minus a b) == 0) (len (minus b a) == 0) e in
           let none = shows_none a b (ap (listed rules caller) (nothing_in (minus a b) parts.0)) (ap (listed rules caller) (nothing_in (minus b a) parts.1)) in
           sym (append-nil (seen rules caller cs)) ∙ ap (λ xs. seen rules caller cs ++ xs) (sym none)
-      by_test false e = flat_map-push (λ c. if_some (seen_of rules caller c)) cs (change_of a b)
+      by_test false e = flat_map-push (λ c. if_some (seen_of rules caller c)) cs (change_between a b)
 
   -- ---- the relation
 
@@ -111,7 +112,7 @@ module _ (rules : List Rule) (caller : List ℕ) where
     pub zone : IsZone (zone_held origin a)
     pub other : IsZone (zone_held origin b)
     pub blind : IsBlindAt rules caller origin
-    pub alike : LookAlike (IsOwn rules caller) origin a.records b.records
+    pub alike : Indistinguishable (IsOwn rules caller) origin a.records b.records
     pub changes : seen rules caller a.changes ≡ seen rules caller b.changes
 
   abbrev pub SameZone : List (List ℕ) → Option Held → Option Held → Type 0
@@ -141,11 +142,11 @@ module _ (rules : List Rule) (caller : List ℕ) where
 
   all_listed : (origin : List (List ℕ)) (a b : Held) → Sees origin a b → listed rules caller (listing a.records) ≡ listed rules caller (listing b.records)
   all_listed origin a b sees =
-      listings_look_alike (IsOwn rules caller) origin a.records b.records sees.zone.kept sees.other.kept sees.alike (may_list rules caller) (lists_own origin sees.blind)
+      listings_are_indistinguishable (IsOwn rules caller) origin a.records b.records sees.zone.kept sees.other.kept sees.alike (may_list rules caller) (lists_own origin sees.blind)
 
   part_listed : (origin top : List (List ℕ)) (a b : Held) → Sees origin a b → listed rules caller (listing (part a.records (within top))) ≡ listed rules caller (listing (part b.records (within top)))
   part_listed origin top a b sees =
-      parts_look_alike (IsOwn rules caller) origin a.records b.records sees.zone.kept sees.other.kept sees.alike (within top) (may_list rules caller) (lists_own origin sees.blind)
+      parts_are_indistinguishable (IsOwn rules caller) origin a.records b.records sees.zone.kept sees.other.kept sees.alike (within top) (may_list rules caller) (lists_own origin sees.blind)
 
   of_zone_alike : (origin : List (List ℕ)) (x y : Option Held) → SameZone origin x y → (reads : Held → ReplyOf) → ((a b : Held) → Sees origin a b → reads a ≡ reads b) → of_zone x reads ≡ of_zone y reads
   of_zone_alike origin None None z reads same = refl
@@ -163,17 +164,17 @@ module _ (rules : List Rule) (caller : List ℕ) where
       or_last (outside_reply origin update) _ _ (λ _.
       or_last (denied_reply rules caller origin update) (failed_reply a.records update) (failed_reply b.records update) (λ e.
       ap (option_map Failed)
-      (verdicts_look_alike (IsOwn rules caller) origin a.records b.records z.alike update.prerequisites
+      (verdicts_are_indistinguishable (IsOwn rules caller) origin a.records b.records z.alike update.prerequisites
       (permitted_tests rules caller origin z.blind.unchecked update (not_denied rules caller origin update e)))))
 
   -- ---- an update of the caller's own
 
-  change_alike : (origin : List (List ℕ)) → IsBlindAt rules caller origin → (a b c d : Records) → AreKept a → AreKept b → AreKept c → AreKept d → LookAlike (IsOwn rules caller) origin a b → LookAlike (IsOwn rules caller) origin c d → shown a c ≡ shown b d
+  change_alike : (origin : List (List ℕ)) → IsBlindAt rules caller origin → (a b c d : Records) → AreKept a → AreKept b → AreKept c → AreKept d → Indistinguishable (IsOwn rules caller) origin a b → Indistinguishable (IsOwn rules caller) origin c d → shown a c ≡ shown b d
   unfolding shown
   change_alike origin blind a b c d kept_a kept_b kept_c kept_d before after =
       let passed = lists_own origin blind in
-      let removed = changes_look_alike (IsOwn rules caller) origin a b c d kept_a kept_b before after (may_list rules caller) passed in
-      let added = changes_look_alike (IsOwn rules caller) origin c d a b kept_c kept_d after before (may_list rules caller) passed in
+      let removed = changes_are_indistinguishable (IsOwn rules caller) origin a b c d kept_a kept_b before after (may_list rules caller) passed in
+      let added = changes_are_indistinguishable (IsOwn rules caller) origin c d a b kept_c kept_d after before (may_list rules caller) passed in
       λ i. if_some (record { removed = removed i; added = added i })
 
   held_alike : (origin : List (List ℕ)) (update : UpdateOf) → IsUpdate update → IsMade rules caller origin update → (a b : Held) → Sees origin a b → Sees origin (held_after origin update a) (held_after origin update b)
@@ -182,7 +183,7 @@ module _ (rules : List Rule) (caller : List ℕ) where
       let d = (held_after origin update b).records in
       let zone = updates_keep (zone_held origin a) update sees.zone is made.within in
       let other = updates_keep (zone_held origin b) update sees.other is made.within in
-      let alike = updates_look_alike (IsOwn rules caller) origin a.records b.records sees.zone.kept sees.other.kept sees.alike update.operations is.operations (permitted_acts rules caller origin update made.permitted) in
+      let alike = updates_stay_indistinguishable (IsOwn rules caller) origin a.records b.records sees.zone.kept sees.other.kept sees.alike update.operations is.operations (permitted_acts rules caller origin update made.permitted) in
       let change = change_alike origin sees.blind a.records b.records c d sees.zone.kept sees.other.kept zone.kept other.kept sees.alike alike in
       record {
         zone = zone;
@@ -200,32 +201,32 @@ module _ (rules : List Rule) (caller : List ℕ) where
 
   -- ---- an update of another's
 
-  -- a quiet change of a zone
-  change_quiet : (origin : List (List ℕ)) → IsBlindAt rules caller origin → (a c : Held) → IsZone (zone_held origin a) → IsZone (zone_held origin c) → LookAlike (IsOwn rules caller) origin a.records c.records → shown a.records c.records ≡ []
-  change_quiet origin blind a c before after alike =
+  -- an invisible change of a zone
+  change_invisible : (origin : List (List ℕ)) → IsBlindAt rules caller origin → (a c : Held) → IsZone (zone_held origin a) → IsZone (zone_held origin c) → Indistinguishable (IsOwn rules caller) origin a.records c.records → shown a.records c.records ≡ []
+  change_invisible origin blind a c before after alike =
       let passed = lists_own origin blind in
-      let turned : LookAlike (IsOwn rules caller) origin c.records a.records = record { same = λ k own off. sym (alike.same k own off); soa = sym alike.soa } in
+      let turned : Indistinguishable (IsOwn rules caller) origin c.records a.records = record { same = λ k own off. sym (alike.same k own off); soa = sym alike.soa } in
       shows_none a.records c.records
-      (quiet_changes_show_nothing (IsOwn rules caller) origin a.records c.records before.kept alike (may_list rules caller) passed)
-      (quiet_changes_show_nothing (IsOwn rules caller) origin c.records a.records after.kept turned (may_list rules caller) passed)
+      (invisible_changes_show_nothing (IsOwn rules caller) origin a.records c.records before.kept alike (may_list rules caller) passed)
+      (invisible_changes_show_nothing (IsOwn rules caller) origin c.records a.records after.kept turned (may_list rules caller) passed)
 
-  held_quiet : (origin : List (List ℕ)) (update : UpdateOf) → IsUpdate update → ActsWithin origin update → AllByRecursion (IsQuiet (IsOwn rules caller) origin) update.operations → (a b : Held) → Sees origin a b → Sees origin (held_after origin update a) b
-  held_quiet origin update is acts quiet a b sees =
+  held_invisible : (origin : List (List ℕ)) (update : UpdateOf) → IsUpdate update → ActsWithin origin update → AllByRecursion (IsInvisible (IsOwn rules caller) origin) update.operations → (a b : Held) → Sees origin a b → Sees origin (held_after origin update a) b
+  held_invisible origin update is acts invisible a b sees =
       let c = held_after origin update a in
       let after = updates_keep (zone_held origin a) update sees.zone is acts in
-      let alike = quiet_updates_look_alike (IsOwn rules caller) origin a.records sees.zone.kept update.operations quiet in
+      let alike = invisible_updates_are_indistinguishable (IsOwn rules caller) origin a.records sees.zone.kept update.operations invisible in
       record {
         zone = after;
         other = sees.other;
         blind = sees.blind;
         alike = record { same = λ k own off. sym (alike.same k own off) ∙ sees.alike.same k own off; soa = sym alike.soa ∙ sees.alike.soa };
-        changes = seen_with a.records c.records a.changes ∙ ap (λ xs. seen rules caller a.changes ++ xs) (change_quiet origin sees.blind a c sees.zone after alike) ∙ append-nil (seen rules caller a.changes) ∙ sees.changes;
+        changes = seen_with a.records c.records a.changes ∙ ap (λ xs. seen rules caller a.changes ++ xs) (change_invisible origin sees.blind a c sees.zone after alike) ∙ append-nil (seen rules caller a.changes) ∙ sees.changes;
       }
 
-  after_quiet : (other : List ℕ) (origin : List (List ℕ)) (update : UpdateOf) → IsUpdate update → (x y : Option Held) → SameZone origin x y → refusal rules other origin update x ≡ None → AllByRecursion (IsQuiet (IsOwn rules caller) origin) update.operations → SameZone origin (option_map (held_after origin update) x) y
-  after_quiet other origin update is None y z e quiet = z
-  after_quiet other origin update is (Some a) None z e quiet = absurd z
-  after_quiet other origin update is (Some a) (Some b) z e quiet = held_quiet origin update is (not_refused rules other origin update (Some a) e).within quiet a b z
+  after_invisible : (other : List ℕ) (origin : List (List ℕ)) (update : UpdateOf) → IsUpdate update → (x y : Option Held) → SameZone origin x y → refusal rules other origin update x ≡ None → AllByRecursion (IsInvisible (IsOwn rules caller) origin) update.operations → SameZone origin (option_map (held_after origin update) x) y
+  after_invisible other origin update is None y z e invisible = z
+  after_invisible other origin update is (Some a) None z e invisible = absurd z
+  after_invisible other origin update is (Some a) (Some b) z e invisible = held_invisible origin update is (not_refused rules other origin update (Some a) e).within invisible a b z
 
   -- ---- what is held and kept
 
@@ -303,26 +304,26 @@ module _ (rules : List Rule) (caller : List ℕ) where
 
   -- ---- the steps of another
 
-  answered_away : (s t : State) → Same s t → (other : List ℕ) → other ≢ caller → (id : List ℕ) (origin : List (List ℕ)) (update : UpdateOf) → IsUpdate update → (f : Option UpdateReply) → refusal rules other origin update (s.zones origin) ≡ f → AllByRecursion (IsQuiet (IsOwn rules caller) origin) (made_now None f update) → Same (answered s other id origin update f).after t
-  answered_away s t same other differs id origin update is (Some reply) e quiet = away_keep s t other id (receipt origin update reply) differs same
-  answered_away s t same other differs id origin update is None e quiet =
+  answered_away : (s t : State) → Same s t → (other : List ℕ) → other ≢ caller → (id : List ℕ) (origin : List (List ℕ)) (update : UpdateOf) → IsUpdate update → (f : Option UpdateReply) → refusal rules other origin update (s.zones origin) ≡ f → AllByRecursion (IsInvisible (IsOwn rules caller) origin) (made_now None f update) → Same (answered s other id origin update f).after t
+  answered_away s t same other differs id origin update is (Some reply) e invisible = away_keep s t other id (receipt origin update reply) differs same
+  answered_away s t same other differs id origin update is None e invisible =
       let x = option_map (held_after origin update) (s.zones origin) in
       away_keep (hold s origin x) t other id (receipt origin update NoError) differs
-      (away_hold s t origin x same (after_quiet other origin update is (s.zones origin) (t.zones origin) (same.zones origin) e quiet))
+      (away_hold s t origin x same (after_invisible other origin update is (s.zones origin) (t.zones origin) (same.zones origin) e invisible))
 
-  updated_away : (s t : State) → Same s t → (other : List ℕ) → other ≢ caller → (id : List ℕ) (origin : List (List ℕ)) (update : UpdateOf) → IsUpdate update → (kept : Option Receipt) → AllByRecursion (IsQuiet (IsOwn rules caller) origin) (made_now kept (refusal rules other origin update (s.zones origin)) update) → Same (updated rules s other id origin update kept).after t
-  updated_away s t same other differs id origin update is (Some kept) quiet = same
-  updated_away s t same other differs id origin update is None quiet = answered_away s t same other differs id origin update is (refusal rules other origin update (s.zones origin)) refl quiet
+  updated_away : (s t : State) → Same s t → (other : List ℕ) → other ≢ caller → (id : List ℕ) (origin : List (List ℕ)) (update : UpdateOf) → IsUpdate update → (kept : Option Receipt) → AllByRecursion (IsInvisible (IsOwn rules caller) origin) (made_now kept (refusal rules other origin update (s.zones origin)) update) → Same (updated rules s other id origin update kept).after t
+  updated_away s t same other differs id origin update is (Some kept) invisible = same
+  updated_away s t same other differs id origin update is None invisible = answered_away s t same other differs id origin update is (refusal rules other origin update (s.zones origin)) refl invisible
 
-  -- the step of another who stays quiet: the caller sees the same
-  pub step_away : (s t : State) → Same s t → (other : List ℕ) → other ≢ caller → (request : Request) → HasUpdate request → AllByRecursion (IsQuiet (IsOwn rules caller) (origin_of request)) (made rules s other request) → Same (step rules s other request).after t
-  step_away s t same other differs (requests.Update origin id update) is quiet = updated_away s t same other differs id origin update is (s.receipts other id) quiet
-  step_away s t same other differs (requests.List origin) is quiet = same
-  step_away s t same other differs (requests.ListWithin origin top) is quiet = same
-  step_away s t same other differs (requests.File origin) is quiet = same
-  step_away s t same other differs (requests.Delegations origin) is quiet = same
-  step_away s t same other differs (requests.Changes origin from) is quiet = same
-  step_away s t same other differs (requests.Rights name record_type asked) is quiet = same
+  -- the step of another that stays invisible: the caller sees the same
+  pub step_away : (s t : State) → Same s t → (other : List ℕ) → other ≢ caller → (request : Request) → HasUpdate request → AllByRecursion (IsInvisible (IsOwn rules caller) (origin_of request)) (made rules s other request) → Same (step rules s other request).after t
+  step_away s t same other differs (requests.Update origin id update) is invisible = updated_away s t same other differs id origin update is (s.receipts other id) invisible
+  step_away s t same other differs (requests.List origin) is invisible = same
+  step_away s t same other differs (requests.ListWithin origin top) is invisible = same
+  step_away s t same other differs (requests.File origin) is invisible = same
+  step_away s t same other differs (requests.Delegations origin) is invisible = same
+  step_away s t same other differs (requests.Changes origin from) is invisible = same
+  step_away s t same other differs (requests.Rights name record_type asked) is invisible = same
 
   -- ---- the opening state
 

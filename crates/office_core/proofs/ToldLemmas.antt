@@ -12,10 +12,10 @@ use Rattle.grant_policy.specs.declared.action.Action.TheVariants as action
 use Rattle.grant_policy.specs.declared.rule.Rule.{Rule}
 use Rattle.grant_policy.specs.Decisions.{decision}
 use Rattle.zone_core.proofs.SetLemmas.{by_cases}
+use Rattle.zone_core.specs.Changes.{ChangeOf, is_empty}
 use Rattle.office_core.specs.Permissions.{question}
 use Rattle.office_core.specs.Replies.{NumberedOf}
-use Rattle.office_core.specs.States.{ChangeOf}
-use Rattle.office_core.specs.Machine.{may_list, listed, is_nothing, seen_of, seen, numbered, changes_from}
+use Rattle.office_core.specs.Machine.{may_list, listed, seen_of, seen, numbered, changes_from}
 use Rattle.office_core.specs.Promises.{SoMany, IsNth, MayList, SeesSome, AreShown, IsToldAs, ChangesAreExact}
 use Rattle.office_core.proofs.FootprintLaws.{In, contained, contains}
 use Rattle.office_core.proofs.ListLemmas.{in_filter, if_granted}
@@ -139,7 +139,7 @@ module _ (rules : List Rule) (caller : List ℕ) where
 
   -- whether it sees something of a change
   abbrev sees : ChangeOf → Bool
-  sees c = not (is_nothing (seen_of rules caller c))
+  sees c = not (is_empty (seen_of rules caller c))
 
   sees_some : (c : ChangeOf) → (sees c ≡ true) ↔ SeesSome rules caller c
   sees_some c = (
@@ -156,7 +156,7 @@ module _ (rules : List Rule) (caller : List ℕ) where
 
   seen_is : (cs : List ChangeOf) → seen rules caller cs ≡ map (seen_of rules caller) (filter sees cs)
   seen_is [] = refl
-  seen_is (c ∷ cs) = by_test (is_nothing (seen_of rules caller c)) (seen_is cs)
+  seen_is (c ∷ cs) = by_test (is_empty (seen_of rules caller c)) (seen_is cs)
     where
       by_test : (b : Bool) → seen rules caller cs ≡ map (seen_of rules caller) (filter sees cs)
           → (if b then [] else seen_of rules caller c ∷ []) ++ seen rules caller cs ≡ map (seen_of rules caller) (cond (not b) (c ∷ filter sees cs) (filter sees cs))

@@ -1,8 +1,15 @@
--- The refusals of tables, by their published numbers.
+-- The refusals of tables, by their published numbers, and those of steps.
 use Rattle.std.specs.Prelude.{ℕ}
 use Rattle.office_core.specs.declared.fault.TableFault.{TableFault}
 use Rattle.office_core.specs.declared.fault.TableFault.TheVariants.{Store, NoMemory}
+use Rattle.office_core.specs.declared.fault.StepFault.{StepFault}
+use Rattle.office_core.specs.declared.fault.StepFault.TheVariants.{BeforeCommit, Commit}
 
 abbrev pub table_fault_number : TableFault → ℕ
 table_fault_number Store = 75
 table_fault_number NoMemory = 99
+
+-- what failed in a step
+abbrev pub cause : StepFault → TableFault
+cause (BeforeCommit fault) = fault
+cause (Commit fault) = fault

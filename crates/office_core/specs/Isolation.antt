@@ -8,7 +8,7 @@ use Rattle.grant_policy.specs.declared.action.Action.TheVariants as action
 use Rattle.grant_policy.specs.declared.rule.Rule.{Rule}
 use Rattle.grant_policy.specs.Decisions.{HasRight}
 use Rattle.zone_core.specs.Updates.{acted_name}
-use Rattle.zone_core.specs.Sight.{IsQuiet}
+use Rattle.zone_core.specs.Visibility.{IsInvisible}
 use Rattle.office_core.specs.declared.request.Request.{Request}
 use Rattle.office_core.specs.declared.request.Request.TheVariants as requests
 use Rattle.office_core.specs.declared.request.Call.{Call}
@@ -71,11 +71,11 @@ OthersStayAway rules caller s (call ∷ calls) =
     × OthersStayAway rules caller (turn rules s call).after calls
 
 -- the same, but others may add an SOA at a zone's origin, whoever's own name that is
-abbrev pub OthersStayQuiet : List Rule → List ℕ → State → List Call → Type 0
-OthersStayQuiet rules caller s [] = Unit {0}
-OthersStayQuiet rules caller s (call ∷ calls) =
-    (call.caller ≢ caller → AllByRecursion (IsQuiet (IsOwn rules caller) (origin_of call.request)) (made rules s call.caller call.request))
-    × OthersStayQuiet rules caller (turn rules s call).after calls
+abbrev pub OthersStayInvisible : List Rule → List ℕ → State → List Call → Type 0
+OthersStayInvisible rules caller s [] = Unit {0}
+OthersStayInvisible rules caller s (call ∷ calls) =
+    (call.caller ≢ caller → AllByRecursion (IsInvisible (IsOwn rules caller) (origin_of call.request)) (made rules s call.caller call.request))
+    × OthersStayInvisible rules caller (turn rules s call).after calls
 
 -- an action that changes records
 abbrev pub ChangesRecords : Action → Type 0
@@ -90,11 +90,11 @@ OthersMayNot rules caller =
 -- ---- the laws
 
 -- What calls were answered tells each caller what it would be told alone: one that has no right on an SOA where others stay away
--- from its names; one that sees no SOA where others are quiet at its names, or where the policy lets none of them change anything
+-- from its names; one that sees no SOA where others stay invisible at its names, or where the policy lets none of them change anything
 -- there.
 pub record AreToldAlone (rules : List Rule) (s : State) (calls : List Call) (given : List Answer) : Type 0 where
   pub by_rights : (caller : List ℕ) → HasNoSoaRight rules caller s → OthersStayAway rules caller s calls → told_to caller given ≡ told_to caller (answers rules s (asked_by caller calls))
-  pub by_sight : (caller : List ℕ) → SeesNoSoa rules caller s → OthersStayQuiet rules caller s calls → told_to caller given ≡ told_to caller (answers rules s (asked_by caller calls))
+  pub by_visibility : (caller : List ℕ) → SeesNoSoa rules caller s → OthersStayInvisible rules caller s calls → told_to caller given ≡ told_to caller (answers rules s (asked_by caller calls))
   pub by_policy : (caller : List ℕ) → SeesNoSoa rules caller s → OthersMayNot rules caller → told_to caller given ≡ told_to caller (answers rules s (asked_by caller calls))
 
 -- A caller that has no right on an SOA is told what it would be told alone, where others stay away from its names.
@@ -107,7 +107,7 @@ CallersAreAlone =
 abbrev pub BlindCallersAreAlone : Type 0
 BlindCallersAreAlone =
     (rules : List Rule) (caller : List ℕ) (s : State) (calls : List Call)
-    → AreZones s → HaveUpdates calls → SeesNoSoa rules caller s → OthersStayQuiet rules caller s calls → IsToldAlone rules caller s calls
+    → AreZones s → HaveUpdates calls → SeesNoSoa rules caller s → OthersStayInvisible rules caller s calls → IsToldAlone rules caller s calls
 
 -- By the policy alone, whatever is requested.
 abbrev pub PoliciesKeepAlone : Type 0

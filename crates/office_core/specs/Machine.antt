@@ -1,7 +1,7 @@
 -- The machine: what the office replies to a caller's request, and the state after it. The order of tests is this office's own: a
 -- receipt, the zone, the names, the policy, and only then the prerequisites (RFC 2136 section 3 has these before permission), so
 -- that a denial tells nothing of a zone's records.
-use Rattle.std.specs.Prelude.{ℕ, suc, List, [], ◌∷◌, ◌++◌, length, Bool, ◌&&◌, ◌==◌, nat_le, if◌then◌else◌, Option, Some, None, option_map, bytes_eq}
+use Rattle.std.specs.Prelude.{ℕ, suc, List, [], ◌∷◌, ◌++◌, Bool, ◌&&◌, nat_le, if◌then◌else◌, Option, Some, None, option_map, bytes_eq}
 use Rattle.std.specs.List.{filter, flat_map}
 use Rattle.std.specs.Option.{option_or}
 use Rattle.dns_names.specs.Labels.{is_within}
@@ -12,11 +12,12 @@ use Rattle.grant_policy.specs.declared.action.Action.TheVariants as action
 use Rattle.grant_policy.specs.declared.rule.Rule.{Rule}
 use Rattle.grant_policy.specs.Decisions.{decision, is_granted}
 use Rattle.zone_core.specs.declared.update.Operation.{Operation}
-use Rattle.zone_core.specs.Sets.{Records, listing, part, within, minus, is_same}
+use Rattle.zone_core.specs.Sets.{Records, listing, part, within, is_same}
 use Rattle.zone_core.specs.Updates.{UpdateOf, first_outside, same_update}
 use Rattle.zone_core.specs.Prerequisites.{verdict}
 use Rattle.zone_core.specs.Effects.{zone_after}
 use Rattle.zone_core.specs.Delegations.{report}
+use Rattle.zone_core.specs.Changes.{ChangeOf, change_between, is_empty}
 use Rattle.office_core.specs.declared.request.Request.{Request}
 use Rattle.office_core.specs.declared.request.Request.TheVariants as requests
 use Rattle.office_core.specs.declared.reply.UpdateReply.{UpdateReply}
@@ -25,7 +26,7 @@ use Rattle.office_core.specs.declared.receipt.Receipt.{Receipt}
 use Rattle.office_core.specs.Footprints.{footprint}
 use Rattle.office_core.specs.Permissions.{DenialOf, question, first_denial}
 use Rattle.office_core.specs.Replies.{ReplyOf, NumberedOf, to_update, id_reused, not_auth, not_zone, records, file, delegations, changes, right}
-use Rattle.office_core.specs.States.{ChangeOf, Held, State, zone_held}
+use Rattle.office_core.specs.States.{Held, State, zone_held}
 
 -- ---- what a caller may list
 
@@ -41,13 +42,9 @@ listed rules caller rs = filter (may_list rules caller) rs
 abbrev pub seen_of : List Rule → List ℕ → ChangeOf → ChangeOf
 seen_of rules caller c = record { removed = listed rules caller c.removed; added = listed rules caller c.added }
 
--- whether a change has no record
-abbrev pub is_nothing : ChangeOf → Bool
-is_nothing c = (length c.removed == 0) && (length c.added == 0)
-
 -- a change, unless it has no record
 abbrev pub if_some : ChangeOf → List ChangeOf
-if_some c = if is_nothing c then [] else c ∷ []
+if_some c = if is_empty c then [] else c ∷ []
 
 -- what a caller sees of changes: of each the records that it may list; changes of which it sees nothing are left out
 abbrev pub seen : List Rule → List ℕ → List ChangeOf → List ChangeOf
@@ -112,13 +109,9 @@ abbrev pub refusal : List Rule → List ℕ → List (List ℕ) → UpdateOf →
 refusal rules caller origin update None = Some NotAuth
 refusal rules caller origin update (Some held) = zone_refusal rules caller origin update held
 
--- what an update takes away from a set and brings, each in record order
-abbrev pub change_of : Records → Records → ChangeOf
-change_of before after = record { removed = listing (minus before after); added = listing (minus after before) }
-
 -- the changes of a zone, with one more where it differs
 abbrev pub with_change : Records → Records → List ChangeOf → List ChangeOf
-with_change before after cs = if is_same before after then cs else cs ++ change_of before after ∷ []
+with_change before after cs = if is_same before after then cs else cs ++ change_between before after ∷ []
 
 -- the records of a zone after an update (RFC 2136 section 3.4.2), with what that changed
 abbrev pub held_after : List (List ℕ) → UpdateOf → Held → Held

@@ -18,7 +18,7 @@ use Rattle.zone_core.specs.Prerequisites.{verdict}
 use Rattle.zone_core.specs.Met.{AreMet}
 use Rattle.zone_core.specs.Effects.{next_version, zone_after}
 use Rattle.zone_core.specs.Versions.{Advances}
-use Rattle.zone_core.specs.Changes.{changed}
+use Rattle.zone_core.specs.Changes.{changed, ChangeOf, change_between}
 use Rattle.zone_core.specs.Delegations.{report}
 use Rattle.office_core.specs.declared.receipt.Receipt.{Receipt}
 use Rattle.office_core.specs.declared.reply.UpdateReply.{UpdateReply}
@@ -29,8 +29,8 @@ use Rattle.office_core.specs.declared.request.Request.TheVariants as requests
 use Rattle.office_core.specs.Footprints.{Point, footprint}
 use Rattle.office_core.specs.Permissions.{DenialOf, question, IsGranted, IsPermitted, IsFirstDenial}
 use Rattle.office_core.specs.Replies.{ReplyOf, NumberedOf, to_update, id_reused, not_auth, not_zone, records, file, delegations, changes, right}
-use Rattle.office_core.specs.States.{ChangeOf, Held, State, AreZones, AreReceipts, zone_held}
-use Rattle.office_core.specs.Machine.{Turn, listed, changes_from, change_of, receipt}
+use Rattle.office_core.specs.States.{Held, State, AreZones, AreReceipts, zone_held}
+use Rattle.office_core.specs.Machine.{Turn, listed, changes_from, receipt}
 use Rattle.office_core.specs.Runs.{HaveUpdates, turn, state_after}
 
 -- ---- updates that are made
@@ -66,7 +66,7 @@ pub record IsAskedAndGranted (rules : List Rule) (caller : List ℕ) (origin : L
 abbrev pub IsNoted : Held → Held → Type 0
 IsNoted before after =
     ((after.records ≡ before.records) × (after.changes ≡ before.changes))
-    ⊎ ((after.records ≢ before.records) × (after.changes ≡ before.changes ++ change_of before.records after.records ∷ []))
+    ⊎ ((after.records ≢ before.records) × (after.changes ≡ before.changes ++ change_between before.records after.records ∷ []))
 
 -- An update that is made is made whole: the zone after it is that of the standard (RFC 2136 section 3.4), whose serial is greater if
 -- anything has changed (RFC 1982), and no other zone has changed; what moved was granted; and it is noted.

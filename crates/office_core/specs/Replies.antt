@@ -12,7 +12,7 @@ use Rattle.office_core.specs.declared.reply.Right.TheVariants as rights
 use Rattle.office_core.specs.declared.reply.NumberedChange.{NumberedChange}
 use Rattle.office_core.specs.declared.reply.Reply.{Reply}
 use Rattle.office_core.specs.declared.reply.Reply.TheVariants as replies
-use Rattle.office_core.specs.Faults.{table_fault_number}
+use Rattle.office_core.specs.Faults.{cause, table_fault_number}
 
 -- the code of a reply to an update (RFC 2136 section 2.2)
 abbrev pub update_rcode : UpdateReply → Rcode
@@ -50,7 +50,7 @@ right_of (rights.Granted id) = granted id
 right_of (rights.Denied by) = denied by
 
 abbrev pub numbered_of : NumberedChange → NumberedOf
-numbered_of c = record { number = c.number; removed = c.removed.items; added = c.added.items }
+numbered_of c = record { number = c.number; removed = c.change.removed.items; added = c.change.added.items }
 
 -- a reply of the machine; where the table failed or memory ran out there is none
 abbrev pub reply_of : Reply → Option ReplyOf
@@ -69,7 +69,7 @@ reply_of (replies.Right r) = Some (right (right_of r))
 abbrev pub reply_refusal : Reply → Option ℕ
 reply_refusal (replies.Update reply) = None
 reply_refusal replies.IdReused = Some 61
-reply_refusal (replies.Servfail fault) = Some (table_fault_number fault)
+reply_refusal (replies.Servfail fault) = Some (table_fault_number (cause fault))
 reply_refusal replies.NotAuth = None
 reply_refusal replies.NotZone = None
 reply_refusal (replies.Records rs) = None

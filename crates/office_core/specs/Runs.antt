@@ -7,6 +7,7 @@ use Rattle.office_core.specs.declared.request.Request.{Request}
 use Rattle.office_core.specs.declared.request.Request.TheVariants as requests
 use Rattle.office_core.specs.declared.request.Call.{Call}
 use Rattle.office_core.specs.declared.fault.TableFault.TheVariants.{Store}
+use Rattle.office_core.specs.declared.fault.StepFault.TheVariants.{BeforeCommit, Commit}
 use Rattle.office_core.specs.declared.reply.Reply.{Reply}
 use Rattle.office_core.specs.declared.reply.Reply.TheVariants.{Servfail}
 use Rattle.office_core.specs.Replies.{ReplyOf, reply_of}
@@ -73,5 +74,6 @@ pub record IsRun (holds : State → Type 0) (rules : List Rule) (s : State) (cal
 
 -- how many failures of the table a reply tells
 abbrev pub failures_told : Reply → ℕ
-failures_told (Servfail Store) = 1
+failures_told (Servfail (BeforeCommit Store)) = 1
+failures_told (Servfail (Commit Store)) = 1
 failures_told reply = 0

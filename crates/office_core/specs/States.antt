@@ -4,13 +4,9 @@ use Rattle.dns_data.specs.declared.record.Record.{Record}
 use Rattle.zone_core.specs.Sets.{Records, listing, part, within}
 use Rattle.zone_core.specs.Zones.{ZoneOf, IsZone}
 use Rattle.zone_core.specs.Updates.{IsUpdate}
+use Rattle.zone_core.specs.Changes.{ChangeOf}
 use Rattle.zone_core.specs.Parts.{part_of, at_names}
 use Rattle.office_core.specs.declared.receipt.Receipt.{Receipt}
-
--- a change of a zone: the records that went and those that came, with their TTLs, each side in record order
-pub record ChangeOf : Type 0 where
-  pub removed : List Record
-  pub added : List Record
 
 -- what is held of an origin: the records of its zone, and the changes of the zone, the oldest first
 pub record Held : Type 0 where

@@ -5,15 +5,18 @@ use Rattle.zone_core.specs.Sets.{Records, is_same}
 use Rattle.zone_core.specs.Zones.{ZoneOf}
 use Rattle.zone_core.specs.Updates.{UpdateOf}
 use Rattle.zone_core.specs.Effects.{zone_after}
-use Rattle.office_core.specs.declared.fault.TableFault.{TableFault}
+use Rattle.zone_core.specs.Changes.{ChangeOf, change_between}
+use Rattle.office_core.specs.declared.fault.StepFault.{StepFault}
+use Rattle.office_core.specs.declared.fault.StepFault.TheVariants.{BeforeCommit, Commit}
+use Rattle.office_core.specs.Faults.{cause}
 use Rattle.office_core.specs.declared.request.Request.{Request}
 use Rattle.office_core.specs.declared.reply.Reply.{Reply}
 use Rattle.office_core.specs.declared.reply.Reply.TheVariants.{Servfail}
 use Rattle.office_core.specs.declared.reply.UpdateReply.{UpdateReply}
 use Rattle.office_core.specs.declared.reply.UpdateReply.TheVariants.{NoError, NotAuth}
 use Rattle.office_core.specs.Replies.{reply_of, to_update}
-use Rattle.office_core.specs.States.{ChangeOf, Held, State}
-use Rattle.office_core.specs.Machine.{Turn, step, zone_refusal, change_of, receipt}
+use Rattle.office_core.specs.States.{Held, State}
+use Rattle.office_core.specs.Machine.{Turn, step, zone_refusal, receipt}
 use Rattle.office_core.specs.Tables.{CountsFault, AdditionOf, Fits, committed}
 
 -- What a request is answered from a state, and that the state after it is held: a step of the machine; or the table failed or
@@ -22,15 +25,16 @@ abbrev pub Steps : (State → Type 0) → List Rule → State → List ℕ → R
 Steps holds rules s caller request (Servfail fault) = holds s
 Steps holds rules s caller request reply = (reply_of reply ≡ Some (step rules s caller request).reply) × holds (step rules s caller request).after
 
--- what a crash leaves behind a reply: the state after the request; where the table failed or memory ran out, that or the one
--- before it
+-- What a crash leaves behind a reply: the state after the request; where a read failed or memory ran out before the commit, the
+-- state before it; where the commit failed, either.
 abbrev pub Leaves : (State → State → Type 0) → List Rule → State → List ℕ → Request → Reply → Type 0
-Leaves leaves rules s caller request (Servfail fault) = leaves s (step rules s caller request).after
+Leaves leaves rules s caller request (Servfail (BeforeCommit fault)) = leaves s s
+Leaves leaves rules s caller request (Servfail (Commit fault)) = leaves s (step rules s caller request).after
 Leaves leaves rules s caller request reply = leaves (step rules s caller request).after (step rules s caller request).after
 
 -- a reply for a failure of the table is one where its count rose by one, and it did for no other reply
 abbrev pub CountsReply : ℕ → ℕ → Reply → Type 0
-CountsReply before after (Servfail fault) = CountsFault before after fault
+CountsReply before after (Servfail fault) = CountsFault before after (cause fault)
 CountsReply before after reply = after ≡ before
 
 -- ---- inside a step
@@ -41,13 +45,18 @@ IsAnswer (Servfail fault) = ⊥
 IsAnswer reply = Unit {0}
 
 -- the same of a part of a step, which answers a fault by itself
-abbrev pub Takes : (State → Type 0) → State → Turn → Result Reply TableFault → Type 0
+abbrev pub Takes : {E : Type 0} → (State → Type 0) → State → Turn → Result Reply E → Type 0
 Takes holds s turn (Ok reply) = (reply_of reply ≡ Some turn.reply) × holds turn.after
 Takes holds s turn (Err fault) = holds s
 
-abbrev pub LeavesTurn : (State → State → Type 0) → State → Turn → Result Reply TableFault → Type 0
+abbrev pub LeavesTurn : (State → State → Type 0) → State → Turn → Result Reply StepFault → Type 0
 LeavesTurn leaves s turn (Ok reply) = leaves turn.after turn.after
-LeavesTurn leaves s turn (Err fault) = leaves s turn.after
+LeavesTurn leaves s turn (Err (BeforeCommit fault)) = leaves s s
+LeavesTurn leaves s turn (Err (Commit fault)) = leaves s turn.after
+
+abbrev pub CountsStep : ℕ → ℕ → Result Reply StepFault → Type 0
+CountsStep before after (Ok reply) = after ≡ before
+CountsStep before after (Err fault) = CountsFault before after (cause fault)
 
 -- ---- inside an update
 
@@ -57,7 +66,7 @@ held_in zone = record { records = zone.records; changes = [] }
 
 -- the change that an update makes of a set, if it makes one
 abbrev pub change_made : Records → Records → Option ChangeOf
-change_made before after = if is_same before after then None else Some (change_of before after)
+change_made before after = if is_same before after then None else Some (change_between before after)
 
 -- what an update of a zone is answered, and what it changes: nothing where it is refused
 abbrev pub Makes : ZoneOf → UpdateOf → Option UpdateReply → UpdateReply → Option ChangeOf → Type 0

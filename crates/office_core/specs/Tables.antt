@@ -1,20 +1,15 @@
 -- What a table is asked to add, and what it tells of its calls.
 use Rattle.std.specs.Prelude.{◌≡◌, ℕ, ◌+◌, List, [], ◌∷◌, ◌++◌, false, Option, Some, None, option_map, Result, Ok, Err}
-use Rattle.zone_core.specs.Changes.{FitsIn, changed}
+use Rattle.zone_core.specs.Changes.{ChangeOf, FitsIn, change_in, changed, is_empty}
 use Rattle.zone_core.specs.Zones.{IsZone}
 use Rattle.office_core.specs.declared.fault.TableFault.{TableFault}
 use Rattle.office_core.specs.declared.fault.TableFault.TheVariants.{Store, NoMemory}
-use Rattle.office_core.specs.declared.receipt.Change.{Change}
 use Rattle.office_core.specs.declared.receipt.Receipt.{Receipt}
 use Rattle.office_core.specs.declared.receipt.Addition.{Addition}
-use Rattle.office_core.specs.States.{ChangeOf, Held, State, zone_held}
-use Rattle.office_core.specs.Machine.{is_nothing, hold, keep}
+use Rattle.office_core.specs.States.{Held, State, zone_held}
+use Rattle.office_core.specs.Machine.{hold, keep}
 
 -- ---- additions
-
--- what the program sees of a change
-abbrev pub change_in : Change → ChangeOf
-change_in c = record { removed = c.removed.items; added = c.added.items }
 
 -- a receipt of a caller under an identifier, and the change of its zone, where there is one
 pub record AdditionOf : Type 0 where
@@ -44,7 +39,7 @@ committed a s = keep (with_change_of s a.receipt.origin a.change) a.caller a.id 
 
 -- a change fits what is held of an origin: it is one, it fits the records, and with it they are a zone
 pub record FitsHeld (origin : List (List ℕ)) (held : Held) (c : ChangeOf) : Type 0 where
-  pub something : is_nothing c ≡ false
+  pub something : is_empty c ≡ false
   pub records : FitsIn held.records c.removed c.added
   pub zone : IsZone (zone_held origin (held_with c held))
 

@@ -6,14 +6,14 @@ ghost use Rattle.office_core.specs.Tables.{Counts};
 
 use crate::fault::TableFault;
 use crate::memory::MemTable;
-use crate::receipt::{Addition, Change, Receipt};
+use crate::receipt::{Addition, Receipt};
 use crate::table::ZoneTable;
 use dns_data::Record;
 use dns_names::Name;
 use grant_policy::Identifier;
 use std::alloc::Global;
 use std::sync::ledger::{Blank, Book, Ledger, Share};
-use zone_core::Zone;
+use zone_core::{Change, Zone};
 
 /// A kind of call of a table.
 #[derive(Clone, Copy, PartialEq, Eq)]

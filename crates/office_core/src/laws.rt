@@ -18,7 +18,7 @@ pub fn footprints_are_asked_in_order()
 /// told so whatever is asked, where the policy grants no other caller to change records at its own names.
 pub fn callers_are_alone()
     ensures rights { CallersAreAlone }
-    ensures sight { BlindCallersAreAlone }
+    ensures visibility { BlindCallersAreAlone }
     ensures policy { PoliciesKeepAlone }
 {}
 

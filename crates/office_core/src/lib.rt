@@ -6,19 +6,19 @@ mod fault;
 mod footprint;
 mod item;
 mod laws;
-mod making;
 mod memory;
 mod permission;
-mod reading;
+mod queries;
 mod receipt;
 mod reply;
 mod request;
 mod runs;
 mod steps;
 mod table;
+mod update;
 
 pub use fail_table::{FailTable, TableCall};
-pub use fault::TableFault;
+pub use fault::{StepFault, TableFault};
 pub use footprint::{operation_asks, prerequisite_asks};
 pub use laws::{
     answers_are_right, callers_are_alone, calls_are_right, changes_are_exact,
@@ -26,7 +26,7 @@ pub use laws::{
 };
 pub use memory::MemTable;
 pub use permission::{Denial, denied};
-pub use receipt::{Addition, Change, Receipt};
+pub use receipt::{Addition, Receipt};
 pub use reply::{NumberedChange, Reply, Right, UpdateReply};
 pub use request::{Call, Request};
 pub use runs::run;

@@ -8,11 +8,11 @@ ghost use Rattle.std.specs.Cmp.Lexicographic.{slice_cmp};
 ghost use Rattle.std.specs.Ordering.{nat_cmp};
 ghost use Rattle.zone_core.specs.Updates.{IsUpdate};
 ghost use Rattle.zone_core.specs.Zones.{IsZone};
-ghost use Rattle.office_core.specs.Tables.{change_in};
+ghost use Rattle.zone_core.specs.Changes.{change_in};
 ghost use Rattle.office_core.specs.Memory.{state_of, is_of, receipt_in, IsPutAt, HoldsSame, HoldsChange, HasRoomAt, HoldsState};
 
 use crate::fault::TableFault;
-use crate::receipt::{Addition, Change, Receipt};
+use crate::receipt::{Addition, Receipt};
 use crate::table::ZoneTable;
 use dns_data::Record;
 use dns_names::Name;
@@ -20,7 +20,7 @@ use grant_policy::Identifier;
 use std::alloc::{AllocError, Global};
 use std::collections::BTreeMap;
 use std::marker::Model;
-use zone_core::Zone;
+use zone_core::{Change, Zone};
 
 /// A zone, and its changes from the oldest on.
 #[derive(Drop)]
@@ -113,8 +113,8 @@ fn receipt_of<'a>(
     receipts.get(caller)?.get(id)
 }
 
-/// What its type says of the update of a receipt. It does nothing when it runs.
-fn notes_receipt(receipt: &Receipt)
+/// The update of a receipt is one. It does nothing at run time.
+fn receipt_has_update(receipt: &Receipt)
     ensures { IsUpdate receipt.now.update }
 {
     let _ = receipt.update.operations();
@@ -155,16 +155,13 @@ fn copied(alloc: Global, records: &[Record]) -> Result<Vec<Record>, AllocError>
     Ok(all)
 }
 
-/// Copies of changes. The only error is want of memory.
+/// Copies of changes. The only error is out of memory.
 fn copied_changes(alloc: Global, changes: &[Change]) -> Result<Vec<Change>, AllocError>
     ensures { IfOk result (λ cs. map change_in cs.items ≡ map change_in changes.now) }
 {
     let mut all = Vec::with_capacity(alloc, changes.len())?;
     for change in changes {
-        all.push(Change {
-            removed: copied(alloc, &change.removed)?,
-            added: copied(alloc, &change.added)?,
-        })?;
+        all.push(change.try_copy(alloc)?)?;
     }
     Ok(all)
 }
@@ -252,7 +249,7 @@ impl ZoneTable for MemTable {
             receipt,
             change,
         } = addition;
-        notes_receipt(&receipt);
+        receipt_has_update(&receipt);
         let Some(change) = change else {
             keep(alloc, &mut self.receipts, caller, id, receipt)?;
             return Ok(());
@@ -261,7 +258,7 @@ impl ZoneTable for MemTable {
             unreachable!()
         };
         let zone = self.zones[at].zone.try_copy(alloc)?;
-        let zone = zone.changed(alloc, &change.removed, &change.added)?;
+        let zone = zone.changed(alloc, &change)?;
         make_room(&mut self.zones, at)?;
         keep(alloc, &mut self.receipts, caller, id, receipt)?;
         // nothing takes memory behind this

@@ -1,22 +1,12 @@
 //! What a table keeps beside its zones.
 
 ghost use Rattle.std.specs.Prelude.{◌≡◌, IfOk};
-ghost use Rattle.office_core.specs.Machine.{is_nothing};
-ghost use Rattle.office_core.specs.Tables.{change_in};
 
 use crate::reply::UpdateReply;
-use dns_data::Record;
 use dns_names::Name;
 use grant_policy::Identifier;
 use std::alloc::{AllocError, Global};
-use zone_core::Update;
-
-/// A change of a zone: the records that went and those that came, with their TTLs, each side in record order.
-#[derive(Drop)]
-pub struct Change {
-    pub removed: Vec<Record>,
-    pub added: Vec<Record>,
-}
+use zone_core::{Change, Update};
 
 /// The receipt of an update that was answered: the update, the origin of the zone that it is of, and the reply.
 #[derive(Drop)]
@@ -34,15 +24,6 @@ pub struct Addition {
     pub id: Identifier,
     pub receipt: Receipt,
     pub change: Option<Change>,
-}
-
-impl Change {
-    /// Whether it has no record.
-    pub fn is_nothing(&self) -> bool
-        ensures { result ≡ is_nothing (change_in self.now) }
-    {
-        self.removed.is_empty() && self.added.is_empty()
-    }
 }
 
 impl Receipt {

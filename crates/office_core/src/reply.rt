@@ -3,12 +3,12 @@
 ghost use Rattle.std.specs.Prelude.{◌≡◌, IfOk};
 ghost use Rattle.office_core.specs.Replies.{update_rcode, reply_refusal};
 
-use crate::fault::TableFault;
+use crate::fault::StepFault;
 use dns_data::Record;
 use dns_names::Name;
 use grant_policy::Identifier;
 use std::alloc::{AllocError, Global};
-use zone_core::{Delegation, Failed, Place, Rcode};
+use zone_core::{Change, Delegation, Failed, Place, Rcode};
 
 /// The reply to an update (RFC 2136 section 3), which its receipt keeps.
 #[derive(Drop)]
@@ -41,10 +41,8 @@ pub enum Right {
 #[derive(Drop)]
 pub struct NumberedChange {
     pub number: u64,
-    /// The records that went, in record order.
-    pub removed: Vec<Record>,
-    /// The records that came, in record order.
-    pub added: Vec<Record>,
+    /// The records of the change that the caller may list.
+    pub change: Change,
 }
 
 /// A reply.
@@ -55,7 +53,7 @@ pub enum Reply {
     /// To an update whose identifier the caller gave to another update before: nothing has changed.
     IdReused,
     /// The table failed, or memory ran out: nothing has changed.
-    Servfail(TableFault),
+    Servfail(StepFault),
     /// To another request than an update: no zone has this origin.
     NotAuth,
     /// To a list within a name: the name is not within the origin.

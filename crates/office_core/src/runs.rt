@@ -39,7 +39,7 @@ pub fn run<T: ZoneTable>(
     ensures refused { OnErr result ((s : State) → T.holds table.old s → T.holds table.new s) }
     ensures uncounted { OnErr result (T.failures table.new ≡ T.failures table.old) }
 {
-    notes_calls(calls);
+    calls_have_updates(calls);
     replies_to(alloc, table, policy, calls)
 }
 
@@ -65,8 +65,8 @@ fn replies_to<T: ZoneTable>(
     Ok(replies)
 }
 
-/// What its type says of the update of a call, where it has one. It does nothing when it runs.
-fn notes_call(call: &Call)
+/// The update of a call, where it has one, is one. It does nothing at run time.
+fn call_has_update(call: &Call)
     ensures { HasUpdate call.now.request }
 {
     if let Request::Update { update, .. } = &call.request {
@@ -75,10 +75,10 @@ fn notes_call(call: &Call)
 }
 
 /// The same of all calls.
-fn notes_calls(calls: &[Call])
+fn calls_have_updates(calls: &[Call])
     ensures { HaveUpdates calls.now }
 {
     for call in calls {
-        notes_call(call);
+        call_has_update(call);
     }
 }

@@ -3,15 +3,14 @@
 ghost use Rattle.std.specs.Prelude.{IfOk};
 ghost use Rattle.office_core.specs.States.{State};
 ghost use Rattle.office_core.specs.Machine.{step};
-ghost use Rattle.office_core.specs.Tables.{Counts};
-ghost use Rattle.office_core.specs.Steps.{Steps, Leaves, CountsReply, Takes, LeavesTurn, IsAnswer};
+ghost use Rattle.office_core.specs.Steps.{Steps, Leaves, CountsReply, CountsStep, Takes, LeavesTurn, IsAnswer};
 
-use crate::fault::TableFault;
-use crate::making::update_reply;
-use crate::reading::{changes, delegations, file, list, list_within, right};
+use crate::fault::StepFault;
+use crate::queries::{changes, delegations, file, list, list_within, right};
 use crate::reply::Reply;
 use crate::request::Request;
 use crate::table::ZoneTable;
+use crate::update::update_reply;
 use grant_policy::{Identifier, Policy};
 use std::alloc::Global;
 
@@ -33,7 +32,8 @@ pub fn step<T: ZoneTable>(
 ) -> Reply
     // Where the store has kept its word, the reply and the state after it are those of the machine.
     ensures step { T.is_honest table.new → (s : State) → T.holds table.old s → Steps (T.holds table.new) policy.now s caller.now request.now result }
-    // A crash leaves the state before the request or the one after it; behind a reply of the machine, the one after it.
+    // A crash leaves the state after the request behind a reply of the machine; where the step failed before its commit, the state
+    // before it; and where the commit failed, either.
     ensures crash { T.is_honest table.new → (s : State) → T.holds table.old s → T.leaves table.old s s → Leaves (T.leaves table.new) policy.now s caller.now request.now result }
     // A store that has kept its word had kept it before.
     ensures honest { T.is_honest table.new → T.is_honest table.old }
@@ -53,24 +53,26 @@ fn answer<T: ZoneTable>(
     policy: &Policy,
     caller: &Identifier,
     request: &Request,
-) -> Result<Reply, TableFault>
+) -> Result<Reply, StepFault>
     ensures takes { T.is_honest table.new → (s : State) → T.holds table.old s → Takes (T.holds table.new) s (step policy.now s caller.now request.now) result }
     ensures crash { T.is_honest table.new → (s : State) → T.holds table.old s → T.leaves table.old s s → LeavesTurn (T.leaves table.new) s (step policy.now s caller.now request.now) result }
     ensures honest { T.is_honest table.new → T.is_honest table.old }
     ensures answers { IfOk result IsAnswer }
-    ensures counts { Counts (T.failures table.old) (T.failures table.new) result }
+    ensures counts { CountsStep (T.failures table.old) (T.failures table.new) result }
 {
     match request {
         Request::Update { origin, id, update } => update_reply(
             alloc, table, policy, caller, id, origin, update,
         ),
-        Request::List { origin } => list(alloc, table, policy, caller, origin),
-        Request::ListWithin { origin, top } => list_within(
-            alloc, table, policy, caller, origin, top,
-        ),
-        Request::File { origin } => file(alloc, table, policy, caller, origin),
-        Request::Delegations { origin } => delegations(alloc, table, policy, caller, origin),
-        Request::Changes { origin, from } => changes(alloc, table, policy, caller, origin, *from),
+        Request::List { origin } => Ok(list(alloc, table, policy, caller, origin)?),
+        Request::ListWithin { origin, top } => {
+            Ok(list_within(alloc, table, policy, caller, origin, top)?)
+        }
+        Request::File { origin } => Ok(file(alloc, table, policy, caller, origin)?),
+        Request::Delegations { origin } => Ok(delegations(alloc, table, policy, caller, origin)?),
+        Request::Changes { origin, from } => {
+            Ok(changes(alloc, table, policy, caller, origin, *from)?)
+        }
         Request::Rights {
             name,
             record_type,

@@ -2,16 +2,17 @@
 
 ghost use Rattle.std.specs.Prelude.{◌≡◌, ℕ, ◌+◌, List, Option, map, option_map, IfOk, OnOk, OnErr};
 ghost use Rattle.dns_data.specs.declared.record.Record.{Record};
+ghost use Rattle.zone_core.specs.Changes.{change_in};
 ghost use Rattle.office_core.specs.States.{State, AreZones, AreReceipts, zone_at, part_at, subtree_at, changes_at};
-ghost use Rattle.office_core.specs.Tables.{Counts, Fits, addition_in, change_in, committed};
+ghost use Rattle.office_core.specs.Tables.{Counts, Fits, addition_in, committed};
 
 use crate::fault::TableFault;
-use crate::receipt::{Addition, Change, Receipt};
+use crate::receipt::{Addition, Receipt};
 use dns_data::Record;
 use dns_names::Name;
 use grant_policy::Identifier;
 use std::alloc::Global;
-use zone_core::Zone;
+use zone_core::{Change, Zone};
 
 /// A table of zones with their changes, and of receipts. Each call either answers or changes nothing but the count of failures.
 pub trait ZoneTable {

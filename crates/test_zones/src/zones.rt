@@ -111,7 +111,7 @@ fn push_listed(
     let name = name(alloc, first)?;
     let records = match row.verb {
         "at" => zone.records_at(&name),
-        "set" => zone.record_set(&name, record_type(rest)?),
+        "set" => zone.rrset(&name, record_type(rest)?),
         _ => zone.records_within(&name),
     };
     push_records(alloc, records, answer)

@@ -13,8 +13,8 @@ use Rattle.dns_names.specs.Order.{canonical_cmp, same_name}
 use Rattle.dns_data.specs.declared.record.Record.{Record}
 use Rattle.dns_data.specs.declared.record_type.RecordType.TheVariants.{Cname}
 use Rattle.zone_core.specs.Sets.{key_of, rank_of, set_of, count, at_name, at, InOrder}
-use Rattle.zone_core.specs.Zones.{beside, is_cname, is_twin, is_crowded}
-use Rattle.zone_core.specs.Views.{set_order, are_twins, are_crowded}
+use Rattle.zone_core.specs.Zones.{beside, is_cname, is_of_two_cnames, is_cname_beside_other}
+use Rattle.zone_core.specs.Views.{set_order, are_two_cnames, are_cname_and_other}
 use Rattle.zone_core.proofs.SetLemmas.{by_cases, name_is, name_self}
 use Rattle.zone_core.proofs.RowLemmas.{count_is}
 use Rattle.zone_core.proofs.RangeLemmas.{by_owner, by_head, both_tie, filter_at, filter_none}
@@ -128,32 +128,32 @@ which (suc j) zero = inr (suc j, omega arith)
 which (suc j) (suc k) = elim (which j k) [ inl up ↦ inl (up.0, omega (arith, up.1)) | inr down ↦ inr (down.0, omega (arith, down.1)) ]
 
 module _ (rs : List Record) (order : InOrder rs) where
-  abbrev pub twins : Bool
-  twins = list_any (λ r. is_twin (set_of rs) (key_of r)) rs
+  abbrev pub two_cnames : Bool
+  two_cnames = list_any (λ r. is_of_two_cnames (set_of rs) (key_of r)) rs
 
-  abbrev pub crowded : Bool
-  crowded = list_any (λ r. is_crowded (set_of rs) (key_of r)) rs
+  abbrev pub cname_and_other : Bool
+  cname_and_other = list_any (λ r. is_cname_beside_other (set_of rs) (key_of r)) rs
 
   -- ---- two CNAME records
 
-  pub twin_found : (i : ℕ) (r s : Record) → 0 < i → i < length rs → r ≡ get_or rs (i - 1) r → s ≡ get_or rs i s → are_twins r s ≡ true → twins ≡ true
-  twin_found i r s some below here there e =
+  pub two_cnames_found : (i : ℕ) (r s : Record) → 0 < i → i < length rs → r ≡ get_or rs (i - 1) r → s ≡ get_or rs i s → are_two_cnames r s ≡ true → two_cnames ≡ true
+  two_cnames_found i r s some below here there e =
       let both = and_parts (is_cname (key_of r)) (beside (key_of r) (key_of s)) e in
       let parts = and_parts (same_name s.owner r.owner) (rank_of_s s == rank_of_s r) both.1 in
       let p : Record → Bool = λ x. at r.owner Cname (key_of x) in
       let first : p r ≡ true = rw (name_self r.owner) both.0 in
       let second : p s ≡ true = rw (parts.0, eqb-true (rank_of_s s) (rank_of_s r) parts.1) both.0 in
       let two = two_pass p rs (i - 1) i r (omega arith) below (ap p (sym here) ∙ first) (ap p (sym (there ∙ get_or_default rs i s r below)) ∙ second) in
-      list_any_at (λ x. is_twin (set_of rs) (key_of x)) rs (i - 1) r (omega arith)
-      (ap (λ x. is_twin (set_of rs) (key_of x)) (sym here)
+      list_any_at (λ x. is_of_two_cnames (set_of rs) (key_of x)) rs (i - 1) r (omega arith)
+      (ap (λ x. is_of_two_cnames (set_of rs) (key_of x)) (sym here)
       ∙ (λ j. both.0 j && nat_lt 1 (count_is (at r.owner Cname) rs order j)) ∙ many (length (filter p rs)) two)
     where
       rank_of_s : Record → ℕ
       rank_of_s x = (key_of x).1
 
-  pub no_twin : ((i : ℕ) → i < length rs → 0 < i → (d : Record) → are_twins (get_or rs (i - 1) d) (get_or rs i d) ≡ false) → twins ≡ false
-  no_twin none =
-      list_any_none (λ x. is_twin (set_of rs) (key_of x)) rs (λ k e below.
+  pub no_two_cnames : ((i : ℕ) → i < length rs → 0 < i → (d : Record) → are_two_cnames (get_or rs (i - 1) d) (get_or rs i d) ≡ false) → two_cnames ≡ false
+  no_two_cnames none =
+      list_any_none (λ x. is_of_two_cnames (set_of rs) (key_of x)) rs (λ k e below.
       let r = get_or rs k e in
       let f : Record → Ordering = λ x. set_order r.owner Cname x in
       let one : length (filter (λ x. is_eq (f x)) rs) ≤ 1 =
@@ -162,15 +162,15 @@ module _ (rs : List Record) (order : InOrder rs) where
       let b = get_or rs (suc i) d in
       let here = and_parts (same_name a.owner r.owner) ((key_of a).1 == rank_of Cname) (sym (both_tie r.owner Cname a) ∙ tie) in
       let there = and_parts (same_name b.owner r.owner) ((key_of b).1 == rank_of Cname) (sym (both_tie r.owner Cname b) ∙ next) in
-      let two : are_twins a b ≡ true = both_two a b here.1 there.1 (name_is a.owner r.owner here.0) (name_is b.owner r.owner there.0) in
-      let alone : are_twins a b ≡ false = ap (λ m. are_twins (get_or rs m d) b) (one_less i) ∙ none (suc i) also (omega arith) d in
+      let two : are_two_cnames a b ≡ true = both_two a b here.1 there.1 (name_is a.owner r.owner here.0) (name_is b.owner r.owner there.0) in
+      let alone : are_two_cnames a b ≡ false = ap (λ m. are_two_cnames (get_or rs m d) b) (one_less i) ∙ none (suc i) also (omega arith) d in
       let c : true ≡ false = sym two ∙ alone in
       absurd cc) in
       ap (λ b. is_cname (key_of r) && b)
       (ap (nat_lt 1) (count_is (at r.owner Cname) rs order ∙ ap length (sym (filter_at r.owner Cname rs))) ∙ few (length (filter (λ x. is_eq (f x)) rs)) one)
       ∙ no_and (is_cname (key_of r)))
     where
-      both_two : (a b : Record) → is_cname (key_of a) ≡ true → is_cname (key_of b) ≡ true → {n : List (List ℕ)} → a.owner ≡ n → b.owner ≡ n → are_twins a b ≡ true
+      both_two : (a b : Record) → is_cname (key_of a) ≡ true → is_cname (key_of b) ≡ true → {n : List (List ℕ)} → a.owner ≡ n → b.owner ≡ n → are_two_cnames a b ≡ true
       both_two a b first second here there =
           let rank : (key_of b).1 ≡ (key_of a).1 = eqb-true (key_of b).1 (rank_of Cname) second ∙ sym (eqb-true (key_of a).1 (rank_of Cname) first) in
           rw (first, rank, there ∙ sym here) (both_true (name_self a.owner) (self (key_of a).1))
@@ -183,26 +183,26 @@ module _ (rs : List Record) (order : InOrder rs) where
 
   -- ---- a CNAME and another record
 
-  crowded_at : (i j : ℕ) (r s : Record) → i < length rs → j < length rs → r ≡ get_or rs i r → s ≡ get_or rs j s → is_cname (key_of r) ≡ true → is_cname (key_of s) ≡ false → s.owner ≡ r.owner → crowded ≡ true
-  crowded_at i j r s below also here there first second name =
+  cname_and_other_at : (i j : ℕ) (r s : Record) → i < length rs → j < length rs → r ≡ get_or rs i r → s ≡ get_or rs j s → is_cname (key_of r) ≡ true → is_cname (key_of s) ≡ false → s.owner ≡ r.owner → cname_and_other ≡ true
+  cname_and_other_at i j r s below also here there first second name =
       let p : Record → Bool = λ x. at_name r.owner (key_of x) in
       let q : Record → Bool = λ x. at r.owner Cname (key_of x) in
       let less = fewer p q (λ x e. (and_parts (p x) (is_cname (key_of x)) e).0) rs j s also
       (ap p (sym there) ∙ ap (λ n. same_name n r.owner) name ∙ name_self r.owner)
       (ap q (sym there) ∙ ap (λ b. p s && b) second ∙ no_and (p s)) in
-      list_any_at (λ x. is_crowded (set_of rs) (key_of x)) rs i r below
-      (ap (λ x. is_crowded (set_of rs) (key_of x)) (sym here)
+      list_any_at (λ x. is_cname_beside_other (set_of rs) (key_of x)) rs i r below
+      (ap (λ x. is_cname_beside_other (set_of rs) (key_of x)) (sym here)
       ∙ (λ k. first k && nat_lt (count_is (at r.owner Cname) rs order k) (count_is (at_name r.owner) rs order k)) ∙ is_less (length (filter q rs)) (length (filter p rs)) less)
 
-  pub crowd_found : (i : ℕ) (r s : Record) → 0 < i → i < length rs → r ≡ get_or rs (i - 1) r → s ≡ get_or rs i s → are_crowded r s ≡ true → crowded ≡ true
-  crowd_found i r s some below here there e =
+  pub cname_and_other_found : (i : ℕ) (r s : Record) → 0 < i → i < length rs → r ≡ get_or rs (i - 1) r → s ≡ get_or rs i s → are_cname_and_other r s ≡ true → cname_and_other ≡ true
+  cname_and_other_found i r s some below here there e =
       let a = is_cname (key_of r) in
       let b = is_cname (key_of s) in
       let both = and_parts ((a && not b) || (b && not a)) (same_name s.owner r.owner) e in
       let name = name_is s.owner r.owner both.1 in
-      by_cases a (crowded ≡ true)
-      (λ t. crowded_at (i - 1) i r s (omega arith) below here there t (other_false a b both.0 t) name)
-      (λ f. crowded_at i (i - 1) s r below (omega arith) there here (other_true a b both.0 f) f (sym name))
+      by_cases a (cname_and_other ≡ true)
+      (λ t. cname_and_other_at (i - 1) i r s (omega arith) below here there t (other_false a b both.0 t) name)
+      (λ f. cname_and_other_at i (i - 1) s r below (omega arith) there here (other_true a b both.0 f) f (sym name))
     where
       other_false : (a b : Bool) → ((a && not b) || (b && not a)) ≡ true → a ≡ true → b ≡ false
       other_false true true e t = absurd cc
@@ -214,7 +214,7 @@ module _ (rs : List Record) (order : InOrder rs) where
       other_true false true e t = refl
       other_true false false e t = absurd cc
 
-  module _ (none : (i : ℕ) → i < length rs → 0 < i → (d : Record) → are_crowded (get_or rs (i - 1) d) (get_or rs i d) ≡ false) where
+  module _ (none : (i : ℕ) → i < length rs → 0 < i → (d : Record) → are_cname_and_other (get_or rs (i - 1) d) (get_or rs i d) ≡ false) where
     steady : (name : List (List ℕ)) (n i : ℕ) (d : Record) → i + n < length rs → at_name name (key_of (get_or rs i d)) ≡ true → at_name name (key_of (get_or rs (i + n) d)) ≡ true
         → is_cname (key_of (get_or rs i d)) ≡ is_cname (key_of (get_or rs (i + n) d))
     steady name zero i d below e f = ap (λ m. is_cname (key_of (get_or rs m d))) (same i)
@@ -227,7 +227,7 @@ module _ (rs : List Record) (order : InOrder rs) where
         let up = by_owner rs order name in
         let here : same_name a.owner name ≡ true =
         between (canonical_cmp (get_or rs i d).owner name) (canonical_cmp a.owner name) (canonical_cmp b.owner name) (up i (i + n) d (omega arith) (omega arith)) (up (i + n) (i + suc n) d (omega arith) below) e f in
-        let apart : are_crowded a b ≡ false = ap (λ m. are_crowded (get_or rs m d) b) (before i n) ∙ none (i + suc n) below (omega arith) d in
+        let apart : are_cname_and_other a b ≡ false = ap (λ m. are_cname_and_other (get_or rs m d) b) (before i n) ∙ none (i + suc n) below (omega arith) d in
         steady name n i d (omega arith) e here ∙ equal (is_cname (key_of a)) (is_cname (key_of b)) (same_name b.owner a.owner) (ap (λ n. same_name b.owner n) (name_is a.owner name here) ∙ f) apart
       where
         before : (i n : ℕ) → i + n ≡ i + suc n - 1
@@ -253,13 +253,13 @@ module _ (rs : List Record) (order : InOrder rs) where
               is ∙ ap (λ m. is_cname (key_of (get_or rs m d))) (sym down.1) ∙ t
         ]
 
-    pub no_crowd : crowded ≡ false
-    no_crowd =
-        list_any_none (λ x. is_crowded (set_of rs) (key_of x)) rs (λ j e below.
+    pub no_cname_and_other : cname_and_other ≡ false
+    no_cname_and_other =
+        list_any_none (λ x. is_cname_beside_other (set_of rs) (key_of x)) rs (λ j e below.
         let r = get_or rs j e in
         let p : Record → Bool = λ x. at_name r.owner (key_of x) in
         let q : Record → Bool = λ x. at r.owner Cname (key_of x) in
-        by_cases (is_cname (key_of r)) (is_crowded (set_of rs) (key_of r) ≡ false)
+        by_cases (is_cname (key_of r)) (is_cname_beside_other (set_of rs) (key_of r) ≡ false)
         (λ t.
         let same : length (filter q rs) ≡ length (filter p rs) =
         as_many p q rs (λ k d also. by_cases (p (get_or rs k d)) (q (get_or rs k d) ≡ p (get_or rs k d))

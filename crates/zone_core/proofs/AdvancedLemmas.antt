@@ -1,5 +1,5 @@
 -- The zone with its serial one further.
-use Rattle.std.proofs.Common.{◌≡◌, [], ◌∷◌, Some, inl, refl, sym, ap, subst, ◌∙◌}
+use Rattle.std.proofs.Common.{◌≡◌, List, [], ◌∷◌, Some, inl, refl, sym, subst, ◌∙◌}
 use Rattle.std.specs.List.Sorted.{IsStrictlySortedBy}
 use Rattle.dns_data.specs.declared.record.Record.{Record}
 use Rattle.zone_core.specs.Sets.{Records, set_of, minus, InOrder, AreRows}
@@ -9,7 +9,7 @@ use Rattle.zone_core.specs.Changes.{changed, FitsIn}
 use Rattle.zone_core.proofs.ChangedLemmas.{zone_fits, zone_gives, zone_made}
 use Rattle.zone_core.proofs.ZoneLemmas.{Keys, keys_of, zone_of_keys, soa_is}
 use Rattle.zone_core.proofs.VersionLemmas.{next_keys}
-use Rattle.zone_core.proofs.SettleLemmas.{minus_self, step_removed, step_added}
+use Rattle.zone_core.proofs.SerialAdvanceLemmas.{minus_self, step_removed, step_added}
 
 no_order : InOrder []
 unfolding IsStrictlySortedBy
@@ -52,18 +52,18 @@ module _ (zone : ZoneOf) (z : IsZone zone) where
         (step_added zone.origin zone.records zone.records there there refl [] (none_differ zone.records)))
 
     -- the SOA and its next version are what a change takes and brings
-    module _ (old next : Record) (old_is : old ≡ soa) (next_is : next ≡ next_version old) where
-      goes : AreRows (old ∷ []) (minus zone.records (advanced zone).records)
-      goes = subst (λ (x : Record). AreRows (x ∷ []) (minus zone.records (advanced zone).records)) (sym old_is) soa_goes
+    module _ (removed added : List Record) (removed_is : removed ≡ soa ∷ []) (added_is : added ≡ next_version soa ∷ []) where
+      goes : AreRows removed (minus zone.records (advanced zone).records)
+      goes = subst (λ rs. AreRows rs (minus zone.records (advanced zone).records)) (sym removed_is) soa_goes
 
-      comes : AreRows (next ∷ []) (minus (advanced zone).records zone.records)
-      comes = subst (λ (x : Record). AreRows (x ∷ []) (minus (advanced zone).records zone.records)) (sym (next_is ∙ ap next_version old_is)) next_comes
+      comes : AreRows added (minus (advanced zone).records zone.records)
+      comes = subst (λ rs. AreRows rs (minus (advanced zone).records zone.records)) (sym added_is) next_comes
 
-      pub advanced_fits : FitsIn zone.records (old ∷ []) (next ∷ [])
-      advanced_fits = zone_fits zone (advanced zone) z advanced_is refl (old ∷ []) (next ∷ []) goes comes
+      pub advanced_fits : FitsIn zone.records removed added
+      advanced_fits = zone_fits zone (advanced zone) z advanced_is refl removed added goes comes
 
-      pub advanced_made : IsZone (record zone { records = changed zone.records (old ∷ []) (next ∷ []) })
-      advanced_made = zone_made zone (advanced zone) z advanced_is refl (old ∷ []) (next ∷ []) goes comes
+      pub advanced_made : IsZone (record zone { records = changed zone.records removed added })
+      advanced_made = zone_made zone (advanced zone) z advanced_is refl removed added goes comes
 
-      pub advanced_gives : record zone { records = changed zone.records (old ∷ []) (next ∷ []) } ≡ advanced zone
-      advanced_gives = zone_gives zone (advanced zone) z advanced_is refl (old ∷ []) (next ∷ []) goes comes
+      pub advanced_gives : record zone { records = changed zone.records removed added } ≡ advanced zone
+      advanced_gives = zone_gives zone (advanced zone) z advanced_is refl removed added goes comes

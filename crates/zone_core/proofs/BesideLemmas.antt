@@ -15,7 +15,7 @@ use Rattle.zone_core.specs.Zones.{beside, least_ttl, least_below}
 use Rattle.zone_core.specs.Views.{set_order, set_ttl}
 use Rattle.zone_core.proofs.SetLemmas.{is_tied}
 use Rattle.zone_core.proofs.RangeLemmas.{by_head, both_tie, lt_down, tied_run}
-use Rattle.zone_core.proofs.EvenLemmas.{beside_self}
+use Rattle.zone_core.proofs.MinTtlLemmas.{beside_self}
 
 -- ---- the order of a record to those of a set, and where it stands among the three
 

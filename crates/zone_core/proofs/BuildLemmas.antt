@@ -5,7 +5,7 @@ use Rattle.zone_core.specs.declared.fault.ZoneFault.{ZoneFault}
 use Rattle.zone_core.specs.declared.fault.ZoneFault.TheVariants.{NoMemory}
 use Rattle.zone_core.specs.Faults.{Refuses}
 use Rattle.zone_core.specs.Sets.{Records, set_of}
-use Rattle.zone_core.specs.Zones.{ZoneOf, IsZone, fault_in, unless_fault, built, zone_of, evened, latest}
+use Rattle.zone_core.specs.Zones.{ZoneOf, IsZone, fault_in, unless_fault, built, zone_of, min_rrset_ttls, latest}
 use Rattle.zone_core.specs.Views.{zone_in}
 use Rattle.zone_core.proofs.WholeLemmas.{no_fault}
 
@@ -13,7 +13,7 @@ refuses_is : (fault : ZoneFault) (x : Result ZoneOf ZoneFault) → x ≡ Err fau
 refuses_is NoMemory x e = tt
 refuses_is fault x e = e
 
-module _ (origin : List (List ℕ)) (records rs : List Record) (same : set_of rs ≡ evened (latest records)) where
+module _ (origin : List (List ℕ)) (records rs : List Record) (same : set_of rs ≡ min_rrset_ttls (latest records)) where
   built_is : (fault : Option ZoneFault) → fault ≡ fault_in origin (set_of rs) → built origin records ≡ unless_fault origin (set_of rs) fault
   built_is fault e = (λ i. unless_fault origin (sym same i) (fault_in origin (sym same i))) ∙ ap (unless_fault origin (set_of rs)) (sym e)
 
@@ -25,7 +25,7 @@ module _ (origin : List (List ℕ)) (records rs : List Record) (same : set_of rs
 
   pub never_refused : (fault : Option ZoneFault) (f : ZoneFault) → fault ≡ fault_in origin (set_of rs) → fault ≡ Some f → IsZone (zone_of origin records) → ⊥
   never_refused fault f e some zone =
-      let none = no_fault origin (evened (latest records)) zone.kept zone in
+      let none = no_fault origin (min_rrset_ttls (latest records)) zone.kept zone in
       let c : Some f ≡ None = sym some ∙ e ∙ ap (fault_in origin) same ∙ none in
       absurd cc
 

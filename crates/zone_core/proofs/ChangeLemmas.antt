@@ -11,7 +11,7 @@ use Rattle.zone_core.specs.Sets.{Records, Key, key_of, key_cmp, same_key, keyed,
 use Rattle.zone_core.specs.Updates.{acted_name}
 use Rattle.zone_core.specs.Effects.{effect, effects}
 pub use Rattle.zone_core.specs.Parts.{touched}
-use Rattle.zone_core.specs.Sites.{IsSite, Becomes, Grows}
+use Rattle.zone_core.specs.Nodes.{IsNode, Becomes, Grows}
 use Rattle.zone_core.proofs.SetLemmas.{name_is, name_self, get-part, same_sets, by_cases}
 use Rattle.zone_core.proofs.RowLemmas.{get-set_of, each_in, set_of-filter, InOrder-filter, listing_of}
 use Rattle.zone_core.proofs.EffectLemmas.{effect_away}
@@ -189,8 +189,8 @@ all_kept name (r ∷ rs) = by_test (same_name r.owner name) refl (all_kept name 
     by_test false e rest = rest
 
 module _ (name : List (List ℕ)) (rs : List Record) (order : InOrder rs) (before : List Record) (is : before ≡ filter (λ r. at_name name (key_of r)) rs) where
-  pub site_is : IsSite name before
-  site_is = subst (IsSite name) (sym is) (record { order = InOrder-filter (λ r. at_name name (key_of r)) rs order; here = all_kept name rs })
+  pub node_is : IsNode name before
+  node_is = subst (IsNode name) (sym is) (record { order = InOrder-filter (λ r. at_name name (key_of r)) rs order; here = all_kept name rs })
 
   pub set_is : set_of before ≡ part (set_of rs) (at_name name)
   set_is = ap set_of is ∙ set_of-filter (at_name name) rs
@@ -201,7 +201,7 @@ module _ (name : List (List ℕ)) (rs : List Record) (order : InOrder rs) (befor
         record {
           more = filter (λ r. not (same_ttl (Some r) (get (set_of after) (key_of r)))) before;
           grown = e;
-          set = difference before site_is.order (set_of after) ∙ (λ i. minus (set_is i) (becomes.set i)) ∙ minus_part (set_of rs) b (at_name name);
+          set = difference before node_is.order (set_of after) ∙ (λ i. minus (set_is i) (becomes.set i)) ∙ minus_part (set_of rs) b (at_name name);
         }
 
     pub added_here : (xs ys : List Record) → ys ≡ xs ++ filter (λ r. not (same_ttl (Some r) (get (set_of before) (key_of r)))) after → Grows xs ys (part (minus b (set_of rs)) (at_name name))
@@ -209,5 +209,5 @@ module _ (name : List (List ℕ)) (rs : List Record) (order : InOrder rs) (befor
         record {
           more = filter (λ r. not (same_ttl (Some r) (get (set_of before) (key_of r)))) after;
           grown = e;
-          set = difference after becomes.site.order (set_of before) ∙ (λ i. minus (becomes.set i) (set_is i)) ∙ minus_part b (set_of rs) (at_name name);
+          set = difference after becomes.node.order (set_of before) ∙ (λ i. minus (becomes.set i) (set_is i)) ∙ minus_part b (set_of rs) (at_name name);
         }

@@ -11,7 +11,7 @@ use Rattle.dns_data.proofs.RecordOrderLemmas.{one_rank}
 use Rattle.zone_core.specs.Sets.{Records, Key, key_of, rank_of, IsIn, cut, at, is_same}
 use Rattle.zone_core.specs.Zones.{ZoneOf, IsZone, IsSoaOf, serial_in, soa_at, serial_at}
 use Rattle.zone_core.specs.Updates.{UpdateOf, IsUpdate, ActsWithin}
-use Rattle.zone_core.specs.Effects.{effect, effects, next_version, with_next, settled}
+use Rattle.zone_core.specs.Effects.{effect, effects, next_version, with_next, serial_advanced}
 use Rattle.zone_core.specs.Accounts.{Puts, IsPut, UpdatesLeave}
 use Rattle.zone_core.specs.Versions.{Advances, UpdatesAdvance}
 use Rattle.zone_core.specs.declared.update.Operation.{Operation}
@@ -22,7 +22,7 @@ use Rattle.zone_core.proofs.ZoneLemmas.{Keys, Heir, keys_of, zone_of_keys, soa_i
 use Rattle.zone_core.proofs.VersionLemmas.{heir_of, next_type, soa_type, one_further, greater}
 use Rattle.zone_core.proofs.AccountLemmas.{left_effects}
 
--- but for the SOA, the records of a settled set are those after
+-- but for the SOA, the records with the serial advanced are those after the operations
 module _ (origin : List (List ℕ)) (before after : Records) (z : Keys origin before) (heir : Heir origin before z after) (r : Record) (other : type_of r.rdata ≢ types.Soa) where
   pub next_there : get (with_next after (soa_at origin after)) (key_of r) ≡ get after (key_of r)
   next_there =
@@ -32,8 +32,8 @@ module _ (origin : List (List ℕ)) (before after : Records) (z : Keys origin be
       ∙ kept_by_put (cut after p) (next_version soa) (key_of r) (λ e. other (one_rank (type_of r.rdata) types.Soa (ap (λ (q : Key). q.1) e ∙ ap rank_of (next_type soa.rdata ∙ soa_type origin before after z heir))))
       ∙ kept_by_cut after p (key_of r) (false_from_ne_true (p (key_of r)) (λ t. other (one_rank (type_of r.rdata) types.Soa (at_is soa.owner types.Soa (key_of r) t).1)))
 
-  pub settled_there : get (settled origin before after) (key_of r) ≡ get after (key_of r)
-  settled_there = by_same (is_same before after) refl
+  pub advanced_there : get (serial_advanced origin before after) (key_of r) ≡ get after (key_of r)
+  advanced_there = by_same (is_same before after) refl
     where
       by_serial : (b : Bool) → get (if b then with_next after (soa_at origin after) else after) (key_of r) ≡ get after (key_of r)
       by_serial true = next_there
@@ -47,7 +47,7 @@ pub updates_leave : UpdatesLeave
 updates_leave zone update z is acts r other =
     let there = keys_of zone.origin zone.records z in
     let after = effects zone.origin zone.records update.operations in
-    let same = settled_there zone.origin zone.records after there (heir_of zone update z is acts) r other in
+    let same = advanced_there zone.origin zone.records after there (heir_of zone update z is acts) r other in
     let left = left_effects zone.origin zone.records there update.operations is.operations acts.operations r in
     (λ here. left.0 (sym same ∙ here), λ l. same ∙ left.1 l)
 
@@ -105,7 +105,7 @@ module _ (zone : ZoneOf) (update : UpdateOf) (z : IsZone zone) (is : IsUpdate up
   abbrev AdvancesTo : Records → Type 0
   AdvancesTo set = Advances zone update (record zone { records = set })
 
-  advances : AdvancesTo (settled zone.origin zone.records after)
+  advances : AdvancesTo (serial_advanced zone.origin zone.records after)
   advances = by_same (is_same zone.records after)
     where
       by_serial : (b : Bool) → (serial_at zone.origin zone.records == serial_at zone.origin after) ≡ b → AdvancesTo (if b then with_next after (soa_at zone.origin after) else after)

@@ -8,8 +8,8 @@ use Rattle.zone_core.specs.declared.update.Operation.{Operation}
 use Rattle.zone_core.specs.Sets.{Records, is_same}
 use Rattle.zone_core.specs.Zones.{soa_at, serial_at}
 use Rattle.zone_core.specs.Updates.{IsOperation, acted_name}
-use Rattle.zone_core.specs.Effects.{effect, effects, with_next, settled}
-use Rattle.zone_core.specs.Accounts.{AllMake, IsNextOf, IsSettledTo, UpdatesMake}
+use Rattle.zone_core.specs.Effects.{effect, effects, with_next, serial_advanced}
+use Rattle.zone_core.specs.Accounts.{AllMake, IsNextOf, IsAdvancedTo, UpdatesMake}
 use Rattle.zone_core.proofs.ZoneLemmas.{Keys, Heir, keys_of, soa_is, no, effect_heir}
 use Rattle.zone_core.proofs.ChangedLemmas.{same_sets_are_one}
 use Rattle.zone_core.proofs.VersionLemmas.{next_keys, heir_of}
@@ -37,16 +37,16 @@ module _ (origin : List (List ℕ)) (before made : Records) (z : Keys origin bef
             (λ here. sym same ∙ here, λ here. same ∙ here),
       )
 
-  settles : IsSettledTo origin before made (settled origin before made)
-  settles = by_same (is_same before made) refl
+  advances_serial : IsAdvancedTo origin before made (serial_advanced origin before made)
+  advances_serial = by_same (is_same before made) refl
     where
-      by_serial : made ≢ before → (b : Bool) → (serial_at origin before == serial_at origin made) ≡ b → IsSettledTo origin before made (if b then with_next made (soa_at origin made) else made)
+      by_serial : made ≢ before → (b : Bool) → (serial_at origin before == serial_at origin made) ≡ b → IsAdvancedTo origin before made (if b then with_next made (soa_at origin made) else made)
       by_serial differ true e = inr (differ, sym ((Decides-eqb (serial_at origin before) (serial_at origin made)).0 e), next_is)
       by_serial differ false e =
           inl (inr (λ same. no (serial_at origin before == serial_at origin made) ((Decides-eqb (serial_at origin before) (serial_at origin made)).1 (sym same)) e), refl)
 
       by_same : (b : Bool) → is_same before made ≡ b
-          → IsSettledTo origin before made (if b then before else (if serial_at origin before == serial_at origin made then with_next made (soa_at origin made) else made))
+          → IsAdvancedTo origin before made (if b then before else (if serial_at origin before == serial_at origin made then with_next made (soa_at origin made) else made))
       by_same true e = let same = (same_sets_are_one before made z.rows.kept heir.0.rows.kept).0 e in inl (inl (sym same), same)
       by_same false e =
           by_serial (λ same. no (is_same before made) ((same_sets_are_one before made z.rows.kept heir.0.rows.kept).1 (sym same)) e)
@@ -60,5 +60,5 @@ updates_make zone update z is acts =
       made,
       heir.0.rows.kept,
       all_make zone.origin zone.records there update.operations is.operations acts.operations,
-      settles zone.origin zone.records made there heir,
+      advances_serial zone.origin zone.records made there heir,
     )

@@ -9,7 +9,7 @@ use Rattle.zone_core.specs.declared.update.Operation.{Operation}
 use Rattle.zone_core.specs.Sets.{Records, Key, part, cut, at_name, at, minus, same_key, key_of, is_same}
 use Rattle.zone_core.specs.Zones.{ZoneOf, IsZone, serial_in, soa_at, serial_at}
 use Rattle.zone_core.specs.Updates.{UpdateOf, IsUpdate, ActsWithin}
-use Rattle.zone_core.specs.Effects.{effects, next_version, with_next, settled, zone_after}
+use Rattle.zone_core.specs.Effects.{effects, next_version, with_next, serial_advanced, zone_after}
 use Rattle.zone_core.specs.Parts.{tested, touched, part_of, Covers, DoesForZone, UpdatesNeedTheirPart}
 use Rattle.zone_core.proofs.SetLemmas.{name_self, get-part, get-cut, get-put, same_sets, found_in_part, kept_by_cut, kept_by_put}
 use Rattle.zone_core.proofs.EffectLemmas.{soa_alike}
@@ -56,8 +56,8 @@ next_away a r k away =
 
 module _ (origin : List (List ℕ)) (set : Records) (z : Keys origin set) (ops : List Operation) (heir : Heir origin set z (effects origin set ops)) (w : Key → Bool) (at_origin : (k : Key) → k.0 ≡ origin → w k ≡ true) (wide : (k : Key) → touched ops k ≡ true → w k ≡ true) where
   -- outside the names nothing changes
-  settled_away : (k : Key) → w k ≡ false → get (settled origin set (effects origin set ops)) k ≡ get set k
-  settled_away k e = by_same (is_same set (effects origin set ops))
+  advanced_away : (k : Key) → w k ≡ false → get (serial_advanced origin set (effects origin set ops)) k ≡ get set k
+  advanced_away k e = by_same (is_same set (effects origin set ops))
     where
       after : Records
       after = effects origin set ops
@@ -85,8 +85,8 @@ module _ (origin : List (List ℕ)) (set : Records) (z : Keys origin set) (ops :
 soa_on : (origin : List (List ℕ)) (w : Key → Bool) (a b : Records) → ((k : Key) → k.0 ≡ origin → w k ≡ true) → SameOn w a b → soa_at origin a ≡ soa_at origin b
 soa_on origin w a b at_origin same = soa_alike origin a b (λ k name. same k (at_origin k name))
 
-settled_on : (origin : List (List ℕ)) (w : Key → Bool) (a b c d : Records) → ((k : Key) → k.0 ≡ origin → w k ≡ true) → SameOn w a c → SameOn w b d → is_same a b ≡ is_same c d → SameOn w (settled origin a b) (settled origin c d)
-settled_on origin w a b c d at_origin first second alike k e =
+advanced_on : (origin : List (List ℕ)) (w : Key → Bool) (a b c d : Records) → ((k : Key) → k.0 ≡ origin → w k ≡ true) → SameOn w a c → SameOn w b d → is_same a b ≡ is_same c d → SameOn w (serial_advanced origin a b) (serial_advanced origin c d)
+advanced_on origin w a b c d at_origin first second alike k e =
     let before = soa_on origin w a c at_origin first in
     let after = soa_on origin w b d at_origin second in
     let serials : (serial_at origin a == serial_at origin b) ≡ (serial_at origin c == serial_at origin d) =
@@ -154,21 +154,21 @@ module _ (zone : ZoneOf) (update : UpdateOf) (w : Key → Bool) (z : IsZone zone
   part_zone : IsZone (part_of zone w)
   part_zone = part_is_zone zone w z at_origin
 
-  settled_alike : SameOn w (zone_after (part_of zone w) update).records (zone_after zone update).records
-  settled_alike = settled_on zone.origin w less (effects zone.origin less ops) zone.records (effects zone.origin zone.records ops) at_origin there after alike
+  advanced_alike : SameOn w (zone_after (part_of zone w) update).records (zone_after zone update).records
+  advanced_alike = advanced_on zone.origin w less (effects zone.origin less ops) zone.records (effects zone.origin zone.records ops) at_origin there after alike
 
   away : (k : Key) → w k ≡ false → (get (zone_after (part_of zone w) update).records k ≡ get less k) × (get (zone_after zone update).records k ≡ get zone.records k)
   away k e = (
-    settled_away zone.origin less (keys_of zone.origin less part_zone) ops (heir_of (part_of zone w) update part_zone is acts) w at_origin wide k e,
-    settled_away zone.origin zone.records whole_keys ops (heir_of zone update z is acts) w at_origin wide k e,
+    advanced_away zone.origin less (keys_of zone.origin less part_zone) ops (heir_of (part_of zone w) update part_zone is acts) w at_origin wide k e,
+    advanced_away zone.origin zone.records whole_keys ops (heir_of zone update z is acts) w at_origin wide k e,
   )
 
   pub does : DoesForZone zone update w
   does = record {
     zone = part_zone;
     verdict = verdict_alike less zone.records update.prerequisites (λ k e. there k (covers k (in_second (at_name zone.origin k) (tested update.prerequisites k) (touched ops k) e)));
-    removed = minus_alike w less (zone_after (part_of zone w) update).records zone.records (zone_after zone update).records there settled_alike (λ k e. let both = away k e in (sym both.0, sym both.1));
-    added = minus_alike w (zone_after (part_of zone w) update).records less (zone_after zone update).records zone.records settled_alike there away;
+    removed = minus_alike w less (zone_after (part_of zone w) update).records zone.records (zone_after zone update).records there advanced_alike (λ k e. let both = away k e in (sym both.0, sym both.1));
+    added = minus_alike w (zone_after (part_of zone w) update).records less (zone_after zone update).records zone.records advanced_alike there away;
   }
 
 pub updates_need : UpdatesNeedTheirPart

@@ -11,7 +11,7 @@ use Rattle.zone_core.specs.declared.update.Operation.TheVariants.{Add, DeleteRrs
 use Rattle.zone_core.specs.Sets.{Records, Key, key_of, key_cmp, rank_of, same_key, part, cut, has, at_name, at, put, with_ttl, is_same}
 use Rattle.zone_core.specs.Zones.{is_soa, is_cname, soa_at, serial_at, first_of}
 use Rattle.zone_core.specs.Updates.{acted_name}
-use Rattle.zone_core.specs.Effects.{is_other_type, takes_over, add_soa, add_cname, add_other, is_misplaced, add, is_guarded, goes, key_at, is_other_ns, stays, effect, effects, next_version, with_next, settled}
+use Rattle.zone_core.specs.Effects.{is_other_type, takes_over, add_soa, add_cname, add_other, is_misplaced, add, is_guarded, goes, key_at, is_other_ns, stays, effect, effects, next_version, with_next, serial_advanced}
 use Rattle.zone_core.proofs.SetLemmas.{by_cases, name_is, name_self, key_is, key_self, kept_by_cut, gone_by_cut, kept_by_put, found_by_put, found_of_part, same_has, none_there, has_found}
 use Rattle.zone_core.proofs.EffectLemmas.{get-with_ttl, untouched, effect_away}
 use Rattle.zone_core.proofs.ZoneLemmas.{at_is, at_has, kind, no, both_true, none_found}
@@ -170,19 +170,19 @@ module _ (origin : List (List ℕ)) where
       has_found (with_next b (Some soa)) (of_soa origin) (key_of (next_version soa)) (next_version soa) is.next_at (found_by_put (cut b (at soa.owner types.Soa)) (next_version soa))
       ∙ sym (has_found b (of_soa origin) is.key soa is.at_origin is.there)
 
-  pub settled_other : (a b : Records) → AreOwn b → (k : Key) → of_soa origin k ≡ false → (is_same a b ≡ true → get a k ≡ get b k) → get (settled origin a b) k ≡ get b k
-  settled_other a b owns k off same =
+  pub advanced_other : (a b : Records) → AreOwn b → (k : Key) → of_soa origin k ≡ false → (is_same a b ≡ true → get a k ≡ get b k) → get (serial_advanced origin a b) k ≡ get b k
+  advanced_other a b owns k off same =
       either (λ (s : Records). get s k) (is_same a b) a _ (get b k) same (λ e.
       either (λ (s : Records). get s k) (serial_at origin a == serial_at origin b) (with_next b (soa_at origin b)) b (get b k) (λ f. next_other b owns k off (soa_at origin b) refl) (λ f. refl))
 
-  settled_here : (a b : Records) → AreOwn b → has a (of_soa origin) ≡ has b (of_soa origin) → has (settled origin a b) (of_soa origin) ≡ has b (of_soa origin)
-  settled_here a b owns same =
+  advanced_here : (a b : Records) → AreOwn b → has a (of_soa origin) ≡ has b (of_soa origin) → has (serial_advanced origin a b) (of_soa origin) ≡ has b (of_soa origin)
+  advanced_here a b owns same =
       either (λ (s : Records). has s (of_soa origin)) (is_same a b) a _ (has b (of_soa origin)) (λ e. same) (λ e.
       either (λ (s : Records). has s (of_soa origin)) (serial_at origin a == serial_at origin b) (with_next b (soa_at origin b)) b (has b (of_soa origin)) (λ f. next_here b owns (soa_at origin b) refl) (λ f. refl))
 
-  pub updated_soa : (a : Records) (ops : List Operation) → AreOwn a → has (settled origin a (effects origin a ops)) (of_soa origin) ≡ has a (of_soa origin)
+  pub updated_soa : (a : Records) (ops : List Operation) → AreOwn a → has (serial_advanced origin a (effects origin a ops)) (of_soa origin) ≡ has a (of_soa origin)
   updated_soa a ops owns =
-      settled_here a (effects origin a ops) (effects_own origin a ops owns) (sym (effects_soa origin a ops)) ∙ effects_soa origin a ops
+      advanced_here a (effects origin a ops) (effects_own origin a ops owns) (sym (effects_soa origin a ops)) ∙ effects_soa origin a ops
 
 -- an SOA that is added at the origin changes no other record
 pub soa_added : (origin : List (List ℕ)) (z : Records) (r : Record) → r.owner ≡ origin → is_soa (key_of r) ≡ true → (k : Key) → of_soa origin k ≡ false → get (add_soa z r) k ≡ get z k

@@ -8,9 +8,10 @@ use Rattle.dns_data.specs.declared.record.Record.{Record}
 use Rattle.dns_data.specs.Rdata.{type_of}
 use Rattle.dns_data.proofs.ApartLaws.{one_text}
 use Rattle.dns_data.proofs.RecordOrderLemmas.{one_rank}
-use Rattle.zone_core.specs.Sets.{Records, Key, key_of, set_of, same_ttl, InOrder, AreRows}
+use Rattle.zone_core.specs.Sets.{Records, Key, key_of, set_of, minus, same_ttl, InOrder, AreRows}
 use Rattle.zone_core.specs.Zones.{ZoneOf, IsZone, AreKept}
 use Rattle.zone_core.specs.Views.{zone_in, AreOfZone}
+use Rattle.zone_core.specs.Changes.{change_between}
 use Rattle.zone_core.proofs.RowLemmas.{listing_of}
 use Rattle.zone_core.proofs.ChangeLemmas.{listed_so}
 
@@ -45,3 +46,10 @@ pub of_zone : (after : ZoneOf) → IsZone after → (origin : List (List ℕ)) (
 of_zone after is origin rows own are =
     let same : zone_in origin rows ≡ after = λ i. record { origin = own i; records = are.set i } in
     (record { order = are.order; zone = subst IsZone (sym same) is }, same)
+
+-- a change whose sides are what two sets differ in is the one between them
+pub change_is : (removed added : List Record) (before after : Records) → AreRows removed (minus before after) → AreRows added (minus after before) → record { removed = removed; added = added } ≡ change_between before after
+change_is removed added before after goes comes =
+    let gone = listed_so removed (minus before after) goes.order goes.set in
+    let come = listed_so added (minus after before) comes.order comes.set in
+    λ i. record { removed = gone i; added = come i }

@@ -14,7 +14,7 @@ use Rattle.dns_data.specs.declared.record_type.RecordType.{RecordType}
 use Rattle.dns_data.specs.RecordOrder.{key_total, record_order_total}
 use Rattle.dns_names.specs.Order.{same_name}
 use Rattle.zone_core.specs.Sets.{Records, key_of, key_cmp, rank_of, same_key, keyed, set_of, record_order, put, cut, at, with_ttl, given, InOrder}
-use Rattle.zone_core.specs.Sites.{IsSite, Becomes, with_type_ttl}
+use Rattle.zone_core.specs.Nodes.{IsNode, Becomes, with_type_ttl}
 use Rattle.zone_core.proofs.SetLemmas.{same_sets, get-put, get-cut, key_other, key_self, name_self, by_cases}
 use Rattle.zone_core.proofs.RowLemmas.{entries_of, row_of, get-set_of, found_has, found_key}
 use Rattle.zone_core.proofs.RangeLemmas.{pair_order}
@@ -95,8 +95,8 @@ new_filter r q same (x ∷ rs) all = by_test (q x) refl (new_filter r q same rs 
     by_test true e rest = (opened (same_key (key_of r) (key_of x)) (sym (same x all.0) ∙ e), rest)
     by_test false e rest = rest
 
-pub new_of : (r : Record) (q : Record → Bool) → ((x : Record) → x.owner ≡ r.owner → q x ≡ not (same_key (key_of r) (key_of x))) → (rs : List Record) → IsSite r.owner rs → IsNew r (filter q rs)
-new_of r q same rs site = new_filter r q same rs site.here
+pub new_of : (r : Record) (q : Record → Bool) → ((x : Record) → x.owner ≡ r.owner → q x ≡ not (same_key (key_of r) (key_of x))) → (rs : List Record) → IsNode r.owner rs → IsNew r (filter q rs)
+new_of r q same rs node = new_filter r q same rs node.here
 
 -- ---- TTLs
 
@@ -117,8 +117,8 @@ module _ (f : Record → ℕ) where
   retimed_here name [] all = tt
   retimed_here name (x ∷ rs) all = (all.0, retimed_here name rs all.1)
 
-  pub retimed_site : (name : List (List ℕ)) (rs : List Record) → IsSite name rs → IsSite name (map retimed rs)
-  retimed_site name rs site = record { order = retimed_order rs site.order; here = retimed_here name rs site.here }
+  pub retimed_node : (name : List (List ℕ)) (rs : List Record) → IsNode name rs → IsNode name (map retimed rs)
+  retimed_node name rs node = record { order = retimed_order rs node.order; here = retimed_here name rs node.here }
 
 -- setting the TTL of a type at a name is setting that of the set
 same_retimed : (name : List (List ℕ)) (t : RecordType) (ttl : ℕ) (rs : List Record) → AllByRecursion (λ r. r.owner ≡ name) rs → keyed (map (with_type_ttl t ttl) rs) ≡ map (given (at name t) ttl) (keyed rs)
@@ -129,11 +129,11 @@ same_retimed name t ttl (x ∷ rs) all =
     test : ((key_of x).1 == rank_of t) ≡ (same_name x.owner name && ((key_of x).1 == rank_of t))
     test = rw (all.0, name_self name) refl
 
-pub ttl_site : (name : List (List ℕ)) (t : RecordType) (ttl : ℕ) (rs : List Record) → IsSite name rs → Becomes name (map (with_type_ttl t ttl) rs) (with_ttl (set_of rs) (at name t) ttl)
-ttl_site name t ttl rs site =
+pub ttl_node : (name : List (List ℕ)) (t : RecordType) (ttl : ℕ) (rs : List Record) → IsNode name rs → Becomes name (map (with_type_ttl t ttl) rs) (with_ttl (set_of rs) (at name t) ttl)
+ttl_node name t ttl rs node =
     record {
-      site = retimed_site (λ r. if (key_of r).1 == rank_of t then ttl else r.ttl) name rs site;
-      set = ap (from_entries {R = key_cmp}) (same_retimed name t ttl rs site.here ∙ ap (map (given (at name t) ttl)) (sym (entries_of rs site.order)));
+      node = retimed_node (λ r. if (key_of r).1 == rank_of t then ttl else r.ttl) name rs node;
+      set = ap (from_entries {R = key_cmp}) (same_retimed name t ttl rs node.here ∙ ap (map (given (at name t) ttl)) (sym (entries_of rs node.order)));
     }
 
 -- ---- seeking a record

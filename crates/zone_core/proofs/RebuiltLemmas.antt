@@ -10,12 +10,12 @@ use Rattle.dns_data.specs.declared.record.Record.{Record}
 use Rattle.dns_data.specs.Rdata.{type_of}
 use Rattle.dns_data.proofs.RecordOrderLemmas.{one_rank}
 use Rattle.zone_core.specs.Sets.{Records, Key, key_of, key_cmp, same_key, keyed, set_of, listing, InOrder, IsIn}
-use Rattle.zone_core.specs.Zones.{ZoneOf, IsZone, AreKept, least_ttl, least_below, beside, evened, latest, fault_in, unless_fault}
-use Rattle.zone_core.specs.Views.{set_ttl, given_ttls, even_rows}
+use Rattle.zone_core.specs.Zones.{ZoneOf, IsZone, AreKept, least_ttl, least_below, beside, min_rrset_ttls, latest, fault_in, unless_fault}
+use Rattle.zone_core.specs.Views.{set_ttl, given_ttls, min_ttl_rows}
 use Rattle.zone_core.specs.Rebuilt.{AreAllOf, ZonesAreRebuilt}
 use Rattle.zone_core.proofs.SetLemmas.{by_cases, name_is, key_self, same_sets}
 use Rattle.zone_core.proofs.RowLemmas.{get-set_of, found_has, found_key, each_in}
-use Rattle.zone_core.proofs.EvenLemmas.{beside_self, even_set}
+use Rattle.zone_core.proofs.MinTtlLemmas.{beside_self, min_ttl_set}
 use Rattle.zone_core.proofs.WholeLemmas.{no_fault}
 use Rattle.zone_core.proofs.ChangedLemmas.{listed}
 
@@ -120,15 +120,15 @@ module _ (zone : ZoneOf) (is : IsZone zone) where
       is.ttls r s (inside r e) (inside s here) (name_is s.owner r.owner both.0) (one_rank (type_of s.rdata) (type_of r.rdata) (eqb-true (key_of s).1 (key_of r).1 both.1))) there)
       (some_pass (λ s. beside (key_of r) (key_of s)) rows r (beside_self (key_of r)) e)
 
-  pub evened_is : evened zone.records ≡ zone.records
-  evened_is =
+  pub min_rrset_ttls_is : min_rrset_ttls zone.records ≡ zone.records
+  min_rrset_ttls_is =
       let set : set_of rows ≡ zone.records = (listed zone.records is.kept).set in
-      let same : even_rows rows ≡ rows = given_same (set_ttl rows) rows (all_from (λ r. find key_cmp (key_of r) (keyed rows) ≡ Some r) (λ r. set_ttl rows r ≡ r.ttl) own_ttl rows there) in
-      ap evened (sym set) ∙ sym (even_set rows order) ∙ ap set_of same ∙ set
+      let same : min_ttl_rows rows ≡ rows = given_same (set_ttl rows) rows (all_from (λ r. find key_cmp (key_of r) (keyed rows) ≡ Some r) (λ r. set_ttl rows r ≡ r.ttl) own_ttl rows there) in
+      ap min_rrset_ttls (sym set) ∙ sym (min_ttl_set rows order) ∙ ap set_of same ∙ set
 
 -- ---- the law
 
 pub zones_are_rebuilt : ZonesAreRebuilt
 zones_are_rebuilt zone rs is all =
-    let set : evened (latest rs) ≡ zone.records = ap evened (latest_is zone.records is.kept rs all) ∙ evened_is zone is in
+    let set : min_rrset_ttls (latest rs) ≡ zone.records = ap min_rrset_ttls (latest_is zone.records is.kept rs all) ∙ min_rrset_ttls_is zone is in
     (λ i. unless_fault zone.origin (set i) (fault_in zone.origin (set i))) ∙ ap (unless_fault zone.origin zone.records) (no_fault zone.origin zone.records is.kept is)

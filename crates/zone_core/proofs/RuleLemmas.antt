@@ -14,9 +14,9 @@ use Rattle.zone_core.specs.Sets.{Records, key_of, rank_of, same_key, set_of, rec
 use Rattle.zone_core.specs.Zones.{soa_at}
 use Rattle.zone_core.specs.Prerequisites.{same_data}
 use Rattle.zone_core.specs.Effects.{add_soa, add_cname, add_other, takes_over, is_other_type, is_guarded, delete_rrset, delete_record, stays, key_at, is_other_ns}
-use Rattle.zone_core.specs.Sites.{IsSite, Becomes, with_type_ttl}
-use Rattle.zone_core.proofs.SiteLemmas.{cut_site, has_site, same_site, at_here, other_here, name_here, key_here, ns_here, nothing_kept}
-use Rattle.zone_core.proofs.PutLemmas.{put_row, put_again, new_of, parted, ttl_site}
+use Rattle.zone_core.specs.Nodes.{IsNode, Becomes, with_type_ttl}
+use Rattle.zone_core.proofs.NodeLemmas.{cut_node, has_node, same_node, at_here, other_here, name_here, key_here, ns_here, nothing_kept}
+use Rattle.zone_core.proofs.PutLemmas.{put_row, put_again, new_of, parted, ttl_node}
 
 -- one row in the place of another, and one set
 pub becomes : (name : List (List ℕ)) (rs xs : List Record) (a b : Records) → rs ≡ xs → a ≡ b → Becomes name xs a → Becomes name rs b
@@ -43,25 +43,25 @@ one_order : (r : Record) → InOrder (r ∷ [])
 unfolding IsStrictlySortedBy
 one_order r = (tt, tt)
 
-one_site : (r : Record) → IsSite r.owner (r ∷ [])
-one_site r = record { order = one_order r; here = (refl, tt) }
+one_node : (r : Record) → IsNode r.owner (r ∷ [])
+one_node r = record { order = one_order r; here = (refl, tt) }
 
 -- ---- putting
 
-module _ (r : Record) (rs : List Record) (site : IsSite r.owner rs) where
+module _ (r : Record) (rs : List Record) (node : IsNode r.owner rs) where
   same_test : (x : Record) → x.owner ≡ r.owner → not (same_data r.rdata x.rdata) ≡ not (same_key (key_of r) (key_of x))
   same_test x e = ap not (key_here r.owner x e r.rdata)
 
-  pub put_site : (xs : List Record) (i : ℕ) → xs ≡ filter (λ x. not (same_data r.rdata x.rdata)) rs → i ≤ length xs
+  pub put_node : (xs : List Record) (i : ℕ) → xs ≡ filter (λ x. not (same_data r.rdata x.rdata)) rs → i ≤ length xs
       → (IsPartitionedBy (λ x. is_lt (record_order x r)) xs → IsPartitionPoint (λ x. is_lt (record_order x r) ≡ true) (λ x. is_lt (record_order x r) ≡ false) xs i)
       → Becomes r.owner (insert_at xs i r) (put (set_of rs) r)
-  put_site xs i e within parts =
+  put_node xs i e within parts =
       let is : Becomes r.owner xs (cut (set_of rs) (same_key (key_of r))) =
-      subst (λ ys. Becomes r.owner ys (cut (set_of rs) (same_key (key_of r)))) (sym e) (cut_site r.owner rs site (λ x. not (same_data r.rdata x.rdata)) (same_key (key_of r)) same_test) in
-      let new = subst (λ ys. AllByRecursion (λ x. same_key (key_of r) (key_of x) ≡ false) ys) (sym e) (new_of r (λ x. not (same_data r.rdata x.rdata)) same_test rs site) in
-      let row = put_row r xs i is.site.order within new (parts (parted r xs is.site.order)) in
+      subst (λ ys. Becomes r.owner ys (cut (set_of rs) (same_key (key_of r)))) (sym e) (cut_node r.owner rs node (λ x. not (same_data r.rdata x.rdata)) (same_key (key_of r)) same_test) in
+      let new = subst (λ ys. AllByRecursion (λ x. same_key (key_of r) (key_of x) ≡ false) ys) (sym e) (new_of r (λ x. not (same_data r.rdata x.rdata)) same_test rs node) in
+      let row = put_row r xs i is.node.order within new (parts (parted r xs is.node.order)) in
       record {
-        site = record { order = row.0; here = all_insert (λ x. x.owner ≡ r.owner) xs i r refl is.site.here };
+        node = record { order = row.0; here = all_insert (λ x. x.owner ≡ r.owner) xs i r refl is.node.here };
         set = row.1 ∙ ap (λ (s : Records). put s r) is.set ∙ put_again (set_of rs) r;
       }
 
@@ -70,69 +70,69 @@ module _ (r : Record) (rs : List Record) (site : IsSite r.owner rs) where
   -- a CNAME beside a record of another type is left out
   pub cname_ignored : list_any (λ x. not ((key_of x).1 == rank_of types.Cname)) rs ≡ true → Becomes r.owner rs (add_cname (set_of rs) r)
   cname_ignored e =
-      let found : has (set_of rs) (is_other_type r.owner) ≡ true = sym (has_site r.owner rs site (λ x. not ((key_of x).1 == rank_of types.Cname)) (is_other_type r.owner) (λ x h. other_here r.owner x h)) ∙ e in
-      subst (Becomes r.owner rs) (ap (λ b. if b then set_of rs else put (cut (set_of rs) (at_name r.owner)) r) (sym found)) (same_site r.owner rs site)
+      let found : has (set_of rs) (is_other_type r.owner) ≡ true = sym (has_node r.owner rs node (λ x. not ((key_of x).1 == rank_of types.Cname)) (is_other_type r.owner) (λ x h. other_here r.owner x h)) ∙ e in
+      subst (Becomes r.owner rs) (ap (λ b. if b then set_of rs else put (cut (set_of rs) (at_name r.owner)) r) (sym found)) (same_node r.owner rs node)
 
   -- else it stands alone
   pub cname_put : list_any (λ x. not ((key_of x).1 == rank_of types.Cname)) rs ≡ false → Becomes r.owner (r ∷ []) (add_cname (set_of rs) r)
   cname_put e =
-      let found : has (set_of rs) (is_other_type r.owner) ≡ false = sym (has_site r.owner rs site (λ x. not ((key_of x).1 == rank_of types.Cname)) (is_other_type r.owner) (λ x h. other_here r.owner x h)) ∙ e in
-      let none = cut_site r.owner rs site (λ x. false) (at_name r.owner) (λ x h. ap not (name_here r.owner x h)) in
+      let found : has (set_of rs) (is_other_type r.owner) ≡ false = sym (has_node r.owner rs node (λ x. not ((key_of x).1 == rank_of types.Cname)) (is_other_type r.owner) (λ x h. other_here r.owner x h)) ∙ e in
+      let none = cut_node r.owner rs node (λ x. false) (at_name r.owner) (λ x h. ap not (name_here r.owner x h)) in
       let bare : empty ≡ cut (set_of rs) (at_name r.owner) = ap set_of (sym (nothing_kept rs)) ∙ none.set in
       record {
-        site = one_site r;
+        node = one_node r;
         set = ap (λ (s : Records). put s r) bare ∙ ap (λ b. if b then set_of rs else put (cut (set_of rs) (at_name r.owner)) r) (sym found);
       }
 
   has_cname : list_any (λ x. (key_of x).1 == rank_of types.Cname) rs ≡ has (set_of rs) (at r.owner types.Cname)
-  has_cname = has_site r.owner rs site (λ x. (key_of x).1 == rank_of types.Cname) (at r.owner types.Cname) (λ x h. at_here r.owner x h types.Cname)
+  has_cname = has_node r.owner rs node (λ x. (key_of x).1 == rank_of types.Cname) (at r.owner types.Cname) (λ x h. at_here r.owner x h types.Cname)
 
   -- a record of another type beside a CNAME is left out
   pub other_ignored : list_any (λ x. (key_of x).1 == rank_of types.Cname) rs ≡ true → Becomes r.owner rs (add_other (set_of rs) r)
   other_ignored e =
-      subst (Becomes r.owner rs) (ap (λ b. if b then set_of rs else put (with_ttl (set_of rs) (at r.owner (type_of r.rdata)) r.ttl) r) (sym (sym has_cname ∙ e))) (same_site r.owner rs site)
+      subst (Becomes r.owner rs) (ap (λ b. if b then set_of rs else put (with_ttl (set_of rs) (at r.owner (type_of r.rdata)) r.ttl) r) (sym (sym has_cname ∙ e))) (same_node r.owner rs node)
 
   -- else it is put, and its set has its TTL
   pub other_put : list_any (λ x. (key_of x).1 == rank_of types.Cname) rs ≡ false → (xs : List Record) → Becomes r.owner xs (put (set_of (map (with_type_ttl (type_of r.rdata) r.ttl) rs)) r) → Becomes r.owner xs (add_other (set_of rs) r)
   other_put e xs is =
       subst (Becomes r.owner xs)
-      (ap (λ (s : Records). put s r) (ttl_site r.owner (type_of r.rdata) r.ttl rs site).set ∙ ap (λ b. if b then set_of rs else put (with_ttl (set_of rs) (at r.owner (type_of r.rdata)) r.ttl) r) (sym (sym has_cname ∙ e))) is
+      (ap (λ (s : Records). put s r) (ttl_node r.owner (type_of r.rdata) r.ttl rs node).set ∙ ap (λ b. if b then set_of rs else put (with_ttl (set_of rs) (at r.owner (type_of r.rdata)) r.ttl) r) (sym (sym has_cname ∙ e))) is
 
   -- an SOA that does not take over is left out
   pub soa_ignored : takes_over r (soa_at r.owner (set_of rs)) ≡ false → Becomes r.owner rs (add_soa (set_of rs) r)
-  soa_ignored e = subst (Becomes r.owner rs) (ap (λ b. if b then put (cut (set_of rs) (at r.owner types.Soa)) r else set_of rs) (sym e)) (same_site r.owner rs site)
+  soa_ignored e = subst (Becomes r.owner rs) (ap (λ b. if b then put (cut (set_of rs) (at r.owner types.Soa)) r else set_of rs) (sym e)) (same_node r.owner rs node)
 
   -- else it takes the place of the one there
   pub soa_put : takes_over r (soa_at r.owner (set_of rs)) ≡ true → (xs ys : List Record) → xs ≡ filter (λ x. not ((key_of x).1 == rank_of types.Soa)) rs → Becomes r.owner ys (put (set_of xs) r) → Becomes r.owner ys (add_soa (set_of rs) r)
   soa_put e xs ys is put_is =
-      let cut_is = cut_site r.owner rs site (λ x. not ((key_of x).1 == rank_of types.Soa)) (at r.owner types.Soa) (λ x h. ap not (at_here r.owner x h types.Soa)) in
+      let cut_is = cut_node r.owner rs node (λ x. not ((key_of x).1 == rank_of types.Soa)) (at r.owner types.Soa) (λ x h. ap not (at_here r.owner x h types.Soa)) in
       subst (Becomes r.owner ys)
       (ap (λ (zs : List Record). put (set_of zs) r) is ∙ ap (λ (s : Records). put s r) cut_is.set ∙ ap (λ b. if b then put (cut (set_of rs) (at r.owner types.Soa)) r else set_of rs) (sym e)) put_is
 
 -- ---- deleting
 
-module _ (origin name : List (List ℕ)) (rs : List Record) (site : IsSite name rs) where
+module _ (origin name : List (List ℕ)) (rs : List Record) (node : IsNode name rs) where
   pub rrset_kept : (t : RecordType) → same_name name origin ≡ true → is_guarded (rank_of t) ≡ true → Becomes name rs (delete_rrset origin (set_of rs) name t)
-  rrset_kept t e f = subst (Becomes name rs) (λ i. if sym e i && sym f i then set_of rs else cut (set_of rs) (at name t)) (same_site name rs site)
+  rrset_kept t e f = subst (Becomes name rs) (λ i. if sym e i && sym f i then set_of rs else cut (set_of rs) (at name t)) (same_node name rs node)
 
   pub rrset_cut : (t : RecordType) (xs : List Record) → (same_name name origin && is_guarded (rank_of t)) ≡ false → xs ≡ filter (λ x. not ((key_of x).1 == rank_of t)) rs → Becomes name xs (delete_rrset origin (set_of rs) name t)
   rrset_cut t xs e is =
       becomes name xs (filter (λ x. not ((key_of x).1 == rank_of t)) rs) (cut (set_of rs) (at name t)) (delete_rrset origin (set_of rs) name t) is
       (ap (λ b. if b then set_of rs else cut (set_of rs) (at name t)) (sym e))
-      (cut_site name rs site (λ x. not ((key_of x).1 == rank_of t)) (at name t) (λ x h. ap not (at_here name x h t)))
+      (cut_node name rs node (λ x. not ((key_of x).1 == rank_of t)) (at name t) (λ x h. ap not (at_here name x h t)))
 
   pub record_kept : (rdata : Data) → stays origin (set_of rs) (key_at name rdata) ≡ true → Becomes name rs (delete_record origin (set_of rs) (key_at name rdata))
-  record_kept rdata e = subst (Becomes name rs) (ap (λ b. if b then set_of rs else cut (set_of rs) (same_key (key_at name rdata))) (sym e)) (same_site name rs site)
+  record_kept rdata e = subst (Becomes name rs) (ap (λ b. if b then set_of rs else cut (set_of rs) (same_key (key_at name rdata))) (sym e)) (same_node name rs node)
 
   pub record_cut : (rdata : Data) (xs : List Record) → stays origin (set_of rs) (key_at name rdata) ≡ false → xs ≡ filter (λ x. not (same_data rdata x.rdata)) rs → Becomes name xs (delete_record origin (set_of rs) (key_at name rdata))
   record_cut rdata xs e is =
       becomes name xs (filter (λ x. not (same_data rdata x.rdata)) rs) (cut (set_of rs) (same_key (key_at name rdata))) (delete_record origin (set_of rs) (key_at name rdata)) is
       (ap (λ b. if b then set_of rs else cut (set_of rs) (same_key (key_at name rdata))) (sym e))
-      (cut_site name rs site (λ x. not (same_data rdata x.rdata)) (same_key (key_at name rdata)) (λ x h. ap not (key_here name x h rdata)))
+      (cut_node name rs node (λ x. not (same_data rdata x.rdata)) (same_key (key_at name rdata)) (λ x h. ap not (key_here name x h rdata)))
 
   -- whether another NS stands beside
   pub other_ns : (rdata : Data) → list_any (λ x. ((key_of x).1 == rank_of types.Ns) && not (same_data rdata x.rdata)) rs ≡ has (set_of rs) (is_other_ns (key_at name rdata))
-  other_ns rdata = has_site name rs site (λ x. ((key_of x).1 == rank_of types.Ns) && not (same_data rdata x.rdata)) (is_other_ns (key_at name rdata)) (λ x h. ns_here name x h rdata)
+  other_ns rdata = has_node name rs node (λ x. ((key_of x).1 == rank_of types.Ns) && not (same_data rdata x.rdata)) (is_other_ns (key_at name rdata)) (λ x h. ns_here name x h rdata)
 
 pub first_false : (a b : Bool) → a ≡ false → (a && b) ≡ false
 first_false true b e = absurd cc

@@ -3,7 +3,7 @@ use Rattle.std.proofs.Common.{◌≡◌, List, [], ◌∷◌, Bool, true, false,
 use Rattle.std.specs.declared.cmp.Ordering.{Ordering}
 use Rattle.std.specs.declared.cmp.Ordering.TheVariants.{Less, Equal, Greater}
 use Rattle.std.specs.Ordering.{is_lt, is_eq, ordering_reverse}
-use Rattle.std.specs.List.{AllByRecursion, filter, dedup, dedup_from}
+use Rattle.std.specs.List.{filter, dedup, dedup_from}
 use Rattle.std.specs.List.Sorted.{IsSorted, ties}
 use Rattle.std.specs.FinMap.{find}
 use Rattle.std.proofs.lemmas.List.Elements.{filter_agree}

@@ -1,8 +1,8 @@
 -- Places that are sorted by what stands there, and then by themselves: those where the same stands are in their own order.
-use Rattle.std.proofs.Common.{◌≡◌, ◌≢◌, ℕ, zero, suc, ◌+◌, ◌<◌, ◌≤◌, List, [], ◌∷◌, length, get_or, refl, sym, ap, subst, ◌∙◌, arith, eqb, ltb, Bool, true, false, cond, ◌&&◌}
+use Rattle.std.proofs.Common.{◌≡◌, ◌≢◌, ℕ, zero, suc, ◌+◌, ◌<◌, ◌≤◌, List, [], ◌∷◌, get_or, refl, sym, ap, subst, ◌∙◌, arith, eqb, ltb, Bool, true, false, cond, ◌&&◌}
 use native.Mathlib.Numerals.{unary_clauses, add-one}
 use Rattle.std.specs.Cmp.{IsStrictWeakOrder}
-use Rattle.std.specs.List.{AllByRecursion, All, filter, range_with_len, sum_by}
+use Rattle.std.specs.List.{AllByRecursion, filter, range_with_len, sum_by}
 use Rattle.std.specs.List.Sorted.{IsPermutation, IsSortedBy}
 use Rattle.std.proofs.lemmas.Bool.Decides.{nat_tests}
 use Rattle.std.proofs.lemmas.List.Elements.{recursion_from_All, All-from_recursion}
@@ -37,7 +37,7 @@ never m y (x ∷ xs) less all =
 once_more : (m : ℕ) (xs : List ℕ) → times m (m ∷ xs) ≡ 1 + times m xs
 once_more m xs = rw (itself m) refl
 
--- the lesser of two heads is not among the others
+-- the lesser of two prefixes is not among the others
 absent : (x y : ℕ) (xs ys : List ℕ) → x < y → AllByRecursion (λ z. y ≤ z) ys → times x (x ∷ xs) ≢ times x (y ∷ ys)
 absent x y xs ys less all e =
     let here = once_more x xs in
@@ -58,7 +58,7 @@ same_rising (x ∷ xs) [] rise also same = absurd (let e = same x in let more = 
 same_rising (x ∷ xs) (y ∷ ys) rise also same =
     is_any x y (x ∷ xs ≡ y ∷ ys)
     (λ less. absurd (absent x y xs ys less also.0 (same x)))
-    (λ e. (λ j. e j ∷ same_rising xs ys rise.1 also.1 (λ m. let heads = ap {B = ℕ} (λ z. cond (eqb z m) 1 0) e in let all = same m in omega (arith, heads, all)) j))
+    (λ e. (λ j. e j ∷ same_rising xs ys rise.1 also.1 (λ m. let prefixes = ap {B = ℕ} (λ z. cond (eqb z m) 1 0) e in let all = same m in omega (arith, prefixes, all)) j))
     (λ more. absurd (absent y x ys xs more rise.0 (sym (same y))))
 
 -- ---- those that a test passes

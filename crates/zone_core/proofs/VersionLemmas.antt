@@ -14,7 +14,7 @@ use Rattle.zone_core.specs.Serials.{serial_sum, IsLess, is_less}
 use Rattle.zone_core.specs.Sets.{Records, Key, key_of, is_same}
 use Rattle.zone_core.specs.Zones.{ZoneOf, IsZone, soa_in, serial_in, soa_at, serial_at}
 use Rattle.zone_core.specs.Updates.{UpdateOf, IsUpdate, ActsWithin}
-use Rattle.zone_core.specs.Effects.{effects, next_data, next_version, with_next, settled, zone_after}
+use Rattle.zone_core.specs.Effects.{effects, next_data, next_version, with_next, serial_advanced, zone_after}
 use Rattle.zone_core.specs.Versions.{UpdatesKeepZones}
 use Rattle.zone_core.proofs.ZoneLemmas.{Keys, Heir, keys_of, zone_of_keys, keys_soa, soa_is, effects_heir}
 
@@ -74,8 +74,8 @@ module _ (origin : List (List ℕ)) (before after : Records) (z : Keys origin be
       keys_soa origin after k (next_version soa) (record { owner = soa_record.owner; ttl = soa_record.ttl; rdata = next_is soa.rdata soa_record.rdata })
       (subst (λ (q : Key). IsWithin q.0 origin) (sym soa_key) (k.rows.owners k.soa k.soa_there)) (next_type soa.rdata ∙ soa_type) home
 
-  settled_keys : Keys origin (settled origin before after)
-  settled_keys = either (is_same before after) z (either (serial_at origin before == serial_at origin after) (rw (soa_is origin after k) next_keys.0) k)
+  advanced_keys : Keys origin (serial_advanced origin before after)
+  advanced_keys = either (is_same before after) z (either (serial_at origin before == serial_at origin after) (rw (soa_is origin after k) next_keys.0) k)
     where
       either : (b : Bool) {x y : Records} → Keys origin x → Keys origin y → Keys origin (if b then x else y)
       either true x y = x
@@ -114,4 +114,4 @@ heir_of zone update z is acts = effects_heir zone.origin zone.records (keys_of z
 pub updates_keep : UpdatesKeepZones
 updates_keep zone update z is acts =
     zone_of_keys zone.origin (zone_after zone update).records z.not_root
-    (settled_keys zone.origin zone.records (effects zone.origin zone.records update.operations) (keys_of zone.origin zone.records z) (heir_of zone update z is acts))
+    (advanced_keys zone.origin zone.records (effects zone.origin zone.records update.operations) (keys_of zone.origin zone.records z) (heir_of zone update z is acts))

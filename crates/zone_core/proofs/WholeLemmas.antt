@@ -14,12 +14,12 @@ use Rattle.dns_data.specs.Rdata.{type_of, IsRecord}
 use Rattle.dns_data.proofs.RecordOrderLemmas.{one_rank}
 use Rattle.zone_core.specs.declared.fault.ZoneFault.{ZoneFault}
 use Rattle.zone_core.specs.Sets.{Records, Key, key_of, rank_of, set_of, InOrder, IsIn, count, has, at_name, at}
-use Rattle.zone_core.specs.Zones.{IsZone, AreKept, fault_in, is_soa, is_cname, is_outside, is_twin, is_crowded}
-use Rattle.zone_core.specs.Views.{AreOfZone, set_ttl, even_rows}
+use Rattle.zone_core.specs.Zones.{IsZone, AreKept, fault_in, is_soa, is_cname, is_outside, is_of_two_cnames, is_cname_beside_other}
+use Rattle.zone_core.specs.Views.{AreOfZone, set_ttl, min_ttl_rows}
 use Rattle.zone_core.proofs.SetLemmas.{name_is, name_self, has_found, some_found, one_found, two_found}
 use Rattle.zone_core.proofs.RowLemmas.{get-set_of, found_has, found_key, in_has}
 use Rattle.zone_core.proofs.FaultLemmas.{fault_by}
-use Rattle.zone_core.proofs.EvenLemmas.{even_all, even_order, ttl_beside}
+use Rattle.zone_core.proofs.MinTtlLemmas.{min_ttl_all, min_ttl_order, ttl_beside}
 
 -- ---- tests that find nothing
 
@@ -95,8 +95,8 @@ module _ (origin : List (List ℕ)) (set : Records) (kept : AreKept set) where
       let some = else_none (count set is_soa == 0) _ _ elsewhere.1 in
       let one = else_none (nat_lt 1 (count set is_soa)) _ _ some.1 in
       let served = else_none (not (has set (at origin types.Ns))) _ _ one.1 in
-      let twin = else_none (has set (is_twin set)) _ _ served.1 in
-      let crowded = else_none (has set (is_crowded set)) _ _ twin.1 in
+      let two = else_none (has set (is_of_two_cnames set)) _ _ served.1 in
+      let cname_and_other = else_none (has set (is_cname_beside_other set)) _ _ two.1 in
       let outside : (r : Record) → IsIn r set → (not (is_within r.owner origin) ≡ false) × (((key_of r).1 == rank_of types.Ds) && same_name r.owner origin ≡ false) =
       λ r here. neither (not (is_within r.owner origin)) (((key_of r).1 == rank_of types.Ds) && same_name r.owner origin) (none_is (is_outside origin) out.0 r here) in
       let inside : (r : Record) → IsIn r set → IsWithin r.owner origin = λ r here. (is_within-Decides r.owner origin).0 (opened (is_within r.owner origin) (outside r here).0) in
@@ -121,8 +121,8 @@ module _ (origin : List (List ℕ)) (set : Records) (kept : AreKept set) where
         );
         servers = (ns.1, record { here = ns_in.1; origin = name_is ns.1.owner origin ns_both.0; type = typed types.Ns ns.1 ns_both.1 });
         cnames = λ r s here there t e.
-            let alone : nat_lt 1 (count set (at r.owner types.Cname)) ≡ false = rw (is_type types.Cname r t) at (none_is (is_twin set) twin.0 r here) in
-            let no_more : nat_lt (count set (at r.owner types.Cname)) (count set (at_name r.owner)) ≡ false = rw (is_type types.Cname r t) at (none_is (is_crowded set) crowded.0 r here) in
+            let alone : nat_lt 1 (count set (at r.owner types.Cname)) ≡ false = rw (is_type types.Cname r t) at (none_is (is_of_two_cnames set) two.0 r here) in
+            let no_more : nat_lt (count set (at r.owner types.Cname)) (count set (at_name r.owner)) ≡ false = rw (is_type types.Cname r t) at (none_is (is_cname_beside_other set) cname_and_other.0 r here) in
             same_found (at_name r.owner) (few _ _ alone no_more) r s here there (name_self r.owner) (rw e (name_self r.owner));
         owners = inside;
         signers = λ r here t. (inside r here, λ e. let both = (outside r here).1 in let f : true ≡ false = sym (both_true ((key_of r).1 == rank_of types.Ds) (same_name r.owner origin) (is_type types.Ds r t) (rw e (name_self origin))) ∙ both in cc);
@@ -184,17 +184,17 @@ module _ (origin : List (List ℕ)) (set : Records) (kept : AreKept set) where
         let one : nat_lt 1 (count set is_soa) ≡ false =
         one_passes is_soa (λ r s here there p q. zone.soa.1.alone s there (typed types.Soa s q) ∙ sym (zone.soa.1.alone r here (typed types.Soa r p))) in
         let served : has set (at origin types.Ns) ≡ true = has_found set (at origin types.Ns) (key_of zone.servers.0) zone.servers.0 (at_set origin types.Ns zone.servers.0 zone.servers.1.origin zone.servers.1.type) zone.servers.1.here in
-        let twin : has set (is_twin set) ≡ false =
-        nothing_passes (is_twin set) (λ r here p.
+        let two : has set (is_of_two_cnames set) ≡ false =
+        nothing_passes (is_of_two_cnames set) (λ r here p.
         let both = and_parts (is_cname (key_of r)) (nat_lt 1 (count set (at r.owner types.Cname))) p in
         let f : true ≡ false = sym both.1 ∙ lone r.owner in
         cc) in
-        let crowded : has set (is_crowded set) ≡ false =
-        nothing_passes (is_crowded set) (λ r here p.
+        let cname_and_other : has set (is_cname_beside_other set) ≡ false =
+        nothing_passes (is_cname_beside_other set) (λ r here p.
         let both = and_parts (is_cname (key_of r)) (nat_lt (count set (at r.owner types.Cname)) (count set (at_name r.owner))) p in
         let there = has_found set (at r.owner types.Cname) (key_of r) r (at_set r.owner types.Cname r refl (typed types.Cname r both.0)) here in
         more_than_one (count set (at r.owner types.Cname)) (count set (at_name r.owner)) (not_false (count set (at r.owner types.Cname) == 0) there) both.1 (alone_at r here both.0)) in
-        λ i. fault_by (root i) (out i) (home i) (some i) (one i) (served i) (twin i) (crowded i)
+        λ i. fault_by (root i) (out i) (home i) (some i) (one i) (served i) (two i) (cname_and_other i)
       where
         root : (length origin == 0) ≡ false
         root = positive (length origin) zone.not_root
@@ -206,13 +206,13 @@ kept_of rs all k r e =
     let found = sym (get-set_of rs k) ∙ e in
     (sym (found_key rs k r found), found_has IsRecord rs k r all found)
 
-pub even_zone : (origin : List (List ℕ)) (rs : List Record) → InOrder rs → AllByRecursion IsRecord (even_rows rs) → fault_in origin (set_of (even_rows rs)) ≡ None → AreOfZone origin (even_rows rs)
-even_zone origin rs order all none =
+pub min_ttl_zone : (origin : List (List ℕ)) (rs : List Record) → InOrder rs → AllByRecursion IsRecord (min_ttl_rows rs) → fault_in origin (set_of (min_ttl_rows rs)) ≡ None → AreOfZone origin (min_ttl_rows rs)
+min_ttl_zone origin rs order all none =
     record {
-      order = even_order rs order;
-      zone = zone_of_set origin (set_of (even_rows rs)) (kept_of (even_rows rs) all) none (λ r s here there e t.
+      order = min_ttl_order rs order;
+      zone = zone_of_set origin (set_of (min_ttl_rows rs)) (kept_of (min_ttl_rows rs) all) none (λ r s here there e t.
           let same = ttl_beside rs r s (both_true (same_name s.owner r.owner) ((key_of s).1 == (key_of r).1) (rw e (name_self r.owner)) (rw t (self (rank_of (type_of r.rdata))))) in
-          let mine = in_has (λ x. x.ttl ≡ set_ttl rs x) (even_rows rs) r (even_all rs) here in
-          let yours = in_has (λ x. x.ttl ≡ set_ttl rs x) (even_rows rs) s (even_all rs) there in
+          let mine = in_has (λ x. x.ttl ≡ set_ttl rs x) (min_ttl_rows rs) r (min_ttl_all rs) here in
+          let yours = in_has (λ x. x.ttl ≡ set_ttl rs x) (min_ttl_rows rs) s (min_ttl_all rs) there in
           yours ∙ sym same ∙ sym mine);
     }

@@ -45,7 +45,7 @@ le_then_lt : (x y z : List ℕ) → is_le (slice_cmp nat_cmp x y) ≡ true → i
 le_then_lt x y z le lt =
     by_order (slice_cmp nat_cmp x y) le
     (λ less. rw (nat_list_cmp_total.trans x y z less (is_less_than (slice_cmp nat_cmp y z) lt)) refl)
-    (λ even. rw (nat_list_cmp_total.congr x y z even) lt)
+    (λ min_rrset_ttl. rw (nat_list_cmp_total.congr x y z min_rrset_ttl) lt)
   where
     by_order : (o : Ordering) → is_le o ≡ true → (o ≡ Less → is_lt (slice_cmp nat_cmp x z) ≡ true) → (o ≡ Equal → is_lt (slice_cmp nat_cmp x z) ≡ true) → is_lt (slice_cmp nat_cmp x z) ≡ true
     by_order Less h f g = f refl

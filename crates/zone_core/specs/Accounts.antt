@@ -93,8 +93,8 @@ IsNextOf origin before after =
 
 -- What stays of the set that operations made of the one before: the set itself, where it is the one before or has another serial,
 -- and else that with the next serial (RFC 2136 section 3.6).
-abbrev pub IsSettledTo : List (List ℕ) → Records → Records → Records → Type 0
-IsSettledTo origin before made after =
+abbrev pub IsAdvancedTo : List (List ℕ) → Records → Records → Records → Type 0
+IsAdvancedTo origin before made after =
     (((made ≡ before) ⊎ (serial_at origin made ≢ serial_at origin before)) × (after ≡ made))
     ⊎ ((made ≢ before) × (serial_at origin made ≡ serial_at origin before) × IsNextOf origin made after)
 
@@ -102,7 +102,7 @@ IsSettledTo origin before made after =
 -- where that is due (RFC 2136 sections 3.4.2 and 3.6)
 abbrev pub IsMadeBy : ZoneOf → UpdateOf → ZoneOf → Type 0
 IsMadeBy zone update after =
-    (made : Records) × AreKept made × AllMake zone.origin zone.records update.operations made × IsSettledTo zone.origin zone.records made after.records
+    (made : Records) × AreKept made × AllMake zone.origin zone.records update.operations made × IsAdvancedTo zone.origin zone.records made after.records
 
 -- so it is after each update of a zone within its origin
 abbrev pub UpdatesMake : Type 0

@@ -1,10 +1,28 @@
--- What a change makes of a set of records: some go out of it, and others come.
-use Rattle.std.specs.Prelude.{◌≡◌, ◌↔◌, List, ◌++◌, true, None}
+-- Changes of a set of records: some go out of it, and others come.
+use Rattle.std.specs.Prelude.{◌≡◌, ◌↔◌, ◌==◌, ◌&&◌, List, ◌++◌, length, Bool, true, None}
 use Rattle.std.specs.List.{AllByRecursion, list_any}
 use Rattle.std.specs.FinMap.{get, entries, from_entries}
 use Rattle.dns_data.specs.declared.record.Record.{Record}
+use Rattle.zone_core.specs.declared.change.Change.{Change}
 use Rattle.zone_core.specs.Sets.{Records, key_of, same_key, keyed, listing, cut, minus, is_same, InOrder, IsIn}
 use Rattle.zone_core.specs.Zones.{AreKept}
+
+-- a change: the records that go and those that come, with their TTLs, each side in record order
+pub record ChangeOf : Type 0 where
+  pub removed : List Record
+  pub added : List Record
+
+-- what the program sees of a change
+abbrev pub change_in : Change → ChangeOf
+change_in c = record { removed = c.removed.items; added = c.added.items }
+
+-- the change from one set to another: what only the one has, or has with another TTL, goes, and what the other has so comes
+abbrev pub change_between : Records → Records → ChangeOf
+change_between before after = record { removed = listing (minus before after); added = listing (minus after before) }
+
+-- whether a change has no record
+abbrev pub is_empty : ChangeOf → Bool
+is_empty c = (length c.removed == 0) && (length c.added == 0)
 
 -- the set without these records
 abbrev pub without : Records → List Record → Records

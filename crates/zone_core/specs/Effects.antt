@@ -121,11 +121,11 @@ with_next set (Some soa) = put (cut set (at soa.owner types.Soa)) (next_version 
 
 -- The records of an origin after operations took them from one set to another: where nothing changed, TTLs counted, they are
 -- those before; where an SOA was taken its serial stands; else it is one further.
-abbrev pub settled : List (List ℕ) → Records → Records → Records
-settled origin before after =
+abbrev pub serial_advanced : List (List ℕ) → Records → Records → Records
+serial_advanced origin before after =
     if is_same before after then before
     else (if serial_at origin before == serial_at origin after then with_next after (soa_at origin after) else after)
 
 -- the zone after an update
 abbrev pub zone_after : ZoneOf → UpdateOf → ZoneOf
-zone_after zone update = record zone { records = settled zone.origin zone.records (effects zone.origin zone.records update.operations) }
+zone_after zone update = record zone { records = serial_advanced zone.origin zone.records (effects zone.origin zone.records update.operations) }

@@ -2,7 +2,7 @@ pub mod Serials
 pub mod Sets
 pub mod Faults
 pub mod Zones
-pub mod Heads
+pub mod KeyPrefixes
 pub mod Views
 pub mod Codes
 pub mod Rcodes
@@ -10,12 +10,12 @@ pub mod Updates
 pub mod Kinds
 pub mod Prerequisites
 pub mod Effects
-pub mod Sites
+pub mod Nodes
 pub mod Merges
 pub mod Changes
 pub mod Parts
 pub mod Rebuilt
-pub mod Sight
+pub mod Visibility
 pub mod Accounts
 pub mod Met
 pub mod Versions

@@ -1,6 +1,6 @@
 -- Zones as rows of records in record order.
 use Rattle.std.specs.Prelude.{◌≡◌, ◌<◌, slice_index, slice_index_or, ℕ, List, [], ◌∷◌, length, map, Bool, not, ◌&&◌, ◌||◌, ◌==◌}
-use Rattle.std.specs.List.{AllByRecursion, filter, list_any, range_with_len}
+use Rattle.std.specs.List.{filter, list_any, range_with_len}
 use Rattle.std.specs.List.Sorted.{IsPermutation}
 use Rattle.std.specs.declared.cmp.Ordering.{Ordering}
 use Rattle.std.specs.Ordering.{nat_cmp, ordering_then}
@@ -8,8 +8,8 @@ use Rattle.dns_names.specs.Order.{canonical_cmp, same_name}
 use Rattle.dns_data.specs.declared.record.Record.{Record}
 use Rattle.dns_data.specs.declared.record_type.RecordType.{RecordType}
 use Rattle.dns_data.specs.Rdata.{type_of}
-use Rattle.zone_core.specs.declared.places.Head.{Head}
-use Rattle.zone_core.specs.Heads.{no_head, head_order}
+use Rattle.zone_core.specs.declared.sorting.KeyPrefix.{KeyPrefix}
+use Rattle.zone_core.specs.KeyPrefixes.{no_prefix, prefix_order}
 use Rattle.zone_core.specs.Sets.{key_of, rank_of, record_order, set_of, InOrder}
 use Rattle.zone_core.specs.Zones.{ZoneOf, IsZone, is_soa, is_cname, beside, least_ttl}
 
@@ -35,12 +35,12 @@ advances removed added = not ((length removed == 0) && (length added == 0)) && n
 -- ---- a zone that is built
 
 -- two CNAME records of one name
-abbrev pub are_twins : Record → Record → Bool
-are_twins r s = is_cname (key_of r) && beside (key_of r) (key_of s)
+abbrev pub are_two_cnames : Record → Record → Bool
+are_two_cnames r s = is_cname (key_of r) && beside (key_of r) (key_of s)
 
 -- a CNAME and another record of its name
-abbrev pub are_crowded : Record → Record → Bool
-are_crowded r s = (is_cname (key_of r) && not (is_cname (key_of s)) || is_cname (key_of s) && not (is_cname (key_of r))) && same_name s.owner r.owner
+abbrev pub are_cname_and_other : Record → Record → Bool
+are_cname_and_other r s = (is_cname (key_of r) && not (is_cname (key_of s)) || is_cname (key_of s) && not (is_cname (key_of r))) && same_name s.owner r.owner
 
 -- the least TTL of the set of a record
 abbrev pub set_ttl : List Record → Record → ℕ
@@ -53,27 +53,27 @@ given_ttls (r ∷ rs) [] = r ∷ rs
 given_ttls (r ∷ rs) (ttl ∷ ttls) = record r { ttl = ttl } ∷ given_ttls rs ttls
 
 -- each record with the least TTL of its set
-abbrev pub even_rows : List Record → List Record
-even_rows rs = given_ttls rs (map (set_ttl rs) rs)
+abbrev pub min_ttl_rows : List Record → List Record
+min_ttl_rows rs = given_ttls rs (map (set_ttl rs) rs)
 
 -- ---- records that are put in order
 
--- the order of two places: by the heads there, where these tie by the records, and where these do by the places
-abbrev pub place_order : List Record → List Head → Record → ℕ → ℕ → Ordering
-place_order rs heads other p q =
-    ordering_then (head_order (slice_index_or heads p no_head) (slice_index_or heads q no_head))
+-- the order of two positions: by the prefixes there, then by the records, then by the positions
+abbrev pub position_order : List Record → List KeyPrefix → Record → ℕ → ℕ → Ordering
+position_order rs prefixes other p q =
+    ordering_then (prefix_order (slice_index_or prefixes p no_prefix) (slice_index_or prefixes q no_prefix))
     (ordering_then (record_order (slice_index_or rs p other) (slice_index_or rs q other)) (nat_cmp p q))
 
--- the numbers below another, each once, in some order
-abbrev pub ArePlaces : ℕ → List ℕ → Type 0
-ArePlaces n places = IsPermutation (range_with_len 0 n) places
+-- the positions below a length, each once, in some order
+abbrev pub ArePositions : ℕ → List ℕ → Type 0
+ArePositions n positions = IsPermutation (range_with_len 0 n) positions
 
--- for each place the one that has it as its source
+-- for each position the one that has it as its source
 abbrev pub AreInverse : List ℕ → List ℕ → Type 0
-AreInverse sources places =
-    (length places ≡ length sources)
-    × ((i : ℕ) → i < length sources → (slice_index sources i < length sources) × (slice_index places (slice_index sources i) ≡ i))
+AreInverse sources positions =
+    (length positions ≡ length sources)
+    × ((i : ℕ) → i < length sources → (slice_index sources i < length sources) × (slice_index positions (slice_index sources i) ≡ i))
 
--- the records that stand at places, in their order
+-- the records at positions, in their order
 abbrev pub AreTaken : List Record → List ℕ → List Record → Type 0
 AreTaken rs sources rows = (length rows ≡ length sources) × ((i : ℕ) (d : Record) → i < length sources → slice_index_or rows i d ≡ slice_index_or rs (slice_index sources i) d)

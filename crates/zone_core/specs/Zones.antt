@@ -74,12 +74,12 @@ abbrev pub beside : Key → Key → Bool
 beside k other = same_name other.0 k.0 && (other.1 == k.1)
 
 -- a record with the least TTL of its set
-abbrev pub even : Records → Key × Record → Key × Record
-even set e = (e.0, record e.1 { ttl = least_ttl (listing (part set (beside e.0))) })
+abbrev pub min_rrset_ttl : Records → Key × Record → Key × Record
+min_rrset_ttl set e = (e.0, record e.1 { ttl = least_ttl (listing (part set (beside e.0))) })
 
 -- each set with its least TTL (RFC 2181 section 5.2)
-abbrev pub evened : Records → Records
-evened set = from_entries (map (even set) (entries set))
+abbrev pub min_rrset_ttls : Records → Records
+min_rrset_ttls set = from_entries (map (min_rrset_ttl set) (entries set))
 
 -- a key of an SOA
 abbrev pub is_soa : Key → Bool
@@ -94,12 +94,12 @@ abbrev pub is_outside : List (List ℕ) → Key → Bool
 is_outside origin k = not (is_within k.0 origin) || (k.1 == rank_of types.Ds) && same_name k.0 origin
 
 -- a CNAME beside another
-abbrev pub is_twin : Records → Key → Bool
-is_twin set k = is_cname k && nat_lt 1 (count set (at k.0 types.Cname))
+abbrev pub is_of_two_cnames : Records → Key → Bool
+is_of_two_cnames set k = is_cname k && nat_lt 1 (count set (at k.0 types.Cname))
 
 -- a CNAME beside a record of another type
-abbrev pub is_crowded : Records → Key → Bool
-is_crowded set k = is_cname k && nat_lt (count set (at k.0 types.Cname)) (count set (at_name k.0))
+abbrev pub is_cname_beside_other : Records → Key → Bool
+is_cname_beside_other set k = is_cname k && nat_lt (count set (at k.0 types.Cname)) (count set (at_name k.0))
 
 -- What is wrong with a set of records as a zone, the first of: the origin is the root; an owner is outside the origin, or
 -- that of a DS is not below it; an SOA stands elsewhere; there is no SOA; there are several; there is no NS at the origin;
@@ -112,8 +112,8 @@ fault_in origin set =
     else (if count set is_soa == 0 then Some NoSoa
     else (if nat_lt 1 (count set is_soa) then Some TwoSoa
     else (if not (has set (at origin types.Ns)) then Some NoOriginNs
-    else (if has set (is_twin set) then Some TwoCnames
-    else (if has set (is_crowded set) then Some CnameAndOther else None)))))))
+    else (if has set (is_of_two_cnames set) then Some TwoCnames
+    else (if has set (is_cname_beside_other set) then Some CnameAndOther else None)))))))
 
 -- the zone of a set, unless something is wrong with it
 abbrev pub unless_fault : List (List ℕ) → Records → Option ZoneFault → Result ZoneOf ZoneFault
@@ -122,11 +122,11 @@ unless_fault origin set (Some fault) = Err fault
 
 -- the zone of an origin and records: a repeated record with its last TTL, and then each set with its least
 abbrev pub built : List (List ℕ) → List Record → Result ZoneOf ZoneFault
-built origin rs = unless_fault origin (evened (latest rs)) (fault_in origin (evened (latest rs)))
+built origin rs = unless_fault origin (min_rrset_ttls (latest rs)) (fault_in origin (min_rrset_ttls (latest rs)))
 
 -- the zone that records of an origin would be
 abbrev pub zone_of : List (List ℕ) → List Record → ZoneOf
-zone_of origin rs = record { origin = origin; records = evened (latest rs) }
+zone_of origin rs = record { origin = origin; records = min_rrset_ttls (latest rs) }
 
 -- ---- its SOA
 

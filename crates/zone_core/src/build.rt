@@ -5,13 +5,13 @@ ghost use Rattle.std.specs.List.{list_all, list_any, position, position_or_len};
 ghost use Rattle.dns_names.specs.Labels.{is_within};
 ghost use Rattle.zone_core.specs.Faults.{Gives};
 ghost use Rattle.zone_core.specs.Sets.{key_of, set_of, count, at_name, InOrder};
-ghost use Rattle.zone_core.specs.Heads.{HaveStem};
-ghost use Rattle.zone_core.specs.Views.{set_ttl, given_ttls, even_rows, are_twins, are_crowded};
-ghost use Rattle.zone_core.specs.Zones.{IsZone, built, latest, zone_of, least_below, beside, fault_in, is_outside, is_soa, is_cname, is_twin, is_crowded};
+ghost use Rattle.zone_core.specs.KeyPrefixes.{ShareOctets};
+ghost use Rattle.zone_core.specs.Views.{set_ttl, given_ttls, min_ttl_rows, are_two_cnames, are_cname_and_other};
+ghost use Rattle.zone_core.specs.Zones.{IsZone, built, latest, zone_of, least_below, beside, fault_in, is_outside, is_soa, is_cname, is_of_two_cnames, is_cname_beside_other};
 
 use crate::fault::ZoneFault;
-use crate::notes::notes_records;
 use crate::rows::{has_set, has_type, in_order_behind};
+use crate::validity::records_are_valid;
 use crate::zone::Zone;
 use dns_data::{Record, RecordType, Ttl};
 use dns_names::Name;
@@ -31,8 +31,8 @@ impl Zone {
         // Which zone it is, or which refusal.
         ensures exact { Gives (λ zone. zone) result (built origin records.items) }
     {
-        let records = even(alloc, latest_rows(alloc, &origin, records)?)?;
-        notes_records(&records);
+        let records = min_rrset_ttl(alloc, latest_rows(alloc, &origin, records)?)?;
+        records_are_valid(&records);
         match fault_in(&origin, &records) {
             Some(fault) => Err(fault),
             None => Ok(Zone::of_rows(origin, records)),
@@ -48,8 +48,8 @@ fn all_within(origin: &Name, records: &[Record]) -> bool
 }
 
 /// How many octets the keys of all owners begin with that are the same: those of the origin's, where all are within it.
-fn stem_of(origin: &Name, records: &[Record]) -> usize
-    ensures { HaveStem result records.now }
+fn shared_of(origin: &Name, records: &[Record]) -> usize
+    ensures { ShareOctets result records.now }
 {
     if all_within(origin, records) {
         origin.key().len()
@@ -76,14 +76,14 @@ fn latest_rows(
     ensures set { IfOk result (λ rows. set_of rows.items ≡ latest records.items) }
 {
     let records = reversed(records);
-    let stem = stem_of(origin, &records);
-    in_order_behind(alloc, records, stem)
+    let shared = shared_of(origin, &records);
+    in_order_behind(alloc, records, shared)
 }
 
 /// The records, each with the least TTL of its set.
-fn even(alloc: Global, records: Vec<Record>) -> Result<Vec<Record>, AllocError>
+fn min_rrset_ttl(alloc: Global, records: Vec<Record>) -> Result<Vec<Record>, AllocError>
     requires { InOrder records.items }
-    ensures { IfOk result (λ rows. rows.items ≡ even_rows records.items) }
+    ensures { IfOk result (λ rows. rows.items ≡ min_ttl_rows records.items) }
 {
     let ttls = set_ttls(alloc, &records)?;
     Ok(with_ttls(records, &ttls))
@@ -179,9 +179,9 @@ fn fault_in(origin: &Name, records: &[Record]) -> Option<ZoneFault>
         Some(ZoneFault::TwoSoa)
     } else if !has_set(records, origin, RecordType::Ns) {
         Some(ZoneFault::NoOriginNs)
-    } else if some_twin(records) {
+    } else if has_two_cnames(records) {
         Some(ZoneFault::TwoCnames)
-    } else if some_crowded(records) {
+    } else if has_cname_and_other(records) {
         Some(ZoneFault::CnameAndOther)
     } else {
         None
@@ -240,19 +240,19 @@ fn soas(records: &[Record]) -> usize
 }
 
 /// Whether two records are CNAME records of one name.
-fn are_twins(first: &Record, second: &Record) -> bool
-    ensures { result ≡ are_twins first.now second.now }
+fn are_two_cnames(first: &Record, second: &Record) -> bool
+    ensures { result ≡ are_two_cnames first.now second.now }
 {
     has_type(first, RecordType::Cname) && are_beside(first, second)
 }
 
 /// Whether a name has two CNAME records, which then follow each other.
-fn some_twin(records: &[Record]) -> bool
+fn has_two_cnames(records: &[Record]) -> bool
     requires { InOrder records.now }
-    ensures { result ≡ list_any (λ r. is_twin (set_of records.now) (key_of r)) records.now }
+    ensures { result ≡ list_any (λ r. is_of_two_cnames (set_of records.now) (key_of r)) records.now }
 {
     for i in 1..records.len() {
-        if are_twins(&records[i - 1], &records[i]) {
+        if are_two_cnames(&records[i - 1], &records[i]) {
             return true;
         }
     }
@@ -267,19 +267,19 @@ fn is_only_cname(first: &Record, second: &Record) -> bool
 }
 
 /// Whether two records are of one name, and only one of them is a CNAME.
-fn are_crowded(first: &Record, second: &Record) -> bool
-    ensures { result ≡ are_crowded first.now second.now }
+fn are_cname_and_other(first: &Record, second: &Record) -> bool
+    ensures { result ≡ are_cname_and_other first.now second.now }
 {
     (is_only_cname(first, second) || is_only_cname(second, first)) && second.owner == first.owner
 }
 
 /// Whether a name has a CNAME and another record, of which two then follow each other.
-fn some_crowded(records: &[Record]) -> bool
+fn has_cname_and_other(records: &[Record]) -> bool
     requires { InOrder records.now }
-    ensures { result ≡ list_any (λ r. is_crowded (set_of records.now) (key_of r)) records.now }
+    ensures { result ≡ list_any (λ r. is_cname_beside_other (set_of records.now) (key_of r)) records.now }
 {
     for i in 1..records.len() {
-        if are_crowded(&records[i - 1], &records[i]) {
+        if are_cname_and_other(&records[i - 1], &records[i]) {
             return true;
         }
     }

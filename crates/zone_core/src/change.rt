@@ -1,25 +1,73 @@
-//! What operations change in a zone: the records that they take away, and those that they bring.
+//! Changes of a zone: the records that go, and those that come. An update, a delegation, another zone of the same origin: each is
+//! made by its change.
 
 ghost use Rattle.std.specs.Prelude.{◌≡◌, IfOk};
 ghost use Rattle.std.specs.List.{list_any};
 ghost use Rattle.dns_names.specs.Order.{same_name};
 ghost use Rattle.zone_core.specs.Sets.{set_of, part, minus, at_name, InOrder, AreRows};
-ghost use Rattle.zone_core.specs.Updates.{acted_name};
-ghost use Rattle.zone_core.specs.Effects.{effects};
-ghost use Rattle.zone_core.specs.Sites.{Grows};
+ghost use Rattle.zone_core.specs.Updates.{acted_name, ActsWithin};
+ghost use Rattle.zone_core.specs.Effects.{effects, zone_after};
+ghost use Rattle.zone_core.specs.Nodes.{Grows};
+ghost use Rattle.zone_core.specs.Changes.{change_in, change_between, is_empty};
 
 use crate::effect::effects;
-use crate::rows::{at_name, copied, in_order, with_difference};
-use crate::update::Operation;
+use crate::rows::{at_name, copied, difference, in_order, with_difference};
+use crate::serial_advance::update_change;
+use crate::update::{Operation, Update};
+use crate::zone::Zone;
 use dns_data::Record;
 use dns_names::Name;
 use std::alloc::{AllocError, Global};
 
-/// Records that are taken away from a zone, and records that are brought, each with its TTL.
+/// A change of a zone. A record whose TTL changes goes with the one and comes with the other.
 #[derive(Drop)]
-pub(crate) struct Change {
-    pub(crate) removed: Vec<Record>,
-    pub(crate) added: Vec<Record>,
+pub struct Change {
+    /// The records that go, in record order.
+    pub removed: Vec<Record>,
+    /// The records that come, in record order.
+    pub added: Vec<Record>,
+}
+
+impl Change {
+    /// The change from some records to others. The only error is out of memory.
+    pub fn between(alloc: Global, before: &[Record], after: &[Record]) -> Result<Change, AllocError>
+        // Both are in record order, without repetition.
+        requires before { InOrder before.now }
+        requires after { InOrder after.now }
+        ensures { IfOk result (λ c. change_in c ≡ change_between (set_of before.now) (set_of after.now)) }
+    {
+        Ok(Change {
+            removed: difference(alloc, before, after)?,
+            added: difference(alloc, after, before)?,
+        })
+    }
+
+    /// The change that an update makes in a zone: its operations in order, each by its rule (RFC 2136 section 3.4.2), and the
+    /// advance of the serial where something changes and no operation replaces the SOA (section 3.6). The names of the operations
+    /// are within the origin, which `Update::outside` tests. The only error is out of memory.
+    pub fn of_update(alloc: Global, zone: &Zone, update: &Update) -> Result<Change, AllocError>
+        requires { ActsWithin zone.now.origin update.now }
+        ensures { IfOk result (λ c. change_in c ≡ change_between zone.now.records (zone_after zone.now update.now).records) }
+    {
+        update_change(alloc, zone, update)
+    }
+
+    /// Whether no record goes and none comes.
+    pub fn is_empty(&self) -> bool
+        ensures { result ≡ is_empty (change_in self.now) }
+    {
+        self.removed.is_empty() && self.added.is_empty()
+    }
+
+    /// An equal change in memory of its own. The only error is out of memory.
+    pub fn try_copy(&self, alloc: Global) -> Result<Change, AllocError>
+        ensures { IfOk result (λ copy. change_in copy ≡ change_in self.now) }
+    {
+        Ok(Change {
+            removed: copied(alloc, &self.removed)?,
+            added: copied(alloc, &self.added)?,
+        })
+    }
 }
 
 /// What operations change in a zone of this origin, whose records stand in record order; each side in that order. The only

@@ -2,7 +2,7 @@
 
 ghost use Rattle.std.specs.Prelude.{◌≡◌, ℕ, List, Bool, true};
 ghost use Rattle.zone_core.specs.Parts.{VerdictsReadTheirNames, OperationsReadTheirNames, UpdatesNeedTheirPart};
-ghost use Rattle.zone_core.specs.Sight.{VerdictsLookAlike, UpdatesLookAlike, QuietUpdatesLookAlike, ListingsLookAlike, PartsLookAlike, ChangesLookAlike, QuietChangesShowNothing};
+ghost use Rattle.zone_core.specs.Visibility.{VerdictsAreIndistinguishable, UpdatesStayIndistinguishable, InvisibleUpdatesAreIndistinguishable, ListingsAreIndistinguishable, PartsAreIndistinguishable, ChangesAreIndistinguishable, InvisibleChangesShowNothing};
 ghost use Rattle.zone_core.specs.Accounts.{UpdatesLeave, UpdatesMake};
 ghost use Rattle.zone_core.specs.Changes.{ChangesMake, SameSetsAreOne};
 ghost use Rattle.zone_core.specs.Rebuilt.{ZonesAreRebuilt};
@@ -69,34 +69,34 @@ pub fn updates_advance_serials()
     ensures { UpdatesAdvance }
 {}
 
-/// Whoever sees only the records at some names, and of the SOA at the origin only whether there is one, learns nothing of the
-/// rest of a zone from prerequisites that test these names: two zones that look alike there answer them alike.
-pub fn verdicts_look_alike()
-    ensures { (seen : List (List ℕ) → Bool) → VerdictsLookAlike (λ name. seen name ≡ true) }
+/// Prerequisites that test some names tell nothing of the rest of a zone: two zones that have the same records at these names, the
+/// SOA at the origin aside, answer them alike.
+pub fn verdicts_are_indistinguishable()
+    ensures { (seen : List (List ℕ) → Bool) → VerdictsAreIndistinguishable (λ name. seen name ≡ true) }
 {}
 
-/// Two zones that look alike at some names look alike there after the same update at these names, whatever else they have.
-pub fn updates_look_alike()
-    ensures { (seen : List (List ℕ) → Bool) → UpdatesLookAlike (λ name. seen name ≡ true) }
+/// Two zones that are indistinguishable at some names stay so under the same update at these names.
+pub fn updates_stay_indistinguishable()
+    ensures { (seen : List (List ℕ) → Bool) → UpdatesStayIndistinguishable (λ name. seen name ≡ true) }
 {}
 
-/// A zone looks the same at some names after an update that acts at other names alone, or that sets its SOA too.
-pub fn quiet_updates_look_alike()
-    ensures { (seen : List (List ℕ) → Bool) → QuietUpdatesLookAlike (λ name. seen name ≡ true) }
+/// A zone is the same at some names after an update that acts at other names only, or that adds an SOA at the origin too.
+pub fn invisible_updates_are_indistinguishable()
+    ensures { (seen : List (List ℕ) → Bool) → InvisibleUpdatesAreIndistinguishable (λ name. seen name ≡ true) }
 {}
 
-/// Lists of the records at some names, without the SOA at the origin, are equal for two zones that look alike there; and so are
+/// Lists of the records at some names, without the SOA at the origin, are equal for two zones that are indistinguishable there; and so are
 /// those of a part of each.
-pub fn listings_look_alike()
-    ensures whole { (seen : List (List ℕ) → Bool) → ListingsLookAlike (λ name. seen name ≡ true) }
-    ensures part { (seen : List (List ℕ) → Bool) → PartsLookAlike (λ name. seen name ≡ true) }
+pub fn listings_are_indistinguishable()
+    ensures whole { (seen : List (List ℕ) → Bool) → ListingsAreIndistinguishable (λ name. seen name ≡ true) }
+    ensures part { (seen : List (List ℕ) → Bool) → PartsAreIndistinguishable (λ name. seen name ≡ true) }
 {}
 
-/// Changes show of the records at some names, without the SOA at the origin, the same for zones that look alike there before and
-/// after; and nothing where the zone after looks like the zone before.
-pub fn changes_look_alike()
-    ensures alike { (seen : List (List ℕ) → Bool) → ChangesLookAlike (λ name. seen name ≡ true) }
-    ensures quiet { (seen : List (List ℕ) → Bool) → QuietChangesShowNothing (λ name. seen name ≡ true) }
+/// Changes show of the records at some names, without the SOA at the origin, the same for zones that are indistinguishable there
+/// before and after; and nothing where the zone after is indistinguishable from the zone before.
+pub fn changes_are_indistinguishable()
+    ensures alike { (seen : List (List ℕ) → Bool) → ChangesAreIndistinguishable (λ name. seen name ≡ true) }
+    ensures invisible { (seen : List (List ℕ) → Bool) → InvisibleChangesShowNothing (λ name. seen name ≡ true) }
 {}
 
 /// What two zones differ in fits the one, and made to it, it gives the other.

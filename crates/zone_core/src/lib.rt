@@ -10,32 +10,33 @@ mod fault;
 mod kind;
 mod laws;
 mod merge;
-mod notes;
 mod outcome;
-mod places;
 mod rcode;
 mod report;
 mod rows;
 mod serial;
-mod settle;
+mod serial_advance;
+mod sorting;
 mod update;
+mod validity;
 mod verdict;
 mod zone;
 
+pub use change::Change;
 pub use delegation::{ChildServer, DelegationRequest, delegation_update};
 pub use fault::{DelegationFault, UpdateFault, ZoneFault};
 pub use kind::{OperationKind, PrerequisiteKind};
 pub use laws::{
-    changes_look_alike, changes_make_the_zone_after, equal_sets_are_one, equal_updates_are_one,
-    listings_look_alike, operations_read_their_names, outsides_are_first, quiet_updates_look_alike,
-    reports_are_exact, updates_advance_serials, updates_keep_zones, updates_leave_records,
-    updates_look_alike, updates_make_records, updates_need_their_part, verdicts_are_first_unmet,
-    verdicts_look_alike, verdicts_read_their_names, zones_are_built_of_their_records,
+    changes_are_indistinguishable, changes_make_the_zone_after, equal_sets_are_one,
+    equal_updates_are_one, invisible_updates_are_indistinguishable, listings_are_indistinguishable,
+    operations_read_their_names, outsides_are_first, reports_are_exact, updates_advance_serials,
+    updates_keep_zones, updates_leave_records, updates_make_records, updates_need_their_part,
+    updates_stay_indistinguishable, verdicts_are_first_unmet, verdicts_are_indistinguishable,
+    verdicts_read_their_names, zones_are_built_of_their_records,
 };
 pub use outcome::{Outcome, apply, apply_owned};
 pub use rcode::Rcode;
 pub use report::{DelegatedServer, Delegation, Glue, cuts, delegation_report};
-pub use rows::difference;
 pub use serial::{serial_add, serial_less};
 pub use update::{ItemList, Operation, Place, Prerequisite, Update};
 pub use verdict::{Failed, holds};

@@ -8,7 +8,7 @@ ghost use Rattle.zone_core.specs.Zones.{IsZone};
 ghost use Rattle.zone_core.specs.Accounts.{Leaves};
 ghost use Rattle.zone_core.specs.Versions.{Advances};
 
-use crate::settle::update_change;
+use crate::serial_advance::update_change;
 use crate::update::Update;
 use crate::zone::Zone;
 use dns_data::Record;
@@ -58,7 +58,7 @@ pub fn apply_owned(alloc: Global, zone: Zone, update: &Update) -> Result<Outcome
     ensures added { IfOk result (λ o. AreRows o.added.items (minus o.zone.records zone.records)) }
 {
     let change = update_change(alloc, &zone, update)?;
-    let after = zone.changed(alloc, &change.removed, &change.added)?;
+    let after = zone.changed(alloc, &change)?;
     Ok(Outcome {
         zone: after,
         removed: change.removed,

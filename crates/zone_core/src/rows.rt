@@ -8,10 +8,10 @@ ghost use Rattle.std.specs.List.{filter};
 ghost use Rattle.std.specs.List.Sorted.{IsSorted};
 ghost use Rattle.zone_core.specs.Sets.{key_of, rank_of, set_of, record_order, same_ttl, has, minus, InOrder, AreRows, at_name, at, within};
 ghost use Rattle.zone_core.specs.Prerequisites.{same_data};
-ghost use Rattle.zone_core.specs.Heads.{HaveStem};
+ghost use Rattle.zone_core.specs.KeyPrefixes.{ShareOctets};
 ghost use Rattle.zone_core.specs.Views.{set_order};
 
-use crate::places::{arranged, sources};
+use crate::sorting::{arranged, sources};
 use dns_data::{Data, Record, RecordType, data_order, record_order};
 use dns_names::Name;
 use std::alloc::{AllocError, Global};
@@ -103,19 +103,19 @@ pub(crate) fn copied(alloc: Global, records: &[Record]) -> Result<Vec<Record>, A
     Ok(copies)
 }
 
-/// The records in record order, and of those that are the same the first. The stem is how many octets the keys of all owners begin
-/// with that are the same. The only error is want of memory.
+/// The records in record order, and of those that are the same the first. The keys of all owners begin with the same
+/// octets, `shared` in number. The only error is want of memory.
 pub(crate) fn in_order_behind(
     alloc: Global,
     records: Vec<Record>,
-    stem: usize,
+    shared: usize,
 ) -> Result<Vec<Record>, AllocError>
-    requires { HaveStem stem records.items }
+    requires { ShareOctets shared records.items }
     ensures order { IfOk result (λ rows. InOrder rows.items) }
     ensures set { IfOk result (λ rows. set_of rows.items ≡ set_of records.items) }
 {
-    let places = sources(alloc, &records, stem)?;
-    let rows = arranged(alloc, records, places)?;
+    let positions = sources(alloc, &records, shared)?;
+    let rows = arranged(alloc, records, positions)?;
     Ok(once(rows))
 }
 
@@ -190,7 +190,7 @@ pub(crate) fn with_difference(
 }
 
 /// Copies of the records of a row that another has not, or has with other TTLs, in record order. The only error is want of memory.
-pub fn difference(
+pub(crate) fn difference(
     alloc: Global,
     records: &[Record],
     others: &[Record],

@@ -6,8 +6,8 @@ ghost use Rattle.dns_names.specs.Labels.{is_within};
 ghost use Rattle.zone_core.specs.Updates.{tested_name, acted_name, adds_soa, update_of, IsUpdate, ActsWithin, first_outside, same_update};
 
 use crate::fault::UpdateFault;
-use crate::notes::{notes_operations, notes_prerequisites};
 use crate::rows::has_type;
+use crate::validity::{operations_are_valid, prerequisites_are_valid};
 use dns_data::{Data, Record, RecordType};
 use dns_names::Name;
 use std::alloc::{AllocError, Global};
@@ -182,8 +182,8 @@ impl Update {
         if soas_added(&operations) > 1 {
             return Err(UpdateFault::TwoSoa);
         }
-        notes_prerequisites(&prerequisites);
-        notes_operations(&operations);
+        prerequisites_are_valid(&prerequisites);
+        operations_are_valid(&operations);
         Ok(Update {
             prerequisites,
             operations,

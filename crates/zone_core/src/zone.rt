@@ -7,6 +7,7 @@ ghost use Rattle.zone_core.specs.Views.{zone_in, AreOfZone};
 ghost use Rattle.zone_core.specs.Parts.{part_of, at_names};
 ghost use Rattle.zone_core.specs.Changes.{changed, FitsIn};
 
+use crate::change::Change;
 use crate::merge::{merged, with_copies};
 use crate::rows;
 use dns_data::{Data, Record, RecordType};
@@ -110,7 +111,7 @@ impl Zone {
     }
 
     /// The records of a set: those of this owner and type, in record order.
-    pub fn record_set(&self, name: &Name, record_type: RecordType) -> &[Record]
+    pub fn rrset(&self, name: &Name, record_type: RecordType) -> &[Record]
         ensures { result.now ≡ listing (part self.now.records (at name.now record_type)) }
     {
         rows::of_set(&self.records, name, record_type)
@@ -136,30 +137,16 @@ impl Zone {
         Ok(Zone::of_rows(origin, rows::in_order(alloc, records)?))
     }
 
-    /// The records of this zone that another has not, or has with another TTL, in record order, in memory of their own. The only
-    /// error is want of memory.
-    pub fn minus(&self, alloc: Global, other: &Zone) -> Result<Vec<Record>, AllocError>
-        ensures { IfOk result (λ records. AreRows records.items (minus self.now.records other.now.records)) }
-    {
-        let records = rows::with_difference(alloc, Vec::new(alloc), &self.records, &other.records)?;
-        Ok(records)
-    }
-
-    /// The zone with a change made: without some of its records, and with others. The only error is want of memory.
-    pub fn changed(
-        self,
-        alloc: Global,
-        removed: &[Record],
-        added: &[Record],
-    ) -> Result<Zone, AllocError>
-        // The records that go are in the zone, and in the place of those that come nothing is left; each side stands in record order.
-        requires fits { FitsIn self.records removed.now added.now }
+    /// The zone with a change made. The only error is want of memory.
+    pub fn changed(self, alloc: Global, change: &Change) -> Result<Zone, AllocError>
+        // The records that go are in the zone, and in the place of those that come nothing is left; each side is in record order.
+        requires fits { FitsIn self.records change.now.removed.items change.now.added.items }
         // What comes of it is a zone.
-        requires zone { IsZone (record self { records = changed self.records removed.now added.now }) }
-        ensures { IfOk result (λ zone. zone ≡ record self { records = changed self.records removed.now added.now }) }
+        requires zone { IsZone (record self { records = changed self.records change.now.removed.items change.now.added.items }) }
+        ensures { IfOk result (λ zone. zone ≡ record self { records = changed self.records change.now.removed.items change.now.added.items }) }
     {
         let (origin, rows) = self.into_parts();
-        let rows = merged(alloc, rows, removed, added)?;
+        let rows = merged(alloc, rows, &change.removed, &change.added)?;
         Ok(Zone::of_rows(origin, rows))
     }
 

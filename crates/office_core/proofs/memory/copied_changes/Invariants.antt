@@ -1,5 +1,5 @@
 use Rattle.std.proofs.Common.{◌≡◌, map, take}
-use Rattle.office_core.specs.Tables.{change_in}
+use Rattle.zone_core.specs.Changes.{change_in}
 use Rattle.office_core.proofs.memory.copied_changes.Given as goal
 
 abbrev pub invariant-loop-change : goal.invariant-loop-change

@@ -4,7 +4,7 @@ use Rattle.dns_data.specs.declared.record.Record.{Record}
 use Rattle.zone_core.specs.Sets.{key_of}
 use Rattle.zone_core.specs.Views.{set_ttl}
 use Rattle.zone_core.specs.Zones.{beside}
-use Rattle.zone_core.proofs.EvenLemmas.{known_before, ttl_beside}
+use Rattle.zone_core.proofs.MinTtlLemmas.{known_before, ttl_beside}
 use Rattle.zone_core.proofs.RangeLemmas.{rest_is}
 use Rattle.zone_core.proofs.BesideLemmas.{set_from}
 use Rattle.zone_core.proofs.build.set_ttl.Goals as goal

@@ -1,6 +1,6 @@
 use Rattle.std.proofs.Common.{◌∙◌}
 use Rattle.zone_core.specs.Views.{set_ttl}
-use Rattle.zone_core.proofs.EvenLemmas.{one_of, known_more}
+use Rattle.zone_core.proofs.MinTtlLemmas.{one_of, known_more}
 use Rattle.zone_core.proofs.build.set_ttls.Goals as goal
 
 pub loop-i-preserved : goal.loop-i-preserved

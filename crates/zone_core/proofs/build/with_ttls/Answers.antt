@@ -1,5 +1,5 @@
 use Rattle.std.proofs.Common.{rules}
-use Rattle.zone_core.proofs.EvenLemmas.{given_none, given_more}
+use Rattle.zone_core.proofs.MinTtlLemmas.{given_none, given_more}
 use Rattle.zone_core.proofs.build.with_ttls.Goals as goal
 
 pub loop-i-init : goal.loop-i-init

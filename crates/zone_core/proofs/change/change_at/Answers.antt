@@ -1,12 +1,12 @@
 use Rattle.std.proofs.Common.{sym, ap, subst, ◌∙◌}
 use Rattle.zone_core.specs.Sets.{set_of, part, at_name, InOrder}
 use Rattle.zone_core.specs.Effects.{effects}
-use Rattle.zone_core.specs.Sites.{IsSite, Becomes}
-use Rattle.zone_core.proofs.ChangeLemmas.{site_is, set_is, removed_here, added_here}
+use Rattle.zone_core.specs.Nodes.{IsNode, Becomes}
+use Rattle.zone_core.proofs.ChangeLemmas.{node_is, set_is, removed_here, added_here}
 use Rattle.zone_core.proofs.change.change_at.Goals as goal
 
 pub effects-requires : goal.effects-requires
-effects-requires c = subst (IsSite c.args.name.now) (sym c.in_ok-copied.ensures) (site_is c.args.name.now c.args.records.now c.requires c.at_name-before.result.now c.at_name-before.ensures)
+effects-requires c = subst (IsNode c.args.name.now) (sym c.in_ok-copied.ensures) (node_is c.args.name.now c.args.records.now c.requires c.at_name-before.result.now c.at_name-before.ensures)
 
 pub with_difference-requires : goal.with_difference-requires
 with_difference-requires c =
@@ -17,10 +17,10 @@ with_difference-requires c =
     let before = c.at_name-before.result.now in
     let becomes : Becomes n c.in_ok-after.after.items (part (effects o (set_of rs) ops) (at_name n)) =
     c.in_ok-after.ensures (set_of rs) (ap set_of c.in_ok-copied.ensures ∙ set_is n rs c.requires before c.at_name-before.ensures) in
-    subst InOrder (sym c.deref.ensures.value) becomes.site.order
+    subst InOrder (sym c.deref.ensures.value) becomes.node.order
 
 pub with_difference-requires-2 : goal.with_difference-requires-2
-with_difference-requires-2 c = (site_is c.args.name.now c.args.records.now c.requires c.at_name-before.result.now c.at_name-before.ensures).order
+with_difference-requires-2 c = (node_is c.args.name.now c.args.records.now c.requires c.at_name-before.result.now c.at_name-before.ensures).order
 
 pub returns-clause-removed : goal.returns-clause-removed
 returns-clause-removed c =

@@ -1,15 +1,15 @@
 use Rattle.std.proofs.Common.{rules, sym, subst}
 use Rattle.zone_core.specs.Sets.{set_of}
 use Rattle.zone_core.specs.Effects.{add_cname}
-use Rattle.zone_core.specs.Sites.{Becomes}
+use Rattle.zone_core.specs.Nodes.{Becomes}
 use Rattle.zone_core.proofs.RuleLemmas.{cname_ignored, cname_put}
 use Rattle.zone_core.proofs.effect.add_cname.Goals as goal
 
 pub returns-then-has_other_type : goal.returns-then-has_other_type
 returns-then-has_other_type c =
-    cname_ignored c.args.rr.now c.args.site.items c.requires.site (rw (sym c.deref.ensures.value, sym c.has_other_type.ensures) c.if-has_other_type.true)
+    cname_ignored c.args.rr.now c.args.node.items c.requires.node (rw (sym c.deref.ensures.value, sym c.has_other_type.ensures) c.if-has_other_type.true)
 
 pub returns : goal.returns
 returns c =
-    subst (λ xs. Becomes c.args.rr.now.owner xs (add_cname (set_of c.args.site.items) c.args.rr.now)) (search rules)
-    (cname_put c.args.rr.now c.args.site.items c.requires.site (rw (sym c.deref.ensures.value, sym c.has_other_type.ensures) c.if-has_other_type.false))
+    subst (λ xs. Becomes c.args.rr.now.owner xs (add_cname (set_of c.args.node.items) c.args.rr.now)) (search rules)
+    (cname_put c.args.rr.now c.args.node.items c.requires.node (rw (sym c.deref.ensures.value, sym c.has_other_type.ensures) c.if-has_other_type.false))

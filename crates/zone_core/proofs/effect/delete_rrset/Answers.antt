@@ -16,4 +16,4 @@ returns-else-eq c =
       | else-eq-via-then-eq+else-is_guarded w ↦ second_false (same_name n o) (is_guarded (rank_of t)) (sym w.is_guarded.ensures ∙ w.if-is_guarded.false)
       | else-eq-via-else-eq w ↦ first_false (same_name n o) (is_guarded (rank_of t)) (sym c.eq.ensures ∙ w.if-eq.false)
     ] in
-    rrset_cut o n c.args.site.items c.requires t c.without_type.result.items apart c.without_type.ensures
+    rrset_cut o n c.args.node.items c.requires t c.without_type.result.items apart c.without_type.ensures

@@ -6,4 +6,4 @@ use Rattle.zone_core.proofs.RetainLemmas.{retain_is}
 use Rattle.zone_core.proofs.effect.guarded.Goals as goal
 
 pub returns : goal.returns
-returns c = retain_is _ (λ (r : Record). is_guarded (key_of r).1) _ (λ x b g k. search rules) c.args.site.items c.retain.new.self.items c.retain.ensures.filtered
+returns c = retain_is _ (λ (r : Record). is_guarded (key_of r).1) _ (λ x b g k. search rules) c.args.node.items c.retain.new.self.items c.retain.ensures.filtered

@@ -12,4 +12,4 @@ returns-in-Ns c =
     let n = c.args.name.now in
     let here : same_name n o ≡ true = sym c.eq.ensures ∙ c.if-eq.true in
     let t : type_of c.args.rdata.now ≡ Ns = sym c.record_type.ensures.value ∙ c.in-Ns.is in
-    ap not (c.has_other_ns.ensures ∙ other_ns o n c.args.site.now c.requires c.args.rdata.now) ∙ ns_stays o n (set_of c.args.site.now) c.args.rdata.now here t
+    ap not (c.has_other_ns.ensures ∙ other_ns o n c.args.node.now c.requires c.args.rdata.now) ∙ ns_stays o n (set_of c.args.node.now) c.args.rdata.now here t

@@ -5,4 +5,4 @@ use Rattle.zone_core.proofs.RetainLemmas.{retain_is}
 use Rattle.zone_core.proofs.effect.without.Goals as goal
 
 pub returns : goal.returns
-returns c = retain_is _ (λ (r : Record). not (same_data c.args.rdata.now r.rdata)) _ (λ x b g k. search rules) c.args.site.items c.retain.new.self.items c.retain.ensures.filtered
+returns c = retain_is _ (λ (r : Record). not (same_data c.args.rdata.now r.rdata)) _ (λ x b g k. search rules) c.args.node.items c.retain.new.self.items c.retain.ensures.filtered

@@ -5,4 +5,4 @@ use Rattle.zone_core.proofs.RetainLemmas.{retain_is}
 use Rattle.zone_core.proofs.effect.without_type.Goals as goal
 
 pub returns : goal.returns
-returns c = retain_is _ (λ (r : Record). not ((key_of r).1 == rank_of c.args.record_type)) _ (λ x b g k. search rules) c.args.site.items c.retain.new.self.items c.retain.ensures.filtered
+returns c = retain_is _ (λ (r : Record). not ((key_of r).1 == rank_of c.args.record_type)) _ (λ x b g k. search rules) c.args.node.items c.retain.new.self.items c.retain.ensures.filtered

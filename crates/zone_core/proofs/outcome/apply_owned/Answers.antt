@@ -14,18 +14,14 @@ changed-requires-clause-fits c =
     let before = c.args.zone in
     let after : ZoneOf = zone_after before c.args.update.now in
     let made = c.in_ok-change.ensures in
-    zone_fits before after made.zone (updates_keep before c.args.update.now made.zone made.update c.requires) refl c.deref.result.now c.deref-2.result.now
-    (subst (λ rs. AreRows rs (minus before.records after.records)) (sym c.deref.ensures.value) made.removed)
-    (subst (λ rs. AreRows rs (minus after.records before.records)) (sym c.deref-2.ensures.value) made.added)
+    zone_fits before after made.zone (updates_keep before c.args.update.now made.zone made.update c.requires) refl c.in_ok-change.change.removed.items c.in_ok-change.change.added.items made.removed made.added
 
 pub changed-requires-clause-zone : goal.changed-requires-clause-zone
 changed-requires-clause-zone c =
     let before = c.args.zone in
     let after : ZoneOf = zone_after before c.args.update.now in
     let made = c.in_ok-change.ensures in
-    zone_made before after made.zone (updates_keep before c.args.update.now made.zone made.update c.requires) refl c.deref.result.now c.deref-2.result.now
-    (subst (λ rs. AreRows rs (minus before.records after.records)) (sym c.deref.ensures.value) made.removed)
-    (subst (λ rs. AreRows rs (minus after.records before.records)) (sym c.deref-2.ensures.value) made.added)
+    zone_made before after made.zone (updates_keep before c.args.update.now made.zone made.update c.requires) refl c.in_ok-change.change.removed.items c.in_ok-change.change.added.items made.removed made.added
 
 zone_is : (c : goal.In_ok-after) → c.in_ok-after.after ≡ zone_after c.args.zone c.args.update.now
 zone_is c =
@@ -33,9 +29,7 @@ zone_is c =
     let after : ZoneOf = zone_after before c.args.update.now in
     let made = c.in_ok-change.ensures in
     c.in_ok-after.ensures
-    ∙ zone_gives before after made.zone (updates_keep before c.args.update.now made.zone made.update c.requires) refl c.deref.result.now c.deref-2.result.now
-    (subst (λ rs. AreRows rs (minus before.records after.records)) (sym c.deref.ensures.value) made.removed)
-    (subst (λ rs. AreRows rs (minus after.records before.records)) (sym c.deref-2.ensures.value) made.added)
+    ∙ zone_gives before after made.zone (updates_keep before c.args.update.now made.zone made.update c.requires) refl c.in_ok-change.change.removed.items c.in_ok-change.change.added.items made.removed made.added
 
 pub returns-clause-zone : goal.returns-clause-zone
 returns-clause-zone c = zone_is c

@@ -1,7 +1,7 @@
 use Rattle.std.proofs.Common.{Some, ap, ◌∙◌}
 use Rattle.std.specs.List.{find}
 use Rattle.std.specs.Prelude.{map}
-use Rattle.office_core.specs.Tables.{change_in}
+use Rattle.zone_core.specs.Changes.{change_in}
 use Rattle.office_core.specs.Memory.{is_of, receipt_rows}
 use Rattle.office_core.proofs.MemoryLemmas.{changes_told}
 use Rattle.office_core.proofs.memory.MemTableZoneTable.changes.Goals as goal

@@ -24,7 +24,7 @@ returns-in_default-clause-made c = λ u s h.
     let old : MemoryOf = record { zones = c.self.inside.zones.items; receipts = receipt_rows c.self.inside.receipts } in
     let new : MemoryOf = record { zones = c.self.inside.zones.items; receipts = receipt_rows c.keep.new.receipts } in
     let kept = kept_rows c.self.inside.receipts c.keep.new.receipts a.caller a.id a.receipt c.in_ok-keep.ensures.kept in
-    holds_receipt old new s a c.in_default.is (one_receipt old new a.caller a.id a.receipt c.self.invariant.zones kept c.notes_receipt.ensures c.self.invariant) refl kept
+    holds_receipt old new s a c.in_default.is (one_receipt old new a.caller a.id a.receipt c.self.invariant.zones kept c.receipt_has_update.ensures c.self.invariant) refl kept
     (subst (λ q. HoldsState q s) (sym c.self.view_is) h)
 
 pub unreachable-requires : goal.unreachable-requires
@@ -48,8 +48,8 @@ changed-requires-clause-fits c =
     let place : position (is_of origin) zones ≡ Some at = sym (c.in-Some-place.ensures ∙ ap (position (is_of origin)) c.deref.ensures.value) in
     let found : find (is_of origin) zones ≡ Some held = found_at (is_of origin) zones at held place ∙ ap Some (sym c.index.ensures) in
     let fits = fits_found old a change held c.self.invariant all_fit c.in-Some.is found in
-    moved (λ z r s. FitsIn z.records r s) c.in_ok-zone.zone held.zone c.deref-2.result.now change.removed.items c.deref-3.result.now change.added.items c.in_ok-zone.ensures
-    c.deref-2.ensures.value c.deref-3.ensures.value fits.records
+    moved (λ z r s. FitsIn z.records r s) c.in_ok-zone.zone held.zone change.removed.items change.removed.items change.added.items change.added.items c.in_ok-zone.ensures
+    refl refl fits.records
 
 pub changed-requires-clause-zone : goal.changed-requires-clause-zone
 changed-requires-clause-zone c =
@@ -64,8 +64,7 @@ changed-requires-clause-zone c =
     let place : position (is_of origin) zones ≡ Some at = sym (c.in-Some-place.ensures ∙ ap (position (is_of origin)) c.deref.ensures.value) in
     let found : find (is_of origin) zones ≡ Some held = found_at (is_of origin) zones at held place ∙ ap Some (sym c.index.ensures) in
     let fits = fits_found old a change held c.self.invariant all_fit c.in-Some.is found in
-    moved (λ z r s. IsZone (record { origin = z.origin; records = changed z.records r s })) c.in_ok-zone.zone held.zone c.deref-2.result.now change.removed.items
-    c.deref-3.result.now change.added.items c.in_ok-zone.ensures c.deref-2.ensures.value c.deref-3.ensures.value
+    moved (λ z r s. IsZone (record { origin = z.origin; records = changed z.records r s })) c.in_ok-zone.zone held.zone change.removed.items change.removed.items change.added.items change.added.items c.in_ok-zone.ensures refl refl
     (fits_zone origin held change (of_origin zones origin held found) fits)
 
 pub returns-in_err-make_room-clause-failed : goal.returns-in_err-make_room-clause-failed
@@ -127,7 +126,7 @@ invariant_of-self-in_default c =
     let old : MemoryOf = record { zones = c.self.inside.zones.items; receipts = receipt_rows c.self.inside.receipts } in
     let new : MemoryOf = record { zones = c.self.inside.zones.items; receipts = receipt_rows c.keep.new.receipts } in
     one_receipt old new a.caller a.id a.receipt c.self.invariant.zones
-    (kept_rows c.self.inside.receipts c.keep.new.receipts a.caller a.id a.receipt c.in_ok-keep.ensures.kept) c.notes_receipt.ensures c.self.invariant
+    (kept_rows c.self.inside.receipts c.keep.new.receipts a.caller a.id a.receipt c.in_ok-keep.ensures.kept) c.receipt_has_update.ensures c.self.invariant
 
 pub invariant_of-self-in_err-keep-2 : goal.invariant_of-self-in_err-keep-2
 invariant_of-self-in_err-keep-2 c =
@@ -167,12 +166,12 @@ invariant_of-self-2 c =
     let changed_there : IsPutAt room after at (HoldsChange zone change) = subst (λ q. IsPutAt q after at (HoldsChange zone change)) here c.put.ensures in
     let all_items = put_items (with_items c.self.inside.zones room) c.deref_mut-2.result.now after at (HoldsChange zone change) c.put.ensures c.deref_mut-2.ensures.value in
     let is_zone = subst IsZone (sym c.in_ok-zone-2.ensures) (moved (λ z r s. IsZone (record { origin = z.origin; records = changed z.records r s })) c.in_ok-zone.zone held.zone
-    c.deref-2.result.now change.removed.items c.deref-3.result.now change.added.items c.in_ok-zone.ensures c.deref-2.ensures.value c.deref-3.ensures.value
+    change.removed.items change.removed.items change.added.items change.added.items c.in_ok-zone.ensures refl refl
     (fits_zone origin held change (of_origin zones origin held found) fits)) in
     let are_zones : EachIsZone after = made_are_zones zones room after at change zone c.self.invariant.zones with_room changed_there is_zone in
     let new : MemoryOf = record { zones = (with_items (with_items c.self.inside.zones room) after).items; receipts = receipt_rows c.keep-2.new.receipts } in
     one_receipt old new a.caller a.id a.receipt (subst EachIsZone (sym all_items) are_zones)
-    (kept_rows c.self.inside.receipts c.keep-2.new.receipts a.caller a.id a.receipt c.in_ok-keep-2.ensures.kept) c.notes_receipt.ensures c.self.invariant
+    (kept_rows c.self.inside.receipts c.keep-2.new.receipts a.caller a.id a.receipt c.in_ok-keep-2.ensures.kept) c.receipt_has_update.ensures c.self.invariant
 
 pub returns-clause-made : goal.returns-clause-made
 returns-clause-made c = λ u s h.
@@ -196,18 +195,16 @@ returns-clause-made c = λ u s h.
     let changed_there : IsPutAt room after at (HoldsChange zone change) = subst (λ q. IsPutAt q after at (HoldsChange zone change)) here c.put.ensures in
     let all_items = put_items (with_items c.self.inside.zones room) c.deref_mut-2.result.now after at (HoldsChange zone change) c.put.ensures c.deref_mut-2.ensures.value in
     let is_zone = subst IsZone (sym c.in_ok-zone-2.ensures) (moved (λ z r s. IsZone (record { origin = z.origin; records = changed z.records r s })) c.in_ok-zone.zone held.zone
-    c.deref-2.result.now change.removed.items c.deref-3.result.now change.added.items c.in_ok-zone.ensures c.deref-2.ensures.value c.deref-3.ensures.value
+    change.removed.items change.removed.items change.added.items change.added.items c.in_ok-zone.ensures refl refl
     (fits_zone origin held change (of_origin zones origin held found) fits)) in
     let are_zones : EachIsZone after = made_are_zones zones room after at change zone c.self.invariant.zones with_room changed_there is_zone in
     let inside : at < length zones = (position-Some (is_of origin) zones at held place).0 in
     let zone_is : IsChangedAt zones at change zone = λ d.
     let before : c.in_ok-zone.zone ≡ (get_or zones at d).zone = c.in_ok-zone.ensures ∙ ap (λ q. q.zone) (c.index.ensures ∙ get_or_default zones at held d inside) in
-    let gone = c.deref-2.ensures.value in
-    let come = c.deref-3.ensures.value in
-    c.in_ok-zone-2.ensures ∙ (λ i. record { origin = (before i).origin; records = changed (before i).records (gone i) (come i) }) in
+    c.in_ok-zone-2.ensures ∙ (λ i. record { origin = (before i).origin; records = changed (before i).records change.removed.items change.added.items }) in
     let new : MemoryOf = record { zones = (with_items (with_items c.self.inside.zones room) after).items; receipts = receipt_rows c.keep-2.new.receipts } in
     let kept = kept_rows c.self.inside.receipts c.keep-2.new.receipts a.caller a.id a.receipt c.in_ok-keep-2.ensures.kept in
-    let is = one_receipt old new a.caller a.id a.receipt (subst EachIsZone (sym all_items) are_zones) kept c.notes_receipt.ensures c.self.invariant in
+    let is = one_receipt old new a.caller a.id a.receipt (subst EachIsZone (sym all_items) are_zones) kept c.receipt_has_update.ensures c.self.invariant in
     holds_change old new s a change c.in-Some.is is
     (λ o. ap (λ q. held_among q o) all_items ∙ made_zones zones room after origin at change zone place with_room changed_there zone_is o)
     kept (subst (λ q. HoldsState q s) (sym c.self.view_is) h)

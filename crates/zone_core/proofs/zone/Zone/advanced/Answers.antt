@@ -6,13 +6,20 @@ use Rattle.zone_core.proofs.zone.Zone.advanced.Goals as goal
 
 pub changed-requires-clause-fits : goal.changed-requires-clause-fits
 changed-requires-clause-fits c =
-    advanced_fits c.args.self (subst IsZone c.self.view_is c.self.invariant.zone) c.soa.result.now c.soa.ensures.value c.in_ok-soa.soa c.in_ok-next.next c.in_ok-soa.ensures c.in_ok-next.ensures
+    let made = c.in_ok-change.ensures in
+    advanced_fits c.args.self (subst IsZone c.self.view_is c.self.invariant.zone) c.soa.result.now c.soa.ensures.value
+    c.in_ok-change.change.removed.items c.in_ok-change.change.added.items made.removed made.added
 
 pub changed-requires-clause-zone : goal.changed-requires-clause-zone
 changed-requires-clause-zone c =
-    advanced_made c.args.self (subst IsZone c.self.view_is c.self.invariant.zone) c.soa.result.now c.soa.ensures.value c.in_ok-soa.soa c.in_ok-next.next c.in_ok-soa.ensures c.in_ok-next.ensures
+    let made = c.in_ok-change.ensures in
+    advanced_made c.args.self (subst IsZone c.self.view_is c.self.invariant.zone) c.soa.result.now c.soa.ensures.value
+    c.in_ok-change.change.removed.items c.in_ok-change.change.added.items made.removed made.added
 
 pub returns : goal.returns
 returns c =
-    let gives = advanced_gives c.args.self (subst IsZone c.self.view_is c.self.invariant.zone) c.soa.result.now c.soa.ensures.value c.in_ok-soa.soa c.in_ok-next.next c.in_ok-soa.ensures c.in_ok-next.ensures in
+    let made = c.in_ok-change.ensures in
+    let gives =
+    advanced_gives c.args.self (subst IsZone c.self.view_is c.self.invariant.zone) c.soa.result.now c.soa.ensures.value
+    c.in_ok-change.change.removed.items c.in_ok-change.change.added.items made.removed made.added in
     IfOk-weaker c.changed.result _ (λ zone. zone ≡ advanced c.args.self) (λ zone e. e ∙ gives) c.changed.ensures

@@ -1,6 +1,6 @@
 use Rattle.std.proofs.Common.{◌≡◌, subst, Some, rules}
 use Rattle.zone_core.specs.Zones.{ZoneOf, IsSoaOf, soa_at}
-use Rattle.zone_core.proofs.HeadLemmas.{some_row, front_is, soa_first}
+use Rattle.zone_core.proofs.SoaFirstLemmas.{some_row, front_is, soa_first}
 use Rattle.zone_core.proofs.zone.Zone.soa.Goals as goal
 
 pub index-requires : goal.index-requires

@@ -1,6 +1,0 @@
-use Rattle.std.proofs.Common.{take}
-use Rattle.office_core.specs.Runs.{HaveUpdates}
-use Rattle.office_core.proofs.runs.notes_calls.Given as goal
-
-abbrev pub invariant-loop-call : goal.invariant-loop-call
-invariant-loop-call l = HaveUpdates (take l.call-index l.calls)

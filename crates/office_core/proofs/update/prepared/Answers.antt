@@ -1,0 +1,13 @@
+use Rattle.std.proofs.Common.{option_map, ◌∙◌}
+use Rattle.zone_core.specs.Changes.{change_in}
+use Rattle.office_core.specs.Tables.{addition_in}
+use Rattle.office_core.proofs.CommitLemmas.{commits}
+use Rattle.office_core.proofs.update.prepared.Goals as goal
+
+pub returns-clause-commits : goal.returns-clause-commits
+returns-clause-commits g c honest s held =
+    let holds = c.in_ok-part.ensures.only honest s held in
+    commits c.args.policy.now s c.args.caller.now c.args.id.now c.args.origin.now c.args.update.now c.deref.result.now
+    (g.met.T.ZoneTable.zones c.args.table.now s holds) (c.requires.fresh (c.part.ensures.honest honest) s holds) c.item_names.ensures.update
+    (c.deref.ensures.value ∙ c.in_ok-names.ensures.names) c.in_ok-part.part (c.in_ok-part.ensures.answer honest s holds)
+    c.in_ok-reply.reply (option_map change_in c.in_ok-reply.change) c.in_ok-reply.ensures (addition_in c.in_ok-addition.addition) c.in_ok-addition.ensures

@@ -1,0 +1,282 @@
+//! Queries: the requests that change nothing.
+
+ghost use Rattle.std.specs.Prelude.{◌≡◌, ◌++◌, [], ◌∷◌, Some, IfOk, map, nat_le};
+ghost use Rattle.std.specs.List.{filter};
+ghost use Rattle.zone_core.specs.Changes.{change_in};
+ghost use Rattle.grant_policy.specs.Decisions.{decision};
+ghost use Rattle.office_core.specs.Permissions.{question};
+ghost use Rattle.office_core.specs.Replies.{reply_of, right_of, numbered_of, right};
+ghost use Rattle.office_core.specs.States.{State};
+ghost use Rattle.office_core.specs.Tables.{Counts};
+ghost use Rattle.office_core.specs.Machine.{told, of_zone, may_list, listed, list_reply, list_within_reply, file_reply, delegations_reply, changes_reply, if_some, seen, seen_of, numbered};
+ghost use Rattle.office_core.specs.Steps.{IsAnswer, Takes};
+
+use crate::fault::TableFault;
+use crate::reply::{NumberedChange, Reply, Right};
+use crate::table::ZoneTable;
+use dns_data::{Record, RecordType};
+use dns_names::Name;
+use grant_policy::{Action, Decision, Identifier, LookUps, Policy, decide};
+use std::alloc::{AllocError, Global};
+use zone_core::{Change, delegation_report};
+
+/// Whether a caller may list a record.
+fn may_list(policy: &Policy, caller: &Identifier, rr: &Record) -> bool
+    ensures { result ≡ may_list policy.now caller.now rr.now }
+{
+    let record_type = rr.record_type();
+    let mut look_ups = LookUps::new();
+    decide(
+        policy,
+        caller,
+        &rr.owner,
+        record_type,
+        Action::List,
+        &mut look_ups,
+    )
+    .is_granted()
+}
+
+/// Records, and one more, if the caller may list it. The only error is want of memory.
+fn with_listed(
+    mut all: Vec<Record>,
+    policy: &Policy,
+    caller: &Identifier,
+    rr: Record,
+) -> Result<Vec<Record>, AllocError>
+    ensures { IfOk result (λ rs. rs.items ≡ all.items ++ listed policy.now caller.now (rr ∷ [])) }
+{
+    if may_list(policy, caller, &rr) {
+        all.push(rr)?;
+    }
+    Ok(all)
+}
+
+/// The records that a caller may list. The only error is want of memory.
+fn listed(
+    alloc: Global,
+    policy: &Policy,
+    caller: &Identifier,
+    records: Vec<Record>,
+) -> Result<Vec<Record>, AllocError>
+    ensures { IfOk result (λ rs. rs.items ≡ listed policy.now caller.now records.items) }
+{
+    let mut all = Vec::new(alloc);
+    for record in records {
+        all = with_listed(all, policy, caller, record)?;
+    }
+    Ok(all)
+}
+
+/// The records of a zone that the caller may list.
+pub(crate) fn list<T: ZoneTable>(
+    alloc: Global,
+    table: &mut T,
+    policy: &Policy,
+    caller: &Identifier,
+    origin: &Name,
+) -> Result<Reply, TableFault>
+    ensures takes { T.is_honest table.new → (s : State) → T.holds table.old s → Takes (T.holds table.new) s (told s (of_zone (s.zones origin.now) (list_reply policy.now caller.now))) result }
+    ensures crash { (s t : State) → T.leaves table.old s t → T.leaves table.new s t }
+    ensures honest { T.is_honest table.new → T.is_honest table.old }
+    ensures answers { IfOk result IsAnswer }
+    ensures counts { Counts (T.failures table.old) (T.failures table.new) result }
+{
+    let Some(zone) = table.zone(alloc, origin)? else {
+        return Ok(Reply::NotAuth);
+    };
+    let records = listed(alloc, policy, caller, zone.into_records())?;
+    Ok(Reply::Records(records))
+}
+
+/// The records of a zone within a name that the caller may list.
+pub(crate) fn list_within<T: ZoneTable>(
+    alloc: Global,
+    table: &mut T,
+    policy: &Policy,
+    caller: &Identifier,
+    origin: &Name,
+    top: &Name,
+) -> Result<Reply, TableFault>
+    ensures takes { T.is_honest table.new → (s : State) → T.holds table.old s → Takes (T.holds table.new) s (told s (of_zone (s.zones origin.now) (list_within_reply policy.now caller.now origin.now top.now))) result }
+    ensures crash { (s t : State) → T.leaves table.old s t → T.leaves table.new s t }
+    ensures honest { T.is_honest table.new → T.is_honest table.old }
+    ensures answers { IfOk result IsAnswer }
+    ensures counts { Counts (T.failures table.old) (T.failures table.new) result }
+{
+    let Some(records) = table.subtree(alloc, origin, top)? else {
+        return Ok(Reply::NotAuth);
+    };
+    if !top.is_within(origin) {
+        return Ok(Reply::NotZone);
+    }
+    let records = listed(alloc, policy, caller, records)?;
+    Ok(Reply::Records(records))
+}
+
+/// The records of a zone that the caller may list, with its origin.
+pub(crate) fn file<T: ZoneTable>(
+    alloc: Global,
+    table: &mut T,
+    policy: &Policy,
+    caller: &Identifier,
+    origin: &Name,
+) -> Result<Reply, TableFault>
+    ensures takes { T.is_honest table.new → (s : State) → T.holds table.old s → Takes (T.holds table.new) s (told s (of_zone (s.zones origin.now) (file_reply policy.now caller.now origin.now))) result }
+    ensures crash { (s t : State) → T.leaves table.old s t → T.leaves table.new s t }
+    ensures honest { T.is_honest table.new → T.is_honest table.old }
+    ensures answers { IfOk result IsAnswer }
+    ensures counts { Counts (T.failures table.old) (T.failures table.new) result }
+{
+    let Some(zone) = table.zone(alloc, origin)? else {
+        return Ok(Reply::NotAuth);
+    };
+    let records = listed(alloc, policy, caller, zone.into_records())?;
+    let origin = origin.try_copy(alloc)?;
+    Ok(Reply::File { origin, records })
+}
+
+/// The delegations in a zone, by the records that the caller may list.
+pub(crate) fn delegations<T: ZoneTable>(
+    alloc: Global,
+    table: &mut T,
+    policy: &Policy,
+    caller: &Identifier,
+    origin: &Name,
+) -> Result<Reply, TableFault>
+    ensures takes { T.is_honest table.new → (s : State) → T.holds table.old s → Takes (T.holds table.new) s (told s (of_zone (s.zones origin.now) (delegations_reply policy.now caller.now origin.now))) result }
+    ensures crash { (s t : State) → T.leaves table.old s t → T.leaves table.new s t }
+    ensures honest { T.is_honest table.new → T.is_honest table.old }
+    ensures answers { IfOk result IsAnswer }
+    ensures counts { Counts (T.failures table.old) (T.failures table.new) result }
+{
+    let Some(zone) = table.zone(alloc, origin)? else {
+        return Ok(Reply::NotAuth);
+    };
+    let records = listed(alloc, policy, caller, zone.into_records())?;
+    Ok(Reply::Delegations(delegation_report(alloc, origin, &records)?))
+}
+
+/// What a caller may list of a change. The only error is want of memory.
+fn seen_of(
+    alloc: Global,
+    policy: &Policy,
+    caller: &Identifier,
+    change: Change,
+) -> Result<Change, AllocError>
+    ensures { IfOk result (λ c. change_in c ≡ seen_of policy.now caller.now (change_in change)) }
+{
+    Ok(Change {
+        removed: listed(alloc, policy, caller, change.removed)?,
+        added: listed(alloc, policy, caller, change.added)?,
+    })
+}
+
+/// Changes, and what the caller sees of one more, if it sees some record of it. The only error is want of memory.
+fn with_seen(
+    alloc: Global,
+    mut all: Vec<Change>,
+    policy: &Policy,
+    caller: &Identifier,
+    change: Change,
+) -> Result<Vec<Change>, AllocError>
+    ensures { IfOk result (λ cs. map change_in cs.items ≡ map change_in all.items ++ if_some (seen_of policy.now caller.now (change_in change))) }
+{
+    let seen = seen_of(alloc, policy, caller, change)?;
+    if !seen.is_empty() {
+        all.push(seen)?;
+    }
+    Ok(all)
+}
+
+/// What a caller sees of changes: of each the records that it may list; changes of which it sees nothing are left out. The only
+/// error is want of memory.
+fn seen(
+    alloc: Global,
+    policy: &Policy,
+    caller: &Identifier,
+    changes: Vec<Change>,
+) -> Result<Vec<Change>, AllocError>
+    ensures { IfOk result (λ cs. map change_in cs.items ≡ seen policy.now caller.now (map change_in changes.items)) }
+{
+    let mut all = Vec::new(alloc);
+    for change in changes {
+        all = with_seen(alloc, all, policy, caller, change)?;
+    }
+    Ok(all)
+}
+
+/// Numbered changes, and one more, if its number is not below a least one. The only error is want of memory.
+fn with_numbered(
+    mut all: Vec<NumberedChange>,
+    from: u32,
+    number: u64,
+    change: Change,
+) -> Result<Vec<NumberedChange>, AllocError>
+    ensures { IfOk result (λ cs. map numbered_of cs.items ≡ map numbered_of all.items ++ filter (λ c. nat_le from c.number) (numbered number (change_in change ∷ []))) }
+{
+    let change = NumberedChange { number, change };
+    if number >= u64::from(from) {
+        all.push(change)?;
+    }
+    Ok(all)
+}
+
+/// Changes with their numbers from 1, of which those from a number on are left. The only error is want of memory.
+fn numbered_from(
+    alloc: Global,
+    from: u32,
+    changes: Vec<Change>,
+) -> Result<Vec<NumberedChange>, AllocError>
+    ensures { IfOk result (λ all. map numbered_of all.items ≡ filter (λ c. nat_le from c.number) (numbered 1 (map change_in changes.items))) }
+{
+    let mut all = Vec::new(alloc);
+    let mut number: u64 = 0;
+    for change in changes {
+        number += 1;
+        all = with_numbered(all, from, number, change)?;
+    }
+    Ok(all)
+}
+
+/// What the caller sees of the changes of a zone, from a number on.
+pub(crate) fn changes<T: ZoneTable>(
+    alloc: Global,
+    table: &mut T,
+    policy: &Policy,
+    caller: &Identifier,
+    origin: &Name,
+    from: u32,
+) -> Result<Reply, TableFault>
+    ensures takes { T.is_honest table.new → (s : State) → T.holds table.old s → Takes (T.holds table.new) s (told s (of_zone (s.zones origin.now) (changes_reply policy.now caller.now from))) result }
+    ensures crash { (s t : State) → T.leaves table.old s t → T.leaves table.new s t }
+    ensures honest { T.is_honest table.new → T.is_honest table.old }
+    ensures answers { IfOk result IsAnswer }
+    ensures counts { Counts (T.failures table.old) (T.failures table.new) result }
+{
+    let Some(changes) = table.changes(alloc, origin)? else {
+        return Ok(Reply::NotAuth);
+    };
+    let seen = seen(alloc, policy, caller, changes)?;
+    Ok(Reply::Changes(numbered_from(alloc, from, seen)?))
+}
+
+/// What the policy decides, with an identifier in memory of its own. The only error is want of memory.
+pub(crate) fn right(
+    alloc: Global,
+    policy: &Policy,
+    caller: &Identifier,
+    name: &Name,
+    record_type: RecordType,
+    action: Action,
+) -> Result<Reply, AllocError>
+    ensures { IfOk result (λ reply. reply_of reply ≡ Some (right (decision (question caller.now name.now record_type action) policy.now))) }
+{
+    let mut look_ups = LookUps::new();
+    let right = match decide(policy, caller, name, record_type, action, &mut look_ups) {
+        Decision::Granted(id) => Right::Granted(id.try_copy(alloc)?),
+        Decision::Denied(Some(id)) => Right::Denied(Some(id.try_copy(alloc)?)),
+        Decision::Denied(None) => Right::Denied(None),
+    };
+    Ok(Reply::Right(right))
+}

@@ -1,0 +1,215 @@
+//! Updates: whether they are made, and what is kept of them.
+
+ghost use Rattle.std.specs.Prelude.{◌≡◌, ◌++◌, None, Some, IfOk, map, option_map};
+ghost use Rattle.zone_core.specs.Updates.{tested_name, acted_name, IsUpdate, ActsWithin};
+ghost use Rattle.zone_core.specs.Changes.{change_in};
+ghost use Rattle.office_core.specs.Replies.{reply_of};
+ghost use Rattle.office_core.specs.States.{State};
+ghost use Rattle.office_core.specs.Tables.{Counts, addition_in};
+ghost use Rattle.office_core.specs.Machine.{again, answered, updated, refusal, zone_refusal};
+ghost use Rattle.office_core.specs.Steps.{CountsStep, IsAnswer, Takes, LeavesTurn, Commits, Makes, MakesAt, held_in, addition_of};
+
+use crate::fault::{StepFault, TableFault};
+use crate::permission::denied;
+use crate::receipt::{Addition, Receipt};
+use crate::reply::{Reply, UpdateReply};
+use crate::table::ZoneTable;
+use dns_names::Name;
+use grant_policy::{Identifier, LookUps, Policy};
+use std::alloc::{AllocError, Global};
+use zone_core::{Change, Update, Zone, holds};
+
+/// Makes an update, or refuses it, and keeps its receipt; where it has one already, its reply is given again.
+pub(crate) fn update_reply<T: ZoneTable>(
+    alloc: Global,
+    table: &mut T,
+    policy: &Policy,
+    caller: &Identifier,
+    id: &Identifier,
+    origin: &Name,
+    update: &Update,
+) -> Result<Reply, StepFault>
+    ensures takes { T.is_honest table.new → (s : State) → T.holds table.old s → Takes (T.holds table.new) s (updated policy.now s caller.now id.now origin.now update.now (s.receipts caller.now id.now)) result }
+    ensures crash { T.is_honest table.new → (s : State) → T.holds table.old s → T.leaves table.old s s → LeavesTurn (T.leaves table.new) s (updated policy.now s caller.now id.now origin.now update.now (s.receipts caller.now id.now)) result }
+    ensures honest { T.is_honest table.new → T.is_honest table.old }
+    ensures answers { IfOk result IsAnswer }
+    ensures counts { CountsStep (T.failures table.old) (T.failures table.new) result }
+{
+    match table.receipt(alloc, caller, id)? {
+        Some(kept) => Ok(repeated(kept, origin, update)),
+        None => first_reply(alloc, table, policy, caller, id, origin, update),
+    }
+}
+
+/// The reply of a receipt to its update; to another one `IdReused`.
+fn repeated(kept: Receipt, origin: &Name, update: &Update) -> Reply
+    ensures { reply_of result ≡ Some (again origin.now update.now kept) }
+{
+    if kept.origin == *origin && kept.update.is_same(update) {
+        Reply::Update(kept.reply)
+    } else {
+        Reply::IdReused
+    }
+}
+
+/// Makes an update that has no receipt, or refuses it, and keeps its receipt.
+fn first_reply<T: ZoneTable>(
+    alloc: Global,
+    table: &mut T,
+    policy: &Policy,
+    caller: &Identifier,
+    id: &Identifier,
+    origin: &Name,
+    update: &Update,
+) -> Result<Reply, StepFault>
+    requires fresh { T.is_honest table.old → (s : State) → T.holds table.old s → s.receipts caller.now id.now ≡ None }
+    ensures takes { T.is_honest table.new → (s : State) → T.holds table.old s → Takes (T.holds table.new) s (answered s caller.now id.now origin.now update.now (refusal policy.now caller.now origin.now update.now (s.zones origin.now))) result }
+    ensures crash { T.is_honest table.new → (s : State) → T.holds table.old s → T.leaves table.old s s → LeavesTurn (T.leaves table.new) s (answered s caller.now id.now origin.now update.now (refusal policy.now caller.now origin.now update.now (s.zones origin.now))) result }
+    ensures honest { T.is_honest table.new → T.is_honest table.old }
+    ensures answers { IfOk result IsAnswer }
+    ensures counts { CountsStep (T.failures table.old) (T.failures table.new) result }
+{
+    let (reply, addition) = prepared(alloc, table, policy, caller, id, origin, update)?;
+    match table.commit(alloc, addition) {
+        // nothing takes memory behind a commit
+        Ok(()) => Ok(Reply::Update(reply)),
+        Err(fault) => Err(StepFault::Commit(fault)),
+    }
+}
+
+/// The reply to an update that has no receipt, and what is to be kept of it.
+fn prepared<T: ZoneTable>(
+    alloc: Global,
+    table: &mut T,
+    policy: &Policy,
+    caller: &Identifier,
+    id: &Identifier,
+    origin: &Name,
+    update: &Update,
+) -> Result<(UpdateReply, Addition), TableFault>
+    requires fresh { T.is_honest table.old → (s : State) → T.holds table.old s → s.receipts caller.now id.now ≡ None }
+    ensures commits { T.is_honest table.new → IfOk result (λ r. (s : State) → T.holds table.new s → Commits s (answered s caller.now id.now origin.now update.now (refusal policy.now caller.now origin.now update.now (s.zones origin.now))) (addition_in r.1) r.0) }
+    ensures same { (s : State) → T.holds table.old s → T.holds table.new s }
+    ensures crash { (s t : State) → T.leaves table.old s t → T.leaves table.new s t }
+    ensures honest { T.is_honest table.new → T.is_honest table.old }
+    ensures counts { Counts (T.failures table.old) (T.failures table.new) result }
+{
+    let names = item_names(alloc, update)?;
+    let part = table.part(alloc, origin, &names)?;
+    let (reply, change) = made_at(alloc, policy, caller, part, update)?;
+    let addition = addition(alloc, caller, id, origin, update, &reply, change)?;
+    Ok((reply, addition))
+}
+
+/// What is kept of an update: its receipt, and the change that it made. The only error is want of memory.
+fn addition(
+    alloc: Global,
+    caller: &Identifier,
+    id: &Identifier,
+    origin: &Name,
+    update: &Update,
+    reply: &UpdateReply,
+    change: Option<Change>,
+) -> Result<Addition, AllocError>
+    ensures { IfOk result (λ a. addition_in a ≡ addition_of caller.now id.now origin.now update.now reply.now (option_map change_in change)) }
+{
+    let receipt = Receipt {
+        origin: origin.try_copy(alloc)?,
+        update: update.try_copy(alloc)?,
+        reply: reply.try_copy(alloc)?,
+    };
+    Ok(Addition {
+        caller: caller.try_copy(alloc)?,
+        id: id.try_copy(alloc)?,
+        receipt,
+        change,
+    })
+}
+
+/// The names of the items of an update: all that it reads beside the origin. The only error is want of memory.
+fn item_names(alloc: Global, update: &Update) -> Result<Vec<Name>, AllocError>
+    ensures update { IsUpdate update.now }
+    ensures names { IfOk result (λ names. names.items ≡ map tested_name update.now.prerequisites ++ map acted_name update.now.operations) }
+{
+    let mut names = Vec::new(alloc);
+    for prerequisite in update.prerequisites() {
+        names.push(prerequisite.name().try_copy(alloc)?)?;
+    }
+    for operation in update.operations() {
+        names.push(operation.name().try_copy(alloc)?)?;
+    }
+    Ok(names)
+}
+
+/// The reply to an update, by what it reads of its zone, where there is the zone, and what it changes, if it is made and changes
+/// something. The only error is want of memory.
+fn made_at(
+    alloc: Global,
+    policy: &Policy,
+    caller: &Identifier,
+    part: Option<Zone>,
+    update: &Update,
+) -> Result<(UpdateReply, Option<Change>), AllocError>
+    ensures { IfOk result (λ r. MakesAt policy.now caller.now update.now part r.0 (option_map change_in r.1)) }
+{
+    match part {
+        Some(zone) => made(alloc, policy, caller, &zone, update),
+        None => Ok((UpdateReply::NotAuth, None)),
+    }
+}
+
+/// The reply to an update of a zone, and what it changes, if it is made and changes something. The only error is want of memory.
+fn made(
+    alloc: Global,
+    policy: &Policy,
+    caller: &Identifier,
+    zone: &Zone,
+    update: &Update,
+) -> Result<(UpdateReply, Option<Change>), AllocError>
+    ensures { IfOk result (λ r. Makes zone.now update.now (zone_refusal policy.now caller.now zone.now.origin update.now (held_in zone.now)) r.0 (option_map change_in r.1)) }
+{
+    if let Some(reply) = refusal(alloc, policy, caller, zone, update)? {
+        return Ok((reply, None));
+    }
+    let change = Change::of_update(alloc, zone, update)?;
+    let change = if change.is_empty() {
+        None
+    } else {
+        Some(change)
+    };
+    Ok((UpdateReply::NoError, change))
+}
+
+/// Why an update of a zone is not made, if it is not: the first that applies of its names, the policy and its prerequisites. The
+/// only error is want of memory.
+fn refusal(
+    alloc: Global,
+    policy: &Policy,
+    caller: &Identifier,
+    zone: &Zone,
+    update: &Update,
+) -> Result<Option<UpdateReply>, AllocError>
+    // An update that is not refused acts within the zone.
+    ensures inside { IfOk result (λ reply. reply ≡ None → ActsWithin zone.now.origin update.now) }
+    ensures reply { IfOk result (λ reply. reply ≡ zone_refusal policy.now caller.now zone.now.origin update.now (held_in zone.now)) }
+{
+    let origin = zone.origin();
+    if let Some(place) = update.outside(origin) {
+        return Ok(Some(UpdateReply::NotZone(place)));
+    }
+    let mut look_ups = LookUps::new();
+    if let Some(denial) = denied(policy, caller, origin, update, &mut look_ups) {
+        let by = match denial.by {
+            Some(id) => Some(id.try_copy(alloc)?),
+            None => None,
+        };
+        return Ok(Some(UpdateReply::Refused {
+            place: denial.place,
+            by,
+        }));
+    }
+    match holds(zone, update) {
+        Ok(()) => Ok(None),
+        Err(failed) => Ok(Some(UpdateReply::Failed(failed))),
+    }
+}

@@ -1,6 +1,0 @@
-use Rattle.std.specs.Prelude.{◌≡◌, true}
-use Rattle.zone_core.proofs.SightLemmas.{verdicts_look_alike}
-use Rattle.zone_core.proofs.laws.verdicts_look_alike.Goals as goal
-
-pub returns : goal.returns
-returns c = λ seen. verdicts_look_alike (λ name. seen name ≡ true)

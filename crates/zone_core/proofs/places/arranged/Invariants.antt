@@ -1,5 +1,0 @@
-use Rattle.zone_core.proofs.PlaceLemmas.{AreOnTheWay}
-use Rattle.zone_core.proofs.places.arranged.Given as goal
-
-abbrev pub invariant-loop-i : goal.invariant-loop-i
-invariant-loop-i l = AreOnTheWay l.fn.records.items l.fn.sources.items l.records.items l.sources.items l.places.items l.i
