@@ -8,6 +8,7 @@ pub mod DsLaws
 pub mod EachLemmas
 pub mod FieldLaws
 pub mod GroupOrderLemmas
+pub mod KeptLaws
 pub mod NumberLaws
 pub mod NumberLemmas
 pub mod OrderLemmas

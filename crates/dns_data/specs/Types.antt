@@ -1,6 +1,7 @@
 -- The record types that are kept: what each is called, and its number.
-use Rattle.std.specs.Prelude.{◌≡◌, ℕ, List, [], ◌∷◌, codes}
-use Rattle.std.specs.Str.{str_to_ascii_lowercase}
+use Rattle.std.specs.Prelude.{◌≡◌, ℕ, List, [], ◌∷◌, Option, codes}
+use Rattle.std.specs.List.{find}
+use Rattle.std.specs.Str.{str_to_ascii_lowercase, str_eq_ignore_ascii_case}
 use Rattle.dns_data.specs.declared.record_type.RecordType.{RecordType}
 use Rattle.dns_data.specs.declared.record_type.RecordType.TheVariants.{A, Ns, Cname, Soa, Ptr, Mx, Txt, Aaaa, Srv, Ds}
 
@@ -36,3 +37,7 @@ type_number Ds = 43
 -- a text is what the type is called, in either letter case
 abbrev pub IsCalled : RecordType → List ℕ → Type 0
 IsCalled record_type text = str_to_ascii_lowercase text ≡ str_to_ascii_lowercase (type_text record_type)
+
+-- the type that a text names, in either letter case
+abbrev pub type_named : List ℕ → Option RecordType
+type_named text = find (λ t. str_eq_ignore_ascii_case (type_text t) text) kept_types

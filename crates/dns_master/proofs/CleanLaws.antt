@@ -1,6 +1,6 @@
 -- The texts of printed items: in a master file each is one item.
 use Rattle.std.proofs.Common.{◌≡◌, ℕ, zero, suc, ◌+◌, ◌/◌, ◌%◌, ◌<◌, ◌≤◌, ◌^◌, Bool, true, false, cond, eqb, leb, ltb, not, ◌||◌, ◌&&◌, List, [], ◌∷◌, ◌++◌, length, take, drop, get_or, refl, sym, subst, arith, length-append, length-drop}
-use Rattle.std.proofs.lemmas.Bool.{cond_both, and_parts, and_from, agree_below_at}
+use Rattle.std.proofs.lemmas.Bool.{cond_both, and_parts, and_from, agree_below_at, ltb-true}
 use Rattle.std.specs.Prelude.{codes, decimal, slice_index}
 use Rattle.std.specs.List.{AllByRecursion, list_all, flat_map}
 use Rattle.std.specs.Char.{is_ascii_digit, digit_char}
@@ -14,12 +14,12 @@ use Rattle.dns_names.proofs.SymbolLaws.{All-both}
 use Rattle.dns_data.specs.declared.rdata.Data.{Data}
 use Rattle.dns_data.specs.declared.rdata.Data.TheVariants.{A, Ns, Cname, Soa, Ptr, Mx, Txt, Aaaa, Srv, Ds}
 use Rattle.dns_data.specs.declared.record_type.RecordType.{RecordType}
-use Rattle.dns_data.specs.declared.record_type.RecordType.TheVariants as types
 use Rattle.dns_data.specs.Items.{ItemText, plain}
 use Rattle.dns_data.specs.Strings.{IsString, string_text, octet_text}
 use Rattle.dns_data.specs.Types.{type_text}
 use Rattle.dns_data.specs.Rdata.{IsRdata}
 use Rattle.dns_data.specs.Text.{data_items, strings_items}
+use Rattle.dns_data.proofs.KeptLaws.{each_passes}
 use Rattle.dns_data.proofs.NumberLaws.{digit_range, is_numeral, decimal_is_number}
 use Rattle.dns_master.specs.Pieces.{is_quote, ends_item}
 use Rattle.dns_master.specs.Grammar.{Runs, taken_behind}
@@ -221,16 +221,7 @@ strings_clean [] h = tt
 strings_clean (string ∷ strings) h = (string_run string h.0.octets, strings_clean strings h.1)
 
 pub type_clean : (t : RecordType) → Clean (plain (type_text t))
-type_clean types.A = refl
-type_clean types.Ns = refl
-type_clean types.Cname = refl
-type_clean types.Soa = refl
-type_clean types.Ptr = refl
-type_clean types.Mx = refl
-type_clean types.Txt = refl
-type_clean types.Aaaa = refl
-type_clean types.Srv = refl
-type_clean types.Ds = refl
+type_clean t = clean_plain (type_text t) (ltb-true 0 (length (type_text t)) (each_passes (λ u. ltb 0 (length (type_text u))) refl t)) (each_passes (λ u. runs ends_item false (type_text u)) refl t)
 
 -- ---- data
 

@@ -10,12 +10,12 @@ use Rattle.dns_names.proofs.ReadingLaws.{absolute_again}
 use Rattle.dns_data.specs.declared.rdata.Data.{Data}
 use Rattle.dns_data.specs.declared.record.Record.{Record}
 use Rattle.dns_data.specs.declared.record_type.RecordType.{RecordType}
-use Rattle.dns_data.specs.declared.record_type.RecordType.TheVariants as types
 use Rattle.dns_data.specs.Rdata.{type_of, IsRdata, IsRecord}
 use Rattle.dns_data.specs.Reading.{data_of}
 use Rattle.dns_data.specs.Text.{data_items, data_text}
 use Rattle.dns_data.specs.Types.{kept_types, type_number}
 use Rattle.dns_data.proofs.DataLaws.{data_again, some_items}
+use Rattle.dns_data.proofs.KeptLaws.{number_found}
 use Rattle.dns_data.proofs.WordLemmas.{found_passes}
 use Rattle.dns_master.proofs.CleanLaws.{data_clean}
 use Rattle.office_rows.specs.declared.row_fault.RowFault.{RowFault}
@@ -41,16 +41,7 @@ name_found text name e =
 -- ---- types
 
 pub type_read : (t : RecordType) → type_in (pos (type_number t)) ≡ Ok t
-type_read types.A = refl
-type_read types.Ns = refl
-type_read types.Cname = refl
-type_read types.Soa = refl
-type_read types.Ptr = refl
-type_read types.Mx = refl
-type_read types.Txt = refl
-type_read types.Aaaa = refl
-type_read types.Srv = refl
-type_read types.Ds = refl
+type_read t = ap or_bad (number_found t)
 
 pub type_found : (number : ℤ) (t : RecordType) → type_in number ≡ Ok t → number ≡ pos (type_number t)
 type_found (pos n) t e =
