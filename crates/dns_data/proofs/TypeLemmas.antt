@@ -1,5 +1,5 @@
 -- What the code that looks for a type answers.
-use Rattle.std.proofs.Common.{◌≡◌, ◌↔◌, ℕ, Bool, eqb, List, Option, Some, None, Result, Ok, Err, refl, sym, ap, subst, ◌∙◌}
+use Rattle.std.proofs.Common.{◌≡◌, ◌↔◌, ℕ, Bool, eqb, List, Option, Some, None, Result, Ok, Err, sym, ap, subst, ◌∙◌}
 use Rattle.std.specs.List.{find}
 use Rattle.std.specs.Str.{str_eq_ignore_ascii_case}
 use Rattle.std.proofs.lemmas.Bool.{eqb-true}
