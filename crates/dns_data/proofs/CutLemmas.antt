@@ -1,18 +1,21 @@
 -- Texts of items, cut into their items again.
-use Rattle.std.proofs.Common.{◌≡◌, ℕ, zero, suc, ◌+◌, ◌<◌, ◌/◌, ◌%◌, ◌&&◌, ◌||◌, Bool, true, false, cond, eqb, leb, List, [], ◌∷◌, ◌++◌, length, map, drop, refl, sym, ap, ◌∙◌, append_assoc, arith}
-use Rattle.std.specs.List.{All, AllByRecursion, flat_map, list_all, slice_split}
+use Rattle.std.proofs.Common.{◌≡◌, ℕ, zero, suc, ◌+◌, ◌<◌, ◌/◌, ◌%◌, ◌&&◌, ◌||◌, Bool, true, false, cond, eqb, leb, List, [], ◌∷◌, ◌++◌, get_or, drop, refl, sym, ap, ◌∙◌, append_assoc, arith}
+use Rattle.std.specs.List.{All, AllByRecursion, flat_map}
 use Rattle.std.specs.Fmt.{decimal, digits, digits_onto, digit_glyph}
-use Rattle.std.proofs.lemmas.Bool.{and_parts, cond_both, or_parts, ne_eqb}
+use Rattle.std.proofs.lemmas.Bool.{cond_both, or_parts, ne_eqb}
 use Rattle.std.proofs.lemmas.Bool.Decides.{nat_tests}
-use Rattle.std.proofs.lemmas.List.Elements.{All-from_recursion, All-weaker, All-nil, All-cons, All-append}
-use Rattle.std.proofs.lemmas.List.Splits.{slice_split_none, slice_split_at}
+use Rattle.std.proofs.lemmas.List.Elements.{All-from_recursion, recursion_from_All, All-nil, All-cons, All-append}
 use Rattle.std.specs.Prelude.{slice_index}
-use Rattle.hex.specs.Hex.{lower_digits, encode_with, encode_lower}
+use Rattle.std.specs.Char.{digit_char}
+use Rattle.std.specs.Net.Addr.{ipv4_octets, ipv6_segments}
+use Rattle.std.specs.Net.Text.{leading_zero_digits, hex}
 use Rattle.dns_names.specs.Spelling.{three_digits, is_special, label_text, name_text}
 use Rattle.dns_names.specs.Spelling as names
-use Rattle.dns_data.specs.Items.{ItemText, plain, in_quotes, items_text}
+use Rattle.dns_data.specs.Items.{ItemText, in_quotes, items_text}
 use Rattle.dns_data.specs.Strings.{octet_text, string_text}
-use Rattle.dns_data.specs.Text.{strings_items}
+use Rattle.dns_data.specs.Fields.{Kind, Name, Number, Seconds, Ipv4, Ipv6, Value}
+use Rattle.dns_data.specs.Text.{value_text, strings_items}
+use Rattle.dns_data.proofs.OctetLaws.{all_dropped, ipv4_holds, segments_hold}
 use Rattle.dns_data.proofs.TextLemmas.{behind, strings_text}
 
 -- ---- texts of visible octets
@@ -33,11 +36,11 @@ backslash = omega arith
 dot : IsVisible 46
 dot = omega arith
 
-abbrev is_space : ℕ → Bool
-is_space o = eqb o 32
+colon : IsVisible 58
+colon = omega arith
 
-no_space : (text : List ℕ) → AreVisible text → All (λ o. is_space o ≡ false) text
-no_space text h = All-weaker IsVisible (λ o. is_space o ≡ false) (λ o seen. ne_eqb o 32 (λ e. omega arith)) text h
+abbrev head : List ℕ → ℕ
+head text = get_or text 0 0
 
 -- so are printed names
 digit_visible : (d : ℕ) → IsVisible (48 + d)
@@ -82,48 +85,40 @@ decimal_holds P glyph n = digits_hold P glyph 64 n [] (All-nil P)
 glyph_visible : (d : ℕ) → IsVisible (digit_glyph false d)
 glyph_visible d = grind (arith, nat_tests)
 
-pub decimal_visible : (n : ℕ) → AreVisible (decimal n)
-decimal_visible = decimal_holds IsVisible glyph_visible
+decimal_visible : (n : ℕ) → AllByRecursion IsVisible (decimal n)
+decimal_visible n = recursion_from_All IsVisible (decimal n) (decimal_holds IsVisible glyph_visible n)
 
--- and printed digests
-digit_at_visible : (digits : List ℕ) → AllByRecursion IsVisible digits → (i : ℕ) → i < length digits → IsVisible (slice_index digits i)
-digit_at_visible [] h i within = absurd (omega arith)
-digit_at_visible (d ∷ digits) h zero within = h.0
-digit_at_visible (d ∷ digits) h (suc i) within = digit_at_visible digits h.1 i (omega arith)
-
-lower_digits_visible : AllByRecursion IsVisible lower_digits
-lower_digits_visible = by (leb 33) (λ n h. grind (arith, nat_tests)) lower_digits refl
+segment_visible : (n : ℕ) → AllByRecursion IsVisible (hex n)
+unfolding hex
+segment_visible n =
+    all_dropped IsVisible (leading_zero_digits n) (digit_char (n / 0x1000) ∷ digit_char (n / 0x100 % 16) ∷ digit_char (n / 0x10 % 16) ∷ digit_char (n % 16) ∷ [])
+    (shown (n / 0x1000), (shown (n / 0x100 % 16), (shown (n / 0x10 % 16), (shown (n % 16), tt))))
   where
-    by : (test : ℕ → Bool) → ((n : ℕ) → test n ≡ true → IsVisible n) → (l : List ℕ) → list_all test l ≡ true → AllByRecursion IsVisible l
-    by test tells [] h = tt
-    by test tells (n ∷ l) h = let parts = and_parts (test n) (list_all test l) h in (tells n parts.0, by test tells l parts.1)
+    shown : (d : ℕ) → IsVisible (digit_char d)
+    shown d = grind (arith, nat_tests)
 
-pub digits_visible_in : (octets : List ℕ) → AllByRecursion (λ o. o < 256) octets → AreVisible (encode_lower octets)
-unfolding encode_with
-digits_visible_in [] below = by_octet [] tt
-digits_visible_in (o ∷ octets) below =
-    let fits = below.0 in
-    let high : o / 16 < 16 = omega arith in
-    let low : o % 16 < 16 = omega arith in
-    All-cons IsVisible (slice_index lower_digits (o / 16)) (slice_index lower_digits (o % 16) ∷ encode_lower octets) (digit_at_visible lower_digits lower_digits_visible (o / 16) high)
-    (All-cons IsVisible (slice_index lower_digits (o % 16)) (encode_lower octets) (digit_at_visible lower_digits lower_digits_visible (o % 16) low) (digits_visible_in octets below.1))
+segments_visible : (segments : List ℕ) → AllByRecursion (λ s. AllByRecursion IsVisible (hex s)) segments
+segments_visible [] = tt
+segments_visible (s ∷ segments) = (segment_visible s, segments_visible segments)
 
--- ---- plain items
+-- so is the text of each value
+pub value_visible : (kind : Kind) (v : Value kind) → AllByRecursion IsVisible (value_text kind v)
+value_visible Name v = recursion_from_All IsVisible (name_text v) (name_visible v)
+value_visible (Number width) v = decimal_visible v
+value_visible Seconds v = decimal_visible v
+value_visible Ipv4 v = ipv4_holds IsVisible dot (ipv4_octets v) (λ k. decimal_visible (slice_index (ipv4_octets v) k))
+value_visible Ipv6 v = segments_hold IsVisible colon (ipv6_segments v) (segments_visible (ipv6_segments v))
 
-abbrev pub AreVisibleTexts : List (List ℕ) → Type 0
-AreVisibleTexts texts = AllByRecursion AreVisible texts
+-- ---- texts of values before a space
 
--- the text of plain items is cut at its spaces
-plain_cut : (text : List ℕ) (texts : List (List ℕ)) → AreVisibleTexts (text ∷ texts) → slice_split is_space (items_text (map plain (text ∷ texts))) ≡ text ∷ texts
-plain_cut text [] h = slice_split_none is_space text (no_space text h.0)
-plain_cut text (next ∷ texts) h = slice_split_at is_space text 32 (items_text (map plain (next ∷ texts))) (no_space text h.0) refl ∙ ap (λ (l : List (List ℕ)). text ∷ l) (plain_cut next texts h.1)
-
--- as many plain items with one text are the same
-pub plain_apart : (texts others : List (List ℕ)) → AreVisibleTexts texts → AreVisibleTexts others → length texts ≡ length others → items_text (map plain texts) ≡ items_text (map plain others) → map plain texts ≡ map plain others
-plain_apart [] [] h k count e = refl
-plain_apart [] (other ∷ others) h k count e = absurd (omega arith)
-plain_apart (text ∷ texts) [] h k count e = absurd (omega arith)
-plain_apart (text ∷ texts) (other ∷ others) h k count e = ap (map plain) (sym (plain_cut text texts h) ∙ ap (slice_split is_space) e ∙ plain_cut other others k)
+-- two such texts that begin alike are one
+pub first_cut : (x y s t : List ℕ) → AllByRecursion IsVisible x → AllByRecursion IsVisible y → x ++ 32 ∷ s ≡ y ++ 32 ∷ t → (x ≡ y) × (s ≡ t)
+first_cut [] [] s t seen also e = (refl, ap (drop 1) e)
+first_cut [] (b ∷ y) s t seen also e = absurd (let first : 32 ≡ b = ap head e in omega (arith, also.0, first))
+first_cut (a ∷ x) [] s t seen also e = absurd (let first : a ≡ 32 = ap head e in omega (arith, seen.0, first))
+first_cut (a ∷ x) (b ∷ y) s t seen also e =
+    let rest = first_cut x y s t seen.1 also.1 (ap (drop 1) e) in
+    (ap (λ (o : ℕ). o ∷ x) (ap head e) ∙ ap (λ (l : List ℕ). b ∷ l) rest.0, rest.1)
 
 -- ---- items in quotes
 

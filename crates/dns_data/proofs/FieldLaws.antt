@@ -1,5 +1,5 @@
 -- The laws of single fields: what is read from an item is spelled by it, and what it spells is read.
-use Rattle.std.proofs.Common.{◌≡◌, ℕ, Bool, eqb, List, [], ◌∷◌, length, Option, Some, None, Result, Ok, refl, sym, ap, subst, ◌∙◌, append-nil, arith, eqb-true, lit≤}
+use Rattle.std.proofs.Common.{◌≡◌, ℕ, ◌<◌, ◌≤◌, ◌^◌, Bool, eqb, List, [], ◌∷◌, length, Option, Some, None, Result, Ok, refl, sym, ap, subst, ◌∙◌, append-nil, arith, eqb-true, lit≤}
 use Rattle.std.proofs.lemmas.List.{nil_from_length}
 use Rattle.std.proofs.lemmas.Option.{cond_some, none-some}
 use Rattle.std.proofs.NetLemmas.Ipv4.{read_ipv4_sound, read_ipv4_complete}
@@ -19,7 +19,8 @@ use Rattle.dns_data.specs.Faults.{◌>>=◌}
 use Rattle.dns_data.specs.Items.{ItemText, plain}
 use Rattle.dns_data.specs.Numbers.{number_of, duration_of}
 use Rattle.dns_data.specs.Grammar.{SpellsName, SpellsNumber, SpellsSeconds}
-use Rattle.dns_data.specs.Reading.{field, ipv4_from, ipv4_of, ipv6_from, ipv6_of, name_of}
+use Rattle.dns_data.specs.Fields.{Width, U8, U16, U32, bits}
+use Rattle.dns_data.specs.Reading.{field, most, ipv4_from, ipv4_of, ipv6_from, ipv6_of, name_of}
 use Rattle.dns_data.proofs.StepLaws.{bind_ok, guarded_ok, ok_is, of_names_ok, of_names_again}
 use Rattle.dns_data.proofs.NumberLaws.{number_found, number_only, duration_found, duration_only}
 
@@ -73,29 +74,27 @@ name_only (Some origin) is raw name h = of_names_again (relative_name origin raw
 
 -- ---- numbers
 
-pub number8_found : (raw : List ℕ) (n : ℕ) → IsBytes raw → number_of 255 raw ≡ Ok n → SpellsNumber 8 n raw
-number8_found raw n bytes e = let f = number_found 255 raw n e in (omega (arith, f.1), f.0)
+within : (width : Width) (n : ℕ) → n ≤ most width → n < 2 ^ bits width
+within U8 n h = omega arith
+within U16 n h = omega arith
+within U32 n h = omega arith
 
-pub number8_only : (raw : List ℕ) (n : ℕ) → SpellsNumber 8 n raw → number_of 255 raw ≡ Ok n
-number8_only raw n h = number_only 255 raw n h.1 (omega (arith, h.0))
+up_to_most : (width : Width) (n : ℕ) → n < 2 ^ bits width → n ≤ most width
+up_to_most U8 n h = omega arith
+up_to_most U16 n h = omega arith
+up_to_most U32 n h = omega arith
 
-pub number16_found : (raw : List ℕ) (n : ℕ) → IsBytes raw → number_of 65535 raw ≡ Ok n → SpellsNumber 16 n raw
-number16_found raw n bytes e = let f = number_found 65535 raw n e in (omega (arith, f.1), f.0)
+pub number_value : (width : Width) (raw : List ℕ) (n : ℕ) → number_of (most width) raw ≡ Ok n → SpellsNumber (bits width) n raw
+number_value width raw n e = let f = number_found (most width) raw n e in (within width n f.1, f.0)
 
-pub number16_only : (raw : List ℕ) (n : ℕ) → SpellsNumber 16 n raw → number_of 65535 raw ≡ Ok n
-number16_only raw n h = number_only 65535 raw n h.1 (omega (arith, h.0))
+pub number_value_only : (width : Width) (raw : List ℕ) (n : ℕ) → SpellsNumber (bits width) n raw → number_of (most width) raw ≡ Ok n
+number_value_only width raw n h = number_only (most width) raw n h.1 (up_to_most width n h.0)
 
-pub number32_found : (raw : List ℕ) (n : ℕ) → IsBytes raw → number_of 4294967295 raw ≡ Ok n → SpellsNumber 32 n raw
-number32_found raw n bytes e = let f = number_found 4294967295 raw n e in (omega (arith, f.1), f.0)
+pub seconds_value : (raw : List ℕ) (n : ℕ) → duration_of (most U32) raw ≡ Ok n → SpellsSeconds n raw
+seconds_value raw n e = let f = duration_found (most U32) raw n e in (within U32 n f.1, f.0)
 
-pub number32_only : (raw : List ℕ) (n : ℕ) → SpellsNumber 32 n raw → number_of 4294967295 raw ≡ Ok n
-number32_only raw n h = number_only 4294967295 raw n h.1 (omega (arith, h.0))
-
-pub seconds_found : (raw : List ℕ) (n : ℕ) → IsBytes raw → duration_of 4294967295 raw ≡ Ok n → SpellsSeconds n raw
-seconds_found raw n bytes e = let f = duration_found 4294967295 raw n e in (omega (arith, f.1), f.0)
-
-pub seconds_only : (raw : List ℕ) (n : ℕ) → SpellsSeconds n raw → duration_of 4294967295 raw ≡ Ok n
-seconds_only raw n h = duration_only 4294967295 raw n h.1 (omega (arith, h.0))
+pub seconds_value_only : (raw : List ℕ) (n : ℕ) → SpellsSeconds n raw → duration_of (most U32) raw ≡ Ok n
+seconds_value_only raw n h = duration_only (most U32) raw n h.1 (up_to_most U32 n h.0)
 
 -- ---- addresses
 
@@ -125,9 +124,6 @@ ipv4_sound raw a e =
     let s = read_ipv4_sound raw a.octets [] w in
     subst (λ (t : List ℕ). IsDotted t a.octets) (sym (s.1 ∙ append-nil s.0)) s.2
 
-pub ipv4_found : (raw : List ℕ) (a : Ipv4Addr) → IsBytes raw → ipv4_of raw ≡ Ok a → IsIpv4Text raw a
-ipv4_found raw a bytes e = ipv4_sound raw a e
-
 pub ipv4_only : (raw : List ℕ) (a : Ipv4Addr) → IsIpv4Text raw a → ipv4_of raw ≡ Ok a
 ipv4_only raw a h =
     let read = ap read_ipv4 (sym (append-nil raw)) ∙ read_ipv4_complete raw a.octets [] h (lit≤ tt) in
@@ -138,9 +134,6 @@ ipv6_sound raw a e =
     let w = whole_some (read_ipv6 raw) a.segments (ipv6_from_ok (whole_value (read_ipv6 raw)) a e) in
     let s = read_ipv6_sound raw a.segments [] w in
     subst (λ (t : List ℕ). IsColonHex t a.segments) (sym (s.1 ∙ append-nil s.0)) s.2
-
-pub ipv6_found : (raw : List ℕ) (a : Ipv6Addr) → IsBytes raw → ipv6_of raw ≡ Ok a → IsIpv6Text raw a
-ipv6_found raw a bytes e = ipv6_sound raw a e
 
 pub ipv6_only : (raw : List ℕ) (a : Ipv6Addr) → IsIpv6Text raw a → ipv6_of raw ≡ Ok a
 ipv6_only raw a h =

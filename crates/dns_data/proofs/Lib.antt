@@ -4,14 +4,15 @@ pub mod ApartLaws
 pub mod CutLemmas
 pub mod DataLaws
 pub mod DigestLaws
-pub mod DsLaws
 pub mod EachLemmas
 pub mod FieldLaws
 pub mod GroupOrderLemmas
+pub mod JoinedLaws
+pub mod KeptLaws
 pub mod NumberLaws
 pub mod NumberLemmas
+pub mod OctetLaws
 pub mod OrderLemmas
-pub mod PartLaws
 pub mod RecordOrderLemmas
 pub mod RunLemmas
 pub mod SameLemmas
@@ -19,6 +20,8 @@ pub mod StepLaws
 pub mod StringLaws
 pub mod StringLemmas
 pub mod StringOrderLemmas
+pub mod StringsLaws
 pub mod TextLemmas
 pub mod TypeLemmas
+pub mod ValueLaws
 pub mod WordLemmas

@@ -1,6 +1,6 @@
 -- The order of texts of items: the first item that differs decides.
-use Rattle.std.proofs.Common.{◌≡◌, ◌≢◌, ℕ, zero, suc, ◌<◌, ◌/◌, ◌%◌, ◌⊎◌, inl, inr, Bool, true, ◌&&◌, List, [], ◌∷◌, ◌++◌, length, map, refl, sym, ap, ◌∙◌, arith}
-use Rattle.std.specs.Prelude.{⊤, decimal, slice_index, nat_lt, ◌≤◌}
+use Rattle.std.proofs.Common.{◌≡◌, ◌≢◌, ℕ, zero, suc, ◌<◌, ◌/◌, ◌%◌, ◌⊎◌, inl, inr, Bool, true, ◌&&◌, List, [], ◌∷◌, ◌++◌, length, refl, sym, ap, ◌∙◌, arith}
+use Rattle.std.specs.Prelude.{⊤, slice_index, nat_lt, ◌≤◌}
 use Rattle.std.specs.List.{AllByRecursion, list_all}
 use Rattle.std.specs.declared.cmp.Ordering.{Ordering}
 use Rattle.std.specs.declared.cmp.Ordering.TheVariants.{Less, Equal, Greater}
@@ -8,14 +8,14 @@ use Rattle.std.specs.Ordering.{nat_cmp, ordering_then}
 use Rattle.std.specs.Cmp.Lexicographic.{slice_cmp}
 use Rattle.std.proofs.lemmas.Bool.{and_parts, cases_lt}
 use Rattle.std.proofs.lemmas.Bool.Decides.{nat_tests}
-use Rattle.std.proofs.lemmas.List.Elements.{recursion_from_All}
 use Rattle.hex.specs.Hex.{lower_digits, encode_with, encode_lower}
 use Rattle.dns_names.proofs.KeyLaws.{three, tied, less, greater}
-use Rattle.dns_data.specs.declared.soa.SoaFields.{SoaFields}
-use Rattle.dns_data.specs.Digests.{IsDigest}
 use Rattle.dns_data.specs.Items.{plain, items_text}
-use Rattle.dns_data.proofs.CutLemmas.{IsVisible, AreVisibleTexts}
-use Rattle.dns_data.proofs.ApartLaws.{soa_texts, mx_texts, srv_texts, ds_texts, soa_visible, mx_visible, srv_visible, ds_visible}
+use Rattle.dns_data.specs.Fields.{Fields, End, ◌▸◌, Strings, Digest, Values}
+use Rattle.dns_data.specs.Text.{value_text, strings_items, values_items}
+use Rattle.dns_data.proofs.TextLemmas.{behind_item}
+use Rattle.dns_data.proofs.ValueLaws.{IsLast, some_values}
+use Rattle.dns_data.proofs.CutLemmas.{IsVisible, value_visible}
 
 abbrev pub by_octets : List ℕ → List ℕ → Ordering
 by_octets = slice_cmp nat_cmp
@@ -56,34 +56,6 @@ above_then last (a ∷ x) (b ∷ y) s t above also =
         | inr g ↦ rw g.0 refl
       ]
     ]
-
--- the orders of texts in turn
-abbrev pub in_turn : Ordering → List (List ℕ) → List (List ℕ) → Ordering
-in_turn so_far (x ∷ xs) (y ∷ ys) = in_turn (ordering_then so_far (by_octets x y)) xs ys
-in_turn so_far xs ys = so_far
-
-items_order : (so_far : Ordering) (texts others : List (List ℕ)) → AreVisibleTexts texts → AreVisibleTexts others → length texts ≡ length others → ordering_then so_far (by_octets (items_text (map plain texts)) (items_text (map plain others))) ≡ in_turn so_far texts others
-items_order so_far [] [] seen also count = then_nothing so_far
-items_order so_far [] (y ∷ ys) seen also count = absurd (omega arith)
-items_order so_far (x ∷ xs) [] seen also count = absurd (omega arith)
-items_order so_far (x ∷ []) (y ∷ []) seen also count = refl
-items_order so_far (x ∷ []) (y ∷ y' ∷ ys) seen also count = absurd (omega arith)
-items_order so_far (x ∷ x' ∷ xs) (y ∷ []) seen also count = absurd (omega arith)
-items_order so_far (x ∷ x' ∷ xs) (y ∷ y' ∷ ys) seen also count =
-    let rest = items_text (map plain (x' ∷ xs)) in
-    let rest' = items_text (map plain (y' ∷ ys)) in
-    ap (ordering_then so_far) (above_then 32 x y rest rest' (recursion_from_All IsVisible x seen.0) (recursion_from_All IsVisible y also.0))
-    ∙ then_assoc so_far (by_octets x y) (by_octets rest rest')
-    ∙ items_order (ordering_then so_far (by_octets x y)) (x' ∷ xs) (y' ∷ ys) seen.1 also.1 (omega arith)
-
-pub soa_order : (a b : SoaFields) → in_turn Equal (soa_texts a) (soa_texts b) ≡ by_octets (items_text (map plain (soa_texts a))) (items_text (map plain (soa_texts b)))
-soa_order a b = sym (items_order Equal (soa_texts a) (soa_texts b) (soa_visible a) (soa_visible b) refl)
-
-pub mx_order : (p q : ℕ) (x y : List (List ℕ)) → in_turn Equal (mx_texts p x) (mx_texts q y) ≡ by_octets (items_text (map plain (mx_texts p x))) (items_text (map plain (mx_texts q y)))
-mx_order p q x y = sym (items_order Equal (mx_texts p x) (mx_texts q y) (mx_visible p x) (mx_visible q y) refl)
-
-pub srv_order : (p w o p' w' o' : ℕ) (t t' : List (List ℕ)) → in_turn Equal (srv_texts p w o t) (srv_texts p' w' o' t') ≡ by_octets (items_text (map plain (srv_texts p w o t))) (items_text (map plain (srv_texts p' w' o' t')))
-srv_order p w o p' w' o' t t' = sym (items_order Equal (srv_texts p w o t) (srv_texts p' w' o' t') (srv_visible p w o t) (srv_visible p' w' o' t') refl)
 
 -- ---- digests
 
@@ -160,11 +132,34 @@ digest_order (a ∷ x) (b ∷ y) below also =
       ]
     ]
 
--- the orders of the numbers of DS data in turn
-abbrev numbers_in_turn : ℕ → ℕ → ℕ → ℕ → ℕ → ℕ → Ordering
-numbers_in_turn k a t k' a' t' = in_turn Equal (decimal k ∷ decimal a ∷ decimal t ∷ []) (decimal k' ∷ decimal a' ∷ decimal t' ∷ [])
+-- ---- values of fields
 
-pub ds_order : (k a t k' a' t' : ℕ) (d d' : List ℕ) → IsDigest d → IsDigest d' → ordering_then (numbers_in_turn k a t k' a' t') (by_octets d d') ≡ by_octets (items_text (map plain (ds_texts k a t d))) (items_text (map plain (ds_texts k' a' t' d')))
-ds_order k a t k' a' t' d d' is also =
-    ap (ordering_then (numbers_in_turn k a t k' a' t')) (sym (digest_order d d' is.octets also.octets))
-    ∙ sym (items_order Equal (ds_texts k a t d) (ds_texts k' a' t' d') (ds_visible k a t d is) (ds_visible k' a' t' d' also) refl)
+-- the order of one more item before others
+one_more : (x y : List ℕ) (fields : Fields) (v w : Values fields) → AllByRecursion IsVisible x → AllByRecursion IsVisible y → IsLast fields v → IsLast fields w
+    → by_octets (items_text (plain x ∷ values_items fields v)) (items_text (plain y ∷ values_items fields w)) ≡ ordering_then (by_octets x y) (by_octets (items_text (values_items fields v)) (items_text (values_items fields w)))
+one_more x y End v w seen also is is' = sym (then_nothing (by_octets x y))
+one_more x y fields v w seen also is is' =
+    let ours = values_items fields v in
+    let theirs = values_items fields w in
+    rw (sym (behind_item x ours (some_values fields v refl is)), sym (behind_item y theirs (some_values fields w refl is'))) (above_then 32 x y (items_text ours) (items_text theirs) seen also)
+
+-- the orders of the texts of values in turn
+abbrev pub in_turn : Ordering → (fields : Fields) → Values fields → Values fields → Ordering
+in_turn so_far End v w = so_far
+in_turn so_far (kind ▸ fields) v w = in_turn (ordering_then so_far (by_octets (value_text kind v.0) (value_text kind w.0))) fields v.1 w.1
+in_turn so_far Strings v w = ordering_then so_far (by_octets (items_text (strings_items v)) (items_text (strings_items w)))
+in_turn so_far Digest v w = ordering_then so_far (by_octets v w)
+
+order_in_turn : (so_far : Ordering) (fields : Fields) (v w : Values fields) → IsLast fields v → IsLast fields w → ordering_then so_far (by_octets (items_text (values_items fields v)) (items_text (values_items fields w))) ≡ in_turn so_far fields v w
+order_in_turn so_far End v w is is' = then_nothing so_far
+order_in_turn so_far (kind ▸ fields) v w is is' =
+    let first = by_octets (value_text kind v.0) (value_text kind w.0) in
+    ap (ordering_then so_far) (one_more (value_text kind v.0) (value_text kind w.0) fields v.1 w.1 (value_visible kind v.0) (value_visible kind w.0) is is')
+    ∙ then_assoc so_far first (by_octets (items_text (values_items fields v.1)) (items_text (values_items fields w.1)))
+    ∙ order_in_turn (ordering_then so_far first) fields v.1 w.1 is is'
+order_in_turn so_far Strings v w is is' = refl
+order_in_turn so_far Digest v w is is' = ap (ordering_then so_far) (digest_order v w is.octets is'.octets)
+
+-- the order of the texts of values is that of their fields in turn
+pub values_order : (fields : Fields) (v w : Values fields) → IsLast fields v → IsLast fields w → in_turn Equal fields v w ≡ by_octets (items_text (values_items fields v)) (items_text (values_items fields w))
+values_order fields v w is is' = sym (order_in_turn Equal fields v w is is')

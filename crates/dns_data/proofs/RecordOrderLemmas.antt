@@ -1,6 +1,7 @@
 -- Records tie in record order exactly where they are the same.
 use Rattle.std.proofs.Common.{◌≡◌, ◌≢◌, ◌↔◌, ℕ, inl, inr, refl, sym, ap, ◌∙◌}
-use Rattle.std.specs.Prelude.{◌==◌, if◌then◌else◌}
+use Rattle.std.specs.Prelude.{◌==◌, Some}
+use Rattle.std.specs.List.{find}
 use Rattle.std.specs.declared.cmp.Ordering.{Ordering}
 use Rattle.std.specs.declared.cmp.Ordering.TheVariants.{Less, Equal, Greater}
 use Rattle.std.specs.Ordering.{nat_cmp, ordering_then, is_eq}
@@ -15,38 +16,20 @@ use Rattle.dns_data.specs.declared.record_type.RecordType.TheVariants as types
 use Rattle.dns_data.specs.declared.rdata.Data.{Data}
 use Rattle.dns_data.specs.Rdata.{type_of, IsRdata, SameRecord}
 use Rattle.dns_data.specs.Text.{data_text}
+use Rattle.dns_data.specs.Types.{kept_types}
 use Rattle.dns_data.specs.RecordOrder.{rank_of, data_order, record_order}
 use Rattle.dns_data.proofs.ApartLaws.{one_text}
+use Rattle.dns_data.proofs.KeptLaws.{same_Some}
 use Rattle.dns_data.proofs.OrderLemmas.{by_octets, then_assoc}
 
 -- ---- a place is the place of one type
 
-abbrev at_rank : ℕ → RecordType
-at_rank n =
-    if n == 0 then types.Soa
-    else (if n == 1 then types.A
-    else (if n == 2 then types.Ns
-    else (if n == 5 then types.Cname
-    else (if n == 12 then types.Ptr
-    else (if n == 15 then types.Mx
-    else (if n == 16 then types.Txt
-    else (if n == 28 then types.Aaaa
-    else (if n == 33 then types.Srv else types.Ds))))))))
-
-at_rank-rank_of : (t : RecordType) → at_rank (rank_of t) ≡ t
-at_rank-rank_of types.A = refl
-at_rank-rank_of types.Ns = refl
-at_rank-rank_of types.Cname = refl
-at_rank-rank_of types.Soa = refl
-at_rank-rank_of types.Ptr = refl
-at_rank-rank_of types.Mx = refl
-at_rank-rank_of types.Txt = refl
-at_rank-rank_of types.Aaaa = refl
-at_rank-rank_of types.Srv = refl
-at_rank-rank_of types.Ds = refl
+rank_found : (t : RecordType) → find (λ u. rank_of u == rank_of t) kept_types ≡ Some t
+rank_found types.A = refl
+rank_found t = refl
 
 pub one_rank : (t u : RecordType) → rank_of t ≡ rank_of u → t ≡ u
-one_rank t u e = sym (at_rank-rank_of t) ∙ ap at_rank e ∙ at_rank-rank_of u
+one_rank t u e = same_Some t u (sym (rank_found t) ∙ ap (λ (n : ℕ). find (λ v. rank_of v == n) kept_types) e ∙ rank_found u)
 
 -- ---- records that tie
 

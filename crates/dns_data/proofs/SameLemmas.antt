@@ -1,7 +1,9 @@
 -- What `==` says of records and their data.
-use Rattle.std.proofs.Common.{◌≡◌, ◌↔◌, ℕ, Bool, true, false, List, IsTrue, refl, ap}
+use Rattle.std.proofs.Common.{◌≡◌, ◌↔◌, ℕ, Bool, true, false, IsTrue, refl, sym, ap, subst, ◌∙◌, eqb-true}
 use Rattle.std.specs.Bool.{Decides}
-use Rattle.std.specs.Prelude.{◌&&◌, ◌==◌}
+use Rattle.std.specs.Prelude.{◌&&◌, ◌==◌, not, bytes_eq}
+use Rattle.std.specs.Cmp.Lexicographic.{pointwise}
+use Rattle.dns_names.specs.Order.{same_name}
 use Rattle.std.proofs.lemmas.Bool.Decides.{Decides-eqb}
 use Rattle.std.proofs.lemmas.Slice.Eq.{bytes_eq-Decides, slice_eq-Decides}
 use Rattle.std.specs.declared.net.ipv4_addr.Ipv4Addr.{Ipv4Addr}
@@ -9,11 +11,14 @@ use Rattle.std.specs.declared.net.ipv6_addr.Ipv6Addr.{Ipv6Addr}
 use Rattle.dns_names.proofs.NameLemmas.{same_name-Decides}
 use Rattle.dns_data.specs.declared.record.Record.{Record}
 use Rattle.dns_data.specs.declared.rdata.Data.{Data}
-use Rattle.dns_data.specs.declared.rdata.Data.TheVariants.{A, Ns, Cname, Soa, Ptr, Mx, Txt, Aaaa, Srv, Ds}
-use Rattle.dns_data.specs.declared.soa.SoaFields.{SoaFields}
+use Rattle.dns_data.specs.declared.record_type.RecordType.{RecordType}
+use Rattle.dns_data.specs.declared.record_type.RecordType.TheVariants as types
 use Rattle.dns_data.specs.contracts.rdata.DataPartialEq.TheImpl as of_data
-use Rattle.dns_data.specs.Rdata.{SameRecord}
-use Rattle.dns_data.specs.SameSoa.{same_soa}
+use Rattle.dns_data.specs.Fields.{Kind, Name, Number, Seconds, Ipv4, Ipv6, Fields, End, ◌▸◌, Strings, Digest, Value, Values}
+use Rattle.dns_data.specs.Types.{type_number, fields_of}
+use Rattle.dns_data.specs.Rdata.{data_with, SameRecord}
+use Rattle.dns_data.proofs.KeptLaws.{one_number}
+use Rattle.dns_data.proofs.DataLaws.{each_data}
 
 -- ---- tests of several parts
 
@@ -33,83 +38,83 @@ pub apart : {A : Type 0} (variant : A → ℕ) (s : Bool) (a b : A) → s ≡ fa
 apart variant s a b differ other =
     (λ e. absurd (untrue s differ e), λ e. absurd (untrue (variant a == variant b) other ((Decides-eqb (variant a) (variant b)).1 (ap variant e))))
 
--- ---- fields
+-- ---- values of fields
 
-ipv4_decides : (a b : Ipv4Addr) → Decides (of_data.ghosts.eq (A a) (A b)) (A a ≡ A b)
-ipv4_decides a b = via _ (bytes_eq-Decides a.octets b.octets) (λ e. λ i. A (record { octets = e i })) (λ e. cc)
+abbrev same_value : (kind : Kind) → Value kind → Value kind → Bool
+same_value Name v w = same_name v w
+same_value (Number width) v w = v == w
+same_value Seconds v w = v == w
+same_value Ipv4 v w = bytes_eq v.octets w.octets
+same_value Ipv6 v w = bytes_eq v.segments w.segments
 
-ipv6_decides : (a b : Ipv6Addr) → Decides (of_data.ghosts.eq (Aaaa a) (Aaaa b)) (Aaaa a ≡ Aaaa b)
-ipv6_decides a b = via _ (bytes_eq-Decides a.segments b.segments) (λ e. λ i. Aaaa (record { segments = e i })) (λ e. cc)
+value_decides : (kind : Kind) (v w : Value kind) → Decides (same_value kind v w) (v ≡ w)
+value_decides Name v w = same_name-Decides v w
+value_decides (Number width) v w = Decides-eqb v w
+value_decides Seconds v w = Decides-eqb v w
+value_decides Ipv4 v w = via _ (bytes_eq-Decides v.octets w.octets) (λ e. λ i. record { octets = e i }) (λ e. ap (λ (a : Ipv4Addr). a.octets) e)
+value_decides Ipv6 v w = via _ (bytes_eq-Decides v.segments w.segments) (λ e. λ i. record { segments = e i }) (λ e. ap (λ (a : Ipv6Addr). a.segments) e)
 
-strings_decides : (a b : List (List ℕ)) → Decides (of_data.ghosts.eq (Txt a) (Txt b)) (Txt a ≡ Txt b)
-strings_decides a b = via _ (slice_eq-Decides bytes_eq-Decides a b _ refl) (λ e. ap Txt e) (λ e. cc)
+abbrev same_values : (fields : Fields) → Values fields → Values fields → Bool
+same_values End v w = true
+same_values (kind ▸ End) v w = same_value kind v.0 w.0
+same_values (kind ▸ fields) v w = same_value kind v.0 w.0 && same_values fields v.1 w.1
+same_values Strings v w = pointwise bytes_eq v w
+same_values Digest v w = bytes_eq v w
 
-soa_decides : (a b : SoaFields) → Decides (same_soa a b) (a ≡ b)
-soa_decides a b =
-    via _
-    (both _ _ (same_name-Decides a.mname b.mname)
-    (both _ _ (same_name-Decides a.rname b.rname)
-    (both _ _ (Decides-eqb a.serial.0 b.serial.0)
-    (both _ _ (Decides-eqb a.refresh.0 b.refresh.0)
-    (both _ _ (Decides-eqb a.retry.0 b.retry.0)
-    (both _ _ (Decides-eqb a.expire.0 b.expire.0) (Decides-eqb a.minimum.0 b.minimum.0)))))))
-    (λ e.
-    λ i. record { mname = e.0 i; rname = e.1.0 i; serial = record { 0 = e.1.1.0 i }; refresh = record { 0 = e.1.1.1.0 i }; retry = record { 0 = e.1.1.1.1.0 i }; expire = record { 0 = e.1.1.1.1.1.0 i }; minimum = record { 0 = e.1.1.1.1.1.1 i } })
-    (λ e. (
-      ap (λ (s : SoaFields). s.mname) e,
-      (
-        ap (λ (s : SoaFields). s.rname) e,
-        (
-          ap (λ (s : SoaFields). s.serial.0) e,
-          (ap (λ (s : SoaFields). s.refresh.0) e, (ap (λ (s : SoaFields). s.retry.0) e, (ap (λ (s : SoaFields). s.expire.0) e, ap (λ (s : SoaFields). s.minimum.0) e))),
-        ),
-      ),
-    ))
+abbrev Decided : (fields : Fields) → Values fields → Values fields → Type 0
+Decided fields v w = Decides (same_values fields v w) (v ≡ w)
 
-mx_decides : (p q : ℕ) (x y : List (List ℕ)) → Decides (of_data.ghosts.eq (Mx p x) (Mx q y)) (Mx p x ≡ Mx q y)
-mx_decides p q x y = via _ (both _ _ (Decides-eqb p q) (same_name-Decides x y)) (λ e. λ i. Mx (e.0 i) (e.1 i)) (λ e. (cc, cc))
+one_more : (kind : Kind) (fields : Fields) (v w : Value kind × Values fields) → Decided fields v.1 w.1 → Decided (kind ▸ fields) v w
+one_more kind End v w rest = via _ (value_decides kind v.0 w.0) (λ e. λ i. (e i, tt)) (λ e. ap (λ (x : Value kind × Values End). x.0) e)
+one_more kind fields v w rest =
+    via _ (both _ _ (value_decides kind v.0 w.0) rest) (λ e. λ i. (e.0 i, e.1 i))
+    (λ e. (ap (λ (x : Value kind × Values fields). x.0) e, ap (λ (x : Value kind × Values fields). x.1) e))
 
-srv_decides : (p w o p' w' o' : ℕ) (t t' : List (List ℕ)) → Decides (of_data.ghosts.eq (Srv p w o t) (Srv p' w' o' t')) (Srv p w o t ≡ Srv p' w' o' t')
-srv_decides p w o p' w' o' t t' =
-    via _
-    (both _ _ (Decides-eqb p p') (both _ _ (Decides-eqb w w') (both _ _ (Decides-eqb o o') (same_name-Decides t t'))))
-    (λ e. λ i. Srv (e.0 i) (e.1.0 i) (e.1.1.0 i) (e.1.1.1 i))
-    (λ e. (cc, (cc, (cc, cc))))
-
-ds_decides : (k a t k' a' t' : ℕ) (d d' : List ℕ) → Decides (of_data.ghosts.eq (Ds k a t d) (Ds k' a' t' d')) (Ds k a t d ≡ Ds k' a' t' d')
-ds_decides k a t k' a' t' d d' =
-    via _
-    (both _ _ (Decides-eqb k k') (both _ _ (Decides-eqb a a') (both _ _ (Decides-eqb t t') (bytes_eq-Decides d d'))))
-    (λ e. λ i. Ds (e.0 i) (e.1.0 i) (e.1.1.0 i) (e.1.1.1 i))
-    (λ e. (cc, (cc, (cc, cc))))
+values_decide : (fields : Fields) (v w : Values fields) → Decided fields v w
+values_decide End v w = (λ e. refl, λ e. refl)
+values_decide (kind ▸ fields) v w = one_more kind fields v w (values_decide fields v.1 w.1)
+values_decide Strings v w = slice_eq-Decides bytes_eq-Decides v w _ refl
+values_decide Digest v w = bytes_eq-Decides v w
 
 -- ---- data
 
--- the number of a variant
-abbrev variant : Data → ℕ
-variant (A a) = 0
-variant (Ns n) = 1
-variant (Cname n) = 2
-variant (Soa f) = 3
-variant (Ptr n) = 4
-variant (Mx p n) = 5
-variant (Txt s) = 6
-variant (Aaaa a) = 7
-variant (Srv p w o t) = 8
-variant (Ds k a t d) = 9
+abbrev same_data : Data → Data → Bool
+same_data a b = of_data.ghosts.eq a b
+
+-- of one type: the test of their values
+same_with : (t : RecordType) (v w : Values (fields_of t)) → same_data (data_with t v) (data_with t w) ≡ same_values (fields_of t) v w
+same_with types.A v w = refl
+same_with t v w = refl
+
+-- of two types: none
+other_types : (t u : RecordType) (v : Values (fields_of t)) (w : Values (fields_of u)) → (not (type_number t == type_number u) && same_data (data_with t v) (data_with u w)) ≡ false
+other_types types.A types.A v w = refl
+other_types t types.A v w = refl
+other_types t u v w = refl
+
+same_itself : (a : Data) → same_data a a ≡ true
+same_itself = each_data (λ d. same_data d d ≡ true) (λ t v. same_with t v v ∙ (values_decide (fields_of t) v v).1 refl)
+
+are_one : (t u : RecordType) (v : Values (fields_of t)) (w : Values (fields_of u)) → same_data (data_with t v) (data_with u w) ≡ true → data_with t v ≡ data_with u w
+are_one t u v w yes' = by_number (type_number t == type_number u) refl
+  where
+    At : RecordType → Type 0
+    At k = (x : Values (fields_of k)) → same_data (data_with t v) (data_with k x) ≡ true → data_with t v ≡ data_with k x
+
+    here : At t
+    here x is = ap (data_with t) ((values_decide (fields_of t) v x).0 (sym (same_with t v x) ∙ is))
+
+    by_number : (b : Bool) → (type_number t == type_number u) ≡ b → data_with t v ≡ data_with u w
+    by_number true e = subst At (one_number t u (eqb-true (type_number t) (type_number u) e)) here w yes'
+    by_number false e =
+        let never = sym (ap (λ (b : Bool). not b && same_data (data_with t v) (data_with u w)) e) ∙ other_types t u v w in
+        absurd (let both = sym yes' ∙ never in cc)
 
 pub data_decides : (a b : Data) → Decides (of_data.ghosts.eq a b) (a ≡ b)
-data_decides (A a) (A b) = ipv4_decides a b
-data_decides (Ns a) (Ns b) = via _ (same_name-Decides a b) (λ e. ap Ns e) (λ e. cc)
-data_decides (Cname a) (Cname b) = via _ (same_name-Decides a b) (λ e. ap Cname e) (λ e. cc)
-data_decides (Soa a) (Soa b) = via _ (soa_decides a b) (λ e. ap Soa e) (λ e. cc)
-data_decides (Ptr a) (Ptr b) = via _ (same_name-Decides a b) (λ e. ap Ptr e) (λ e. cc)
-data_decides (Mx p x) (Mx q y) = mx_decides p q x y
-data_decides (Txt a) (Txt b) = strings_decides a b
-data_decides (Aaaa a) (Aaaa b) = ipv6_decides a b
-data_decides (Srv p w o t) (Srv p' w' o' t') = srv_decides p w o p' w' o' t t'
-data_decides (Ds k a t d) (Ds k' a' t' d') = ds_decides k a t k' a' t' d d'
-data_decides a b = apart variant (of_data.ghosts.eq a b) a b refl refl
+data_decides a b = (
+  each_data (λ c. same_data c b ≡ true → c ≡ b) (λ t v. each_data (λ d. same_data (data_with t v) d ≡ true → data_with t v ≡ d) (λ u w. are_one t u v w) b) a,
+  λ same. subst (λ (d : Data). same_data a d ≡ true) same (same_itself a),
+)
 
 -- ---- records
 

@@ -61,13 +61,13 @@ module _ (first : List ℕ) (others : List (List ℕ)) (i : ℕ) where
 
 -- ---- records
 
-behind_type : (name : List ℕ) (items : List ItemText) → 0 < length items → name ++ 32 ∷ items_text items ≡ items_text (plain name ∷ items)
-behind_type name [] some = absurd (omega arith)
-behind_type name (item ∷ items) some = refl
+pub behind_item : (name : List ℕ) (items : List ItemText) → 0 < length items → name ++ 32 ∷ items_text items ≡ items_text (plain name ∷ items)
+behind_item name [] some = absurd (omega arith)
+behind_item name (item ∷ items) some = refl
 
 pub line_text : (r : Record) (ttl : ℕ) (name : List ℕ) → ttl ≡ r.ttl → name ≡ type_text (type_of r.rdata) → 0 < length (data_items r.rdata)
     → name_text r.owner ++ 32 ∷ (decimal ttl ++ 32 ∷ (codes "IN" ++ 32 ∷ (name ++ 32 ∷ data_text r.rdata))) ≡ record_line r
 line_text r ttl name e f some =
     ap (λ (k : ℕ). name_text r.owner ++ 32 ∷ (decimal k ++ 32 ∷ (codes "IN" ++ 32 ∷ (name ++ 32 ∷ data_text r.rdata)))) e
     ∙ ap (λ (n : List ℕ). name_text r.owner ++ 32 ∷ (decimal r.ttl ++ 32 ∷ (codes "IN" ++ 32 ∷ (n ++ 32 ∷ data_text r.rdata)))) f
-    ∙ ap (λ (l : List ℕ). name_text r.owner ++ 32 ∷ (decimal r.ttl ++ 32 ∷ (codes "IN" ++ 32 ∷ l))) (behind_type (type_text (type_of r.rdata)) (data_items r.rdata) some)
+    ∙ ap (λ (l : List ℕ). name_text r.owner ++ 32 ∷ (decimal r.ttl ++ 32 ∷ (codes "IN" ++ 32 ∷ l))) (behind_item (type_text (type_of r.rdata)) (data_items r.rdata) some)

@@ -1,9 +1,10 @@
 pub mod Faults
-pub mod Types
 pub mod Items
 pub mod Numbers
 pub mod Strings
 pub mod Digests
+pub mod Fields
+pub mod Types
 pub mod SameSoa
 pub mod Rdata
 pub mod Text

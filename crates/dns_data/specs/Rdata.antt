@@ -1,6 +1,5 @@
 -- Records and their data.
 use Rattle.std.specs.Prelude.{◌≡◌, ◌<◌, ◌≤◌, ◌^◌}
-use Rattle.std.specs.Net.Addr.{IsIpv4Addr, IsIpv6Addr}
 use Rattle.dns_names.specs.Labels.{IsName}
 use Rattle.dns_data.specs.declared.record_type.RecordType.{RecordType}
 use Rattle.dns_data.specs.declared.record_type.RecordType.TheVariants as types
@@ -8,21 +7,53 @@ use Rattle.dns_data.specs.declared.rdata.Data.{Data}
 use Rattle.dns_data.specs.declared.rdata.Data.TheVariants as data_of
 use Rattle.dns_data.specs.declared.soa.SoaFields.{SoaFields}
 use Rattle.dns_data.specs.declared.record.Record.{Record}
-use Rattle.dns_data.specs.Strings.{AreStrings}
-use Rattle.dns_data.specs.Digests.{IsDigest}
+use Rattle.dns_data.specs.Fields.{Values, AreValues}
+use Rattle.dns_data.specs.Types.{fields_of}
+
+-- the values of an SOA, and the SOA that has them
+abbrev pub soa_values : SoaFields → Values (fields_of types.Soa)
+soa_values soa = (soa.mname, (soa.rname, (soa.serial.0, (soa.refresh.0, (soa.retry.0, (soa.expire.0, (soa.minimum.0, tt)))))))
+
+abbrev pub soa_with : Values (fields_of types.Soa) → SoaFields
+soa_with v = record {
+  mname = v.0;
+  rname = v.1.0;
+  serial = record { 0 = v.1.1.0 };
+  refresh = record { 0 = v.1.1.1.0 };
+  retry = record { 0 = v.1.1.1.1.0 };
+  expire = record { 0 = v.1.1.1.1.1.0 };
+  minimum = record { 0 = v.1.1.1.1.1.1.0 };
+}
+
+-- what is said of data, by their type and the values of their fields
+abbrev pub by_parts {ℓ} : {R : Type ℓ} → ((record_type : RecordType) → Values (fields_of record_type) → R) → Data → R
+by_parts say (data_of.A address) = say types.A (address, tt)
+by_parts say (data_of.Ns server) = say types.Ns (server, tt)
+by_parts say (data_of.Cname target) = say types.Cname (target, tt)
+by_parts say (data_of.Soa soa) = say types.Soa (soa_values soa)
+by_parts say (data_of.Ptr target) = say types.Ptr (target, tt)
+by_parts say (data_of.Mx preference exchange) = say types.Mx (preference, (exchange, tt))
+by_parts say (data_of.Txt strings) = say types.Txt strings
+by_parts say (data_of.Aaaa address) = say types.Aaaa (address, tt)
+by_parts say (data_of.Srv priority weight port target) = say types.Srv (priority, (weight, (port, (target, tt))))
+by_parts say (data_of.Ds key_tag algorithm digest_type digest) = say types.Ds (key_tag, (algorithm, (digest_type, digest)))
 
 -- the type of record that has such data
 abbrev pub type_of : Data → RecordType
-type_of (data_of.A address) = types.A
-type_of (data_of.Ns server) = types.Ns
-type_of (data_of.Cname target) = types.Cname
-type_of (data_of.Soa soa) = types.Soa
-type_of (data_of.Ptr target) = types.Ptr
-type_of (data_of.Mx preference exchange) = types.Mx
-type_of (data_of.Txt strings) = types.Txt
-type_of (data_of.Aaaa address) = types.Aaaa
-type_of (data_of.Srv priority weight port target) = types.Srv
-type_of (data_of.Ds key_tag algorithm digest_type digest) = types.Ds
+type_of = by_parts (λ t v. t)
+
+-- the data of a type with these values
+abbrev pub data_with : (record_type : RecordType) → Values (fields_of record_type) → Data
+data_with types.A v = data_of.A v.0
+data_with types.Ns v = data_of.Ns v.0
+data_with types.Cname v = data_of.Cname v.0
+data_with types.Soa v = data_of.Soa (soa_with v)
+data_with types.Ptr v = data_of.Ptr v.0
+data_with types.Mx v = data_of.Mx v.0 v.1.0
+data_with types.Txt v = data_of.Txt v
+data_with types.Aaaa v = data_of.Aaaa v.0
+data_with types.Srv v = data_of.Srv v.0 v.1.0 v.1.1.0 v.1.1.1.0
+data_with types.Ds v = data_of.Ds v.0 v.1.0 v.1.1.0 v.1.1.1
 
 -- ---- what all data and all records are
 
@@ -36,19 +67,9 @@ pub record IsSoaRdata (soa : SoaFields) : Type 0 where
   pub expire : soa.expire.0 < 2 ^ 32
   pub minimum : soa.minimum.0 < 2 ^ 32
 
--- an MX has a number of 16 bits and a name (RFC 1035 section 3.3.9), an SRV three such numbers and a name (RFC 2782), a DS a
--- number of 16 bits, two of 8 bits and a digest (RFC 4034 section 5.1)
 abbrev pub IsRdata : Data → Type 0
-IsRdata (data_of.A address) = IsIpv4Addr address
-IsRdata (data_of.Ns server) = IsName server
-IsRdata (data_of.Cname target) = IsName target
 IsRdata (data_of.Soa soa) = IsSoaRdata soa
-IsRdata (data_of.Ptr target) = IsName target
-IsRdata (data_of.Mx preference exchange) = (preference < 2 ^ 16) × IsName exchange
-IsRdata (data_of.Txt strings) = AreStrings strings
-IsRdata (data_of.Aaaa address) = IsIpv6Addr address
-IsRdata (data_of.Srv priority weight port target) = (priority < 2 ^ 16) × (weight < 2 ^ 16) × (port < 2 ^ 16) × IsName target
-IsRdata (data_of.Ds key_tag algorithm digest_type digest) = (key_tag < 2 ^ 16) × (algorithm < 2 ^ 8) × (digest_type < 2 ^ 8) × IsDigest digest
+IsRdata rdata = by_parts (λ t v. AreValues (fields_of t) v) rdata
 
 -- a TTL has 31 bits (RFC 2181 section 8)
 pub record IsRecord (r : Record) : Type 0 where

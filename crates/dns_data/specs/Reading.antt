@@ -1,6 +1,6 @@
 -- What items say as the data of a record of a type: fields from left to right, with the refusal that comes first; then what
 -- stands behind the last field, and then the size.
-use Rattle.std.specs.Prelude.{ℕ, List, [], ◌∷◌, ◌++◌, length, ◌==◌, nat_lt, if◌then◌else◌, Option, Some, None, Result, Ok, Err}
+use Rattle.std.specs.Prelude.{ℕ, ◌-◌, ◌^◌, List, [], ◌∷◌, ◌++◌, length, ◌==◌, nat_lt, if◌then◌else◌, Option, Some, None, Result, Ok, Err}
 use Rattle.std.specs.Net.Reader.{whole_value, read_ipv4, read_ipv6}
 use Rattle.std.specs.declared.net.ipv4_addr.Ipv4Addr.{Ipv4Addr}
 use Rattle.std.specs.declared.net.ipv6_addr.Ipv6Addr.{Ipv6Addr}
@@ -8,15 +8,15 @@ use Rattle.dns_names.specs.Reading.{absolute_name, relative_name}
 use Rattle.dns_data.specs.declared.fault.DataFault.{DataFault}
 use Rattle.dns_data.specs.declared.fault.DataFault.TheVariants.{BadAddress, FieldMissing, FieldExtra, DataTooLong, QuotedItem}
 use Rattle.dns_data.specs.declared.record_type.RecordType.{RecordType}
-use Rattle.dns_data.specs.declared.record_type.RecordType.TheVariants as types
 use Rattle.dns_data.specs.declared.rdata.Data.{Data}
-use Rattle.dns_data.specs.declared.rdata.Data.TheVariants.{A, Ns, Cname, Soa, Ptr, Mx, Txt, Aaaa, Srv, Ds}
-use Rattle.dns_data.specs.declared.soa.SoaFields.{SoaFields}
 use Rattle.dns_data.specs.Faults.{◌>>=◌, of_names}
 use Rattle.dns_data.specs.Items.{ItemText}
 use Rattle.dns_data.specs.Numbers.{number_of, duration_of}
 use Rattle.dns_data.specs.Strings.{string_of, strings_len}
 use Rattle.dns_data.specs.Digests.{digest_of}
+use Rattle.dns_data.specs.Fields.{Width, U32, bits, Kind, Name, Number, Seconds, Ipv4, Ipv6, Fields, End, ◌▸◌, Strings, Digest, Value, Values}
+use Rattle.dns_data.specs.Types.{fields_of, by_type}
+use Rattle.dns_data.specs.Rdata.{data_with}
 
 -- a field and the items after it
 abbrev pub Field : Type 0 → Type 0
@@ -50,44 +50,19 @@ abbrev pub field : {X : Type 0} → (List ℕ → Result X DataFault) → List I
 field read [] = Err FieldMissing
 field read (item ∷ items) = if item.quoted then Err QuotedItem else (read item.raw >>= λ x. Ok (x, items))
 
-abbrev pub u8_at : List ItemText → Field ℕ
-u8_at items = field (number_of 255) items
+-- the greatest number of so many bits
+abbrev pub most : Width → ℕ
+most width = 2 ^ bits width - 1
 
-abbrev pub u16_at : List ItemText → Field ℕ
-u16_at items = field (number_of 65535) items
+-- a value, of the text of its item
+abbrev pub value_of : Option (List (List ℕ)) → (kind : Kind) → List ℕ → Result (Value kind) DataFault
+value_of origin Name raw = name_of origin raw
+value_of origin (Number width) raw = number_of (most width) raw
+value_of origin Seconds raw = duration_of (most U32) raw
+value_of origin Ipv4 raw = ipv4_of raw
+value_of origin Ipv6 raw = ipv6_of raw
 
-abbrev pub u32_at : List ItemText → Field ℕ
-u32_at items = field (number_of 4294967295) items
-
-abbrev pub seconds_at : List ItemText → Field ℕ
-seconds_at items = field (duration_of 4294967295) items
-
--- ---- fields of several parts
-
-unfoldable pub soa_at : Option (List (List ℕ)) → List ItemText → Field SoaFields
-soa_at origin items = do
-  mname ← field (name_of origin) items
-  rname ← field (name_of origin) mname.1
-  serial ← u32_at rname.1
-  refresh ← seconds_at serial.1
-  retry ← seconds_at refresh.1
-  expire ← seconds_at retry.1
-  minimum ← seconds_at expire.1
-  Ok (record { mname = mname.0; rname = rname.0; serial = record { 0 = serial.0 }; refresh = record { 0 = refresh.0 }; retry = record { 0 = retry.0 }; expire = record { 0 = expire.0 }; minimum = record { 0 = minimum.0 } }, minimum.1)
-
-unfoldable pub mx_at : Option (List (List ℕ)) → List ItemText → Field Data
-mx_at origin items = do
-  preference ← u16_at items
-  exchange ← field (name_of origin) preference.1
-  Ok (Mx preference.0 exchange.0, exchange.1)
-
-unfoldable pub srv_at : Option (List (List ℕ)) → List ItemText → Field Data
-srv_at origin items = do
-  priority ← u16_at items
-  weight ← u16_at priority.1
-  port ← u16_at weight.1
-  target ← field (name_of origin) port.1
-  Ok (Srv priority.0 weight.0 port.0 target.0, target.1)
+-- ---- fields that take all items that are left
 
 -- each item as a character-string
 unfoldable pub each_string : List ItemText → Result (List (List ℕ)) DataFault
@@ -114,30 +89,23 @@ unfoldable pub digest_at : List ItemText → Result (List ℕ) DataFault
 digest_at [] = Err FieldMissing
 digest_at (item ∷ items) = joined (item ∷ items) >>= digest_of
 
-unfoldable pub ds_at : List ItemText → Result Data DataFault
-ds_at items = do
-  key_tag ← u16_at items
-  algorithm ← u8_at key_tag.1
-  digest_type ← u8_at algorithm.1
-  digest ← digest_at digest_type.1
-  Ok (Ds key_tag.0 algorithm.0 digest_type.0 digest)
-
 -- ---- data
 
-abbrev pub with_rest : {X : Type 0} → (X → Data) → Field X → Field Data
-with_rest made read = read >>= λ x. Ok (made x.0, x.1)
+-- the values of fields from left to right, and the items behind them
+unfoldable pub values_at : Option (List (List ℕ)) → (fields : Fields) → List ItemText → Field (Values fields)
+values_at origin End items = Ok (tt, items)
+values_at origin (kind ▸ fields) items = do
+  first ← field (value_of origin kind) items
+  others ← values_at origin fields first.1
+  Ok ((first.0, others.0), others.1)
+values_at origin Strings items = strings_of items >>= λ strings. Ok (strings, [])
+values_at origin Digest items = digest_at items >>= λ digest. Ok (digest, [])
+
+abbrev pub data_of_values : (record_type : RecordType) → Field (Values (fields_of record_type)) → Field Data
+data_of_values record_type read = read >>= λ v. Ok (data_with record_type v.0, v.1)
 
 abbrev pub data_at : RecordType → Option (List (List ℕ)) → List ItemText → Field Data
-data_at types.A origin items = with_rest A (field ipv4_of items)
-data_at types.Ns origin items = with_rest Ns (field (name_of origin) items)
-data_at types.Cname origin items = with_rest Cname (field (name_of origin) items)
-data_at types.Soa origin items = with_rest Soa (soa_at origin items)
-data_at types.Ptr origin items = with_rest Ptr (field (name_of origin) items)
-data_at types.Mx origin items = mx_at origin items
-data_at types.Txt origin items = strings_of items >>= λ strings. Ok (Txt strings, [])
-data_at types.Aaaa origin items = with_rest Aaaa (field ipv6_of items)
-data_at types.Srv origin items = srv_at origin items
-data_at types.Ds origin items = ds_at items >>= λ ds. Ok (ds, [])
+data_at record_type origin items = by_type (λ t. data_of_values t (values_at origin (fields_of t) items)) record_type
 
 -- nothing stands behind the last field
 abbrev pub ended : Data × List ItemText → Result Data DataFault

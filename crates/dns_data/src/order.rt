@@ -7,7 +7,7 @@ ghost use Rattle.std.specs.Net.Addr.{ipv4_octets, ipv6_segments};
 ghost use Rattle.std.specs.Net.Text.{ipv4_text, hex, groups_text, hex_groups_text};
 ghost use Rattle.dns_data.specs.Items.{items_text};
 ghost use Rattle.dns_data.specs.Strings.{string_text};
-ghost use Rattle.dns_data.specs.Text.{soa_items, strings_items, data_text};
+ghost use Rattle.dns_data.specs.Text.{strings_items, data_text};
 ghost use Rattle.dns_data.specs.Rdata.{type_of, SameRecord};
 ghost use Rattle.dns_data.specs.RecordOrder.{data_order, record_order};
 
@@ -159,7 +159,7 @@ fn cmp_txt(first: &Strings, second: &Strings) -> Ordering
 
 /// The order of the data of two SOA records by their texts.
 fn cmp_soa(first: &SoaFields, second: &SoaFields) -> Ordering
-    ensures { result ≡ slice_cmp nat_cmp (items_text (soa_items first.now)) (items_text (soa_items second.now)) }
+    ensures { result ≡ slice_cmp nat_cmp (data_text (Data.Soa first.now)) (data_text (Data.Soa second.now)) }
 {
     first
         .mname

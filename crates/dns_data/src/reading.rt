@@ -1,6 +1,6 @@
 //! Record data from the items of a master file.
 
-ghost use Rattle.std.specs.Prelude.{◌≡◌, List, ℕ, map, Option, Some, None, Ok, IfOk};
+ghost use Rattle.std.specs.Prelude.{◌≡◌, List, ℕ, [], map, Option, Some, None, Ok, IfOk};
 ghost use Rattle.std.specs.Option.{option_copied};
 ghost use Rattle.std.specs.List.{AllByRecursion};
 ghost use Rattle.dns_data.specs.Faults.{Reads};
@@ -8,7 +8,8 @@ ghost use Rattle.dns_data.specs.Items.{item_of};
 ghost use Rattle.dns_data.specs.Strings.{IsString};
 ghost use Rattle.dns_data.specs.Rdata.{type_of};
 ghost use Rattle.dns_data.specs.Grammar.{IsData};
-ghost use Rattle.dns_data.specs.Reading.{field, ipv4_of, ipv6_of, name_of, u8_at, u16_at, u32_at, seconds_at, soa_at, mx_at, srv_at, each_string, strings_of, joined, digest_at, ds_at, with_rest, data_at, data_of};
+ghost use Rattle.dns_data.specs.Numbers.{number_of, duration_of};
+ghost use Rattle.dns_data.specs.Reading.{field, ipv4_of, ipv6_of, name_of, each_string, strings_of, joined, digest_at, data_at, data_of};
 
 use crate::ds::Digest;
 use crate::fault::DataFault;
@@ -70,41 +71,41 @@ fn ipv6<'a>(items: &'a [Item<'a>]) -> Result<(Ipv6Addr, &'a [Item<'a>]), DataFau
 }
 
 fn number8<'a>(items: &'a [Item<'a>]) -> Result<(u8, &'a [Item<'a>]), DataFault>
-    ensures { Reads (λ x. (x.0, map item_of x.1.now)) result (u8_at (map item_of items.now)) }
+    ensures { Reads (λ x. (x.0, map item_of x.1.now)) result (field (number_of 255) (map item_of items.now)) }
 {
     let (raw, rest) = plain(items)?;
     Ok((read_number(raw, 255)? as u8, rest))
 }
 
 fn number16<'a>(items: &'a [Item<'a>]) -> Result<(u16, &'a [Item<'a>]), DataFault>
-    ensures { Reads (λ x. (x.0, map item_of x.1.now)) result (u16_at (map item_of items.now)) }
+    ensures { Reads (λ x. (x.0, map item_of x.1.now)) result (field (number_of 65535) (map item_of items.now)) }
 {
     let (raw, rest) = plain(items)?;
     Ok((read_number(raw, 65_535)? as u16, rest))
 }
 
 fn serial<'a>(items: &'a [Item<'a>]) -> Result<(Serial, &'a [Item<'a>]), DataFault>
-    ensures { Reads (λ x. (x.0.0, map item_of x.1.now)) result (u32_at (map item_of items.now)) }
+    ensures { Reads (λ x. (x.0.0, map item_of x.1.now)) result (field (number_of 4294967295) (map item_of items.now)) }
 {
     let (raw, rest) = plain(items)?;
     Ok((Serial(read_number(raw, u32::MAX)?), rest))
 }
 
 fn seconds<'a>(items: &'a [Item<'a>]) -> Result<(Seconds, &'a [Item<'a>]), DataFault>
-    ensures { Reads (λ x. (x.0.0, map item_of x.1.now)) result (seconds_at (map item_of items.now)) }
+    ensures { Reads (λ x. (x.0.0, map item_of x.1.now)) result (field (duration_of 4294967295) (map item_of items.now)) }
 {
     let (raw, rest) = plain(items)?;
     Ok((Seconds(read_duration(raw, u32::MAX)?), rest))
 }
 
 /// The data of an SOA.
-#[tactic(auto, unfolding(crate::specs::Reading::soa_at))]
+#[tactic(auto, unfolding(crate::specs::Reading::values_at))]
 fn soa<'a>(
     alloc: Global,
     items: &'a [Item<'a>],
     origin: Option<&Name>,
 ) -> Result<(Data, &'a [Item<'a>]), DataFault>
-    ensures { Reads (λ x. (x.0, map item_of x.1.now)) result (with_rest Data.Soa (soa_at (option_copied origin.entry) (map item_of items.now))) }
+    ensures { Reads (λ x. (x.0, map item_of x.1.now)) result (data_at RecordType.Soa (option_copied origin.entry) (map item_of items.now)) }
 {
     let (mname, items) = name(alloc, items, origin)?;
     let (rname, items) = name(alloc, items, origin)?;
@@ -126,13 +127,13 @@ fn soa<'a>(
 }
 
 /// The data of an MX.
-#[tactic(auto, unfolding(crate::specs::Reading::mx_at))]
+#[tactic(auto, unfolding(crate::specs::Reading::values_at))]
 fn mail_exchange<'a>(
     alloc: Global,
     items: &'a [Item<'a>],
     origin: Option<&Name>,
 ) -> Result<(Data, &'a [Item<'a>]), DataFault>
-    ensures { Reads (λ x. (x.0, map item_of x.1.now)) result (mx_at (option_copied origin.entry) (map item_of items.now)) }
+    ensures { Reads (λ x. (x.0, map item_of x.1.now)) result (data_at RecordType.Mx (option_copied origin.entry) (map item_of items.now)) }
 {
     let (preference, items) = number16(items)?;
     let (exchange, items) = name(alloc, items, origin)?;
@@ -144,13 +145,13 @@ fn mail_exchange<'a>(
 }
 
 /// The data of an SRV.
-#[tactic(auto, unfolding(crate::specs::Reading::srv_at))]
+#[tactic(auto, unfolding(crate::specs::Reading::values_at))]
 fn service<'a>(
     alloc: Global,
     items: &'a [Item<'a>],
     origin: Option<&Name>,
 ) -> Result<(Data, &'a [Item<'a>]), DataFault>
-    ensures { Reads (λ x. (x.0, map item_of x.1.now)) result (srv_at (option_copied origin.entry) (map item_of items.now)) }
+    ensures { Reads (λ x. (x.0, map item_of x.1.now)) result (data_at RecordType.Srv (option_copied origin.entry) (map item_of items.now)) }
 {
     let (priority, items) = number16(items)?;
     let (weight, items) = number16(items)?;
@@ -212,9 +213,9 @@ fn digest(alloc: Global, items: &[Item]) -> Result<Digest, DataFault>
 }
 
 /// The data of a DS.
-#[tactic(auto, unfolding(crate::specs::Reading::ds_at))]
+#[tactic(auto, unfolding(crate::specs::Reading::values_at))]
 fn delegation_signer(alloc: Global, items: &[Item]) -> Result<Data, DataFault>
-    ensures { Reads (λ ds. ds) result (ds_at (map item_of items.now)) }
+    ensures { Reads (λ ds. (ds, [])) result (data_at RecordType.Ds None (map item_of items.now)) }
 {
     let (key_tag, items) = number16(items)?;
     let (algorithm, items) = number8(items)?;
@@ -228,6 +229,7 @@ fn delegation_signer(alloc: Global, items: &[Item]) -> Result<Data, DataFault>
 }
 
 /// The data at the front of the items, and the items behind them.
+#[tactic(auto, unfolding(crate::specs::Reading::values_at))]
 fn data_at<'a>(
     alloc: Global,
     record_type: RecordType,

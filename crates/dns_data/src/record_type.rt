@@ -2,6 +2,7 @@
 
 ghost use Rattle.std.specs.Prelude.{◌≡◌, ◌↔◌, ◌==◌, Ok, Some, IfErr};
 ghost use Rattle.std.specs.List.{find};
+ghost use Rattle.std.specs.Result.{result_ok};
 ghost use Rattle.std.specs.Str.{str_eq_ignore_ascii_case};
 
 use crate::fault::DataFault;
@@ -22,7 +23,7 @@ pub enum RecordType {
 }
 
 impl RecordType {
-    ghost use Rattle.dns_data.specs.Types.{type_text, type_number, IsCalled};
+    ghost use Rattle.dns_data.specs.Types.{type_text, type_number, type_named, IsCalled};
     ghost use Rattle.dns_data.specs.RecordOrder.{rank_of};
 
     /// The types that are kept, by number.
@@ -60,7 +61,10 @@ impl RecordType {
 
     /// Reads the name of a type, in either letter case. Any other name is `TypeNotKept`.
     pub fn read(text: &[u8]) -> Result<RecordType, DataFault>
+        // What is read is the type that is called so.
         ensures found { (record_type : RecordType) → (result ≡ Ok record_type) ↔ IsCalled record_type text.now }
+        // The same by a definition that computes.
+        ensures exact { result_ok result ≡ type_named text.now }
         ensures refused { IfErr result (λ e. e ≡ DataFault.TypeNotKept) }
     {
         RecordType::called(text).ok_or(DataFault::TypeNotKept)
@@ -68,7 +72,7 @@ impl RecordType {
 
     /// The first of the types with this name, in either letter case.
     fn called(text: &[u8]) -> Option<RecordType>
-        ensures { result ≡ find (λ t. str_eq_ignore_ascii_case (type_text t) text.now) RecordType.ALL }
+        ensures { result ≡ type_named text.now }
     {
         RecordType::ALL
             .iter()

@@ -7,7 +7,7 @@ ghost use Rattle.hex.specs.Hex.{encode_lower};
 ghost use Rattle.dns_data.specs.Items.{items_text};
 ghost use Rattle.dns_data.specs.Again.{ReadsBack, IsTextOfOnly};
 ghost use Rattle.dns_data.specs.Strings.{is_escaped, octet_text, string_text};
-ghost use Rattle.dns_data.specs.Text.{soa_items, strings_items, data_text};
+ghost use Rattle.dns_data.specs.Text.{strings_items, data_text};
 
 use crate::ds::Digest;
 use crate::rdata::Data;
@@ -108,7 +108,9 @@ impl fmt::Display for Strings {
 }
 
 impl fmt::Display for Soa {
-    ghost output = { λ x. Some (items_text (soa_items x)) };
+    ghost use Rattle.dns_data.specs.declared.rdata.Data.{Data};
+
+    ghost output = { λ x. Some (data_text (Data.Soa x)) };
 
     fn fmt<W: fmt::Write>(&self, f: &mut fmt::Formatter<W>) -> fmt::Result {
         let soa = self.fields();

@@ -11,10 +11,10 @@ use Rattle.std.specs.Str.Parse.{IsNumeral}
 use Rattle.dns_data.specs.declared.fault.DataFault.{DataFault}
 use Rattle.dns_data.specs.declared.fault.DataFault.TheVariants.{QuotedItem}
 use Rattle.dns_data.specs.declared.record_type.RecordType.{RecordType}
-use Rattle.dns_data.specs.declared.record_type.RecordType.TheVariants as types
 use Rattle.dns_data.specs.Items.{ItemText, plain}
 use Rattle.dns_data.specs.Numbers.{duration_of, Group, IsGroup, group_text}
 use Rattle.dns_data.specs.Types.{type_text, IsCalled}
+use Rattle.dns_data.proofs.KeptLaws.{none_passes}
 use Rattle.dns_data.proofs.NumberLaws.{is_numeral, duration_found, duration_only}
 use Rattle.dns_master.specs.declared.entry_fault.EntryFault.{EntryFault}
 use Rattle.dns_master.specs.declared.entry_fault.EntryFault.TheVariants.{ClassNotIn, Data}
@@ -107,31 +107,13 @@ ttl_digit raw ttl h = elim h.0 [
 
 -- the texts of types are no TTL and no class
 type_no_digit : (t : RecordType) → begins_with_digit (str_to_ascii_lowercase (type_text t)) ≡ false
-type_no_digit types.A = refl
-type_no_digit types.Ns = refl
-type_no_digit types.Cname = refl
-type_no_digit types.Soa = refl
-type_no_digit types.Ptr = refl
-type_no_digit types.Mx = refl
-type_no_digit types.Txt = refl
-type_no_digit types.Aaaa = refl
-type_no_digit types.Srv = refl
-type_no_digit types.Ds = refl
+type_no_digit = none_passes (λ t. begins_with_digit (str_to_ascii_lowercase (type_text t))) refl
 
 abbrev is_class : List ℕ → Bool
 is_class raw = str_eq_ignore_ascii_case raw (codes "IN") || is_other_class raw
 
 type_no_class : (t : RecordType) → is_class (type_text t) ≡ false
-type_no_class types.A = refl
-type_no_class types.Ns = refl
-type_no_class types.Cname = refl
-type_no_class types.Soa = refl
-type_no_class types.Ptr = refl
-type_no_class types.Mx = refl
-type_no_class types.Txt = refl
-type_no_class types.Aaaa = refl
-type_no_class types.Srv = refl
-type_no_class types.Ds = refl
+type_no_class = none_passes (λ t. is_class (type_text t)) refl
 
 -- a class by its text in lower case
 class_by_case : (a b : List ℕ) → str_to_ascii_lowercase a ≡ str_to_ascii_lowercase b → is_class a ≡ is_class b

@@ -6,16 +6,13 @@ use Rattle.std.specs.List.{AllByRecursion, flat_map}
 use Rattle.dns_names.specs.Labels.{IsFolded, IsName}
 use Rattle.dns_names.specs.Spelling.{name_text, label_text, octet_text}
 use Rattle.dns_names.proofs.ReadingLaws.{text_spells}
-use Rattle.dns_data.specs.declared.rdata.Data.{Data}
-use Rattle.dns_data.specs.declared.rdata.Data.TheVariants.{A, Ns, Cname, Soa, Ptr, Mx, Txt, Aaaa, Srv, Ds}
 use Rattle.dns_data.specs.declared.record.Record.{Record}
 use Rattle.dns_data.specs.Items.{ItemText, plain}
 use Rattle.dns_data.specs.Types.{type_text}
 use Rattle.dns_data.specs.Rdata.{type_of, IsRecord}
-use Rattle.dns_data.specs.Grammar.{IsNameItem, SpellsName, IsData}
 use Rattle.dns_data.specs.Text.{data_items, record_items}
 use Rattle.dns_data.proofs.NumberLaws.{decimal_is_number}
-use Rattle.dns_data.proofs.DataLaws.{data_spells}
+use Rattle.dns_data.proofs.DataLaws.{data_relative, data_spells}
 use Rattle.dns_master.specs.declared.statement.StatedRecord.{StatedRecord}
 use Rattle.dns_master.specs.declared.statement.Statement.{Statement}
 use Rattle.dns_master.specs.declared.statement.Statement.TheVariants as statements
@@ -30,59 +27,6 @@ use Rattle.dns_master.proofs.CarriedLaws.{carried, carried_in_force}
 use Rattle.dns_master.proofs.CutLaws.{view, entries_are}
 use Rattle.dns_master.proofs.CleanLaws.{name_clean, number_clean, type_clean, data_clean}
 use Rattle.dns_master.proofs.LineLaws.{line_text, CleanLine, AreLines, lines_read}
-
--- ---- data are spelled relative to any origin
-
-module _ (origin : List (List ℕ)) where
-  name_relative : (name : List (List ℕ)) (raw : List ℕ) → SpellsName None name raw → SpellsName (Some origin) name raw
-  name_relative name raw h = (h.0, inl h.1)
-
-  item_relative : (name : List (List ℕ)) (items : List ItemText) → IsNameItem None name items → IsNameItem (Some origin) name items
-  item_relative name items h = (h.0, h.1, name_relative name h.0 h.2)
-
-  data_relative : (made : Data) (items : List ItemText) → IsData None made items → IsData (Some origin) made items
-  data_relative (A address) items h = h
-  data_relative (Ns server) items h = item_relative server items h
-  data_relative (Cname target) items h = item_relative target items h
-  data_relative (Soa soa) items h = record {
-    mname = h.mname;
-    rname = h.rname;
-    serial = h.serial;
-    refresh = h.refresh;
-    retry = h.retry;
-    expire = h.expire;
-    minimum = h.minimum;
-    items_are = h.items_are;
-    mname_is = name_relative soa.mname h.mname h.mname_is;
-    rname_is = name_relative soa.rname h.rname h.rname_is;
-    serial_is = h.serial_is;
-    refresh_is = h.refresh_is;
-    retry_is = h.retry_is;
-    expire_is = h.expire_is;
-    minimum_is = h.minimum_is;
-  }
-  data_relative (Ptr target) items h = item_relative target items h
-  data_relative (Mx preference exchange) items h = record {
-    preference_text = h.preference_text;
-    exchange_text = h.exchange_text;
-    items_are = h.items_are;
-    preference_is = h.preference_is;
-    exchange_is = name_relative exchange h.exchange_text h.exchange_is;
-  }
-  data_relative (Txt strings) items h = h
-  data_relative (Aaaa address) items h = h
-  data_relative (Srv priority weight port target) items h = record {
-    priority_text = h.priority_text;
-    weight_text = h.weight_text;
-    port_text = h.port_text;
-    target_text = h.target_text;
-    items_are = h.items_are;
-    priority_is = h.priority_is;
-    weight_is = h.weight_is;
-    port_is = h.port_is;
-    target_is = name_relative target h.target_text h.target_is;
-  }
-  data_relative (Ds key_tag algorithm digest_type digest) items h = h
 
 -- ---- a printed name makes no directive
 

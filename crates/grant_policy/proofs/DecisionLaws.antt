@@ -7,7 +7,7 @@ use Rattle.std.proofs.lemmas.List.Folds.{list_any_at}
 use Rattle.std.specs.Bool.{Decides}
 use Rattle.std.specs.List.{AllByRecursion, list_any}
 use Rattle.dns_data.specs.declared.record_type.RecordType.{RecordType}
-use Rattle.dns_data.specs.declared.record_type.RecordType.TheVariants.{A, Ns, Cname, Soa, Ptr, Mx, Txt, Aaaa, Srv, Ds}
+use Rattle.dns_data.proofs.KeptLaws.{some_type}
 use Rattle.grant_policy.specs.declared.action.Action.{Action}
 use Rattle.grant_policy.specs.declared.action.Action.TheVariants as action
 use Rattle.grant_policy.specs.declared.effect.Effect.{Effect}
@@ -55,19 +55,6 @@ some_passes {X} p (x ∷ xs) e = first (p x) refl (some_passes p xs) e
     first : (b : Bool) → p x ≡ b → (list_any p xs ≡ true → (y : X) × (p y ≡ true)) → (b || list_any p xs) ≡ true → (y : X) × (p y ≡ true)
     first true is later e = (x, is)
     first false is later e = later e
-
--- a test that a type passes is one that some type passes
-some_type : (p : RecordType → Bool) (t : RecordType) → p t ≡ true → list_any p kept_types ≡ true
-some_type p A e = list_any_at p kept_types 0 A (lit< tt) e
-some_type p Ns e = list_any_at p kept_types 1 A (lit< tt) e
-some_type p Cname e = list_any_at p kept_types 2 A (lit< tt) e
-some_type p Soa e = list_any_at p kept_types 3 A (lit< tt) e
-some_type p Ptr e = list_any_at p kept_types 4 A (lit< tt) e
-some_type p Mx e = list_any_at p kept_types 5 A (lit< tt) e
-some_type p Txt e = list_any_at p kept_types 6 A (lit< tt) e
-some_type p Aaaa e = list_any_at p kept_types 7 A (lit< tt) e
-some_type p Srv e = list_any_at p kept_types 8 A (lit< tt) e
-some_type p Ds e = list_any_at p kept_types 9 A (lit< tt) e
 
 some_action : (p : Action → Bool) (a : Action) → p a ≡ true → list_any p all_actions ≡ true
 some_action p action.List e = list_any_at p all_actions 0 action.List (lit< tt) e

@@ -9,9 +9,8 @@ use Rattle.dns_data.specs.declared.fault.DataFault.{DataFault}
 use Rattle.std.proofs.lemmas.Bool.Decides.{Decides-eqb, Decides-like}
 use Rattle.std.proofs.lemmas.Slice.Eq.{bytes_eq-Decides}
 use Rattle.dns_data.specs.declared.record_type.RecordType.{RecordType}
-use Rattle.dns_data.specs.declared.record_type.RecordType.TheVariants.{A, Ns, Cname, Soa, Ptr, Mx, Txt, Aaaa, Srv, Ds}
-use Rattle.dns_data.specs.Types.{type_number, type_text, kept_types, IsCalled}
-use Rattle.dns_data.proofs.WordLemmas.{found_passes}
+use Rattle.dns_data.specs.Types.{type_number, IsCalled}
+use Rattle.dns_data.proofs.KeptLaws.{one_number, named_called}
 use Rattle.grant_policy.specs.declared.action.Action.{Action}
 use Rattle.grant_policy.specs.declared.action.Action.TheVariants as action
 use Rattle.grant_policy.specs.Words.{action_text, action_of}
@@ -36,44 +35,13 @@ same_action-Decides a b =
 
 -- ---- types
 
-by_number : ℕ → Option RecordType
-by_number n = find (λ t. eqb (type_number t) n) (A ∷ Ns ∷ Cname ∷ Soa ∷ Ptr ∷ Mx ∷ Txt ∷ Aaaa ∷ Srv ∷ Ds ∷ [])
-
-type_own : (t : RecordType) → by_number (type_number t) ≡ Some t
-unfolding by_number
-type_own A = refl
-type_own Ns = refl
-type_own Cname = refl
-type_own Soa = refl
-type_own Ptr = refl
-type_own Mx = refl
-type_own Txt = refl
-type_own Aaaa = refl
-type_own Srv = refl
-type_own Ds = refl
-
 pub same_type-Decides : (a b : RecordType) → Decides (same_type a b) (a ≡ b)
 same_type-Decides a b =
-    Decides-like _ (λ e. same_Some a b (sym (type_own a) ∙ ap by_number e ∙ type_own b)) (ap type_number) (Decides-eqb (type_number a) (type_number b))
-
-name_found : (t : RecordType) → find (λ u. bytes_eq (str_to_ascii_lowercase (type_text u)) (str_to_ascii_lowercase (type_text t))) kept_types ≡ Some t
-name_found A = refl
-name_found Ns = refl
-name_found Cname = refl
-name_found Soa = refl
-name_found Ptr = refl
-name_found Mx = refl
-name_found Txt = refl
-name_found Aaaa = refl
-name_found Srv = refl
-name_found Ds = refl
+    Decides-like _ (one_number a b) (ap type_number) (Decides-eqb (type_number a) (type_number b))
 
 -- a text is read as the type that it is called
 pub type_named : (text : List ℕ) (t : RecordType) → (type_of text ≡ Some t) ↔ IsCalled t text
-type_named text t = (
-  λ found. sym ((bytes_eq-Decides _ _).0 (found_passes (λ u. str_eq_ignore_ascii_case (type_text u) text) kept_types t found)),
-  λ called. subst (λ (k : List ℕ). find (λ u. bytes_eq (str_to_ascii_lowercase (type_text u)) k) kept_types ≡ Some t) (sym called) (name_found t),
-)
+type_named = named_called
 
 -- what holds the same values is the same
 same_options : {T : Type 0} (a b : Option T) → ((t : T) → a ≡ Some t → b ≡ Some t) → ((t : T) → b ≡ Some t → a ≡ Some t) → a ≡ b

@@ -4,8 +4,8 @@ use Rattle.std.specs.Prelude.{◌&&◌, option_map, slice_get}
 use Rattle.std.specs.List.{Contains, AllPairs, cons_option, list_all}
 use Rattle.std.proofs.lemmas.Bool.Decides.{nat_tests}
 use Rattle.dns_data.specs.declared.record_type.RecordType.{RecordType}
-use Rattle.dns_data.specs.declared.record_type.RecordType.TheVariants.{A, Ns, Cname, Soa, Ptr, Mx, Txt, Aaaa, Srv, Ds}
 use Rattle.dns_data.specs.Types.{kept_types, type_number}
+use Rattle.dns_data.proofs.KeptLaws.{each_kept}
 use Rattle.grant_policy.specs.declared.action.Action.{Action}
 use Rattle.zone_core.specs.declared.update.ItemList.{ItemList}
 use Rattle.zone_core.specs.declared.update.ItemList.TheVariants as lists
@@ -43,18 +43,6 @@ pub contains : {X : Type 0} (xs : List X) (x : X) → In x xs → Contains xs x
 contains [] x i = absurd i
 contains (y ∷ ys) x (inl e) = (0, omega arith, e)
 contains (y ∷ ys) x (inr i) = let c = contains ys x i in (suc c.0, omega (arith, c.1), c.2)
-
-each_kept : (t : RecordType) → In t kept_types
-each_kept A = inl refl
-each_kept Ns = inr (inl refl)
-each_kept Cname = inr (inr (inl refl))
-each_kept Soa = inr (inr (inr (inl refl)))
-each_kept Ptr = inr (inr (inr (inr (inl refl))))
-each_kept Mx = inr (inr (inr (inr (inr (inl refl)))))
-each_kept Txt = inr (inr (inr (inr (inr (inr (inl refl))))))
-each_kept Aaaa = inr (inr (inr (inr (inr (inr (inr (inl refl)))))))
-each_kept Srv = inr (inr (inr (inr (inr (inr (inr (inr (inl refl))))))))
-each_kept Ds = inr (inr (inr (inr (inr (inr (inr (inr (inr (inl refl)))))))))
 
 -- ---- the points of an item
 
@@ -153,7 +141,7 @@ module _ {X : Type 0} (name : X → List (List ℕ)) (asks : X → RecordType �
           inl (record {
             at_place = place ∙ ap (place_in list) n;
             named = named ∙ ap name same;
-            among = each_kept p.record_type;
+            among = contained kept_types p.record_type (each_kept p.record_type);
             asked = subst (λ (z : X). asks z p.record_type ≡ Some p.action) same asked;
           })
       by_number (suc k) y at place named asked =

@@ -4,8 +4,8 @@ use Rattle.std.specs.Prelude.{option_map, slice_get, IfSome}
 use Rattle.std.specs.List.{AllByRecursion, cons_option}
 use Rattle.std.specs.Option.{option_or}
 use Rattle.dns_data.specs.declared.record_type.RecordType.{RecordType}
-use Rattle.dns_data.specs.declared.record_type.RecordType.TheVariants.{A, Ns, Cname, Soa, Ptr, Mx, Txt, Aaaa, Srv, Ds}
 use Rattle.dns_data.specs.Types.{kept_types}
+use Rattle.dns_data.proofs.KeptLaws.{each_type}
 use Rattle.grant_policy.specs.declared.action.Action.{Action}
 use Rattle.grant_policy.specs.declared.rule.Rule.{Rule}
 use Rattle.grant_policy.specs.Decisions.{Verdict, granted, denied, decision}
@@ -26,19 +26,6 @@ all_append P [] ys = (λ all. (tt, all), λ both. both.1)
 all_append P (x ∷ xs) ys =
     let rest = all_append P xs ys in
     (λ all. ((all.0, (rest.0 all.1).0), (rest.0 all.1).1), λ both. (both.0.0, rest.1 (both.0.1, both.1)))
-
--- what holds of all kept types holds of each type
-each_type : (P : RecordType → Type 0) → AllByRecursion P kept_types → (t : RecordType) → P t
-each_type P all A = all.0
-each_type P all Ns = all.1.0
-each_type P all Cname = all.1.1.0
-each_type P all Soa = all.1.1.1.0
-each_type P all Ptr = all.1.1.1.1.0
-each_type P all Mx = all.1.1.1.1.1.0
-each_type P all Txt = all.1.1.1.1.1.1.0
-each_type P all Aaaa = all.1.1.1.1.1.1.1.0
-each_type P all Srv = all.1.1.1.1.1.1.1.1.0
-each_type P all Ds = all.1.1.1.1.1.1.1.1.1.0
 
 module _ (rules : List Rule) (caller : List ℕ) where
   abbrev pub Granted : Point → Type 0

@@ -10,12 +10,12 @@ use Rattle.dns_names.proofs.ReadingLaws.{absolute_again}
 use Rattle.dns_data.specs.declared.rdata.Data.{Data}
 use Rattle.dns_data.specs.declared.record.Record.{Record}
 use Rattle.dns_data.specs.declared.record_type.RecordType.{RecordType}
-use Rattle.dns_data.specs.declared.record_type.RecordType.TheVariants as types
 use Rattle.dns_data.specs.Rdata.{type_of, IsRdata, IsRecord}
 use Rattle.dns_data.specs.Reading.{data_of}
 use Rattle.dns_data.specs.Text.{data_items, data_text}
 use Rattle.dns_data.specs.Types.{kept_types, type_number}
-use Rattle.dns_data.proofs.DataLaws.{data_again, some_items}
+use Rattle.dns_data.proofs.DataLaws.{data_again, data_typed, some_items}
+use Rattle.dns_data.proofs.KeptLaws.{number_found}
 use Rattle.dns_data.proofs.WordLemmas.{found_passes}
 use Rattle.dns_master.proofs.CleanLaws.{data_clean}
 use Rattle.office_rows.specs.declared.row_fault.RowFault.{RowFault}
@@ -24,7 +24,6 @@ use Rattle.office_rows.specs.RowFaults.{◌>>=◌, of_names, of_datas, canonical
 use Rattle.office_rows.specs.RowReading.{name_in, fields_of, type_in, data_in, ttl_in, record_at}
 use Rattle.office_rows.proofs.RowSteps.{done, ok_is, step_ok, datas_ok, or_bad_ok, needed_ok, canonical_again, canonical_ok}
 use Rattle.office_rows.proofs.FieldsLaws.{fields_read}
-use Rattle.office_rows.proofs.TypedLaws.{data_typed}
 
 -- ---- names
 
@@ -41,16 +40,7 @@ name_found text name e =
 -- ---- types
 
 pub type_read : (t : RecordType) → type_in (pos (type_number t)) ≡ Ok t
-type_read types.A = refl
-type_read types.Ns = refl
-type_read types.Cname = refl
-type_read types.Soa = refl
-type_read types.Ptr = refl
-type_read types.Mx = refl
-type_read types.Txt = refl
-type_read types.Aaaa = refl
-type_read types.Srv = refl
-type_read types.Ds = refl
+type_read t = ap or_bad (number_found t)
 
 pub type_found : (number : ℤ) (t : RecordType) → type_in number ≡ Ok t → number ≡ pos (type_number t)
 type_found (pos n) t e =
@@ -72,7 +62,7 @@ data_found t text rdata e =
     let s = step_ok (fields_of text) (λ items. of_datas (data_of t None items) >>= λ d. canonical (data_text d) text d) rdata e in
     let d = step_ok (of_datas (data_of t None s.0)) (λ d. canonical (data_text d) text d) rdata s.2 in
     let same = canonical_ok (data_text d.0) text d.0 rdata d.2 in
-    (sym (ap type_of same.1) ∙ data_typed t s.0 d.0 (datas_ok (data_of t None s.0) d.0 d.1), sym same.0 ∙ ap data_text same.1)
+    (sym (ap type_of same.1) ∙ data_typed t None s.0 d.0 (datas_ok (data_of t None s.0) d.0 d.1), sym same.0 ∙ ap data_text same.1)
 
 -- ---- TTLs
 

@@ -2,7 +2,6 @@ pub mod RowSteps
 pub mod OrderLemmas
 pub mod ListLemmas
 pub mod FieldsLaws
-pub mod TypedLaws
 pub mod ColumnLaws
 pub mod NameLemmas
 pub mod RecordRowLaws
