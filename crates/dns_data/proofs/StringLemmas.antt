@@ -1,8 +1,8 @@
 -- Reading character-strings, one symbol after another.
 use Rattle.std.proofs.Common.{◌≡◌, ℕ, ◌<◌, List, [], ◌∷◌, ◌++◌, length, map, Result, Ok, Err, refl, sym, ap, ◌∙◌, append_assoc, arith}
 use Rattle.std.proofs.lemmas.List.{append-nil}
-use Rattle.dns_names.specs.declared.fault.NameFault.{NameFault}
-use Rattle.dns_names.specs.declared.fault.NameFault.TheVariants as names
+use Rattle.dns_names.specs.declared.name_fault.NameFault.{NameFault}
+use Rattle.dns_names.specs.declared.name_fault.NameFault.TheVariants as names
 use Rattle.dns_names.specs.declared.symbol.Symbol.{Symbol}
 use Rattle.dns_names.specs.Faults.{Refuses as RefusesName}
 use Rattle.dns_names.specs.Reading.{symbols, symbols_within, symbol_at, ◌>>=◌ as bind_names}

@@ -3,8 +3,8 @@ use Rattle.std.proofs.Common.{◌≡◌, ℕ, List, [], ◌∷◌, ◌++◌, len
 use lib.Seq.{take-append_seam}
 use Rattle.std.specs.Io.KnownBytes.{Appends, Keeps}
 use Rattle.std.proofs.KnownBytes.{Appends-nil, Appends-trans, Appends-kept}
-use Rattle.dns_master.specs.declared.fault.MasterFault.{MasterFault}
-use Rattle.dns_master.specs.declared.fault.MasterFault.TheVariants.{ParenOpen, ParenClose, QuoteOpen, NoOwner, NoTtl, ClassNotIn, DirectiveNotKept, BadTtl, Data, TooLarge, EntryShort, WriteFailed, NoMemory}
+use Rattle.dns_master.specs.declared.master_fault.MasterFault.{MasterFault}
+use Rattle.dns_master.specs.declared.master_fault.MasterFault.TheVariants.{ParenOpen, ParenClose, QuoteOpen, NoOwner, NoTtl, ClassNotIn, DirectiveNotKept, BadTtl, Data, TooLarge, EntryShort, WriteFailed, NoMemory}
 use Rattle.dns_master.specs.Device.{AppendsFront, TextWritten}
 
 -- a front of the text went out, and this is left of it

@@ -7,8 +7,8 @@ use Rattle.dns_names.proofs.SymbolLaws.{IsBytes}
 use Rattle.dns_data.specs.declared.rdata.Data.{Data}
 use Rattle.dns_data.specs.declared.record.Record.{Record}
 use Rattle.dns_data.specs.Items.{ItemText}
-use Rattle.dns_master.specs.declared.fault.MasterFault.{MasterFault}
-use Rattle.dns_master.specs.declared.fault.MasterFault.TheVariants.{TooLarge}
+use Rattle.dns_master.specs.declared.master_fault.MasterFault.{MasterFault}
+use Rattle.dns_master.specs.declared.master_fault.MasterFault.TheVariants.{TooLarge}
 use Rattle.dns_master.specs.declared.shape.ShapeFault.{ShapeFault}
 use Rattle.dns_master.specs.declared.entry_fault.EntryFault.{EntryFault}
 use Rattle.dns_master.specs.declared.entry_fault.EntryFault.TheVariants as faults

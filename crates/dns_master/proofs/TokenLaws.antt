@@ -1,6 +1,6 @@
 -- The tokens and the entries of a text tell the same of it.
 use Rattle.std.proofs.Common.{◌≡◌, ℕ, List, Result, Ok, Err, refl, sym, ap}
-use Rattle.dns_master.specs.declared.fault.MasterFault.{MasterFault}
+use Rattle.dns_master.specs.declared.master_fault.MasterFault.{MasterFault}
 use Rattle.dns_master.specs.declared.shape.ShapeFault.{ShapeFault}
 use Rattle.dns_master.specs.Entries.{◌>>=◌, Entry, entries}
 use Rattle.dns_master.specs.Faults.{on_line, on_lines}

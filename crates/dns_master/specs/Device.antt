@@ -1,8 +1,8 @@
 -- What went through a device.
 use Rattle.std.specs.Prelude.{◌≡◌, ℕ, ◌+◌, ◌-◌, ◌^◌, ◌<◌, ◌≤◌, min, List, ◌++◌, length, take, Option, Result, Ok, Err}
 use Rattle.std.specs.Io.KnownBytes.{Appends}
-use Rattle.dns_master.specs.declared.fault.MasterFault.{MasterFault}
-use Rattle.dns_master.specs.declared.fault.MasterFault.TheVariants.{WriteFailed, NoMemory}
+use Rattle.dns_master.specs.declared.master_fault.MasterFault.{MasterFault}
+use Rattle.dns_master.specs.declared.master_fault.MasterFault.TheVariants.{WriteFailed, NoMemory}
 use Rattle.dns_master.specs.declared.device.Pieces.{Pieces}
 
 -- one more call is counted, as far as the count goes, and the device goes on as it was made

@@ -1,7 +1,7 @@
 -- The refusals of master files, by their published numbers and their lines.
 use Rattle.std.specs.Prelude.{◌≡◌, ℕ, ◌-◌, List, length, Option, Some, None, Result, Ok, Err}
-use Rattle.dns_master.specs.declared.fault.MasterFault.{MasterFault}
-use Rattle.dns_master.specs.declared.fault.MasterFault.TheVariants.{ParenOpen, ParenClose, QuoteOpen, NoOwner, NoTtl, ClassNotIn, DirectiveNotKept, BadTtl, Data, TooLarge, EntryShort, WriteFailed, NoMemory}
+use Rattle.dns_master.specs.declared.master_fault.MasterFault.{MasterFault}
+use Rattle.dns_master.specs.declared.master_fault.MasterFault.TheVariants.{ParenOpen, ParenClose, QuoteOpen, NoOwner, NoTtl, ClassNotIn, DirectiveNotKept, BadTtl, Data, TooLarge, EntryShort, WriteFailed, NoMemory}
 use Rattle.dns_master.specs.declared.shape.ShapeFault.{ShapeFault}
 use Rattle.dns_master.specs.declared.shape.ShapeFault.TheVariants as shapes
 use Rattle.dns_master.specs.Lines.{line_at}

@@ -1,7 +1,7 @@
 -- Where the parentheses and quotes of a text are wrong (RFC 1035 section 5.1).
 use Rattle.std.specs.Prelude.{◌≡◌, ℕ, suc, List, [], ◌∷◌, ◌++◌, Option, Some, None}
-use Rattle.dns_master.specs.declared.fault.MasterFault.{MasterFault}
-use Rattle.dns_master.specs.declared.fault.MasterFault.TheVariants.{ParenOpen, ParenClose, QuoteOpen, NoMemory}
+use Rattle.dns_master.specs.declared.master_fault.MasterFault.{MasterFault}
+use Rattle.dns_master.specs.declared.master_fault.MasterFault.TheVariants.{ParenOpen, ParenClose, QuoteOpen, NoMemory}
 use Rattle.dns_master.specs.Pieces.{Piece, Open, Close}
 use Rattle.dns_master.specs.Grammar.{pieces_text, ArePieces}
 use Rattle.dns_master.specs.Lines.{line_ends}

@@ -1,7 +1,7 @@
 -- The tokens of a text: its items, each with its place, its line and the number of its entry (RFC 1035 section 5.1).
 use Rattle.std.specs.Prelude.{◌≡◌, ℕ, suc, ◌-◌, List, [], ◌∷◌, ◌++◌, length, map, Bool, true, false, ◌&&◌, ◌==◌, if◌then◌else◌, None, Result, Ok}
 use Rattle.dns_data.specs.Items.{ItemText, item_of, plain, in_quotes}
-use Rattle.dns_master.specs.declared.fault.MasterFault.{MasterFault}
+use Rattle.dns_master.specs.declared.master_fault.MasterFault.{MasterFault}
 use Rattle.dns_master.specs.declared.shape.ShapeFault.{ShapeFault}
 use Rattle.dns_master.specs.declared.token.Token.{Token}
 use Rattle.dns_master.specs.Pieces.{Piece, LineEnd, Quoted, Plain}

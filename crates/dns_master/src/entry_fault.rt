@@ -4,7 +4,7 @@ ghost use Rattle.std.specs.Prelude.{◌≡◌};
 ghost use Rattle.dns_master.specs.declared.entry_fault.EntryFault.TheVariants.{NoMemory};
 ghost use Rattle.dns_master.specs.EntryFaults.{of_data, of_name, entry_fault_on_line};
 
-use crate::fault::MasterFault;
+use crate::master_fault::MasterFault;
 use dns_data::DataFault;
 use dns_names::NameFault;
 use std::alloc::{AllocError, AllocFailed};

@@ -16,7 +16,7 @@ ghost use Rattle.dns_master.specs.FileViews.{GivesFile};
 
 use crate::entry::{check_rest, read_entry};
 use crate::entry_fault::EntryFault;
-use crate::fault::MasterFault;
+use crate::master_fault::MasterFault;
 use crate::shape::{ShapeFault, line_before};
 use crate::statement::{EntryItems, StatedRecord, Statement, read_statement};
 use dns_data::{Data, Record, Ttl};

@@ -5,7 +5,7 @@
 mod device;
 mod entry;
 mod entry_fault;
-mod fault;
+mod master_fault;
 mod field;
 mod file;
 mod laws;
@@ -18,7 +18,7 @@ mod token;
 mod zone_text;
 
 pub use device::{Counted, DeviceFailed, FaultCount, Pieces, Sink, Source};
-pub use fault::MasterFault;
+pub use master_fault::MasterFault;
 pub use file::read_file;
 pub use laws::{
     defaults_are_one, defaults_are_there, depths_are_counted, pieces_are_one_list, pieces_are_read,

@@ -5,7 +5,7 @@ ghost use Rattle.dns_master.specs.declared.shape.ShapeFault.TheVariants.{NoMemor
 ghost use Rattle.dns_master.specs.Faults.{on_line};
 ghost use Rattle.dns_master.specs.Lines.{line_at};
 
-use crate::fault::MasterFault;
+use crate::master_fault::MasterFault;
 use crate::line::{Mark, line_at};
 use std::alloc::{AllocError, AllocFailed};
 

@@ -5,7 +5,7 @@ ghost use Rattle.dns_master.specs.Device.{TextWritten, Drained};
 ghost use Rattle.dns_master.specs.ZoneText.{origin_line, ended_line, records_text, zone_text};
 
 use crate::device::Sink;
-use crate::fault::MasterFault;
+use crate::master_fault::MasterFault;
 use dns_data::Record;
 use dns_names::Name;
 use std::alloc::{AllocError, Global};

@@ -4,8 +4,8 @@ use Rattle.std.proofs.lemmas.Bool.{cond_both, or_parts, or_from, eqb-false}
 use Rattle.std.proofs.lemmas.Bool.Decides.{nat_tests}
 use Rattle.std.specs.List.{AllByRecursion, list_any}
 use Rattle.std.specs.Char.{to_ascii_lowercase}
-use Rattle.dns_names.specs.declared.fault.NameFault.{NameFault}
-use Rattle.dns_names.specs.declared.fault.NameFault.TheVariants.{EmptyLabel, LabelTooLong, NameTooLong}
+use Rattle.dns_names.specs.declared.name_fault.NameFault.{NameFault}
+use Rattle.dns_names.specs.declared.name_fault.NameFault.TheVariants.{EmptyLabel, LabelTooLong, NameTooLong}
 use Rattle.dns_names.specs.Labels.{IsFolded, IsLabel, wire_len}
 use Rattle.dns_names.specs.Spelling.{SpellsFolded, SpellsLabel, SpellsLabels}
 use Rattle.dns_names.specs.Reading.{◌>>=◌, Pieces, cut, is_empty, is_long, checked, pieces_of, fitting}

@@ -3,8 +3,8 @@ use Rattle.std.proofs.Common.{◌≡◌, ℕ, ◌<◌, ◌≤◌, List, [], ◌�
 use Rattle.std.specs.List.{AllByRecursion}
 use Rattle.std.proofs.lemmas.Bool.{lt-ltb}
 use Rattle.std.proofs.lemmas.List.{nil_from_length}
-use Rattle.dns_names.specs.declared.fault.NameFault.{NameFault}
-use Rattle.dns_names.specs.declared.fault.NameFault.TheVariants.{NameTooLong, NotAbsolute}
+use Rattle.dns_names.specs.declared.name_fault.NameFault.{NameFault}
+use Rattle.dns_names.specs.declared.name_fault.NameFault.TheVariants.{NameTooLong, NotAbsolute}
 use Rattle.dns_names.specs.Labels.{IsLabel, IsName, wire_len}
 use Rattle.dns_names.specs.Reading.{◌>>=◌, Pieces, is_empty, pieces_of, ended, ended_name, fitting, placed, placed_name}
 use Rattle.dns_names.specs.Rows.{AreEnded, with_dot}

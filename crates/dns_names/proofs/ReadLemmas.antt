@@ -2,7 +2,7 @@
 use Rattle.std.proofs.Common.{◌≡◌, ℕ, ◌<◌, List, get_or, Result, Ok, Err}
 use Rattle.std.specs.Result.{IfOk}
 use Rattle.std.proofs.lemmas.List.Elements.{recursion_from_All, All-from_get_or}
-use Rattle.dns_names.specs.declared.fault.NameFault.{NameFault}
+use Rattle.dns_names.specs.declared.name_fault.NameFault.{NameFault}
 use Rattle.dns_names.specs.Faults.{Reads}
 use Rattle.dns_names.proofs.SymbolLaws.{IsBytes}
 

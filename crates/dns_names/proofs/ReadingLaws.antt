@@ -4,7 +4,7 @@ use Rattle.std.proofs.lemmas.Bool.{cond_both, and_parts, and_right, and_from, ag
 use Rattle.std.proofs.lemmas.List.{nil_from_length, same_from_push}
 use Rattle.std.specs.List.{AllByRecursion, flat_map}
 use Rattle.std.specs.Char.{is_ascii_digit}
-use Rattle.dns_names.specs.declared.fault.NameFault.TheVariants.{NotAbsolute}
+use Rattle.dns_names.specs.declared.name_fault.NameFault.TheVariants.{NotAbsolute}
 use Rattle.dns_names.specs.Labels.{IsFolded, IsLabel, IsName, wire_len}
 use Rattle.dns_names.specs.Spelling.{three_digits, SpellsOctet, SpellsLabel, SpellsLabels, SpellsAbsolute, SpellsRelative, is_special, octet_text, label_text, name_text}
 use Rattle.dns_names.specs.Reading.{Pieces, cut, is_empty, pieces_of, fitting, ended, ended_name, absolute_name, placed, placed_name, relative_name}

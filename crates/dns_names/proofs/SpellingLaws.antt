@@ -1,7 +1,7 @@
 -- Texts cut at their dots: the pieces are spelled by the text, and the pieces that a text spells are cut from it.
 use Rattle.std.proofs.Common.{◌≡◌, ℕ, zero, suc, ◌<◌, ◌≤◌, ◌⊎◌, inl, inr, List, [], ◌∷◌, ◌++◌, length, Result, Ok, Err, refl, sym, ap, subst, ◌∙◌, append_assoc, append-nil, arith}
 use Rattle.std.specs.Char.{to_ascii_lowercase}
-use Rattle.dns_names.specs.declared.fault.NameFault.{NameFault}
+use Rattle.dns_names.specs.declared.name_fault.NameFault.{NameFault}
 use Rattle.dns_names.specs.declared.symbol.Symbol.{Symbol}
 use Rattle.dns_names.specs.declared.symbol.Symbol.TheVariants.{Dot, Octet}
 use Rattle.dns_names.specs.Spelling.{SpellsOctet, SpellsLabel, SpellsLabels}

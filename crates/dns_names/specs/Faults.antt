@@ -1,7 +1,7 @@
 -- The refusals of names, by their published numbers.
 use Rattle.std.specs.Prelude.{◌≡◌, ℕ, Result, Ok, Err}
-use Rattle.dns_names.specs.declared.fault.NameFault.{NameFault}
-use Rattle.dns_names.specs.declared.fault.NameFault.TheVariants.{EmptyLabel, LabelTooLong, NameTooLong, BadEscape, NotAbsolute, Empty, NoMemory}
+use Rattle.dns_names.specs.declared.name_fault.NameFault.{NameFault}
+use Rattle.dns_names.specs.declared.name_fault.NameFault.TheVariants.{EmptyLabel, LabelTooLong, NameTooLong, BadEscape, NotAbsolute, Empty, NoMemory}
 
 abbrev pub fault_number : NameFault → ℕ
 fault_number EmptyLabel = 1

@@ -3,8 +3,8 @@
 use Rattle.std.specs.Prelude.{ℕ, zero, suc, ◌+◌, ◌-◌, ◌*◌, List, [], ◌∷◌, ◌++◌, length, Bool, ◌||◌, ◌&&◌, nat_lt, nat_le, ◌==◌, if◌then◌else◌, Result, Ok, Err}
 use Rattle.std.specs.List.{list_any}
 use Rattle.std.specs.Char.{to_ascii_lowercase, is_ascii_digit}
-use Rattle.dns_names.specs.declared.fault.NameFault.{NameFault}
-use Rattle.dns_names.specs.declared.fault.NameFault.TheVariants.{EmptyLabel, LabelTooLong, NameTooLong, BadEscape, NotAbsolute, Empty}
+use Rattle.dns_names.specs.declared.name_fault.NameFault.{NameFault}
+use Rattle.dns_names.specs.declared.name_fault.NameFault.TheVariants.{EmptyLabel, LabelTooLong, NameTooLong, BadEscape, NotAbsolute, Empty}
 use Rattle.dns_names.specs.declared.symbol.Symbol.{Symbol}
 use Rattle.dns_names.specs.declared.symbol.Symbol.TheVariants.{Dot, Octet}
 use Rattle.dns_names.specs.Labels.{wire_len}

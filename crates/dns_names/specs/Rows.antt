@@ -1,7 +1,7 @@
 -- How a name stands in memory, and what is kept of a text while it is cut into labels.
 use Rattle.std.specs.Prelude.{◌≡◌, ◌≤◌, ◌⊎◌, ℕ, ◌+◌, ◌-◌, List, [], ◌∷◌, ◌++◌, length, take, drop, map, reverse, min, false, ◌==◌, if◌then◌else◌, Option, Some, None, Result, Ok, Err}
 use Rattle.std.specs.List.{concat, flat_map, list_any}
-use Rattle.dns_names.specs.declared.fault.NameFault.{NameFault}
+use Rattle.dns_names.specs.declared.name_fault.NameFault.{NameFault}
 use Rattle.dns_names.specs.declared.pieces.PieceRows.{PieceRows}
 use Rattle.dns_names.specs.Faults.{Refuses}
 use Rattle.dns_names.specs.Labels.{IsName, wire_len}

@@ -3,17 +3,17 @@
 //! a contract sees a name as the list of its labels, leftmost first.
 #![tactic(auto)]
 
-mod fault;
+mod name_fault;
 mod labels;
 mod name;
 mod octets;
 mod pieces;
-mod rows;
+mod representation;
 mod symbol;
 mod text;
 mod text_order;
 
-pub use fault::NameFault;
+pub use name_fault::NameFault;
 pub use labels::Labels;
 pub use name::{KeyRange, Name};
 pub use octets::cmp_octets;

@@ -12,11 +12,11 @@ ghost use Rattle.dns_names.specs.Rows.{AreRows, IsPlain, name_in};
 ghost use Rattle.dns_names.specs.Spelling.{SpellsAbsolute, SpellsRelative, name_text};
 ghost use Rattle.dns_names.specs.Reading.{absolute_name, ended_name, relative_name, placed_name};
 
-use crate::fault::NameFault;
+use crate::name_fault::NameFault;
 use crate::labels::Labels;
 use crate::octets::cmp_octets;
 use crate::pieces::PieceRows;
-use crate::rows::{
+use crate::representation::{
     ESCAPED, NewLabels, Rows, behind_label, escapes, push_key, push_row, stand_in_keys,
 };
 use std::alloc::{AllocError, Global};

@@ -4,7 +4,7 @@ ghost use Rattle.std.specs.Prelude.{◌≡◌, ◌+◌, ◌<◌, ◌≤◌, ◌^
 ghost use Rattle.dns_names.specs.Faults.{Reads};
 ghost use Rattle.dns_names.specs.Reading.{Pieces, cut, checked, pieces_of};
 
-use crate::fault::NameFault;
+use crate::name_fault::NameFault;
 use crate::symbol::{Symbol, first_symbol};
 
 /// The most octets of a label (RFC 1035 section 2.3.4).

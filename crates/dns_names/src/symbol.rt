@@ -5,7 +5,7 @@ ghost use Rattle.std.specs.Char.{is_ascii_digit};
 ghost use Rattle.dns_names.specs.Faults.{Reads};
 ghost use Rattle.dns_names.specs.Reading.{symbol_at, escaped, numbered};
 
-use crate::fault::NameFault;
+use crate::name_fault::NameFault;
 
 /// What stands in the text of a name (RFC 1035 section 5.1).
 #[derive(Clone, Copy, PartialEq, Eq)]

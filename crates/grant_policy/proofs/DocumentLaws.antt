@@ -17,12 +17,12 @@ use Rattle.grant_policy.specs.declared.effect.Effect.{Effect}
 use Rattle.grant_policy.specs.declared.effect.Effect.TheVariants.{Grant, Deny}
 use Rattle.grant_policy.specs.declared.scope.Scope.{Scope}
 use Rattle.grant_policy.specs.declared.scope.Scope.TheVariants as scope
-use Rattle.grant_policy.specs.declared.fault.PolicyFault.{PolicyFault}
-use Rattle.grant_policy.specs.declared.fault.PolicyFault.TheVariants.{UnknownKey, MissingKey, BadValue}
-use Rattle.grant_policy.specs.declared.fault.Place.{Place}
-use Rattle.grant_policy.specs.declared.fault.Place.TheVariants as place
-use Rattle.grant_policy.specs.declared.fault.RuleKey.{RuleKey}
-use Rattle.grant_policy.specs.declared.fault.RuleKey.TheVariants as key
+use Rattle.grant_policy.specs.declared.policy_fault.PolicyFault.{PolicyFault}
+use Rattle.grant_policy.specs.declared.policy_fault.PolicyFault.TheVariants.{UnknownKey, MissingKey, BadValue}
+use Rattle.grant_policy.specs.declared.policy_fault.Place.{Place}
+use Rattle.grant_policy.specs.declared.policy_fault.Place.TheVariants as place
+use Rattle.grant_policy.specs.declared.policy_fault.RuleKey.{RuleKey}
+use Rattle.grant_policy.specs.declared.policy_fault.RuleKey.TheVariants as key
 use Rattle.grant_policy.specs.declared.rule.Rule.{Rule}
 use Rattle.grant_policy.specs.Identifiers.{IsIdentifier}
 use Rattle.grant_policy.specs.Words.{effect_text, scope_text, action_text, effect_of, scope_of, action_of, all_actions}

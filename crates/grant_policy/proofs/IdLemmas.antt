@@ -12,7 +12,7 @@ use Rattle.std.proofs.lemmas.Bool.Decides.{same_from_decides}
 use Rattle.std.proofs.lemmas.List.Folds.{list_any-append}
 use Rattle.std.proofs.lemmas.Map.Lookups.{exact_bytes}
 use Rattle.std.proofs.lemmas.Slice.Eq.{bytes_eq-Decides}
-use Rattle.grant_policy.specs.declared.fault.PolicyFault.TheVariants.{IdRepeated}
+use Rattle.grant_policy.specs.declared.policy_fault.PolicyFault.TheVariants.{IdRepeated}
 use Rattle.grant_policy.specs.Reading.{is_among, SameIds, free_id}
 
 is_tied : (r : Ordering) → is_eq r ≡ true → r ≡ Equal

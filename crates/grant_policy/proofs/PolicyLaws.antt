@@ -6,8 +6,8 @@ use Rattle.std.specs.Result.{IfOk}
 use Rattle.std.proofs.lemmas.Bool.{cases_Bool, cases_lt, lt-ltb, le-ltb, false≢true}
 use Rattle.std.proofs.lemmas.Bool.Decides.{not_from_Decides}
 use Rattle.std.proofs.lemmas.Slice.Eq.{bytes_eq-Decides}
-use Rattle.grant_policy.specs.declared.fault.PolicyFault.{PolicyFault}
-use Rattle.grant_policy.specs.declared.fault.PolicyFault.TheVariants.{BadValue, IdRepeated, IdReserved, TooManyRules}
+use Rattle.grant_policy.specs.declared.policy_fault.PolicyFault.{PolicyFault}
+use Rattle.grant_policy.specs.declared.policy_fault.PolicyFault.TheVariants.{BadValue, IdRepeated, IdReserved, TooManyRules}
 use Rattle.grant_policy.specs.declared.rule.Rule.{Rule}
 use Rattle.grant_policy.specs.Documents.{AreRules, SpellsItems, SpellsSelection}
 use Rattle.grant_policy.specs.Faults.{Reads, ◌>>=◌}
@@ -15,7 +15,7 @@ use Rattle.grant_policy.specs.Reading.{is_among, free_id, free_rules, few, built
 use Rattle.grant_policy.proofs.IdLemmas.{among_push}
 use Rattle.std.specs.Option.{ok_or}
 use Rattle.toml.specs.Data.{Data, string, integer, float, boolean, datetime, array, table, Items, no_items, item, as_str}
-use Rattle.grant_policy.specs.declared.fault.Place.{Place}
+use Rattle.grant_policy.specs.declared.policy_fault.Place.{Place}
 
 -- what is true of each value that a definition reads is true of what a call answers
 pub found_of : {X : Type 0} (P : X → Type 0) (r read : Result X PolicyFault) → Reads (λ x. x) r read → ((x : X) → read ≡ Ok x → P x) → IfOk r P

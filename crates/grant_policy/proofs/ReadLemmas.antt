@@ -5,13 +5,13 @@ use Rattle.std.proofs.lemmas.List.{drop_all, map-append, take_more, drop_more, t
 use Rattle.toml.specs.declared.value.Value.{Value}
 use Rattle.toml.specs.Data.{Data, string, integer, float, boolean, datetime, array, table, Items, item, Members, as_str, as_array, as_table}
 use Rattle.toml.specs.View.{view, items_view, members_view}
-use Rattle.grant_policy.specs.declared.fault.PolicyFault.{PolicyFault}
-use Rattle.grant_policy.specs.declared.fault.PolicyFault.TheVariants.{NotToml, UnknownKey, MissingKey, BadValue, IdRepeated, IdReserved, TooManyRules, Name, NoMemory}
-use Rattle.grant_policy.specs.declared.fault.Place.{Place}
+use Rattle.grant_policy.specs.declared.policy_fault.PolicyFault.{PolicyFault}
+use Rattle.grant_policy.specs.declared.policy_fault.PolicyFault.TheVariants.{NotToml, UnknownKey, MissingKey, BadValue, IdRepeated, IdReserved, TooManyRules, Name, NoMemory}
+use Rattle.grant_policy.specs.declared.policy_fault.Place.{Place}
 use Rattle.grant_policy.specs.Faults.{Refuses, ◌>>=◌}
 use Rattle.grant_policy.specs.Reading.{word_in, words_of, selection_in, rule_of, rules_of, IsNamedIn, AreNamedIn, has_only, tables_of, rule_tables, SameIds, is_among, free_id, free_rules}
 use Rattle.grant_policy.specs.Documents.{document_of}
-use Rattle.grant_policy.specs.declared.fault.Place.TheVariants.{Rules}
+use Rattle.grant_policy.specs.declared.policy_fault.Place.TheVariants.{Rules}
 use Rattle.toml.specs.Parse.{parse_document}
 use Rattle.std.specs.Option.{ok_or}
 use Rattle.std.specs.Str.{IsUtf8, is_utf8}

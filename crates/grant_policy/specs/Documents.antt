@@ -9,8 +9,8 @@ use Rattle.dns_names.specs.Spelling.{SpellsAbsolute}
 use Rattle.dns_data.specs.Types.{IsCalled}
 use Rattle.grant_policy.specs.declared.callers.Callers.{Callers}
 use Rattle.grant_policy.specs.declared.callers.Callers.TheVariants.{Every, One}
-use Rattle.grant_policy.specs.declared.fault.RuleKey.{RuleKey}
-use Rattle.grant_policy.specs.declared.fault.RuleKey.TheVariants as key
+use Rattle.grant_policy.specs.declared.policy_fault.RuleKey.{RuleKey}
+use Rattle.grant_policy.specs.declared.policy_fault.RuleKey.TheVariants as key
 use Rattle.grant_policy.specs.declared.rule.Rule.{Rule}
 use Rattle.grant_policy.specs.Identifiers.{IsIdentifier}
 use Rattle.grant_policy.specs.Words.{effect_text, scope_text, action_text}

@@ -1,9 +1,9 @@
 -- The refusals of policies, by their published numbers.
 use Rattle.std.specs.Prelude.{◌≡◌, ℕ, Result, Ok, Err}
-use Rattle.dns_names.specs.declared.fault.NameFault.{NameFault}
-use Rattle.dns_names.specs.declared.fault.NameFault.TheVariants as names
-use Rattle.grant_policy.specs.declared.fault.PolicyFault.{PolicyFault}
-use Rattle.grant_policy.specs.declared.fault.PolicyFault.TheVariants.{NotToml, UnknownKey, MissingKey, BadValue, IdRepeated, IdReserved, TooManyRules, Name, NoMemory}
+use Rattle.dns_names.specs.declared.name_fault.NameFault.{NameFault}
+use Rattle.dns_names.specs.declared.name_fault.NameFault.TheVariants as names
+use Rattle.grant_policy.specs.declared.policy_fault.PolicyFault.{PolicyFault}
+use Rattle.grant_policy.specs.declared.policy_fault.PolicyFault.TheVariants.{NotToml, UnknownKey, MissingKey, BadValue, IdRepeated, IdReserved, TooManyRules, Name, NoMemory}
 
 abbrev pub fault_number : PolicyFault → ℕ
 fault_number NotToml = 51

@@ -6,9 +6,9 @@ use Rattle.std.specs.List.{list_any, list_all, find}
 use Rattle.std.specs.Option.{ok_or}
 use Rattle.std.specs.Str.{str_eq_ignore_ascii_case}
 use Rattle.toml.specs.View.{view}
-use Rattle.grant_policy.specs.declared.reading.Values.{Values}
+use Rattle.grant_policy.specs.declared.document.Values.{Values}
 use Rattle.toml.specs.Data.{Data, string, array, table, Items, no_items, item, Members, no_members, member, get_member, as_str}
-use Rattle.dns_names.specs.declared.fault.NameFault.{NameFault}
+use Rattle.dns_names.specs.declared.name_fault.NameFault.{NameFault}
 use Rattle.dns_names.specs.Labels.{IsName}
 use Rattle.dns_names.specs.Spelling.{SpellsAbsolute}
 use Rattle.dns_names.specs.Reading.{absolute_name}
@@ -16,12 +16,12 @@ use Rattle.dns_data.specs.declared.record_type.RecordType.{RecordType}
 use Rattle.dns_data.specs.Types.{type_text, kept_types}
 use Rattle.grant_policy.specs.declared.callers.Callers.{Callers}
 use Rattle.grant_policy.specs.declared.callers.Callers.TheVariants.{Every, One}
-use Rattle.grant_policy.specs.declared.fault.PolicyFault.{PolicyFault}
-use Rattle.grant_policy.specs.declared.fault.PolicyFault.TheVariants.{NotToml, UnknownKey, MissingKey, BadValue, IdRepeated, IdReserved, TooManyRules}
-use Rattle.grant_policy.specs.declared.fault.Place.{Place}
-use Rattle.grant_policy.specs.declared.fault.Place.TheVariants as place
-use Rattle.grant_policy.specs.declared.fault.RuleKey.{RuleKey}
-use Rattle.grant_policy.specs.declared.fault.RuleKey.TheVariants as key
+use Rattle.grant_policy.specs.declared.policy_fault.PolicyFault.{PolicyFault}
+use Rattle.grant_policy.specs.declared.policy_fault.PolicyFault.TheVariants.{NotToml, UnknownKey, MissingKey, BadValue, IdRepeated, IdReserved, TooManyRules}
+use Rattle.grant_policy.specs.declared.policy_fault.Place.{Place}
+use Rattle.grant_policy.specs.declared.policy_fault.Place.TheVariants as place
+use Rattle.grant_policy.specs.declared.policy_fault.RuleKey.{RuleKey}
+use Rattle.grant_policy.specs.declared.policy_fault.RuleKey.TheVariants as key
 use Rattle.grant_policy.specs.declared.rule.Rule.{Rule}
 use Rattle.grant_policy.specs.Identifiers.{is_identifier_octet}
 use Rattle.grant_policy.specs.Words.{effect_of, scope_of, action_of}

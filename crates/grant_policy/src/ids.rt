@@ -5,7 +5,7 @@ ghost use Rattle.grant_policy.specs.Faults.{Reads};
 ghost use Rattle.grant_policy.specs.Reading.{SameIds, free_id};
 
 use crate::decision::CLOSING;
-use crate::fault::PolicyFault;
+use crate::policy_fault::PolicyFault;
 use crate::identifier::Identifier;
 use std::alloc::Global;
 use std::collections::BTreeSet;

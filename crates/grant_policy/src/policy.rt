@@ -9,10 +9,10 @@ ghost use Rattle.grant_policy.specs.Faults.{Reads};
 ghost use Rattle.grant_policy.specs.Reading.{free_rules, built};
 ghost use Rattle.grant_policy.specs.Index.{IsIndex, IsRow, Names, is_at, place_of};
 
-use crate::fault::PolicyFault;
+use crate::policy_fault::PolicyFault;
 use crate::ids::Ids;
 use crate::look_ups::LookUps;
-use crate::row::Row;
+use crate::index_row::Row;
 use crate::rule::Rule;
 use crate::table::RuleTable;
 use std::alloc::{AllocError, Global};

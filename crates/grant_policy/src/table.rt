@@ -7,7 +7,7 @@ ghost use Rattle.dns_names.specs.Keys.{IsKeyOfOne};
 ghost use Rattle.grant_policy.specs.declared.rule.Rule.{Rule as RuleOf};
 ghost use Rattle.grant_policy.specs.Index.{IsRow, Names, is_at, place_of};
 
-use crate::row::Row;
+use crate::index_row::Row;
 use crate::rule::Rule;
 
 /// An ordered list of rules that is read by two calls alone, each of which is one look-up. What is generic over it can't make

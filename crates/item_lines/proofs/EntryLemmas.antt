@@ -1,7 +1,7 @@
 -- The tokens of entries are gathered to these entries.
 use Rattle.std.proofs.Common.{◌≡◌, ℕ, suc, ◌<◌, Bool, true, false, List, [], ◌∷◌, ◌++◌, length, map, Result, Ok, Err, refl, sym, ap, ◌∙◌, arith, eq-eqb, ne_eqb}
-use Rattle.dns_master.specs.declared.fault.MasterFault.{MasterFault}
-use Rattle.dns_master.specs.declared.fault.MasterFault.TheVariants as masters
+use Rattle.dns_master.specs.declared.master_fault.MasterFault.{MasterFault}
+use Rattle.dns_master.specs.declared.master_fault.MasterFault.TheVariants as masters
 use Rattle.dns_master.specs.Entries.{Found, Entry}
 use Rattle.dns_master.specs.Faults as master
 use Rattle.dns_master.specs.Faults.{on_lines}
@@ -9,7 +9,7 @@ use Rattle.dns_master.specs.Tokens.{TokenText, token_at, tokens_from, tokens_of}
 use Rattle.dns_master.proofs.FilledLaws.{AreFilled}
 use Rattle.dns_master.proofs.TokenLaws.{tokens_entries, entries_fault}
 use Rattle.zone_core.specs.Updates.{UpdateOf}
-use Rattle.item_lines.specs.declared.fault.ItemsFault.{ItemsFault}
+use Rattle.item_lines.specs.declared.items_fault.ItemsFault.{ItemsFault}
 use Rattle.item_lines.specs.Faults.{◌>>=◌, Refuses, of_shape, of_shapes}
 use Rattle.item_lines.specs.Reading.{EntryLine, entry_line, lists_in, lists_of}
 use Rattle.item_lines.specs.Views.{goes_on, before, gathered}

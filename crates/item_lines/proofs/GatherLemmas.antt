@@ -9,9 +9,9 @@ use Rattle.dns_master.specs.Tokens.{token_of}
 use Rattle.zone_core.specs.declared.update.Prerequisite.{Prerequisite}
 use Rattle.zone_core.specs.declared.update.Operation.{Operation}
 use Rattle.zone_core.specs.Updates.{UpdateOf}
-use Rattle.item_lines.specs.declared.fault.ItemsFault.{ItemsFault}
+use Rattle.item_lines.specs.declared.items_fault.ItemsFault.{ItemsFault}
 use Rattle.item_lines.specs.declared.item.UpdateItem.{UpdateItem}
-use Rattle.item_lines.specs.declared.fault.ItemsFault.TheVariants as faults
+use Rattle.item_lines.specs.declared.items_fault.ItemsFault.TheVariants as faults
 use Rattle.item_lines.specs.Faults.{◌>>=◌, Refuses}
 use Rattle.item_lines.specs.Reading.{EntryLine, update_item, no_items, one_item, behind, or_bad_line, lists_in}
 use Rattle.item_lines.specs.Views.{entry_of, before, gathered}

@@ -4,7 +4,7 @@ use Rattle.std.proofs.lemmas.Bool.{cond_both}
 use Rattle.std.specs.Prelude.{IfOk}
 use Rattle.std.specs.List.{filter}
 use Rattle.dns_names.proofs.SymbolLaws.{IsBytes}
-use Rattle.dns_master.specs.declared.fault.MasterFault.{MasterFault}
+use Rattle.dns_master.specs.declared.master_fault.MasterFault.{MasterFault}
 use Rattle.dns_master.specs.Entries.{Entry, entries}
 use Rattle.dns_master.specs.Reader.{text_of}
 use Rattle.dns_master.specs.Faults.{on_lines}
@@ -13,10 +13,10 @@ use Rattle.dns_master.proofs.CutLaws.{view, entries_are, entries_read}
 use Rattle.dns_master.proofs.TokenLaws.{entries_ok}
 use Rattle.zone_core.specs.declared.update.Prerequisite.{Prerequisite}
 use Rattle.zone_core.specs.declared.update.Operation.{Operation}
-use Rattle.zone_core.specs.declared.fault.UpdateFault.{UpdateFault}
-use Rattle.zone_core.specs.declared.fault.UpdateFault.TheVariants.{TooManyItems, TwoSoa}
+use Rattle.zone_core.specs.declared.refusals.UpdateFault.{UpdateFault}
+use Rattle.zone_core.specs.declared.refusals.UpdateFault.TheVariants.{TooManyItems, TwoSoa}
 use Rattle.zone_core.specs.Updates.{UpdateOf, adds_soa, update_of}
-use Rattle.item_lines.specs.declared.fault.ItemsFault.{ItemsFault}
+use Rattle.item_lines.specs.declared.items_fault.ItemsFault.{ItemsFault}
 use Rattle.item_lines.specs.declared.item.UpdateItem.{UpdateItem}
 use Rattle.item_lines.specs.declared.item.UpdateItem.TheVariants as items
 use Rattle.item_lines.specs.Faults.{◌>>=◌, of_shapes, of_updates, Gives}

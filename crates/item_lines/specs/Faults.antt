@@ -1,15 +1,15 @@
 -- The refusals of item lines, by their published numbers and their lines.
 use Rattle.std.specs.Prelude.{◌≡◌, ℕ, Option, Some, None, Result, Ok, Err}
-use Rattle.dns_names.specs.declared.fault.NameFault.{NameFault}
-use Rattle.dns_names.specs.declared.fault.NameFault.TheVariants as names
+use Rattle.dns_names.specs.declared.name_fault.NameFault.{NameFault}
+use Rattle.dns_names.specs.declared.name_fault.NameFault.TheVariants as names
 use Rattle.dns_data.specs.declared.fault.DataFault.{DataFault}
 use Rattle.dns_data.specs.declared.fault.DataFault.TheVariants as datas
-use Rattle.dns_master.specs.declared.fault.MasterFault.{MasterFault}
+use Rattle.dns_master.specs.declared.master_fault.MasterFault.{MasterFault}
 use Rattle.dns_master.specs.Faults as master
-use Rattle.zone_core.specs.declared.fault.UpdateFault.{UpdateFault}
+use Rattle.zone_core.specs.declared.refusals.UpdateFault.{UpdateFault}
 use Rattle.zone_core.specs.Faults.{update_fault_number}
-use Rattle.item_lines.specs.declared.fault.ItemsFault.{ItemsFault}
-use Rattle.item_lines.specs.declared.fault.ItemsFault.TheVariants.{BadLine, Update, NoMemory}
+use Rattle.item_lines.specs.declared.items_fault.ItemsFault.{ItemsFault}
+use Rattle.item_lines.specs.declared.items_fault.ItemsFault.TheVariants.{BadLine, Update, NoMemory}
 use Rattle.item_lines.specs.declared.item_fault.ItemFault.{ItemFault}
 use Rattle.item_lines.specs.declared.item_fault.ItemFault.TheVariants as entries
 

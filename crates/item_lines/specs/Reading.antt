@@ -26,8 +26,8 @@ use Rattle.zone_core.specs.declared.update.Operation.{Operation}
 use Rattle.zone_core.specs.declared.update.Operation.TheVariants.{Add, DeleteRrset, DeleteName, DeleteRecord}
 use Rattle.zone_core.specs.Kinds.{prerequisite_word, operation_word}
 use Rattle.zone_core.specs.Updates.{UpdateOf, update_of}
-use Rattle.item_lines.specs.declared.fault.ItemsFault.{ItemsFault}
-use Rattle.item_lines.specs.declared.fault.ItemsFault.TheVariants.{BadLine}
+use Rattle.item_lines.specs.declared.items_fault.ItemsFault.{ItemsFault}
+use Rattle.item_lines.specs.declared.items_fault.ItemsFault.TheVariants.{BadLine}
 use Rattle.item_lines.specs.declared.item.UpdateItem.{UpdateItem}
 use Rattle.item_lines.specs.declared.item.UpdateItem.TheVariants as items
 use Rattle.item_lines.specs.Faults.{◌>>=◌, of_shapes, of_updates}

@@ -4,7 +4,7 @@ use Rattle.dns_data.specs.Items.{ItemText, item_of}
 use Rattle.dns_master.specs.declared.token.Token.{Token}
 use Rattle.dns_master.specs.Tokens.{TokenText}
 use Rattle.zone_core.specs.Updates.{UpdateOf}
-use Rattle.item_lines.specs.declared.reading.ItemLists.{ItemLists}
+use Rattle.item_lines.specs.declared.lines.ItemLists.{ItemLists}
 use Rattle.item_lines.specs.Reading.{EntryLine}
 
 -- the items of tokens, without their places

@@ -2,7 +2,7 @@
 
 ghost use Rattle.std.specs.Prelude.{◌≡◌};
 
-use crate::fault::ItemsFault;
+use crate::items_fault::ItemsFault;
 use dns_data::DataFault;
 use dns_names::NameFault;
 use std::alloc::{AllocError, AllocFailed};

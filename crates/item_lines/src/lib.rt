@@ -1,14 +1,14 @@
 //! Item lines, the text form of an update: each entry is one prerequisite or one operation (RFC 2136 sections 2.4 and 2.5).
 #![tactic(auto)]
 
-mod fault;
+mod items_fault;
 mod item;
 mod item_fault;
 mod laws;
-mod reading;
+mod lines;
 mod text;
 
-pub use fault::ItemsFault;
+pub use items_fault::ItemsFault;
 pub use laws::items_are_read;
-pub use reading::{entry_items, read_items};
+pub use lines::{entry_items, read_items};
 pub use text::items_text;

@@ -6,8 +6,8 @@ use Rattle.std.proofs.lemmas.List.Sums.{sum_by-append}
 use Rattle.grant_policy.specs.declared.rule.Rule.{Rule}
 use Rattle.office_core.specs.declared.request.Call.{Call}
 use Rattle.office_core.specs.declared.reply.Reply.{Reply}
-use Rattle.office_core.specs.declared.fault.TableFault.TheVariants.{Store, NoMemory}
-use Rattle.office_core.specs.declared.fault.StepFault.TheVariants.{BeforeCommit, Commit}
+use Rattle.office_core.specs.declared.table_fault.TableFault.TheVariants.{Store, NoMemory}
+use Rattle.office_core.specs.declared.table_fault.StepFault.TheVariants.{BeforeCommit, Commit}
 use Rattle.office_core.specs.declared.reply.Reply.TheVariants.{Servfail}
 use Rattle.office_core.specs.Replies.{ReplyOf, reply_of}
 use Rattle.office_core.specs.States.{State}

@@ -1,9 +1,9 @@
 -- The refusals of tables, by their published numbers, and those of steps.
 use Rattle.std.specs.Prelude.{ℕ}
-use Rattle.office_core.specs.declared.fault.TableFault.{TableFault}
-use Rattle.office_core.specs.declared.fault.TableFault.TheVariants.{Store, NoMemory}
-use Rattle.office_core.specs.declared.fault.StepFault.{StepFault}
-use Rattle.office_core.specs.declared.fault.StepFault.TheVariants.{BeforeCommit, Commit}
+use Rattle.office_core.specs.declared.table_fault.TableFault.{TableFault}
+use Rattle.office_core.specs.declared.table_fault.TableFault.TheVariants.{Store, NoMemory}
+use Rattle.office_core.specs.declared.table_fault.StepFault.{StepFault}
+use Rattle.office_core.specs.declared.table_fault.StepFault.TheVariants.{BeforeCommit, Commit}
 
 abbrev pub table_fault_number : TableFault → ℕ
 table_fault_number Store = 75

@@ -6,8 +6,8 @@ use Rattle.zone_core.specs.Updates.{IsUpdate}
 use Rattle.office_core.specs.declared.request.Request.{Request}
 use Rattle.office_core.specs.declared.request.Request.TheVariants as requests
 use Rattle.office_core.specs.declared.request.Call.{Call}
-use Rattle.office_core.specs.declared.fault.TableFault.TheVariants.{Store}
-use Rattle.office_core.specs.declared.fault.StepFault.TheVariants.{BeforeCommit, Commit}
+use Rattle.office_core.specs.declared.table_fault.TableFault.TheVariants.{Store}
+use Rattle.office_core.specs.declared.table_fault.StepFault.TheVariants.{BeforeCommit, Commit}
 use Rattle.office_core.specs.declared.reply.Reply.{Reply}
 use Rattle.office_core.specs.declared.reply.Reply.TheVariants.{Servfail}
 use Rattle.office_core.specs.Replies.{ReplyOf, reply_of}

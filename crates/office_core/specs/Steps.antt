@@ -6,8 +6,8 @@ use Rattle.zone_core.specs.Zones.{ZoneOf}
 use Rattle.zone_core.specs.Updates.{UpdateOf}
 use Rattle.zone_core.specs.Effects.{zone_after}
 use Rattle.zone_core.specs.Changes.{ChangeOf, change_between}
-use Rattle.office_core.specs.declared.fault.StepFault.{StepFault}
-use Rattle.office_core.specs.declared.fault.StepFault.TheVariants.{BeforeCommit, Commit}
+use Rattle.office_core.specs.declared.table_fault.StepFault.{StepFault}
+use Rattle.office_core.specs.declared.table_fault.StepFault.TheVariants.{BeforeCommit, Commit}
 use Rattle.office_core.specs.Faults.{cause}
 use Rattle.office_core.specs.declared.request.Request.{Request}
 use Rattle.office_core.specs.declared.reply.Reply.{Reply}

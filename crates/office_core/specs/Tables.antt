@@ -2,8 +2,8 @@
 use Rattle.std.specs.Prelude.{◌≡◌, ℕ, ◌+◌, List, [], ◌∷◌, ◌++◌, false, Option, Some, None, option_map, Result, Ok, Err}
 use Rattle.zone_core.specs.Changes.{ChangeOf, FitsIn, change_in, changed, is_empty}
 use Rattle.zone_core.specs.Zones.{IsZone}
-use Rattle.office_core.specs.declared.fault.TableFault.{TableFault}
-use Rattle.office_core.specs.declared.fault.TableFault.TheVariants.{Store, NoMemory}
+use Rattle.office_core.specs.declared.table_fault.TableFault.{TableFault}
+use Rattle.office_core.specs.declared.table_fault.TableFault.TheVariants.{Store, NoMemory}
 use Rattle.office_core.specs.declared.receipt.Receipt.{Receipt}
 use Rattle.office_core.specs.declared.receipt.Addition.{Addition}
 use Rattle.office_core.specs.States.{Held, State, zone_held}

@@ -4,7 +4,7 @@ ghost use Rattle.std.specs.Prelude.{◌≡◌, ◌<◌, OnErr};
 ghost use Rattle.office_core.specs.Memory.{HoldsState};
 ghost use Rattle.office_core.specs.Tables.{Counts};
 
-use crate::fault::TableFault;
+use crate::table_fault::TableFault;
 use crate::memory::MemTable;
 use crate::receipt::{Addition, Receipt};
 use crate::table::ZoneTable;

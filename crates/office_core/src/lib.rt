@@ -2,7 +2,7 @@
 #![tactic(auto)]
 
 mod fail_table;
-mod fault;
+mod table_fault;
 mod footprint;
 mod item;
 mod laws;
@@ -18,7 +18,7 @@ mod table;
 mod update;
 
 pub use fail_table::{FailTable, TableCall};
-pub use fault::{StepFault, TableFault};
+pub use table_fault::{StepFault, TableFault};
 pub use footprint::{operation_asks, prerequisite_asks};
 pub use laws::{
     answers_are_right, callers_are_alone, calls_are_right, changes_are_exact,

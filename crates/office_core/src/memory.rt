@@ -11,7 +11,7 @@ ghost use Rattle.zone_core.specs.Zones.{IsZone};
 ghost use Rattle.zone_core.specs.Changes.{change_in};
 ghost use Rattle.office_core.specs.Memory.{state_of, is_of, receipt_in, IsPutAt, HoldsSame, HoldsChange, HasRoomAt, HoldsState};
 
-use crate::fault::TableFault;
+use crate::table_fault::TableFault;
 use crate::receipt::{Addition, Receipt};
 use crate::table::ZoneTable;
 use dns_data::Record;

@@ -11,7 +11,7 @@ ghost use Rattle.office_core.specs.Tables.{Counts};
 ghost use Rattle.office_core.specs.Machine.{told, of_zone, may_list, listed, list_reply, list_within_reply, file_reply, delegations_reply, changes_reply, if_some, seen, seen_of, numbered};
 ghost use Rattle.office_core.specs.Steps.{IsAnswer, Takes};
 
-use crate::fault::TableFault;
+use crate::table_fault::TableFault;
 use crate::reply::{NumberedChange, Reply, Right};
 use crate::table::ZoneTable;
 use dns_data::{Record, RecordType};

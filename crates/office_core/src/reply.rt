@@ -3,7 +3,7 @@
 ghost use Rattle.std.specs.Prelude.{◌≡◌, IfOk};
 ghost use Rattle.office_core.specs.Replies.{update_rcode, reply_refusal};
 
-use crate::fault::StepFault;
+use crate::table_fault::StepFault;
 use dns_data::Record;
 use dns_names::Name;
 use grant_policy::Identifier;

@@ -6,7 +6,7 @@ ghost use Rattle.zone_core.specs.Changes.{change_in};
 ghost use Rattle.office_core.specs.States.{State, AreZones, AreReceipts, zone_at, part_at, subtree_at, changes_at};
 ghost use Rattle.office_core.specs.Tables.{Counts, Fits, addition_in, committed};
 
-use crate::fault::TableFault;
+use crate::table_fault::TableFault;
 use crate::receipt::{Addition, Receipt};
 use dns_data::Record;
 use dns_names::Name;

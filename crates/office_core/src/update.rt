@@ -9,7 +9,7 @@ ghost use Rattle.office_core.specs.Tables.{Counts, addition_in};
 ghost use Rattle.office_core.specs.Machine.{again, answered, updated, refusal, zone_refusal};
 ghost use Rattle.office_core.specs.Steps.{CountsStep, IsAnswer, Takes, LeavesTurn, Commits, Makes, MakesAt, held_in, addition_of};
 
-use crate::fault::{StepFault, TableFault};
+use crate::table_fault::{StepFault, TableFault};
 use crate::permission::denied;
 use crate::receipt::{Addition, Receipt};
 use crate::reply::{Reply, UpdateReply};

@@ -1,8 +1,8 @@
 -- What is told of a store that refuses something.
 use Rattle.std.proofs.Common.{◌≡◌, ℕ, List, [], Option, None, Result, Ok, Err, IfOk, IfErr, refl, sym, ap, ◌∙◌}
 use Rattle.dns_data.specs.declared.record.Record.{Record}
-use Rattle.zone_core.specs.declared.fault.ZoneFault.{ZoneFault}
-use Rattle.zone_core.specs.declared.fault.ZoneFault.TheVariants as zones
+use Rattle.zone_core.specs.declared.refusals.ZoneFault.{ZoneFault}
+use Rattle.zone_core.specs.declared.refusals.ZoneFault.TheVariants as zones
 use Rattle.zone_core.specs.Zones.{ZoneOf}
 use Rattle.office_rows.specs.declared.store_fault.StoreFault.{StoreFault}
 use Rattle.office_rows.specs.declared.store_fault.StoreFault.TheVariants as stores

@@ -11,7 +11,7 @@ use Rattle.dns_data.specs.Grammar.{IsData}
 use Rattle.dns_data.specs.Reading.{data_of}
 use Rattle.dns_data.specs.Rdata.{type_of}
 use Rattle.dns_data.proofs.DataLaws.{data_only}
-use Rattle.dns_master.specs.declared.fault.MasterFault.{MasterFault}
+use Rattle.dns_master.specs.declared.master_fault.MasterFault.{MasterFault}
 use Rattle.dns_master.specs.declared.token.Token.{Token}
 use Rattle.dns_master.specs.Faults.{on_lines}
 use Rattle.dns_master.specs.Tokens.{TokenText, AreTokens, token_of, tokens_of}

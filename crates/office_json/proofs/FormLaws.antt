@@ -24,7 +24,7 @@ use Rattle.zone_core.specs.declared.update.Operation.{Operation}
 use Rattle.zone_core.specs.declared.update.Operation.TheVariants.{Add, DeleteRrset, DeleteName, DeleteRecord}
 use Rattle.zone_core.specs.Kinds.{prerequisite_word, operation_word, prerequisite_kind, operation_kind}
 use Rattle.zone_core.specs.Updates.{UpdateOf, update_of}
-use Rattle.zone_core.specs.declared.fault.UpdateFault.{UpdateFault}
+use Rattle.zone_core.specs.declared.refusals.UpdateFault.{UpdateFault}
 use Rattle.office_json.specs.declared.body.UpdateBody.{UpdateBody}
 use Rattle.office_json.specs.declared.fault.BodyFault.{BodyFault}
 use Rattle.office_json.specs.declared.field.Field.{Field}

@@ -1,16 +1,16 @@
 -- The refusals of bodies, by their published numbers.
 use Rattle.std.specs.Prelude.{◌≡◌, ℕ, Result, Ok, Err, Option, Some, None}
-use Rattle.dns_names.specs.declared.fault.NameFault.{NameFault}
-use Rattle.dns_names.specs.declared.fault.NameFault.TheVariants as names
+use Rattle.dns_names.specs.declared.name_fault.NameFault.{NameFault}
+use Rattle.dns_names.specs.declared.name_fault.NameFault.TheVariants as names
 use Rattle.dns_data.specs.declared.fault.DataFault.{DataFault}
 use Rattle.dns_data.specs.declared.fault.DataFault.TheVariants as datas
-use Rattle.dns_master.specs.declared.fault.MasterFault.{MasterFault}
-use Rattle.dns_master.specs.declared.fault.MasterFault.TheVariants as masters
+use Rattle.dns_master.specs.declared.master_fault.MasterFault.{MasterFault}
+use Rattle.dns_master.specs.declared.master_fault.MasterFault.TheVariants as masters
 use Rattle.grant_policy.specs.declared.identifier.IdentifierFault.{IdentifierFault}
 use Rattle.grant_policy.specs.declared.identifier.IdentifierFault.TheVariants as identifiers
-use Rattle.zone_core.specs.declared.fault.UpdateFault.{UpdateFault}
-use Rattle.zone_core.specs.declared.fault.DelegationFault.{DelegationFault}
-use Rattle.zone_core.specs.declared.fault.DelegationFault.TheVariants as delegations
+use Rattle.zone_core.specs.declared.refusals.UpdateFault.{UpdateFault}
+use Rattle.zone_core.specs.declared.refusals.DelegationFault.{DelegationFault}
+use Rattle.zone_core.specs.declared.refusals.DelegationFault.TheVariants as delegations
 use Rattle.zone_core.specs.Faults.{update_fault_number, delegation_fault_number}
 use Rattle.office_json.specs.declared.fault.BodyFault.{BodyFault}
 use Rattle.office_json.specs.declared.fault.BodyFault.TheVariants.{NotJson, UnknownField, MissingField, BadField, Update, Delegation, NoMemory}

@@ -2,9 +2,9 @@
 use Rattle.std.proofs.Common.{◌≡◌, ℕ, Bool, true, false, cond, List, Option, Some, None, Result, Ok, Err, refl, sym, ap, subst}
 use Rattle.std.proofs.lemmas.Slice.Eq.{bytes_eq-Decides}
 use Rattle.std.specs.Prelude.{bytes_eq, IfOk}
-use Rattle.dns_names.specs.declared.fault.NameFault.{NameFault}
+use Rattle.dns_names.specs.declared.name_fault.NameFault.{NameFault}
 use Rattle.dns_data.specs.declared.fault.DataFault.{DataFault}
-use Rattle.item_lines.specs.declared.fault.ItemsFault.{ItemsFault}
+use Rattle.item_lines.specs.declared.items_fault.ItemsFault.{ItemsFault}
 use Rattle.office_rows.specs.declared.row_fault.RowFault.{RowFault}
 use Rattle.office_rows.specs.declared.row_fault.RowFault.TheVariants.{BadRow, NoMemory}
 use Rattle.office_rows.specs.RowFaults.{◌>>=◌, Refuses, Reads, of_names, of_datas, of_updates_in, canonical}

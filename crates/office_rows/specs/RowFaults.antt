@@ -1,17 +1,17 @@
 -- The refusals of rows.
 use Rattle.std.specs.Prelude.{◌≡◌, ℕ, List, if◌then◌else◌, Result, Ok, Err, bytes_eq}
-use Rattle.dns_names.specs.declared.fault.NameFault.{NameFault}
-use Rattle.dns_names.specs.declared.fault.NameFault.TheVariants as names
+use Rattle.dns_names.specs.declared.name_fault.NameFault.{NameFault}
+use Rattle.dns_names.specs.declared.name_fault.NameFault.TheVariants as names
 use Rattle.dns_data.specs.declared.fault.DataFault.{DataFault}
 use Rattle.dns_data.specs.declared.fault.DataFault.TheVariants as datas
-use Rattle.dns_master.specs.declared.fault.MasterFault.{MasterFault}
-use Rattle.dns_master.specs.declared.fault.MasterFault.TheVariants as masters
+use Rattle.dns_master.specs.declared.master_fault.MasterFault.{MasterFault}
+use Rattle.dns_master.specs.declared.master_fault.MasterFault.TheVariants as masters
 use Rattle.grant_policy.specs.declared.identifier.IdentifierFault.{IdentifierFault}
 use Rattle.grant_policy.specs.declared.identifier.IdentifierFault.TheVariants as identifiers
-use Rattle.item_lines.specs.declared.fault.ItemsFault.{ItemsFault}
-use Rattle.item_lines.specs.declared.fault.ItemsFault.TheVariants as items
-use Rattle.zone_core.specs.declared.fault.ZoneFault.{ZoneFault}
-use Rattle.zone_core.specs.declared.fault.ZoneFault.TheVariants as zones
+use Rattle.item_lines.specs.declared.items_fault.ItemsFault.{ItemsFault}
+use Rattle.item_lines.specs.declared.items_fault.ItemsFault.TheVariants as items
+use Rattle.zone_core.specs.declared.refusals.ZoneFault.{ZoneFault}
+use Rattle.zone_core.specs.declared.refusals.ZoneFault.TheVariants as zones
 use Rattle.office_rows.specs.declared.row_fault.RowFault.{RowFault}
 use Rattle.office_rows.specs.declared.row_fault.RowFault.TheVariants.{BadRow, NoMemory}
 

@@ -14,7 +14,7 @@ use Rattle.dns_data.specs.Numbers.{is_number}
 use Rattle.dns_data.specs.Reading.{data_of}
 use Rattle.dns_data.specs.Text.{data_text}
 use Rattle.dns_data.specs.Types.{kept_types, type_number}
-use Rattle.dns_master.specs.declared.fault.MasterFault.{MasterFault}
+use Rattle.dns_master.specs.declared.master_fault.MasterFault.{MasterFault}
 use Rattle.dns_master.specs.Tokens.{TokenText, tokens_of}
 use Rattle.grant_policy.specs.Identifiers.{is_identifier_octet}
 use Rattle.zone_core.specs.declared.rcode.Rcode.{Rcode}

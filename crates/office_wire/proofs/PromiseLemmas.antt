@@ -1,7 +1,7 @@
 -- The calls of an exchange are a run of the machine.
 use Rattle.std.proofs.Common.{◌≡◌, List, [], ◌∷◌, ◌++◌, Option, Result, Ok, Err, refl, sym, ap, subst, ◌∙◌}
 use Rattle.grant_policy.specs.declared.rule.Rule.{Rule}
-use Rattle.office_core.specs.declared.fault.TableFault.{TableFault}
+use Rattle.office_core.specs.declared.table_fault.TableFault.{TableFault}
 use Rattle.office_core.specs.declared.request.Call.{Call}
 use Rattle.office_core.specs.declared.reply.Reply.TheVariants.{Servfail}
 use Rattle.office_core.specs.Replies.{ReplyOf}

@@ -3,8 +3,8 @@ use Rattle.std.specs.Prelude.{◌≡◌, ℕ, ◌<◌, ◌≤◌, ◌⊎◌, Boo
 use Rattle.std.specs.List.{flat_map, list_any, list_all, AllByRecursion}
 use Rattle.httparse.specs.Grammar.{RequestHead, IsRequestHead, ReadsRequest, HasNoRequest, MayBecomeRequest, print_request}
 use Rattle.grant_policy.specs.declared.rule.Rule.{Rule}
-use Rattle.office_core.specs.declared.fault.TableFault.{TableFault}
-use Rattle.office_core.specs.declared.fault.TableFault.TheVariants as faults
+use Rattle.office_core.specs.declared.table_fault.TableFault.{TableFault}
+use Rattle.office_core.specs.declared.table_fault.TableFault.TheVariants as faults
 use Rattle.office_core.specs.declared.reply.Reply.{Reply}
 use Rattle.office_core.specs.declared.reply.Reply.TheVariants.{Servfail}
 use Rattle.office_core.specs.declared.request.Call.{Call}

@@ -1,13 +1,13 @@
 -- The line of a text of items that are no update is one of its lines.
 use Rattle.std.proofs.Common.{◌≡◌, ℕ, suc, ◌≤◌, List, [], ◌∷◌, length, map, Option, Some, None, Result, Ok, Err, refl, subst}
-use Rattle.dns_master.specs.declared.fault.MasterFault.{MasterFault}
+use Rattle.dns_master.specs.declared.master_fault.MasterFault.{MasterFault}
 use Rattle.dns_master.specs.Faults.{fault_line, on_lines}
 use Rattle.dns_master.specs.Entries.{Entry, entries}
 use Rattle.dns_master.proofs.LineLemmas.{fault_line_within, line_at_within}
-use Rattle.zone_core.specs.declared.fault.UpdateFault.{UpdateFault}
+use Rattle.zone_core.specs.declared.refusals.UpdateFault.{UpdateFault}
 use Rattle.zone_core.specs.Updates.{update_of}
-use Rattle.item_lines.specs.declared.fault.ItemsFault.{ItemsFault}
-use Rattle.item_lines.specs.declared.fault.ItemsFault.TheVariants.{BadLine}
+use Rattle.item_lines.specs.declared.items_fault.ItemsFault.{ItemsFault}
+use Rattle.item_lines.specs.declared.items_fault.ItemsFault.TheVariants.{BadLine}
 use Rattle.item_lines.specs.Faults.{◌>>=◌, at_line, of_shapes, of_updates}
 use Rattle.item_lines.specs.Reading.{entry_line, update_item, or_bad_line, behind, one_item, lists_in, lists_of, items_of}
 

@@ -4,7 +4,7 @@ use Rattle.std.specs.Option.{option_map, option_or}
 use Rattle.dns_data.specs.declared.record.Record.{Record}
 use Rattle.dns_master.specs.Files.{file_of}
 use Rattle.dns_master.specs.ZoneText.{records_text}
-use Rattle.zone_core.specs.declared.fault.ZoneFault.TheVariants.{NoSoa}
+use Rattle.zone_core.specs.declared.refusals.ZoneFault.TheVariants.{NoSoa}
 use Rattle.zone_core.specs.declared.rcode.Rcode.TheVariants.{NotZone}
 use Rattle.zone_core.specs.declared.update.Place.{Place}
 use Rattle.zone_core.specs.declared.verdict.Failed.{Failed}
@@ -13,8 +13,8 @@ use Rattle.zone_core.specs.Zones.{ZoneOf, built, soa_in}
 use Rattle.zone_core.specs.Updates.{UpdateOf, first_outside}
 use Rattle.zone_core.specs.Prerequisites.{verdict}
 use Rattle.zone_core.specs.Effects.{zone_after}
-use Rattle.item_lines.specs.declared.fault.ItemsFault.{ItemsFault}
-use Rattle.item_lines.specs.declared.fault.ItemsFault.TheVariants.{BadLine}
+use Rattle.item_lines.specs.declared.items_fault.ItemsFault.{ItemsFault}
+use Rattle.item_lines.specs.declared.items_fault.ItemsFault.TheVariants.{BadLine}
 use Rattle.item_lines.specs.Reading.{items_of}
 use Rattle.text_commands.specs.declared.refusal.Refusal.{Refusal}
 use Rattle.text_commands.specs.declared.refusal.Refusal.TheVariants.{NoDivider, Zone, Unmet}

@@ -1,15 +1,15 @@
 -- What steps of a job answer, beside the definition of what they make; want of memory and devices say nothing of the definition.
 use Rattle.std.specs.Prelude.{◌≡◌, ℕ, ◌<◌, List, length, nat_lt, if◌then◌else◌, Option, Some, None, Result, Ok, Err}
-use Rattle.dns_names.specs.declared.fault.NameFault.{NameFault}
-use Rattle.dns_names.specs.declared.fault.NameFault.TheVariants as names
-use Rattle.dns_master.specs.declared.fault.MasterFault.{MasterFault}
-use Rattle.dns_master.specs.declared.fault.MasterFault.TheVariants as masters
-use Rattle.zone_core.specs.declared.fault.ZoneFault.{ZoneFault}
-use Rattle.zone_core.specs.declared.fault.ZoneFault.TheVariants as zones
-use Rattle.item_lines.specs.declared.fault.ItemsFault.{ItemsFault}
-use Rattle.item_lines.specs.declared.fault.ItemsFault.TheVariants as items
-use Rattle.grant_policy.specs.declared.fault.PolicyFault.{PolicyFault}
-use Rattle.grant_policy.specs.declared.fault.PolicyFault.TheVariants as policies
+use Rattle.dns_names.specs.declared.name_fault.NameFault.{NameFault}
+use Rattle.dns_names.specs.declared.name_fault.NameFault.TheVariants as names
+use Rattle.dns_master.specs.declared.master_fault.MasterFault.{MasterFault}
+use Rattle.dns_master.specs.declared.master_fault.MasterFault.TheVariants as masters
+use Rattle.zone_core.specs.declared.refusals.ZoneFault.{ZoneFault}
+use Rattle.zone_core.specs.declared.refusals.ZoneFault.TheVariants as zones
+use Rattle.item_lines.specs.declared.items_fault.ItemsFault.{ItemsFault}
+use Rattle.item_lines.specs.declared.items_fault.ItemsFault.TheVariants as items
+use Rattle.grant_policy.specs.declared.policy_fault.PolicyFault.{PolicyFault}
+use Rattle.grant_policy.specs.declared.policy_fault.PolicyFault.TheVariants as policies
 use Rattle.office_rows.specs.declared.store_fault.StoreFault.{StoreFault}
 use Rattle.office_rows.specs.declared.store_fault.StoreFault.TheVariants as stores
 use Rattle.text_commands.specs.declared.refusal.Refusal.{Refusal}

@@ -5,15 +5,15 @@ use Rattle.dns_names.specs.Faults.{fault_number as name_number}
 use Rattle.dns_data.specs.declared.fault.DataFault.{DataFault}
 use Rattle.dns_data.specs.declared.fault.DataFault.TheVariants as of_data
 use Rattle.dns_data.specs.Faults.{fault_number as data_number}
-use Rattle.dns_master.specs.declared.fault.MasterFault.{MasterFault}
-use Rattle.dns_master.specs.declared.fault.MasterFault.TheVariants as of_master
+use Rattle.dns_master.specs.declared.master_fault.MasterFault.{MasterFault}
+use Rattle.dns_master.specs.declared.master_fault.MasterFault.TheVariants as of_master
 use Rattle.dns_master.specs.Faults.{fault_number as master_number, fault_line}
 use Rattle.zone_core.specs.Faults.{zone_fault_number}
 use Rattle.zone_core.specs.Rcodes.{rcode_number, rcode_text}
 use Rattle.item_lines.specs.Faults.{fault_number as items_number, fault_line as items_line}
 use Rattle.office_rows.specs.StoreFaults.{store_fault_number}
-use Rattle.grant_policy.specs.declared.fault.PolicyFault.{PolicyFault}
-use Rattle.grant_policy.specs.declared.fault.PolicyFault.TheVariants as of_policy
+use Rattle.grant_policy.specs.declared.policy_fault.PolicyFault.{PolicyFault}
+use Rattle.grant_policy.specs.declared.policy_fault.PolicyFault.TheVariants as of_policy
 use Rattle.grant_policy.specs.Faults.{fault_number as policy_number}
 use Rattle.text_commands.specs.declared.refusal.Refusal.{Refusal}
 use Rattle.text_commands.specs.declared.refusal.Refusal.TheVariants.{Name, TypeNotKept, NoCaller, NoAction, TooLarge, NoDivider, Master, Zone, Policy, Items, Unmet, Store}

@@ -6,7 +6,7 @@ mod build;
 mod change;
 mod delegation;
 mod effect;
-mod fault;
+mod refusals;
 mod kind;
 mod laws;
 mod merge;
@@ -24,7 +24,7 @@ mod zone;
 
 pub use change::Change;
 pub use delegation::{ChildServer, DelegationRequest, delegation_update};
-pub use fault::{DelegationFault, UpdateFault, ZoneFault};
+pub use refusals::{DelegationFault, UpdateFault, ZoneFault};
 pub use kind::{OperationKind, PrerequisiteKind};
 pub use laws::{
     changes_are_indistinguishable, changes_make_the_zone_after, equal_sets_are_one,

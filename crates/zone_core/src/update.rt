@@ -5,7 +5,7 @@ ghost use Rattle.std.specs.List.{filter, position};
 ghost use Rattle.dns_names.specs.Labels.{is_within};
 ghost use Rattle.zone_core.specs.Updates.{tested_name, acted_name, adds_soa, update_of, IsUpdate, ActsWithin, first_outside, same_update};
 
-use crate::fault::UpdateFault;
+use crate::refusals::UpdateFault;
 use crate::rows::has_type;
 use crate::validity::{operations_are_valid, prerequisites_are_valid};
 use dns_data::{Data, Record, RecordType};

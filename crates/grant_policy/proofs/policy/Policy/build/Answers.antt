@@ -1,5 +1,5 @@
 use Rattle.std.proofs.Common.{◌≡◌, List, Result, subst}
-use Rattle.grant_policy.specs.declared.fault.PolicyFault.{PolicyFault}
+use Rattle.grant_policy.specs.declared.policy_fault.PolicyFault.{PolicyFault}
 use Rattle.grant_policy.specs.declared.rule.Rule.{Rule}
 use Rattle.grant_policy.specs.Documents.{AreRules}
 use Rattle.grant_policy.specs.Faults.{Reads}

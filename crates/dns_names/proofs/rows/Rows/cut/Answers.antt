@@ -1,5 +1,0 @@
-use Rattle.dns_names.proofs.RowLemmas.{behind_mark}
-use Rattle.dns_names.proofs.rows.Rows.cut.Goals as goal
-
-pub cut_escaped-requires : goal.cut_escaped-requires
-cut_escaped-requires c = behind_mark c.args.memory.now c.requires c.if-count.true

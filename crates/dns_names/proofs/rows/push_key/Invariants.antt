@@ -1,9 +1,0 @@
-use Rattle.std.proofs.Common.{◌≡◌, ◌++◌, length}
-use Rattle.dns_names.specs.Keys.{key_of}
-use Rattle.dns_names.proofs.rows.push_key.Given as goal
-
-abbrev pub invariant-loop-label : goal.invariant-loop-label
-invariant-loop-label l = l.key.items ++ key_of l.labels ≡ l.initial.key.items ++ key_of l.initial.labels
-
-abbrev pub decreases-loop-label : goal.decreases-loop-label
-decreases-loop-label l = length l.labels

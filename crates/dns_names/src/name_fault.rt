@@ -1,0 +1,68 @@
+//! Why a text is no name.
+
+ghost use Rattle.std.specs.Prelude.{◌≡◌};
+ghost use Rattle.dns_names.specs.declared.name_fault.NameFault.TheVariants.{NoMemory};
+
+use std::alloc::{AllocError, AllocFailed};
+use thiserror::Error;
+
+/// What is wrong with the text of a name (RFC 1035 sections 2.3.4, 3.1 and 5.1).
+#[derive(Clone, Copy, Debug, PartialEq, Eq, Error)]
+pub enum NameFault {
+    /// A dot has no label before it, and is not the whole text.
+    #[error("a label of the name is empty")]
+    EmptyLabel,
+    /// A label has more than 63 octets.
+    #[error("a label of the name has more than 63 octets")]
+    LabelTooLong,
+    /// The name has more than 255 octets, counting one before each label and one for the root.
+    #[error("the name has more than 255 octets")]
+    NameTooLong,
+    /// A backslash stands at the end, before a digit that two more do not follow, or with a number above 255.
+    #[error("a backslash in the name begins no escape: \\X or \\DDD with a number up to 255")]
+    BadEscape,
+    /// The text does not end in a dot, where only absolute names are read.
+    #[error("the name is not absolute: it does not end in a dot")]
+    NotAbsolute,
+    /// The text has no octet.
+    #[error("the name is empty")]
+    Empty,
+    /// Memory ran out. This says nothing of the text.
+    #[error("out of memory")]
+    NoMemory,
+}
+
+impl NameFault {
+    ghost use Rattle.dns_names.specs.Faults.{fault_number};
+
+    /// The published number of the refusal, 1 to 6, or 99 for want of memory.
+    pub const fn number(self) -> u8
+        ensures { result ≡ fault_number self }
+    {
+        match self {
+            NameFault::EmptyLabel => 1,
+            NameFault::LabelTooLong => 2,
+            NameFault::NameTooLong => 3,
+            NameFault::BadEscape => 4,
+            NameFault::NotAbsolute => 5,
+            NameFault::Empty => 6,
+            NameFault::NoMemory => 99,
+        }
+    }
+}
+
+impl From<AllocError> for NameFault {
+    ghost from_gives = { λ _ e. e ≡ NoMemory };
+
+    fn from(_e: AllocError) -> NameFault {
+        NameFault::NoMemory
+    }
+}
+
+impl<T: Drop> From<AllocFailed<T>> for NameFault {
+    ghost from_gives = { λ _ e. e ≡ NoMemory };
+
+    fn from(_e: AllocFailed<T>) -> NameFault {
+        NameFault::NoMemory
+    }
+}

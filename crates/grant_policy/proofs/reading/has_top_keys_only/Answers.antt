@@ -1,6 +1,0 @@
-use Rattle.std.proofs.Common.{codes, ◌∙◌}
-use Rattle.grant_policy.proofs.ReadLemmas.{only_rule}
-use Rattle.grant_policy.proofs.reading.has_top_keys_only.Goals as goal
-
-pub returns : goal.returns
-returns c = c.are_top_keys.ensures ∙ only_rule (codes "rule") c.args.table.now.entries
