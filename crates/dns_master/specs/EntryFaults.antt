@@ -39,7 +39,7 @@ abbrev pub ◌>>=◌ : {A B : Type 0} → Result A EntryFault → (A → Result 
 (Ok x) >>= f = f x
 (Err e) >>= f = Err e
 
--- what a call refused with is the refusal of the definition; want of memory says nothing of the definition
+-- what a call refused with is the refusal of the definition; out of memory says nothing of the definition
 abbrev pub RefusesEntry : {Y : Type 0} → EntryFault → Result Y EntryFault → Type 0
 RefusesEntry NoMemory read = Unit {0}
 RefusesEntry fault read = read ≡ Err fault

@@ -38,7 +38,7 @@ fault_line (EntryShort line) = Some line
 fault_line WriteFailed = None
 fault_line NoMemory = None
 
--- what a call refused with is the refusal of the definition; want of memory says nothing of the definition
+-- what a call refused with is the refusal of the definition; out of memory says nothing of the definition
 abbrev pub Refuses : {Y : Type 0} → MasterFault → Result Y MasterFault → Type 0
 Refuses NoMemory read = Unit {0}
 Refuses fault read = read ≡ Err fault

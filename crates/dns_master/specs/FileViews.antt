@@ -36,7 +36,7 @@ abbrev pub TakesEntry : FileRead → FileRead → Result Taken EntryFault → Re
 TakesEntry old new read (Ok done) = (t : Taken) × (read ≡ Ok t) × Takes old new t
 TakesEntry old new read (Err e) = RefusesEntry e read
 
--- what a call refused with is the refusal of the definition; want of memory says nothing of the definition
+-- what a call refused with is the refusal of the definition; out of memory says nothing of the definition
 abbrev pub RefusesFile : {Y : Type 0} → FileFault → Result Y FileFault → Type 0
 RefusesFile (Shape shapes.NoMemory) read = Unit {0}
 RefusesFile (Entry left of_entry.NoMemory) read = Unit {0}

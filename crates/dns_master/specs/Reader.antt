@@ -8,7 +8,7 @@ use Rattle.dns_master.specs.declared.shape.ShapeFault.TheVariants.{NoMemory}
 use Rattle.dns_master.specs.declared.reader.Place.{Place}
 use Rattle.dns_master.specs.Entries.{◌>>=◌, Found, Entry, Split, with_entry, add, end_of, from, white_first, entries}
 
--- what a call refused with is the refusal of the definition; want of memory says nothing of the definition
+-- what a call refused with is the refusal of the definition; out of memory says nothing of the definition
 abbrev pub RefusesAt : {Y : Type 0} → ShapeFault → Result Y ShapeFault → Type 0
 RefusesAt NoMemory read = Unit {0}
 RefusesAt fault read = read ≡ Err fault

@@ -5,11 +5,11 @@
 mod device;
 mod entry;
 mod entry_fault;
-mod master_fault;
 mod field;
 mod file;
 mod laws;
 mod line;
+mod master_fault;
 mod reader;
 mod scan;
 mod shape;
@@ -18,11 +18,11 @@ mod token;
 mod zone_text;
 
 pub use device::{Counted, DeviceFailed, FaultCount, Pieces, Sink, Source};
-pub use master_fault::MasterFault;
 pub use file::read_file;
 pub use laws::{
     defaults_are_one, defaults_are_there, depths_are_counted, pieces_are_one_list, pieces_are_read,
     printed_is_read,
 };
+pub use master_fault::MasterFault;
 pub use token::{Token, tokens};
 pub use zone_text::{print_records, print_zone};

@@ -59,7 +59,7 @@ pub enum MasterFault {
 impl MasterFault {
     ghost use Rattle.dns_master.specs.Faults.{fault_number, fault_line};
 
-    /// The published number of the refusal, 21 to 32, or 99 for want of memory. Data's own number is that of their fault.
+    /// The published number of the refusal, 21 to 32, or 99 when out of memory. Data's own number is that of their fault.
     pub const fn number(self) -> u8
         ensures { result ≡ fault_number self }
     {

@@ -5,8 +5,8 @@ ghost use Rattle.dns_master.specs.declared.shape.ShapeFault.TheVariants.{NoMemor
 ghost use Rattle.dns_master.specs.Faults.{on_line};
 ghost use Rattle.dns_master.specs.Lines.{line_at};
 
-use crate::master_fault::MasterFault;
 use crate::line::{Mark, line_at};
+use crate::master_fault::MasterFault;
 use std::alloc::{AllocError, AllocFailed};
 
 /// What is wrong with parentheses or quotes. The number says how many octets are left from the place on.

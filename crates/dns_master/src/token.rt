@@ -8,8 +8,8 @@ ghost use Rattle.dns_master.specs.Refusals.{HasFault};
 ghost use Rattle.dns_master.specs.Spans.{IsSlice, AreInOrder};
 ghost use Rattle.dns_master.specs.Tokens.{TokenText, AreTokens, token_at, token_of, placed_tokens, tokens_of};
 
-use crate::master_fault::MasterFault;
 use crate::line::{Mark, line_at};
+use crate::master_fault::MasterFault;
 use crate::reader::{Place, next_item};
 use crate::shape::ShapeFault;
 use dns_data::Item;

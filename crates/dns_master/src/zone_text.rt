@@ -40,7 +40,7 @@ fn drain<W: Sink>(writer: &mut W, text: &mut String) -> Result<(), MasterFault>
     Ok(())
 }
 
-/// Gathers the line of the origin. The only error is want of memory.
+/// Gathers the line of the origin. The only error is out of memory.
 fn push_origin(text: &mut String, origin: &Name) -> Result<(), AllocError>
     ensures { OnOk result (string_bytes text.new ≡ string_bytes text.old ++ origin_line origin.now) }
 {
@@ -48,7 +48,7 @@ fn push_origin(text: &mut String, origin: &Name) -> Result<(), AllocError>
     Ok(())
 }
 
-/// Gathers the line of a record. The only error is want of memory.
+/// Gathers the line of a record. The only error is out of memory.
 fn push_line(text: &mut String, rr: &Record) -> Result<(), AllocError>
     ensures { OnOk result (string_bytes text.new ≡ string_bytes text.old ++ ended_line rr.now) }
 {

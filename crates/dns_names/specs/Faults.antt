@@ -12,7 +12,7 @@ fault_number NotAbsolute = 5
 fault_number Empty = 6
 fault_number NoMemory = 99
 
--- what a call refused with is the refusal of the definition; want of memory says nothing of the definition
+-- what a call refused with is the refusal of the definition; out of memory says nothing of the definition
 abbrev pub Refuses : {Y : Type 0} → NameFault → Result Y NameFault → Type 0
 Refuses NoMemory read = Unit {0}
 Refuses fault read = read ≡ Err fault

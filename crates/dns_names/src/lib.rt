@@ -3,9 +3,9 @@
 //! a contract sees a name as the list of its labels, leftmost first.
 #![tactic(auto)]
 
-mod name_fault;
 mod labels;
 mod name;
+mod name_fault;
 mod octets;
 mod pieces;
 mod representation;
@@ -13,8 +13,8 @@ mod symbol;
 mod text;
 mod text_order;
 
-pub use name_fault::NameFault;
 pub use labels::Labels;
 pub use name::{KeyRange, Name};
+pub use name_fault::NameFault;
 pub use octets::cmp_octets;
 pub use symbol::{Symbol, first_symbol};

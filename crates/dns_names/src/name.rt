@@ -12,8 +12,8 @@ ghost use Rattle.dns_names.specs.Rows.{AreRows, IsPlain, name_in};
 ghost use Rattle.dns_names.specs.Spelling.{SpellsAbsolute, SpellsRelative, name_text};
 ghost use Rattle.dns_names.specs.Reading.{absolute_name, ended_name, relative_name, placed_name};
 
-use crate::name_fault::NameFault;
 use crate::labels::Labels;
+use crate::name_fault::NameFault;
 use crate::octets::cmp_octets;
 use crate::pieces::PieceRows;
 use crate::representation::{
@@ -220,7 +220,7 @@ impl Name {
 
     /// The name in its one canonical spelling: each label with a dot after it, and `.` for the root. The octets `.` `\`
     /// `"` `(` `)` `;` `@` `$` have a backslash before them, other octets from 33 to 126 stand for themselves, and all
-    /// others are `\DDD`. The only error is want of memory.
+    /// others are `\DDD`. The only error is out of memory.
     pub fn text(&self, alloc: Global) -> Result<String, AllocError>
         ensures canonical { IfOk result (λ text. string_bytes text ≡ name_text self.now) }
         // Reading it gives the name back.
@@ -278,7 +278,7 @@ impl Name {
     }
 
     /// The range of the keys of the names within this one: from its key to the same with its last octet 0 made 1. All keys
-    /// are in that of the root. The only error is want of memory.
+    /// are in that of the root. The only error is out of memory.
     pub fn key_range(&self, alloc: Global) -> Result<KeyRange<'_>, AllocError>
         ensures first { IfOk result (λ range. range.first.now ≡ key_of self.now) }
         ensures end { IfOk result (λ range. option_map (λ end. end.items) range.end ≡ key_end self.now) }
@@ -313,7 +313,7 @@ impl Name {
         self.key().len() > top.key().len() && self.is_within(top)
     }
 
-    /// The name without its first label, and `None` for the root. The only error is want of memory.
+    /// The name without its first label, and `None` for the root. The only error is out of memory.
     pub fn parent(&self, alloc: Global) -> Result<Option<Name>, AllocError>
         ensures { IfOk result (λ parent. parent ≡ parent_of self.now) }
     {
@@ -329,7 +329,7 @@ impl Name {
         Ok(Some(parent))
     }
 
-    /// An equal name in memory of its own. The only error is want of memory.
+    /// An equal name in memory of its own. The only error is out of memory.
     pub fn try_copy(&self, alloc: Global) -> Result<Name, AllocError>
         ensures { IfOk result (λ copy. copy ≡ self.now) }
     {

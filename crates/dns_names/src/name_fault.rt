@@ -35,7 +35,7 @@ pub enum NameFault {
 impl NameFault {
     ghost use Rattle.dns_names.specs.Faults.{fault_number};
 
-    /// The published number of the refusal, 1 to 6, or 99 for want of memory.
+    /// The published number of the refusal, 1 to 6, or 99 when out of memory.
     pub const fn number(self) -> u8
         ensures { result ≡ fault_number self }
     {

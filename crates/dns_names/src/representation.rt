@@ -142,7 +142,7 @@ pub(crate) fn escapes(octets: &[u8]) -> usize
     octets.iter().filter(|octet| **octet <= 1).count()
 }
 
-/// Puts the octets of a label behind a key. The only error is want of memory.
+/// Puts the octets of a label behind a key. The only error is out of memory.
 fn push_label(key: &mut Vec<u8>, label: &[u8]) -> Result<(), AllocError>
     ensures { OnOk result (key.new.items ≡ key.old.items ++ label_front label.now) }
 {
@@ -160,7 +160,7 @@ fn push_label(key: &mut Vec<u8>, label: &[u8]) -> Result<(), AllocError>
     Ok(())
 }
 
-/// Puts the key of labels behind that of a name that they stand before. The only error is want of memory.
+/// Puts the key of labels behind that of a name that they stand before. The only error is out of memory.
 pub(crate) fn push_key(key: &mut Vec<u8>, labels: NewLabels) -> Result<(), AllocError>
     ensures { OnOk result (key.new.items ≡ key.old.items ++ key_of labels.entry) }
 {
@@ -172,7 +172,7 @@ pub(crate) fn push_key(key: &mut Vec<u8>, labels: NewLabels) -> Result<(), Alloc
     Ok(())
 }
 
-/// Puts the row of labels behind that of a name that they stand before. The only error is want of memory.
+/// Puts the row of labels behind that of a name that they stand before. The only error is out of memory.
 pub(crate) fn push_row(row: &mut Vec<u8>, labels: NewLabels) -> Result<(), AllocError>
     ensures { OnOk result (row.new.items ≡ row.old.items ++ row_of labels.entry) }
 {

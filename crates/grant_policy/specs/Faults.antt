@@ -21,7 +21,7 @@ abbrev pub of_name : ℕ → NameFault → PolicyFault
 of_name number names.NoMemory = NoMemory
 of_name number fault = Name number fault
 
--- what a call refused with is the refusal of the definition; want of memory says nothing of the definition
+-- what a call refused with is the refusal of the definition; out of memory says nothing of the definition
 abbrev pub Refuses : {Y : Type 0} → PolicyFault → Result Y PolicyFault → Type 0
 Refuses NoMemory read = Unit {0}
 Refuses fault read = read ≡ Err fault

@@ -13,10 +13,10 @@ ghost use Rattle.std.specs.List.{list_any, list_all};
 ghost use Rattle.std.specs.Option.{ok_or};
 ghost use Rattle.std.specs.BTreeMap.{keys};
 
-use crate::policy_fault::{Place, PolicyFault, RuleKey};
 use crate::identifier::Identifier;
 use crate::ids::Ids;
 use crate::policy::Policy;
+use crate::policy_fault::{Place, PolicyFault, RuleKey};
 use crate::rule::Rule;
 use crate::selection::{Actions, Types};
 use crate::word::Word;

@@ -103,7 +103,7 @@ impl Identifier {
         &self.octets
     }
 
-    /// An equal identifier in memory of its own. The only error is want of memory.
+    /// An equal identifier in memory of its own. The only error is out of memory.
     pub fn try_copy(&self, alloc: Global) -> Result<Identifier, AllocError>
         ensures { IfOk result (λ copy. copy ≡ self.now) }
     {

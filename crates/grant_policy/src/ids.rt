@@ -5,8 +5,8 @@ ghost use Rattle.grant_policy.specs.Faults.{Reads};
 ghost use Rattle.grant_policy.specs.Reading.{SameIds, free_id};
 
 use crate::decision::CLOSING;
-use crate::policy_fault::PolicyFault;
 use crate::identifier::Identifier;
+use crate::policy_fault::PolicyFault;
 use std::alloc::Global;
 use std::collections::BTreeSet;
 use std::marker::Model;

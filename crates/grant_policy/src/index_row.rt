@@ -30,7 +30,7 @@ impl Model for Row {
 }
 
 impl Row {
-    /// The row of a rule. The only error is want of memory.
+    /// The row of a rule. The only error is out of memory.
     pub(crate) fn of(alloc: Global, rule: &Rule, number: usize) -> Result<Row, AllocError>
         ensures row { IfOk result (λ row. row ≡ record { place = place_of rule.now; number = number }) }
         ensures key { IfOk result (λ row. IsKeyOfOne rule.now.at) }

@@ -6,15 +6,15 @@ mod action;
 mod callers;
 mod deciding;
 mod decision;
+mod document;
 mod effect;
-mod policy_fault;
 mod identifier;
 mod ids;
+mod index_row;
 mod laws;
 mod look_ups;
 mod policy;
-mod document;
-mod index_row;
+mod policy_fault;
 mod rule;
 mod scope;
 mod selection;
@@ -25,8 +25,8 @@ pub use action::Action;
 pub use callers::Callers;
 pub use deciding::{decide, has_any_right};
 pub use decision::Decision;
+pub use document::read_policy;
 pub use effect::Effect;
-pub use policy_fault::{Place, PolicyFault, RuleKey};
 pub use identifier::{Identifier, IdentifierFault};
 pub use laws::{
     a_rule_at_the_end_changes_no_decision_of_a_rule, a_rule_is_named_where_it_decided,
@@ -34,7 +34,7 @@ pub use laws::{
 };
 pub use look_ups::LookUps;
 pub use policy::Policy;
-pub use document::read_policy;
+pub use policy_fault::{Place, PolicyFault, RuleKey};
 pub use rule::Rule;
 pub use scope::{Scope, covers};
 pub use selection::{Actions, Types};

@@ -9,10 +9,10 @@ ghost use Rattle.grant_policy.specs.Faults.{Reads};
 ghost use Rattle.grant_policy.specs.Reading.{free_rules, built};
 ghost use Rattle.grant_policy.specs.Index.{IsIndex, IsRow, Names, is_at, place_of};
 
-use crate::policy_fault::PolicyFault;
 use crate::ids::Ids;
-use crate::look_ups::LookUps;
 use crate::index_row::Row;
+use crate::look_ups::LookUps;
+use crate::policy_fault::PolicyFault;
 use crate::rule::Rule;
 use crate::table::RuleTable;
 use std::alloc::{AllocError, Global};
@@ -37,7 +37,7 @@ impl Policy {
     /// The most rules of a policy.
     pub const RULES_MAX: usize = 1024;
 
-    /// The policy of a list of rules. The only error is want of memory.
+    /// The policy of a list of rules. The only error is out of memory.
     pub(crate) fn indexed(alloc: Global, rules: Vec<Rule>) -> Result<Policy, AllocError>
         requires { AreRules rules.items }
         ensures { IfOk result (λ policy. policy ≡ rules.items) }

@@ -109,7 +109,7 @@ pub enum PolicyFault {
 impl PolicyFault {
     ghost use Rattle.grant_policy.specs.Faults.{fault_number, of_name};
 
-    /// The published number of the refusal, 51 to 58, or 99 for want of memory. A name's own number is that of its fault.
+    /// The published number of the refusal, 51 to 58, or 99 when out of memory. A name's own number is that of its fault.
     pub const fn number(self) -> u8
         ensures { result ≡ fault_number self }
     {

@@ -14,7 +14,7 @@ use std::alloc::{AllocError, Global};
 pub(crate) trait Word: Drop {
     ghost word_of: { List ℕ → Option Self };
 
-    /// What a text stands for, if it is such a word. The only error is want of memory.
+    /// What a text stands for, if it is such a word. The only error is out of memory.
     fn of_text(alloc: Global, text: &str) -> Result<Option<Self>, AllocError>
         ensures { IfOk result (λ word. word ≡ word_of text.now) };
 }

@@ -13,7 +13,7 @@ use Rattle.item_lines.specs.declared.items_fault.ItemsFault.TheVariants.{BadLine
 use Rattle.item_lines.specs.declared.item_fault.ItemFault.{ItemFault}
 use Rattle.item_lines.specs.declared.item_fault.ItemFault.TheVariants as entries
 
--- the published number of a refusal: 97 for a line, those of updates (89 and 92), and 99 for want of memory
+-- the published number of a refusal: 97 for a line, those of updates (89 and 92), and 99 when out of memory
 abbrev pub fault_number : ItemsFault → ℕ
 fault_number (BadLine line) = 97
 fault_number (Update fault) = update_fault_number fault
@@ -31,7 +31,7 @@ abbrev pub ◌>>=◌ : {A B : Type 0} → Result A ItemsFault → (A → Result 
 (Ok x) >>= f = f x
 (Err e) >>= f = Err e
 
--- what a call refused with is the refusal of the definition; want of memory says nothing of the definition
+-- what a call refused with is the refusal of the definition; out of memory says nothing of the definition
 abbrev pub Refuses : {Y : Type 0} → ItemsFault → Result Y ItemsFault → Type 0
 Refuses NoMemory read = Unit {0}
 Refuses fault read = read ≡ Err fault
@@ -43,7 +43,7 @@ Gives view (Err e) read = Refuses e read
 
 -- ---- the faults of what items are made of
 
--- a refusal on a line; only want of memory is on none
+-- a refusal on a line; only out of memory is on none
 abbrev pub at_line : Option ℕ → ItemsFault
 at_line (Some line) = BadLine line
 at_line None = NoMemory
@@ -79,7 +79,7 @@ abbrev pub on_line : ℕ → ItemFault → ItemsFault
 on_line line entries.NoItem = BadLine line
 on_line line entries.NoMemory = NoMemory
 
--- what a call refused is nothing by the definition; want of memory says nothing of the definition
+-- what a call refused is nothing by the definition; out of memory says nothing of the definition
 abbrev pub RefusesItem : {Y : Type 0} → ItemFault → Option Y → Type 0
 RefusesItem entries.NoMemory read = Unit {0}
 RefusesItem entries.NoItem read = read ≡ None

@@ -24,7 +24,7 @@ pub enum ItemsFault {
 impl ItemsFault {
     ghost use Rattle.item_lines.specs.Faults.{fault_number, fault_line};
 
-    /// The published number of the refusal: 97, that of the update's fault (89 or 92), or 99 for want of memory.
+    /// The published number of the refusal: 97, that of the update's fault (89 or 92), or 99 when out of memory.
     pub const fn number(self) -> u8
         ensures { result ≡ fault_number self }
     {

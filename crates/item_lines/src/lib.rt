@@ -1,9 +1,9 @@
 //! Item lines, the text form of an update: each entry is one prerequisite or one operation (RFC 2136 sections 2.4 and 2.5).
 #![tactic(auto)]
 
-mod items_fault;
 mod item;
 mod item_fault;
+mod items_fault;
 mod laws;
 mod lines;
 mod text;

@@ -9,8 +9,8 @@ ghost use Rattle.item_lines.specs.Faults.{Gives, of_shape, of_updates};
 ghost use Rattle.item_lines.specs.Reading.{update_item, no_items, behind, one_item, or_bad_line, lists_in, lists_of, items_of};
 ghost use Rattle.item_lines.specs.Views.{entry_of, gathered, lists_view};
 
-use crate::items_fault::ItemsFault;
 use crate::item::{UpdateItem, read_item};
+use crate::items_fault::ItemsFault;
 use dns_data::Item;
 use dns_master::{MasterFault, Token, tokens};
 use std::alloc::{AllocError, Global};
@@ -66,7 +66,7 @@ fn entry_len(tokens: &[Token], entry: usize) -> usize
         .count()
 }
 
-/// The items of tokens, without their places. The only error is want of memory.
+/// The items of tokens, without their places. The only error is out of memory.
 pub fn entry_items<'a>(alloc: Global, tokens: &[Token<'a>]) -> Result<Vec<Item<'a>>, AllocError>
     ensures { IfOk result (λ v. v.items ≡ map (λ t. t.item) tokens.now) }
 {

@@ -8,7 +8,7 @@ use std::alloc::{AllocError, Global};
 use std::fmt::Write;
 use zone_core::{Operation, Prerequisite, Update};
 
-/// Appends the line of a prerequisite. The only error is want of memory.
+/// Appends the line of a prerequisite. The only error is out of memory.
 fn push_prerequisite(text: &mut String, prerequisite: &Prerequisite) -> Result<(), AllocError>
     ensures { OnOk result (string_bytes text.new ≡ string_bytes text.old ++ prerequisite_line prerequisite.now) }
 {
@@ -29,7 +29,7 @@ fn push_prerequisite(text: &mut String, prerequisite: &Prerequisite) -> Result<(
     }
 }
 
-/// Appends the line of an operation. The only error is want of memory.
+/// Appends the line of an operation. The only error is out of memory.
 fn push_operation(text: &mut String, operation: &Operation) -> Result<(), AllocError>
     ensures { OnOk result (string_bytes text.new ≡ string_bytes text.old ++ operation_line operation.now) }
 {
@@ -54,7 +54,7 @@ fn push_operation(text: &mut String, operation: &Operation) -> Result<(), AllocE
     }
 }
 
-/// Appends the lines of prerequisites. The only error is want of memory.
+/// Appends the lines of prerequisites. The only error is out of memory.
 fn push_prerequisites(text: &mut String, prerequisites: &[Prerequisite]) -> Result<(), AllocError>
     ensures { OnOk result (string_bytes text.new ≡ string_bytes text.old ++ flat_map prerequisite_line prerequisites.now) }
 {
@@ -64,7 +64,7 @@ fn push_prerequisites(text: &mut String, prerequisites: &[Prerequisite]) -> Resu
     Ok(())
 }
 
-/// Appends the lines of operations. The only error is want of memory.
+/// Appends the lines of operations. The only error is out of memory.
 fn push_operations(text: &mut String, operations: &[Operation]) -> Result<(), AllocError>
     ensures { OnOk result (string_bytes text.new ≡ string_bytes text.old ++ flat_map operation_line operations.now) }
 {
@@ -76,7 +76,7 @@ fn push_operations(text: &mut String, operations: &[Operation]) -> Result<(), Al
 
 /// The canonical text of an update, which `read_items` reads: the prerequisites, and then the operations, each list in its
 /// order, one item a line that a line feed ends. Fields have one space between them; names, types and data have their canonical
-/// texts, and the TTL is its seconds in decimal digits. The only error is want of memory.
+/// texts, and the TTL is its seconds in decimal digits. The only error is out of memory.
 pub fn items_text(alloc: Global, update: &Update) -> Result<String, AllocError>
     ensures canonical { IfOk result (λ text. string_bytes text ≡ update_text update.now) }
 {

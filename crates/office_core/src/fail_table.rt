@@ -4,10 +4,10 @@ ghost use Rattle.std.specs.Prelude.{◌≡◌, ◌<◌, OnErr};
 ghost use Rattle.office_core.specs.Memory.{HoldsState};
 ghost use Rattle.office_core.specs.Tables.{Counts};
 
-use crate::table_fault::TableFault;
 use crate::memory::MemTable;
 use crate::receipt::{Addition, Receipt};
 use crate::table::ZoneTable;
+use crate::table_fault::TableFault;
 use dns_data::Record;
 use dns_names::Name;
 use grant_policy::Identifier;

@@ -2,7 +2,6 @@
 #![tactic(auto)]
 
 mod fail_table;
-mod table_fault;
 mod footprint;
 mod item;
 mod laws;
@@ -15,10 +14,10 @@ mod request;
 mod runs;
 mod steps;
 mod table;
+mod table_fault;
 mod update;
 
 pub use fail_table::{FailTable, TableCall};
-pub use table_fault::{StepFault, TableFault};
 pub use footprint::{operation_asks, prerequisite_asks};
 pub use laws::{
     answers_are_right, callers_are_alone, calls_are_right, changes_are_exact,
@@ -32,3 +31,4 @@ pub use request::{Call, Request};
 pub use runs::run;
 pub use steps::step;
 pub use table::ZoneTable;
+pub use table_fault::{StepFault, TableFault};

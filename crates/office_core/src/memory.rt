@@ -11,9 +11,9 @@ ghost use Rattle.zone_core.specs.Zones.{IsZone};
 ghost use Rattle.zone_core.specs.Changes.{change_in};
 ghost use Rattle.office_core.specs.Memory.{state_of, is_of, receipt_in, IsPutAt, HoldsSame, HoldsChange, HasRoomAt, HoldsState};
 
-use crate::table_fault::TableFault;
 use crate::receipt::{Addition, Receipt};
 use crate::table::ZoneTable;
+use crate::table_fault::TableFault;
 use dns_data::Record;
 use dns_names::Name;
 use grant_policy::Identifier;
@@ -80,7 +80,7 @@ fn place(zones: &[HeldZone], origin: &Name) -> Option<usize>
     zones.iter().position(|held| held.zone.origin() == origin)
 }
 
-/// Makes room for one more change of the zone at a place. The only error is want of memory.
+/// Makes room for one more change of the zone at a place. The only error is out of memory.
 fn make_room(zones: &mut [HeldZone], at: usize) -> Result<(), AllocError>
     requires { at < length zones.old }
     ensures same { IsPutAt zones.old zones.new at HoldsSame }
@@ -120,7 +120,7 @@ fn receipt_has_update(receipt: &Receipt)
     let _ = receipt.update.operations();
 }
 
-/// Keeps the receipt of a caller under an identifier. The only error is want of memory.
+/// Keeps the receipt of a caller under an identifier. The only error is out of memory.
 fn keep(
     alloc: Global,
     receipts: &mut Receipts,
@@ -144,7 +144,7 @@ fn keep(
     Ok(())
 }
 
-/// Copies of records. The only error is want of memory.
+/// Copies of records. The only error is out of memory.
 fn copied(alloc: Global, records: &[Record]) -> Result<Vec<Record>, AllocError>
     ensures { IfOk result (λ rs. rs.items ≡ records.now) }
 {
@@ -168,7 +168,7 @@ fn copied_changes(alloc: Global, changes: &[Change]) -> Result<Vec<Change>, Allo
 
 impl MemTable {
     /// A table of zones of which nothing was changed, and without receipts. Of zones with the same origin the first counts. The
-    /// only error is want of memory.
+    /// only error is out of memory.
     pub fn new(alloc: Global, zones: Vec<Zone>) -> Result<MemTable, AllocError>
         ensures { IfOk result (λ table. HoldsState table (state_of zones.items)) }
     {

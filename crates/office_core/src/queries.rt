@@ -11,9 +11,9 @@ ghost use Rattle.office_core.specs.Tables.{Counts};
 ghost use Rattle.office_core.specs.Machine.{told, of_zone, may_list, listed, list_reply, list_within_reply, file_reply, delegations_reply, changes_reply, if_some, seen, seen_of, numbered};
 ghost use Rattle.office_core.specs.Steps.{IsAnswer, Takes};
 
-use crate::table_fault::TableFault;
 use crate::reply::{NumberedChange, Reply, Right};
 use crate::table::ZoneTable;
+use crate::table_fault::TableFault;
 use dns_data::{Record, RecordType};
 use dns_names::Name;
 use grant_policy::{Action, Decision, Identifier, LookUps, Policy, decide};
@@ -37,7 +37,7 @@ fn may_list(policy: &Policy, caller: &Identifier, rr: &Record) -> bool
     .is_granted()
 }
 
-/// Records, and one more, if the caller may list it. The only error is want of memory.
+/// Records, and one more, if the caller may list it. The only error is out of memory.
 fn with_listed(
     mut all: Vec<Record>,
     policy: &Policy,
@@ -52,7 +52,7 @@ fn with_listed(
     Ok(all)
 }
 
-/// The records that a caller may list. The only error is want of memory.
+/// The records that a caller may list. The only error is out of memory.
 fn listed(
     alloc: Global,
     policy: &Policy,
@@ -157,7 +157,7 @@ pub(crate) fn delegations<T: ZoneTable>(
     Ok(Reply::Delegations(delegation_report(alloc, origin, &records)?))
 }
 
-/// What a caller may list of a change. The only error is want of memory.
+/// What a caller may list of a change. The only error is out of memory.
 fn seen_of(
     alloc: Global,
     policy: &Policy,
@@ -172,7 +172,7 @@ fn seen_of(
     })
 }
 
-/// Changes, and what the caller sees of one more, if it sees some record of it. The only error is want of memory.
+/// Changes, and what the caller sees of one more, if it sees some record of it. The only error is out of memory.
 fn with_seen(
     alloc: Global,
     mut all: Vec<Change>,
@@ -190,7 +190,7 @@ fn with_seen(
 }
 
 /// What a caller sees of changes: of each the records that it may list; changes of which it sees nothing are left out. The only
-/// error is want of memory.
+/// error is out of memory.
 fn seen(
     alloc: Global,
     policy: &Policy,
@@ -206,7 +206,7 @@ fn seen(
     Ok(all)
 }
 
-/// Numbered changes, and one more, if its number is not below a least one. The only error is want of memory.
+/// Numbered changes, and one more, if its number is not below a least one. The only error is out of memory.
 fn with_numbered(
     mut all: Vec<NumberedChange>,
     from: u32,
@@ -222,7 +222,7 @@ fn with_numbered(
     Ok(all)
 }
 
-/// Changes with their numbers from 1, of which those from a number on are left. The only error is want of memory.
+/// Changes with their numbers from 1, of which those from a number on are left. The only error is out of memory.
 fn numbered_from(
     alloc: Global,
     from: u32,
@@ -261,7 +261,7 @@ pub(crate) fn changes<T: ZoneTable>(
     Ok(Reply::Changes(numbered_from(alloc, from, seen)?))
 }
 
-/// What the policy decides, with an identifier in memory of its own. The only error is want of memory.
+/// What the policy decides, with an identifier in memory of its own. The only error is out of memory.
 pub(crate) fn right(
     alloc: Global,
     policy: &Policy,

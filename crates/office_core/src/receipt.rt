@@ -27,7 +27,7 @@ pub struct Addition {
 }
 
 impl Receipt {
-    /// An equal receipt in memory of its own. The only error is want of memory.
+    /// An equal receipt in memory of its own. The only error is out of memory.
     pub fn try_copy(&self, alloc: Global) -> Result<Receipt, AllocError>
         ensures { IfOk result (λ copy. copy ≡ self.now) }
     {

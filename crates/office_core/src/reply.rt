@@ -84,7 +84,7 @@ impl UpdateReply {
         }
     }
 
-    /// An equal reply in memory of its own. The only error is want of memory.
+    /// An equal reply in memory of its own. The only error is out of memory.
     pub fn try_copy(&self, alloc: Global) -> Result<UpdateReply, AllocError>
         ensures { IfOk result (λ copy. copy ≡ self.now) }
     {
@@ -115,7 +115,7 @@ impl Reply {
     }
 }
 
-/// A copy of an identifier, where there is one. The only error is want of memory.
+/// A copy of an identifier, where there is one. The only error is out of memory.
 fn copy_of(alloc: Global, id: &Option<Identifier>) -> Result<Option<Identifier>, AllocError>
     ensures { IfOk result (λ copy. copy ≡ id.now) }
 {

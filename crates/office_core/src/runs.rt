@@ -14,7 +14,7 @@ use crate::table::ZoneTable;
 use grant_policy::Policy;
 use std::alloc::{AllocError, Global};
 
-/// The replies to calls, one after the other. The only error is want of memory for the list of replies, and then no call was
+/// The replies to calls, one after the other. The only error is out of memory for the list of replies, and then no call was
 /// taken.
 pub fn run<T: ZoneTable>(
     alloc: Global,

@@ -5,11 +5,11 @@ ghost use Rattle.office_core.specs.States.{State};
 ghost use Rattle.office_core.specs.Machine.{step};
 ghost use Rattle.office_core.specs.Steps.{Steps, Leaves, CountsReply, CountsStep, Takes, LeavesTurn, IsAnswer};
 
-use crate::table_fault::StepFault;
 use crate::queries::{changes, delegations, file, list, list_within, right};
 use crate::reply::Reply;
 use crate::request::Request;
 use crate::table::ZoneTable;
+use crate::table_fault::StepFault;
 use crate::update::update_reply;
 use grant_policy::{Identifier, Policy};
 use std::alloc::Global;

@@ -6,8 +6,8 @@ ghost use Rattle.zone_core.specs.Changes.{change_in};
 ghost use Rattle.office_core.specs.States.{State, AreZones, AreReceipts, zone_at, part_at, subtree_at, changes_at};
 ghost use Rattle.office_core.specs.Tables.{Counts, Fits, addition_in, committed};
 
-use crate::table_fault::TableFault;
 use crate::receipt::{Addition, Receipt};
+use crate::table_fault::TableFault;
 use dns_data::Record;
 use dns_names::Name;
 use grant_policy::Identifier;

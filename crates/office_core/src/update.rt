@@ -9,11 +9,11 @@ ghost use Rattle.office_core.specs.Tables.{Counts, addition_in};
 ghost use Rattle.office_core.specs.Machine.{again, answered, updated, refusal, zone_refusal};
 ghost use Rattle.office_core.specs.Steps.{CountsStep, IsAnswer, Takes, LeavesTurn, Commits, Makes, MakesAt, held_in, addition_of};
 
-use crate::table_fault::{StepFault, TableFault};
 use crate::permission::denied;
 use crate::receipt::{Addition, Receipt};
 use crate::reply::{Reply, UpdateReply};
 use crate::table::ZoneTable;
+use crate::table_fault::{StepFault, TableFault};
 use dns_names::Name;
 use grant_policy::{Identifier, LookUps, Policy};
 use std::alloc::{AllocError, Global};
@@ -101,7 +101,7 @@ fn prepared<T: ZoneTable>(
     Ok((reply, addition))
 }
 
-/// What is kept of an update: its receipt, and the change that it made. The only error is want of memory.
+/// What is kept of an update: its receipt, and the change that it made. The only error is out of memory.
 fn addition(
     alloc: Global,
     caller: &Identifier,
@@ -126,7 +126,7 @@ fn addition(
     })
 }
 
-/// The names of the items of an update: all that it reads beside the origin. The only error is want of memory.
+/// The names of the items of an update: all that it reads beside the origin. The only error is out of memory.
 fn item_names(alloc: Global, update: &Update) -> Result<Vec<Name>, AllocError>
     ensures update { IsUpdate update.now }
     ensures names { IfOk result (λ names. names.items ≡ map tested_name update.now.prerequisites ++ map acted_name update.now.operations) }
@@ -142,7 +142,7 @@ fn item_names(alloc: Global, update: &Update) -> Result<Vec<Name>, AllocError>
 }
 
 /// The reply to an update, by what it reads of its zone, where there is the zone, and what it changes, if it is made and changes
-/// something. The only error is want of memory.
+/// something. The only error is out of memory.
 fn made_at(
     alloc: Global,
     policy: &Policy,
@@ -158,7 +158,7 @@ fn made_at(
     }
 }
 
-/// The reply to an update of a zone, and what it changes, if it is made and changes something. The only error is want of memory.
+/// The reply to an update of a zone, and what it changes, if it is made and changes something. The only error is out of memory.
 fn made(
     alloc: Global,
     policy: &Policy,
@@ -181,7 +181,7 @@ fn made(
 }
 
 /// Why an update of a zone is not made, if it is not: the first that applies of its names, the policy and its prerequisites. The
-/// only error is want of memory.
+/// only error is out of memory.
 fn refusal(
     alloc: Global,
     policy: &Policy,

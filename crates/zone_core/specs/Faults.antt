@@ -32,7 +32,7 @@ delegation_fault_number delegations.NotBelowOrigin = 49
 delegation_fault_number delegations.TooManyItems = 89
 delegation_fault_number delegations.NoMemory = 99
 
--- what a call refused with is the refusal of the definition; want of memory says nothing of the definition
+-- what a call refused with is the refusal of the definition; out of memory says nothing of the definition
 abbrev pub Refuses : {Y : Type 0} → ZoneFault → Result Y ZoneFault → Type 0
 Refuses zones.NoMemory built = Unit {0}
 Refuses fault built = built ≡ Err fault

@@ -71,7 +71,7 @@ impl Change {
 }
 
 /// What operations change in a zone of this origin, whose records stand in record order; each side in that order. The only
-/// error is want of memory.
+/// error is out of memory.
 pub(crate) fn changes(
     alloc: Global,
     origin: &Name,

@@ -19,7 +19,7 @@ use dns_data::{Data, Record, RecordType, Ttl, record_order};
 use dns_names::Name;
 use std::alloc::{AllocError, Global};
 
-/// What an operation makes of the records at its name, in a zone of this origin. The only error is want of memory.
+/// What an operation makes of the records at its name, in a zone of this origin. The only error is out of memory.
 pub(crate) fn effect(
     alloc: Global,
     origin: &Name,
@@ -293,7 +293,7 @@ fn without(mut node: Vec<Record>, rdata: &Data) -> Vec<Record>
     node
 }
 
-/// What the operations at a name make of its records. The only error is want of memory.
+/// What the operations at a name make of its records. The only error is out of memory.
 pub(crate) fn effects(
     alloc: Global,
     origin: &Name,

@@ -6,12 +6,12 @@ mod build;
 mod change;
 mod delegation;
 mod effect;
-mod refusals;
 mod kind;
 mod laws;
 mod merge;
 mod outcome;
 mod rcode;
+mod refusals;
 mod report;
 mod rows;
 mod serial;
@@ -24,7 +24,6 @@ mod zone;
 
 pub use change::Change;
 pub use delegation::{ChildServer, DelegationRequest, delegation_update};
-pub use refusals::{DelegationFault, UpdateFault, ZoneFault};
 pub use kind::{OperationKind, PrerequisiteKind};
 pub use laws::{
     changes_are_indistinguishable, changes_make_the_zone_after, equal_sets_are_one,
@@ -36,6 +35,7 @@ pub use laws::{
 };
 pub use outcome::{Outcome, apply, apply_owned};
 pub use rcode::Rcode;
+pub use refusals::{DelegationFault, UpdateFault, ZoneFault};
 pub use report::{DelegatedServer, Delegation, Glue, cuts, delegation_report};
 pub use serial::{serial_add, serial_less};
 pub use update::{ItemList, Operation, Place, Prerequisite, Update};

@@ -37,7 +37,7 @@ fn is_first(records: &[Record], rr: &Record) -> bool
     }
 }
 
-/// Rows, and copies of records behind them. The only error is want of memory.
+/// Rows, and copies of records behind them. The only error is out of memory.
 pub(crate) fn with_copies(
     alloc: Global,
     mut rows: Vec<Record>,
@@ -60,7 +60,7 @@ struct Merging<'a> {
 }
 
 impl<'a> Merging<'a> {
-    /// With one row more. The only error is want of memory.
+    /// With one row more. The only error is out of memory.
     fn with_row(self, alloc: Global, row: Record) -> Result<Merging<'a>, AllocError>
         ensures { IfOk result (λ m. (rest : List RecordOf) → m.rows.items ++ merged rest m.gone.now m.come.now ≡ self.entry.rows.items ++ merged (row ∷ rest) self.entry.gone.now self.entry.come.now) }
     {
@@ -77,7 +77,7 @@ impl<'a> Merging<'a> {
     }
 }
 
-/// The rows of a set after a change that fits it, from those before. The only error is want of memory.
+/// The rows of a set after a change that fits it, from those before. The only error is out of memory.
 pub(crate) fn merged(
     alloc: Global,
     rows: Vec<Record>,

@@ -28,7 +28,7 @@ pub struct Outcome {
 /// Does the operations of an update to a zone, in order, each by its rule (RFC 2136 section 3.4.2), and advances the serial
 /// where something changed and no operation replaced the SOA (section 3.6, RFC 1982 section 3.1). The prerequisites are not
 /// tested: `holds` tells of them. The names of the operations are within the origin: `Update::outside` tells of others. The
-/// only error is want of memory.
+/// only error is out of memory.
 pub fn apply(alloc: Global, zone: &Zone, update: &Update) -> Result<Outcome, AllocError>
     requires { ActsWithin zone.now.origin update.now }
     ensures zone { IfOk result (λ o. o.zone ≡ zone_after zone.now update.now) }

@@ -40,7 +40,7 @@ pub enum ZoneFault {
 impl ZoneFault {
     ghost use Rattle.zone_core.specs.Faults.{zone_fault_number};
 
-    /// The published number of the refusal: 41 to 47, 50, or 99 for want of memory.
+    /// The published number of the refusal: 41 to 47, 50, or 99 when out of memory.
     pub const fn number(self) -> u8
         ensures { result ≡ zone_fault_number self }
     {
@@ -126,7 +126,7 @@ pub enum DelegationFault {
 impl DelegationFault {
     ghost use Rattle.zone_core.specs.Faults.{delegation_fault_number};
 
-    /// The published number of the refusal: 40, 48, 49, 89, or 99 for want of memory.
+    /// The published number of the refusal: 40, 48, 49, 89, or 99 when out of memory.
     pub const fn number(self) -> u8
         ensures { result ≡ delegation_fault_number self }
     {

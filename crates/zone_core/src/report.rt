@@ -37,7 +37,7 @@ pub struct Delegation {
     pub servers: Vec<DelegatedServer>,
 }
 
-/// Names in canonical order (RFC 4034 section 6.1), each once. The only error is want of memory.
+/// Names in canonical order (RFC 4034 section 6.1), each once. The only error is out of memory.
 fn ordered(mut names: Vec<Name>) -> Result<Vec<Name>, AllocError>
     ensures { IfOk result (λ ordered. AreNamesOf ordered.items names.items) }
 {
@@ -69,7 +69,7 @@ fn with_cut(
 }
 
 /// The cuts that records of a zone of this origin make: the names below the origin that own an NS (RFC 2181 section 6), in
-/// canonical order. The only error is want of memory.
+/// canonical order. The only error is out of memory.
 pub fn cuts(alloc: Global, origin: &Name, records: &[Record]) -> Result<Vec<Name>, AllocError>
     ensures { IfOk result (λ names. AreNamesOf names.items (cut_owners origin.now records.now)) }
 {
@@ -154,7 +154,7 @@ fn delegation_of(alloc: Global, records: &[Record], child: &Name) -> Result<Dele
 
 /// The delegations that records of a zone of this origin make, in the canonical order of the children: each with its servers
 /// in that order, and what there is of their glue among these records. The records stand in record order, as those of a zone
-/// do, and what is left of them. The only error is want of memory.
+/// do, and what is left of them. The only error is out of memory.
 pub fn delegation_report(
     alloc: Global,
     origin: &Name,

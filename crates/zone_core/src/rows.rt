@@ -92,7 +92,7 @@ pub(crate) fn has_name(records: &[Record], name: &Name) -> bool
     !at_name(records, name).is_empty()
 }
 
-/// Equal records in memory of their own. The only error is want of memory.
+/// Equal records in memory of their own. The only error is out of memory.
 pub(crate) fn copied(alloc: Global, records: &[Record]) -> Result<Vec<Record>, AllocError>
     ensures { IfOk result (λ copies. copies.items ≡ records.now) }
 {
@@ -104,7 +104,7 @@ pub(crate) fn copied(alloc: Global, records: &[Record]) -> Result<Vec<Record>, A
 }
 
 /// The records in record order, and of those that are the same the first. The keys of all owners begin with the same
-/// octets, `shared` in number. The only error is want of memory.
+/// octets, `shared` in number. The only error is out of memory.
 pub(crate) fn in_order_behind(
     alloc: Global,
     records: Vec<Record>,
@@ -119,7 +119,7 @@ pub(crate) fn in_order_behind(
     Ok(once(rows))
 }
 
-/// The records in record order, and of those that are the same the first. The only error is want of memory.
+/// The records in record order, and of those that are the same the first. The only error is out of memory.
 pub(crate) fn in_order(alloc: Global, records: Vec<Record>) -> Result<Vec<Record>, AllocError>
     ensures order { IfOk result (λ rows. InOrder rows.items) }
     ensures set { IfOk result (λ rows. set_of rows.items ≡ set_of records.items) }
@@ -171,7 +171,7 @@ fn differs(rr: &Record, others: &[Record]) -> bool
     }
 }
 
-/// Records, and copies of those of a row that another has not, or has with other TTLs. The only error is want of memory.
+/// Records, and copies of those of a row that another has not, or has with other TTLs. The only error is out of memory.
 pub(crate) fn with_difference(
     alloc: Global,
     mut found: Vec<Record>,
@@ -189,7 +189,7 @@ pub(crate) fn with_difference(
     Ok(found)
 }
 
-/// Copies of the records of a row that another has not, or has with other TTLs, in record order. The only error is want of memory.
+/// Copies of the records of a row that another has not, or has with other TTLs, in record order. The only error is out of memory.
 pub(crate) fn difference(
     alloc: Global,
     records: &[Record],

@@ -15,7 +15,7 @@ use crate::zone::Zone;
 use dns_data::{Data, Record, RecordType, Serial, Soa};
 use std::alloc::{AllocError, Global};
 
-/// Data of an SOA with its serial one further, and others as they are. The only error is want of memory.
+/// Data of an SOA with its serial one further, and others as they are. The only error is out of memory.
 fn next_data(alloc: Global, rdata: &Data) -> Result<Data, AllocError>
     ensures { IfOk result (λ next. next ≡ next_data rdata.now) }
 {
@@ -27,7 +27,7 @@ fn next_data(alloc: Global, rdata: &Data) -> Result<Data, AllocError>
     Ok(Data::Soa(Soa::new(alloc, next)?))
 }
 
-/// An SOA with its serial one further. The only error is want of memory.
+/// An SOA with its serial one further. The only error is out of memory.
 fn next_version(alloc: Global, rr: &Record) -> Result<Record, AllocError>
     ensures { IfOk result (λ next. next ≡ next_version rr.now) }
 {
@@ -47,7 +47,7 @@ fn advances(change: &Change) -> bool
 }
 
 /// A change, and that of the SOA where the serial goes one further. The SOA stands first in record order. The only error is
-/// want of memory.
+/// out of memory.
 fn with_serial(alloc: Global, soa: &Record, mut change: Change) -> Result<Change, AllocError>
     ensures removed { IfOk result (λ c. c.removed.items ≡ (if advances change.removed.items change.added.items then soa.now ∷ change.removed.items else change.removed.items)) }
     ensures added { IfOk result (λ c. c.added.items ≡ (if advances change.removed.items change.added.items then next_version soa.now ∷ change.added.items else change.added.items)) }
@@ -60,7 +60,7 @@ fn with_serial(alloc: Global, soa: &Record, mut change: Change) -> Result<Change
     Ok(change)
 }
 
-/// What an update changes in a zone. The only error is want of memory.
+/// What an update changes in a zone. The only error is out of memory.
 pub(crate) fn update_change(
     alloc: Global,
     zone: &Zone,

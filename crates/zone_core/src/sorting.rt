@@ -132,7 +132,7 @@ fn all_positions(alloc: Global, count: usize) -> Result<Vec<usize>, AllocError>
 }
 
 /// Where the records stand that come first, second and so on in record order; those that are the same stay in theirs. The keys of
-/// all owners begin with the same octets, `shared` in number. The only error is want of memory.
+/// all owners begin with the same octets, `shared` in number. The only error is out of memory.
 pub(crate) fn sources(
     alloc: Global,
     records: &[Record],

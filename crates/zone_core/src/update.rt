@@ -74,7 +74,7 @@ impl Prerequisite {
         }
     }
 
-    /// An equal prerequisite in memory of its own. The only error is want of memory.
+    /// An equal prerequisite in memory of its own. The only error is out of memory.
     pub fn try_copy(&self, alloc: Global) -> Result<Prerequisite, AllocError>
         ensures { IfOk result (λ copy. copy ≡ self.now) }
     {
@@ -120,7 +120,7 @@ impl Operation {
         }
     }
 
-    /// An equal operation in memory of its own. The only error is want of memory.
+    /// An equal operation in memory of its own. The only error is out of memory.
     pub fn try_copy(&self, alloc: Global) -> Result<Operation, AllocError>
         ensures { IfOk result (λ copy. copy ≡ self.now) }
     {
@@ -230,7 +230,7 @@ impl Update {
         self.prerequisites == other.prerequisites && self.operations == other.operations
     }
 
-    /// An equal update in memory of its own. The only error is want of memory.
+    /// An equal update in memory of its own. The only error is out of memory.
     pub fn try_copy(&self, alloc: Global) -> Result<Update, AllocError>
         ensures { IfOk result (λ copy. copy ≡ self.now) }
     {

@@ -125,7 +125,7 @@ impl Zone {
     }
 
     /// The zone that has those records of this one that are at its origin or at one of some names, in memory of its own. It is
-    /// all that an update at these names reads. The only error is want of memory.
+    /// all that an update at these names reads. The only error is out of memory.
     pub fn part(&self, alloc: Global, names: &[Name]) -> Result<Zone, AllocError>
         ensures { IfOk result (λ zone. zone ≡ part_of self.now (at_names self.now.origin names.now)) }
     {
@@ -137,7 +137,7 @@ impl Zone {
         Ok(Zone::of_rows(origin, rows::in_order(alloc, records)?))
     }
 
-    /// The zone with a change made. The only error is want of memory.
+    /// The zone with a change made. The only error is out of memory.
     pub fn changed(self, alloc: Global, change: &Change) -> Result<Zone, AllocError>
         // The records that go are in the zone, and in the place of those that come nothing is left; each side is in record order.
         requires fits { FitsIn self.records change.now.removed.items change.now.added.items }
@@ -150,7 +150,7 @@ impl Zone {
         Ok(Zone::of_rows(origin, rows))
     }
 
-    /// An equal zone in memory of its own. The only error is want of memory.
+    /// An equal zone in memory of its own. The only error is out of memory.
     pub fn try_copy(&self, alloc: Global) -> Result<Zone, AllocError>
         ensures { IfOk result (λ copy. copy ≡ self.now) }
     {
