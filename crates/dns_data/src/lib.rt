@@ -5,8 +5,8 @@
 mod address_text;
 mod ds;
 mod fault;
+mod invariants;
 mod item;
-mod notes;
 mod number;
 mod order;
 mod rdata;

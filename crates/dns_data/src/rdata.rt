@@ -3,7 +3,7 @@
 ghost use Rattle.std.specs.Prelude.{◌≡◌, IfOk};
 
 use crate::ds::Digest;
-use crate::notes::notes_rdata;
+use crate::invariants::reveal_rdata;
 use crate::record_type::RecordType;
 use crate::soa::Soa;
 use crate::strings::Strings;
@@ -60,7 +60,7 @@ impl Data {
         // What all data are.
         ensures rdata { IsRdata self.now }
     {
-        notes_rdata(self);
+        reveal_rdata(self);
         match self {
             Data::A(_) => RecordType::A,
             Data::Ns(_) => RecordType::Ns,

@@ -13,8 +13,8 @@ ghost use Rattle.dns_data.specs.Reading.{field, ipv4_of, ipv6_of, name_of, each_
 
 use crate::ds::Digest;
 use crate::fault::DataFault;
+use crate::invariants::{reveal_octets, reveal_origin};
 use crate::item::Item;
-use crate::notes::{notes_octets, notes_origin};
 use crate::number::{Seconds, Serial, read_duration, read_number};
 use crate::rdata::Data;
 use crate::record_type::RecordType;
@@ -302,7 +302,7 @@ pub fn read_data(
     // Which refusal it is.
     ensures exact { Reads (λ made. made) result (data_of record_type (option_copied origin.entry) (map item_of items.now)) }
 {
-    notes_octets(items);
-    notes_origin(origin);
+    reveal_octets(items);
+    reveal_origin(origin);
     whole_data(alloc, record_type, items, origin)
 }

@@ -21,11 +21,11 @@ returns-clause-found c =
     let t = c.args.record_type in
     let origin = option_copied c.args.origin in
     let items = map item_of c.args.items.now in
-    found_of (λ made. (type_of made ≡ t) × IsData origin made items) c.whole_data.result (data_of t origin items) c.whole_data.ensures (λ made e. data_found t origin items made (origin_is origin c.notes_origin.ensures) c.notes_octets.ensures e)
+    found_of (λ made. (type_of made ≡ t) × IsData origin made items) c.whole_data.result (data_of t origin items) c.whole_data.ensures (λ made e. data_found t origin items made (origin_is origin c.reveal_origin.ensures) c.reveal_octets.ensures e)
 
 pub returns-clause-only : goal.returns-clause-only
 returns-clause-only c = λ made of spelled.
     let t = c.args.record_type in
     let origin = option_copied c.args.origin in
     let items = map item_of c.args.items.now in
-    subst (λ read. Reads (λ made. made) c.whole_data.result read) (data_only t origin items made (origin_is origin c.notes_origin.ensures) of spelled) c.whole_data.ensures
+    subst (λ read. Reads (λ made. made) c.whole_data.result read) (data_only t origin items made (origin_is origin c.reveal_origin.ensures) of spelled) c.whole_data.ensures
