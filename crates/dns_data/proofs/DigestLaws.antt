@@ -9,7 +9,7 @@ use Rattle.hex.specs.declared.error.FromHexError.{FromHexError}
 use Rattle.hex.specs.Hex.{IsBytes, hex_digit_value, digit_or_error, value_at, pair_value, decode_pairs, decode_of, lower_digits, encode_with, encode_lower, ◌>>=◌ as hex_bind}
 use Rattle.hex.proofs.HexLemmas.{IsAscii-encode_with, decode_of-ok, decode_of-even, decode_of-encode_lower}
 use Rattle.hex.proofs.Pairs.{cons_byte, decode_pairs-ok_pair}
-use Rattle.dns_data.specs.declared.fault.DataFault.TheVariants.{BadDigest, DataTooLong}
+use Rattle.dns_data.specs.declared.data_fault.DataFault.TheVariants.{BadDigest, DataTooLong}
 use Rattle.dns_data.specs.Faults.{◌>>=◌}
 use Rattle.dns_data.specs.Digests.{IsDigest, SpellsPair, SpellsDigest, of_pairs, fitting_digest, digest_of}
 use Rattle.dns_data.proofs.StepLaws.{bind_ok, guard_ok, guarded_ok, ok_is}

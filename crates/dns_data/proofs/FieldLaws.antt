@@ -13,8 +13,8 @@ use Rattle.dns_names.specs.Labels.{IsName}
 use Rattle.dns_names.specs.Reading.{absolute_name, relative_name}
 use Rattle.dns_names.proofs.SymbolLaws.{IsBytes}
 use Rattle.dns_names.proofs.ReadingLaws.{absolute_found, absolute_only, relative_found, relative_only}
-use Rattle.dns_data.specs.declared.fault.DataFault.{DataFault}
-use Rattle.dns_data.specs.declared.fault.DataFault.TheVariants.{QuotedItem}
+use Rattle.dns_data.specs.declared.data_fault.DataFault.{DataFault}
+use Rattle.dns_data.specs.declared.data_fault.DataFault.TheVariants.{QuotedItem}
 use Rattle.dns_data.specs.Faults.{◌>>=◌}
 use Rattle.dns_data.specs.Items.{ItemText, plain}
 use Rattle.dns_data.specs.Numbers.{number_of, duration_of}

@@ -11,7 +11,7 @@ use Rattle.std.specs.Prelude.{IsSome, unwrap_or, is_some}
 use Rattle.std.specs.List.{list_all, flat_map, sum_by, AllByRecursion}
 use Rattle.std.specs.Char.{is_ascii_digit, digit_value}
 use Rattle.std.specs.Str.Parse.{AllDigits, IsNumeral, digits_value, digits_value_after}
-use Rattle.dns_data.specs.declared.fault.DataFault.TheVariants.{BadNumber, NumberRange}
+use Rattle.dns_data.specs.declared.data_fault.DataFault.TheVariants.{BadNumber, NumberRange}
 use Rattle.dns_data.specs.Numbers.{IsNumber, is_number, up_to, number_of, unit_seconds, Group, IsGroup, group_text, group_seconds, IsDuration, groups_after, in_time, duration_of}
 use Rattle.dns_data.proofs.StepLaws.{needed_ok, guarded_ok, ok_is}
 

@@ -1,7 +1,7 @@
 -- Steps that may be refused: what they went through where they gave a value.
 use Rattle.std.proofs.Common.{◌≡◌, Bool, true, false, cond, Result, Ok, Err, refl}
 use Rattle.dns_names.specs.declared.name_fault.NameFault.{NameFault}
-use Rattle.dns_data.specs.declared.fault.DataFault.{DataFault}
+use Rattle.dns_data.specs.declared.data_fault.DataFault.{DataFault}
 use Rattle.dns_data.specs.Faults.{◌>>=◌, of_names}
 
 -- the value of a step that did not fail

@@ -11,7 +11,7 @@ use Rattle.dns_names.specs.Spelling as names
 use Rattle.dns_names.specs.Reading.{◌>>=◌, symbol_at, symbols_within, symbols}
 use Rattle.dns_names.proofs.SymbolLaws.{IsBytes, IsByteSymbol, SpellsSymbol, Spelled-some, symbol_splits, symbol_shortens, symbol_bytes, symbol_again, symbols_cons, symbols_fails}
 use Rattle.dns_names.proofs.SymbolLaws as steps
-use Rattle.dns_data.specs.declared.fault.DataFault.TheVariants.{StringTooLong}
+use Rattle.dns_data.specs.declared.data_fault.DataFault.TheVariants.{StringTooLong}
 use Rattle.dns_data.specs.Faults.{of_names}
 use Rattle.dns_data.specs.Strings.{IsString, SpellsOctet, SpellsString, symbol_octet, short_string, string_of, octet_text, string_text}
 use Rattle.dns_data.proofs.StepLaws.{bind_ok, guard_ok, of_names_ok, of_names_again}

@@ -7,7 +7,7 @@ use Rattle.dns_names.specs.declared.symbol.Symbol.{Symbol}
 use Rattle.dns_names.specs.Faults.{Refuses as RefusesName}
 use Rattle.dns_names.specs.Reading.{symbols, symbols_within, symbol_at, ◌>>=◌ as bind_names}
 use Rattle.dns_names.proofs.SymbolLaws.{symbols_cons, symbols_fails}
-use Rattle.dns_data.specs.declared.fault.DataFault.{DataFault}
+use Rattle.dns_data.specs.declared.data_fault.DataFault.{DataFault}
 use Rattle.dns_data.specs.Faults.{Refuses, of_name, of_names, ◌>>=◌}
 use Rattle.dns_data.specs.Strings.{symbol_octet}
 

@@ -1,7 +1,7 @@
 -- The laws of character-strings that take all items: what is read is spelled by the items, and what they spell is read.
 use Rattle.std.proofs.Common.{◌≡◌, ℕ, suc, ◌<◌, ltb, List, [], ◌∷◌, length, Ok, refl, ap, subst, arith, ltb-false, le-ltb}
 use Rattle.std.specs.List.{AllByRecursion}
-use Rattle.dns_data.specs.declared.fault.DataFault.TheVariants.{DataTooLong}
+use Rattle.dns_data.specs.declared.data_fault.DataFault.TheVariants.{DataTooLong}
 use Rattle.dns_data.specs.Items.{ItemText, in_quotes}
 use Rattle.dns_data.specs.Strings.{IsString, AreStrings, strings_len, string_of, string_text}
 use Rattle.dns_data.specs.Text.{strings_items}

@@ -2,8 +2,8 @@
 use Rattle.std.specs.Prelude.{◌≡◌, ℕ, Result, Ok, Err}
 use Rattle.dns_names.specs.declared.name_fault.NameFault.{NameFault}
 use Rattle.dns_names.specs.declared.name_fault.NameFault.TheVariants as names
-use Rattle.dns_data.specs.declared.fault.DataFault.{DataFault}
-use Rattle.dns_data.specs.declared.fault.DataFault.TheVariants.{BadAddress, BadNumber, NumberRange, StringTooLong, FieldMissing, FieldExtra, TypeNotKept, DataTooLong, Name, QuotedItem, BadDigest, NoMemory}
+use Rattle.dns_data.specs.declared.data_fault.DataFault.{DataFault}
+use Rattle.dns_data.specs.declared.data_fault.DataFault.TheVariants.{BadAddress, BadNumber, NumberRange, StringTooLong, FieldMissing, FieldExtra, TypeNotKept, DataTooLong, Name, QuotedItem, BadDigest, NoMemory}
 
 abbrev pub fault_number : DataFault → ℕ
 fault_number BadAddress = 11
@@ -24,7 +24,7 @@ abbrev pub of_name : NameFault → DataFault
 of_name names.NoMemory = NoMemory
 of_name fault = Name fault
 
--- what a call refused with is the refusal of the definition; want of memory says nothing of the definition
+-- what a call refused with is the refusal of the definition; out of memory says nothing of the definition
 abbrev pub Refuses : {Y : Type 0} → DataFault → Result Y DataFault → Type 0
 Refuses NoMemory read = Unit {0}
 Refuses fault read = read ≡ Err fault

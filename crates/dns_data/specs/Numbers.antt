@@ -4,8 +4,8 @@ use Rattle.std.specs.List.{list_all, flat_map, sum_by, AllByRecursion}
 use Rattle.std.specs.Option.{option_map}
 use Rattle.std.specs.Char.{is_ascii_digit, to_ascii_lowercase}
 use Rattle.std.specs.Str.Parse.{IsNumeral, digits_value}
-use Rattle.dns_data.specs.declared.fault.DataFault.{DataFault}
-use Rattle.dns_data.specs.declared.fault.DataFault.TheVariants.{BadNumber, NumberRange}
+use Rattle.dns_data.specs.declared.data_fault.DataFault.{DataFault}
+use Rattle.dns_data.specs.declared.data_fault.DataFault.TheVariants.{BadNumber, NumberRange}
 
 -- one decimal digit or more, which write the number
 abbrev pub IsNumber : List ℕ → ℕ → Type 0

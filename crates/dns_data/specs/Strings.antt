@@ -6,8 +6,8 @@ use Rattle.dns_names.specs.declared.symbol.Symbol.{Symbol}
 use Rattle.dns_names.specs.declared.symbol.Symbol.TheVariants.{Dot, Octet}
 use Rattle.dns_names.specs.Spelling.{three_digits}
 use Rattle.dns_names.specs.Reading.{symbols}
-use Rattle.dns_data.specs.declared.fault.DataFault.{DataFault}
-use Rattle.dns_data.specs.declared.fault.DataFault.TheVariants.{StringTooLong}
+use Rattle.dns_data.specs.declared.data_fault.DataFault.{DataFault}
+use Rattle.dns_data.specs.declared.data_fault.DataFault.TheVariants.{StringTooLong}
 use Rattle.dns_data.specs.Faults.{◌>>=◌, of_names}
 
 -- octets, at most 255 of them

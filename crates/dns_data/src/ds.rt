@@ -9,7 +9,7 @@ ghost use Rattle.hex.specs.Hex.{decode_of};
 ghost use Rattle.dns_data.specs.Faults.{Reads};
 ghost use Rattle.dns_data.specs.Digests.{IsDigest, of_pairs, digest_of};
 
-use crate::fault::DataFault;
+use crate::data_fault::DataFault;
 use hex::FromHexError;
 use std::alloc::{AllocError, Global};
 use std::marker::Model;
@@ -67,7 +67,7 @@ impl Digest {
         &self.octets
     }
 
-    /// An equal digest in memory of its own. The only error is want of memory.
+    /// An equal digest in memory of its own. The only error is out of memory.
     pub fn try_copy(&self, alloc: Global) -> Result<Digest, AllocError>
         ensures { IfOk result (λ copy. copy ≡ self.now) }
     {

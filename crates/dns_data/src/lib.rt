@@ -3,27 +3,27 @@
 #![tactic(auto)]
 
 mod address_text;
+mod data_fault;
 mod ds;
-mod fault;
+mod fields;
 mod invariants;
 mod item;
 mod number;
 mod order;
 mod rdata;
-mod reading;
 mod record;
 mod record_type;
 mod soa;
 mod strings;
 mod text;
 
+pub use data_fault::DataFault;
 pub use ds::Digest;
-pub use fault::DataFault;
+pub use fields::read_data;
 pub use item::Item;
 pub use number::{Seconds, Serial, Ttl};
 pub use order::{data_order, record_order};
 pub use rdata::Data;
-pub use reading::read_data;
 pub use record::{Record, record_line, same_record};
 pub use record_type::RecordType;
 pub use soa::{Soa, SoaFields};

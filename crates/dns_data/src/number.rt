@@ -7,7 +7,7 @@ ghost use Rattle.std.specs.Char.{is_ascii_digit};
 ghost use Rattle.std.specs.Str.Parse.{digits_value};
 ghost use Rattle.dns_data.specs.Numbers.{IsDuration, is_number, unit_seconds, groups_after, number_of, duration_of};
 
-use crate::fault::DataFault;
+use crate::data_fault::DataFault;
 use std::marker::Model;
 
 /// The version of a zone, a number of 32 bits that wraps (RFC 1035 section 3.3.13, RFC 1982).

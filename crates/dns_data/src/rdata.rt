@@ -75,7 +75,7 @@ impl Data {
         }
     }
 
-    /// Equal data in memory of their own. The only error is want of memory.
+    /// Equal data in memory of their own. The only error is out of memory.
     pub fn try_copy(&self, alloc: Global) -> Result<Data, AllocError>
         ensures { IfOk result (λ copy. copy ≡ self.now) }
     {

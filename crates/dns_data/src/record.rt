@@ -32,7 +32,7 @@ impl Record {
         self.rdata.record_type()
     }
 
-    /// An equal record in memory of its own. The only error is want of memory.
+    /// An equal record in memory of its own. The only error is out of memory.
     pub fn try_copy(&self, alloc: Global) -> Result<Record, AllocError>
         ensures { IfOk result (λ copy. copy ≡ self.now) }
     {
@@ -62,7 +62,7 @@ pub fn same_record(a: &Record, b: &Record) -> bool
 }
 
 /// The record as one line of a master file, without the line's end: owner, TTL, `IN`, type and data, joined by one space.
-/// The only error is want of memory.
+/// The only error is out of memory.
 pub fn record_line(alloc: Global, rr: &Record) -> Result<String, AllocError>
     ensures { IfOk result (λ line. string_bytes line ≡ record_line rr.now) }
 {

@@ -5,7 +5,7 @@ ghost use Rattle.std.specs.List.{find};
 ghost use Rattle.std.specs.Result.{result_ok};
 ghost use Rattle.std.specs.Str.{str_eq_ignore_ascii_case};
 
-use crate::fault::DataFault;
+use crate::data_fault::DataFault;
 
 /// A record type that is kept (RFC 1035 section 3.2.2, RFC 2782, RFC 3596 section 2.1, RFC 4034 section 5).
 #[derive(Clone, Copy, PartialEq, Eq)]

@@ -22,7 +22,7 @@ pub struct SoaFields {
 }
 
 impl SoaFields {
-    /// Equal fields in memory of their own. The only error is want of memory.
+    /// Equal fields in memory of their own. The only error is out of memory.
     pub fn try_copy(&self, alloc: Global) -> Result<SoaFields, AllocError>
         ensures { IfOk result (λ copy. copy ≡ self.now) }
     {
@@ -54,7 +54,7 @@ impl Model for Soa {
 }
 
 impl Soa {
-    /// The data of these fields. The only error is want of memory.
+    /// The data of these fields. The only error is out of memory.
     pub fn new(alloc: Global, fields: SoaFields) -> Result<Soa, AllocError>
         ensures { IfOk result (λ soa. soa ≡ fields) }
     {
@@ -70,7 +70,7 @@ impl Soa {
         &self.fields
     }
 
-    /// Equal data in memory of their own. The only error is want of memory.
+    /// Equal data in memory of their own. The only error is out of memory.
     pub fn try_copy(&self, alloc: Global) -> Result<Soa, AllocError>
         ensures { IfOk result (λ copy. copy ≡ self.now) }
     {

@@ -9,7 +9,7 @@ ghost use Rattle.dns_names.specs.Reading.{symbols};
 ghost use Rattle.dns_data.specs.Faults.{Reads, of_names, ◌>>=◌ as bind};
 ghost use Rattle.dns_data.specs.Strings.{IsString, AreStrings, strings_len, SpellsString, symbol_octet, string_of};
 
-use crate::fault::DataFault;
+use crate::data_fault::DataFault;
 use dns_names::{Symbol, first_symbol};
 use std::alloc::{AllocError, Global};
 use std::marker::Model;
@@ -89,7 +89,7 @@ impl CharacterString {
         &self.octets
     }
 
-    /// An equal string in memory of its own. The only error is want of memory.
+    /// An equal string in memory of its own. The only error is out of memory.
     pub fn try_copy(&self, alloc: Global) -> Result<CharacterString, AllocError>
         ensures { IfOk result (λ copy. copy ≡ self.now) }
     {
@@ -157,7 +157,7 @@ impl Strings {
         &self.strings
     }
 
-    /// Equal strings in memory of their own. The only error is want of memory.
+    /// Equal strings in memory of their own. The only error is out of memory.
     pub fn try_copy(&self, alloc: Global) -> Result<Strings, AllocError>
         ensures { IfOk result (λ copy. copy ≡ self.now) }
     {

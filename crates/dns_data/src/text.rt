@@ -195,7 +195,7 @@ impl fmt::Display for Data {
 /// canonical spelling, an IPv6 address as RFC 5952 section 4 has it with no dotted tail, a digest in lower case as one item,
 /// and character-strings in quotes, in which `"` and `\` have a backslash before them, other octets from 32 to 126 stand
 /// plain, and all others are `\DDD`.
-/// The only error is want of memory.
+/// The only error is out of memory.
 pub fn data_text(alloc: Global, rdata: &Data) -> Result<String, AllocError>
     ensures canonical { IfOk result (λ text. string_bytes text ≡ data_text rdata.now) }
     // Its items, read again, are the data.

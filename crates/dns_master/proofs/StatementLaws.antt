@@ -5,7 +5,7 @@ use Rattle.std.specs.Prelude.{codes}
 use Rattle.std.specs.Str.{str_to_ascii_lowercase, str_eq_ignore_ascii_case}
 use Rattle.dns_names.specs.Labels.{IsName}
 use Rattle.dns_names.proofs.SymbolLaws.{IsBytes, All-parts}
-use Rattle.dns_data.specs.declared.fault.DataFault.{DataFault}
+use Rattle.dns_data.specs.declared.data_fault.DataFault.{DataFault}
 use Rattle.dns_data.specs.declared.rdata.Data.{Data}
 use Rattle.dns_data.specs.Items.{ItemText, plain}
 use Rattle.dns_data.specs.declared.record_type.RecordType.{RecordType}

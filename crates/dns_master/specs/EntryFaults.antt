@@ -1,8 +1,8 @@
 -- The refusals of an entry, before its line is told.
 use Rattle.std.specs.Prelude.{◌≡◌, ℕ, Result, Ok, Err}
 use Rattle.dns_names.specs.declared.name_fault.NameFault.{NameFault}
-use Rattle.dns_data.specs.declared.fault.DataFault.{DataFault}
-use Rattle.dns_data.specs.declared.fault.DataFault.TheVariants as data_faults
+use Rattle.dns_data.specs.declared.data_fault.DataFault.{DataFault}
+use Rattle.dns_data.specs.declared.data_fault.DataFault.TheVariants as data_faults
 use Rattle.dns_data.specs.Faults as of_fault
 use Rattle.dns_master.specs.declared.master_fault.MasterFault.{MasterFault}
 use Rattle.dns_master.specs.declared.master_fault.MasterFault.TheVariants as files

@@ -1,7 +1,7 @@
 -- What an entry states (RFC 1035 section 5.1, RFC 2308 section 4): what its items say, with the refusal that comes first.
 use Rattle.std.specs.Prelude.{ℕ, List, [], ◌∷◌, codes, Bool, true, false, not, if◌then◌else◌, Option, Some, None, Result, Ok, Err, ◌==◌, ◌&&◌}
 use Rattle.std.specs.Str.{str_eq_ignore_ascii_case}
-use Rattle.dns_data.specs.declared.fault.DataFault.TheVariants.{FieldExtra}
+use Rattle.dns_data.specs.declared.data_fault.DataFault.TheVariants.{FieldExtra}
 use Rattle.dns_data.specs.Items.{ItemText}
 use Rattle.dns_data.specs.Reading.{data_of}
 use Rattle.dns_master.specs.declared.entry_fault.EntryFault.{EntryFault}

@@ -5,7 +5,7 @@ use Rattle.std.specs.Bool.{Decides}
 use Rattle.std.specs.List.{find}
 use Rattle.std.specs.Result.{result_ok}
 use Rattle.std.specs.Str.{str_to_ascii_lowercase, str_eq_ignore_ascii_case}
-use Rattle.dns_data.specs.declared.fault.DataFault.{DataFault}
+use Rattle.dns_data.specs.declared.data_fault.DataFault.{DataFault}
 use Rattle.std.proofs.lemmas.Bool.Decides.{Decides-eqb, Decides-like}
 use Rattle.std.proofs.lemmas.Slice.Eq.{bytes_eq-Decides}
 use Rattle.dns_data.specs.declared.record_type.RecordType.{RecordType}

@@ -1,8 +1,8 @@
 -- Single fields, and entries that are too short.
 use Rattle.std.proofs.Common.{◌≡◌, ◌↔◌, ℕ, ◌<◌, List, [], ◌∷◌, length, map, Option, Some, None, Result, Ok, Err, refl, ap, arith}
 use Rattle.std.specs.Result.{result_ok}
-use Rattle.dns_data.specs.declared.fault.DataFault.{DataFault}
-use Rattle.dns_data.specs.declared.fault.DataFault.TheVariants.{TypeNotKept}
+use Rattle.dns_data.specs.declared.data_fault.DataFault.{DataFault}
+use Rattle.dns_data.specs.declared.data_fault.DataFault.TheVariants.{TypeNotKept}
 use Rattle.dns_data.specs.declared.item.Item.{Item}
 use Rattle.dns_data.specs.declared.record_type.RecordType.{RecordType}
 use Rattle.dns_data.specs.Items.{item_of}

@@ -7,7 +7,7 @@ use Rattle.std.specs.declared.net.ipv4_addr.Ipv4Addr.{Ipv4Addr}
 use Rattle.std.specs.declared.net.ipv6_addr.Ipv6Addr.{Ipv6Addr}
 use Rattle.serde_json.specs.Data as json
 use Rattle.serde_json.specs.Data.{Data, Items}
-use Rattle.dns_data.specs.declared.fault.DataFault.{DataFault}
+use Rattle.dns_data.specs.declared.data_fault.DataFault.{DataFault}
 use Rattle.dns_data.specs.Reading.{ipv4_of, ipv6_of}
 use Rattle.dns_data.proofs.FieldLaws.{ipv4_sound, ipv6_sound}
 use Rattle.office_json.specs.declared.fault.BodyFault.{BodyFault}

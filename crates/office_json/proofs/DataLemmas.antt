@@ -18,8 +18,8 @@ use Rattle.dns_master.specs.Tokens.{TokenText, AreTokens, token_of, tokens_of}
 use Rattle.dns_master.proofs.WalkLaws.{tokens_read}
 use Rattle.office_json.specs.declared.fault.BodyFault.{BodyFault}
 use Rattle.office_json.specs.declared.fault.BodyFault.TheVariants.{BadField}
-use Rattle.dns_data.specs.declared.fault.DataFault.{DataFault}
-use Rattle.dns_data.specs.declared.fault.DataFault.TheVariants as datas
+use Rattle.dns_data.specs.declared.data_fault.DataFault.{DataFault}
+use Rattle.dns_data.specs.declared.data_fault.DataFault.TheVariants as datas
 use Rattle.dns_data.specs.Faults as dns
 use Rattle.office_json.specs.Faults.{◌>>=◌, Refuses, of_data, of_shapes, of_datas}
 use Rattle.office_json.specs.Bodies.{SpellsData}

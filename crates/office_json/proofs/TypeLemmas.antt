@@ -1,8 +1,8 @@
 -- Types by what they are called.
 use Rattle.std.proofs.Common.{◌≡◌, ◌↔◌, ℕ, List, Option, Some, None, Result, Ok, Err, refl, ap}
 use Rattle.std.specs.Result.{result_ok}
-use Rattle.dns_data.specs.declared.fault.DataFault.{DataFault}
-use Rattle.dns_data.specs.declared.fault.DataFault.TheVariants.{TypeNotKept}
+use Rattle.dns_data.specs.declared.data_fault.DataFault.{DataFault}
+use Rattle.dns_data.specs.declared.data_fault.DataFault.TheVariants.{TypeNotKept}
 use Rattle.dns_data.specs.declared.record_type.RecordType.{RecordType}
 use Rattle.dns_data.specs.Types.{IsCalled}
 use Rattle.dns_data.proofs.TypeLemmas.{found_or, by_name}

@@ -2,8 +2,8 @@
 use Rattle.std.specs.Prelude.{◌≡◌, ℕ, Result, Ok, Err, Option, Some, None}
 use Rattle.dns_names.specs.declared.name_fault.NameFault.{NameFault}
 use Rattle.dns_names.specs.declared.name_fault.NameFault.TheVariants as names
-use Rattle.dns_data.specs.declared.fault.DataFault.{DataFault}
-use Rattle.dns_data.specs.declared.fault.DataFault.TheVariants as datas
+use Rattle.dns_data.specs.declared.data_fault.DataFault.{DataFault}
+use Rattle.dns_data.specs.declared.data_fault.DataFault.TheVariants as datas
 use Rattle.dns_master.specs.declared.master_fault.MasterFault.{MasterFault}
 use Rattle.dns_master.specs.declared.master_fault.MasterFault.TheVariants as masters
 use Rattle.grant_policy.specs.declared.identifier.IdentifierFault.{IdentifierFault}

@@ -1,7 +1,7 @@
 use Rattle.std.proofs.Common.{Result, ap}
 use Rattle.std.specs.declared.net.ip_addr.IpAddr.TheVariants.{V4}
 use Rattle.std.specs.declared.net.ipv4_addr.Ipv4Addr.{Ipv4Addr}
-use Rattle.dns_data.specs.declared.fault.DataFault.{DataFault}
+use Rattle.dns_data.specs.declared.data_fault.DataFault.{DataFault}
 use Rattle.dns_data.proofs.FieldLaws.{ipv4_only}
 use Rattle.dns_data.proofs.AddressLemmas.{ipv4_not}
 use Rattle.std.proofs.Common.{Ok}

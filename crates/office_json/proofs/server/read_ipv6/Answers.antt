@@ -1,7 +1,7 @@
 use Rattle.std.proofs.Common.{Result, ap}
 use Rattle.std.specs.declared.net.ip_addr.IpAddr.TheVariants.{V6}
 use Rattle.std.specs.declared.net.ipv6_addr.Ipv6Addr.{Ipv6Addr}
-use Rattle.dns_data.specs.declared.fault.DataFault.{DataFault}
+use Rattle.dns_data.specs.declared.data_fault.DataFault.{DataFault}
 use Rattle.dns_data.proofs.FieldLaws.{ipv6_only}
 use Rattle.dns_data.proofs.AddressLemmas.{ipv6_not}
 use Rattle.std.proofs.Common.{Ok}

@@ -1,5 +1,5 @@
 use Rattle.std.proofs.Common.{◌∙◌}
-use Rattle.dns_data.specs.declared.fault.DataFault.TheVariants.{TypeNotKept}
+use Rattle.dns_data.specs.declared.data_fault.DataFault.TheVariants.{TypeNotKept}
 use Rattle.dns_data.proofs.TypeLemmas.{by_name, found_ok}
 use Rattle.dns_data.proofs.record_type.RecordType.read.Goals as goal
 

@@ -2,7 +2,7 @@ use Rattle.std.proofs.Common.{map}
 use Rattle.dns_data.specs.Items.{item_of}
 use Rattle.dns_data.specs.Reading.{joined}
 use Rattle.dns_data.proofs.JoinedLaws.{joins, is_quoted, all_joined}
-use Rattle.dns_data.proofs.reading.joined.Goals as goal
+use Rattle.dns_data.proofs.fields.joined.Goals as goal
 
 pub returns-then-item : goal.returns-then-item
 returns-then-item c =

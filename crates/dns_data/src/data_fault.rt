@@ -1,7 +1,7 @@
 //! Why items are no record data.
 
 ghost use Rattle.std.specs.Prelude.{◌≡◌};
-ghost use Rattle.dns_data.specs.declared.fault.DataFault.TheVariants.{NoMemory};
+ghost use Rattle.dns_data.specs.declared.data_fault.DataFault.TheVariants.{NoMemory};
 
 use dns_names::NameFault;
 use std::alloc::{AllocError, AllocFailed};
@@ -51,7 +51,7 @@ pub enum DataFault {
 impl DataFault {
     ghost use Rattle.dns_data.specs.Faults.{fault_number};
 
-    /// The published number of the refusal, 11 to 20 or 33, or 99 for want of memory. A name's own number is that of its
+    /// The published number of the refusal, 11 to 20 or 33, or 99 when out of memory. A name's own number is that of its
     /// fault.
     pub const fn number(self) -> u8
         ensures { result ≡ fault_number self }

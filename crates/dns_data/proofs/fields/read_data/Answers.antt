@@ -10,7 +10,7 @@ use Rattle.dns_data.specs.Reading.{data_of}
 use Rattle.dns_data.proofs.EachLemmas.{found_of}
 use Rattle.dns_data.proofs.FieldLaws.{IsOrigin}
 use Rattle.dns_data.proofs.DataLaws.{data_found, data_only}
-use Rattle.dns_data.proofs.reading.read_data.Goals as goal
+use Rattle.dns_data.proofs.fields.read_data.Goals as goal
 
 origin_is : (origin : Option (List (List ℕ))) → IfSome origin IsName → IsOrigin origin
 origin_is None is = tt

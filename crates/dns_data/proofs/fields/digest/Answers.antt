@@ -5,7 +5,7 @@ use Rattle.dns_data.specs.Faults.{Reads}
 use Rattle.dns_data.specs.Items.{item_of}
 use Rattle.dns_data.specs.Digests.{digest_of}
 use Rattle.dns_data.proofs.JoinedLaws.{digest_missing, digest_refused, digest_of_joined}
-use Rattle.dns_data.proofs.reading.digest.Goals as goal
+use Rattle.dns_data.proofs.fields.digest.Goals as goal
 
 pub returns-then-is_empty : goal.returns-then-is_empty
 returns-then-is_empty c =

@@ -11,8 +11,8 @@ ghost use Rattle.dns_data.specs.Grammar.{IsData};
 ghost use Rattle.dns_data.specs.Numbers.{number_of, duration_of};
 ghost use Rattle.dns_data.specs.Reading.{field, ipv4_of, ipv6_of, name_of, each_string, strings_of, joined, digest_at, data_at, data_of};
 
+use crate::data_fault::DataFault;
 use crate::ds::Digest;
-use crate::fault::DataFault;
 use crate::invariants::{reveal_octets, reveal_origin};
 use crate::item::Item;
 use crate::number::{Seconds, Serial, read_duration, read_number};

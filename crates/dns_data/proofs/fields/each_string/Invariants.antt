@@ -4,7 +4,7 @@ use Rattle.dns_data.specs.Items.{item_of}
 use Rattle.dns_data.specs.Strings.{IsString}
 use Rattle.dns_data.specs.Reading.{each_string}
 use Rattle.dns_data.proofs.EachLemmas.{read_on}
-use Rattle.dns_data.proofs.reading.each_string.Given as goal
+use Rattle.dns_data.proofs.fields.each_string.Given as goal
 
 abbrev pub invariant-loop-item : goal.invariant-loop-item
 invariant-loop-item l = record {

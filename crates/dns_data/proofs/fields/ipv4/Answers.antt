@@ -1,10 +1,10 @@
 use Rattle.std.proofs.Common.{map}
-use Rattle.dns_data.specs.declared.fault.DataFault.TheVariants.{BadAddress}
+use Rattle.dns_data.specs.declared.data_fault.DataFault.TheVariants.{BadAddress}
 use Rattle.dns_data.specs.Items.{item_of}
 use Rattle.dns_data.specs.Reading.{ipv4_of}
 use Rattle.dns_data.proofs.FieldLaws.{ipv4_only}
 use Rattle.dns_data.proofs.AddressLemmas.{ipv4_not, field_reads, field_refuses}
-use Rattle.dns_data.proofs.reading.ipv4.Goals as goal
+use Rattle.dns_data.proofs.fields.ipv4.Goals as goal
 
 pub returns-in-Ok : goal.returns-in-Ok
 returns-in-Ok c =

@@ -3,7 +3,7 @@ use Rattle.std.proofs.lemmas.Result.{err_from_is_err_and}
 use Rattle.std.proofs.lemmas.List.{length-map}
 use Rattle.dns_data.specs.Items.{item_of}
 use Rattle.dns_data.proofs.EachLemmas.{strings_missing, strings_refused, some_strings, strings_made}
-use Rattle.dns_data.proofs.reading.strings.Goals as goal
+use Rattle.dns_data.proofs.fields.strings.Goals as goal
 
 pub returns-then-is_empty : goal.returns-then-is_empty
 returns-then-is_empty c =

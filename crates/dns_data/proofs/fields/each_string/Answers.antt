@@ -5,7 +5,7 @@ use Rattle.dns_data.specs.Items.{item_of}
 use Rattle.dns_data.specs.Strings.{IsString}
 use Rattle.dns_data.specs.Reading.{each_string}
 use Rattle.dns_data.proofs.EachLemmas.{goes_on, stops, ends}
-use Rattle.dns_data.proofs.reading.each_string.Goals as goal
+use Rattle.dns_data.proofs.fields.each_string.Goals as goal
 
 pub returns-in_err-read-clause-exact : goal.returns-in_err-read-clause-exact
 returns-in_err-read-clause-exact c =
