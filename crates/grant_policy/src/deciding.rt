@@ -14,7 +14,7 @@ use crate::action::Action;
 use crate::decision::Decision;
 use crate::identifier::Identifier;
 use crate::look_ups::LookUps;
-use crate::policy::{Policy, notes_rules};
+use crate::policy::{Policy, reveal_rules};
 use crate::rule::Rule;
 use crate::table::RuleTable;
 use dns_data::RecordType;
@@ -136,7 +136,7 @@ pub fn decide<'a>(
         record_type,
         action,
     };
-    notes_rules(policy);
+    reveal_rules(policy);
     match first_match(policy, asked, look_ups) {
         Some(found) => found.rule.decision(),
         None => Decision::Denied(None),

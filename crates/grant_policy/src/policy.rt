@@ -78,7 +78,7 @@ impl Policy {
 }
 
 /// Makes known to a proof that the rules of a policy are such. It does nothing when it runs.
-pub(crate) fn notes_rules(policy: &Policy)
+pub(crate) fn reveal_rules(policy: &Policy)
     ensures { AreRules policy.now }
 {
     let _ = &policy.rules;

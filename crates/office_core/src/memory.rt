@@ -114,7 +114,7 @@ fn receipt_of<'a>(
 }
 
 /// The update of a receipt is one. It does nothing at run time.
-fn receipt_has_update(receipt: &Receipt)
+fn reveal_update(receipt: &Receipt)
     ensures { IsUpdate receipt.now.update }
 {
     let _ = receipt.update.operations();
@@ -249,7 +249,7 @@ impl ZoneTable for MemTable {
             receipt,
             change,
         } = addition;
-        receipt_has_update(&receipt);
+        reveal_update(&receipt);
         let Some(change) = change else {
             keep(alloc, &mut self.receipts, caller, id, receipt)?;
             return Ok(());

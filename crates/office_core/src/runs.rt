@@ -39,7 +39,7 @@ pub fn run<T: ZoneTable>(
     ensures refused { OnErr result ((s : State) → T.holds table.old s → T.holds table.new s) }
     ensures uncounted { OnErr result (T.failures table.new ≡ T.failures table.old) }
 {
-    calls_have_updates(calls);
+    reveal_updates(calls);
     replies_to(alloc, table, policy, calls)
 }
 
@@ -66,7 +66,7 @@ fn replies_to<T: ZoneTable>(
 }
 
 /// The update of a call, where it has one, is one. It does nothing at run time.
-fn call_has_update(call: &Call)
+fn reveal_update(call: &Call)
     ensures { HasUpdate call.now.request }
 {
     if let Request::Update { update, .. } = &call.request {
@@ -75,10 +75,10 @@ fn call_has_update(call: &Call)
 }
 
 /// The same of all calls.
-fn calls_have_updates(calls: &[Call])
+fn reveal_updates(calls: &[Call])
     ensures { HaveUpdates calls.now }
 {
     for call in calls {
-        call_has_update(call);
+        reveal_update(call);
     }
 }

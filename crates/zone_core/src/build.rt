@@ -9,9 +9,9 @@ ghost use Rattle.zone_core.specs.KeyPrefixes.{ShareOctets};
 ghost use Rattle.zone_core.specs.Views.{set_ttl, given_ttls, min_ttl_rows, are_two_cnames, are_cname_and_other};
 ghost use Rattle.zone_core.specs.Zones.{IsZone, built, latest, zone_of, least_below, beside, fault_in, is_outside, is_soa, is_cname, is_of_two_cnames, is_cname_beside_other};
 
+use crate::invariants::reveal_records;
 use crate::refusals::ZoneFault;
 use crate::rows::{has_set, has_type, in_order_behind};
-use crate::validity::records_are_valid;
 use crate::zone::Zone;
 use dns_data::{Record, RecordType, Ttl};
 use dns_names::Name;
@@ -32,7 +32,7 @@ impl Zone {
         ensures exact { Gives (λ zone. zone) result (built origin records.items) }
     {
         let records = min_rrset_ttl(alloc, latest_rows(alloc, &origin, records)?)?;
-        records_are_valid(&records);
+        reveal_records(&records);
         match fault_in(&origin, &records) {
             Some(fault) => Err(fault),
             None => Ok(Zone::of_rows(origin, records)),

@@ -6,6 +6,7 @@ mod build;
 mod change;
 mod delegation;
 mod effect;
+mod invariants;
 mod kind;
 mod laws;
 mod merge;
@@ -18,7 +19,6 @@ mod serial;
 mod serial_advance;
 mod sorting;
 mod update;
-mod validity;
 mod verdict;
 mod zone;
 

@@ -9,7 +9,7 @@ ghost use Rattle.zone_core.specs.Sets.{record_order, set_of};
 ghost use Rattle.zone_core.specs.KeyPrefixes.{written, prefix_behind, no_prefix, prefix_order, ShareOctets};
 ghost use Rattle.zone_core.specs.Views.{position_order, ArePositions, AreInverse, AreTaken};
 
-use crate::validity::records_are_valid;
+use crate::invariants::reveal_records;
 use dns_data::{Record, record_order};
 use dns_names::Name;
 use std::alloc::{AllocError, Global};
@@ -143,7 +143,7 @@ pub(crate) fn sources(
     ensures order { IfOk result (λ positions. (rows : List RecordOf) → AreTaken records.now positions.items rows → IsSorted record_order rows) }
     ensures set { IfOk result (λ positions. (rows : List RecordOf) → AreTaken records.now positions.items rows → set_of rows ≡ set_of records.now) }
 {
-    records_are_valid(records);
+    reveal_records(records);
     let Some(other) = records.first() else {
         return Ok(Vec::new(alloc));
     };

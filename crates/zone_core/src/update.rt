@@ -5,9 +5,9 @@ ghost use Rattle.std.specs.List.{filter, position};
 ghost use Rattle.dns_names.specs.Labels.{is_within};
 ghost use Rattle.zone_core.specs.Updates.{tested_name, acted_name, adds_soa, update_of, IsUpdate, ActsWithin, first_outside, same_update};
 
+use crate::invariants::{reveal_operations, reveal_prerequisites};
 use crate::refusals::UpdateFault;
 use crate::rows::has_type;
-use crate::validity::{operations_are_valid, prerequisites_are_valid};
 use dns_data::{Data, Record, RecordType};
 use dns_names::Name;
 use std::alloc::{AllocError, Global};
@@ -182,8 +182,8 @@ impl Update {
         if soas_added(&operations) > 1 {
             return Err(UpdateFault::TwoSoa);
         }
-        prerequisites_are_valid(&prerequisites);
-        operations_are_valid(&operations);
+        reveal_prerequisites(&prerequisites);
+        reveal_operations(&operations);
         Ok(Update {
             prerequisites,
             operations,

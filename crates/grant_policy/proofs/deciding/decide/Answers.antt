@@ -28,9 +28,9 @@ returns-in-None-clause-found c =
 pub returns-in-Some-clause-closing : goal.returns-in-Some-clause-closing
 returns-in-Some-clause-closing c =
     let p : Question = record { caller = c.args.caller.now; name = c.args.name.now; record_type = c.args.record_type; action = c.args.action } in
-    told_closing p c.args.policy.now _ (returns-in-Some-clause-found c) c.notes_rules.ensures.free
+    told_closing p c.args.policy.now _ (returns-in-Some-clause-found c) c.reveal_rules.ensures.free
 
 pub returns-in-None-clause-closing : goal.returns-in-None-clause-closing
 returns-in-None-clause-closing c =
     let p : Question = record { caller = c.args.caller.now; name = c.args.name.now; record_type = c.args.record_type; action = c.args.action } in
-    told_closing p c.args.policy.now _ (returns-in-None-clause-found c) c.notes_rules.ensures.free
+    told_closing p c.args.policy.now _ (returns-in-None-clause-found c) c.reveal_rules.ensures.free

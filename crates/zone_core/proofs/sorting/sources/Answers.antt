@@ -8,11 +8,11 @@ returns-clause-order c =
     let prefixes = c.deref.result.now in
     let positions = c.sorted_positions.result.items in
     let moved = subst (λ ps. IsPermutation ps positions) c.in_ok-positions.ensures c.sorted_positions.ensures.permutation in
-    rows_sorted c.args.records.now prefixes c.in-Some.other.now c.args.shared c.requires c.records_are_valid.ensures (c.deref.ensures.value ∙ c.in_ok-prefixes.ensures) positions moved c.sorted_positions.ensures.order
+    rows_sorted c.args.records.now prefixes c.in-Some.other.now c.args.shared c.requires c.reveal_records.ensures (c.deref.ensures.value ∙ c.in_ok-prefixes.ensures) positions moved c.sorted_positions.ensures.order
 
 pub returns-clause-set : goal.returns-clause-set
 returns-clause-set c =
     let prefixes = c.deref.result.now in
     let positions = c.sorted_positions.result.items in
     let moved = subst (λ ps. IsPermutation ps positions) c.in_ok-positions.ensures c.sorted_positions.ensures.permutation in
-    rows_set c.args.records.now prefixes c.in-Some.other.now c.args.shared c.requires c.records_are_valid.ensures (c.deref.ensures.value ∙ c.in_ok-prefixes.ensures) positions moved c.sorted_positions.ensures.order
+    rows_set c.args.records.now prefixes c.in-Some.other.now c.args.shared c.requires c.reveal_records.ensures (c.deref.ensures.value ∙ c.in_ok-prefixes.ensures) positions moved c.sorted_positions.ensures.order

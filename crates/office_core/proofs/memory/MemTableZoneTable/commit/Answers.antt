@@ -24,7 +24,7 @@ returns-in_default-clause-made c = λ u s h.
     let old : MemoryOf = record { zones = c.self.inside.zones.items; receipts = receipt_rows c.self.inside.receipts } in
     let new : MemoryOf = record { zones = c.self.inside.zones.items; receipts = receipt_rows c.keep.new.receipts } in
     let kept = kept_rows c.self.inside.receipts c.keep.new.receipts a.caller a.id a.receipt c.in_ok-keep.ensures.kept in
-    holds_receipt old new s a c.in_default.is (one_receipt old new a.caller a.id a.receipt c.self.invariant.zones kept c.receipt_has_update.ensures c.self.invariant) refl kept
+    holds_receipt old new s a c.in_default.is (one_receipt old new a.caller a.id a.receipt c.self.invariant.zones kept c.reveal_update.ensures c.self.invariant) refl kept
     (subst (λ q. HoldsState q s) (sym c.self.view_is) h)
 
 pub unreachable-requires : goal.unreachable-requires
@@ -126,7 +126,7 @@ invariant_of-self-in_default c =
     let old : MemoryOf = record { zones = c.self.inside.zones.items; receipts = receipt_rows c.self.inside.receipts } in
     let new : MemoryOf = record { zones = c.self.inside.zones.items; receipts = receipt_rows c.keep.new.receipts } in
     one_receipt old new a.caller a.id a.receipt c.self.invariant.zones
-    (kept_rows c.self.inside.receipts c.keep.new.receipts a.caller a.id a.receipt c.in_ok-keep.ensures.kept) c.receipt_has_update.ensures c.self.invariant
+    (kept_rows c.self.inside.receipts c.keep.new.receipts a.caller a.id a.receipt c.in_ok-keep.ensures.kept) c.reveal_update.ensures c.self.invariant
 
 pub invariant_of-self-in_err-keep-2 : goal.invariant_of-self-in_err-keep-2
 invariant_of-self-in_err-keep-2 c =
@@ -171,7 +171,7 @@ invariant_of-self-2 c =
     let are_zones : EachIsZone after = made_are_zones zones room after at change zone c.self.invariant.zones with_room changed_there is_zone in
     let new : MemoryOf = record { zones = (with_items (with_items c.self.inside.zones room) after).items; receipts = receipt_rows c.keep-2.new.receipts } in
     one_receipt old new a.caller a.id a.receipt (subst EachIsZone (sym all_items) are_zones)
-    (kept_rows c.self.inside.receipts c.keep-2.new.receipts a.caller a.id a.receipt c.in_ok-keep-2.ensures.kept) c.receipt_has_update.ensures c.self.invariant
+    (kept_rows c.self.inside.receipts c.keep-2.new.receipts a.caller a.id a.receipt c.in_ok-keep-2.ensures.kept) c.reveal_update.ensures c.self.invariant
 
 pub returns-clause-made : goal.returns-clause-made
 returns-clause-made c = λ u s h.
@@ -204,7 +204,7 @@ returns-clause-made c = λ u s h.
     c.in_ok-zone-2.ensures ∙ (λ i. record { origin = (before i).origin; records = changed (before i).records change.removed.items change.added.items }) in
     let new : MemoryOf = record { zones = (with_items (with_items c.self.inside.zones room) after).items; receipts = receipt_rows c.keep-2.new.receipts } in
     let kept = kept_rows c.self.inside.receipts c.keep-2.new.receipts a.caller a.id a.receipt c.in_ok-keep-2.ensures.kept in
-    let is = one_receipt old new a.caller a.id a.receipt (subst EachIsZone (sym all_items) are_zones) kept c.receipt_has_update.ensures c.self.invariant in
+    let is = one_receipt old new a.caller a.id a.receipt (subst EachIsZone (sym all_items) are_zones) kept c.reveal_update.ensures c.self.invariant in
     holds_change old new s a change c.in-Some.is is
     (λ o. ap (λ q. held_among q o) all_items ∙ made_zones zones room after origin at change zone place with_room changed_there zone_is o)
     kept (subst (λ q. HoldsState q s) (sym c.self.view_is) h)

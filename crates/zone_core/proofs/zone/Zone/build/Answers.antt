@@ -16,7 +16,7 @@ pub of_rows-requires : goal.of_rows-requires
 of_rows-requires c =
     let origin = c.args.origin in
     let is = c.in_ok-records.ensures in
-    let all : AllByRecursion IsRecord (min_ttl_rows c.in_ok-latest_rows.field-0.items) = subst (AllByRecursion IsRecord) (c.deref.ensures.value ∙ is) c.records_are_valid.ensures in
+    let all : AllByRecursion IsRecord (min_ttl_rows c.in_ok-latest_rows.field-0.items) = subst (AllByRecursion IsRecord) (c.deref.ensures.value ∙ is) c.reveal_records.ensures in
     let none : fault_in origin (set_of (min_ttl_rows c.in_ok-latest_rows.field-0.items)) ≡ None = ap (λ xs. fault_in origin (set_of xs)) (sym (c.deref-2.ensures.value ∙ is)) ∙ sym c.fault_in.ensures ∙ c.in-None.is in
     subst (AreOfZone origin) (sym is) (min_ttl_zone origin c.in_ok-latest_rows.field-0.items c.in_ok-latest_rows.ensures.order all none)
 

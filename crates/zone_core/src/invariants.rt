@@ -8,7 +8,7 @@ use crate::update::{Operation, Prerequisite};
 use dns_data::Record;
 
 /// The names and the data of a prerequisite are such.
-fn prerequisite_is_valid(prerequisite: &Prerequisite)
+fn reveal_prerequisite(prerequisite: &Prerequisite)
     ensures { IsPrerequisite prerequisite.now }
 {
     match prerequisite {
@@ -26,16 +26,16 @@ fn prerequisite_is_valid(prerequisite: &Prerequisite)
 }
 
 /// So are those of all prerequisites.
-pub(crate) fn prerequisites_are_valid(prerequisites: &[Prerequisite])
+pub(crate) fn reveal_prerequisites(prerequisites: &[Prerequisite])
     ensures { AllByRecursion IsPrerequisite prerequisites.now }
 {
     for prerequisite in prerequisites {
-        prerequisite_is_valid(prerequisite);
+        reveal_prerequisite(prerequisite);
     }
 }
 
 /// The record, or the names and the data, of an operation are such.
-fn operation_is_valid(operation: &Operation)
+fn reveal_operation(operation: &Operation)
     ensures { IsOperation operation.now }
 {
     match operation {
@@ -53,16 +53,16 @@ fn operation_is_valid(operation: &Operation)
 }
 
 /// So are those of all operations.
-pub(crate) fn operations_are_valid(operations: &[Operation])
+pub(crate) fn reveal_operations(operations: &[Operation])
     ensures { AllByRecursion IsOperation operations.now }
 {
     for operation in operations {
-        operation_is_valid(operation);
+        reveal_operation(operation);
     }
 }
 
 /// Records are such.
-pub(crate) fn records_are_valid(records: &[Record])
+pub(crate) fn reveal_records(records: &[Record])
     ensures { AllByRecursion IsRecord records.now }
 {
     for record in records {

@@ -1,7 +1,7 @@
 use Rattle.std.proofs.Common.{take}
 use Rattle.std.specs.List.{AllByRecursion}
 use Rattle.dns_data.specs.Rdata.{IsRecord}
-use Rattle.zone_core.proofs.validity.records_are_valid.Given as goal
+use Rattle.zone_core.proofs.invariants.reveal_records.Given as goal
 
 abbrev pub invariant-loop-record : goal.invariant-loop-record
 invariant-loop-record l = AllByRecursion IsRecord (take l.record-index l.records)
