@@ -4,6 +4,7 @@ pub mod ListLemmas
 pub mod FieldsLaws
 pub mod TypedLaws
 pub mod ColumnLaws
+pub mod StoredLaws
 pub mod NameLemmas
 pub mod RecordRowLaws
 pub mod ReplyLaws
