@@ -351,7 +351,8 @@ fn commit<S: Alter>(conn: &mut Connection<S>, writing: &Writing) -> Result<(), E
 pub fn write<S: Alter>(conn: &mut Connection<S>, writing: &Writing) -> Result<(), RowsFault>
     requires { conn.old.in_transaction ≡ false }
     ensures made { OnOk result ((rows : RowsOf) → Holds (state S.Store conn.old) rows → Holds (state S.Store conn.new) (written writing.now rows)) }
-    ensures failed { OnErr result ((rows : RowsOf) → Holds (state S.Store conn.old) rows → Holds (state S.Store conn.new) rows) }
+    // The connection shows what it showed, whatever that is.
+    ensures failed { OnErr result (Keeps (state S.Store conn.old) (state S.Store conn.new)) }
     ensures kept { OnOk result ((rows : RowsOf) → Holds (state S.Store conn.old) rows → Leaves (state S.Store conn.new) (λ db. AreRows db (written writing.now rows))) }
     ensures crash { OnErr result ((rows : RowsOf) → Holds (state S.Store conn.old) rows → Leaves (state S.Store conn.new) (λ db. (state S.Store conn.old).may_leave db ⊎ AreRows db (written writing.now rows))) }
     ensures honest { HasCleanDisk (state S.Store conn.new) → HasCleanDisk (state S.Store conn.old) }

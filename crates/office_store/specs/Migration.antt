@@ -30,6 +30,12 @@ IsNewIn db content = (rows : RowsOf) × SameRows (rows_of (pos 2) content) rows 
 abbrev pub IsMigratedIn : Trees → RowsOf → Type 0
 IsMigratedIn db rows = (content : ContentOf) × IsOldContent content × SameRows (rows_of (pos 1) content) rows × IsContent (migrated_content content) × IsNewIn db (migrated_content content)
 
+-- The connection shows rows of a content of version 1, and the trees have those of that content migrated.
+pub record IsMigratedFrom (conn : Shown) (db : Trees) : Type 0 where
+  pub rows : RowsOf
+  pub held : Holds conn rows
+  pub each : (others : RowsOf) → Holds conn others → IsMigratedIn db others
+
 -- A content of version 1 was held and is held migrated, a crash leaves that, and so many zones of it were changed.
 pub record IsMigrated (old new : Shown) (changed : ℕ) : Type 0 where
   pub content : ContentOf

@@ -8,7 +8,7 @@ ghost use Rattle.zone_core.specs.Zones.{IsZone};
 ghost use Rattle.office_core.specs.States.{Held, State};
 ghost use Rattle.office_rows.specs.StoreFaults.{Gives};
 ghost use Rattle.office_store.specs.Holds.{HoldsState};
-ghost use Rattle.office_store.specs.Queries.{Asked, Only};
+ghost use Rattle.office_store.specs.Queries.{AsksOnly};
 ghost use Rattle.office_store.specs.Turns.{Turns};
 ghost use Rattle.office_store.specs.Zones.{if_free, if_later, exported, imported, replaced, with_imported, with_replaced};
 
@@ -70,8 +70,7 @@ fn zone_before<S: Alter>(
     ensures differs { IfOk result (λ old. is_same old.records zone.now.records ≡ false) }
     ensures held { HasCleanDisk (state S.Store conn.new) → IfOk result (λ old. (s : State) → HoldsState (state S.Store conn.old) s → (held : Held) × (s.zones zone.now.origin ≡ Some held) × (held.records ≡ old.records)) }
     ensures answer { HasCleanDisk (state S.Store conn.new) → (s : State) → HoldsState (state S.Store conn.old) s → Gives (λ _. zone.now) result (if_later (s.zones zone.now.origin) zone.now) }
-    ensures asked { Asked (state S.Store conn.old) (state S.Store conn.new) }
-    ensures only { HasCleanDisk (state S.Store conn.new) → OnOk result (Only (state S.Store conn.old) (state S.Store conn.new)) }
+    ensures asks { AsksOnly (state S.Store conn.old) (state S.Store conn.new) result }
 {
     let Some(old) = zone_at(alloc, conn, zone.origin())? else {
         return Err(StoreFault::NoZone);
@@ -120,8 +119,7 @@ pub(crate) fn export<S: Alter>(
     origin: &Name,
 ) -> Result<Vec<Record>, StoreFault>
     ensures answer { HasCleanDisk (state S.Store conn.new) → (s : State) → HoldsState (state S.Store conn.old) s → Gives (λ records. records.items) result (exported (s.zones origin.now)) }
-    ensures asked { Asked (state S.Store conn.old) (state S.Store conn.new) }
-    ensures only { HasCleanDisk (state S.Store conn.new) → OnOk result (Only (state S.Store conn.old) (state S.Store conn.new)) }
+    ensures asks { AsksOnly (state S.Store conn.old) (state S.Store conn.new) result }
 {
     let Some(rows) = zone_rows(alloc, conn, origin)? else {
         return Err(StoreFault::NoZone);

@@ -5,7 +5,7 @@ use Rattle.office_sql.proofs.writing.write.Goals as goal
 
 pub returns-in_err-check_open-clause-failed : goal.returns-in_err-check_open-clause-failed
 returns-in_err-check_open-clause-failed g c =
-    on_err c.from_residual.result _ (λ rows h. holds_on (state g.S.Store c.args.conn.now) (state g.S.Store c.check_open.new.conn) rows c.check_open.ensures.back h)
+    on_err c.from_residual.result _ c.check_open.ensures.back
 
 pub returns-in_err-check_open-clause-crash : goal.returns-in_err-check_open-clause-crash
 returns-in_err-check_open-clause-crash g c =
@@ -16,7 +16,7 @@ returns-in_err-commit-clause-failed g c =
     let old = state g.S.Store c.args.conn.now in
     let mid = state g.S.Store c.check_open.new.conn in
     let new = state g.S.Store c.commit.new.conn in
-    on_err c.from_residual-in_err-commit.result _ (λ rows h. holds_on old new rows (keeps_then old mid new c.check_open.ensures.back c.in_err-commit.ensures.failed) h)
+    on_err c.from_residual-in_err-commit.result _ (keeps_then old mid new c.check_open.ensures.back c.in_err-commit.ensures.failed)
 
 pub returns-in_err-commit-clause-crash : goal.returns-in_err-commit-clause-crash
 returns-in_err-commit-clause-crash g c =

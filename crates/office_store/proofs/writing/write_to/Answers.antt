@@ -1,10 +1,11 @@
 use Rattle.std.proofs.Common.{inl, inr, pos}
+use Rattle.sqlite.specs.Held.{state}
 use Rattle.office_sql.specs.Rows.{written}
-use Rattle.office_sql.proofs.Commits.{on_err}
+use Rattle.office_sql.proofs.Commits.{holds_on, on_err}
 use Rattle.office_store.proofs.writing.write_to.Goals as goal
 
 pub returns-in_err-write-clause-failed : goal.returns-in_err-write-clause-failed
-returns-in_err-write-clause-failed g c = on_err c.from_residual.result _ (λ s h. record { rows = h.rows; are = h.are; held = c.in_err-write.ensures.failed h.rows h.held })
+returns-in_err-write-clause-failed g c = on_err c.from_residual.result _ (λ s h. record { rows = h.rows; are = h.are; held = holds_on (state g.S.Store c.args.conn.now) (state g.S.Store c.write.new.conn) h.rows c.in_err-write.ensures.failed h.held })
 
 pub returns-in_err-write-clause-crash : goal.returns-in_err-write-clause-crash
 returns-in_err-write-clause-crash g c =

@@ -29,7 +29,7 @@ returns-clause-answer g c =
 pub returns-clause-turns : goal.returns-clause-turns
 returns-clause-turns g c =
     let w = c.in_ok-writing.writing in
-    written (state g.S.Store c.args.conn.now) (state g.S.Store c.held_text.new.conn) (state g.S.Store c.write_to.new.conn) c.write_to.result w (λ s. with_imported s (if_free (s.zones c.args.zone.now.origin) c.args.zone.now)) c.held_text.ensures.asked
+    written (state g.S.Store c.args.conn.now) (state g.S.Store c.held_text.new.conn) (state g.S.Store c.write_to.new.conn) c.write_to.result w (λ s. with_imported s (if_free (s.zones c.args.zone.now.origin) c.args.zone.now)) c.held_text.ensures.asks.0
     c.write_to.ensures.made c.write_to.ensures.failed c.write_to.ensures.kept c.write_to.ensures.crash c.write_to.ensures.honest
     (λ clean s h.
     let zone = c.args.zone.now in
