@@ -5,6 +5,7 @@
 
 mod cache;
 mod file;
+mod laws;
 mod migration;
 mod migration_change;
 mod migration_rows;
@@ -17,6 +18,7 @@ mod writing;
 mod zones;
 
 pub use file::Unopened;
+pub use laws::migrated_zones_are_even;
 pub use migration_rows::{Migration, migration_of};
 pub use office_rows::StoreFault;
 pub use opening::Refused;
