@@ -31,7 +31,7 @@ use Rattle.office_rows.specs.declared.changes.ChangedRecord.{ChangedRecord}
 use Rattle.office_rows.specs.declared.row_fault.RowFault.{RowFault}
 use Rattle.office_rows.specs.declared.side.Side.{Side}
 use Rattle.office_rows.specs.declared.side.Side.TheVariants.{Removed, Added}
-use Rattle.office_rows.specs.ChangeRows.{change_row, row_of, IsChanged, IsChangeRow, change_rows, changes_rows, IsChange, side_cmp, side_total, changed_order, changed_order_total, follows_in_number, follows, are_behind, are_numbered, are_of_one, nothing, with_record, with_last, opened, placed, gathered}
+use Rattle.office_rows.specs.ChangeRows.{change_row, row_of, IsChanged, IsChangeRow, change_rows, changes_rows, IsChange, side_cmp, side_total, changed_order, changed_order_total, follows_in_number, follows, follow_in_turn, are_numbered, are_of_one, nothing, with_record, with_last, opened, placed, gathered}
 use Rattle.office_rows.specs.declared.row_fault.RowFault.TheVariants.{BadRow}
 use Rattle.office_rows.specs.RowReading.{changed_in, changes_among, each_read}
 use Rattle.office_rows.proofs.ListLemmas.{all_permutation, chosen}
@@ -184,10 +184,10 @@ entries_go_on : (o : Labels) (n : ℕ) (cs : List ChangeOf) → AllByRecursion I
 entries_go_on o n [] h = λ s r. tt
 entries_go_on o n (c ∷ cs) h = first_goes_on o n c.removed c.added (entries o (suc (suc n)) cs) h.0.something (entries_go_on o (suc n) cs h.1)
 
-behind_from : (a : ChangedRecord) (bs : List ChangedRecord) → IsAscending ChangeBelow (a ∷ bs) → InTurn a bs → are_behind a bs ≡ true
+behind_from : (a : ChangedRecord) (bs : List ChangedRecord) → IsAscending ChangeBelow (a ∷ bs) → InTurn a bs → follow_in_turn a bs ≡ true
 behind_from a [] up turn = refl
 behind_from a (b ∷ bs) up turn =
-    and_from (follows a b) (are_behind b bs) (and_from (is_lt (changed_order a b)) (follows_in_number a b) (ap is_lt up.0.0) turn.0) (behind_from b bs up.1 turn.1)
+    and_from (follows a b) (follow_in_turn b bs) (and_from (is_lt (changed_order a b)) (follows_in_number a b) (ap is_lt up.0.0) turn.0) (behind_from b bs up.1 turn.1)
 
 -- the first number behind 0 is 1
 first_number : (b : Bool) (n : ℕ) → 0 < n → cond b (eqb n 0 || eqb n 1) (eqb n 1) ≡ true → eqb n 1 ≡ true
@@ -198,7 +198,7 @@ numbered_from : (o : Labels) (xs : List ChangedRecord) → AllByRecursion IsChan
 numbered_from o [] all up on = refl
 numbered_from o (x ∷ xs) all up on =
     let t = on Removed x.changed in
-    and_from (eqb x.number 1) (are_behind x xs) (first_number (same_name o x.origin) x.number all.0.number t.0) (behind_from x xs up t.1)
+    and_from (eqb x.number 1) (follow_in_turn x xs) (first_number (same_name o x.origin) x.number all.0.number t.0) (behind_from x xs up t.1)
 
 pub entries_numbered : (o : Labels) (cs : List ChangeOf) → IsName o → AllByRecursion IsChange cs → are_numbered (entries o 1 cs) ≡ true
 entries_numbered o cs is h = numbered_from o (entries o 1 cs) (entries_are o 1 cs is (omega arith) h) (entries_up o 1 cs h) (entries_go_on o 0 cs h)

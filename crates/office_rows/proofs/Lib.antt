@@ -28,4 +28,4 @@ pub mod ContentReceiptLemmas
 pub mod WrittenStateLemmas
 pub mod ChangedZoneLemmas
 pub mod NewZoneLemmas
-pub mod WritingLaws
+pub mod BatchLaws

@@ -7,7 +7,7 @@ ghost use Rattle.dns_names.specs.Labels.{IsName};
 ghost use Rattle.dns_names.specs.Order.{same_name};
 ghost use Rattle.office_core.specs.States.{ChangeOf};
 ghost use Rattle.office_core.specs.Tables.{change_in};
-ghost use Rattle.office_rows.specs.ChangeRows.{changes_rows, IsChange, IsChanged, IsChangeRow, row_of, changed_order, follows, follows_in_number, are_behind, are_numbered, are_of_one, with_record, opened, placed, gathered};
+ghost use Rattle.office_rows.specs.ChangeRows.{changes_rows, IsChange, IsChanged, IsChangeRow, row_of, changed_order, follows, follows_in_number, follow_in_turn, are_numbered, are_of_one, with_record, opened, placed, gathered};
 ghost use Rattle.office_rows.specs.RowFaults.{Reads};
 ghost use Rattle.office_rows.specs.RowReading.{each_read, changed_in, changes_among, AreStoredIn};
 
@@ -128,8 +128,8 @@ fn follows_in_number(first: &ChangedRecord, second: &ChangedRecord) -> bool
 }
 
 /// Whether each of some stands right behind the one before it, and the first behind this one.
-fn are_behind(first: &ChangedRecord, others: &[ChangedRecord]) -> bool
-    ensures { result ≡ are_behind first.now others.now }
+fn follow_in_turn(first: &ChangedRecord, others: &[ChangedRecord]) -> bool
+    ensures { result ≡ follow_in_turn first.now others.now }
 {
     let mut before = first;
     for next in others {
@@ -147,7 +147,7 @@ pub fn are_numbered(changed: &[ChangedRecord]) -> bool
 {
     match changed {
         [] => true,
-        [first, others @ ..] => first.number == 1 && are_behind(first, others),
+        [first, others @ ..] => first.number == 1 && follow_in_turn(first, others),
     }
 }
 

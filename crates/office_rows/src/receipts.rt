@@ -27,7 +27,7 @@ fn notes_receipt(receipt: &Receipt)
 }
 
 /// And it is kept under two identifiers. Only proofs need it.
-fn notes_kept(caller: &Identifier, id: &Identifier, receipt: &Receipt)
+fn notes_caller_receipt(caller: &Identifier, id: &Identifier, receipt: &Receipt)
     ensures { IsReceiptAt (record { caller = caller.now; id = id.now; receipt = receipt.now }) }
 {
     let _ = caller.as_bytes();
@@ -47,7 +47,7 @@ pub fn receipt_row(
     // What all receipts are.
     ensures receipt { IsReceiptAt (record { caller = caller.now; id = id.now; receipt = receipt.now }) }
 {
-    notes_kept(caller, id, receipt);
+    notes_caller_receipt(caller, id, receipt);
     let caller = identifier_text(caller);
     let id = identifier_text(id);
     Ok(ReceiptRow {

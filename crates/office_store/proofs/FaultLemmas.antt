@@ -1,7 +1,7 @@
 -- Faults that are failures.
 use Rattle.std.proofs.Common.{◌≡◌, ◌⊎◌, inl, inr, Result, Err, IfErr, sym, subst}
-use Rattle.office_sql.specs.declared.fault.RowsFault.{RowsFault}
-use Rattle.office_sql.specs.declared.fault.RowsFault.TheVariants as tables
+use Rattle.office_sql.specs.declared.rows_fault.RowsFault.{RowsFault}
+use Rattle.office_sql.specs.declared.rows_fault.RowsFault.TheVariants as tables
 use Rattle.office_rows.specs.declared.row_fault.RowFault.{RowFault}
 use Rattle.office_rows.specs.declared.row_fault.RowFault.TheVariants as rows
 use Rattle.office_rows.specs.declared.store_fault.StoreFault.{StoreFault}

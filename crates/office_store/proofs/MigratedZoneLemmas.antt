@@ -37,7 +37,7 @@ use Rattle.office_rows.proofs.ZoneReadLemmas.{here, there, order_up}
 use Rattle.office_rows.proofs.ChangeLemmas.{changes_more}
 use Rattle.office_rows.proofs.ListingLemmas.{removed_records, added_records}
 use Rattle.office_rows.proofs.RecordLemmas.{without_none, rows_changed}
-use Rattle.office_rows.proofs.WritingLaws.{some_differ}
+use Rattle.office_rows.proofs.BatchLaws.{some_differ}
 use Rattle.office_store.specs.OldZones.{AreOfOldZone, IsOldZoneRows}
 use Rattle.office_store.specs.MigratedContents.{advanced, next_zone, change_for, after, migrated, rows_gone, rows_come, rows_made, zone_gone, zone_come, zone_made}
 

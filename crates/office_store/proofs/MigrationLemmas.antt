@@ -3,7 +3,7 @@ use Rattle.std.proofs.Common.{ℕ, pos}
 use Rattle.std.proofs.lemmas.List.Sorted.{IsPermutation-trans, IsPermutation-sym}
 use Rattle.sqlite_trees.specs.Tree.{Trees}
 use Rattle.sqlite.specs.State.{State as Shown}
-use Rattle.office_sql.specs.Rows.{RowsOf, WritingOf, written}
+use Rattle.office_sql.specs.Rows.{RowsOf, BatchOf, written}
 use Rattle.office_sql.specs.Holds.{AreRows, Holds, Leaves, SameRows}
 use Rattle.office_rows.specs.Contents.{rows_of}
 use Rattle.office_store.specs.MigratedContents.{Migrates}
@@ -29,11 +29,11 @@ rows_back a b p = record {
 }
 
 -- what takes rows to version 2 leaves the content migrated that they are in another order
-pub migrated_so : (rows others : RowsOf) (w : WritingOf) (n : ℕ) → Migrates rows w n → SameRows others rows → (db : Trees) → AreRows db (written w rows) → IsMigratedIn db others
+pub migrated_so : (rows others : RowsOf) (w : BatchOf) (n : ℕ) → Migrates rows w n → SameRows others rows → (db : Trees) → AreRows db (written w rows) → IsMigratedIn db others
 migrated_so rows others w n m same db are = (m.content, m.is_old, rows_then (rows_of (pos 1) m.content) rows others m.same (rows_back others rows same), m.is_content, (written w rows, m.now, are))
 
 -- what was read is written
-pub is_migrated : (old mid new : Shown) (w : WritingOf) (n : ℕ) → IsRead old mid w n → ((rows : RowsOf) → Holds mid rows → Holds new (written w rows))
+pub is_migrated : (old mid new : Shown) (w : BatchOf) (n : ℕ) → IsRead old mid w n → ((rows : RowsOf) → Holds mid rows → Holds new (written w rows))
     → ((rows : RowsOf) → Holds mid rows → Leaves new (λ db. AreRows db (written w rows))) → IsMigrated old new n
 is_migrated old mid new w n read made kept = record {
   content = read.migrates.content;
@@ -44,7 +44,7 @@ is_migrated old mid new w n read made kept = record {
 }
 
 -- what was shown at first is what was read
-pub read_behind : (old mid new : Shown) (w : WritingOf) (n : ℕ) → Asked old mid → ((rows : RowsOf) → Holds mid rows → Holds old rows) → IsRead mid new w n → IsRead old new w n
+pub read_behind : (old mid new : Shown) (w : BatchOf) (n : ℕ) → Asked old mid → ((rows : RowsOf) → Holds mid rows → Holds old rows) → IsRead mid new w n → IsRead old new w n
 read_behind old mid new w n asked back read = record {
   rows = read.rows;
   migrates = read.migrates;

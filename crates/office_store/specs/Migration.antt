@@ -2,7 +2,7 @@
 use Rattle.std.specs.Prelude.{◌≡◌, ℕ, pos}
 use Rattle.sqlite_trees.specs.Tree.{Trees}
 use Rattle.sqlite.specs.State.{State as Shown}
-use Rattle.office_sql.specs.Rows.{RowsOf, WritingOf}
+use Rattle.office_sql.specs.Rows.{RowsOf, BatchOf}
 use Rattle.office_sql.specs.Holds.{AreRows, Holds, Leaves, SameRows}
 use Rattle.office_rows.specs.Contents.{ContentOf, IsContent, rows_of}
 use Rattle.office_store.specs.OldZones.{IsOldContent}
@@ -45,9 +45,9 @@ pub record IsMigrated (old new : Shown) (changed : ℕ) : Type 0 where
   pub counted : changed ≡ changed_count content
 
 -- All rows were read, which were shown before too, and this takes them to version 2.
-pub record IsRead (old new : Shown) (writing : WritingOf) (changed : ℕ) : Type 0 where
+pub record IsRead (old new : Shown) (batch : BatchOf) (changed : ℕ) : Type 0 where
   pub rows : RowsOf
-  pub migrates : Migrates rows writing changed
+  pub migrates : Migrates rows batch changed
   pub held : Holds new rows
   pub only : Holds old rows
   pub same : (others : RowsOf) → Holds old others → SameRows others rows

@@ -3,6 +3,7 @@
 //! or the one after it.
 #![tactic(auto)]
 
+mod batch;
 mod cache;
 mod file;
 mod laws;
@@ -14,7 +15,6 @@ mod opening;
 mod queries;
 mod reads;
 mod table;
-mod writing;
 mod zones;
 
 pub use file::Unopened;

@@ -25,7 +25,7 @@ const OLD_VERSION: i64 = 1;
 
 /// What takes rows to version 2. Rows that are those of no state of version 1 are `BadRow`.
 fn migration_from(alloc: Global, rows: &AllRows) -> Result<Migration, StoreFault>
-    ensures found { IfOk result (λ m. Migrates rows.now m.writing m.zones) }
+    ensures found { IfOk result (λ m. Migrates rows.now m.batch m.zones) }
     ensures only { IfErr result (λ e. (content : ContentOf) → IsOldContent content → SameRows (rows_of (pos 1) content) rows.now → IsFailure e) }
     ensures named { IfErr result IsOfRows }
 {
@@ -42,7 +42,7 @@ fn read_migration<S: Alter>(
     conn: &mut Connection<S>,
 ) -> Result<Migration, StoreFault>
     requires { conn.old.in_transaction ≡ false }
-    ensures found { HasCleanDisk (state S.Store conn.new) → IfOk result (λ m. IsRead (state S.Store conn.old) (state S.Store conn.new) m.writing m.zones) }
+    ensures found { HasCleanDisk (state S.Store conn.new) → IfOk result (λ m. IsRead (state S.Store conn.old) (state S.Store conn.new) m.batch m.zones) }
     ensures good { HasCleanDisk (state S.Store conn.new) → IfErr result (λ e. (content : ContentOf) → HoldsOld (state S.Store conn.old) content → IsFailure e) }
     ensures named { IfErr result IsOfRows }
     ensures asked { Asked (state S.Store conn.old) (state S.Store conn.new) }
@@ -74,6 +74,6 @@ pub(crate) fn migrate<S: Alter>(
 {
     check_version(alloc, conn, OLD_VERSION)?;
     let migration = read_migration(alloc, conn)?;
-    write(conn, &migration.writing)?;
+    write(conn, &migration.batch)?;
     Ok(migration.zones)
 }

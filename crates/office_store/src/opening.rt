@@ -8,7 +8,7 @@ ghost use Rattle.office_core.specs.States.{State};
 ghost use Rattle.office_sql.specs.Holds.{Holds, Keeps, Leaves};
 ghost use Rattle.office_sql.specs.Rows.{RowsOf};
 ghost use Rattle.office_sql.specs.Tables.{no_schema, office_schema};
-ghost use Rattle.office_rows.specs.Writings.{nothing_held};
+ghost use Rattle.office_rows.specs.Batches.{nothing_held};
 ghost use Rattle.office_rows.specs.declared.store_fault.StoreFault.TheVariants.{BadRow, WrongVersion};
 ghost use Rattle.office_rows.specs.StoreFaults.{IsFailure, IsOfRows, of_found};
 ghost use Rattle.office_store.specs.Holds.{HoldsState, HasNone, HasVersion, IsOfVersion, IsStateIn, LeavesStates};

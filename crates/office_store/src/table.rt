@@ -9,7 +9,7 @@ ghost use Rattle.office_core.specs.Tables.{CountsFault};
 ghost use Rattle.office_sql.specs.Holds.{Keeps, Leaves};
 ghost use Rattle.office_sql.specs.Tables.{no_schema, office_schema};
 ghost use Rattle.office_rows.specs.Contents.{ContentOf};
-ghost use Rattle.office_rows.specs.Writings.{nothing_held};
+ghost use Rattle.office_rows.specs.Batches.{nothing_held};
 ghost use Rattle.office_rows.specs.declared.store_fault.StoreFault.TheVariants.{BadRow, WrongVersion};
 ghost use Rattle.office_rows.specs.StoreFaults.{CountsFailure, CountsCall, Gives, IsFailure, IsOfRows};
 ghost use Rattle.office_store.specs.Holds.{HoldsState, HasNone, HasVersion, IsOfVersion, IsStateIn, LeavesStates};
@@ -19,11 +19,11 @@ ghost use Rattle.office_store.specs.Queries.{Asked, AsksOnly, Only};
 ghost use Rattle.office_store.specs.Turns.{Turns};
 ghost use Rattle.office_store.specs.Zones.{exported, if_free, if_later, imported, replaced, with_imported, with_replaced};
 
-use crate::cache::zone_kept;
+use crate::batch::commit;
+use crate::cache::cached_zone;
 use crate::migration::migrate;
 use crate::opening::{Refused, check_state, make};
 use crate::reads::{changes_at, part_at, receipt_at, subtree_at};
-use crate::writing::commit;
 use crate::zones::{export, import, put_zone, replace, take_place};
 use dns_data::Record;
 use dns_names::Name;
@@ -42,9 +42,9 @@ pub struct SqlTable<S: Alter + Drop, L: Ledger> {
     conn: Connection<S>,
     book: Book<L>,
     share: Share<L>,
-    kept: Option<Zone>,
+    cache: Option<Zone>,
     ghost counts: { 0 < share.parts },
-    ghost fits: { ForSome kept (IsHeldZone (state S.Store conn)) },
+    ghost fits: { ForSome cache (IsHeldZone (state S.Store conn)) },
 }
 
 /// Counts a fault, if it is a failure of the store.
@@ -89,7 +89,7 @@ impl<S: Alter + Drop, L: Ledger> SqlTable<S, L> {
             conn,
             book,
             share,
-            kept: None,
+            cache: None,
         }
     }
 
@@ -212,7 +212,7 @@ impl<S: Alter + Drop, L: Ledger> SqlTable<S, L> {
         ensures turns { Turns (state S.Store self.old.conn) (state S.Store self.new.conn) result (λ s. with_imported s (if_free (s.zones zone.now.origin) zone.now)) }
         ensures counts { CountsCall self.old.book.total self.new.book.total result }
     {
-        self.kept = None;
+        self.cache = None;
         match put_zone(alloc, &mut self.conn, zone) {
             Ok(()) => Ok(()),
             Err(fault) => Err(counted(&mut self.book, &mut self.share, fault)),
@@ -230,7 +230,7 @@ impl<S: Alter + Drop, L: Ledger> SqlTable<S, L> {
         ensures turns { Turns (state S.Store self.old.conn) (state S.Store self.new.conn) result (λ s. with_replaced s (if_later (s.zones zone.now.origin) zone.now)) }
         ensures counts { CountsCall self.old.book.total self.new.book.total result }
     {
-        self.kept = None;
+        self.cache = None;
         match take_place(alloc, &mut self.conn, zone) {
             Ok(()) => Ok(()),
             Err(fault) => Err(counted(&mut self.book, &mut self.share, fault)),
@@ -251,7 +251,7 @@ impl<S: Alter + Drop, L: Ledger> SqlTable<S, L> {
         ensures turns { Turns (state S.Store self.old.conn) (state S.Store self.new.conn) result (λ s. with_imported s (imported s origin records.items)) }
         ensures counts { CountsCall self.old.book.total self.new.book.total result }
     {
-        self.kept = None;
+        self.cache = None;
         match import(alloc, &mut self.conn, origin, records) {
             Ok(zone) => Ok(zone),
             Err(fault) => Err(counted(&mut self.book, &mut self.share, fault)),
@@ -274,7 +274,7 @@ impl<S: Alter + Drop, L: Ledger> SqlTable<S, L> {
         ensures turns { Turns (state S.Store self.old.conn) (state S.Store self.new.conn) result (λ s. with_replaced s (replaced s origin records.items)) }
         ensures counts { CountsCall self.old.book.total self.new.book.total result }
     {
-        self.kept = None;
+        self.cache = None;
         match replace(alloc, &mut self.conn, origin, records) {
             Ok(zone) => Ok(zone),
             Err(fault) => Err(counted(&mut self.book, &mut self.share, fault)),
@@ -292,7 +292,7 @@ impl<S: Alter + Drop, L: Ledger> SqlTable<S, L> {
         ensures asks { AsksOnly (state S.Store self.old.conn) (state S.Store self.new.conn) result }
         ensures counts { CountsCall self.old.book.total self.new.book.total result }
     {
-        self.kept = None;
+        self.cache = None;
         match export(alloc, &mut self.conn, origin) {
             Ok(records) => Ok(records),
             Err(fault) => Err(counted(&mut self.book, &mut self.share, fault)),
@@ -313,7 +313,7 @@ impl<S: Alter + Drop, L: Ledger> ZoneTable for SqlTable<S, L> {
     ghost failures = { λ t. t.book.total };
 
     fn zone(&mut self, alloc: Global, origin: &Name) -> Result<Option<Zone>, TableFault> {
-        match zone_kept(alloc, &mut self.conn, &mut self.kept, origin) {
+        match cached_zone(alloc, &mut self.conn, &mut self.cache, origin) {
             Ok(zone) => Ok(zone),
             Err(fault) => Err(refused(&mut self.book, &mut self.share, fault)),
         }
@@ -328,7 +328,7 @@ impl<S: Alter + Drop, L: Ledger> ZoneTable for SqlTable<S, L> {
         match part_at(alloc, &mut self.conn, origin, names) {
             Ok(part) => Ok(part),
             Err(fault) => {
-                self.kept = None;
+                self.cache = None;
                 Err(refused(&mut self.book, &mut self.share, fault))
             }
         }
@@ -343,7 +343,7 @@ impl<S: Alter + Drop, L: Ledger> ZoneTable for SqlTable<S, L> {
         match subtree_at(alloc, &mut self.conn, origin, top) {
             Ok(records) => Ok(records),
             Err(fault) => {
-                self.kept = None;
+                self.cache = None;
                 Err(refused(&mut self.book, &mut self.share, fault))
             }
         }
@@ -358,7 +358,7 @@ impl<S: Alter + Drop, L: Ledger> ZoneTable for SqlTable<S, L> {
         match receipt_at(alloc, &mut self.conn, caller, id) {
             Ok(receipt) => Ok(receipt),
             Err(fault) => {
-                self.kept = None;
+                self.cache = None;
                 Err(refused(&mut self.book, &mut self.share, fault))
             }
         }
@@ -368,14 +368,14 @@ impl<S: Alter + Drop, L: Ledger> ZoneTable for SqlTable<S, L> {
         match changes_at(alloc, &mut self.conn, origin) {
             Ok(changes) => Ok(changes),
             Err(fault) => {
-                self.kept = None;
+                self.cache = None;
                 Err(refused(&mut self.book, &mut self.share, fault))
             }
         }
     }
 
     fn commit(&mut self, alloc: Global, addition: Addition) -> Result<(), TableFault> {
-        self.kept = None;
+        self.cache = None;
         match commit(alloc, &mut self.conn, &addition) {
             Ok(()) => Ok(()),
             Err(fault) => Err(refused(&mut self.book, &mut self.share, fault)),

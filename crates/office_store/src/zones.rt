@@ -12,12 +12,12 @@ ghost use Rattle.office_store.specs.Queries.{AsksOnly};
 ghost use Rattle.office_store.specs.Turns.{Turns};
 ghost use Rattle.office_store.specs.Zones.{if_free, if_later, exported, imported, replaced, with_imported, with_replaced};
 
+use crate::batch::{next_number, write_to};
 use crate::queries::{held_text, zone_rows};
 use crate::reads::zone_at;
-use crate::writing::{next_number, write_to};
 use dns_data::Record;
 use dns_names::Name;
-use office_rows::{StoreFault, records_within, replacement_writing, zone_writing};
+use office_rows::{StoreFault, records_within, replacement_batch, zone_batch};
 use sqlite::{Alter, Connection};
 use std::alloc::Global;
 use zone_core::{Zone, serial_less};
@@ -34,8 +34,8 @@ pub(crate) fn put_zone<S: Alter>(
     let None = held_text(alloc, conn, zone.origin())? else {
         return Err(StoreFault::ZoneExists);
     };
-    let writing = zone_writing(alloc, zone)?;
-    write_to(conn, &writing)
+    let batch = zone_batch(alloc, zone)?;
+    write_to(conn, &batch)
 }
 
 /// Imports the zone of an origin and records.
@@ -93,8 +93,8 @@ pub(crate) fn take_place<S: Alter>(
 {
     let old = zone_before(alloc, conn, zone)?;
     let number = next_number(alloc, conn, zone.origin())?;
-    let writing = replacement_writing(alloc, &old, zone, number)?;
-    write_to(conn, &writing)
+    let batch = replacement_batch(alloc, &old, zone, number)?;
+    write_to(conn, &batch)
 }
 
 /// Puts the zone of an origin and records in the place of the one that is held.

@@ -54,13 +54,13 @@ returns-in_err-write-clause-crash g c =
     let mid = c.write.ensures.honest clean in
     let early = c.read_migration.ensures.asked.honest mid in
     let asked = asked_then (state g.S.Store c.args.conn.now) (state g.S.Store c.check_version.new.conn) (state g.S.Store c.read_migration.new.conn) c.check_version.ensures.asks.0 c.read_migration.ensures.asked in
-    let read = read_behind (state g.S.Store c.args.conn.now) (state g.S.Store c.check_version.new.conn) (state g.S.Store c.read_migration.new.conn) c.in_ok-migration.migration.writing c.in_ok-migration.migration.zones c.check_version.ensures.asks.0 (c.in_ok-check_version.ensures.asks.1 early).rows (c.in_ok-migration.ensures.found mid) in
+    let read = read_behind (state g.S.Store c.args.conn.now) (state g.S.Store c.check_version.new.conn) (state g.S.Store c.read_migration.new.conn) c.in_ok-migration.migration.batch c.in_ok-migration.migration.zones c.check_version.ensures.asks.0 (c.in_ok-check_version.ensures.asks.1 early).rows (c.in_ok-migration.ensures.found mid) in
     elim (c.in_err-write.ensures.crash read.rows read.held clean db may) [
       | inl before ↦ inl (asked.left mid db before)
       | inr it ↦ inr (record {
         rows = read.rows;
         held = read.only;
-        each = λ others h. migrated_so read.rows others c.in_ok-migration.migration.writing c.in_ok-migration.migration.zones read.migrates (read.same others h) db it;
+        each = λ others h. migrated_so read.rows others c.in_ok-migration.migration.batch c.in_ok-migration.migration.zones read.migrates (read.same others h) db it;
       })
     ])
 
@@ -74,7 +74,7 @@ returns-clause-made g c =
     let one = state g.S.Store c.check_version.new.conn in
     let mid = state g.S.Store c.read_migration.new.conn in
     let new = state g.S.Store c.write.new.conn in
-    let w = c.in_ok-migration.migration.writing in
+    let w = c.in_ok-migration.migration.batch in
     let n = c.in_ok-migration.migration.zones in
     let honest : HasCleanDisk mid = c.write.ensures.honest clean in
     let early : HasCleanDisk one = c.read_migration.ensures.asked.honest honest in
