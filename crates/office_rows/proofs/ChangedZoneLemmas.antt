@@ -19,7 +19,7 @@ use Rattle.office_sql.specs.Rows.{RecordRowOf, ReceiptRowOf, same_key, without}
 use Rattle.office_rows.specs.RecordRows.{record_row}
 use Rattle.office_rows.specs.ChangeRows.{IsChange, change_rows, changes_rows}
 use Rattle.office_rows.specs.Contents.{ZoneRows, zone_records, zone_changes, held_of, zone_among, IsZoneRows}
-use Rattle.office_rows.specs.Writings.{change_writing}
+use Rattle.office_rows.specs.Batches.{change_batch}
 use Rattle.office_rows.proofs.ListLemmas.{part_more, found_has, ascending_from_pairs}
 use Rattle.office_rows.proofs.ListingLemmas.{row_records, removed_records, added_records}
 use Rattle.office_rows.proofs.RecordLemmas.{Stay, others_stay, without_others, rows_changed}
@@ -113,7 +113,7 @@ module _ (s : State) (o : Labels) (c : ChangeOf) (zs : List ZoneRows) (are : Zon
   held_now : held_of zone_now ≡ held_with c (held_of z)
   held_now = λ i. record { records = set_now i; changes = z.changes ++ c ∷ [] }
 
-  zone_becomes : (rows : List ReceiptRowOf) (q : Option Held) → q ≡ Some (held_with c (held_of z)) → ZonesBecome (change_writing o (suc (length z.changes)) c rows) zs (hold s o q)
+  zone_becomes : (rows : List ReceiptRowOf) (q : Option Held) → q ≡ Some (held_with c (held_of z)) → ZonesBecome (change_batch o (suc (length z.changes)) c rows) zs (hold s o q)
   zone_becomes rows q is = record {
     after = zone_now ∷ others o zs;
     are = record {
@@ -128,8 +128,8 @@ module _ (s : State) (o : Labels) (c : ChangeOf) (zs : List ZoneRows) (are : Zon
 
 -- what is held of an origin is changed
 pub zones_changed : (s : State) (o : Labels) (held : Held) (c : ChangeOf) (rows : List ReceiptRowOf) (q : Option Held) → s.zones o ≡ Some held → FitsHeld o held c → q ≡ Some (held_with c held)
-    → (zs : List ZoneRows) → ZonesAre zs s → ZonesBecome (change_writing o (suc (length held.changes)) c rows) zs (hold s o q)
+    → (zs : List ZoneRows) → ZonesAre zs s → ZonesBecome (change_batch o (suc (length held.changes)) c rows) zs (hold s o q)
 zones_changed s o held c rows q here fits is zs are =
     let h = held_in zs o held (sym here ∙ are.means o) in
-    subst (λ (x : Held). FitsHeld o x c → q ≡ Some (held_with c x) → ZonesBecome (change_writing o (suc (length x.changes)) c rows) zs (hold s o q)) h.is
+    subst (λ (x : Held). FitsHeld o x c → q ≡ Some (held_with c x) → ZonesBecome (change_batch o (suc (length x.changes)) c rows) zs (hold s o q)) h.is
     (λ f e. zone_becomes s o c zs are h.zone h.found h.own f rows q e) fits is

@@ -1,5 +1,5 @@
 -- Clean items with one space between them are read as these items.
-use Rattle.std.proofs.Common.{◌≡◌, ℕ, ◌+◌, ◌-◌, zero-le, Bool, true, false, cond, List, [], ◌∷◌, ◌++◌, map, None, Ok, refl, sym, ap, subst, ◌∙◌, arith, append-nil}
+use Rattle.std.proofs.Common.{◌≡◌, ℕ, zero-le, Bool, true, false, cond, List, [], ◌∷◌, ◌++◌, map, None, Ok, refl, sym, ap, subst, ◌∙◌, arith, append-nil}
 use Rattle.std.specs.List.{AllByRecursion}
 use Rattle.dns_data.specs.declared.item.Item.{Item}
 use Rattle.dns_data.specs.Items.{ItemText, item_of, plain, in_quotes, item_text, items_text}

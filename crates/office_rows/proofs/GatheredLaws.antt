@@ -24,7 +24,7 @@ use Rattle.office_sql.specs.Rows.{ChangeRowOf}
 use Rattle.office_rows.specs.declared.changes.ChangedRecord.{ChangedRecord}
 use Rattle.office_rows.specs.declared.side.Side.{Side}
 use Rattle.office_rows.specs.declared.side.Side.TheVariants.{Removed, Added}
-use Rattle.office_rows.specs.ChangeRows.{row_of, IsChanged, changes_rows, IsChange, side_cmp, side_total, changed_order, changed_order_total, follows_in_number, follows, are_behind, are_numbered, are_of_one, nothing, with_record, placed, gathered}
+use Rattle.office_rows.specs.ChangeRows.{row_of, IsChanged, changes_rows, IsChange, side_cmp, side_total, changed_order, changed_order_total, follows_in_number, follows, follow_in_turn, are_numbered, are_of_one, nothing, with_record, placed, gathered}
 use Rattle.office_rows.proofs.GatheringLaws.{entry, sides, entries, entries_rows, placed_more, placed_first, ChangeBelow, places}
 use Rattle.office_rows.proofs.OrderLemmas.{less_is}
 
@@ -203,10 +203,10 @@ pub record GathersAll (o : Labels) (xs : List ChangedRecord) (cs : List ChangeOf
   pub entries_are : entries o 1 cs ≡ xs
   pub each : AllByRecursion IsSome cs
 
-gathers_all : (o : Labels) (done : List ChangedRecord) (a : ChangedRecord) (cs : List ChangeOf) (xs : List ChangedRecord) → Gathers o done a cs → a.origin ≡ o → AllByRecursion (IsOf o) xs → are_behind a xs ≡ true → GathersAll o (done ++ xs) (fold placed cs xs)
+gathers_all : (o : Labels) (done : List ChangedRecord) (a : ChangedRecord) (cs : List ChangeOf) (xs : List ChangedRecord) → Gathers o done a cs → a.origin ≡ o → AllByRecursion (IsOf o) xs → follow_in_turn a xs ≡ true → GathersAll o (done ++ xs) (fold placed cs xs)
 gathers_all o done a cs [] g here all e = record { entries_are = g.entries_are ∙ sym (append-nil done); each = g.each }
 gathers_all o done a cs (x ∷ xs) g here all e =
-    let p = and_parts (follows a x) (are_behind x xs) e in
+    let p = and_parts (follows a x) (follow_in_turn x xs) e in
     subst (λ (l : List ChangedRecord). GathersAll o l (fold placed (placed cs x) xs)) (append_assoc done (x ∷ []) xs)
     (gathers_all o (done ++ x ∷ []) x (placed cs x) xs (gathers_more o done a x cs g here all.0 p.0) all.0 all.1 p.1)
 
@@ -219,17 +219,17 @@ all_of o (x ∷ xs) e =
 pub whole : (x : ChangedRecord) (xs : List ChangedRecord) → are_of_one (x ∷ xs) ≡ true → are_numbered (x ∷ xs) ≡ true → GathersAll x.origin (x ∷ xs) (gathered (x ∷ xs))
 whole x xs one numbered =
     let o = x.origin in
-    let p = and_parts (eqb x.number 1) (are_behind x xs) numbered in
+    let p = and_parts (eqb x.number 1) (follow_in_turn x xs) numbered in
     let is : x ≡ entry o 1 x.side x.changed = ap (λ (n : ℕ). entry o n x.side x.changed) (eqb-true x.number 1 p.0) in
     let first = subst (Gathers o (entry o 1 x.side x.changed ∷ []) (entry o 1 x.side x.changed)) (sym (placed_first o [] x.side x.changed)) (new_change o [] [] x.side x.changed refl tt) in
     gathers_all o (x ∷ []) x (placed [] x) xs (subst (λ (y : ChangedRecord). Gathers o (y ∷ []) y (placed [] y)) (sym is) first) refl (all_of o xs one) p.1
 
 -- ---- they are changes
 
-behind_up : (a : ChangedRecord) (bs : List ChangedRecord) → are_behind a bs ≡ true → IsAscending ChangeBelow (a ∷ bs)
+behind_up : (a : ChangedRecord) (bs : List ChangedRecord) → follow_in_turn a bs ≡ true → IsAscending ChangeBelow (a ∷ bs)
 behind_up a [] e = (tt, tt)
 behind_up a (b ∷ bs) e =
-    let p = and_parts (follows a b) (are_behind b bs) e in
+    let p = and_parts (follows a b) (follow_in_turn b bs) e in
     let q = and_parts (is_lt (changed_order a b)) (follows_in_number a b) p.0 in
     let first = less_is (changed_order a b) q.0 in
     let more = behind_up b bs p.1 in
@@ -237,7 +237,7 @@ behind_up a (b ∷ bs) e =
 
 numbered_up : (xs : List ChangedRecord) → are_numbered xs ≡ true → IsAscending ChangeBelow xs
 numbered_up [] e = tt
-numbered_up (x ∷ xs) e = behind_up x xs (and_parts (eqb x.number 1) (are_behind x xs) e).1
+numbered_up (x ∷ xs) e = behind_up x xs (and_parts (eqb x.number 1) (follow_in_turn x xs) e).1
 
 front_all : (P : ChangedRecord → Type 0) (xs ys : List ChangedRecord) → AllByRecursion P (xs ++ ys) → AllByRecursion P xs
 front_all P [] ys h = tt

@@ -1,10 +1,10 @@
 -- Changes that are gathered from what their rows have.
-use Rattle.std.proofs.Common.{◌≡◌, ℕ, suc, ◌+◌, ◌<◌, ◌≤◌, Bool, true, false, cond, eqb, ◌&&◌, ◌||◌, List, [], ◌∷◌, ◌++◌, length, map, Result, Ok, Err, IsPermutation, IsSorted, refl, sym, ap, subst, ◌∙◌, arith, append_assoc, append-nil, length-append, eq-eqb, inl, inr}
+use Rattle.std.proofs.Common.{◌≡◌, ℕ, suc, ◌<◌, ◌≤◌, Bool, true, false, cond, eqb, ◌&&◌, ◌||◌, List, [], ◌∷◌, ◌++◌, length, map, Result, Ok, Err, IsPermutation, IsSorted, refl, sym, ap, subst, ◌∙◌, arith, append_assoc, append-nil, length-append, eq-eqb, inl, inr}
 use Rattle.std.proofs.lemmas.Bool.{and_from, lt-ltb, le-ltb, or_cases, or_left, or_right, eqb-true}
 use Rattle.std.proofs.lemmas.Cmp.{tied_itself}
 use Rattle.std.proofs.lemmas.List.{map-append}
 use Rattle.std.proofs.lemmas.List.Elements.{All-from_recursion, recursion_from_All}
-use Rattle.std.proofs.lemmas.List.Sorted.{IsPermutation-sym, IsPermutation-trans, All-permutation}
+use Rattle.std.proofs.lemmas.List.Sorted.{IsPermutation-map, IsPermutation-sym, IsPermutation-trans, All-permutation}
 use Rattle.std.proofs.lemmas.List.Sums.{fold-append}
 use Rattle.std.specs.declared.cmp.Ordering.{Ordering}
 use Rattle.std.specs.declared.cmp.Ordering.TheVariants.{Less, Equal}
@@ -31,8 +31,12 @@ use Rattle.office_rows.specs.declared.changes.ChangedRecord.{ChangedRecord}
 use Rattle.office_rows.specs.declared.row_fault.RowFault.{RowFault}
 use Rattle.office_rows.specs.declared.side.Side.{Side}
 use Rattle.office_rows.specs.declared.side.Side.TheVariants.{Removed, Added}
-use Rattle.office_rows.specs.ChangeRows.{change_row, row_of, IsChanged, IsChangeRow, change_rows, changes_rows, IsChange, side_cmp, side_total, changed_order, changed_order_total, follows_in_number, follows, are_behind, are_numbered, are_of_one, nothing, with_record, with_last, opened, placed, gathered}
-use Rattle.office_rows.specs.RowReading.{changed_in}
+use Rattle.office_rows.specs.ChangeRows.{change_row, row_of, IsChanged, IsChangeRow, change_rows, changes_rows, IsChange, side_cmp, side_total, changed_order, changed_order_total, follows_in_number, follows, follow_in_turn, are_numbered, are_of_one, nothing, with_record, with_last, opened, placed, gathered}
+use Rattle.office_rows.specs.declared.row_fault.RowFault.TheVariants.{BadRow}
+use Rattle.office_rows.specs.RowReading.{changed_in, changes_among, each_read}
+use Rattle.office_rows.proofs.ListLemmas.{all_permutation, chosen}
+use Rattle.office_rows.proofs.RowSteps.{done}
+use Rattle.office_rows.proofs.StoredLaws.{each_stored}
 use Rattle.office_rows.proofs.ChangeRowLaws.{changed_read}
 
 abbrev Labels : Type 0
@@ -180,10 +184,10 @@ entries_go_on : (o : Labels) (n : ℕ) (cs : List ChangeOf) → AllByRecursion I
 entries_go_on o n [] h = λ s r. tt
 entries_go_on o n (c ∷ cs) h = first_goes_on o n c.removed c.added (entries o (suc (suc n)) cs) h.0.something (entries_go_on o (suc n) cs h.1)
 
-behind_from : (a : ChangedRecord) (bs : List ChangedRecord) → IsAscending ChangeBelow (a ∷ bs) → InTurn a bs → are_behind a bs ≡ true
+behind_from : (a : ChangedRecord) (bs : List ChangedRecord) → IsAscending ChangeBelow (a ∷ bs) → InTurn a bs → follow_in_turn a bs ≡ true
 behind_from a [] up turn = refl
 behind_from a (b ∷ bs) up turn =
-    and_from (follows a b) (are_behind b bs) (and_from (is_lt (changed_order a b)) (follows_in_number a b) (ap is_lt up.0.0) turn.0) (behind_from b bs up.1 turn.1)
+    and_from (follows a b) (follow_in_turn b bs) (and_from (is_lt (changed_order a b)) (follows_in_number a b) (ap is_lt up.0.0) turn.0) (behind_from b bs up.1 turn.1)
 
 -- the first number behind 0 is 1
 first_number : (b : Bool) (n : ℕ) → 0 < n → cond b (eqb n 0 || eqb n 1) (eqb n 1) ≡ true → eqb n 1 ≡ true
@@ -194,7 +198,7 @@ numbered_from : (o : Labels) (xs : List ChangedRecord) → AllByRecursion IsChan
 numbered_from o [] all up on = refl
 numbered_from o (x ∷ xs) all up on =
     let t = on Removed x.changed in
-    and_from (eqb x.number 1) (are_behind x xs) (first_number (same_name o x.origin) x.number all.0.number t.0) (behind_from x xs up t.1)
+    and_from (eqb x.number 1) (follow_in_turn x xs) (first_number (same_name o x.origin) x.number all.0.number t.0) (behind_from x xs up t.1)
 
 pub entries_numbered : (o : Labels) (cs : List ChangeOf) → IsName o → AllByRecursion IsChange cs → are_numbered (entries o 1 cs) ≡ true
 entries_numbered o cs is h = numbered_from o (entries o 1 cs) (entries_are o 1 cs is (omega arith) h) (entries_up o 1 cs h) (entries_go_on o 0 cs h)
@@ -313,6 +317,10 @@ same_changed xs ys h k same =
     subst (λ (l : List ChangedRecord). IsPermutation l ys) (decoded xs h)
     (subst (λ (l : List ChangedRecord). IsPermutation (flat_map (λ row. listed (changed_in row)) (map row_of xs)) l) (decoded ys k) (IsPermutation-flat_map (λ row. listed (changed_in row)) (map row_of xs) (map row_of ys) same))
 
+each_changed : (cs : List ChangedRecord) → AllByRecursion IsChanged cs → AllByRecursion (λ c. changed_in (row_of c) ≡ Ok c) cs
+each_changed [] h = tt
+each_changed (c ∷ cs) h = (changed_read c h.0, each_changed cs h.1)
+
 module _ (o : Labels) (changes : List ChangeOf) (rows : List ChangeRowOf) (is : IsName o) (are : AllByRecursion IsChange changes) (same : IsPermutation (changes_rows o 1 changes) rows) where
   -- each of the rows is one of a change
   all_rows : (xs : List ChangedRecord) → AllByRecursion IsChanged xs → AllByRecursion IsChangeRow (map row_of xs)
@@ -344,3 +352,24 @@ module _ (o : Labels) (changes : List ChangeOf) (rows : List ChangeRowOf) (is : 
 
   pub sorted_gathered : (cs : List ChangedRecord) → IsPermutation (map row_of cs) rows → AllByRecursion IsChanged cs → IsSorted changed_order cs → gathered cs ≡ changes
   sorted_gathered cs found all sorted = ap gathered (sorted_are cs found all sorted) ∙ entries_gathered o changes are
+
+  -- the rows are read as what some records on a side of a change have, whatever their spelling is
+  pub record AreStored : Type 0 where
+    pub changed : List ChangedRecord
+    pub each : each_read changed_in rows ≡ Ok changed
+    pub pass : (sorted : List ChangedRecord) → IsPermutation changed sorted → IsSorted changed_order sorted → changes_among sorted ≡ Ok changes
+
+  pub among : (sorted : List ChangedRecord) → IsPermutation (map row_of sorted) rows → AllByRecursion IsChanged sorted → IsSorted changed_order sorted → changes_among sorted ≡ Ok changes
+  among sorted found all order =
+      ap (λ (b : Bool). cond b (done (gathered sorted)) (Err BadRow)) (sorted_pass sorted found all order) ∙ ap done (sorted_gathered sorted found all order)
+
+  pub are_stored : AreStored
+  are_stored =
+      let c = chosen IsChanged row_of rows each_row in
+      record {
+        changed = c.0;
+        each = ap (each_read changed_in) c.1 ∙ each_stored changed_in row_of c.0 (each_changed c.0 c.2);
+        pass = λ sorted moved order.
+            among sorted (IsPermutation-sym rows (map row_of sorted) (subst (λ (l : List ChangeRowOf). IsPermutation l (map row_of sorted)) (sym c.1) (IsPermutation-map row_of c.0 sorted moved)))
+            (all_permutation IsChanged c.0 sorted moved c.2) order;
+      }

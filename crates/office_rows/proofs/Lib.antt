@@ -3,6 +3,7 @@ pub mod OrderLemmas
 pub mod ListLemmas
 pub mod FieldsLaws
 pub mod ColumnLaws
+pub mod StoredLaws
 pub mod NameLemmas
 pub mod RecordRowLaws
 pub mod ReplyLaws
@@ -26,4 +27,4 @@ pub mod ContentReceiptLemmas
 pub mod WrittenStateLemmas
 pub mod ChangedZoneLemmas
 pub mod NewZoneLemmas
-pub mod WritingLaws
+pub mod BatchLaws

@@ -9,8 +9,8 @@ use Rattle.dns_names.specs.Order.{same_name}
 use Rattle.dns_names.specs.Spelling.{name_text}
 use Rattle.dns_names.proofs.KeyLaws.{key_unique}
 use Rattle.zone_core.proofs.SetLemmas.{by_cases, name_is, name_self}
-use Rattle.office_rows.specs.RowReading.{name_in}
-use Rattle.office_rows.proofs.ColumnLaws.{name_read}
+use Rattle.office_rows.specs.RowReading.{name_from}
+use Rattle.office_rows.proofs.StoredLaws.{name_stored}
 use Rattle.office_rows.proofs.RowSteps.{ok_is}
 
 abbrev Labels : Type 0
@@ -27,7 +27,7 @@ bytes_other a b apart = false_from_ne_true (bytes_eq a b) (λ t. apart (bytes_is
 
 -- a text is that of one name
 pub text_one : (a b : Labels) → IsName a → IsName b → name_text a ≡ name_text b → a ≡ b
-text_one a b is also e = ok_is a b (sym (name_read a is) ∙ ap name_in e ∙ name_read b also)
+text_one a b is also e = ok_is a b (sym (name_stored a is) ∙ ap name_from e ∙ name_stored b also)
 
 pub text_other : (a b : Labels) → IsName a → IsName b → a ≢ b → bytes_eq (name_text a) (name_text b) ≡ false
 text_other a b is also apart = bytes_other (name_text a) (name_text b) (λ e. apart (text_one a b is also e))

@@ -10,7 +10,7 @@ use Rattle.office_core.specs.States.{State}
 use Rattle.office_sql.specs.Rows.{without}
 use Rattle.office_rows.specs.RecordRows.{record_row}
 use Rattle.office_rows.specs.Contents.{ZoneRows, zone_records, zone_changes, IsZoneRows}
-use Rattle.office_rows.specs.Writings.{with_zone, zone_writing}
+use Rattle.office_rows.specs.Batches.{with_zone, zone_batch}
 use Rattle.office_rows.proofs.RecordLemmas.{without_none}
 use Rattle.office_rows.proofs.ContentZoneLemmas.{others, others_none, pairs_first, all_first, means_first, none_held}
 use Rattle.office_rows.proofs.WrittenStateLemmas.{ZonesAre, ZonesBecome, zone_row, unchanged}
@@ -50,7 +50,7 @@ module _ (s : State) (zone : ZoneOf) (name : IsName zone.origin) (is : IsZone zo
   change_rows_new : IsPermutation (flat_map zone_changes (zone_new ∷ others zone.origin zs)) (flat_map zone_changes zs ++ [])
   change_rows_new = subst (λ ys. IsPermutation (flat_map zone_changes (zone_new ∷ ys)) (flat_map zone_changes zs ++ [])) (sym all_stay) (unchanged (flat_map zone_changes zs))
 
-  pub zone_added : ZonesBecome (zone_writing zone) zs (with_zone s zone)
+  pub zone_added : ZonesBecome (zone_batch zone) zs (with_zone s zone)
   zone_added = record {
     after = zone_new ∷ others zone.origin zs;
     are = record {

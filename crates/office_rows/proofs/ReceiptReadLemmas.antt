@@ -1,5 +1,5 @@
 -- Receipts, by their callers and identifiers.
-use Rattle.std.proofs.Common.{◌≡◌, ℕ, ℤ, Bool, true, false, List, map, Option, Some, None, IsPermutation, refl, sym, ap, subst, ◌∙◌, ◌&&◌, ◌<◌, ◌≤◌, length, get_or, arith}
+use Rattle.std.proofs.Common.{◌≡◌, ℕ, ℤ, Bool, true, false, List, [], ◌∷◌, map, Option, Some, None, Ok, Err, IsPermutation, refl, sym, ap, subst, ◌∙◌, ◌&&◌, ◌<◌, ◌≤◌, length, get_or, arith}
 use Rattle.std.proofs.lemmas.Bool.{and_parts, false_from_ne_true}
 use Rattle.std.proofs.lemmas.List.Sorted.{IsPermutation-trans}
 use Rattle.std.specs.Prelude.{option_map, bytes_eq}
@@ -9,7 +9,12 @@ use Rattle.office_sql.specs.Rows.{ReceiptRowOf, RowsOf}
 use Rattle.office_sql.specs.Lookups.{receipts_of}
 use Rattle.office_rows.specs.Contents.{ReceiptAt, receipt_among, row_of_receipt, IsReceiptAt, AreOfState}
 use Rattle.office_rows.proofs.ListLemmas.{ascending_from_pairs, filter_one, found_list, none_moved, one_moved, found_has}
+use Rattle.office_rows.specs.declared.row_fault.RowFault.TheVariants.{BadRow}
+use Rattle.office_rows.specs.RowFaults.{◌>>=◌}
+use Rattle.office_rows.specs.RowReading.{receipt_in, receipt_by}
 use Rattle.office_rows.proofs.NameLemmas.{bytes_is}
+use Rattle.office_rows.proofs.ReceiptRowLaws.{receipt_read}
+use Rattle.office_rows.proofs.RowSteps.{done}
 
 -- two receipts are of different callers, or under different identifiers
 abbrev pub Differ : ReceiptAt → ReceiptAt → Type 0
@@ -45,7 +50,7 @@ module _ (version : ℤ) (all : RowsOf) (s : State) (st : AreOfState version all
   receipts = st.content.receipts
 
   -- the rows under a caller and an identifier are that of the receipt there, if there is one
-  pub rows_are : (rows : List ReceiptRowOf) → IsPermutation (receipts_of caller id all.receipts) rows → rows ≡ found_rows (receipt_among receipts caller id)
+  rows_are : (rows : List ReceiptRowOf) → IsPermutation (receipts_of caller id all.receipts) rows → rows ≡ found_rows (receipt_among receipts caller id)
   rows_are rows same =
       let test = λ (r : ReceiptRowOf). bytes_eq r.caller caller && bytes_eq r.id id in
       let up = ascending_weaker Differ (λ a b. is_under caller id a ≡ true → is_under caller id b ≡ false) (not_both caller id) receipts (ascending_from_pairs Differ receipts st.is_content.receipts_apart) in
@@ -57,30 +62,29 @@ module _ (version : ℤ) (all : RowsOf) (s : State) (st : AreOfState version all
   pub found_is : (r : ReceiptAt) → receipt_among receipts caller id ≡ Some r → IsReceiptAt r
   found_is r e = found_has (is_under caller id) IsReceiptAt receipts r st.is_content.receipts e
 
-  pub held_is : s.receipts caller id ≡ option_map (λ r. r.receipt) (receipt_among receipts caller id)
+  held_is : s.receipts caller id ≡ option_map (λ r. r.receipt) (receipt_among receipts caller id)
   held_is = st.means.receipts caller id
 
-  by_found : (rows : List ReceiptRowOf) → IsPermutation (receipts_of caller id all.receipts) rows → (found : Option ReceiptAt) → receipt_among receipts caller id ≡ found → rows ≡ found_rows found
-  by_found rows same found e = rows_are rows same ∙ ap found_rows e
+  -- they are read as what is held
+  pub receipts_stored : (rows : List ReceiptRowOf) → IsPermutation (receipts_of caller id all.receipts) rows → receipt_by rows ≡ Ok (s.receipts caller id)
+  receipts_stored rows same = ap receipt_by (rows_are rows same) ∙ go (receipt_among receipts caller id) refl ∙ ap done (sym held_is) where
+    go : (found : Option ReceiptAt) → receipt_among receipts caller id ≡ found → receipt_by (found_rows found) ≡ Ok (option_map (λ r. r.receipt) found)
+    go None e = refl
+    go (Some r) e = ap (λ x. x >>= λ receipt. done (Some receipt)) (receipt_read r (found_is r e))
 
-  -- no row is no receipt
-  pub none_held : (rows : List ReceiptRowOf) → IsPermutation (receipts_of caller id all.receipts) rows → length rows < 1 → s.receipts caller id ≡ None
-  none_held rows same short = go (receipt_among receipts caller id) refl (by_found rows same (receipt_among receipts caller id) refl) where
-    go : (found : Option ReceiptAt) → receipt_among receipts caller id ≡ found → rows ≡ found_rows found → s.receipts caller id ≡ None
-    go None e is = held_is ∙ ap (option_map (λ r. r.receipt)) e
-    go (Some r) e is = absurd (omega (arith, ap length is))
+-- ---- by how many rows there are
 
-  -- a row is that of the receipt
-  pub one_held : (rows : List ReceiptRowOf) (row : ReceiptRowOf) → IsPermutation (receipts_of caller id all.receipts) rows → 1 ≤ length rows → row ≡ get_or rows 0 row
-      → (r : ReceiptAt) × IsReceiptAt r × (row ≡ row_of_receipt r) × (s.receipts caller id ≡ Some r.receipt)
-  one_held rows row same long first = go (receipt_among receipts caller id) refl (by_found rows same (receipt_among receipts caller id) refl) where
-    go : (found : Option ReceiptAt) → receipt_among receipts caller id ≡ found → rows ≡ found_rows found → (r : ReceiptAt) × IsReceiptAt r × (row ≡ row_of_receipt r) × (s.receipts caller id ≡ Some r.receipt)
-    go None e is = absurd (omega (arith, ap length is))
-    go (Some r) e is = (r, found_is r e, first ∙ ap (λ l. get_or l 0 row) is, held_is ∙ ap (option_map (λ r. r.receipt)) e)
+pub no_row : (rows : List ReceiptRowOf) → length rows < 1 → receipt_by rows ≡ Ok None
+no_row [] short = refl
+no_row (r ∷ rows) short = absurd (omega arith)
 
-  -- there are no two rows
-  pub no_two : (rows : List ReceiptRowOf) → IsPermutation (receipts_of caller id all.receipts) rows → 2 ≤ length rows → ⊥
-  no_two rows same long = go (receipt_among receipts caller id) (by_found rows same (receipt_among receipts caller id) refl) where
-    go : (found : Option ReceiptAt) → rows ≡ found_rows found → ⊥
-    go None is = omega (arith, ap length is)
-    go (Some r) is = omega (arith, ap length is)
+pub two_rows : (rows : List ReceiptRowOf) → 2 ≤ length rows → receipt_by rows ≡ Err BadRow
+two_rows [] long = absurd (omega arith)
+two_rows (r ∷ []) long = absurd (omega arith)
+two_rows (r ∷ s ∷ rows) long = refl
+
+-- of one row, which is the first
+pub one_row : (rows : List ReceiptRowOf) (row : ReceiptRowOf) → length rows ≡ 1 → row ≡ get_or rows 0 row → receipt_by rows ≡ (receipt_in row >>= λ receipt. done (Some receipt))
+one_row [] row one first = absurd (omega (arith, one))
+one_row (r ∷ []) row one first = ap (λ x. receipt_by (x ∷ [])) (sym first)
+one_row (r ∷ s ∷ rows) row one first = absurd (omega (arith, one))

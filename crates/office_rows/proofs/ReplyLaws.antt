@@ -2,13 +2,13 @@
 use Rattle.std.proofs.Common.{◌≡◌, ℕ, zero, suc, ◌-◌, ◌^◌, ◌<◌, ◌≤◌, Bool, true, false, cond, eqb, leb, not, ◌&&◌, ◌||◌, List, [], ◌∷◌, length, map, Option, Some, None, Result, Ok, Err, refl, sym, ap, subst, ◌∙◌, arith, eqb-true}
 use Rattle.std.proofs.lemmas.Bool.{agree_below_at, leb-true, le-leb, lt-ltb, and_parts, and_from}
 use Rattle.std.proofs.lemmas.Str.{IsUtf8-from_ascii}
-use Rattle.std.specs.Prelude.{nat_le, nat_lt, decimal, slice_index, bytes_eq, IsUtf8}
+use Rattle.std.specs.Prelude.{nat_le, nat_lt, decimal, slice_index, IsUtf8}
 use Rattle.std.specs.Char.{is_ascii_alphanumeric}
 use Rattle.std.specs.Int.{is_in_range}
 use Rattle.std.specs.List.{AllByRecursion, list_all}
 use Rattle.std.specs.Str.Parse.{digits_value}
 use Rattle.dns_data.specs.declared.item.Item.{Item}
-use Rattle.dns_data.specs.Items.{ItemText, item_of, plain}
+use Rattle.dns_data.specs.Items.{item_of, plain}
 use Rattle.dns_data.specs.Numbers.{is_number}
 use Rattle.dns_data.proofs.NumberLaws.{is_numeral, decimal_is_number}
 use Rattle.dns_master.specs.Pieces.{ends_item}
@@ -26,9 +26,9 @@ use Rattle.office_core.specs.declared.reply.UpdateReply.TheVariants.{NoError, No
 use Rattle.office_rows.specs.declared.row_fault.RowFault.{RowFault}
 use Rattle.office_rows.specs.declared.row_fault.RowFault.TheVariants.{BadRow}
 use Rattle.office_rows.specs.ReplyWords.{list_word, place_words, failed_word, words_of, reply_words, IsReply}
-use Rattle.office_rows.specs.RowFaults.{◌>>=◌, canonical}
-use Rattle.office_rows.specs.RowReading.{or_bad, fields_of, identifier_in, code_named, list_named, number_named, reply_with, reply_at, denied_by, reply_of, reply_in}
-use Rattle.office_rows.proofs.RowSteps.{done, step_ok, canonical_again, canonical_ok}
+use Rattle.office_rows.specs.RowFaults.{◌>>=◌}
+use Rattle.office_rows.specs.RowReading.{or_bad, identifier_in, code_named, list_named, number_named, reply_with, reply_at, denied_by, reply_of, reply_in}
+use Rattle.office_rows.proofs.RowSteps.{done}
 use Rattle.office_rows.proofs.FieldsLaws.{fields_read}
 
 -- ---- single words
@@ -199,23 +199,9 @@ raws : (words : List (List ℕ)) → map (λ i. i.raw) (map plain words) ≡ wor
 raws [] = refl
 raws (word ∷ words) = ap (λ (l : List (List ℕ)). word ∷ l) (raws words)
 
-abbrev in_words : List ℕ → List (List ℕ) → Result UpdateReply RowFault
-in_words text words = reply_of words >>= λ reply. canonical (reply_words reply) text reply
-
 pub reply_read : (reply : UpdateReply) → IsReply reply → reply_in (reply_words reply) ≡ Ok reply
 reply_read reply is =
-    let text = reply_words reply in
-    ap (λ r. r >>= λ items. in_words text (map (λ i. i.raw) items)) (fields_read (map plain (words_of reply)) (words_clean reply is))
-    ∙ ap (in_words text) (raws (words_of reply))
-    ∙ ap (λ r. r >>= λ x. canonical (reply_words x) text x) (words_read reply is)
-    ∙ canonical_again text reply
-
-pub reply_found : (text : List ℕ) (reply : UpdateReply) → reply_in text ≡ Ok reply → text ≡ reply_words reply
-reply_found text reply e =
-    let s = step_ok (fields_of text) (λ items. in_words text (map (λ i. i.raw) items)) reply e in
-    let t = step_ok (reply_of (map (λ i. i.raw) s.0)) (λ x. canonical (reply_words x) text x) reply s.2 in
-    let same = canonical_ok (reply_words t.0) text t.0 reply t.2 in
-    sym same.0 ∙ ap reply_words same.1
+    ap (λ r. r >>= λ items. reply_of (map (λ i. i.raw) items)) (fields_read (map plain (words_of reply)) (words_clean reply is)) ∙ ap reply_of (raws (words_of reply)) ∙ words_read reply is
 
 -- other numbers of words are none
 pub reply_none : (xs : List Item) → (length xs ≡ 1 → ⊥) → (length xs ≡ 3 → ⊥) → (length xs ≡ 4 → ⊥) → reply_of (map (λ i. i.raw) (map item_of xs)) ≡ Err BadRow
@@ -225,14 +211,6 @@ reply_none (a ∷ b ∷ []) one three four = refl
 reply_none (a ∷ b ∷ d ∷ []) one three four = absurd (three refl)
 reply_none (a ∷ b ∷ d ∷ e ∷ []) one three four = absurd (four refl)
 reply_none (a ∷ b ∷ d ∷ e ∷ f ∷ words) one three four = refl
-
--- a reply whose spelling is another
-pub reply_bad : (text spelled : List ℕ) (fields : List ItemText) (reply : UpdateReply) (differs : Bool) → fields_of text ≡ Ok fields → reply_of (map (λ i. i.raw) fields) ≡ Ok reply → spelled ≡ reply_words reply → differs ≡ not (bytes_eq spelled text) → differs ≡ true
-    → reply_in text ≡ Err BadRow
-reply_bad text spelled fields reply differs f r is d t =
-    ap (λ x. x >>= λ items. in_words text (map (λ i. i.raw) items)) f
-    ∙ ap (λ x. x >>= λ y. canonical (reply_words y) text y) r
-    ∙ ap (λ (b : Bool). cond b (done reply) (Err BadRow)) (ap (λ (s : List ℕ). bytes_eq s text) (sym is) ∙ not_true (bytes_eq spelled text) (sym d ∙ t))
 
 -- ---- identifiers are text
 

@@ -1,5 +1,5 @@
 -- Steps that may be refused, and texts that are compared with a spelling.
-use Rattle.std.proofs.Common.{◌≡◌, ℕ, Bool, true, false, cond, List, Option, Some, None, Result, Ok, Err, refl, sym, ap, subst}
+use Rattle.std.proofs.Common.{◌≡◌, ℕ, Bool, true, false, not, cond, List, Option, Some, None, Result, Ok, Err, refl, sym, ap, subst, ◌∙◌}
 use Rattle.std.proofs.lemmas.Slice.Eq.{bytes_eq-Decides}
 use Rattle.std.specs.Prelude.{bytes_eq, IfOk}
 use Rattle.dns_names.specs.declared.name_fault.NameFault.{NameFault}
@@ -68,6 +68,10 @@ pub found_with : {X Y : Type 0} (view : X → Y) (Q P : X → Type 0) (r : Resul
 found_with view Q P (Ok x) read h q on = on x q h
 found_with view Q P (Err e) read h q on = tt
 
+pub found_in : {X Y : Type 0} (view : X → Y) (P : X → Type 0) (r : Result X RowFault) (read : Result Y RowFault) → Reads view r read → ((x : X) → read ≡ Ok (view x) → P x) → IfOk r P
+found_in view P (Ok x) read h on = on x h
+found_in view P (Err e) read h on = tt
+
 -- a refusal of one thing that was given is one of any other
 pub refuses_any : {Y Z : Type 0} (e : RowFault) (x : Y) (y : Z) → Refuses e (Ok x) → Refuses e (Ok y)
 refuses_any NoMemory x y h = tt
@@ -81,3 +85,22 @@ refuses_memory e x h = subst (λ (f : RowFault). Refuses f (Ok x)) (sym h) tt
 pub refuses_none : {Y : Type 0} (e : RowFault) (x : Y) → Refuses e (Ok x) → e ≡ NoMemory
 refuses_none NoMemory x h = refl
 refuses_none BadRow x h = absurd cc
+
+-- what is given is not refused, and so only memory can have run out
+pub refuses_given : {Y Z : Type 0} (e : RowFault) (read : Result Y RowFault) (x : Y) (z : Z) → read ≡ Ok x → Refuses e read → Refuses e (Ok z)
+refuses_given e read x z is h = refuses_any e x z (subst (Refuses e) is h)
+
+-- a refusal of a step is one of all steps
+pub refuses_step : {A B : Type 0} (e : RowFault) (r : Result A RowFault) (f : A → Result B RowFault) → Refuses e r → Refuses e (r >>= f)
+refuses_step NoMemory r f h = tt
+refuses_step BadRow r f h = ap (λ q. q >>= f) h
+
+-- the same text is no other spelling
+pub no_other : (spelled text : List ℕ) (differs : Bool) → differs ≡ not (bytes_eq spelled text) → spelled ≡ text → differs ≡ false
+no_other spelled text differs d e = d ∙ ap (λ (s : List ℕ). not (bytes_eq s text)) e ∙ ap not (same_bytes text)
+
+pub same_spelling : (spelled text : List ℕ) (differs : Bool) → differs ≡ not (bytes_eq spelled text) → differs ≡ false → spelled ≡ text
+same_spelling spelled text differs d f = (bytes_eq-Decides spelled text).0 (go (bytes_eq spelled text) (sym d ∙ f)) where
+  go : (b : Bool) → not b ≡ false → b ≡ true
+  go true e = refl
+  go false e = absurd cc

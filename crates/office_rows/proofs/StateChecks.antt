@@ -18,9 +18,9 @@ use Rattle.office_rows.specs.declared.row_fault.RowFault.{RowFault}
 use Rattle.office_rows.specs.declared.row_fault.RowFault.TheVariants.{BadRow, NoMemory}
 use Rattle.office_rows.specs.Contents.{ReceiptAt, ContentOf, row_of_receipt, IsReceiptAt, held_of, zone_among, receipt_among, AreOfState}
 use Rattle.office_rows.proofs.ReceiptRowLaws.{receipt_rows_are_apart}
-use Rattle.office_rows.specs.declared.ordered.KeptReceipt.{KeptReceipt}
+use Rattle.office_rows.specs.declared.ordered.CallerReceipt.{CallerReceipt}
 use Rattle.office_rows.specs.Orders.{rises}
-use Rattle.office_rows.specs.Checks.{AreReceiptRows, AreStateRows, Checks, receipt_at, row_of_kept, IsKept, IsReceiptRow, kept_order, kept_total}
+use Rattle.office_rows.specs.Checks.{AreReceiptRows, AreStateRows, Checks, receipt_at, row_of_caller_receipt, IsCallerReceipt, IsReceiptRow, caller_receipt_order, caller_receipt_total}
 use Rattle.office_rows.proofs.ListLemmas.{ascending_from_pairs, pairs_from_ascending, all_permutation, moved_back, apart_moved, one_moved}
 use Rattle.office_rows.proofs.OrderLemmas.{rises_from, rises_up, sorted_strict}
 use Rattle.office_rows.proofs.ReceiptReadLemmas.{Differ}
@@ -45,16 +45,16 @@ both_tied Less b e = absurd cc
 both_tied Equal b e = (refl, e)
 both_tied Greater b e = absurd cc
 
-not_tied : (a b : KeptReceipt) → Differ (receipt_at a) (receipt_at b) → kept_order a b ≡ Equal → ⊥
+not_tied : (a b : CallerReceipt) → Differ (receipt_at a) (receipt_at b) → caller_receipt_order a b ≡ Equal → ⊥
 not_tied a b differ tie =
     let both = both_tied (slice_cmp nat_cmp a.caller b.caller) (slice_cmp nat_cmp a.id b.id) tie in
     differ (octets_exact a.caller b.caller both.0, octets_exact a.id b.id both.1)
 
-differ_from : (a b : KeptReceipt) → kept_order a b ≡ Less → Differ (receipt_at a) (receipt_at b)
+differ_from : (a b : CallerReceipt) → caller_receipt_order a b ≡ Less → Differ (receipt_at a) (receipt_at b)
 differ_from a b less same =
     let callers : slice_cmp nat_cmp a.caller b.caller ≡ Equal = ap (λ x. slice_cmp nat_cmp x b.caller) same.0 ∙ tied_itself nat_list_cmp_total b.caller in
     let ids : slice_cmp nat_cmp a.id b.id ≡ Equal = ap (λ x. slice_cmp nat_cmp x b.id) same.1 ∙ tied_itself nat_list_cmp_total b.id in
-    let tie : kept_order a b ≡ Equal = ap (λ x. ordering_then x (slice_cmp nat_cmp a.id b.id)) callers ∙ ids in
+    let tie : caller_receipt_order a b ≡ Equal = ap (λ x. ordering_then x (slice_cmp nat_cmp a.id b.id)) callers ∙ ids in
     let bad : Less ≡ Equal = sym less ∙ tie in
     cc
 
@@ -71,22 +71,22 @@ module _ (rows : List ReceiptRowOf) where
       all_permutation IsReceiptRow (map row_of_receipt are.receipts) rows are.same
       (all_map IsReceiptRow row_of_receipt are.receipts (all_weaker IsReceiptAt (λ r. IsReceiptRow (row_of_receipt r)) (λ r is. (r, is, refl)) are.receipts are.each))
 
-  module _ (ks : List KeptReceipt) (same : IsPermutation (map row_of_kept ks) rows) (each : AllByRecursion IsKept ks) where
+  module _ (ks : List CallerReceipt) (same : IsPermutation (map row_of_caller_receipt ks) rows) (each : AllByRecursion IsCallerReceipt ks) where
     mine : IsPermutation (map row_of_receipt (map receipt_at ks)) rows
     mine = subst (λ l. IsPermutation l rows) (sym (map-map row_of_receipt receipt_at ks)) same
 
-    pub receipts_rise : AreReceiptRows rows → IsSorted kept_order ks → rises kept_order ks ≡ true
+    pub receipts_rise : AreReceiptRows rows → IsSorted caller_receipt_order ks → rises caller_receipt_order ks ≡ true
     receipts_rise are sorted =
         let moved = moved_back IsReceiptAt row_of_receipt one_row are.receipts (map receipt_at ks) are.each (all_map IsReceiptAt receipt_at ks each)
         (IsPermutation-trans (map row_of_receipt are.receipts) rows (map row_of_receipt (map receipt_at ks)) are.same (IsPermutation-sym (map row_of_receipt (map receipt_at ks)) rows mine)) in
         let apart = apart_moved Differ (λ a b differ s. differ (sym s.0, sym s.1)) are.receipts (map receipt_at ks) moved (ascending_from_pairs Differ are.receipts are.apart) in
-        let untied = ascending_weaker (λ a b. Differ (receipt_at a) (receipt_at b)) (λ a b. ¬ (kept_order a b ≡ Equal)) not_tied ks (ascending_from_map Differ receipt_at ks apart) in
-        rises_from kept_order ks (sorted_strict kept_order kept_total ks sorted untied)
+        let untied = ascending_weaker (λ a b. Differ (receipt_at a) (receipt_at b)) (λ a b. ¬ (caller_receipt_order a b ≡ Equal)) not_tied ks (ascending_from_map Differ receipt_at ks apart) in
+        rises_from caller_receipt_order ks (sorted_strict caller_receipt_order caller_receipt_total ks sorted untied)
 
-    pub are_receipt_rows : rises kept_order ks ≡ true → AreReceiptRows rows
+    pub are_receipt_rows : rises caller_receipt_order ks ≡ true → AreReceiptRows rows
     are_receipt_rows rise = record {
       receipts = map receipt_at ks;
-      apart = pairs_from_ascending Differ (map receipt_at ks) (ascending-map Differ receipt_at ks (ascending_weaker (λ a b. kept_order a b ≡ Less) (λ a b. Differ (receipt_at a) (receipt_at b)) differ_from ks (rises_up kept_order kept_total ks rise)));
+      apart = pairs_from_ascending Differ (map receipt_at ks) (ascending-map Differ receipt_at ks (ascending_weaker (λ a b. caller_receipt_order a b ≡ Less) (λ a b. Differ (receipt_at a) (receipt_at b)) differ_from ks (rises_up caller_receipt_order caller_receipt_total ks rise)));
       each = all_map IsReceiptAt receipt_at ks each;
       same = mine;
     }

@@ -6,9 +6,9 @@ use Rattle.sqlite_trees.proofs.ListLemmas.{IsPermutation-same, IsPermutation-fil
 use Rattle.dns_names.specs.Spelling.{name_text}
 use Rattle.office_core.specs.States.{State}
 use Rattle.office_core.specs.Machine.{keep}
-use Rattle.office_sql.specs.Rows.{WritingOf, ReceiptRowOf, same_key, without, versions_with}
+use Rattle.office_sql.specs.Rows.{BatchOf, ReceiptRowOf, same_key, without, versions_with}
 use Rattle.office_rows.specs.Contents.{ZoneRows, ReceiptAt, zone_records, zone_changes, row_of_receipt, held_of, zone_among, receipt_among, IsZoneRows, IsReceiptAt}
-use Rattle.office_rows.specs.Writings.{Leads, receipts_writing}
+use Rattle.office_rows.specs.Batches.{Leads, receipts_batch}
 use Rattle.office_rows.proofs.RecordLemmas.{without_none}
 use Rattle.office_rows.proofs.ContentReceiptLemmas.{pairs_more, means_more}
 
@@ -33,7 +33,7 @@ abbrev pub zone_row : ZoneRows → List ℕ
 zone_row z = name_text z.origin
 
 -- what is written turns the rows of zones into those of another state's
-pub record ZonesBecome (w : WritingOf) (zs : List ZoneRows) (t : State) : Type 0 where
+pub record ZonesBecome (w : BatchOf) (zs : List ZoneRows) (t : State) : Type 0 where
   pub after : List ZoneRows
   pub are : ZonesAre after t
   pub zone_rows : IsPermutation (map zone_row after) (map zone_row zs ++ w.zones)
@@ -41,7 +41,7 @@ pub record ZonesBecome (w : WritingOf) (zs : List ZoneRows) (t : State) : Type 0
   pub changes : IsPermutation (flat_map zone_changes after) (flat_map zone_changes zs ++ w.changes)
 
 -- another state with the same zones
-pub zones_same : (w : WritingOf) (zs : List ZoneRows) (t u : State) → u.zones ≡ t.zones → ZonesBecome w zs t → ZonesBecome w zs u
+pub zones_same : (w : BatchOf) (zs : List ZoneRows) (t u : State) → u.zones ≡ t.zones → ZonesBecome w zs t → ZonesBecome w zs u
 zones_same w zs t u same become = record {
   after = become.after;
   are = record { apart = become.are.apart; each = become.are.each; means = λ o. ap (λ f. f o) same ∙ become.are.means o };
@@ -51,13 +51,13 @@ zones_same w zs t u same become = record {
 }
 
 -- what is written turns the rows of receipts into those of another state's
-pub record ReceiptsBecome (w : WritingOf) (receipts : List ReceiptAt) (t : State) : Type 0 where
+pub record ReceiptsBecome (w : BatchOf) (receipts : List ReceiptAt) (t : State) : Type 0 where
   pub after : List ReceiptAt
   pub are : ReceiptsAre after t
   pub receipt_rows : IsPermutation (map row_of_receipt after) (map row_of_receipt receipts ++ w.receipts)
 
 -- then it leads from the one state to the other
-pub leads : (w : WritingOf) (s t : State) → w.version ≡ None → ((zs : List ZoneRows) → ZonesAre zs s → ZonesBecome w zs t)
+pub leads : (w : BatchOf) (s t : State) → w.version ≡ None → ((zs : List ZoneRows) → ZonesAre zs s → ZonesBecome w zs t)
     → ((receipts : List ReceiptAt) → ReceiptsAre receipts s → ReceiptsBecome w receipts t) → Leads w s t
 leads w s t none zones receipts version rows are =
     let z = zones are.content.zones (record { apart = are.is_content.zones_apart; each = are.is_content.zones; means = are.means.zones }) in
@@ -81,7 +81,7 @@ pub unchanged : {X : Type 0} (xs : List X) → IsPermutation xs (xs ++ [])
 unchanged xs = IsPermutation-same xs (xs ++ []) (sym (append-nil xs))
 
 -- zones as they were, with receipts beside them
-pub zones_stay : (rows : List ReceiptRowOf) (s t : State) → t.zones ≡ s.zones → (zs : List ZoneRows) → ZonesAre zs s → ZonesBecome (receipts_writing rows) zs t
+pub zones_stay : (rows : List ReceiptRowOf) (s t : State) → t.zones ≡ s.zones → (zs : List ZoneRows) → ZonesAre zs s → ZonesBecome (receipts_batch rows) zs t
 zones_stay rows s t same zs are = record {
   after = zs;
   are = record { apart = are.apart; each = are.each; means = λ o. ap (λ f. f o) same ∙ are.means o };
@@ -91,7 +91,7 @@ zones_stay rows s t same zs are = record {
 }
 
 -- receipts as they were
-pub receipts_stay : (w : WritingOf) (s t : State) → w.receipts ≡ [] → t.receipts ≡ s.receipts → (receipts : List ReceiptAt) → ReceiptsAre receipts s → ReceiptsBecome w receipts t
+pub receipts_stay : (w : BatchOf) (s t : State) → w.receipts ≡ [] → t.receipts ≡ s.receipts → (receipts : List ReceiptAt) → ReceiptsAre receipts s → ReceiptsBecome w receipts t
 receipts_stay w s t none same receipts are = record {
   after = receipts;
   are = record { apart = are.apart; each = are.each; means = λ caller id. ap (λ f. f caller id) same ∙ are.means caller id };
@@ -100,7 +100,7 @@ receipts_stay w s t none same receipts are = record {
 
 -- ---- one receipt more
 
-pub receipt_more : (w : WritingOf) (s t : State) (r : ReceiptAt) → w.receipts ≡ row_of_receipt r ∷ [] → t.receipts ≡ (keep s r.caller r.id r.receipt).receipts → IsReceiptAt r → s.receipts r.caller r.id ≡ None
+pub receipt_more : (w : BatchOf) (s t : State) (r : ReceiptAt) → w.receipts ≡ row_of_receipt r ∷ [] → t.receipts ≡ (keep s r.caller r.id r.receipt).receipts → IsReceiptAt r → s.receipts r.caller r.id ≡ None
     → (receipts : List ReceiptAt) → ReceiptsAre receipts s → ReceiptsBecome w receipts t
 receipt_more w s t r one same is fresh receipts are = record {
   after = r ∷ receipts;

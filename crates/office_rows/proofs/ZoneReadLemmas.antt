@@ -1,17 +1,17 @@
 -- Zones, parts of zones and subtrees that are read from their rows.
-use Rattle.std.proofs.Common.{◌≡◌, ℕ, Bool, true, false, not, List, [], ◌∷◌, map, filter, Option, Some, None, Result, Ok, IsPermutation, IsSorted, refl, sym, ap, subst, ◌∙◌, ◌&&◌, ◌||◌}
+use Rattle.std.proofs.Common.{◌≡◌, ℕ, Bool, true, false, cond, not, List, [], ◌∷◌, map, filter, Option, Some, None, Result, Ok, Err, IsPermutation, IsSorted, refl, sym, ap, subst, ◌∙◌, ◌&&◌, ◌||◌}
 use Rattle.std.proofs.lemmas.Bool.{and_parts, and_from}
 use Rattle.std.proofs.lemmas.List.{append-nil}
 use Rattle.std.proofs.lemmas.List.Sorted.{IsPermutation-sym, IsPermutation-trans}
 use Rattle.std.specs.Prelude.{ℤ, bytes_eq}
 use Rattle.std.specs.FinMap.{find}
-use Rattle.std.specs.List.{AllByRecursion, Contains, list_any}
+use Rattle.std.specs.List.{AllByRecursion, Contains, list_all, list_any}
 use Rattle.std.specs.List.Sorted.{IsStrictlySortedBy}
 use Rattle.std.specs.declared.cmp.Ordering.{Ordering}
 use Rattle.std.specs.declared.cmp.Ordering.TheVariants.{Less, Equal, Greater}
 use Rattle.std.specs.Ordering.{is_lt, is_le, nat_cmp, ordering_reverse}
 use Rattle.std.specs.Cmp.Lexicographic.{slice_cmp, nat_list_cmp_total}
-use Rattle.sqlite_keyed.proofs.ListLemmas.{filter-map, filter_same, all_weaker, all-filter}
+use Rattle.sqlite_keyed.proofs.ListLemmas.{filter-map, filter_same, all_weaker, all-filter, test_from_all}
 use Rattle.sqlite_keyed.proofs.SortLemmas.{sorted_unique}
 use Rattle.sqlite_trees.specs.Tree.{IsAscending}
 use Rattle.sqlite_trees.proofs.ListLemmas.{pull_back}
@@ -31,7 +31,10 @@ use Rattle.zone_core.specs.Sets as records
 use Rattle.zone_core.specs.declared.refusals.ZoneFault.{ZoneFault}
 use Rattle.zone_core.specs.declared.refusals.ZoneFault.TheVariants as faults
 use Rattle.zone_core.specs.Faults as zone_faults
-use Rattle.office_rows.specs.RowFaults.{Refuses, of_zone, of_zones}
+use Rattle.office_rows.specs.declared.row_fault.RowFault.TheVariants.{BadRow}
+use Rattle.office_rows.specs.RowFaults.{◌>>=◌, Refuses, of_zone, of_zones}
+use Rattle.office_rows.specs.RowReading.{each_read, record_in, zone_by}
+use Rattle.office_rows.proofs.StoredLaws.{rows_stored}
 use Rattle.zone_core.specs.Zones.{ZoneOf, IsZone, built, unless_fault, fault_in, evened, latest}
 use Rattle.zone_core.specs.Views.{zone_in, AreOfZone}
 use Rattle.zone_core.specs.Parts.{part_of, at_names}
@@ -95,7 +98,7 @@ module _ (o : Labels) (named : IsName o) (zs : List Record) (is : AreOfZone o zs
       let same = record_rows_are_apart o o r x named named (record_of o zs r is h) (record_of o zs x is also) found.2 in
       contains_had rs r (subst (Has rs) (sym same.1) found.1)
 
-  pub rows_read : AreReadOf o zs rows
+  rows_read : AreReadOf o zs rows
   rows_read =
       let c = chosen (Has zs) (record_row o) rows (all_weaker (λ r. Contains (map (record_row o) zs) r) (λ row. (r : Record) × Has zs r × (row ≡ record_row o r)) image rows of.inside) in
       record {
@@ -109,7 +112,7 @@ module _ (o : Labels) (named : IsName o) (zs : List Record) (is : AreOfZone o zs
       }
 
   -- each row has the text of the origin
-  pub rows_here : AllByRecursion (λ r. bytes_eq r.origin (name_text o) ≡ true) rows
+  rows_here : AllByRecursion (λ r. bytes_eq r.origin (name_text o) ≡ true) rows
   rows_here =
       all_weaker (λ r. Contains (map (record_row o) zs) r) (λ r. bytes_eq r.origin (name_text o) ≡ true)
       (λ row c. let i = image row c in bytes_same row.origin (name_text o) (ap (λ (r : RecordRowOf). r.origin) i.2)) rows of.inside
@@ -122,8 +125,26 @@ origin_of origin set (Some fault) zone e = absurd cc
 pub built_at : (origin : Labels) (rs : List Record) (zone : ZoneOf) → built origin rs ≡ Ok zone → zone.origin ≡ origin
 built_at origin rs zone e = origin_of origin (evened (latest rs)) (fault_in origin (evened (latest rs))) zone e
 
-pub built_is : (zone : ZoneOf) (rs : List Record) → IsZone zone → AreAllOf rs zone.records → built zone.origin rs ≡ Ok zone
+built_is : (zone : ZoneOf) (rs : List Record) → IsZone zone → AreAllOf rs zone.records → built zone.origin rs ≡ Ok zone
 built_is = zones_are_rebuilt
+
+abbrev of_origin : Labels → RecordRowOf → Bool
+of_origin o r = bytes_eq r.origin (name_text o)
+
+-- rows of which one is of another origin
+pub of_other : (o : Labels) (rows : List RecordRowOf) → list_all (of_origin o) rows ≡ false → zone_by o rows ≡ Err BadRow
+of_other o rows e = ap (λ b. cond b (each_read record_in rows >>= λ rs. of_zones (built o rs)) (Err BadRow)) e
+
+pub of_own : (o : Labels) (rows : List RecordRowOf) → list_all (of_origin o) rows ≡ true → zone_by o rows ≡ (each_read record_in rows >>= λ rs. of_zones (built o rs))
+of_own o rows e = ap (λ b. cond b (each_read record_in rows >>= λ rs. of_zones (built o rs)) (Err BadRow)) e
+
+-- the rows of a zone are read as it
+pub zone_stored : (o : Labels) → IsName o → (zs : List Record) → AreOfZone o zs → (rows : List RecordRowOf) → AreRowsOf o zs rows → zone_by o rows ≡ Ok (zone_in o zs)
+zone_stored o named zs is rows of =
+    let read = rows_read o named zs is rows of in
+    of_own o rows (test_from_all (of_origin o) rows (rows_here o named zs is rows of))
+    ∙ ap (λ r. r >>= λ rs. of_zones (built o rs)) (ap (each_read record_in) read.rows_are ∙ rows_stored o read.records read.each)
+    ∙ ap of_zones (built_is (zone_in o zs) read.records is.zone read.all)
 
 -- rows of a zone in some order are its rows
 pub rows_moved : (o : Labels) (zs : List Record) (rows : List RecordRowOf) → IsPermutation (map (record_row o) zs) rows → AreRowsOf o zs rows
@@ -297,6 +318,10 @@ module _ (o top : Labels) (zs : List Record) (all rows : List RecordRowOf) (at :
         rows_are = to.2;
         each = all_permutation IsRecord own to.0 to.1 (all-filter IsRecord (λ r. is_within r.owner top) zs (records_of_zone o zs at.zone));
       }
+
+  -- they are what the rows are read as
+  pub subtree_stored : each_read record_in rows ≡ Ok subtree_read.records
+  subtree_stored = ap (each_read record_in) subtree_read.rows_are ∙ rows_stored o subtree_read.records subtree_read.each
 
   own_up : IsAscending Below own
   own_up = order_up own (InOrder-filter (λ r. is_within r.owner top) zs at.zone.order)

@@ -101,14 +101,14 @@ follows_in_number a b = if same_name a.origin b.origin then (b.number == a.numbe
 abbrev pub follows : ChangedRecord → ChangedRecord → Bool
 follows a b = is_lt (changed_order a b) && follows_in_number a b
 
-abbrev pub are_behind : ChangedRecord → List ChangedRecord → Bool
-are_behind a [] = true
-are_behind a (b ∷ bs) = follows a b && are_behind b bs
+abbrev pub follow_in_turn : ChangedRecord → List ChangedRecord → Bool
+follow_in_turn a [] = true
+follow_in_turn a (b ∷ bs) = follows a b && follow_in_turn b bs
 
 -- in order, each once, and numbered from 1 in each zone without a gap
 abbrev pub are_numbered : List ChangedRecord → Bool
 are_numbered [] = true
-are_numbered (c ∷ cs) = (c.number == 1) && are_behind c cs
+are_numbered (c ∷ cs) = (c.number == 1) && follow_in_turn c cs
 
 -- all of one zone
 abbrev pub are_of_one : List ChangedRecord → Bool

@@ -19,7 +19,7 @@ use Rattle.office_rows.specs.declared.row_fault.RowFault.TheVariants.{BadRow, No
 use Rattle.office_rows.specs.RecordRows.{record_row}
 use Rattle.office_rows.specs.ChangeRows.{are_numbered}
 use Rattle.office_rows.specs.Contents.{ZoneRows, ReceiptAt, zone_records, zone_changes, row_of_receipt, IsZoneRows, IsReceiptAt}
-use Rattle.office_rows.specs.declared.ordered.KeptReceipt.{KeptReceipt}
+use Rattle.office_rows.specs.declared.ordered.CallerReceipt.{CallerReceipt}
 use Rattle.office_rows.specs.declared.ordered.ZoneRecord.{ZoneRecord}
 
 -- ---- table by table
@@ -80,28 +80,28 @@ pub zone_record_total : IsTotalOrder zone_record_order
 zone_record_total = then_total (on_total (λ r. r.origin) canonical_total) (on_total (λ r. r.rr) record_order_total)
 
 -- a receipt with its caller and its identifier
-abbrev pub receipt_at : KeptReceipt → ReceiptAt
+abbrev pub receipt_at : CallerReceipt → ReceiptAt
 receipt_at k = record { caller = k.caller; id = k.id; receipt = k.receipt }
 
 -- the row of such a receipt
-abbrev pub row_of_kept : KeptReceipt → ReceiptRowOf
-row_of_kept k = row_of_receipt (receipt_at k)
+abbrev pub row_of_caller_receipt : CallerReceipt → ReceiptRowOf
+row_of_caller_receipt k = row_of_receipt (receipt_at k)
 
 -- what every such receipt is
-abbrev pub IsKept : KeptReceipt → Type 0
-IsKept k = IsReceiptAt (receipt_at k)
+abbrev pub IsCallerReceipt : CallerReceipt → Type 0
+IsCallerReceipt k = IsReceiptAt (receipt_at k)
 
 -- a row of such a receipt
 abbrev pub IsReceiptRow : ReceiptRowOf → Type 0
 IsReceiptRow row = (r : ReceiptAt) × IsReceiptAt r × (row ≡ row_of_receipt r)
 
 -- by caller, and then by identifier
-abbrev pub kept_order : KeptReceipt → KeptReceipt → Ordering
-kept_order = then_cmp (on (λ k. k.caller) (slice_cmp nat_cmp)) (on (λ k. k.id) (slice_cmp nat_cmp))
+abbrev pub caller_receipt_order : CallerReceipt → CallerReceipt → Ordering
+caller_receipt_order = then_cmp (on (λ k. k.caller) (slice_cmp nat_cmp)) (on (λ k. k.id) (slice_cmp nat_cmp))
 
 -- which is a total order
-pub kept_total : IsTotalOrder kept_order
-kept_total = then_total (on_total (λ k. k.caller) nat_list_cmp_total) (on_total (λ k. k.id) nat_list_cmp_total)
+pub caller_receipt_total : IsTotalOrder caller_receipt_order
+caller_receipt_total = then_total (on_total (λ k. k.caller) nat_list_cmp_total) (on_total (λ k. k.id) nat_list_cmp_total)
 
 -- ---- zone by zone
 

@@ -10,4 +10,4 @@ pub mod Orders
 pub mod PartRows
 pub mod States
 pub mod Checks
-pub mod Writings
+pub mod Batches

@@ -1,9 +1,9 @@
--- What rows say. A text is read only in its one spelling: what it is read as is spelled again, and compared with it.
-use Rattle.std.specs.Prelude.{ℕ, ◌^◌, ◌-◌, ℤ, pos, negsuc, List, [], ◌∷◌, length, map, Bool, ◌&&◌, ◌==◌, nat_le, nat_lt, if◌then◌else◌, Option, Some, None, Result, Ok, Err, bytes_eq}
+-- What rows say. Whether a row is the one row of what it is read as is another question.
+use Rattle.std.specs.Prelude.{◌≡◌, ℕ, ◌^◌, ◌-◌, ℤ, pos, negsuc, List, [], ◌∷◌, length, map, Bool, ◌&&◌, ◌==◌, nat_le, nat_lt, if◌then◌else◌, Option, Some, None, Result, Ok, Err, bytes_eq}
 use Rattle.std.specs.List.{find, list_all}
+use Rattle.std.specs.List.Sorted.{IsPermutation, IsSorted}
 use Rattle.std.specs.Ordering.{int_eq}
 use Rattle.std.specs.Str.Parse.{digits_value}
-use Rattle.dns_names.specs.Keys.{key_of}
 use Rattle.dns_names.specs.Reading.{absolute_name}
 use Rattle.dns_names.specs.Spelling.{name_text}
 use Rattle.dns_data.specs.declared.rdata.Data.{Data}
@@ -24,19 +24,21 @@ use Rattle.zone_core.specs.declared.update.ItemList.TheVariants as lists
 use Rattle.zone_core.specs.Rcodes.{rcode_text}
 use Rattle.zone_core.specs.Updates.{UpdateOf, place_in}
 use Rattle.zone_core.specs.Prerequisites.{failed}
+use Rattle.zone_core.specs.Zones.{ZoneOf, built}
 use Rattle.office_core.specs.declared.receipt.Receipt.{Receipt}
 use Rattle.office_core.specs.declared.reply.UpdateReply.{UpdateReply}
 use Rattle.office_core.specs.declared.reply.UpdateReply.TheVariants.{NoError, NotAuth, NotZone, Refused, Failed}
 use Rattle.office_sql.specs.Rows.{RecordRowOf, ReceiptRowOf, ChangeRowOf}
+use Rattle.office_core.specs.States.{ChangeOf}
+use Rattle.office_rows.specs.ChangeRows.{changed_order, are_of_one, are_numbered, gathered}
 use Rattle.office_rows.specs.declared.changes.ChangedRecord.{ChangedRecord}
 use Rattle.office_rows.specs.declared.row_fault.RowFault.{RowFault}
 use Rattle.office_rows.specs.declared.row_fault.RowFault.TheVariants.{BadRow}
 use Rattle.office_rows.specs.declared.side.Side.{Side}
 use Rattle.office_rows.specs.declared.side.Side.TheVariants as sides
-use Rattle.office_rows.specs.RowFaults.{◌>>=◌, of_names, of_datas, of_masters, of_updates_in, canonical}
+use Rattle.office_rows.specs.RowFaults.{◌>>=◌, of_names, of_datas, of_masters, of_updates_in, of_zones, canonical}
 use Rattle.item_lines.specs.Reading.{items_of}
-use Rattle.item_lines.specs.Texts.{update_text}
-use Rattle.office_rows.specs.ReplyWords.{list_word, reply_words}
+use Rattle.office_rows.specs.ReplyWords.{list_word}
 
 -- what is found, or that a row is none
 abbrev pub or_bad : {A : Type 0} → Option A → Result A RowFault
@@ -46,6 +48,10 @@ or_bad (Some x) = Ok x
 -- ---- columns
 
 -- a name
+abbrev pub name_from : List ℕ → Result (List (List ℕ)) RowFault
+name_from text = of_names (absolute_name text)
+
+-- a name by its canonical text
 abbrev pub name_in : List ℕ → Result (List (List ℕ)) RowFault
 name_in text = of_names (absolute_name text) >>= λ name. canonical (name_text name) text name
 
@@ -63,6 +69,10 @@ type_in (pos n) = or_bad (find (λ t. type_number t == n) kept_types)
 type_in (negsuc n) = Err BadRow
 
 -- data of a type
+abbrev pub data_from : RecordType → List ℕ → Result Data RowFault
+data_from record_type text = fields_of text >>= λ items. of_datas (data_of record_type None items)
+
+-- data of a type by their canonical text
 abbrev pub data_in : RecordType → List ℕ → Result Data RowFault
 data_in record_type text =
     fields_of text >>= λ items. of_datas (data_of record_type None items) >>= λ rdata. canonical (data_text rdata) text rdata
@@ -86,19 +96,20 @@ side_in n = if int_eq n (pos 0) then Ok sides.Removed else (if int_eq n (pos 1) 
 -- ---- records
 
 -- a record by its columns
+abbrev pub record_from : List ℕ → ℤ → List ℕ → ℤ → Result Record RowFault
+record_from owner record_type rdata ttl =
+    name_from owner >>= λ name. type_in record_type >>= λ t. ttl_in ttl >>= λ seconds. data_from t rdata >>= λ made.
+    Ok (record { owner = name; ttl = seconds; rdata = made })
+
+-- and by columns in canonical text
 abbrev pub record_at : List ℕ → ℤ → List ℕ → ℤ → Result Record RowFault
 record_at owner record_type rdata ttl =
     name_in owner >>= λ name. type_in record_type >>= λ t. ttl_in ttl >>= λ seconds. data_in t rdata >>= λ made.
     Ok (record { owner = name; ttl = seconds; rdata = made })
 
--- a record with this key of its owner
-abbrev pub with_key : List (List ℕ) → List ℕ → Record → Result (List (List ℕ) × Record) RowFault
-with_key origin key r = if bytes_eq (key_of r.owner) key then Ok (origin, r) else Err BadRow
-
--- the origin and the record of a row
-abbrev pub record_in : RecordRowOf → Result (List (List ℕ) × Record) RowFault
-record_in row =
-    name_in row.origin >>= λ origin. record_at row.owner row.record_type row.rdata row.ttl >>= λ r. with_key origin row.owner_key r
+-- the record of a row, whatever its origin
+abbrev pub record_in : RecordRowOf → Result Record RowFault
+record_in row = record_from row.owner row.record_type row.rdata row.ttl
 
 -- ---- replies
 
@@ -153,20 +164,19 @@ reply_of words = Err BadRow
 
 -- a reply
 abbrev pub reply_in : List ℕ → Result UpdateReply RowFault
-reply_in text = fields_of text >>= λ items. reply_of (map (λ i. i.raw) items) >>= λ reply. canonical (reply_words reply) text reply
+reply_in text = fields_of text >>= λ items. reply_of (map (λ i. i.raw) items)
 
 -- ---- receipts
 
 -- an update by its item lines
 abbrev pub request_in : List ℕ → Result UpdateOf RowFault
-request_in text = of_updates_in (items_of text) >>= λ update. canonical (update_text update) text update
+request_in text = of_updates_in (items_of text)
 
--- the caller, the identifier and the receipt of a row
-abbrev pub receipt_in : ReceiptRowOf → Result (List ℕ × (List ℕ × Receipt)) RowFault
+-- the receipt of a row, whatever its caller and identifier
+abbrev pub receipt_in : ReceiptRowOf → Result Receipt RowFault
 receipt_in row =
-    identifier_in row.caller >>= λ caller. identifier_in row.id >>= λ id. name_in row.origin >>= λ origin.
-    request_in row.request >>= λ update. reply_in row.reply >>= λ reply.
-    Ok (caller, (id, record { origin = origin; update = update; reply = reply }))
+    name_from row.origin >>= λ origin. request_in row.request >>= λ update. reply_in row.reply >>= λ reply.
+    Ok (record { origin = origin; update = update; reply = reply })
 
 -- ---- changes
 
@@ -178,6 +188,37 @@ number_in (negsuc n) = Err BadRow
 -- what a row has
 abbrev pub changed_in : ChangeRowOf → Result ChangedRecord RowFault
 changed_in row =
-    name_in row.origin >>= λ origin. number_in row.number >>= λ number. side_in row.side >>= λ side.
-    record_at row.owner row.record_type row.rdata row.ttl >>= λ r.
+    name_from row.origin >>= λ origin. number_in row.number >>= λ number. side_in row.side >>= λ side.
+    record_from row.owner row.record_type row.rdata row.ttl >>= λ r.
     Ok (record { origin = origin; number = number; side = side; changed = r })
+
+-- ---- rows of one kind
+
+-- what each of them is read as, in their order
+abbrev pub each_read : {X Y : Type 0} → (X → Result Y RowFault) → List X → Result (List Y) RowFault
+each_read read [] = Ok []
+each_read read (row ∷ rows) = read row >>= λ x. each_read read rows >>= λ xs. Ok (x ∷ xs)
+
+-- the zone of an origin by rows, all of which are of it
+abbrev pub zone_by : List (List ℕ) → List RecordRowOf → Result ZoneOf RowFault
+zone_by origin rows =
+    if list_all (λ r. bytes_eq r.origin (name_text origin)) rows then (each_read record_in rows >>= λ rs. of_zones (built origin rs)) else Err BadRow
+
+-- the receipt by rows of which there is at most one
+abbrev pub receipt_by : List ReceiptRowOf → Result (Option Receipt) RowFault
+receipt_by [] = Ok None
+receipt_by (row ∷ []) = receipt_in row >>= λ receipt. Ok (Some receipt)
+receipt_by (row ∷ more) = Err BadRow
+
+-- the changes of what rows have, in order, if it is that of the rows of the changes of one zone
+abbrev pub changes_among : List ChangedRecord → Result (List ChangeOf) RowFault
+changes_among cs = if are_of_one cs && are_numbered cs then Ok (gathered cs) else Err BadRow
+
+-- changes have what each of the rows says, in order
+pub record AreStoredIn (rows : List ChangeRowOf) (changes : List ChangeOf) : Type 0 where
+  pub changed : List ChangedRecord
+  pub sorted : List ChangedRecord
+  pub each : each_read changed_in rows ≡ Ok changed
+  pub same : IsPermutation changed sorted
+  pub order : IsSorted changed_order sorted
+  pub are : changes_among sorted ≡ Ok changes

@@ -7,8 +7,8 @@ use Rattle.zone_core.specs.declared.refusals.ZoneFault.{ZoneFault}
 use Rattle.zone_core.specs.declared.refusals.ZoneFault.TheVariants as zones
 use Rattle.zone_core.specs.Faults.{zone_fault_number}
 use Rattle.office_sql.specs.Faults.{fault_of}
-use Rattle.office_sql.specs.declared.fault.RowsFault.{RowsFault}
-use Rattle.office_sql.specs.declared.fault.RowsFault.TheVariants as tables
+use Rattle.office_sql.specs.declared.rows_fault.RowsFault.{RowsFault}
+use Rattle.office_sql.specs.declared.rows_fault.RowsFault.TheVariants as tables
 use Rattle.office_rows.specs.declared.row_fault.RowFault.{RowFault}
 use Rattle.office_rows.specs.declared.row_fault.RowFault.TheVariants as rows
 use Rattle.office_rows.specs.declared.store_fault.StoreFault.{StoreFault}

@@ -1,6 +1,6 @@
 //! The rows of `changes`.
 
-ghost use Rattle.std.specs.Prelude.{◌≡◌, ◌++◌, ℕ, pos, Ok, IfOk, OnOk, map};
+ghost use Rattle.std.specs.Prelude.{◌≡◌, ◌↔◌, ◌++◌, ℕ, pos, true, Ok, IfOk, OnOk, map};
 ghost use Rattle.dns_names.specs.Labels.{IsName};
 ghost use Rattle.dns_data.specs.Rdata.{IsRecord};
 ghost use Rattle.office_core.specs.Tables.{change_in};
@@ -9,7 +9,7 @@ ghost use Rattle.office_rows.specs.ChangeRows.{change_row, change_rows, row_of, 
 ghost use Rattle.office_rows.specs.RowFaults.{Reads};
 ghost use Rattle.office_rows.specs.RowReading.{number_in, changed_in};
 
-use crate::columns::{name_in, record_at};
+use crate::columns::{name_from, record_from};
 use crate::row_fault::RowFault;
 use crate::side::Side;
 use dns_data::{Record, data_text};
@@ -101,7 +101,32 @@ pub(crate) fn read_change(alloc: Global, row: &ChangeRow) -> Result<ChangedRecor
     // The row of such a record is read as it, unless memory runs out.
     ensures only { (c : Changed) → IsChanged c → row.now ≡ row_of c → Reads (λ read. read) result (Ok c) }
 {
-    changed_in(alloc, row)
+    let read = stored_change(alloc, row)?;
+    let again = row_again(alloc, row, &read)?;
+    if !are_same(&again, row) {
+        return Err(RowFault::BadRow);
+    }
+    Ok(read)
+}
+
+/// The row of what was read of another one. The only error is want of memory.
+fn row_again(alloc: Global, row: &ChangeRow, read: &ChangedRecord) -> Result<ChangeRow, AllocError>
+    ensures { row.now.number ≡ pos read.now.number → IfOk result (λ again. again ≡ row_of read.now) }
+{
+    change_row(alloc, &read.origin, row.number, read.side, &read.changed)
+}
+
+/// Whether two rows have the same columns.
+fn are_same(first: &ChangeRow, second: &ChangeRow) -> bool
+    ensures { (result ≡ true) ↔ (first.now ≡ second.now) }
+{
+    first.origin == second.origin
+        && first.number == second.number
+        && first.side == second.side
+        && first.owner == second.owner
+        && first.record_type == second.record_type
+        && first.rdata == second.rdata
+        && first.ttl == second.ttl
 }
 
 /// The number of a change, which counts from 1.
@@ -114,16 +139,16 @@ fn number_in(number: i64) -> Result<u64, RowFault>
     }
 }
 
-/// What a row has.
-fn changed_in(alloc: Global, row: &ChangeRow) -> Result<ChangedRecord, RowFault>
+/// What a row has that is known to be that of a record on a side of a change. Its spelling is not looked at.
+pub(crate) fn stored_change(alloc: Global, row: &ChangeRow) -> Result<ChangedRecord, RowFault>
     ensures origin { IfOk result (λ c. IsName c.origin) }
     ensures record { IfOk result (λ c. IsRecord c.changed) }
     ensures exact { Reads (λ c. c) result (changed_in row.now) }
 {
-    let origin = name_in(alloc, row.origin.as_str())?;
+    let origin = name_from(alloc, row.origin.as_str())?;
     let number = number_in(row.number)?;
     let side = Side::of_number(row.side)?;
-    let changed = record_at(
+    let changed = record_from(
         alloc,
         row.owner.as_str(),
         row.record_type,

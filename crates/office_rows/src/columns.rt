@@ -1,4 +1,4 @@
-//! Columns of rows: names, types, data, TTLs and identifiers, each as its one text or number.
+//! Columns of rows: names, types, data, TTLs and identifiers.
 
 ghost use Rattle.std.specs.Prelude.{◌≡◌, ◌==◌, List, ℕ, Ok, map, IfOk};
 ghost use Rattle.std.specs.List.{find};
@@ -8,10 +8,10 @@ ghost use Rattle.dns_data.specs.Items.{item_of};
 ghost use Rattle.dns_data.specs.Rdata.{IsRecord};
 ghost use Rattle.dns_data.specs.Types.{kept_types, type_number};
 ghost use Rattle.office_rows.specs.RowFaults.{Reads};
-ghost use Rattle.office_rows.specs.RowReading.{name_in, fields_of, type_in, data_in, ttl_in, identifier_in, record_at};
+ghost use Rattle.office_rows.specs.RowReading.{name_from, fields_of, type_in, data_from, ttl_in, identifier_in, record_from};
 
 use crate::row_fault::RowFault;
-use dns_data::{Data, Item, Record, RecordType, Ttl, data_text, read_data};
+use dns_data::{Data, Item, Record, RecordType, Ttl, read_data};
 use dns_master::tokens;
 use dns_names::Name;
 use grant_policy::Identifier;
@@ -26,19 +26,19 @@ pub fn read_origin(alloc: Global, text: &str) -> Result<Name, RowFault>
     // The text of a name is read as this name, unless memory runs out.
     ensures only { (name : List (List ℕ)) → IsName name → text.now ≡ name_text name → Reads (λ read. read) result (Ok name) }
 {
-    name_in(alloc, text)
-}
-
-/// The name of a canonical text.
-pub(crate) fn name_in(alloc: Global, text: &str) -> Result<Name, RowFault>
-    ensures name { IfOk result IsName }
-    ensures exact { Reads (λ name. name) result (name_in text.now) }
-{
-    let name = Name::read_absolute(alloc, text.as_bytes())?;
+    let name = name_from(alloc, text)?;
     if name.text(alloc)?.as_str() != text {
         return Err(RowFault::BadRow);
     }
     Ok(name)
+}
+
+/// The name of a text.
+pub(crate) fn name_from(alloc: Global, text: &str) -> Result<Name, RowFault>
+    ensures name { IfOk result IsName }
+    ensures exact { Reads (λ name. name) result (name_from text.now) }
+{
+    Ok(Name::read_absolute(alloc, text.as_bytes())?)
 }
 
 /// The items of a text (RFC 1035 section 5.1).
@@ -69,16 +69,12 @@ fn type_in(number: i64) -> Result<RecordType, RowFault>
     }
 }
 
-/// The data of a type and a canonical text.
-fn data_in(alloc: Global, record_type: RecordType, text: &str) -> Result<Data, RowFault>
-    ensures { Reads (λ made. made) result (data_in record_type text.now) }
+/// The data of a type by a text.
+fn data_from(alloc: Global, record_type: RecordType, text: &str) -> Result<Data, RowFault>
+    ensures { Reads (λ made. made) result (data_from record_type text.now) }
 {
     let items = fields_of(alloc, text)?;
-    let rdata = read_data(alloc, record_type, &items, None)?;
-    if data_text(alloc, &rdata)?.as_str() != text {
-        return Err(RowFault::BadRow);
-    }
-    Ok(rdata)
+    Ok(read_data(alloc, record_type, &items, None)?)
 }
 
 /// The TTL of so many seconds.
@@ -92,7 +88,7 @@ fn ttl_in(seconds: i64) -> Result<Ttl, RowFault>
 }
 
 /// The record of columns.
-pub(crate) fn record_at(
+pub(crate) fn record_from(
     alloc: Global,
     owner: &str,
     record_type: i64,
@@ -100,12 +96,12 @@ pub(crate) fn record_at(
     ttl: i64,
 ) -> Result<Record, RowFault>
     ensures record { IfOk result IsRecord }
-    ensures exact { Reads (λ r. r) result (record_at owner.now record_type rdata.now ttl) }
+    ensures exact { Reads (λ r. r) result (record_from owner.now record_type rdata.now ttl) }
 {
-    let owner = name_in(alloc, owner)?;
+    let owner = name_from(alloc, owner)?;
     let record_type = type_in(record_type)?;
     let ttl = ttl_in(ttl)?;
-    let rdata = data_in(alloc, record_type, rdata)?;
+    let rdata = data_from(alloc, record_type, rdata)?;
     let rr = Record { owner, ttl, rdata };
     // the proof needs that it is a record
     let _ = rr.record_type();

@@ -7,10 +7,11 @@ ghost use Rattle.dns_names.specs.Labels.{IsName};
 ghost use Rattle.dns_names.specs.Order.{same_name};
 ghost use Rattle.office_core.specs.States.{ChangeOf};
 ghost use Rattle.office_core.specs.Tables.{change_in};
-ghost use Rattle.office_rows.specs.ChangeRows.{changes_rows, IsChange, IsChanged, IsChangeRow, row_of, changed_order, follows, follows_in_number, are_behind, are_numbered, are_of_one, with_record, opened, placed, gathered};
+ghost use Rattle.office_rows.specs.ChangeRows.{changes_rows, IsChange, IsChanged, IsChangeRow, row_of, changed_order, follows, follows_in_number, follow_in_turn, are_numbered, are_of_one, with_record, opened, placed, gathered};
 ghost use Rattle.office_rows.specs.RowFaults.{Reads};
+ghost use Rattle.office_rows.specs.RowReading.{each_read, changed_in, changes_among, AreStoredIn};
 
-use crate::changes::{ChangedRecord, read_change};
+use crate::changes::{ChangedRecord, read_change, stored_change};
 use crate::row_fault::RowFault;
 use crate::side::Side;
 use dns_data::{Record, record_order};
@@ -30,10 +31,40 @@ pub fn read_changes(alloc: Global, rows: Vec<ChangeRow>) -> Result<Vec<Change>, 
     ensures only { (origin : List (List ℕ)) (changes : List ChangeOf) → IsName origin → AllByRecursion IsChange changes → IsPermutation (changes_rows origin 1 changes) rows.items → Reads (λ cs. map change_in cs.items) result (Ok changes) }
 {
     let changed = sorted_changes(alloc, &rows)?;
+    changes_among(alloc, changed)
+}
+
+/// Reads the rows of the changes of one zone that are known to be those of changes, in any order, as its changes, the oldest first. Their
+/// spelling is not looked at.
+pub(crate) fn stored_changes(alloc: Global, rows: &[ChangeRow]) -> Result<Vec<Change>, RowFault>
+    // They have what each row says.
+    ensures found { IfOk result (λ cs. AreStoredIn rows.now (map change_in cs.items)) }
+    // The rows of the changes of a zone are read as these changes, unless memory runs out.
+    ensures only { (origin : List (List ℕ)) (changes : List ChangeOf) → IsName origin → AllByRecursion IsChange changes → IsPermutation (changes_rows origin 1 changes) rows.now → Reads (λ cs. map change_in cs.items) result (Ok changes) }
+{
+    let changed = all_stored(alloc, rows)?;
+    changes_among(alloc, in_order(changed)?)
+}
+
+/// The changes of what rows have, in order. `BadRow` comes where it is not that of the rows of the changes of one zone.
+fn changes_among(alloc: Global, changed: Vec<ChangedRecord>) -> Result<Vec<Change>, RowFault>
+    ensures { Reads (λ cs. map change_in cs.items) result (changes_among changed.items) }
+{
     if !are_changes(&changed) {
         return Err(RowFault::BadRow);
     }
     Ok(gathered(alloc, changed)?)
+}
+
+/// What each row has that is known to be that of a change.
+fn all_stored(alloc: Global, rows: &[ChangeRow]) -> Result<Vec<ChangedRecord>, RowFault>
+    ensures { Reads (λ cs. cs.items) result (each_read changed_in rows.now) }
+{
+    let mut changed = Vec::with_capacity(alloc, rows.len())?;
+    for row in rows {
+        changed.push(stored_change(alloc, row)?)?;
+    }
+    Ok(changed)
 }
 
 /// What each row has.
@@ -66,7 +97,14 @@ pub fn sorted_changes(alloc: Global, rows: &[ChangeRow]) -> Result<Vec<ChangedRe
     ensures found { IfOk result (λ cs. IsPermutation (map row_of cs.items) rows.now × AllByRecursion IsChanged cs.items × IsSorted changed_order cs.items) }
     ensures only { AllByRecursion IsChangeRow rows.now → IfErr result (λ e. e ≡ RowFault.NoMemory) }
 {
-    let mut changed = all_changed(alloc, rows)?;
+    let changed = all_changed(alloc, rows)?;
+    Ok(in_order(changed)?)
+}
+
+/// What rows have, in order. The only error is want of memory.
+fn in_order(mut changed: Vec<ChangedRecord>) -> Result<Vec<ChangedRecord>, AllocError>
+    ensures { IfOk result (λ cs. IsPermutation changed.items cs.items × IsSorted changed_order cs.items) }
+{
     changed.sort_by(|first, second| changed_order(first, second))?;
     Ok(changed)
 }
@@ -90,8 +128,8 @@ fn follows_in_number(first: &ChangedRecord, second: &ChangedRecord) -> bool
 }
 
 /// Whether each of some stands right behind the one before it, and the first behind this one.
-fn are_behind(first: &ChangedRecord, others: &[ChangedRecord]) -> bool
-    ensures { result ≡ are_behind first.now others.now }
+fn follow_in_turn(first: &ChangedRecord, others: &[ChangedRecord]) -> bool
+    ensures { result ≡ follow_in_turn first.now others.now }
 {
     let mut before = first;
     for next in others {
@@ -109,7 +147,7 @@ pub fn are_numbered(changed: &[ChangedRecord]) -> bool
 {
     match changed {
         [] => true,
-        [first, others @ ..] => first.number == 1 && are_behind(first, others),
+        [first, others @ ..] => first.number == 1 && follow_in_turn(first, others),
     }
 }
 

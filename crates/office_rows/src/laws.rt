@@ -4,7 +4,7 @@ ghost use Rattle.office_rows.specs.ChangeRows.{ChangeRowsAreApart};
 ghost use Rattle.office_rows.specs.ReceiptRows.{ReceiptRowsAreApart};
 ghost use Rattle.office_rows.specs.RecordRows.{RecordRowsAreApart, KeysAreOfRecords};
 ghost use Rattle.office_rows.specs.States.{ZonesAreListed, ZonesStandAtOrigins, LastNumbersCount, StatesAreSound, OrderDoesNotCount};
-ghost use Rattle.office_rows.specs.Writings.{NewTablesHoldNothing};
+ghost use Rattle.office_rows.specs.Batches.{NewTablesHoldNothing};
 
 /// A row of `records` is of one origin and one record; and two rows have one key, which is origin, owner, type and data, exactly
 /// where they are of one origin and of the same record (RFC 2136 section 1.1.1).

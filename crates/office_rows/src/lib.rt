@@ -3,6 +3,7 @@
 #![tactic(auto)]
 
 mod ascending;
+mod batches;
 mod changes;
 mod columns;
 mod gathering;
@@ -16,9 +17,9 @@ mod row_fault;
 mod side;
 pub mod state;
 mod store_fault;
-mod writings;
 pub mod zones;
 
+pub use batches::{addition_batch, receipt_batch, replacement_batch, zone_batch};
 pub use changes::{ChangedRecord, change_row, change_rows};
 pub use columns::{identifier_text, read_origin};
 pub use gathering::{are_numbered, read_changes, sorted_changes};
@@ -35,4 +36,3 @@ pub use row_fault::RowFault;
 pub use side::Side;
 pub use state::is_state;
 pub use store_fault::StoreFault;
-pub use writings::{addition_writing, receipt_writing, replacement_writing, zone_writing};

@@ -6,7 +6,7 @@ ghost use Rattle.std.specs.List.Sorted.{IsPermutation, IsSorted};
 ghost use Rattle.dns_names.specs.Labels.{IsName};
 ghost use Rattle.dns_names.specs.Order.{canonical_cmp};
 ghost use Rattle.dns_names.specs.Spelling.{name_text};
-ghost use Rattle.office_rows.specs.Checks.{IsOriginText, row_of_record, IsZoneRecord, IsZoneRecordRow, zone_record_order, row_of_kept, IsKept, IsReceiptRow, kept_order};
+ghost use Rattle.office_rows.specs.Checks.{IsOriginText, row_of_record, IsZoneRecord, IsZoneRecordRow, zone_record_order, row_of_caller_receipt, IsCallerReceipt, IsReceiptRow, caller_receipt_order};
 
 use crate::ascending::Ordered;
 use crate::columns::read_origin;
@@ -32,7 +32,7 @@ pub struct ZoneRecord {
 
 /// A receipt, with the caller and the identifier under which it is kept, as a row has it.
 #[derive(Drop)]
-pub(crate) struct KeptReceipt {
+pub(crate) struct CallerReceipt {
     pub(crate) caller: Identifier,
     pub(crate) id: Identifier,
     pub(crate) receipt: Receipt,
@@ -94,14 +94,14 @@ pub fn records(alloc: Global, rows: &[RecordRow]) -> Result<Vec<ZoneRecord>, Row
 }
 
 /// The receipt of each row.
-fn all_receipts(alloc: Global, rows: &[ReceiptRow]) -> Result<Vec<KeptReceipt>, RowFault>
-    ensures found { IfOk result (λ ks. (map row_of_kept ks.items ≡ rows.now) × AllByRecursion IsKept ks.items) }
+fn all_receipts(alloc: Global, rows: &[ReceiptRow]) -> Result<Vec<CallerReceipt>, RowFault>
+    ensures found { IfOk result (λ ks. (map row_of_caller_receipt ks.items ≡ rows.now) × AllByRecursion IsCallerReceipt ks.items) }
     ensures only { AllByRecursion IsReceiptRow rows.now → IfErr result (λ e. e ≡ RowFault.NoMemory) }
 {
     let mut receipts = Vec::with_capacity(alloc, rows.len())?;
     for row in rows {
         let (caller, id, receipt) = read_receipt(alloc, row)?;
-        receipts.push(KeptReceipt {
+        receipts.push(CallerReceipt {
             caller,
             id,
             receipt,
@@ -111,8 +111,8 @@ fn all_receipts(alloc: Global, rows: &[ReceiptRow]) -> Result<Vec<KeptReceipt>, 
 }
 
 /// By caller, and then by identifier.
-fn kept_order(first: &KeptReceipt, second: &KeptReceipt) -> Ordering
-    ensures { result ≡ kept_order first.now second.now }
+fn caller_receipt_order(first: &CallerReceipt, second: &CallerReceipt) -> Ordering
+    ensures { result ≡ caller_receipt_order first.now second.now }
 {
     first
         .caller
@@ -120,22 +120,22 @@ fn kept_order(first: &KeptReceipt, second: &KeptReceipt) -> Ordering
         .then(first.id.cmp(&second.id))
 }
 
-impl Ordered for KeptReceipt {
-    ghost use Rattle.office_rows.specs.Checks.{kept_order};
+impl Ordered for CallerReceipt {
+    ghost use Rattle.office_rows.specs.Checks.{caller_receipt_order};
 
-    ghost compare = { kept_order };
+    ghost compare = { caller_receipt_order };
 
-    fn compare(&self, other: &KeptReceipt) -> Ordering {
-        kept_order(self, other)
+    fn compare(&self, other: &CallerReceipt) -> Ordering {
+        caller_receipt_order(self, other)
     }
 }
 
 /// The receipts of rows of `receipts`, by caller, and then by identifier.
-pub(crate) fn receipts(alloc: Global, rows: &[ReceiptRow]) -> Result<Vec<KeptReceipt>, RowFault>
-    ensures found { IfOk result (λ ks. IsPermutation (map row_of_kept ks.items) rows.now × AllByRecursion IsKept ks.items × IsSorted kept_order ks.items) }
+pub(crate) fn receipts(alloc: Global, rows: &[ReceiptRow]) -> Result<Vec<CallerReceipt>, RowFault>
+    ensures found { IfOk result (λ ks. IsPermutation (map row_of_caller_receipt ks.items) rows.now × AllByRecursion IsCallerReceipt ks.items × IsSorted caller_receipt_order ks.items) }
     ensures only { AllByRecursion IsReceiptRow rows.now → IfErr result (λ e. e ≡ RowFault.NoMemory) }
 {
     let mut receipts = all_receipts(alloc, rows)?;
-    receipts.sort_by(|first, second| kept_order(first, second))?;
+    receipts.sort_by(|first, second| caller_receipt_order(first, second))?;
     Ok(receipts)
 }

@@ -1,33 +1,29 @@
 //! Parts of a state, read from the rows of them.
 
-ghost use Rattle.std.specs.Prelude.{◌≡◌, ℕ, ℤ, List, [], ◌∷◌, map, Ok, Some, IfOk, MatchOption, bytes_eq};
-ghost use Rattle.std.specs.List.{AllByRecursion, list_all};
+ghost use Rattle.std.specs.Prelude.{◌≡◌, ℕ, ℤ, List, ◌∷◌, map, true, Ok, Some, IfOk, bytes_eq};
+ghost use Rattle.std.specs.List.{list_all};
 ghost use Rattle.std.specs.List.Sorted.{IsPermutation};
 ghost use Rattle.dns_names.specs.Keys.{key_of};
-ghost use Rattle.dns_names.specs.Labels.{IsName};
 ghost use Rattle.dns_names.specs.Spelling.{name_text};
-ghost use Rattle.dns_data.specs.Rdata.{IsRecord};
 ghost use Rattle.dns_data.specs.RecordOrder.{record_order};
 ghost use Rattle.dns_data.specs.declared.record.Record.{Record as RecordOf};
 ghost use Rattle.zone_core.specs.Sets.{listing, part, within};
 ghost use Rattle.zone_core.specs.Zones.{ZoneOf, built};
-ghost use Rattle.zone_core.specs.Views.{zone_in, AreOfZone};
 ghost use Rattle.zone_core.specs.Parts.{part_of as zone_part, at_names};
 ghost use Rattle.office_core.specs.States.{Held, State, zone_at};
 ghost use Rattle.office_core.specs.Tables.{change_in};
 ghost use Rattle.office_sql.specs.Rows.{RowsOf};
 ghost use Rattle.office_sql.specs.Lookups.{records_of, receipts_of, changes_of as changes_in};
 ghost use Rattle.office_rows.specs.Contents.{AreOfState};
-ghost use Rattle.office_rows.specs.ReceiptRows.{receipt_row};
-ghost use Rattle.office_rows.specs.RecordRows.{record_row};
+ghost use Rattle.office_rows.specs.RowReading.{each_read, record_in, zone_by, receipt_by, AreStoredIn};
 ghost use Rattle.office_rows.specs.RowFaults.{Reads, of_zone, of_zones};
 ghost use Rattle.office_rows.specs.Orders.{rises};
-ghost use Rattle.office_rows.specs.PartRows.{AreRowsAt, AreRowsOf, rows_within};
+ghost use Rattle.office_rows.specs.PartRows.{AreRowsAt, rows_within};
 
 use crate::ascending::rise;
-use crate::gathering::read_changes;
-use crate::receipts::read_receipt;
-use crate::records::read_record;
+use crate::gathering::stored_changes;
+use crate::receipts::stored_receipt;
+use crate::records::stored_record;
 use crate::row_fault::RowFault;
 use dns_data::{Record, record_order};
 use dns_names::Name;
@@ -36,14 +32,13 @@ use office_sql::{ChangeRow, ReceiptRow, RecordRow};
 use std::alloc::Global;
 use zone_core::{Zone, ZoneFault};
 
-/// The records of rows of one zone, in the order of the rows. A row that is that of no record is `BadRow`.
+/// The records of rows, in the order of the rows. A row that is not read is `BadRow`.
 fn records_in(alloc: Global, rows: &[RecordRow]) -> Result<Vec<Record>, RowFault>
-    ensures { (origin : List (List ℕ)) (rs : List RecordOf) → IsName origin → AllByRecursion IsRecord rs → rows.now ≡ map (record_row origin) rs → Reads (λ records. records.items) result (Ok rs) }
+    ensures { Reads (λ records. records.items) result (each_read record_in rows.now) }
 {
     let mut records = Vec::with_capacity(alloc, rows.len())?;
     for row in rows {
-        let (_, record) = read_record(alloc, row)?;
-        records.push(record)?;
+        records.push(stored_record(alloc, row)?)?;
     }
     Ok(records)
 }
@@ -77,9 +72,9 @@ pub fn built(alloc: Global, origin: &Name, records: Vec<Record>) -> Result<Zone,
 }
 
 /// The zone of an origin by rows of its records, in any order and however often they come. Others are `BadRow`.
-fn zone_in(alloc: Global, origin: &Name, rows: &[RecordRow]) -> Result<Zone, RowFault>
+fn zone_by(alloc: Global, origin: &Name, rows: &[RecordRow]) -> Result<Zone, RowFault>
     ensures origin { IfOk result (λ zone. zone.origin ≡ origin.now) }
-    ensures held { (rs : List RecordOf) → IsName origin.now → AreOfZone origin.now rs → AreRowsOf origin.now rs rows.now → Reads (λ zone. zone) result (Ok (zone_in origin.now rs)) }
+    ensures exact { Reads (λ zone. zone) result (zone_by origin.now rows.now) }
 {
     let text = origin.text(alloc)?;
     if !are_of(rows, text.as_str()) {
@@ -89,22 +84,28 @@ fn zone_in(alloc: Global, origin: &Name, rows: &[RecordRow]) -> Result<Zone, Row
     built(alloc, origin, records)
 }
 
-/// The zone of an origin, by the rows of its records in any order. Rows that are those of no zone of this origin are `BadRow`.
+/// The zone of an origin, by the rows of its records in any order. Rows that are those of no zone of this origin are `BadRow`. Whether
+/// a row is in the canonical spelling is not asked: `is_state` does that.
 pub fn zone_of(alloc: Global, origin: &Name, rows: &[RecordRow]) -> Result<Zone, RowFault>
     // What is read is of the origin that was asked for, whatever the rows.
     ensures origin { IfOk result (λ zone. zone.origin ≡ origin.now) }
+    // It has what each row says: none is left out, and if one is not read there is no zone.
+    ensures exact { Reads (λ zone. zone) result (zone_by origin.now rows.now) }
     // In a state that holds the zone, the rows of its records are read as it, unless memory runs out.
     ensures held { (version : ℤ) (all : RowsOf) (s : State) (zone : ZoneOf) → AreOfState version all s → zone_at s origin.now ≡ Some zone → IsPermutation (records_of (name_text origin.now) all.records) rows.now → Reads (λ z. z) result (Ok zone) }
 {
-    zone_in(alloc, origin, rows)
+    zone_by(alloc, origin, rows)
 }
 
 /// The part of the zone of an origin that has its records at the origin and at some names, by their rows, in any order and however
-/// often they come. Rows that are those of no such part are `BadRow`.
+/// often they come. Rows that are those of no such part are `BadRow`, as `zone_of` has it.
 pub fn part_of(alloc: Global, origin: &Name, rows: &[RecordRow]) -> Result<Zone, RowFault>
-    ensures { (version : ℤ) (all : RowsOf) (s : State) (zone : ZoneOf) (names : List (List (List ℕ))) → AreOfState version all s → zone_at s origin.now ≡ Some zone → AreRowsAt (name_text origin.now) (map key_of (origin.now ∷ names)) all.records rows.now → Reads (λ z. z) result (Ok (zone_part zone (at_names origin.now names))) }
+    ensures origin { IfOk result (λ zone. zone.origin ≡ origin.now) }
+    ensures exact { Reads (λ zone. zone) result (zone_by origin.now rows.now) }
+    // In a state that holds the zone, the rows at the names are read as this part, unless memory runs out.
+    ensures held { (version : ℤ) (all : RowsOf) (s : State) (zone : ZoneOf) (names : List (List (List ℕ))) → AreOfState version all s → zone_at s origin.now ≡ Some zone → AreRowsAt (name_text origin.now) (map key_of (origin.now ∷ names)) all.records rows.now → Reads (λ z. z) result (Ok (zone_part zone (at_names origin.now names))) }
 {
-    zone_in(alloc, origin, rows)
+    zone_by(alloc, origin, rows)
 }
 
 /// Whether each record stands before the next one in record order, so that no two are the same.
@@ -114,9 +115,13 @@ pub fn are_in_order(records: &[Record]) -> bool
     rise(records)
 }
 
-/// The records of rows of one zone, in record order. A row that is that of no record is `BadRow`, and so are rows of which two are of the same record.
+/// The records of rows of one zone, in record order. A row that is not read is `BadRow`, and so are rows of which two are of the same
+/// record.
 pub fn records_within(alloc: Global, rows: &[RecordRow]) -> Result<Vec<Record>, RowFault>
-    ensures { (version : ℤ) (all : RowsOf) (s : State) (origin top : List (List ℕ)) (zone : ZoneOf) → AreOfState version all s → zone_at s origin ≡ Some zone → IsPermutation (rows_within (name_text origin) top all.records) rows.now → Reads (λ records. records.items) result (Ok (listing (part zone.records (within top)))) }
+    // They are those of all rows, in order.
+    ensures found { IfOk result (λ records. (rs : List RecordOf) × (each_read record_in rows.now ≡ Ok rs) × IsPermutation rs records.items × (rises record_order records.items ≡ true)) }
+    // In a state that holds a zone, the rows of its records within a name are read as these, unless memory runs out.
+    ensures held { (version : ℤ) (all : RowsOf) (s : State) (origin top : List (List ℕ)) (zone : ZoneOf) → AreOfState version all s → zone_at s origin ≡ Some zone → IsPermutation (rows_within (name_text origin) top all.records) rows.now → Reads (λ records. records.items) result (Ok (listing (part zone.records (within top)))) }
 {
     let mut records = records_in(alloc, rows)?;
     records.sort_by(|first, second| record_order(first, second))?;
@@ -126,27 +131,33 @@ pub fn records_within(alloc: Global, rows: &[RecordRow]) -> Result<Vec<Record>, 
     Ok(records)
 }
 
-/// The receipt of a caller under an identifier, by its row, where there is one. Another row than that of a receipt is `BadRow`, and so
-/// are two rows.
+/// The receipt of a caller under an identifier, by its row, where there is one. A row that is not read is `BadRow`, and so are two rows.
 pub fn receipt_of(alloc: Global, rows: &[ReceiptRow]) -> Result<Option<Receipt>, RowFault>
-    // There is no row, or the one row is that of what is read.
-    ensures found { IfOk result (λ found. MatchOption found (rows.now ≡ []) (λ receipt. (caller : List ℕ) × (id : List ℕ) × (rows.now ≡ receipt_row caller id receipt ∷ []))) }
+    // Nothing where there is no row, and else what the one row says.
+    ensures exact { Reads (λ receipt. receipt) result (receipt_by rows.now) }
     // In a state, the rows under an identifier of a caller are read as what it has there, unless memory runs out.
     ensures held { (version : ℤ) (all : RowsOf) (s : State) (caller id : List ℕ) → AreOfState version all s → IsPermutation (receipts_of caller id all.receipts) rows.now → Reads (λ receipt. receipt) result (Ok (s.receipts caller id)) }
 {
+    receipt_by(alloc, rows)
+}
+
+/// What at most one row says.
+fn receipt_by(alloc: Global, rows: &[ReceiptRow]) -> Result<Option<Receipt>, RowFault>
+    ensures { Reads (λ receipt. receipt) result (receipt_by rows.now) }
+{
     match rows {
         [] => Ok(None),
-        [row] => {
-            let (_, _, receipt) = read_receipt(alloc, row)?;
-            Ok(Some(receipt))
-        }
+        [row] => Ok(Some(stored_receipt(alloc, row)?)),
         _ => Err(RowFault::BadRow),
     }
 }
 
 /// The changes of a zone, the oldest first, by their rows in any order. Rows that are those of no changes are `BadRow`.
 pub fn changes_of(alloc: Global, rows: Vec<ChangeRow>) -> Result<Vec<Change>, RowFault>
-    ensures { (version : ℤ) (all : RowsOf) (s : State) (origin : List (List ℕ)) (held : Held) → AreOfState version all s → s.zones origin ≡ Some held → IsPermutation (changes_in (name_text origin) all.changes) rows.items → Reads (λ changes. map change_in changes.items) result (Ok held.changes) }
+    // They have what each row says.
+    ensures found { IfOk result (λ changes. AreStoredIn rows.items (map change_in changes.items)) }
+    // In a state that holds the zone, the rows of its changes are read as these, unless memory runs out.
+    ensures held { (version : ℤ) (all : RowsOf) (s : State) (origin : List (List ℕ)) (held : Held) → AreOfState version all s → s.zones origin ≡ Some held → IsPermutation (changes_in (name_text origin) all.changes) rows.items → Reads (λ changes. map change_in changes.items) result (Ok held.changes) }
 {
-    read_changes(alloc, rows)
+    stored_changes(alloc, &rows)
 }

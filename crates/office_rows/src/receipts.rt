@@ -1,13 +1,13 @@
 //! The rows of `receipts`.
 
-ghost use Rattle.std.specs.Prelude.{◌≡◌, List, ℕ, Ok, IfOk};
+ghost use Rattle.std.specs.Prelude.{◌≡◌, ◌↔◌, List, ℕ, true, Ok, IfOk};
 ghost use Rattle.office_core.specs.declared.receipt.Receipt.{Receipt as ReceiptOf};
 ghost use Rattle.office_rows.specs.Contents.{ReceiptAt, row_of_receipt, IsReceiptAt};
 ghost use Rattle.office_rows.specs.ReceiptRows.{receipt_row, IsReceipt};
 ghost use Rattle.office_rows.specs.RowFaults.{Reads};
 ghost use Rattle.office_rows.specs.RowReading.{request_in, receipt_in};
 
-use crate::columns::{identifier_in, identifier_text, name_in};
+use crate::columns::{identifier_in, identifier_text, name_from};
 use crate::replies::{notes_reply, reply_in, reply_words};
 use crate::row_fault::RowFault;
 use grant_policy::Identifier;
@@ -27,7 +27,7 @@ fn notes_receipt(receipt: &Receipt)
 }
 
 /// And it is kept under two identifiers. Only proofs need it.
-fn notes_kept(caller: &Identifier, id: &Identifier, receipt: &Receipt)
+fn notes_caller_receipt(caller: &Identifier, id: &Identifier, receipt: &Receipt)
     ensures { IsReceiptAt (record { caller = caller.now; id = id.now; receipt = receipt.now }) }
 {
     let _ = caller.as_bytes();
@@ -47,7 +47,7 @@ pub fn receipt_row(
     // What all receipts are.
     ensures receipt { IsReceiptAt (record { caller = caller.now; id = id.now; receipt = receipt.now }) }
 {
-    notes_kept(caller, id, receipt);
+    notes_caller_receipt(caller, id, receipt);
     let caller = identifier_text(caller);
     let id = identifier_text(id);
     Ok(ReceiptRow {
@@ -70,38 +70,44 @@ pub fn read_receipt(
     // The row of a receipt is read as this receipt, unless memory runs out.
     ensures only { (r : ReceiptAt) → IsReceiptAt r → row.now ≡ row_of_receipt r → Reads {Y = List ℕ × (List ℕ × ReceiptOf)} (λ x. (x.0, (x.1, x.2))) result (Ok (r.caller, (r.id, r.receipt))) }
 {
-    receipt_in(alloc, row)
+    let caller = identifier_in(alloc, row.caller.as_bytes())?;
+    let id = identifier_in(alloc, row.id.as_bytes())?;
+    let receipt = stored_receipt(alloc, row)?;
+    let again = receipt_row(alloc, &caller, &id, &receipt)?;
+    if !are_same(&again, row) {
+        return Err(RowFault::BadRow);
+    }
+    Ok((caller, id, receipt))
 }
 
-/// The update of item lines in their one spelling.
+/// Whether two rows have the same columns.
+fn are_same(first: &ReceiptRow, second: &ReceiptRow) -> bool
+    ensures { (result ≡ true) ↔ (first.now ≡ second.now) }
+{
+    first.caller == second.caller
+        && first.id == second.id
+        && first.origin == second.origin
+        && first.request == second.request
+        && first.reply == second.reply
+}
+
+/// The update of item lines.
 fn request_in(alloc: Global, text: &str) -> Result<Update, RowFault>
     ensures { Reads (λ update. update) result (request_in text.now) }
 {
-    let update = read_items(alloc, text.as_bytes())?;
-    if items_text(alloc, &update)?.as_str() != text {
-        return Err(RowFault::BadRow);
-    }
-    Ok(update)
+    Ok(read_items(alloc, text.as_bytes())?)
 }
 
-/// The caller, the identifier and the receipt of a row.
-fn receipt_in(
-    alloc: Global,
-    row: &ReceiptRow,
-) -> Result<(Identifier, Identifier, Receipt), RowFault>
-    ensures receipt { IfOk result (λ x. IsReceiptAt (record { caller = x.0; id = x.1; receipt = x.2 })) }
-    ensures exact { Reads (λ x. (x.0, (x.1, x.2))) result (receipt_in row.now) }
+/// The receipt of a row that is known to be that of a receipt. Its caller, its identifier and its spelling are not looked at.
+pub(crate) fn stored_receipt(alloc: Global, row: &ReceiptRow) -> Result<Receipt, RowFault>
+    ensures { Reads (λ receipt. receipt) result (receipt_in row.now) }
 {
-    let caller = identifier_in(alloc, row.caller.as_bytes())?;
-    let id = identifier_in(alloc, row.id.as_bytes())?;
-    let origin = name_in(alloc, row.origin.as_str())?;
+    let origin = name_from(alloc, row.origin.as_str())?;
     let update = request_in(alloc, row.request.as_str())?;
     let reply = reply_in(alloc, row.reply.as_str())?;
-    let receipt = Receipt {
+    Ok(Receipt {
         origin,
         update,
         reply,
-    };
-    notes_kept(&caller, &id, &receipt);
-    Ok((caller, id, receipt))
+    })
 }

@@ -1,6 +1,6 @@
 //! The rows of `records`.
 
-ghost use Rattle.std.specs.Prelude.{◌≡◌, List, ℕ, Ok, IfOk};
+ghost use Rattle.std.specs.Prelude.{◌≡◌, ◌↔◌, List, ℕ, true, Ok, IfOk};
 ghost use Rattle.dns_names.specs.Labels.{IsName};
 ghost use Rattle.dns_data.specs.Rdata.{IsRecord};
 ghost use Rattle.dns_data.specs.declared.record.Record.{Record as RecordOf};
@@ -8,7 +8,7 @@ ghost use Rattle.office_rows.specs.RecordRows.{record_row};
 ghost use Rattle.office_rows.specs.RowFaults.{Reads};
 ghost use Rattle.office_rows.specs.RowReading.{record_in};
 
-use crate::columns::{name_in, record_at};
+use crate::columns::{name_from, record_from};
 use crate::row_fault::RowFault;
 use dns_data::{Record, data_text};
 use dns_names::Name;
@@ -39,24 +39,37 @@ pub fn read_record(alloc: Global, row: &RecordRow) -> Result<(Name, Record), Row
     // The row of a record is read as this record, unless memory runs out.
     ensures only { (origin : List (List ℕ)) (r : RecordOf) → IsName origin → IsRecord r → row.now ≡ record_row origin r → Reads {Y = List (List ℕ) × RecordOf} (λ x. (x.0, x.1)) result (Ok (origin, r)) }
 {
-    record_in(alloc, row)
+    let origin = name_from(alloc, row.origin.as_str())?;
+    let rr = stored_record(alloc, row)?;
+    let again = record_row(alloc, &origin, &rr)?;
+    if !are_same(&again, row) {
+        return Err(RowFault::BadRow);
+    }
+    Ok((origin, rr))
 }
 
-/// The origin and the record of a row.
-fn record_in(alloc: Global, row: &RecordRow) -> Result<(Name, Record), RowFault>
-    ensures are { IfOk result (λ x. IsName x.0 × IsRecord x.1) }
-    ensures exact { Reads (λ x. (x.0, x.1)) result (record_in row.now) }
+/// Whether two rows have the same columns.
+fn are_same(first: &RecordRow, second: &RecordRow) -> bool
+    ensures { (result ≡ true) ↔ (first.now ≡ second.now) }
 {
-    let origin = name_in(alloc, row.origin.as_str())?;
-    let record = record_at(
+    first.origin == second.origin
+        && first.owner == second.owner
+        && first.record_type == second.record_type
+        && first.rdata == second.rdata
+        && first.ttl == second.ttl
+        && first.owner_key == second.owner_key
+}
+
+/// The record of a row that is known to be that of a record. Its origin, its key and its spelling are not looked at.
+pub(crate) fn stored_record(alloc: Global, row: &RecordRow) -> Result<Record, RowFault>
+    ensures record { IfOk result IsRecord }
+    ensures exact { Reads (λ rr. rr) result (record_in row.now) }
+{
+    record_from(
         alloc,
         row.owner.as_str(),
         row.record_type,
         row.rdata.as_str(),
         row.ttl,
-    )?;
-    if record.owner.key() != row.owner_key.as_slice() {
-        return Err(RowFault::BadRow);
-    }
-    Ok((origin, record))
+    )
 }

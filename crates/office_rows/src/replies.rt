@@ -101,21 +101,20 @@ pub fn read_reply(alloc: Global, words: &str) -> Result<UpdateReply, RowFault>
     // The words of a reply are read as this reply, unless memory runs out.
     ensures only { (reply : ReplyOf) → IsReply reply → words.now ≡ reply_words reply → Reads (λ read. read) result (Ok reply) }
 {
-    reply_in(alloc, words)
-}
-
-/// The reply of words in their one spelling.
-pub(crate) fn reply_in(alloc: Global, words: &str) -> Result<UpdateReply, RowFault>
-    ensures reply { IfOk result IsReply }
-    ensures exact { Reads (λ reply. reply) result (reply_in words.now) }
-{
-    let fields = fields_of(alloc, words)?;
-    let reply = reply_of(alloc, &fields)?;
+    let reply = reply_in(alloc, words)?;
     if reply_words(alloc, &reply)?.as_str() != words {
         return Err(RowFault::BadRow);
     }
     notes_reply(&reply);
     Ok(reply)
+}
+
+/// The reply of words, whatever their spelling.
+pub(crate) fn reply_in(alloc: Global, words: &str) -> Result<UpdateReply, RowFault>
+    ensures { Reads (λ reply. reply) result (reply_in words.now) }
+{
+    let fields = fields_of(alloc, words)?;
+    reply_of(alloc, &fields)
 }
 
 /// The number of an item has 64 bits, and a rule has an identifier. Only proofs need it.
@@ -261,7 +260,7 @@ fn reply_by(
     denied_by(reply_at(code, list, item)?, rule)
 }
 
-/// The reply of words, whatever their spelling.
+/// The reply of words.
 fn reply_of(alloc: Global, words: &[Item]) -> Result<UpdateReply, RowFault>
     ensures { Reads (λ reply. reply) result (reply_of (map (λ i. i.raw) (map item_of words.now))) }
 {

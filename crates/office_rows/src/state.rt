@@ -4,10 +4,10 @@ ghost use Rattle.std.specs.Prelude.{◌≡◌, ◌↔◌, [], ◌∷◌, true, I
 ghost use Rattle.office_core.specs.States.{State};
 ghost use Rattle.office_rows.specs.Contents.{AreOfState};
 ghost use Rattle.office_rows.specs.Orders.{rises};
-ghost use Rattle.office_rows.specs.Checks.{AreReceiptRows, AreStateRows, Checks, kept_order};
+ghost use Rattle.office_rows.specs.Checks.{AreReceiptRows, AreStateRows, Checks, caller_receipt_order};
 
 use crate::ascending::rise;
-use crate::ordered::{self, KeptReceipt};
+use crate::ordered::{self, CallerReceipt};
 use crate::row_fault::RowFault;
 use crate::zones::check_zones;
 use office_sql::{AllRows, ReceiptRow};
@@ -60,8 +60,8 @@ pub fn check_receipts(alloc: Global, rows: &[ReceiptRow]) -> Result<(), RowFault
 }
 
 /// Whether each receipt stands before the next one by caller and identifier, so that no two of one caller have one identifier.
-fn are_apart(receipts: &[KeptReceipt]) -> bool
-    ensures { result ≡ rises kept_order receipts.now }
+fn are_apart(receipts: &[CallerReceipt]) -> bool
+    ensures { result ≡ rises caller_receipt_order receipts.now }
 {
     rise(receipts)
 }

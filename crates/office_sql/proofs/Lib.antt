@@ -2,7 +2,7 @@ pub mod BlankLaws
 pub mod Rowids
 pub mod Tree
 pub mod Texts
-pub mod WritingTexts
+pub mod BatchTexts
 pub mod CreationTexts
 pub mod Values
 pub mod Effects

@@ -7,7 +7,7 @@ use Rattle.sqlite_value.specs.Order.{Row, column}
 use Rattle.sqlite.specs.declared.error.Error.{Error}
 use Rattle.sqlite.specs.declared.error.Error.TheVariants.{SqliteFailure}
 use Rattle.sqlite.specs.declared.error.ErrorCode.TheVariants.{OutOfMemory}
-use Rattle.office_sql.specs.declared.fault.RowsFault.TheVariants.{BadRow}
+use Rattle.office_sql.specs.declared.rows_fault.RowsFault.TheVariants.{BadRow}
 use Rattle.office_sql.specs.Faults.{fault_of}
 
 -- the store tells of no bad row

@@ -1,4 +1,4 @@
--- What each statement of a writing does to all rows.
+-- What each statement of a batch does to all rows.
 use Rattle.std.proofs.Common.{◌≡◌, ℕ, ℤ, ◌^◌, ◌/◌, length, nat_le, true, false, not, List, [], ◌∷◌, ◌++◌, map, filter, drop, flat_map, codes, Ok, refl, sym, ap, subst, ◌∙◌, append-nil, arith}
 use Rattle.std.specs.List.{AllByRecursion, list_all}
 use Rattle.sqlite_value.specs.declared.value.Value.TheVariants.{Int, Null, Text}
@@ -27,7 +27,7 @@ use Rattle.std.proofs.Common.{bytes_eq}
 use Rattle.std.specs.Ordering.{int_eq}
 use Rattle.std.proofs.lemmas.Cmp.{int_eq_equiv}
 use Rattle.std.proofs.lemmas.List.{map-append}
-use Rattle.office_sql.proofs.WritingTexts as the
+use Rattle.office_sql.proofs.BatchTexts as the
 use Rattle.office_sql.proofs.Texts.{by_key, terms_1, terms_5}
 use Rattle.office_sql.proofs.Effects.{inserts, deletes}
 use Rattle.office_sql.proofs.Values.{bytes_eq_sym, same_text, same_number, and_true, cast_null, cast_int, hits, filter_stored}

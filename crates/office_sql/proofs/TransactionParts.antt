@@ -6,7 +6,7 @@ use Rattle.sqlite_value.specs.Order.{Row}
 use Rattle.sqlite.specs.declared.error.Error.{Error}
 use Rattle.sqlite.specs.State.{State, HasCleanDisk, KeepsCommit, Executes}
 use Rattle.sqlite.proofs.StateLemmas.{survives_then}
-use Rattle.office_sql.specs.Rows.{RecordRowOf, ReceiptRowOf, ChangeRowOf, RowsOf, WritingOf, same_key, without, versions_with, written}
+use Rattle.office_sql.specs.Rows.{RecordRowOf, ReceiptRowOf, ChangeRowOf, RowsOf, BatchOf, same_key, without, versions_with, written}
 use Rattle.office_sql.specs.Holds.{Reads, Stays, Part}
 use Rattle.office_sql.specs.Statements.{with_zone, with_record, with_receipt, with_change, with_each, without_record, without_records}
 
@@ -143,8 +143,8 @@ pub with_zones_of : {X : Type 0} (text : X → List ℕ) (all : List X) (rows : 
 with_zones_of text [] rows = ap (λ (l : List (List ℕ)). let r : RowsOf = record rows { zones = l } in r) (sym (append-nil rows.zones))
 with_zones_of text (x ∷ xs) rows = with_zones_of text xs (with_zone (text x) rows) ∙ ap (λ (l : List (List ℕ)). let r : RowsOf = record rows { zones = l } in r) (push_twice rows.zones (text x) (map text xs))
 
--- all parts of a writing, in turn
-pub written_in_turn : {X : Type 0} (text : X → List ℕ) (w : WritingOf) (zones : List X) → w.zones ≡ map text zones → (a b c d e f z : State)
+-- all parts of a batch, in turn
+pub written_in_turn : {X : Type 0} (text : X → List ℕ) (w : BatchOf) (zones : List X) → w.zones ≡ map text zones → (a b c d e f z : State)
     → Part a b (without_records w.removed) → Part b c (with_each (λ x. with_zone (text x)) zones) → Part c d (with_each with_record w.added) → Part d e (with_each with_change w.changes)
     → Part e f (with_each with_receipt w.receipts) → Part f z (λ rows. record rows { versions = versions_with w.version rows.versions }) → Part a z (written w)
 written_in_turn text w zones are a b c d e f z one two three four five six =

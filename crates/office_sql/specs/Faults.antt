@@ -2,8 +2,8 @@
 use Rattle.sqlite.specs.declared.error.Error.{Error}
 use Rattle.sqlite.specs.declared.error.Error.TheVariants.{SqliteFailure}
 use Rattle.sqlite.specs.declared.error.ErrorCode.TheVariants.{OutOfMemory}
-use Rattle.office_sql.specs.declared.fault.RowsFault.{RowsFault}
-use Rattle.office_sql.specs.declared.fault.RowsFault.TheVariants.{Store, NoMemory}
+use Rattle.office_sql.specs.declared.rows_fault.RowsFault.{RowsFault}
+use Rattle.office_sql.specs.declared.rows_fault.RowsFault.TheVariants.{Store, NoMemory}
 
 -- an error of the store is told as it is, but for want of memory
 abbrev pub fault_of : Error → RowsFault

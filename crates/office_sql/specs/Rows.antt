@@ -40,7 +40,7 @@ pub record RowsOf : Type 0 where
   pub changes : List ChangeRowOf
 
 -- what is written at once
-pub record WritingOf : Type 0 where
+pub record BatchOf : Type 0 where
   pub version : Option ℤ
   pub zones : List (List ℕ)
   pub removed : List RecordRowOf
@@ -71,8 +71,8 @@ change_row_code =
     (λ r. (r.origin, (r.number, (r.side, (r.owner, (r.record_type, (r.rdata, r.ttl)))))))
     (λ p. record { origin = p.0; number = p.1.0; side = p.1.1.0; owner = p.1.1.1.0; record_type = p.1.1.1.1.0; rdata = p.1.1.1.1.1.0; ttl = p.1.1.1.1.1.1 }) (λ _. refl)
 
-abbrev pub writing_code : Coded WritingOf
-writing_code =
+abbrev pub batch_code : Coded BatchOf
+batch_code =
     code_by (Option ℤ × (List (List ℕ) × (List RecordRowOf × (List RecordRowOf × (List ChangeRowOf × List ReceiptRowOf)))))
     (coded× (coded_option coded_ℤ) (coded× (coded_list coded_text) (coded× (coded_list record_row_code) (coded× (coded_list record_row_code) (coded× (coded_list change_row_code) (coded_list receipt_row_code))))))
     (λ w. (w.version, (w.zones, (w.removed, (w.added, (w.changes, w.receipts))))))
@@ -85,7 +85,7 @@ rows_code =
     (λ r. (r.versions, (r.zones, (r.records, (r.receipts, r.changes)))))
     (λ p. record { versions = p.0; zones = p.1.0; records = p.1.1.0; receipts = p.1.1.1.0; changes = p.1.1.1.1 }) (λ _. refl)
 
--- ---- what a writing makes of rows
+-- ---- what a batch makes of rows
 
 -- whether two rows of `records` have one key: origin, owner, type and data
 abbrev pub same_key : RecordRowOf → RecordRowOf → Bool
@@ -101,7 +101,7 @@ versions_with None versions = versions
 versions_with (Some version) versions = version ∷ []
 
 -- the rows once some went and others came
-abbrev pub written : WritingOf → RowsOf → RowsOf
+abbrev pub written : BatchOf → RowsOf → RowsOf
 written w rows = record {
   versions = versions_with w.version rows.versions;
   zones = rows.zones ++ w.zones;

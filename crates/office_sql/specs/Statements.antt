@@ -1,4 +1,4 @@
--- What each statement of a writing makes of all rows.
+-- What each statement of a batch makes of all rows.
 use Rattle.std.specs.Prelude.{ℤ, ℕ, List, [], ◌∷◌, ◌++◌, not, filter}
 use Rattle.office_sql.specs.Rows.{RecordRowOf, ReceiptRowOf, ChangeRowOf, RowsOf, same_key, without}
 

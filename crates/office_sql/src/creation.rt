@@ -6,8 +6,8 @@ ghost use Rattle.sqlite.specs.State.{HasCleanDisk};
 ghost use Rattle.office_sql.specs.Tables.{no_schema};
 ghost use Rattle.office_sql.specs.Holds.{AreRows, Reads, Holds, Leaves, IsGoing, Keeps, Stays, made_rows, AreEmpty};
 
-use crate::fault::RowsFault;
-use crate::writing::{Insert, run};
+use crate::batch::{Insert, run};
+use crate::rows_fault::RowsFault;
 use sqlite::{Alter, Connection, Error, Transaction};
 
 /// Makes the tables and the index, inside a transaction.

@@ -9,11 +9,11 @@ ghost use Rattle.office_sql.specs.Rows.{RowsOf};
 ghost use Rattle.office_sql.specs.Holds.{Holds, OnlyAsks};
 ghost use Rattle.office_sql.specs.Lookups as the;
 ghost use Rattle.office_sql.specs.Lookups.{IsLast};
-ghost use Rattle.office_sql.specs.declared.fault.RowsFault.TheVariants.{BadRow};
+ghost use Rattle.office_sql.specs.declared.rows_fault.RowsFault.TheVariants.{BadRow};
 
-use crate::fault::RowsFault;
 use crate::query::{ask, fetch_open};
 use crate::rows::{ChangeRow, ReceiptRow, RecordRow};
+use crate::rows_fault::RowsFault;
 use sqlite::{Alter, Connection, params};
 use std::alloc::Global;
 

@@ -7,10 +7,10 @@ ghost use Rattle.sqlite.specs.Held.{state};
 ghost use Rattle.sqlite.specs.State.{HasCleanDisk, IsUnchanged, Shows, Shown};
 ghost use Rattle.office_sql.specs.Stores.{IsReadableRow};
 ghost use Rattle.office_sql.specs.Holds.{Keeps, OnlyAsks, Stays};
-ghost use Rattle.office_sql.specs.declared.fault.RowsFault.TheVariants.{BadRow};
+ghost use Rattle.office_sql.specs.declared.rows_fault.RowsFault.TheVariants.{BadRow};
 
-use crate::fault::RowsFault;
-use crate::reading::{FromRow, read_rows};
+use crate::from_row::{FromRow, read_rows};
+use crate::rows_fault::RowsFault;
 use sqlite::{Alter, Connection, Error, Row};
 use sqlite_value::value::ValueRef;
 use std::alloc::Global;

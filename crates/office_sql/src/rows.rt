@@ -95,7 +95,7 @@ impl Model for ChangeRow {
 
 /// What is written at once: rows of `records` that go, and rows of each table that come; and another version, if there is one.
 #[derive(Drop)]
-pub struct Writing {
+pub struct Batch {
     pub version: Option<i64>,
     /// Origins.
     pub zones: Vec<String>,
@@ -106,13 +106,13 @@ pub struct Writing {
     pub receipts: Vec<ReceiptRow>,
 }
 
-impl Model for Writing {
+impl Model for Batch {
     ghost use Rattle.std.specs.Prelude.{map, string_bytes};
-    ghost use Rattle.office_sql.specs.Rows.{WritingOf, writing_code};
+    ghost use Rattle.office_sql.specs.Rows.{BatchOf, batch_code};
 
-    ghost Value = { WritingOf };
+    ghost Value = { BatchOf };
 
-    ghost coded = { writing_code };
+    ghost coded = { batch_code };
 
     ghost view = { λ w. record { version = w.version; zones = map string_bytes w.zones.items; removed = w.removed.items; added = w.added.items; changes = w.changes.items; receipts = w.receipts.items } };
 }

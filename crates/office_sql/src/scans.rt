@@ -10,12 +10,12 @@ ghost use Rattle.office_sql.specs.Rows.{RowsOf};
 ghost use Rattle.office_sql.specs.Tables.{office_schema, stored_version, stored_zone, stored_record, stored_receipt, stored_change};
 ghost use Rattle.office_sql.specs.Stores.{Stores, IsReadableRow};
 ghost use Rattle.office_sql.specs.Holds.{AreRows, Holds, Leaves, OnlyAsks, SameRows};
-ghost use Rattle.office_sql.specs.declared.fault.RowsFault.TheVariants.{BadRow};
+ghost use Rattle.office_sql.specs.declared.rows_fault.RowsFault.TheVariants.{BadRow};
 
-use crate::fault::RowsFault;
+use crate::from_row::FromRow;
 use crate::query::ask;
-use crate::reading::FromRow;
 use crate::rows::{ChangeRow, ReceiptRow, RecordRow, ZoneRow};
+use crate::rows_fault::RowsFault;
 use crate::schema::has_tables;
 use sqlite::{Alter, Connection};
 use std::alloc::Global;

@@ -1,7 +1,7 @@
 -- Faults that are failures.
-use Rattle.std.proofs.Common.{◌≡◌, Result, Err, IfErr, sym, subst}
-use Rattle.office_sql.specs.declared.fault.RowsFault.{RowsFault}
-use Rattle.office_sql.specs.declared.fault.RowsFault.TheVariants as tables
+use Rattle.std.proofs.Common.{◌≡◌, ◌⊎◌, inl, inr, Result, Err, IfErr, sym, subst}
+use Rattle.office_sql.specs.declared.rows_fault.RowsFault.{RowsFault}
+use Rattle.office_sql.specs.declared.rows_fault.RowsFault.TheVariants as tables
 use Rattle.office_rows.specs.declared.row_fault.RowFault.{RowFault}
 use Rattle.office_rows.specs.declared.row_fault.RowFault.TheVariants as rows
 use Rattle.office_rows.specs.declared.store_fault.StoreFault.{StoreFault}
@@ -38,3 +38,11 @@ gives_refused view e r told is refuses = subst (λ q. Gives view q told) (sym is
 -- a failure gives what is to be given, whatever it is
 pub gives_nothing : {X Y : Type 0} (view : X → Y) (e : StoreFault) (r : Result X StoreFault) (told : Result Y StoreFault) → r ≡ Err e → IsFailure e → Gives view r told
 gives_nothing view e r told is fails = gives_refused view e r told is (says_nothing e told fails)
+
+-- a failure is none of the refusals of tables
+pub no_refusal : {X : Type 0} (e : StoreFault) (r : Result X StoreFault) → r ≡ Err e → IsFailure e → (r ≡ Err WrongVersion) ⊎ (r ≡ Err BadRow) → ⊥
+no_refusal e r is fails told =
+    elim told [
+      | inl wrong ↦ let same : e ≡ WrongVersion = cc in subst IsFailure same fails
+      | inr bad ↦ let same : e ≡ BadRow = cc in subst IsFailure same fails
+    ]

@@ -7,6 +7,7 @@ pub mod ZoneLemmas
 pub mod AdditionLemmas
 pub mod GoneRowLemmas
 pub mod MigratedZoneLemmas
+pub mod MigratedRecordLaws
 pub mod MigratedContentLemmas
 pub mod NextNumberLemmas
 pub mod MigrationWalkLemmas

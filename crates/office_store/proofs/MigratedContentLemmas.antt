@@ -7,14 +7,14 @@ use Rattle.sqlite_trees.specs.Tree.{IsAscending}
 use Rattle.sqlite_trees.proofs.ListLemmas.{IsPermutation-same, IsPermutation-filter, all-flat_map, all_weaker, all_both}
 use Rattle.sqlite_keyed.proofs.ListLemmas.{all_map, ascending-map, ascending_weaker}
 use Rattle.dns_names.specs.Spelling.{name_text}
-use Rattle.office_sql.specs.Rows.{RecordRowOf, RowsOf, WritingOf, same_key, without, written}
+use Rattle.office_sql.specs.Rows.{RecordRowOf, RowsOf, BatchOf, same_key, without, written}
 use Rattle.office_sql.specs.Holds.{SameRows}
 use Rattle.office_rows.specs.Contents.{ZoneRows, ContentOf, zone_records, zone_changes, row_of_receipt, IsZoneRows, IsContent, rows_of}
 use Rattle.office_rows.specs.Checks.{AreReceiptRows}
 use Rattle.office_rows.proofs.ListLemmas.{one_moved, ascending_from_pairs, pairs_from_ascending}
 use Rattle.office_rows.proofs.RecordLemmas.{Stay, others_stay}
 use Rattle.office_store.specs.OldZones.{IsOldZoneRows, IsOldContent}
-use Rattle.office_store.specs.MigratedContents.{Migrates, migrated, migrated_content, changed_count, zone_gone, zone_come, zone_made, migration_writing}
+use Rattle.office_store.specs.MigratedContents.{Migrates, migrated, migrated_content, changed_count, zone_gone, zone_come, zone_made, migration_batch}
 use Rattle.office_store.specs.MigrationSteps.{AreOldZoneRows}
 use Rattle.office_store.proofs.GoneRowLemmas.{stay_none, stay_both, without_first, without_second, joined}
 use Rattle.office_store.proofs.MigratedZoneLemmas.{migrated_is, migrated_origin, gone_records, record_rows_now, change_rows_now}
@@ -78,7 +78,7 @@ content_migrated content is = record {
 }
 
 pub rows_migrated : (content : ContentOf) (rows : RowsOf) → IsOldContent content → SameRows (rows_of (pos 1) content) rows
-    → SameRows (rows_of (pos 2) (migrated_content content)) (written (migration_writing content) rows)
+    → SameRows (rows_of (pos 2) (migrated_content content)) (written (migration_batch content) rows)
 rows_migrated content rows is same =
     let zs = content.zones in
     record {
@@ -100,9 +100,9 @@ rows_migrated content rows is same =
 -- ---- rows of version 1, table by table
 
 -- what is written for the zones that rows are
-pub migrates : (rows : RowsOf) (writing : WritingOf) (changed : ℕ) → rows.versions ≡ pos 1 ∷ [] → (zones : AreOldZoneRows rows.zones rows.records rows.changes) → (receipts : AreReceiptRows rows.receipts)
-    → writing ≡ migration_writing (record { zones = zones.zones; receipts = receipts.receipts }) → changed ≡ changed_count (record { zones = zones.zones; receipts = receipts.receipts }) → Migrates rows writing changed
-migrates rows writing changed one zones receipts writing_is counted =
+pub migrates : (rows : RowsOf) (batch : BatchOf) (changed : ℕ) → rows.versions ≡ pos 1 ∷ [] → (zones : AreOldZoneRows rows.zones rows.records rows.changes) → (receipts : AreReceiptRows rows.receipts)
+    → batch ≡ migration_batch (record { zones = zones.zones; receipts = receipts.receipts }) → changed ≡ changed_count (record { zones = zones.zones; receipts = receipts.receipts }) → Migrates rows batch changed
+migrates rows batch changed one zones receipts batch_is counted =
     let content : ContentOf = record { zones = zones.zones; receipts = receipts.receipts } in
     let is : IsOldContent content = record { zones_apart = zones.apart; zones = zones.each; receipts_apart = receipts.apart; receipts = receipts.each } in
     let same : SameRows (rows_of (pos 1) content) rows = record {
@@ -117,8 +117,8 @@ migrates rows writing changed one zones receipts writing_is counted =
       is_old = is;
       same = same;
       is_content = content_migrated content is;
-      now = subst (λ (w : WritingOf). SameRows (rows_of (pos 2) (migrated_content content)) (written w rows)) (sym writing_is) (rows_migrated content rows is same);
-      least = writing_is;
+      now = subst (λ (w : BatchOf). SameRows (rows_of (pos 2) (migrated_content content)) (written w rows)) (sym batch_is) (rows_migrated content rows is same);
+      least = batch_is;
       counted = counted;
     }
 

@@ -37,7 +37,7 @@ use Rattle.office_rows.proofs.ZoneReadLemmas.{here, there, order_up}
 use Rattle.office_rows.proofs.ChangeLemmas.{changes_more}
 use Rattle.office_rows.proofs.ListingLemmas.{removed_records, added_records}
 use Rattle.office_rows.proofs.RecordLemmas.{without_none, rows_changed}
-use Rattle.office_rows.proofs.WritingLaws.{some_differ}
+use Rattle.office_rows.proofs.BatchLaws.{some_differ}
 use Rattle.office_store.specs.OldZones.{AreOfOldZone, IsOldZoneRows}
 use Rattle.office_store.specs.MigratedContents.{advanced, next_zone, change_for, after, migrated, rows_gone, rows_come, rows_made, zone_gone, zone_come, zone_made}
 
@@ -49,7 +49,7 @@ evened_records : (o : Labels) (set : Records) (fault : Option ZoneFault) (zone :
 evened_records o set None zone e = let is : record { origin = o; records = set } ≡ zone = cc in ap (λ (z : ZoneOf). z.records) is
 evened_records o set (Some fault) zone e = absurd cc
 
-own_even : (o : Labels) (rs : List Record) → AreOfZone o rs → (zone_of o rs).records ≡ set_of rs
+pub own_even : (o : Labels) (rs : List Record) → AreOfZone o rs → (zone_of o rs).records ≡ set_of rs
 own_even o rs is =
     evened_records o (evened (latest rs)) (fault_in o (evened (latest rs))) (zone_in o rs)
     (zones_are_rebuilt (zone_in o rs) rs is.zone (record { inside = all_from (λ r. IsIn r (set_of rs)) rs (λ r h. here rs r is.order h); whole = λ r h. contains_had rs r (there rs r h) }))
@@ -59,7 +59,7 @@ pub built_even : (o : Labels) (rs : List Record) → IsZone (zone_of o rs) → b
 built_even o rs is = ap (unless_fault o (evened (latest rs))) (no_fault o (evened (latest rs)) is.kept is)
 
 module _ (o : Labels) (rs : List Record) (is : AreOfOldZone o rs) where
-  kept : AreKept (set_of rs)
+  pub kept : AreKept (set_of rs)
   kept = kept_of rs is.each
 
   pub next_is : IsZone (next_zone o rs)

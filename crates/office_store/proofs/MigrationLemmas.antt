@@ -1,13 +1,12 @@
 -- Rows that are migrated, in whatever order they are shown.
-use Rattle.std.proofs.Common.{ℕ, pos, sym, subst}
+use Rattle.std.proofs.Common.{ℕ, pos}
 use Rattle.std.proofs.lemmas.List.Sorted.{IsPermutation-trans, IsPermutation-sym}
 use Rattle.sqlite_trees.specs.Tree.{Trees}
 use Rattle.sqlite.specs.State.{State as Shown}
-use Rattle.office_sql.specs.Rows.{RowsOf, WritingOf, written}
+use Rattle.office_sql.specs.Rows.{RowsOf, BatchOf, written}
 use Rattle.office_sql.specs.Holds.{AreRows, Holds, Leaves, SameRows}
 use Rattle.office_rows.specs.Contents.{rows_of}
-use Rattle.office_store.specs.MigratedContents.{Migrates, migrated_content}
-use Rattle.office_store.proofs.MigratedContentLemmas.{rows_migrated}
+use Rattle.office_store.specs.MigratedContents.{Migrates}
 use Rattle.office_store.specs.Queries.{Asked}
 use Rattle.office_store.specs.Migration.{IsMigratedIn, IsMigrated, IsRead}
 
@@ -29,15 +28,12 @@ rows_back a b p = record {
   changes = IsPermutation-sym a.changes b.changes p.changes;
 }
 
--- what takes rows to version 2 takes them there in another order
-pub migrated_so : (rows others : RowsOf) (w : WritingOf) (n : ℕ) → Migrates rows w n → SameRows others rows → (db : Trees) → AreRows db (written w others) → IsMigratedIn db others
-migrated_so rows others w n m same db are =
-    let here = rows_then (rows_of (pos 1) m.content) rows others m.same (rows_back others rows same) in
-    let now = subst (λ (v : WritingOf). SameRows (rows_of (pos 2) (migrated_content m.content)) (written v others)) (sym m.least) (rows_migrated m.content others m.is_old here) in
-    (m.content, m.is_old, here, m.is_content, (written w others, now, are))
+-- what takes rows to version 2 leaves the content migrated that they are in another order
+pub migrated_so : (rows others : RowsOf) (w : BatchOf) (n : ℕ) → Migrates rows w n → SameRows others rows → (db : Trees) → AreRows db (written w rows) → IsMigratedIn db others
+migrated_so rows others w n m same db are = (m.content, m.is_old, rows_then (rows_of (pos 1) m.content) rows others m.same (rows_back others rows same), m.is_content, (written w rows, m.now, are))
 
 -- what was read is written
-pub is_migrated : (old mid new : Shown) (w : WritingOf) (n : ℕ) → IsRead old mid w n → ((rows : RowsOf) → Holds mid rows → Holds new (written w rows))
+pub is_migrated : (old mid new : Shown) (w : BatchOf) (n : ℕ) → IsRead old mid w n → ((rows : RowsOf) → Holds mid rows → Holds new (written w rows))
     → ((rows : RowsOf) → Holds mid rows → Leaves new (λ db. AreRows db (written w rows))) → IsMigrated old new n
 is_migrated old mid new w n read made kept = record {
   content = read.migrates.content;
@@ -48,7 +44,7 @@ is_migrated old mid new w n read made kept = record {
 }
 
 -- what was shown at first is what was read
-pub read_behind : (old mid new : Shown) (w : WritingOf) (n : ℕ) → Asked old mid → ((rows : RowsOf) → Holds mid rows → Holds old rows) → IsRead mid new w n → IsRead old new w n
+pub read_behind : (old mid new : Shown) (w : BatchOf) (n : ℕ) → Asked old mid → ((rows : RowsOf) → Holds mid rows → Holds old rows) → IsRead mid new w n → IsRead old new w n
 read_behind old mid new w n asked back read = record {
   rows = read.rows;
   migrates = read.migrates;

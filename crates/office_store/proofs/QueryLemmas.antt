@@ -1,6 +1,7 @@
 -- Questions, one after the other.
 use Rattle.std.proofs.Common.{◌≡◌, ℕ, List, Bool, true, false, Option, Some, None, is_some, pos, Ok, Err, Result, IfOk, refl, sym, ap, ◌∙◌, bytes_eq}
 use Rattle.std.specs.List.{list_any}
+use Rattle.std.specs.Result.{IsErr}
 use Rattle.sqlite.specs.State.{State as Shown, HasCleanDisk}
 use Rattle.dns_names.specs.Keys.{key_of}
 use Rattle.dns_names.specs.Labels.{IsName}
@@ -9,11 +10,11 @@ use Rattle.office_core.specs.States.{Held, State}
 use Rattle.office_sql.specs.Rows.{RowsOf}
 use Rattle.office_sql.specs.Lookups.{records_at}
 use Rattle.office_rows.specs.Contents.{AreOfState}
-use Rattle.office_sql.specs.Holds.{Holds, Leaves, OnlyAsks}
+use Rattle.office_sql.specs.Holds.{Holds, Keeps, Leaves, OnlyAsks}
 use Rattle.office_rows.proofs.StateLaws.{zones_are_listed}
 use Rattle.office_rows.proofs.OriginLaws.{zones_stand_at_origins}
 use Rattle.office_store.specs.Holds.{HoldsState}
-use Rattle.office_store.specs.Queries.{Asked, Only, Finds, Stands}
+use Rattle.office_store.specs.Queries.{Asked, AsksOnly, Only, Finds, Stands}
 
 pub asked_of : (old new : Shown) → ((rows : RowsOf) → Holds old rows → Holds new rows) → Leaves new old.may_leave → (HasCleanDisk new → HasCleanDisk old) → Asked old new
 asked_of old new keeps left honest = record {
@@ -42,6 +43,15 @@ only_of old new back = record { rows = back; same = λ s h. record { rows = h.ro
 
 pub only_then : (old mid new : Shown) → Only old mid → Only mid new → Only old new
 only_then old mid new first next = only_of old new (λ rows h. first.rows rows (next.rows rows h))
+
+-- what is refused has asked
+pub asks_refused : {X E : Type 0} (old new : Shown) (r : Result X E) → IsErr r → Asked old new → AsksOnly old new r
+asks_refused old new (Ok x) is asked = absurd cc
+asks_refused old new (Err e) is asked = (asked, λ clean. tt)
+
+-- what one question leaves is what was shown, whatever the tables are
+pub keeps_once : (old new : Shown) → OnlyAsks old new → Keeps old new
+keeps_once old new asks up = let k = asks.now up in (k.0, k.2, λ settled. k.1 ∙ settled)
 
 -- ---- whether there is a zone
 

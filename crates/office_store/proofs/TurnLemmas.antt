@@ -3,8 +3,8 @@ use Rattle.std.proofs.Common.{inl, inr, Result, Ok, Err, OnOk, OnErr}
 use Rattle.std.specs.Result.{IsErr}
 use Rattle.sqlite.specs.State.{State as Shown, HasCleanDisk}
 use Rattle.office_core.specs.States.{State}
-use Rattle.office_sql.specs.Rows.{WritingOf}
-use Rattle.office_rows.specs.Writings.{Leads}
+use Rattle.office_sql.specs.Rows.{BatchOf}
+use Rattle.office_rows.specs.Batches.{Leads}
 use Rattle.office_store.specs.Holds.{HoldsState, LeavesStates}
 use Rattle.office_store.specs.Queries.{Asked}
 use Rattle.office_store.specs.Turns.{Turns}
@@ -27,8 +27,8 @@ pub refused_so : {X E : Type 0} (old new : Shown) (r : Result X E) (after : Stat
 refused_so old new (Ok x) after is asked = absurd cc
 refused_so old new (Err e) after is asked = refused old new e after asked
 
--- a writing behind questions
-pub written : {X E : Type 0} (old mid new : Shown) (r : Result X E) (w : WritingOf) (after : State → State) → Asked old mid
+-- a batch behind questions
+pub written : {X E : Type 0} (old mid new : Shown) (r : Result X E) (w : BatchOf) (after : State → State) → Asked old mid
     → OnOk r ((s t : State) → Leads w s t → HoldsState mid s → HoldsState new t)
     → OnErr r ((s : State) → HoldsState mid s → HoldsState new s)
     → OnOk r ((s t : State) → Leads w s t → HoldsState mid s → LeavesStates new t t)

@@ -28,7 +28,7 @@ replaced_is s origin rs zone e =
 
 -- ---- answers
 
--- a writing alone answers by a failure, or by what is to be told
+-- a batch alone answers by a failure, or by what is to be told
 pub gives_written : {X Y : Type 0} (view : X → Y) (r : Result X StoreFault) (told : Result Y StoreFault) → IfErr r IsFailure → ((x : X) → told ≡ Ok (view x)) → Gives view r told
 gives_written view (Ok x) told failed is = is x
 gives_written view (Err e) told failed is = says_nothing e told failed

@@ -6,6 +6,7 @@ pub mod Additions
 pub mod Zones
 pub mod OldZones
 pub mod MigratedContents
+pub mod MigratedRecords
 pub mod MigrationSteps
 pub mod Migration
 pub mod Files

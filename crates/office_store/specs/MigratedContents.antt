@@ -7,7 +7,7 @@ use Rattle.zone_core.specs.Zones.{ZoneOf, soa_at, zone_of}
 use Rattle.zone_core.specs.Effects.{with_next}
 use Rattle.office_core.specs.States.{ChangeOf}
 use Rattle.office_core.specs.Machine.{change_of}
-use Rattle.office_sql.specs.Rows.{RecordRowOf, ChangeRowOf, RowsOf, WritingOf, written}
+use Rattle.office_sql.specs.Rows.{RecordRowOf, ChangeRowOf, RowsOf, BatchOf, written}
 use Rattle.office_sql.specs.Holds.{SameRows}
 use Rattle.office_rows.specs.RecordRows.{record_row}
 use Rattle.office_rows.specs.ChangeRows.{change_rows}
@@ -77,8 +77,8 @@ abbrev pub zone_made : ZoneRows → List ChangeRowOf
 zone_made z = rows_made z.origin (suc (length z.changes)) (change_for z.origin z.records)
 
 -- of a content: the version, and of each zone that is changed what differs; nothing else
-abbrev pub migration_writing : ContentOf → WritingOf
-migration_writing content = record {
+abbrev pub migration_batch : ContentOf → BatchOf
+migration_batch content = record {
   version = Some (pos 2);
   zones = [];
   removed = flat_map zone_gone content.zones;
@@ -88,11 +88,11 @@ migration_writing content = record {
 }
 
 -- Rows are those of a content of version 1, and what is written makes of them those of that content migrated, which is one of version 2.
-pub record Migrates (rows : RowsOf) (writing : WritingOf) (changed : ℕ) : Type 0 where
+pub record Migrates (rows : RowsOf) (batch : BatchOf) (changed : ℕ) : Type 0 where
   pub content : ContentOf
   pub is_old : IsOldContent content
   pub same : SameRows (rows_of (pos 1) content) rows
   pub is_content : IsContent (migrated_content content)
-  pub now : SameRows (rows_of (pos 2) (migrated_content content)) (written writing rows)
-  pub least : writing ≡ migration_writing content
+  pub now : SameRows (rows_of (pos 2) (migrated_content content)) (written batch rows)
+  pub least : batch ≡ migration_batch content
   pub counted : changed ≡ changed_count content

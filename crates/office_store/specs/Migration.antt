@@ -2,7 +2,7 @@
 use Rattle.std.specs.Prelude.{◌≡◌, ℕ, pos}
 use Rattle.sqlite_trees.specs.Tree.{Trees}
 use Rattle.sqlite.specs.State.{State as Shown}
-use Rattle.office_sql.specs.Rows.{RowsOf, WritingOf}
+use Rattle.office_sql.specs.Rows.{RowsOf, BatchOf}
 use Rattle.office_sql.specs.Holds.{AreRows, Holds, Leaves, SameRows}
 use Rattle.office_rows.specs.Contents.{ContentOf, IsContent, rows_of}
 use Rattle.office_store.specs.OldZones.{IsOldContent}
@@ -30,6 +30,12 @@ IsNewIn db content = (rows : RowsOf) × SameRows (rows_of (pos 2) content) rows 
 abbrev pub IsMigratedIn : Trees → RowsOf → Type 0
 IsMigratedIn db rows = (content : ContentOf) × IsOldContent content × SameRows (rows_of (pos 1) content) rows × IsContent (migrated_content content) × IsNewIn db (migrated_content content)
 
+-- The connection shows rows of a content of version 1, and the trees have those of that content migrated.
+pub record IsMigratedFrom (conn : Shown) (db : Trees) : Type 0 where
+  pub rows : RowsOf
+  pub held : Holds conn rows
+  pub each : (others : RowsOf) → Holds conn others → IsMigratedIn db others
+
 -- A content of version 1 was held and is held migrated, a crash leaves that, and so many zones of it were changed.
 pub record IsMigrated (old new : Shown) (changed : ℕ) : Type 0 where
   pub content : ContentOf
@@ -39,9 +45,9 @@ pub record IsMigrated (old new : Shown) (changed : ℕ) : Type 0 where
   pub counted : changed ≡ changed_count content
 
 -- All rows were read, which were shown before too, and this takes them to version 2.
-pub record IsRead (old new : Shown) (writing : WritingOf) (changed : ℕ) : Type 0 where
+pub record IsRead (old new : Shown) (batch : BatchOf) (changed : ℕ) : Type 0 where
   pub rows : RowsOf
-  pub migrates : Migrates rows writing changed
+  pub migrates : Migrates rows batch changed
   pub held : Holds new rows
   pub only : Holds old rows
   pub same : (others : RowsOf) → Holds old others → SameRows others rows

@@ -1,5 +1,5 @@
 -- What is asked of a connection that holds a state.
-use Rattle.std.specs.Prelude.{◌≡◌, ◌≢◌, ℕ, List, [], Option, Some, None, pos}
+use Rattle.std.specs.Prelude.{◌≡◌, ◌≢◌, ℕ, List, [], Option, Some, None, Result, OnOk, pos}
 use Rattle.sqlite.specs.State.{State as Shown, HasCleanDisk}
 use Rattle.office_core.specs.States.{Held, State}
 use Rattle.office_sql.specs.Rows.{RecordRowOf, RowsOf}
@@ -19,6 +19,10 @@ pub record Asked (old new : Shown) : Type 0 where
 pub record Only (old new : Shown) : Type 0 where
   pub rows : (rows : RowsOf) → Holds new rows → Holds old rows
   pub same : (s : State) → HoldsState new s → HoldsState old s
+
+-- What a call that only asks leaves; and where it answers, what is shown now was shown before.
+abbrev pub AsksOnly : {X E : Type 0} → Shown → Shown → Result X E → Type 0
+AsksOnly old new result = Asked old new × (HasCleanDisk new → OnOk result (Only old new))
 
 -- A question about a zone of a state is answered so: by nothing where there is no zone of the origin, and else by what is so of
 -- the rows of the state.

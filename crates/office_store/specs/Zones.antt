@@ -5,7 +5,7 @@ use Rattle.zone_core.specs.Sets.{listing}
 use Rattle.zone_core.specs.Serials.{is_less}
 use Rattle.zone_core.specs.Zones.{ZoneOf, built, serial_of}
 use Rattle.office_core.specs.States.{Held, State, zone_held}
-use Rattle.office_rows.specs.Writings.{with_zone, with_zone_replaced}
+use Rattle.office_rows.specs.Batches.{with_zone, with_zone_replaced}
 use Rattle.office_rows.specs.declared.store_fault.StoreFault.{StoreFault}
 use Rattle.office_rows.specs.declared.store_fault.StoreFault.TheVariants.{ZoneExists, NoZone, SerialNotGreater}
 use Rattle.office_rows.specs.StoreFaults.{of_zones, ◌>>=◌}

@@ -5,7 +5,7 @@ ghost use Rattle.std.specs.Option.{ForSome};
 ghost use Rattle.sqlite.specs.Held.{state};
 ghost use Rattle.sqlite.specs.State.{HasCleanDisk};
 ghost use Rattle.office_core.specs.States.{State, zone_at};
-ghost use Rattle.office_store.specs.Queries.{Asked, Only};
+ghost use Rattle.office_store.specs.Queries.{AsksOnly};
 ghost use Rattle.office_store.specs.Holds.{HoldsState};
 ghost use Rattle.office_store.specs.Cache.{IsHeldZone};
 
@@ -17,10 +17,10 @@ use std::alloc::{AllocError, Global};
 use zone_core::Zone;
 
 /// A copy of the zone that is kept, if it is the one of an origin. The only error is want of memory.
-fn kept_at(alloc: Global, kept: &Option<Zone>, origin: &Name) -> Result<Option<Zone>, AllocError>
-    ensures { IfOk result (λ found. IfSome found (λ zone. (kept.now ≡ Some zone) × (zone.origin ≡ origin.now))) }
+fn cached_at(alloc: Global, cache: &Option<Zone>, origin: &Name) -> Result<Option<Zone>, AllocError>
+    ensures { IfOk result (λ found. IfSome found (λ zone. (cache.now ≡ Some zone) × (zone.origin ≡ origin.now))) }
 {
-    match kept {
+    match cache {
         Some(zone) if zone.origin() == origin => Ok(Some(zone.try_copy(alloc)?)),
         _ => Ok(None),
     }
@@ -37,23 +37,22 @@ fn copy_of(alloc: Global, found: &Option<Zone>) -> Option<Zone>
 }
 
 /// The zone of an origin, where there is one: the one that is kept, or else the one of the rows, which is kept then.
-pub(crate) fn zone_kept<S: Alter>(
+pub(crate) fn cached_zone<S: Alter>(
     alloc: Global,
     conn: &mut Connection<S>,
-    kept: &mut Option<Zone>,
+    cache: &mut Option<Zone>,
     origin: &Name,
 ) -> Result<Option<Zone>, StoreFault>
-    requires fits { ForSome kept.old (IsHeldZone (state S.Store conn.old)) }
+    requires fits { ForSome cache.old (IsHeldZone (state S.Store conn.old)) }
     ensures answer { HasCleanDisk (state S.Store conn.new) → IfOk result (λ zone. (s : State) → HoldsState (state S.Store conn.old) s → zone ≡ zone_at s origin.now) }
-    ensures asked { Asked (state S.Store conn.old) (state S.Store conn.new) }
-    ensures only { HasCleanDisk (state S.Store conn.new) → OnOk result (Only (state S.Store conn.old) (state S.Store conn.new)) }
-    ensures fits { ForSome kept.new (IsHeldZone (state S.Store conn.new)) }
+    ensures asks { AsksOnly (state S.Store conn.old) (state S.Store conn.new) result }
+    ensures fits { ForSome cache.new (IsHeldZone (state S.Store conn.new)) }
 {
-    if let Some(zone) = kept_at(alloc, kept, origin)? {
+    if let Some(zone) = cached_at(alloc, cache, origin)? {
         return Ok(Some(zone));
     }
-    *kept = None;
+    *cache = None;
     let found = zone_at(alloc, conn, origin)?;
-    *kept = copy_of(alloc, &found);
+    *cache = copy_of(alloc, &found);
     Ok(found)
 }

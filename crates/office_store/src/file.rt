@@ -6,9 +6,10 @@ ghost use Rattle.sqlite.specs.WalFiles.{image_at};
 ghost use Rattle.sqlite.specs.Files.{file_state, HoldsDatabase};
 ghost use Rattle.sqlite.specs.State.{HasCleanDisk};
 ghost use Rattle.office_core.specs.States.{State};
-ghost use Rattle.office_rows.specs.declared.store_fault.StoreFault.TheVariants.{WrongVersion};
+ghost use Rattle.office_sql.specs.Holds.{Leaves};
+ghost use Rattle.office_rows.specs.declared.store_fault.StoreFault.TheVariants.{BadRow, WrongVersion};
 ghost use Rattle.office_rows.specs.StoreFaults.{IsFailure, IsOfRows};
-ghost use Rattle.office_store.specs.Files.{HoldStateIn};
+ghost use Rattle.office_store.specs.Files.{AreOfVersion, HoldStateIn, HoldVersionIn, ShowsStill};
 ghost use Rattle.office_store.specs.Holds.{HoldsState, IsStateIn, LeavesStates};
 
 use crate::table::SqlTable;
@@ -48,6 +49,12 @@ impl<S: Start, L: Ledger> SqlTable<FileStore<FileFrom<S>>, L> {
         // Where the files held a state only the store fails or memory runs out.
         ensures good { IfErr result (λ refused. IfSome refused.conn (λ conn. HasCleanDisk (file_state conn) → (s : State) → HoldStateIn (image_at S.Start) s → IsFailure refused.fault)) }
         ensures named { IfErr result (λ refused. (refused.fault ≡ WrongVersion) ⊎ IsOfRows refused.fault) }
+        // Else the first names files that held no tables of this version, and `BadRow` files that held them.
+        ensures wrong { IfErr result (λ refused. IfSome refused.conn (λ conn. HasCleanDisk (file_state conn) → refused.fault ≡ WrongVersion → ¬ HoldVersionIn (image_at S.Start))) }
+        ensures bad { IfErr result (λ refused. IfSome refused.conn (λ conn. HasCleanDisk (file_state conn) → refused.fault ≡ BadRow → (trees : Trees) → HoldsDatabase (image_at S.Start) trees → AreOfVersion trees)) }
+        // What the files held is shown still, and a crash leaves it.
+        ensures shown { IfErr result (λ refused. IfSome refused.conn (λ conn. HasCleanDisk (file_state conn) → ShowsStill (image_at S.Start) (file_state conn))) }
+        ensures left { IfErr result (λ refused. IfSome refused.conn (λ conn. (trees : Trees) → HoldsDatabase (image_at S.Start) trees → Leaves (file_state conn) (λ db. db ≡ trees))) }
         // Without a connection nothing is said of what they held.
         ensures unopened { IfErr result (λ refused. refused.conn ≡ None → IsFailure refused.fault) }
     {

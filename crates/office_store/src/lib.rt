@@ -3,8 +3,10 @@
 //! or the one after it.
 #![tactic(auto)]
 
+mod batch;
 mod cache;
 mod file;
+mod laws;
 mod migration;
 mod migration_change;
 mod migration_rows;
@@ -13,10 +15,10 @@ mod opening;
 mod queries;
 mod reads;
 mod table;
-mod writing;
 mod zones;
 
 pub use file::Unopened;
+pub use laws::migrated_zones_are_even;
 pub use migration_rows::{Migration, migration_of};
 pub use office_rows::StoreFault;
 pub use opening::Refused;

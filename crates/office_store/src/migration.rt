@@ -3,8 +3,7 @@
 ghost use Rattle.std.specs.Prelude.{◌≡◌, ◌⊎◌, pos, false, Err, IfOk, IfErr, OnErr};
 ghost use Rattle.sqlite.specs.Held.{state};
 ghost use Rattle.sqlite.specs.State.{HasCleanDisk};
-ghost use Rattle.office_sql.specs.Rows.{RowsOf};
-ghost use Rattle.office_sql.specs.Holds.{AreRows, Holds, Leaves, SameRows};
+ghost use Rattle.office_sql.specs.Holds.{Keeps, Leaves, SameRows};
 ghost use Rattle.office_rows.specs.Contents.{ContentOf, rows_of};
 ghost use Rattle.office_store.specs.OldZones.{IsOldContent};
 ghost use Rattle.office_store.specs.MigratedContents.{Migrates};
@@ -12,7 +11,7 @@ ghost use Rattle.office_rows.specs.declared.store_fault.StoreFault.TheVariants.{
 ghost use Rattle.office_store.specs.Queries.{Asked};
 ghost use Rattle.office_rows.specs.StoreFaults.{IsFailure, IsOfRows};
 ghost use Rattle.office_store.specs.Holds.{IsOfVersion};
-ghost use Rattle.office_store.specs.Migration.{HoldsOld, IsMigratedIn, IsMigrated, IsRead};
+ghost use Rattle.office_store.specs.Migration.{HoldsOld, IsMigratedFrom, IsMigrated, IsRead};
 
 use crate::migration_rows::{Migration, migration_of};
 use crate::opening::{check_version, found};
@@ -26,7 +25,7 @@ const OLD_VERSION: i64 = 1;
 
 /// What takes rows to version 2. Rows that are those of no state of version 1 are `BadRow`.
 fn migration_from(alloc: Global, rows: &AllRows) -> Result<Migration, StoreFault>
-    ensures found { IfOk result (λ m. Migrates rows.now m.writing m.zones) }
+    ensures found { IfOk result (λ m. Migrates rows.now m.batch m.zones) }
     ensures only { IfErr result (λ e. (content : ContentOf) → IsOldContent content → SameRows (rows_of (pos 1) content) rows.now → IsFailure e) }
     ensures named { IfErr result IsOfRows }
 {
@@ -43,10 +42,11 @@ fn read_migration<S: Alter>(
     conn: &mut Connection<S>,
 ) -> Result<Migration, StoreFault>
     requires { conn.old.in_transaction ≡ false }
-    ensures found { HasCleanDisk (state S.Store conn.new) → IfOk result (λ m. IsRead (state S.Store conn.old) (state S.Store conn.new) m.writing m.zones) }
+    ensures found { HasCleanDisk (state S.Store conn.new) → IfOk result (λ m. IsRead (state S.Store conn.old) (state S.Store conn.new) m.batch m.zones) }
     ensures good { HasCleanDisk (state S.Store conn.new) → IfErr result (λ e. (content : ContentOf) → HoldsOld (state S.Store conn.old) content → IsFailure e) }
     ensures named { IfErr result IsOfRows }
     ensures asked { Asked (state S.Store conn.old) (state S.Store conn.new) }
+    ensures shown { Keeps (state S.Store conn.old) (state S.Store conn.new) }
     ensures ended { conn.new.in_transaction ≡ false }
 {
     match all_rows(alloc, conn) {
@@ -62,8 +62,9 @@ pub(crate) fn migrate<S: Alter>(
 ) -> Result<usize, StoreFault>
     requires { conn.old.in_transaction ≡ false }
     ensures made { HasCleanDisk (state S.Store conn.new) → IfOk result (IsMigrated (state S.Store conn.old) (state S.Store conn.new)) }
-    ensures failed { OnErr result ((rows : RowsOf) → Holds (state S.Store conn.old) rows → Holds (state S.Store conn.new) rows) }
-    ensures crash { OnErr result ((rows : RowsOf) → Holds (state S.Store conn.old) rows → Leaves (state S.Store conn.old) (λ db. AreRows db rows) → Leaves (state S.Store conn.new) (λ db. AreRows db rows ⊎ IsMigratedIn db rows)) }
+    ensures failed { OnErr result (Keeps (state S.Store conn.old) (state S.Store conn.new)) }
+    ensures same { (result ≡ Err WrongVersion) ⊎ (result ≡ Err BadRow) → Asked (state S.Store conn.old) (state S.Store conn.new) }
+    ensures crash { OnErr result (Leaves (state S.Store conn.new) (λ db. (state S.Store conn.old).may_leave db ⊎ IsMigratedFrom (state S.Store conn.old) db)) }
     ensures good { HasCleanDisk (state S.Store conn.new) → IfErr result (λ e. (content : ContentOf) → HoldsOld (state S.Store conn.old) content → IsFailure e) }
     ensures wrong { HasCleanDisk (state S.Store conn.new) → result ≡ Err WrongVersion → ¬ IsOfVersion (pos 1) (state S.Store conn.old) }
     ensures bad { HasCleanDisk (state S.Store conn.new) → result ≡ Err BadRow → IsOfVersion (pos 1) (state S.Store conn.old) }
@@ -73,6 +74,6 @@ pub(crate) fn migrate<S: Alter>(
 {
     check_version(alloc, conn, OLD_VERSION)?;
     let migration = read_migration(alloc, conn)?;
-    write(conn, &migration.writing)?;
+    write(conn, &migration.batch)?;
     Ok(migration.zones)
 }

@@ -13,14 +13,14 @@ use crate::migration_steps::{MigrationSteps, steps_in_turn};
 use office_rows::state::{check_receipts, is_alone};
 use office_rows::zones::are_apart;
 use office_rows::{RowFault, ordered, sorted_changes};
-use office_sql::{AllRows, ChangeRow, RecordRow, Writing, ZoneRow};
+use office_sql::{AllRows, Batch, ChangeRow, RecordRow, ZoneRow};
 use std::alloc::Global;
 
 /// What takes tables of version 1 to version 2.
 #[derive(Drop)]
 pub struct Migration {
     /// What is written.
-    pub writing: Writing,
+    pub batch: Batch,
     /// How many zones it changes.
     pub zones: usize,
 }
@@ -52,7 +52,7 @@ fn zone_steps(
 pub fn migration_of(alloc: Global, rows: &AllRows) -> Result<Migration, RowFault>
     // The rows are those of a content of version 1, and once this is written those of that content migrated. It is the least that is:
     // only what differs goes and comes, of the zones that are changed.
-    ensures found { IfOk result (λ m. Migrates rows.now m.writing m.zones) }
+    ensures found { IfOk result (λ m. Migrates rows.now m.batch m.zones) }
     // Rows are refused only where they are those of no such content.
     ensures only { result ≡ Err BadRow → ¬ ((content : ContentOf) × IsOldContent content × SameRows (rows_of (pos 1) content) rows.now) }
 {
@@ -62,7 +62,7 @@ pub fn migration_of(alloc: Global, rows: &AllRows) -> Result<Migration, RowFault
     check_receipts(alloc, &rows.receipts)?;
     let steps = zone_steps(alloc, &rows.zones, &rows.records, &rows.changes)?;
     Ok(Migration {
-        writing: Writing {
+        batch: Batch {
             version: Some(2),
             zones: Vec::new(alloc),
             removed: steps.removed,

@@ -5,14 +5,14 @@ ghost use Rattle.std.specs.List.Sorted.{IsPermutation};
 ghost use Rattle.sqlite.specs.Held.{state};
 ghost use Rattle.sqlite.specs.State.{HasCleanDisk};
 ghost use Rattle.office_core.specs.States.{State};
-ghost use Rattle.office_sql.specs.Holds.{Holds, Leaves};
+ghost use Rattle.office_sql.specs.Holds.{Holds, Keeps, Leaves};
 ghost use Rattle.office_sql.specs.Rows.{RowsOf};
 ghost use Rattle.office_sql.specs.Tables.{no_schema, office_schema};
-ghost use Rattle.office_rows.specs.Writings.{nothing_held};
+ghost use Rattle.office_rows.specs.Batches.{nothing_held};
 ghost use Rattle.office_rows.specs.declared.store_fault.StoreFault.TheVariants.{BadRow, WrongVersion};
 ghost use Rattle.office_rows.specs.StoreFaults.{IsFailure, IsOfRows, of_found};
 ghost use Rattle.office_store.specs.Holds.{HoldsState, HasNone, HasVersion, IsOfVersion, IsStateIn, LeavesStates};
-ghost use Rattle.office_store.specs.Queries.{Asked, Only};
+ghost use Rattle.office_store.specs.Queries.{Asked, AsksOnly};
 
 use office_rows::state::is_alone;
 use office_rows::{StoreFault, is_state};
@@ -73,6 +73,7 @@ fn check_tables<S: Alter>(conn: &mut Connection<S>) -> Result<(), StoreFault>
     ensures good { HasCleanDisk (state S.Store conn.new) → IfErr result (λ e. (rows : RowsOf) → Holds (state S.Store conn.old) rows → IsFailure e) }
     ensures named { IfErr result (λ e. (e ≡ WrongVersion) ⊎ IsFailure e) }
     ensures asked { Asked (state S.Store conn.old) (state S.Store conn.new) }
+    ensures shown { Keeps (state S.Store conn.old) (state S.Store conn.new) }
     ensures ended { conn.new.in_transaction ≡ false }
 {
     if has_tables(conn) {
@@ -95,8 +96,8 @@ pub(crate) fn check_version<S: Alter>(
     ensures tables { OnOk result ((state S.Store conn.old).now.schema ≡ office_schema) }
     ensures good { HasCleanDisk (state S.Store conn.new) → IfErr result (λ e. (rows : RowsOf) → IsPermutation (version ∷ []) rows.versions → Holds (state S.Store conn.old) rows → IsFailure e) }
     ensures named { IfErr result (λ e. (e ≡ WrongVersion) ⊎ IsFailure e) }
-    ensures asked { Asked (state S.Store conn.old) (state S.Store conn.new) }
-    ensures only { HasCleanDisk (state S.Store conn.new) → OnOk result (Only (state S.Store conn.old) (state S.Store conn.new)) }
+    ensures asks { AsksOnly (state S.Store conn.old) (state S.Store conn.new) result }
+    ensures shown { Keeps (state S.Store conn.old) (state S.Store conn.new) }
     ensures ended { conn.new.in_transaction ≡ false }
 {
     check_tables(conn)?;
@@ -113,8 +114,8 @@ fn check_rows<S: Alter>(alloc: Global, conn: &mut Connection<S>) -> Result<(), S
     ensures found { HasCleanDisk (state S.Store conn.new) → OnOk result ((s : State) × HoldsState (state S.Store conn.new) s × LeavesStates (state S.Store conn.new) s s) }
     ensures good { HasCleanDisk (state S.Store conn.new) → IfErr result (λ e. (s : State) → HoldsState (state S.Store conn.old) s → IsFailure e) }
     ensures named { IfErr result IsOfRows }
-    ensures asked { Asked (state S.Store conn.old) (state S.Store conn.new) }
-    ensures only { HasCleanDisk (state S.Store conn.new) → OnOk result (Only (state S.Store conn.old) (state S.Store conn.new)) }
+    ensures asks { AsksOnly (state S.Store conn.old) (state S.Store conn.new) result }
+    ensures shown { Keeps (state S.Store conn.old) (state S.Store conn.new) }
     ensures ended { conn.new.in_transaction ≡ false }
 {
     match all_rows(alloc, conn) {
@@ -141,8 +142,8 @@ pub(crate) fn check_state<S: Alter>(
     ensures bad { HasCleanDisk (state S.Store conn.new) → result ≡ Err BadRow → HasVersion (state S.Store conn.old) }
     ensures tables { result ≡ Err BadRow → (state S.Store conn.old).now.schema ≡ office_schema }
     ensures named { IfErr result (λ e. (e ≡ WrongVersion) ⊎ IsOfRows e) }
-    ensures asked { Asked (state S.Store conn.old) (state S.Store conn.new) }
-    ensures only { HasCleanDisk (state S.Store conn.new) → OnOk result (Only (state S.Store conn.old) (state S.Store conn.new)) }
+    ensures asks { AsksOnly (state S.Store conn.old) (state S.Store conn.new) result }
+    ensures shown { Keeps (state S.Store conn.old) (state S.Store conn.new) }
     ensures ended { conn.new.in_transaction ≡ false }
 {
     check_version(alloc, conn, VERSION)?;

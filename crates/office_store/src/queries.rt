@@ -13,7 +13,7 @@ ghost use Rattle.office_sql.specs.Lookups.{records_of as rows_of, records_at, ch
 ghost use Rattle.office_rows.specs.PartRows.{AreRowsAt, rows_within};
 ghost use Rattle.office_rows.specs.StoreFaults.{IsFailure};
 ghost use Rattle.office_store.specs.Holds.{HoldsState};
-ghost use Rattle.office_store.specs.Queries.{Asked, Only, Finds, Stands};
+ghost use Rattle.office_store.specs.Queries.{AsksOnly, Finds, Stands};
 
 use dns_names::Name;
 use office_rows::StoreFault;
@@ -49,8 +49,7 @@ pub(crate) fn held_text<S: Alter>(
 ) -> Result<Option<String>, StoreFault>
     ensures text { IfOk result (λ found. IfSome found (λ text. string_bytes text ≡ name_text origin.now)) }
     ensures found { HasCleanDisk (state S.Store conn.new) → IfOk result (λ found. (s : State) → HoldsState (state S.Store conn.old) s → is_some found ≡ is_some (s.zones origin.now)) }
-    ensures asked { Asked (state S.Store conn.old) (state S.Store conn.new) }
-    ensures only { HasCleanDisk (state S.Store conn.new) → OnOk result (Only (state S.Store conn.old) (state S.Store conn.new)) }
+    ensures asks { AsksOnly (state S.Store conn.old) (state S.Store conn.new) result }
     ensures ended { OnOk result (conn.new.in_transaction ≡ false) }
     ensures named { IfErr result IsFailure }
 {
@@ -68,8 +67,7 @@ pub(crate) fn zone_rows<S: Alter>(
     origin: &Name,
 ) -> Result<Option<Vec<RecordRow>>, StoreFault>
     ensures found { HasCleanDisk (state S.Store conn.new) → IfOk result (λ found. (s : State) → HoldsState (state S.Store conn.old) s → Finds (λ all rows. IsPermutation (rows_of (name_text origin.now) all.records) rows.items) s origin.now found) }
-    ensures asked { Asked (state S.Store conn.old) (state S.Store conn.new) }
-    ensures only { HasCleanDisk (state S.Store conn.new) → OnOk result (Only (state S.Store conn.old) (state S.Store conn.new)) }
+    ensures asks { AsksOnly (state S.Store conn.old) (state S.Store conn.new) result }
     ensures ended { OnOk result (conn.new.in_transaction ≡ false) }
     ensures named { IfErr result IsFailure }
 {
@@ -88,8 +86,7 @@ pub(crate) fn part_rows<S: Alter>(
     names: &[Name],
 ) -> Result<Option<Vec<RecordRow>>, StoreFault>
     ensures found { HasCleanDisk (state S.Store conn.new) → IfOk result (λ found. (s : State) → HoldsState (state S.Store conn.old) s → Finds (λ all rows. AreRowsAt (name_text origin.now) (map key_of (origin.now ∷ names.now)) all.records rows.items) s origin.now found) }
-    ensures asked { Asked (state S.Store conn.old) (state S.Store conn.new) }
-    ensures only { HasCleanDisk (state S.Store conn.new) → OnOk result (Only (state S.Store conn.old) (state S.Store conn.new)) }
+    ensures asks { AsksOnly (state S.Store conn.old) (state S.Store conn.new) result }
 {
     check_alone(conn)?;
     let text = origin.text(alloc)?;
@@ -130,8 +127,7 @@ pub(crate) fn subtree_rows<S: Alter>(
     top: &Name,
 ) -> Result<Option<Vec<RecordRow>>, StoreFault>
     ensures found { HasCleanDisk (state S.Store conn.new) → IfOk result (λ found. (s : State) → HoldsState (state S.Store conn.old) s → Finds (λ all rows. IsPermutation (rows_within (name_text origin.now) top.now all.records) rows.items) s origin.now found) }
-    ensures asked { Asked (state S.Store conn.old) (state S.Store conn.new) }
-    ensures only { HasCleanDisk (state S.Store conn.new) → OnOk result (Only (state S.Store conn.old) (state S.Store conn.new)) }
+    ensures asks { AsksOnly (state S.Store conn.old) (state S.Store conn.new) result }
 {
     let Some(text) = held_text(alloc, conn, origin)? else {
         return Ok(None);
@@ -149,8 +145,7 @@ fn rows_below<S: Alter>(
 ) -> Result<Vec<RecordRow>, StoreFault>
     requires { conn.old.in_transaction ≡ false }
     ensures found { HasCleanDisk (state S.Store conn.new) → IfOk result (λ rows. (all : RowsOf) → Holds (state S.Store conn.old) all → IsPermutation (rows_within text.now top.now all.records) rows.items) }
-    ensures asked { Asked (state S.Store conn.old) (state S.Store conn.new) }
-    ensures only { HasCleanDisk (state S.Store conn.new) → OnOk result (Only (state S.Store conn.old) (state S.Store conn.new)) }
+    ensures asks { AsksOnly (state S.Store conn.old) (state S.Store conn.new) result }
 {
     let range = top.key_range(alloc)?;
     match &range.end {
@@ -166,8 +161,7 @@ pub(crate) fn change_rows<S: Alter>(
     origin: &Name,
 ) -> Result<Option<Vec<ChangeRow>>, StoreFault>
     ensures found { HasCleanDisk (state S.Store conn.new) → IfOk result (λ found. (s : State) → HoldsState (state S.Store conn.old) s → Finds (λ all rows. IsPermutation (changes_in (name_text origin.now) all.changes) rows.items) s origin.now found) }
-    ensures asked { Asked (state S.Store conn.old) (state S.Store conn.new) }
-    ensures only { HasCleanDisk (state S.Store conn.new) → OnOk result (Only (state S.Store conn.old) (state S.Store conn.new)) }
+    ensures asks { AsksOnly (state S.Store conn.old) (state S.Store conn.new) result }
 {
     let Some(text) = held_text(alloc, conn, origin)? else {
         return Ok(None);

@@ -7,7 +7,7 @@ ghost use Rattle.office_core.specs.States.{State, zone_at, part_at, subtree_at, 
 ghost use Rattle.office_core.specs.Tables.{change_in};
 ghost use Rattle.office_rows.specs.StoreFaults.{IsFailure};
 ghost use Rattle.office_store.specs.Holds.{HoldsState};
-ghost use Rattle.office_store.specs.Queries.{Asked, Only};
+ghost use Rattle.office_store.specs.Queries.{AsksOnly};
 
 use crate::queries::{change_rows, check_alone, part_rows, subtree_rows, zone_rows};
 use dns_data::Record;
@@ -30,8 +30,7 @@ pub(crate) fn zone_at<S: Alter>(
 ) -> Result<Option<Zone>, StoreFault>
     ensures origin { IfOk result (λ found. IfSome found (λ zone. zone.origin ≡ origin.now)) }
     ensures answer { HasCleanDisk (state S.Store conn.new) → IfOk result (λ zone. (s : State) → HoldsState (state S.Store conn.old) s → zone ≡ zone_at s origin.now) }
-    ensures asked { Asked (state S.Store conn.old) (state S.Store conn.new) }
-    ensures only { HasCleanDisk (state S.Store conn.new) → OnOk result (Only (state S.Store conn.old) (state S.Store conn.new)) }
+    ensures asks { AsksOnly (state S.Store conn.old) (state S.Store conn.new) result }
     ensures ended { OnOk result (conn.new.in_transaction ≡ false) }
     ensures named { IfErr result IsFailure }
 {
@@ -50,8 +49,7 @@ pub(crate) fn part_at<S: Alter>(
     names: &[Name],
 ) -> Result<Option<Zone>, StoreFault>
     ensures answer { HasCleanDisk (state S.Store conn.new) → IfOk result (λ zone. (s : State) → HoldsState (state S.Store conn.old) s → zone ≡ part_at s origin.now names.now) }
-    ensures asked { Asked (state S.Store conn.old) (state S.Store conn.new) }
-    ensures only { HasCleanDisk (state S.Store conn.new) → OnOk result (Only (state S.Store conn.old) (state S.Store conn.new)) }
+    ensures asks { AsksOnly (state S.Store conn.old) (state S.Store conn.new) result }
 {
     let Some(rows) = part_rows(alloc, conn, origin, names)? else {
         return Ok(None);
@@ -68,8 +66,7 @@ pub(crate) fn subtree_at<S: Alter>(
     top: &Name,
 ) -> Result<Option<Vec<Record>>, StoreFault>
     ensures answer { HasCleanDisk (state S.Store conn.new) → IfOk result (λ records. (s : State) → HoldsState (state S.Store conn.old) s → option_map (λ rs. rs.items) records ≡ subtree_at s origin.now top.now) }
-    ensures asked { Asked (state S.Store conn.old) (state S.Store conn.new) }
-    ensures only { HasCleanDisk (state S.Store conn.new) → OnOk result (Only (state S.Store conn.old) (state S.Store conn.new)) }
+    ensures asks { AsksOnly (state S.Store conn.old) (state S.Store conn.new) result }
 {
     let Some(rows) = subtree_rows(alloc, conn, origin, top)? else {
         return Ok(None);
@@ -85,8 +82,7 @@ pub(crate) fn changes_at<S: Alter>(
     origin: &Name,
 ) -> Result<Option<Vec<Change>>, StoreFault>
     ensures answer { HasCleanDisk (state S.Store conn.new) → IfOk result (λ changes. (s : State) → HoldsState (state S.Store conn.old) s → option_map (λ cs. map change_in cs.items) changes ≡ changes_at s origin.now) }
-    ensures asked { Asked (state S.Store conn.old) (state S.Store conn.new) }
-    ensures only { HasCleanDisk (state S.Store conn.new) → OnOk result (Only (state S.Store conn.old) (state S.Store conn.new)) }
+    ensures asks { AsksOnly (state S.Store conn.old) (state S.Store conn.new) result }
 {
     let Some(rows) = change_rows(alloc, conn, origin)? else {
         return Ok(None);
@@ -103,8 +99,7 @@ pub(crate) fn receipt_at<S: Alter>(
     id: &Identifier,
 ) -> Result<Option<Receipt>, StoreFault>
     ensures answer { HasCleanDisk (state S.Store conn.new) → IfOk result (λ receipt. (s : State) → HoldsState (state S.Store conn.old) s → receipt ≡ s.receipts caller.now id.now) }
-    ensures asked { Asked (state S.Store conn.old) (state S.Store conn.new) }
-    ensures only { HasCleanDisk (state S.Store conn.new) → OnOk result (Only (state S.Store conn.old) (state S.Store conn.new)) }
+    ensures asks { AsksOnly (state S.Store conn.old) (state S.Store conn.new) result }
 {
     check_alone(conn)?;
     let rows = receipts_of(alloc, conn, identifier_text(caller), identifier_text(id))?;

@@ -1,30 +1,29 @@
 //! The table in SQLite.
 
-ghost use Rattle.std.specs.Prelude.{pos, ◌≡◌, ◌≢◌, ◌↔◌, ◌⊎◌, ◌<◌, false, IfOk, IfErr, IsErrAnd, OnOk, OnErr};
+ghost use Rattle.std.specs.Prelude.{pos, ◌≡◌, ◌≢◌, ◌↔◌, ◌⊎◌, ◌<◌, false, IfOk, IfErr, IsErrAnd, IsTrue, OnErr};
 ghost use Rattle.std.specs.Option.{ForSome};
 ghost use Rattle.sqlite.specs.Held.{state};
 ghost use Rattle.sqlite.specs.State.{HasCleanDisk};
 ghost use Rattle.office_core.specs.States.{State};
 ghost use Rattle.office_core.specs.Tables.{CountsFault};
-ghost use Rattle.office_sql.specs.Rows.{RowsOf};
-ghost use Rattle.office_sql.specs.Holds.{AreRows, Holds, Leaves};
+ghost use Rattle.office_sql.specs.Holds.{Keeps, Leaves};
 ghost use Rattle.office_sql.specs.Tables.{no_schema, office_schema};
 ghost use Rattle.office_rows.specs.Contents.{ContentOf};
-ghost use Rattle.office_rows.specs.Writings.{nothing_held};
+ghost use Rattle.office_rows.specs.Batches.{nothing_held};
 ghost use Rattle.office_rows.specs.declared.store_fault.StoreFault.TheVariants.{BadRow, WrongVersion};
 ghost use Rattle.office_rows.specs.StoreFaults.{CountsFailure, CountsCall, Gives, IsFailure, IsOfRows};
 ghost use Rattle.office_store.specs.Holds.{HoldsState, HasNone, HasVersion, IsOfVersion, IsStateIn, LeavesStates};
 ghost use Rattle.office_store.specs.Cache.{IsHeldZone};
-ghost use Rattle.office_store.specs.Migration.{HoldsOld, IsMigratedIn, IsMigrated};
-ghost use Rattle.office_store.specs.Queries.{Asked, Only};
+ghost use Rattle.office_store.specs.Migration.{HoldsOld, IsMigratedFrom, IsMigrated};
+ghost use Rattle.office_store.specs.Queries.{Asked, AsksOnly, Only};
 ghost use Rattle.office_store.specs.Turns.{Turns};
 ghost use Rattle.office_store.specs.Zones.{exported, if_free, if_later, imported, replaced, with_imported, with_replaced};
 
-use crate::cache::zone_kept;
+use crate::batch::commit;
+use crate::cache::cached_zone;
 use crate::migration::migrate;
 use crate::opening::{Refused, check_state, make};
 use crate::reads::{changes_at, part_at, receipt_at, subtree_at};
-use crate::writing::commit;
 use crate::zones::{export, import, put_zone, replace, take_place};
 use dns_data::Record;
 use dns_names::Name;
@@ -43,9 +42,9 @@ pub struct SqlTable<S: Alter + Drop, L: Ledger> {
     conn: Connection<S>,
     book: Book<L>,
     share: Share<L>,
-    kept: Option<Zone>,
+    cache: Option<Zone>,
     ghost counts: { 0 < share.parts },
-    ghost fits: { ForSome kept (IsHeldZone (state S.Store conn)) },
+    ghost fits: { ForSome cache (IsHeldZone (state S.Store conn)) },
 }
 
 /// Counts a fault, if it is a failure of the store.
@@ -90,7 +89,7 @@ impl<S: Alter + Drop, L: Ledger> SqlTable<S, L> {
             conn,
             book,
             share,
-            kept: None,
+            cache: None,
         }
     }
 
@@ -153,8 +152,10 @@ impl<S: Alter + Drop, L: Ledger> SqlTable<S, L> {
         ensures bad { IfErr result (λ refused. HasCleanDisk (state S.Store refused.conn) → refused.fault ≡ BadRow → HasVersion (state S.Store conn)) }
         ensures tables { IfErr result (λ refused. refused.fault ≡ BadRow → (state S.Store conn).now.schema ≡ office_schema) }
         ensures named { IfErr result (λ refused. (refused.fault ≡ WrongVersion) ⊎ IsOfRows refused.fault) }
-        // Behind a refusal all is as it was.
+        // Behind a refusal all is as it was, whatever the tables are, and a crash leaves what was committed.
         ensures same { IfErr result (λ refused. Asked (state S.Store conn) (state S.Store refused.conn)) }
+        ensures shown { IfErr result (λ refused. Keeps (state S.Store conn) (state S.Store refused.conn)) }
+        ensures left { IfErr result (λ refused. IsTrue (state S.Store conn).is_open → Leaves (state S.Store refused.conn) (λ db. db ≡ (state S.Store conn).committed.trees)) }
         ensures ended { IfErr result (λ refused. refused.conn.in_transaction ≡ false) }
         ensures blank { IfErr result (λ refused. refused.blank ≡ blank) }
     {
@@ -177,9 +178,12 @@ impl<S: Alter + Drop, L: Ledger> SqlTable<S, L> {
         requires alone { conn.old.in_transaction ≡ false }
         // The content that was held is held migrated, and a crash leaves that.
         ensures made { HasCleanDisk (state S.Store conn.new) → IfOk result (IsMigrated (state S.Store conn.old) (state S.Store conn.new)) }
-        // Behind a refusal all is as it was, and a crash leaves that or the content migrated.
-        ensures failed { OnErr result ((rows : RowsOf) → Holds (state S.Store conn.old) rows → Holds (state S.Store conn.new) rows) }
-        ensures crash { OnErr result ((rows : RowsOf) → Holds (state S.Store conn.old) rows → Leaves (state S.Store conn.old) (λ db. AreRows db rows) → Leaves (state S.Store conn.new) (λ db. AreRows db rows ⊎ IsMigratedIn db rows)) }
+        // Behind a refusal the connection shows what it showed, whatever the tables are; and a crash leaves what it left before, or the
+        // content migrated.
+        ensures failed { OnErr result (Keeps (state S.Store conn.old) (state S.Store conn.new)) }
+        ensures crash { OnErr result (Leaves (state S.Store conn.new) (λ db. (state S.Store conn.old).may_leave db ⊎ IsMigratedFrom (state S.Store conn.old) db)) }
+        // Behind `WrongVersion` and `BadRow` it leaves nothing else than before.
+        ensures same { (result ≡ Err WrongVersion) ⊎ (result ≡ Err BadRow) → Asked (state S.Store conn.old) (state S.Store conn.new) }
         // Over rows of version 1 only the store fails or memory runs out; so `BadRow` says that they are none.
         ensures good { HasCleanDisk (state S.Store conn.new) → IfErr result (λ e. (content : ContentOf) → HoldsOld (state S.Store conn.old) content → IsFailure e) }
         ensures wrong { HasCleanDisk (state S.Store conn.new) → result ≡ Err WrongVersion → ¬ IsOfVersion (pos 1) (state S.Store conn.old) }
@@ -208,7 +212,7 @@ impl<S: Alter + Drop, L: Ledger> SqlTable<S, L> {
         ensures turns { Turns (state S.Store self.old.conn) (state S.Store self.new.conn) result (λ s. with_imported s (if_free (s.zones zone.now.origin) zone.now)) }
         ensures counts { CountsCall self.old.book.total self.new.book.total result }
     {
-        self.kept = None;
+        self.cache = None;
         match put_zone(alloc, &mut self.conn, zone) {
             Ok(()) => Ok(()),
             Err(fault) => Err(counted(&mut self.book, &mut self.share, fault)),
@@ -226,7 +230,7 @@ impl<S: Alter + Drop, L: Ledger> SqlTable<S, L> {
         ensures turns { Turns (state S.Store self.old.conn) (state S.Store self.new.conn) result (λ s. with_replaced s (if_later (s.zones zone.now.origin) zone.now)) }
         ensures counts { CountsCall self.old.book.total self.new.book.total result }
     {
-        self.kept = None;
+        self.cache = None;
         match take_place(alloc, &mut self.conn, zone) {
             Ok(()) => Ok(()),
             Err(fault) => Err(counted(&mut self.book, &mut self.share, fault)),
@@ -247,7 +251,7 @@ impl<S: Alter + Drop, L: Ledger> SqlTable<S, L> {
         ensures turns { Turns (state S.Store self.old.conn) (state S.Store self.new.conn) result (λ s. with_imported s (imported s origin records.items)) }
         ensures counts { CountsCall self.old.book.total self.new.book.total result }
     {
-        self.kept = None;
+        self.cache = None;
         match import(alloc, &mut self.conn, origin, records) {
             Ok(zone) => Ok(zone),
             Err(fault) => Err(counted(&mut self.book, &mut self.share, fault)),
@@ -270,7 +274,7 @@ impl<S: Alter + Drop, L: Ledger> SqlTable<S, L> {
         ensures turns { Turns (state S.Store self.old.conn) (state S.Store self.new.conn) result (λ s. with_replaced s (replaced s origin records.items)) }
         ensures counts { CountsCall self.old.book.total self.new.book.total result }
     {
-        self.kept = None;
+        self.cache = None;
         match replace(alloc, &mut self.conn, origin, records) {
             Ok(zone) => Ok(zone),
             Err(fault) => Err(counted(&mut self.book, &mut self.share, fault)),
@@ -285,11 +289,10 @@ impl<S: Alter + Drop, L: Ledger> SqlTable<S, L> {
         origin: &Name,
     ) -> Result<Vec<Record>, StoreFault>
         ensures answer { HasCleanDisk (state S.Store self.new.conn) → (s : State) → HoldsState (state S.Store self.old.conn) s → Gives (λ records. records.items) result (exported (s.zones origin.now)) }
-        ensures asked { Asked (state S.Store self.old.conn) (state S.Store self.new.conn) }
-        ensures only { HasCleanDisk (state S.Store self.new.conn) → OnOk result (Only (state S.Store self.old.conn) (state S.Store self.new.conn)) }
+        ensures asks { AsksOnly (state S.Store self.old.conn) (state S.Store self.new.conn) result }
         ensures counts { CountsCall self.old.book.total self.new.book.total result }
     {
-        self.kept = None;
+        self.cache = None;
         match export(alloc, &mut self.conn, origin) {
             Ok(records) => Ok(records),
             Err(fault) => Err(counted(&mut self.book, &mut self.share, fault)),
@@ -310,7 +313,7 @@ impl<S: Alter + Drop, L: Ledger> ZoneTable for SqlTable<S, L> {
     ghost failures = { λ t. t.book.total };
 
     fn zone(&mut self, alloc: Global, origin: &Name) -> Result<Option<Zone>, TableFault> {
-        match zone_kept(alloc, &mut self.conn, &mut self.kept, origin) {
+        match cached_zone(alloc, &mut self.conn, &mut self.cache, origin) {
             Ok(zone) => Ok(zone),
             Err(fault) => Err(refused(&mut self.book, &mut self.share, fault)),
         }
@@ -325,7 +328,7 @@ impl<S: Alter + Drop, L: Ledger> ZoneTable for SqlTable<S, L> {
         match part_at(alloc, &mut self.conn, origin, names) {
             Ok(part) => Ok(part),
             Err(fault) => {
-                self.kept = None;
+                self.cache = None;
                 Err(refused(&mut self.book, &mut self.share, fault))
             }
         }
@@ -340,7 +343,7 @@ impl<S: Alter + Drop, L: Ledger> ZoneTable for SqlTable<S, L> {
         match subtree_at(alloc, &mut self.conn, origin, top) {
             Ok(records) => Ok(records),
             Err(fault) => {
-                self.kept = None;
+                self.cache = None;
                 Err(refused(&mut self.book, &mut self.share, fault))
             }
         }
@@ -355,7 +358,7 @@ impl<S: Alter + Drop, L: Ledger> ZoneTable for SqlTable<S, L> {
         match receipt_at(alloc, &mut self.conn, caller, id) {
             Ok(receipt) => Ok(receipt),
             Err(fault) => {
-                self.kept = None;
+                self.cache = None;
                 Err(refused(&mut self.book, &mut self.share, fault))
             }
         }
@@ -365,14 +368,14 @@ impl<S: Alter + Drop, L: Ledger> ZoneTable for SqlTable<S, L> {
         match changes_at(alloc, &mut self.conn, origin) {
             Ok(changes) => Ok(changes),
             Err(fault) => {
-                self.kept = None;
+                self.cache = None;
                 Err(refused(&mut self.book, &mut self.share, fault))
             }
         }
     }
 
     fn commit(&mut self, alloc: Global, addition: Addition) -> Result<(), TableFault> {
-        self.kept = None;
+        self.cache = None;
         match commit(alloc, &mut self.conn, &addition) {
             Ok(()) => Ok(()),
             Err(fault) => Err(refused(&mut self.book, &mut self.share, fault)),

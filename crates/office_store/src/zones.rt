@@ -8,16 +8,16 @@ ghost use Rattle.zone_core.specs.Zones.{IsZone};
 ghost use Rattle.office_core.specs.States.{Held, State};
 ghost use Rattle.office_rows.specs.StoreFaults.{Gives};
 ghost use Rattle.office_store.specs.Holds.{HoldsState};
-ghost use Rattle.office_store.specs.Queries.{Asked, Only};
+ghost use Rattle.office_store.specs.Queries.{AsksOnly};
 ghost use Rattle.office_store.specs.Turns.{Turns};
 ghost use Rattle.office_store.specs.Zones.{if_free, if_later, exported, imported, replaced, with_imported, with_replaced};
 
+use crate::batch::{next_number, write_to};
 use crate::queries::{held_text, zone_rows};
 use crate::reads::zone_at;
-use crate::writing::{next_number, write_to};
 use dns_data::Record;
 use dns_names::Name;
-use office_rows::{StoreFault, records_within, replacement_writing, zone_writing};
+use office_rows::{StoreFault, records_within, replacement_batch, zone_batch};
 use sqlite::{Alter, Connection};
 use std::alloc::Global;
 use zone_core::{Zone, serial_less};
@@ -34,8 +34,8 @@ pub(crate) fn put_zone<S: Alter>(
     let None = held_text(alloc, conn, zone.origin())? else {
         return Err(StoreFault::ZoneExists);
     };
-    let writing = zone_writing(alloc, zone)?;
-    write_to(conn, &writing)
+    let batch = zone_batch(alloc, zone)?;
+    write_to(conn, &batch)
 }
 
 /// Imports the zone of an origin and records.
@@ -70,8 +70,7 @@ fn zone_before<S: Alter>(
     ensures differs { IfOk result (λ old. is_same old.records zone.now.records ≡ false) }
     ensures held { HasCleanDisk (state S.Store conn.new) → IfOk result (λ old. (s : State) → HoldsState (state S.Store conn.old) s → (held : Held) × (s.zones zone.now.origin ≡ Some held) × (held.records ≡ old.records)) }
     ensures answer { HasCleanDisk (state S.Store conn.new) → (s : State) → HoldsState (state S.Store conn.old) s → Gives (λ _. zone.now) result (if_later (s.zones zone.now.origin) zone.now) }
-    ensures asked { Asked (state S.Store conn.old) (state S.Store conn.new) }
-    ensures only { HasCleanDisk (state S.Store conn.new) → OnOk result (Only (state S.Store conn.old) (state S.Store conn.new)) }
+    ensures asks { AsksOnly (state S.Store conn.old) (state S.Store conn.new) result }
 {
     let Some(old) = zone_at(alloc, conn, zone.origin())? else {
         return Err(StoreFault::NoZone);
@@ -94,8 +93,8 @@ pub(crate) fn take_place<S: Alter>(
 {
     let old = zone_before(alloc, conn, zone)?;
     let number = next_number(alloc, conn, zone.origin())?;
-    let writing = replacement_writing(alloc, &old, zone, number)?;
-    write_to(conn, &writing)
+    let batch = replacement_batch(alloc, &old, zone, number)?;
+    write_to(conn, &batch)
 }
 
 /// Puts the zone of an origin and records in the place of the one that is held.
@@ -120,8 +119,7 @@ pub(crate) fn export<S: Alter>(
     origin: &Name,
 ) -> Result<Vec<Record>, StoreFault>
     ensures answer { HasCleanDisk (state S.Store conn.new) → (s : State) → HoldsState (state S.Store conn.old) s → Gives (λ records. records.items) result (exported (s.zones origin.now)) }
-    ensures asked { Asked (state S.Store conn.old) (state S.Store conn.new) }
-    ensures only { HasCleanDisk (state S.Store conn.new) → OnOk result (Only (state S.Store conn.old) (state S.Store conn.new)) }
+    ensures asks { AsksOnly (state S.Store conn.old) (state S.Store conn.new) result }
 {
     let Some(rows) = zone_rows(alloc, conn, origin)? else {
         return Err(StoreFault::NoZone);

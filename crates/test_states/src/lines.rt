@@ -1,7 +1,7 @@
 //! Rows of tables as lines.
 
 use anyhow::{Result, bail};
-use office_sql::{AllRows, ChangeRow, ReceiptRow, RecordRow, Writing, ZoneRow};
+use office_sql::{AllRows, Batch, ChangeRow, ReceiptRow, RecordRow, ZoneRow};
 use std::alloc::{AllocError, Global};
 
 /// The first word of a text, and what stands behind it.
@@ -125,27 +125,23 @@ fn push_receipt(alloc: Global, row: &ReceiptRow, answer: &mut Vec<u8>) -> Result
 }
 
 /// Appends a line for each row that is written, and `gone` in the place of `record` for those that go.
-pub fn push_writing(
-    alloc: Global,
-    writing: &Writing,
-    answer: &mut Vec<u8>,
-) -> Result<(), AllocError> {
-    if let Some(version) = writing.version {
+pub fn push_batch(alloc: Global, batch: &Batch, answer: &mut Vec<u8>) -> Result<(), AllocError> {
+    if let Some(version) = batch.version {
         answer.extend_from_slice(format!(in alloc; "version {version}\n")?.as_bytes())?;
     }
-    for origin in &writing.zones {
+    for origin in &batch.zones {
         answer.extend_from_slice(format!(in alloc; "zone {origin}\n")?.as_bytes())?;
     }
-    for row in &writing.removed {
+    for row in &batch.removed {
         push_record(alloc, "gone", row, answer)?;
     }
-    for row in &writing.added {
+    for row in &batch.added {
         push_record(alloc, "record", row, answer)?;
     }
-    for row in &writing.changes {
+    for row in &batch.changes {
         push_change(alloc, row, answer)?;
     }
-    for row in &writing.receipts {
+    for row in &batch.receipts {
         push_receipt(alloc, row, answer)?;
     }
     Ok(())

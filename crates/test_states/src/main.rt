@@ -10,10 +10,10 @@
 //! `replacement NUMBER` for that of lines `new` in the place of that of lines `old`.
 #![tactic(auto)]
 
+mod batches;
 mod kept;
 mod lines;
 mod reads;
-mod writings;
 
 use std::io;
 

@@ -13,12 +13,12 @@
 #![tactic(auto)]
 
 mod asking;
+mod batch;
 mod columns;
 mod refusal;
 mod replies;
 mod rows;
 mod tables;
-mod writing;
 
 use std::io;
 

@@ -6,11 +6,11 @@ use crate::asking::{
     push_all, push_changes, push_last, push_receipts, push_records, push_records_at,
     push_records_between, push_versions, push_zone,
 };
+use crate::batch::batch_of;
 use crate::columns::text_of;
 use crate::refusal::Refusal;
 use crate::replies::push_reply;
 use crate::rows;
-use crate::writing::writing_of;
 use office_rows::RowFault;
 use office_sql::{RowsFault, has_no_tables, has_tables, make_tables, write};
 use sqlite::{Connection, MemStore};
@@ -93,7 +93,7 @@ fn write_below(
 ) -> Result<(), Refusal>
     requires { conn.old.in_transaction ≡ false }
 {
-    write(conn, &writing_of(alloc, text_of(&row.body)?)?)?;
+    write(conn, &batch_of(alloc, text_of(&row.body)?)?)?;
     push("written", answer)
 }
 

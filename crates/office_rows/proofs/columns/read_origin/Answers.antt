@@ -1,15 +1,22 @@
-use Rattle.std.proofs.Common.{◌≡◌, ap, ◌∙◌}
-use Rattle.dns_names.specs.Labels.{IsName}
+use Rattle.std.proofs.Common.{◌≡◌, false, sym, ap, ◌∙◌}
+use Rattle.std.proofs.lemmas.Result.{err_from_is_err_and}
 use Rattle.dns_names.specs.Spelling.{name_text}
-use Rattle.office_rows.specs.RowReading.{name_in}
-use Rattle.office_rows.proofs.ColumnLaws.{name_read, name_found}
-use Rattle.office_rows.proofs.RowSteps.{done, reads_same, found_with}
+use Rattle.office_rows.specs.RowReading.{name_from}
+use Rattle.office_rows.proofs.RowSteps.{done, ok_is, refuses_given, no_other}
+use Rattle.office_rows.proofs.StoredLaws.{name_stored}
 use Rattle.office_rows.proofs.columns.read_origin.Goals as goal
 
-pub returns-clause-found : goal.returns-clause-found
-returns-clause-found c =
-    let text = c.args.text.now in
-    found_with (λ name. name) IsName (λ name. (text ≡ name_text name) × IsName name) c.name_in.result (name_in text) c.name_in.ensures.exact c.name_in.ensures.name (λ name is e. (name_found text name e, is))
+pub returns-in_err-name-clause-only : goal.returns-in_err-name-clause-only
+returns-in_err-name-clause-only c = λ name is e.
+    let p = err_from_is_err_and c.from_residual.result c.from_residual.ensures.1 in
+    rw (p.1, p.2) (refuses_given c.in_err-name.field-0.0 (name_from c.args.text.now) name name (ap name_from e ∙ name_stored name is) c.in_err-name.ensures.exact)
+
+pub returns-then-ne-clause-only : goal.returns-then-ne-clause-only
+returns-then-ne-clause-only c = λ name is e.
+    let read = ok_is name c.in_ok-name.name (sym (ap name_from e ∙ name_stored name is) ∙ c.in_ok-name.ensures.exact) in
+    let spelled = c.as_str.ensures.value ∙ c.in_ok-text.ensures.canonical ∙ ap name_text (sym read) ∙ sym e in
+    let same : c.ne.result ≡ false = no_other c.as_str.result.now c.args.text.now c.ne.result c.ne.ensures spelled in
+    absurd (let no = c.if-ne.true in cc)
 
 pub returns-clause-only : goal.returns-clause-only
-returns-clause-only c = λ name is e. reads_same (λ read. read) c.name_in.result (name_in c.args.text.now) (done name) (ap name_in e ∙ name_read name is) c.name_in.ensures.exact
+returns-clause-only c = λ name is e. ap done (ok_is name c.in_ok-name.name (sym (ap name_from e ∙ name_stored name is) ∙ c.in_ok-name.ensures.exact))

@@ -1,10 +1,11 @@
-use Rattle.std.proofs.Common.{sym, ap, map}
+use Rattle.std.proofs.Common.{sym, ap, map, ◌∙◌}
 use Rattle.std.proofs.lemmas.List.Sorted.{IsPermutation-trans}
 use Rattle.dns_names.specs.Spelling.{name_text}
 use Rattle.office_sql.specs.Lookups.{records_of}
 use Rattle.office_rows.specs.RecordRows.{record_row}
+use Rattle.office_rows.specs.RowReading.{zone_by}
 use Rattle.office_rows.proofs.RowSteps.{done, reads_same}
-use Rattle.office_rows.proofs.ZoneReadLemmas.{rows_moved, zone_of_state}
+use Rattle.office_rows.proofs.ZoneReadLemmas.{rows_moved, zone_of_state, zone_stored}
 use Rattle.office_rows.proofs.reads.zone_of.Goals as goal
 
 pub returns-clause-held : goal.returns-clause-held
@@ -13,4 +14,4 @@ returns-clause-held c = λ version all s zone st e same.
     let found = zone_of_state version all s o zone st e in
     let at = found.1 in
     let rows = rows_moved o found.0 c.args.rows.now (IsPermutation-trans (map (record_row o) found.0) (records_of (name_text o) all.records) c.args.rows.now at.rows same) in
-    reads_same (λ z. z) c.zone_in.result _ (done zone) (ap done (sym found.2)) (c.zone_in.ensures.held found.0 at.named at.zone rows)
+    reads_same (λ z. z) c.zone_by.result (zone_by o c.args.rows.now) (done zone) (zone_stored o at.named found.0 at.zone c.args.rows.now rows ∙ ap done (sym found.2)) c.zone_by.ensures.exact

@@ -1,17 +1,29 @@
-use Rattle.std.proofs.Common.{◌≡◌, ap, ◌∙◌}
-use Rattle.office_rows.specs.Contents.{IsReceiptAt}
+use Rattle.std.proofs.Common.{◌≡◌, true, sym, ap, ◌∙◌}
+use Rattle.std.proofs.lemmas.Result.{err_from_is_err_and}
+use Rattle.office_sql.specs.Rows.{ReceiptRowOf}
 use Rattle.office_rows.specs.ReceiptRows.{receipt_row}
-use Rattle.office_rows.specs.RowReading.{receipt_in}
-use Rattle.office_rows.proofs.ReceiptRowLaws.{receipt_read, receipt_found}
-use Rattle.office_rows.proofs.RowSteps.{done, reads_same, found_with}
+use Rattle.office_rows.specs.RowReading.{identifier_in, receipt_in}
+use Rattle.office_rows.proofs.ReceiptRowLaws.{receipt_read}
+use Rattle.office_rows.proofs.ReplyLaws.{identifier_read}
+use Rattle.office_rows.proofs.RowSteps.{done, ok_is, refuses_given}
 use Rattle.office_rows.proofs.receipts.read_receipt.Goals as goal
 
-pub returns-clause-found : goal.returns-clause-found
-returns-clause-found c =
-    let row = c.args.row.now in
-    found_with (λ x. (x.0, (x.1, x.2))) (λ x. IsReceiptAt (record { caller = x.0; id = x.1; receipt = x.2 })) (λ x. (row ≡ receipt_row x.0 x.1 x.2) × IsReceiptAt (record { caller = x.0; id = x.1; receipt = x.2 })) c.receipt_in.result
-    (receipt_in row) c.receipt_in.ensures.exact c.receipt_in.ensures.receipt (λ x is e. (receipt_found row x.0 x.1 x.2 e, is))
+pub returns-in_err-receipt-clause-only : goal.returns-in_err-receipt-clause-only
+returns-in_err-receipt-clause-only c = λ r is e.
+    let p = err_from_is_err_and c.from_residual-in_err-receipt.result c.from_residual-in_err-receipt.ensures.1 in
+    rw (p.1, p.2) (refuses_given c.in_err-receipt.field-0.0 (receipt_in c.args.row.now) r.receipt (r.caller, (r.id, r.receipt)) (ap receipt_in e ∙ receipt_read r is) c.in_err-receipt.ensures)
+
+pub returns-then-not-are_same-clause-only : goal.returns-then-not-are_same-clause-only
+returns-then-not-are_same-clause-only c = λ r is e.
+    let caller = ok_is r.caller c.in_ok-caller.caller (sym (ap (λ (x : ReceiptRowOf). identifier_in x.caller) e ∙ identifier_read r.caller is.caller) ∙ ap identifier_in (sym (c.as_bytes.ensures.value ∙ ap (λ (x : ReceiptRowOf). x.caller) c.row.view_is)) ∙ c.in_ok-caller.ensures) in
+    let id = ok_is r.id c.in_ok-id.id (sym (ap (λ (x : ReceiptRowOf). identifier_in x.id) e ∙ identifier_read r.id is.id) ∙ ap identifier_in (sym (c.as_bytes-2.ensures.value ∙ ap (λ (x : ReceiptRowOf). x.id) c.row.view_is)) ∙ c.in_ok-id.ensures) in
+    let kept = ok_is r.receipt c.in_ok-receipt.receipt (sym (ap receipt_in e ∙ receipt_read r is) ∙ c.in_ok-receipt.ensures) in
+    let told : c.are_same.result ≡ true = c.are_same.ensures.1 (c.in_ok-again.ensures.row ∙ sym (λ i. receipt_row (caller i) (id i) (kept i)) ∙ sym e) in
+    absurd (let no = c.if-not-are_same.true in cc)
 
 pub returns-clause-only : goal.returns-clause-only
 returns-clause-only c = λ r is e.
-    reads_same (λ x. (x.0, (x.1, x.2))) c.receipt_in.result (receipt_in c.args.row.now) (done (r.caller, (r.id, r.receipt))) (ap receipt_in e ∙ receipt_read r is) c.receipt_in.ensures.exact
+    let caller = ok_is r.caller c.in_ok-caller.caller (sym (ap (λ (x : ReceiptRowOf). identifier_in x.caller) e ∙ identifier_read r.caller is.caller) ∙ ap identifier_in (sym (c.as_bytes.ensures.value ∙ ap (λ (x : ReceiptRowOf). x.caller) c.row.view_is)) ∙ c.in_ok-caller.ensures) in
+    let id = ok_is r.id c.in_ok-id.id (sym (ap (λ (x : ReceiptRowOf). identifier_in x.id) e ∙ identifier_read r.id is.id) ∙ ap identifier_in (sym (c.as_bytes-2.ensures.value ∙ ap (λ (x : ReceiptRowOf). x.id) c.row.view_is)) ∙ c.in_ok-id.ensures) in
+    let kept = ok_is r.receipt c.in_ok-receipt.receipt (sym (ap receipt_in e ∙ receipt_read r is) ∙ c.in_ok-receipt.ensures) in
+    ap done (λ i. (caller i, (id i, kept i)))

@@ -1,14 +1,27 @@
-use Rattle.std.proofs.Common.{◌≡◌, ap, ◌∙◌}
-use Rattle.office_rows.specs.ReplyWords.{reply_words, IsReply}
+use Rattle.std.proofs.Common.{◌≡◌, false, sym, ap, ◌∙◌}
+use Rattle.std.proofs.lemmas.Result.{err_from_is_err_and}
+use Rattle.office_rows.specs.ReplyWords.{reply_words}
 use Rattle.office_rows.specs.RowReading.{reply_in}
-use Rattle.office_rows.proofs.ReplyLaws.{reply_read, reply_found}
-use Rattle.office_rows.proofs.RowSteps.{done, reads_same, found_with}
+use Rattle.office_rows.proofs.ReplyLaws.{reply_read}
+use Rattle.office_rows.proofs.RowSteps.{done, ok_is, refuses_given, no_other, same_spelling}
 use Rattle.office_rows.proofs.replies.read_reply.Goals as goal
+
+pub returns-in_err-reply-clause-only : goal.returns-in_err-reply-clause-only
+returns-in_err-reply-clause-only c = λ reply is e.
+    let p = err_from_is_err_and c.from_residual.result c.from_residual.ensures.1 in
+    rw (p.1, p.2) (refuses_given c.in_err-reply.field-0.0 (reply_in c.args.words.now) reply reply (ap reply_in e ∙ reply_read reply is) c.in_err-reply.ensures)
+
+pub returns-then-ne-clause-only : goal.returns-then-ne-clause-only
+returns-then-ne-clause-only c = λ reply is e.
+    let read = ok_is reply c.in_ok-reply.reply (sym (ap reply_in e ∙ reply_read reply is) ∙ c.in_ok-reply.ensures) in
+    let spelled = c.as_str.ensures.value ∙ c.in_ok-reply_words.ensures ∙ ap reply_words (sym read) ∙ sym e in
+    let same : c.ne.result ≡ false = no_other c.as_str.result.now c.args.words.now c.ne.result c.ne.ensures spelled in
+    absurd (let no = c.if-ne.true in cc)
 
 pub returns-clause-found : goal.returns-clause-found
 returns-clause-found c =
-    let text = c.args.words.now in
-    found_with (λ reply. reply) IsReply (λ reply. (text ≡ reply_words reply) × IsReply reply) c.reply_in.result (reply_in text) c.reply_in.ensures.exact c.reply_in.ensures.reply (λ reply is e. (reply_found text reply e, is))
+    let spelled = same_spelling c.as_str.result.now c.args.words.now c.ne.result c.ne.ensures c.if-ne.false in
+    (sym spelled ∙ c.as_str.ensures.value ∙ c.in_ok-reply_words.ensures, c.notes_reply.ensures)
 
 pub returns-clause-only : goal.returns-clause-only
-returns-clause-only c = λ reply is e. reads_same (λ read. read) c.reply_in.result (reply_in c.args.words.now) (done reply) (ap reply_in e ∙ reply_read reply is) c.reply_in.ensures.exact
+returns-clause-only c = λ reply is e. ap done (ok_is reply c.in_ok-reply.reply (sym (ap reply_in e ∙ reply_read reply is) ∙ c.in_ok-reply.ensures))

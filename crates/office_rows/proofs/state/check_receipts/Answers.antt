@@ -1,6 +1,6 @@
 use Rattle.std.proofs.Common.{◌≡◌, true, sym, ap, ◌∙◌}
 use Rattle.std.proofs.lemmas.Result.{err_from_is_err_and}
-use Rattle.office_rows.specs.Checks.{AreReceiptRows, kept_order}
+use Rattle.office_rows.specs.Checks.{AreReceiptRows, caller_receipt_order}
 use Rattle.office_rows.specs.Orders.{rises}
 use Rattle.office_rows.proofs.StateChecks.{refused, receipt_rows, receipts_rise, are_receipt_rows}
 use Rattle.office_rows.proofs.state.check_receipts.Goals as goal
@@ -16,7 +16,7 @@ returns-then-not-are_apart c = λ are.
     let rows = c.args.rows.now in
     let ks = c.in_ok-receipts.receipts.items in
     let found = c.in_ok-receipts.ensures.found in
-    let told : c.are_apart.result ≡ true = c.are_apart.ensures ∙ ap (rises kept_order) c.deref.ensures.value ∙ receipts_rise rows ks found.0 found.1 are found.2 in
+    let told : c.are_apart.result ≡ true = c.are_apart.ensures ∙ ap (rises caller_receipt_order) c.deref.ensures.value ∙ receipts_rise rows ks found.0 found.1 are found.2 in
     let no = c.if-not-are_apart.true in
     cc
 
@@ -25,4 +25,4 @@ returns c =
     let rows = c.args.rows.now in
     let ks = c.in_ok-receipts.receipts.items in
     let found = c.in_ok-receipts.ensures.found in
-    are_receipt_rows rows ks found.0 found.1 (sym (c.are_apart.ensures ∙ ap (rises kept_order) c.deref.ensures.value) ∙ c.if-not-are_apart.false)
+    are_receipt_rows rows ks found.0 found.1 (sym (c.are_apart.ensures ∙ ap (rises caller_receipt_order) c.deref.ensures.value) ∙ c.if-not-are_apart.false)

@@ -5,7 +5,7 @@ use Rattle.office_rows.specs.declared.row_fault.RowFault.{RowFault}
 use Rattle.office_rows.specs.declared.row_fault.RowFault.TheVariants.{BadRow, NoMemory}
 use Rattle.office_rows.specs.Contents.{ContentOf}
 use Rattle.office_rows.specs.Checks.{AreReceiptRows, Checks}
-use Rattle.office_store.specs.MigratedContents.{migration_writing}
+use Rattle.office_store.specs.MigratedContents.{migration_batch}
 use Rattle.office_store.specs.MigrationSteps.{AreOldZoneRows, AreSteps}
 use Rattle.office_store.proofs.MigratedContentLemmas.{migrates, one_version, zone_rows, receipt_rows}
 use Rattle.office_store.proofs.migration_rows.migration_of.Goals as goal
@@ -57,6 +57,6 @@ returns-clause-found c =
     let receipts = subst AreReceiptRows (c.deref-2.ensures.value ∙ ap (λ (r : RowsOf). r.receipts) c.rows.view_is) c.in_ok-check_receipts.ensures in
     let content : ContentOf = record { zones = found.0.zones; receipts = receipts.receipts } in
     let one = ap (λ (r : RowsOf). r.versions) (sym c.rows.view_is) ∙ sym c.deref.ensures.value ∙ c.is_alone.ensures.0 c.if-not-is_alone.false in
-    let is : record { version = Some (pos 2); zones = map string_bytes c.new.result.items; removed = steps.removed.items; added = steps.added.items; changes = steps.changes.items; receipts = c.new-2.result.items } ≡ migration_writing content =
+    let is : record { version = Some (pos 2); zones = map string_bytes c.new.result.items; removed = steps.removed.items; added = steps.added.items; changes = steps.changes.items; receipts = c.new-2.result.items } ≡ migration_batch content =
     λ i. record { version = Some (pos 2); zones = map string_bytes (c.new.ensures.items i); removed = found.1.removed i; added = found.1.added i; changes = found.1.changes i; receipts = c.new-2.ensures.items i } in
     migrates rows _ steps.zones one found.0 receipts is found.1.zones

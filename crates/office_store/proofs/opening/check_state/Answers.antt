@@ -3,6 +3,7 @@ use Rattle.std.proofs.lemmas.Result.{err_from_is_err_and, IfErr-weaker, on_ok_we
 use Rattle.sqlite.specs.Held.{state}
 use Rattle.office_core.specs.States.{State}
 use Rattle.office_rows.specs.StoreFaults.{IsFailure}
+use Rattle.office_sql.proofs.Commits.{keeps_then}
 use Rattle.office_store.specs.Holds.{HoldsState}
 use Rattle.office_store.proofs.QueryLemmas.{asked_then, only_then}
 use Rattle.office_store.proofs.FaultLemmas.{if_err_at}
@@ -16,14 +17,17 @@ returns-in_err-check_version-clause-good g c =
     if_err_at (λ e. (s : State) → HoldsState (state g.S.Store c.args.conn.now) s → IsFailure e) _ c.from_residual.result is (λ s h. c.in_err-check_version.ensures.good clean h.rows h.are.same.versions h.held)
 
 pub returns-clause-good : goal.returns-clause-good
-returns-clause-good g c = λ clean. IfErr-weaker c.check_rows.result _ _ (λ e good s h. good s (c.check_version.ensures.asked.same s h)) (c.check_rows.ensures.good clean)
+returns-clause-good g c = λ clean. IfErr-weaker c.check_rows.result _ _ (λ e good s h. good s (c.check_version.ensures.asks.0.same s h)) (c.check_rows.ensures.good clean)
 
-pub returns-clause-only : goal.returns-clause-only
-returns-clause-only g c =
-    λ clean. on_ok_weaker c.check_rows.result
-    (λ next. only_then (state g.S.Store c.args.conn.now) (state g.S.Store c.check_version.new.conn) (state g.S.Store c.check_rows.new.conn) (c.in_ok-check_version.ensures.only (c.check_rows.ensures.asked.honest clean)) next)
-    (c.check_rows.ensures.only clean)
+pub returns-clause-asks : goal.returns-clause-asks
+returns-clause-asks g c =
+    let old = state g.S.Store c.args.conn.now in
+    let mid = state g.S.Store c.check_version.new.conn in
+    let new = state g.S.Store c.check_rows.new.conn in (
+      asked_then old mid new c.check_version.ensures.asks.0 c.check_rows.ensures.asks.0,
+      λ clean. on_ok_weaker c.check_rows.result (λ next. only_then old mid new (c.in_ok-check_version.ensures.asks.1 (c.check_rows.ensures.asks.0.honest clean)) next) (c.check_rows.ensures.asks.1 clean),
+    )
 
-pub returns-clause-asked : goal.returns-clause-asked
-returns-clause-asked g c =
-    asked_then (state g.S.Store c.args.conn.now) (state g.S.Store c.check_version.new.conn) (state g.S.Store c.check_rows.new.conn) c.check_version.ensures.asked c.check_rows.ensures.asked
+pub returns-clause-shown : goal.returns-clause-shown
+returns-clause-shown g c =
+    keeps_then (state g.S.Store c.args.conn.now) (state g.S.Store c.check_version.new.conn) (state g.S.Store c.check_rows.new.conn) c.check_version.ensures.shown c.check_rows.ensures.shown

@@ -1,26 +1,33 @@
 use Rattle.std.proofs.Common.{[], arith}
 use Rattle.sqlite.specs.Held.{state}
 use Rattle.sqlite.specs.State.{HasCleanDisk}
-use Rattle.office_sql.specs.Holds.{Keeps}
 use Rattle.office_sql.proofs.Queries.{not_run_keeps_all}
 use Rattle.office_sql.proofs.Commits.{clean_if_open, holds_on, left_before, unchanged_keeps_all}
 use Rattle.office_store.proofs.QueryLemmas.{asked_of}
 use Rattle.office_store.proofs.opening.check_tables.Goals as goal
 
+pub returns-in_err-_statement-clause-shown : goal.returns-in_err-_statement-clause-shown
+returns-in_err-_statement-clause-shown g c up =
+    let old = state g.S.Store c.args.conn.now in
+    let new = state g.S.Store c.prepare.new.self in
+    let clean : HasCleanDisk new = clean_if_open _ _ (g.met.S.Store.shut_if_dirty c.prepare.new.self.store) up in
+    not_run_keeps_all old new _ _ _ (c.in_err-_statement.ensures.err clean []) up
+
 pub returns-in_err-_statement-clause-asked : goal.returns-in_err-_statement-clause-asked
 returns-in_err-_statement-clause-asked g c =
     let old = state g.S.Store c.args.conn.now in
     let new = state g.S.Store c.prepare.new.self in
-    let keeps : Keeps old new = λ up.
+    asked_of old new (λ rows h. holds_on old new rows (returns-in_err-_statement-clause-shown g c) h) (λ clean db may. left_before old new c.prepare.ensures.survives clean db may) (λ clean. omega (arith, c.prepare.ensures.survives.clean))
+
+pub returns-clause-shown : goal.returns-clause-shown
+returns-clause-shown g c up =
+    let old = state g.S.Store c.args.conn.now in
+    let new = state g.S.Store c.prepare.new.self in
     let clean : HasCleanDisk new = clean_if_open _ _ (g.met.S.Store.shut_if_dirty c.prepare.new.self.store) up in
-    not_run_keeps_all old new _ _ _ (c.in_err-_statement.ensures.err clean []) up in
-    asked_of old new (λ rows h. holds_on old new rows keeps h) (λ clean db may. left_before old new c.prepare.ensures.survives clean db may) (λ clean. omega (arith, c.prepare.ensures.survives.clean))
+    unchanged_keeps_all old new (c.in_ok-_statement.ensures.ok clean).1 up
 
 pub returns-clause-asked : goal.returns-clause-asked
 returns-clause-asked g c =
     let old = state g.S.Store c.args.conn.now in
     let new = state g.S.Store c.prepare.new.self in
-    let keeps : Keeps old new = λ up.
-    let clean : HasCleanDisk new = clean_if_open _ _ (g.met.S.Store.shut_if_dirty c.prepare.new.self.store) up in
-    unchanged_keeps_all old new (c.in_ok-_statement.ensures.ok clean).1 up in
-    asked_of old new (λ rows h. holds_on old new rows keeps h) (λ clean db may. left_before old new c.prepare.ensures.survives clean db may) (λ clean. omega (arith, c.prepare.ensures.survives.clean))
+    asked_of old new (λ rows h. holds_on old new rows (returns-clause-shown g c) h) (λ clean db may. left_before old new c.prepare.ensures.survives clean db may) (λ clean. omega (arith, c.prepare.ensures.survives.clean))

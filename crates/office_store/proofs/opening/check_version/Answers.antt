@@ -6,6 +6,8 @@ use Rattle.sqlite.specs.Held.{state}
 use Rattle.office_sql.specs.Tables.{stored_version}
 use Rattle.office_sql.specs.Stores.{Stores}
 use Rattle.office_store.specs.Holds.{IsOfVersion}
+use Rattle.office_sql.specs.Holds.{Holds}
+use Rattle.office_store.proofs.QueryLemmas.{asked_more, only_of}
 use Rattle.office_store.proofs.VersionLemmas.{one_version}
 use Rattle.office_store.proofs.opening.check_version.Goals as goal
 
@@ -31,3 +33,12 @@ returns-then-not-is_alone-clause-good g c = λ clean rows one held.
     let passed = ap (λ (v : ℤ). v ∷ []) (sym (to_z-of_z w64 version c.ranges.version)) in
     let both : true ≡ false = sym (c.is_alone.ensures.1 (c.deref.ensures.value ∙ only ∙ passed)) ∙ c.if-not-is_alone.true in
     cc
+
+pub returns-clause-asks : goal.returns-clause-asks
+returns-clause-asks g c =
+    let old = state g.S.Store c.args.conn.now in
+    let mid = state g.S.Store c.check_tables.new.conn in
+    let new = state g.S.Store c.versions.new.conn in (
+      asked_more old mid new c.check_tables.ensures.asked c.versions.ensures.asks,
+      λ clean. only_of old new (λ rows h. subst (λ q. Holds (state g.S.Store q) rows) c.in_ok-check_tables.ensures.same (c.in_ok-versions.ensures.only clean rows h)),
+    )

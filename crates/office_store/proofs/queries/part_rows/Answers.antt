@@ -1,9 +1,10 @@
 use Rattle.std.proofs.Common.{◌∷◌, map}
+use Rattle.std.proofs.lemmas.Result.{on_ok_weaker}
 use Rattle.sqlite.specs.Held.{state}
 use Rattle.dns_names.specs.Keys.{key_of}
 use Rattle.dns_names.specs.Spelling.{name_text}
 use Rattle.office_rows.specs.PartRows.{AreRowsAt}
-use Rattle.office_store.proofs.QueryLemmas.{asked_once, on_found, stands}
+use Rattle.office_store.proofs.QueryLemmas.{asked_once, on_found, only_of, stands}
 use Rattle.office_store.proofs.queries.part_rows.Goals as goal
 
 pub returns-clause-found : goal.returns-clause-found
@@ -11,5 +12,8 @@ returns-clause-found g c =
     λ clean. on_found c.rows_at.result _ _ (λ found tells. stands (λ all rows. AreRowsAt (name_text c.args.origin.now) (map key_of (c.args.origin.now ∷ c.args.names.now)) all.records rows.items) (state g.S.Store c.args.conn.now) c.args.origin.now found c.notes_name.ensures tells)
     (rw (c.deref.ensures, c.in_ok-text.ensures.canonical) at (c.rows_at.ensures.found clean))
 
-pub returns-clause-asked : goal.returns-clause-asked
-returns-clause-asked g c = asked_once (state g.S.Store c.args.conn.now) (state g.S.Store c.rows_at.new.conn) c.rows_at.ensures.asks
+pub returns-clause-asks : goal.returns-clause-asks
+returns-clause-asks g c =
+    let old = state g.S.Store c.args.conn.now in
+    let new = state g.S.Store c.rows_at.new.conn in
+    (asked_once old new c.rows_at.ensures.asks, λ clean. on_ok_weaker c.rows_at.result (λ back. only_of old new back) (c.rows_at.ensures.only clean))

@@ -2,25 +2,24 @@ use Rattle.std.proofs.Common.{◌≡◌, ◌∙◌, subst, string_bytes, IsPermu
 use Rattle.sqlite.specs.Held.{state}
 use Rattle.office_rows.specs.PartRows.{rows_within}
 use Rattle.dns_names.specs.Spelling.{name_text}
-use Rattle.office_store.proofs.QueryLemmas.{asked_then, found, only_then}
+use Rattle.office_store.proofs.QueryLemmas.{asked_then, asks_refused, found, only_then}
 use Rattle.office_store.proofs.queries.subtree_rows.Goals as goal
 
-pub returns-in_err-rows-clause-asked : goal.returns-in_err-rows-clause-asked
-returns-in_err-rows-clause-asked g c =
-    asked_then (state g.S.Store c.args.conn.now) (state g.S.Store c.held_text.new.conn) (state g.S.Store c.rows_below.new.conn) c.held_text.ensures.asked c.rows_below.ensures.asked
+pub returns-in_err-rows-clause-asks : goal.returns-in_err-rows-clause-asks
+returns-in_err-rows-clause-asks g c =
+    asks_refused (state g.S.Store c.args.conn.now) (state g.S.Store c.rows_below.new.conn) c.from_residual-in_err-rows.result c.from_residual-in_err-rows.ensures.0
+    (asked_then (state g.S.Store c.args.conn.now) (state g.S.Store c.held_text.new.conn) (state g.S.Store c.rows_below.new.conn) c.held_text.ensures.asks.0 c.rows_below.ensures.asks.0)
 
-pub returns-clause-asked : goal.returns-clause-asked
-returns-clause-asked g c =
-    asked_then (state g.S.Store c.args.conn.now) (state g.S.Store c.held_text.new.conn) (state g.S.Store c.rows_below.new.conn) c.held_text.ensures.asked c.rows_below.ensures.asked
+pub returns-clause-asks : goal.returns-clause-asks
+returns-clause-asks g c = (
+  asked_then (state g.S.Store c.args.conn.now) (state g.S.Store c.held_text.new.conn) (state g.S.Store c.rows_below.new.conn) c.held_text.ensures.asks.0 c.rows_below.ensures.asks.0,
+  λ clean. only_then (state g.S.Store c.args.conn.now) (state g.S.Store c.held_text.new.conn) (state g.S.Store c.rows_below.new.conn) (c.in_ok-text.ensures.asks.1 (c.rows_below.ensures.asks.0.honest clean)) (c.in_ok-rows.ensures.asks.1 clean),
+)
 
 pub returns-clause-found : goal.returns-clause-found
 returns-clause-found g c =
     λ clean.
     let text : string_bytes c.in-Some.text ≡ name_text c.args.origin.now = rw c.in-Some.is at c.in_ok-text.ensures.text in
-    found (λ all. IsPermutation (rows_within (name_text c.args.origin.now) c.args.top.now all.records) c.in_ok-rows.rows.items) (state g.S.Store c.args.conn.now) (state g.S.Store c.held_text.new.conn) c.args.origin.now c.held_text.ensures.asked
-    (rw c.in-Some.is at (c.in_ok-text.ensures.found (c.rows_below.ensures.asked.honest clean)))
+    found (λ all. IsPermutation (rows_within (name_text c.args.origin.now) c.args.top.now all.records) c.in_ok-rows.rows.items) (state g.S.Store c.args.conn.now) (state g.S.Store c.held_text.new.conn) c.args.origin.now c.held_text.ensures.asks.0
+    (rw c.in-Some.is at (c.in_ok-text.ensures.found (c.rows_below.ensures.asks.0.honest clean)))
     (λ all h. subst (λ t. IsPermutation (rows_within t c.args.top.now all.records) c.in_ok-rows.rows.items) (c.deref.ensures ∙ text) (c.in_ok-rows.ensures.found clean all h))
-
-pub returns-clause-only : goal.returns-clause-only
-returns-clause-only g c =
-    λ clean. only_then (state g.S.Store c.args.conn.now) (state g.S.Store c.held_text.new.conn) (state g.S.Store c.rows_below.new.conn) (c.in_ok-text.ensures.only (c.rows_below.ensures.asked.honest clean)) (c.in_ok-rows.ensures.only clean)

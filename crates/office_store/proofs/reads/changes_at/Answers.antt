@@ -10,6 +10,6 @@ returns-clause-answer g c =
     λ clean s h.
     let o = c.args.origin.now in
     let f = (rw c.in-Some.is at (c.in_ok-rows.ensures.found clean)) s h in
-    let told : Ok f.2.changes ≡ Ok (map change_in c.in_ok-changes.changes.items) = c.in_ok-changes.ensures (pos 2) f.0 s o f.2 f.1 f.3 f.4 in
+    let told : Ok f.2.changes ≡ Ok (map change_in c.in_ok-changes.changes.items) = c.in_ok-changes.ensures.held (pos 2) f.0 s o f.2 f.1 f.3 f.4 in
     let same : f.2.changes ≡ map change_in c.in_ok-changes.changes.items = cc in
     sym (ap (option_map (λ held. held.changes)) f.3 ∙ ap (λ cs. Some cs) same)

@@ -18,6 +18,6 @@ returns-clause-answer g c =
     let there : zone_at s o ≡ Some zone = ap (option_map (zone_held o)) f.3 in
     let names = c.args.names.now in
     let rows = subst (λ rs. AreRowsAt (name_text o) (map key_of (o ∷ names)) f.0.records rs) (sym c.deref.ensures.value) f.4 in
-    let told : Ok (part_of zone (at_names o names)) ≡ Ok c.in_ok-part.part = c.in_ok-part.ensures (pos 2) f.0 s zone names f.1 there rows in
+    let told : Ok (part_of zone (at_names o names)) ≡ Ok c.in_ok-part.part = c.in_ok-part.ensures.held (pos 2) f.0 s zone names f.1 there rows in
     let same : part_of zone (at_names o names) ≡ c.in_ok-part.part = cc in
     sym (ap (option_map (λ z. part_of z (at_names o names))) there ∙ ap (λ z. Some z) same)

@@ -17,6 +17,6 @@ returns-clause-answer g c =
     let there : zone_at s o ≡ Some zone = ap (option_map (zone_held o)) f.3 in
     let top = c.args.top.now in
     let rows = subst (λ rs. IsPermutation (rows_within (name_text o) top f.0.records) rs) (sym c.deref.ensures.value) f.4 in
-    let told : Ok (listing (part zone.records (within top))) ≡ Ok c.in_ok-records.records.items = c.in_ok-records.ensures (pos 2) f.0 s o top zone f.1 there rows in
+    let told : Ok (listing (part zone.records (within top))) ≡ Ok c.in_ok-records.records.items = c.in_ok-records.ensures.held (pos 2) f.0 s o top zone f.1 there rows in
     let same : listing (part zone.records (within top)) ≡ c.in_ok-records.records.items = cc in
     sym (ap (option_map (λ z. listing (part z.records (within top)))) there ∙ ap (λ rs. Some rs) same)

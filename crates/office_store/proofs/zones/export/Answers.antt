@@ -27,6 +27,6 @@ returns-clause-answer g c =
     let zone = zone_held o f.2 in
     let there : zone_at s o ≡ Some zone = ap (option_map (zone_held o)) f.3 in
     let rows = subst (λ rs. IsPermutation (records_of (name_text o) f.0.records) rs) (sym c.deref.ensures.value) f.4 in
-    let told : Ok (listing (part zone.records (within []))) ≡ Ok c.in_ok-records.records.items = c.in_ok-records.ensures (pos 2) f.0 s o [] zone f.1 there rows in
+    let told : Ok (listing (part zone.records (within []))) ≡ Ok c.in_ok-records.records.items = c.in_ok-records.ensures.held (pos 2) f.0 s o [] zone f.1 there rows in
     let same : listing (part zone.records (within [])) ≡ c.in_ok-records.records.items = cc in
     ap exported f.3 ∙ ap (λ r. Ok (listing r)) (sym (all_within f.2.records)) ∙ ap (λ rs. Ok rs) same

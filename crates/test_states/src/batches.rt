@@ -1,0 +1,126 @@
+//! What is written.
+
+ghost use Rattle.std.specs.Prelude.{◌≡◌, IfOk};
+ghost use Rattle.zone_core.specs.Sets.{is_same};
+
+use crate::lines::{push_batch, word};
+use anyhow::{Result, bail};
+use dns_data::Record;
+use dns_names::Name;
+use grant_policy::Identifier;
+use item_lines::read_items;
+use office_core::{Addition, Change, Receipt};
+use office_rows::{
+    addition_batch, new_tables_hold_nothing, read_reply, replacement_batch, zone_batch,
+};
+use office_sql::Batch;
+use std::alloc::{AllocError, Global};
+use test_rows::Row;
+use zone_core::{Operation, Update, Zone};
+
+/// The origin of every zone that is written.
+const ORIGIN: &[u8] = b"example.org.";
+
+/// The update of the items behind a word.
+fn update_of(alloc: Global, body: &[u8], word: &str) -> Result<Update> {
+    let mut items = String::new(alloc);
+    for line in str::from_utf8(body)?.lines() {
+        if let Some(item) = line.strip_prefix(word) {
+            items.push_str(item)?;
+            items.push_str("\n")?;
+        }
+    }
+    Ok(read_items(alloc, items.as_bytes())?)
+}
+
+/// The records that the items behind a word add.
+fn records_of(alloc: Global, body: &[u8], word: &str) -> Result<Vec<Record>> {
+    let update = update_of(alloc, body, word)?;
+    let mut records = Vec::new(alloc);
+    for operation in update.operations() {
+        match operation {
+            Operation::Add(rr) => records.push(rr.try_copy(alloc)?)?,
+            _ => bail!("this is no addition"),
+        }
+    }
+    Ok(records)
+}
+
+fn zone_of(alloc: Global, body: &[u8], word: &str) -> Result<Zone> {
+    let origin = Name::read_absolute(alloc, ORIGIN)?;
+    Ok(Zone::build(alloc, origin, records_of(alloc, body, word)?)?)
+}
+
+/// The change of the records behind `gone` and `come`, if there is one.
+fn change_of(alloc: Global, body: &[u8]) -> Result<Option<Change>> {
+    let change = Change {
+        removed: records_of(alloc, body, "gone ")?,
+        added: records_of(alloc, body, "come ")?,
+    };
+    Ok(if change.is_nothing() {
+        None
+    } else {
+        Some(change)
+    })
+}
+
+/// Appends what is written for an update of the caller `admin` under the identifier `a1`.
+pub fn push_addition(alloc: Global, row: &Row<'_>, answer: &mut Vec<u8>) -> Result<()> {
+    let (number, reply) = word(str::from_utf8(&row.text)?);
+    let addition = Addition {
+        caller: Identifier::read(alloc, b"admin")?,
+        id: Identifier::read(alloc, b"a1")?,
+        receipt: Receipt {
+            origin: Name::read_absolute(alloc, ORIGIN)?,
+            update: update_of(alloc, &row.body, "item ")?,
+            reply: read_reply(alloc, reply)?,
+        },
+        change: change_of(alloc, &row.body)?,
+    };
+    let batch = addition_batch(alloc, &addition, number.parse()?)?;
+    Ok(push_batch(alloc, &batch, answer)?)
+}
+
+/// Appends what is written for a new zone.
+pub fn push_new_zone(alloc: Global, row: &Row<'_>, answer: &mut Vec<u8>) -> Result<()> {
+    new_tables_hold_nothing();
+    let zone = zone_of(alloc, &row.body, "")?;
+    Ok(push_batch(alloc, &zone_batch(alloc, &zone)?, answer)?)
+}
+
+/// Whether two zones have the same records with the same TTLs.
+fn have_same(alloc: Global, old: &Zone, new: &Zone) -> Result<bool, AllocError>
+    ensures { IfOk result (λ same. same ≡ is_same old.now.records new.now.records) }
+{
+    let gone = old.minus(alloc, new)?;
+    if !gone.as_slice().is_empty() {
+        return Ok(false);
+    }
+    let come = new.minus(alloc, old)?;
+    Ok(come.as_slice().is_empty())
+}
+
+/// What is written for a zone in the place of another one, if they have one origin and differ.
+fn replaced(
+    alloc: Global,
+    old: &Zone,
+    new: &Zone,
+    number: i64,
+) -> Result<Option<Batch>, AllocError> {
+    if have_same(alloc, old, new)? || old.origin() != new.origin() {
+        return Ok(None);
+    }
+    Ok(Some(replacement_batch(alloc, old, new, number)?))
+}
+
+/// Appends what is written for a zone in the place of another.
+pub fn push_replacement(alloc: Global, row: &Row<'_>, answer: &mut Vec<u8>) -> Result<()> {
+    let number = str::from_utf8(&row.text)?.parse()?;
+    let old = zone_of(alloc, &row.body, "old ")?;
+    let new = zone_of(alloc, &row.body, "new ")?;
+    match replaced(alloc, &old, &new, number)? {
+        Some(batch) => push_batch(alloc, &batch, answer)?,
+        None => answer.extend_from_slice(b"nothing\n")?,
+    }
+    Ok(())
+}
