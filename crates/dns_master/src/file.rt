@@ -248,7 +248,7 @@ fn file_of(alloc: Global, text: &[u8], origin: &Name) -> Result<Vec<Record>, Mas
 }
 
 /// A text has octets. Only proofs need it.
-fn notes_octets(text: &[u8])
+fn reveal_octets(text: &[u8])
     ensures { AllByRecursion (λ o. o < 256) text.now }
 {
     let _ = text;
@@ -270,7 +270,7 @@ pub fn read_file(alloc: Global, text: &[u8], origin: &Name) -> Result<Vec<Record
     // Which refusal it is.
     ensures exact { Gives (λ v. v.items) result (file_of text.now origin.now) }
 {
-    notes_octets(text);
+    reveal_octets(text);
     // the proof needs that the origin is a name
     let _ = origin.labels();
     file_of(alloc, text, origin)

@@ -123,7 +123,7 @@ fn items_of(alloc: Global, text: &[u8]) -> Result<Update, ItemsFault>
 }
 
 /// A text has octets. Only proofs need it.
-fn notes_octets(text: &[u8])
+fn reveal_octets(text: &[u8])
     ensures { AllByRecursion (λ o. o < 256) text.now }
 {
     let _ = text;
@@ -160,6 +160,6 @@ pub fn read_items(alloc: Global, text: &[u8]) -> Result<Update, ItemsFault>
     // Which refusal it is.
     ensures exact { Gives (λ u. u) result (items_of text.now) }
 {
-    notes_octets(text);
+    reveal_octets(text);
     items_of(alloc, text)
 }

@@ -10,8 +10,9 @@ use Rattle.zone_core.specs.Zones.{ZoneOf, IsZone, AreKept}
 use Rattle.zone_core.proofs.ChangeLemmas.{listed_so}
 use Rattle.zone_core.proofs.RowLemmas.{len_of}
 use Rattle.zone_core.proofs.ChangedLemmas.{changes_make}
-use Rattle.office_core.specs.States.{ChangeOf, Held, State}
-use Rattle.office_core.specs.Machine.{change_of, is_nothing, hold, keep}
+use Rattle.zone_core.specs.Changes.{ChangeOf, change_between, is_empty}
+use Rattle.office_core.specs.States.{Held, State}
+use Rattle.office_core.specs.Machine.{hold, keep}
 use Rattle.office_core.specs.Tables.{AdditionOf, held_with, with_change_of, committed, FitsHeld, FitsChange, Fits}
 use Rattle.office_sql.specs.Rows.{BatchOf}
 use Rattle.office_rows.specs.Contents.{row_of_receipt, IsReceiptAt}
@@ -84,11 +85,11 @@ listed_len set = length-map (entries set) (λ (e : Key × Record). e.1) ∙ sym 
 pub bare_rows : (set : Records) (rows : List Record) → AreRows rows set → (len set == 0) ≡ (length rows == 0)
 bare_rows set rows are = ap (λ n. n == 0) (ap (λ (x : Records). len x) (sym are.set) ∙ len_of rows are.order)
 
-pub some_differ : (a b : Records) → is_same a b ≡ false → is_nothing (change_of a b) ≡ false
+pub some_differ : (a b : Records) → is_same a b ≡ false → is_empty (change_between a b) ≡ false
 some_differ a b differs = (λ i. (listed_len (minus a b) i == 0) && (listed_len (minus b a) i == 0)) ∙ differs
 
 module _ (s : State) (old new : ZoneOf) (held : Held) (was : IsZone old) (is : IsZone new) (differs : is_same old.records new.records ≡ false) (here : s.zones new.origin ≡ Some held) (same : held.records ≡ old.records) where
-  change_fits : FitsHeld new.origin held (change_of held.records new.records)
+  change_fits : FitsHeld new.origin held (change_between held.records new.records)
   change_fits =
       let made = changes_make held.records new.records (subst (λ (x : Records). AreKept x) (sym same) was.kept) is.kept in
       record {
@@ -97,24 +98,23 @@ module _ (s : State) (old new : ZoneOf) (held : Held) (was : IsZone old) (is : I
         zone = subst (λ (x : Records). IsZone (record { origin = new.origin; records = x })) (sym made.1) is;
       }
 
-  replaced : Leads (change_batch new.origin (suc (length held.changes)) (change_of held.records new.records) []) s (with_zone_replaced s new held)
+  replaced : Leads (change_batch new.origin (suc (length held.changes)) (change_between held.records new.records) []) s (with_zone_replaced s new held)
   replaced =
       let made = changes_make held.records new.records (subst (λ (x : Records). AreKept x) (sym same) was.kept) is.kept in
-      let w = change_batch new.origin (suc (length held.changes)) (change_of held.records new.records) [] in
+      let w = change_batch new.origin (suc (length held.changes)) (change_between held.records new.records) [] in
       leads w s (with_zone_replaced s new held) refl
-      (zones_changed s new.origin held (change_of held.records new.records) [] (Some (record { records = new.records; changes = held.changes ++ change_of held.records new.records ∷ [] })) here change_fits
-      (λ i. Some (record { records = sym made.1 i; changes = held.changes ++ change_of held.records new.records ∷ [] })))
+      (zones_changed s new.origin held (change_between held.records new.records) [] (Some (record { records = new.records; changes = held.changes ++ change_between held.records new.records ∷ [] })) here change_fits
+      (λ i. Some (record { records = sym made.1 i; changes = held.changes ++ change_between held.records new.records ∷ [] })))
       (receipts_stay w s (with_zone_replaced s new held) refl refl)
 
-pub replacement_leads : (old new : ZoneOf) (removed added : List Record) (number : ℤ) (w : BatchOf) → IsZone old → IsZone new → is_same old.records new.records ≡ false
-    → AreRows removed (minus old.records new.records) → AreRows added (minus new.records old.records)
-    → ((n : ℕ) → number ≡ pos n → w ≡ change_batch new.origin n (record { removed = removed; added = added }) [])
+pub replacement_leads : (old new : ZoneOf) (change : ChangeOf) (number : ℤ) (w : BatchOf) → IsZone old → IsZone new → is_same old.records new.records ≡ false
+    → change ≡ change_between old.records new.records
+    → ((n : ℕ) → number ≡ pos n → w ≡ change_batch new.origin n change [])
     → (s : State) (held : Held) → s.zones new.origin ≡ Some held → held.records ≡ old.records → IsNext s new.origin number → Leads w s (with_zone_replaced s new held)
-replacement_leads old new removed added number w was is differs gone came e s held here same next =
+replacement_leads old new change number w was is differs between e s held here same next =
     let n = suc (length held.changes) in
-    let out = listed_so removed (minus old.records new.records) gone.order gone.set ∙ ap (λ (x : Records). listing (minus x new.records)) (sym same) in
-    let into = listed_so added (minus new.records old.records) came.order came.set ∙ ap (λ (x : Records). listing (minus new.records x)) (sym same) in
-    subst (λ v. Leads v s (with_zone_replaced s new held)) (sym (e n (next held here) ∙ (λ i. change_batch new.origin n (record { removed = out i; added = into i }) [])))
+    let made : change ≡ change_between held.records new.records = between ∙ ap (λ (x : Records). change_between x new.records) (sym same) in
+    subst (λ v. Leads v s (with_zone_replaced s new held)) (sym (e n (next held here) ∙ ap (λ (x : ChangeOf). change_batch new.origin n x []) made))
     (replaced s old new held was is differs here same)
 
 -- ---- new tables

@@ -1,6 +1,6 @@
 -- The rows of a zone's changes, and of one more.
 use Rattle.std.proofs.Common.{◌≡◌, ℕ, suc, ◌+◌, List, [], ◌∷◌, ◌++◌, length, sym, ap, ◌∙◌, arith, append_assoc, append-nil}
-use Rattle.office_core.specs.States.{ChangeOf}
+use Rattle.zone_core.specs.Changes.{ChangeOf}
 use Rattle.office_rows.specs.ChangeRows.{change_rows, changes_rows}
 
 abbrev Labels : Type 0

@@ -9,10 +9,10 @@ use Rattle.dns_names.specs.Order.{same_name}
 use Rattle.dns_names.specs.Spelling.{name_text}
 use Rattle.dns_data.specs.Rdata.{IsRecord}
 use Rattle.zone_core.specs.Sets.{Records, set_of, listing}
-use Rattle.zone_core.specs.Changes.{changed}
+use Rattle.zone_core.specs.Changes.{changed, ChangeOf}
 use Rattle.zone_core.specs.Zones.{IsZone}
 use Rattle.zone_core.proofs.ChangedLemmas.{listed}
-use Rattle.office_core.specs.States.{ChangeOf, Held, State}
+use Rattle.office_core.specs.States.{Held, State}
 use Rattle.office_core.specs.Machine.{hold}
 use Rattle.office_core.specs.Tables.{held_with, FitsHeld}
 use Rattle.office_sql.specs.Rows.{RecordRowOf, ReceiptRowOf, same_key, without}

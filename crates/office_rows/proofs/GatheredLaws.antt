@@ -18,8 +18,7 @@ use Rattle.dns_data.specs.Rdata.{IsRecord}
 use Rattle.dns_data.specs.RecordOrder.{record_order}
 use Rattle.zone_core.specs.Sets.{InOrder}
 use Rattle.zone_core.proofs.SetLemmas.{name_is, name_self}
-use Rattle.office_core.specs.States.{ChangeOf}
-use Rattle.office_core.specs.Machine.{is_nothing}
+use Rattle.zone_core.specs.Changes.{ChangeOf, is_empty}
 use Rattle.office_sql.specs.Rows.{ChangeRowOf}
 use Rattle.office_rows.specs.declared.changes.ChangedRecord.{ChangedRecord}
 use Rattle.office_rows.specs.declared.side.Side.{Side}
@@ -36,7 +35,7 @@ IsOf o c = c.origin ≡ o
 
 -- a change that has some record
 abbrev pub IsSome : ChangeOf → Type 0
-IsSome c = is_nothing c ≡ false
+IsSome c = is_empty c ≡ false
 
 -- ---- entries of lists that are joined
 

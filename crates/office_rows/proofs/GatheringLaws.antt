@@ -22,10 +22,8 @@ use Rattle.dns_data.specs.Rdata.{IsRecord}
 use Rattle.dns_data.specs.RecordOrder.{record_order}
 use Rattle.zone_core.specs.Sets.{InOrder}
 use Rattle.zone_core.proofs.SetLemmas.{name_self}
-use Rattle.office_core.specs.declared.receipt.Change.{Change}
-use Rattle.office_core.specs.States.{ChangeOf}
-use Rattle.office_core.specs.Tables.{change_in}
-use Rattle.office_core.specs.Machine.{is_nothing}
+use Rattle.zone_core.specs.declared.change.Change.{Change}
+use Rattle.zone_core.specs.Changes.{ChangeOf, change_in, is_empty}
 use Rattle.office_sql.specs.Rows.{ChangeRowOf}
 use Rattle.office_rows.specs.declared.changes.ChangedRecord.{ChangedRecord}
 use Rattle.office_rows.specs.declared.row_fault.RowFault.{RowFault}
@@ -170,7 +168,7 @@ side_goes_on : (o : Labels) (n : ℕ) (d : Side) (rs : List Record) (rest : List
 side_goes_on o n d [] rest on = on
 side_goes_on o n d (t ∷ rs) rest on = λ s r. (same_number o n s d r t, side_goes_on o n d rs rest on d t)
 
-first_goes_on : (o : Labels) (n : ℕ) (removed added : List Record) (rest : List ChangedRecord) → is_nothing (record { removed = removed; added = added }) ≡ false → GoOn o (suc n) rest → GoOn o n (sides o (suc n) removed added ++ rest)
+first_goes_on : (o : Labels) (n : ℕ) (removed added : List Record) (rest : List ChangedRecord) → is_empty (record { removed = removed; added = added }) ≡ false → GoOn o (suc n) rest → GoOn o n (sides o (suc n) removed added ++ rest)
 first_goes_on o n [] [] rest something on = absurd cc
 first_goes_on o n [] (t ∷ added) rest something on = λ s r. (one_more o n s Added r t, side_goes_on o (suc n) Added added rest on Added t)
 first_goes_on o n (t ∷ removed) added rest something on =
@@ -264,7 +262,7 @@ added_gathered o front removed added (r ∷ rs) =
     ∙ added_gathered o front removed (added ++ r ∷ []) rs
     ∙ ap (λ (l : List Record). front ++ record { removed = removed; added = l } ∷ []) (append_assoc added (r ∷ []) rs)
 
-change_gathered : (o : Labels) (front : List ChangeOf) (removed added : List Record) → is_nothing (record { removed = removed; added = added }) ≡ false
+change_gathered : (o : Labels) (front : List ChangeOf) (removed added : List Record) → is_empty (record { removed = removed; added = added }) ≡ false
     → fold placed front (sides o (suc (length front)) removed added) ≡ front ++ record { removed = removed; added = added } ∷ []
 change_gathered o front [] [] something = absurd cc
 change_gathered o front [] (r ∷ added) something =

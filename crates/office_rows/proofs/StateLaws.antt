@@ -17,9 +17,9 @@ use Rattle.dns_data.specs.declared.record.Record.{Record}
 use Rattle.zone_core.specs.Zones.{IsZone}
 use Rattle.zone_core.proofs.SetLemmas.{by_cases}
 use Rattle.office_core.specs.declared.receipt.Receipt.{Receipt}
-use Rattle.office_core.specs.States.{ChangeOf, Held, State, AreZones, AreReceipts, zone_held}
-use Rattle.office_core.specs.Machine.{is_nothing}
+use Rattle.office_core.specs.States.{Held, State, AreZones, AreReceipts, zone_held}
 use Rattle.zone_core.specs.Updates.{IsUpdate}
+use Rattle.zone_core.specs.Changes.{ChangeOf, is_empty}
 use Rattle.office_sql.specs.Rows.{ChangeRowOf, RowsOf}
 use Rattle.office_sql.specs.Lookups.{changes_of, IsLast}
 use Rattle.office_rows.specs.declared.side.Side.{Side}
@@ -87,7 +87,7 @@ all_up_to o n m (c ∷ cs) h =
 abbrev HasNumber : ℕ → List ChangeRowOf → Type 0
 HasNumber n rows = (row : ChangeRowOf) × Has rows row × (row.number ≡ pos n)
 
-change_has : (o : Labels) (n : ℕ) (removed added : List Record) → is_nothing (record { removed = removed; added = added }) ≡ false → HasNumber n (change_rows o n (record { removed = removed; added = added }))
+change_has : (o : Labels) (n : ℕ) (removed added : List Record) → is_empty (record { removed = removed; added = added }) ≡ false → HasNumber n (change_rows o n (record { removed = removed; added = added }))
 change_has o n [] [] some = absurd cc
 change_has o n [] (r ∷ added) some = (change_row o n Added r, inl refl, refl)
 change_has o n (r ∷ removed) added some = (change_row o n Removed r, inl refl, refl)

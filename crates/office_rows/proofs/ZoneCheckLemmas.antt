@@ -21,7 +21,7 @@ use Rattle.dns_data.specs.RecordOrder.{record_order}
 use Rattle.zone_core.specs.Sets.{InOrder}
 use Rattle.zone_core.specs.Views.{AreOfZone}
 use Rattle.zone_core.proofs.SetLemmas.{by_cases, name_is, name_self, name_other}
-use Rattle.office_core.specs.States.{ChangeOf}
+use Rattle.zone_core.specs.Changes.{ChangeOf}
 use Rattle.office_sql.specs.Rows.{RecordRowOf, ChangeRowOf}
 use Rattle.office_rows.specs.declared.changes.ChangedRecord.{ChangedRecord}
 use Rattle.office_rows.specs.RecordRows.{record_row}

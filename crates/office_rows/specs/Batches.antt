@@ -3,8 +3,9 @@ use Rattle.std.specs.Prelude.{◌≡◌, ℕ, ℤ, pos, suc, List, [], ◌∷◌
 use Rattle.dns_names.specs.Spelling.{name_text}
 use Rattle.zone_core.specs.Sets.{listing}
 use Rattle.zone_core.specs.Zones.{ZoneOf}
-use Rattle.office_core.specs.States.{ChangeOf, Held, State}
-use Rattle.office_core.specs.Machine.{change_of, hold}
+use Rattle.zone_core.specs.Changes.{ChangeOf, change_between}
+use Rattle.office_core.specs.States.{Held, State}
+use Rattle.office_core.specs.Machine.{hold}
 use Rattle.office_core.specs.Tables.{AdditionOf}
 use Rattle.office_sql.specs.Rows.{BatchOf, ReceiptRowOf, RowsOf, written}
 use Rattle.office_sql.specs.Holds.{made_rows}
@@ -27,7 +28,7 @@ with_zone s zone = hold s zone.origin (Some (record { records = zone.records; ch
 -- the state with a zone in the place of the one of its origin, and with the change that this is
 abbrev pub with_zone_replaced : State → ZoneOf → Held → State
 with_zone_replaced s zone held =
-    hold s zone.origin (Some (record { records = zone.records; changes = held.changes ++ change_of held.records zone.records ∷ [] }))
+    hold s zone.origin (Some (record { records = zone.records; changes = held.changes ++ change_between held.records zone.records ∷ [] }))
 
 -- the state without zones and receipts
 abbrev pub nothing_held : State

@@ -13,8 +13,7 @@ use Rattle.dns_data.specs.Rdata.{type_of, IsRecord}
 use Rattle.dns_data.specs.Types.{type_number}
 use Rattle.dns_data.specs.Text.{data_text}
 use Rattle.zone_core.specs.Sets.{InOrder}
-use Rattle.office_core.specs.States.{ChangeOf}
-use Rattle.office_core.specs.Machine.{is_nothing}
+use Rattle.zone_core.specs.Changes.{ChangeOf, is_empty}
 use Rattle.office_sql.specs.Rows.{ChangeRowOf}
 use Rattle.office_rows.specs.declared.changes.ChangedRecord.{ChangedRecord}
 use Rattle.office_rows.specs.declared.side.Side.{Side}
@@ -72,7 +71,7 @@ changes_rows origin n (c ∷ cs) = change_rows origin n c ++ changes_rows origin
 
 -- what every change is: it has some record, and each side is of records in record order
 pub record IsChange (c : ChangeOf) : Type 0 where
-  pub something : is_nothing c ≡ false
+  pub something : is_empty c ≡ false
   pub removed : AllByRecursion IsRecord c.removed
   pub removed_order : InOrder c.removed
   pub added : AllByRecursion IsRecord c.added

@@ -25,11 +25,11 @@ use Rattle.zone_core.specs.Rcodes.{rcode_text}
 use Rattle.zone_core.specs.Updates.{UpdateOf, place_in}
 use Rattle.zone_core.specs.Prerequisites.{failed}
 use Rattle.zone_core.specs.Zones.{ZoneOf, built}
+use Rattle.zone_core.specs.Changes.{ChangeOf}
 use Rattle.office_core.specs.declared.receipt.Receipt.{Receipt}
 use Rattle.office_core.specs.declared.reply.UpdateReply.{UpdateReply}
 use Rattle.office_core.specs.declared.reply.UpdateReply.TheVariants.{NoError, NotAuth, NotZone, Refused, Failed}
 use Rattle.office_sql.specs.Rows.{RecordRowOf, ReceiptRowOf, ChangeRowOf}
-use Rattle.office_core.specs.States.{ChangeOf}
 use Rattle.office_rows.specs.ChangeRows.{changed_order, are_of_one, are_numbered, gathered}
 use Rattle.office_rows.specs.declared.changes.ChangedRecord.{ChangedRecord}
 use Rattle.office_rows.specs.declared.row_fault.RowFault.{RowFault}

@@ -4,9 +4,9 @@ ghost use Rattle.std.specs.Prelude.{◌≡◌, [], ℕ, pos, map, false, Some, N
 ghost use Rattle.dns_names.specs.Labels.{IsName};
 ghost use Rattle.zone_core.specs.Sets.{is_same};
 ghost use Rattle.zone_core.specs.Zones.{IsZone};
-ghost use Rattle.office_core.specs.Machine.{change_of};
+ghost use Rattle.zone_core.specs.Changes.{change_between, change_in};
 ghost use Rattle.office_core.specs.States.{Held, State};
-ghost use Rattle.office_core.specs.Tables.{Fits, addition_in, change_in, committed};
+ghost use Rattle.office_core.specs.Tables.{Fits, addition_in, committed};
 ghost use Rattle.office_rows.specs.Contents.{IsReceiptAt};
 ghost use Rattle.office_rows.specs.RecordRows.{record_row};
 ghost use Rattle.office_rows.specs.Batches.{Leads, IsNext, with_zone, with_zone_replaced, receipt_at, receipt_rows, receipts_batch, change_batch, zone_batch};
@@ -16,13 +16,13 @@ use crate::receipts::receipt_row;
 use crate::records::record_row;
 use dns_data::Record;
 use dns_names::Name;
-use office_core::{Addition, Change};
+use office_core::Addition;
 use office_sql::{Batch, ReceiptRow, RecordRow};
 use std::alloc::{AllocError, Global};
-use zone_core::Zone;
+use zone_core::{Change, Zone};
 
 /// A zone has a name as its origin, and is one. Only proofs need it.
-fn notes_zone(zone: &Zone)
+fn reveal_zone(zone: &Zone)
     ensures name { IsName zone.now.origin }
     ensures zone { IsZone zone.now }
 {
@@ -114,7 +114,7 @@ pub fn zone_batch(alloc: Global, zone: &Zone) -> Result<Batch, AllocError>
     // It leads from each state without a zone of this origin to the one with this zone.
     ensures leads { IfOk result (λ batch. (s : State) → s.zones zone.now.origin ≡ None → Leads batch s (with_zone s zone.now)) }
 {
-    notes_zone(zone);
+    reveal_zone(zone);
     let origin = zone.origin();
     let row = origin.text(alloc)?;
     let zones = vec![in alloc; row]?;
@@ -139,14 +139,12 @@ pub fn replacement_batch(
     requires origin { old.now.origin ≡ new.now.origin }
     requires differs { is_same old.now.records new.now.records ≡ false }
     // The rows of the records by which the two differ, and no others.
-    ensures exact { (n : ℕ) → number ≡ pos n → IfOk result (λ batch. batch ≡ change_batch new.now.origin n (change_of old.now.records new.now.records) []) }
+    ensures exact { (n : ℕ) → number ≡ pos n → IfOk result (λ batch. batch ≡ change_batch new.now.origin n (change_between old.now.records new.now.records) []) }
     // It leads from each state that holds the old zone to the one with the new zone in its place.
     ensures leads { IfOk result (λ batch. (s : State) (held : Held) → s.zones new.now.origin ≡ Some held → held.records ≡ old.now.records → IsNext s new.now.origin number → Leads batch s (with_zone_replaced s new.now held)) }
 {
-    notes_zone(old);
-    notes_zone(new);
-    let removed = old.minus(alloc, new)?;
-    let added = new.minus(alloc, old)?;
-    let change = Change { removed, added };
+    reveal_zone(old);
+    reveal_zone(new);
+    let change = Change::between(alloc, old.records(), new.records())?;
     change_batch(alloc, new.origin(), number, &change, Vec::new(alloc))
 }

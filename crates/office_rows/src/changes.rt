@@ -3,7 +3,7 @@
 ghost use Rattle.std.specs.Prelude.{◌≡◌, ◌↔◌, ◌++◌, ℕ, pos, true, Ok, IfOk, OnOk, map};
 ghost use Rattle.dns_names.specs.Labels.{IsName};
 ghost use Rattle.dns_data.specs.Rdata.{IsRecord};
-ghost use Rattle.office_core.specs.Tables.{change_in};
+ghost use Rattle.zone_core.specs.Changes.{change_in};
 ghost use Rattle.office_rows.specs.declared.changes.ChangedRecord.{ChangedRecord as Changed};
 ghost use Rattle.office_rows.specs.ChangeRows.{change_row, change_rows, row_of, IsChanged};
 ghost use Rattle.office_rows.specs.RowFaults.{Reads};
@@ -14,9 +14,9 @@ use crate::row_fault::RowFault;
 use crate::side::Side;
 use dns_data::{Record, data_text};
 use dns_names::Name;
-use office_core::Change;
 use office_sql::ChangeRow;
 use std::alloc::{AllocError, Global};
+use zone_core::Change;
 
 /// A record on a side of a change of a zone, as a row has it.
 #[derive(Drop)]

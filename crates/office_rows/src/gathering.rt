@@ -5,8 +5,7 @@ ghost use Rattle.std.specs.List.{AllByRecursion, list_all};
 ghost use Rattle.std.specs.List.Sorted.{IsPermutation, IsSorted};
 ghost use Rattle.dns_names.specs.Labels.{IsName};
 ghost use Rattle.dns_names.specs.Order.{same_name};
-ghost use Rattle.office_core.specs.States.{ChangeOf};
-ghost use Rattle.office_core.specs.Tables.{change_in};
+ghost use Rattle.zone_core.specs.Changes.{ChangeOf, change_in};
 ghost use Rattle.office_rows.specs.ChangeRows.{changes_rows, IsChange, IsChanged, IsChangeRow, row_of, changed_order, follows, follows_in_number, follow_in_turn, are_numbered, are_of_one, with_record, opened, placed, gathered};
 ghost use Rattle.office_rows.specs.RowFaults.{Reads};
 ghost use Rattle.office_rows.specs.RowReading.{each_read, changed_in, changes_among, AreStoredIn};
@@ -16,10 +15,10 @@ use crate::row_fault::RowFault;
 use crate::side::Side;
 use dns_data::{Record, record_order};
 use dns_names::Name;
-use office_core::Change;
 use office_sql::ChangeRow;
 use std::alloc::{AllocError, Global};
 use std::cmp::Ordering;
+use zone_core::Change;
 
 /// Reads the rows of the changes of one zone, in any order, as its changes, the oldest first. Rows that are those of no changes are
 /// `BadRow`: one is no row of a change, two are of different origins, two are of the same record on the same side of one change, or

@@ -10,8 +10,8 @@ ghost use Rattle.dns_data.specs.declared.record.Record.{Record as RecordOf};
 ghost use Rattle.zone_core.specs.Sets.{listing, part, within};
 ghost use Rattle.zone_core.specs.Zones.{ZoneOf, built};
 ghost use Rattle.zone_core.specs.Parts.{part_of as zone_part, at_names};
+ghost use Rattle.zone_core.specs.Changes.{change_in};
 ghost use Rattle.office_core.specs.States.{Held, State, zone_at};
-ghost use Rattle.office_core.specs.Tables.{change_in};
 ghost use Rattle.office_sql.specs.Rows.{RowsOf};
 ghost use Rattle.office_sql.specs.Lookups.{records_of, receipts_of, changes_of as changes_in};
 ghost use Rattle.office_rows.specs.Contents.{AreOfState};
@@ -27,10 +27,10 @@ use crate::records::stored_record;
 use crate::row_fault::RowFault;
 use dns_data::{Record, record_order};
 use dns_names::Name;
-use office_core::{Change, Receipt};
+use office_core::Receipt;
 use office_sql::{ChangeRow, ReceiptRow, RecordRow};
 use std::alloc::Global;
-use zone_core::{Zone, ZoneFault};
+use zone_core::{Change, Zone, ZoneFault};
 
 /// The records of rows, in the order of the rows. A row that is not read is `BadRow`.
 fn records_in(alloc: Global, rows: &[RecordRow]) -> Result<Vec<Record>, RowFault>

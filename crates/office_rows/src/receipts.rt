@@ -8,7 +8,7 @@ ghost use Rattle.office_rows.specs.RowFaults.{Reads};
 ghost use Rattle.office_rows.specs.RowReading.{request_in, receipt_in};
 
 use crate::columns::{identifier_in, identifier_text, name_from};
-use crate::replies::{notes_reply, reply_in, reply_words};
+use crate::replies::{reveal_reply, reply_in, reply_words};
 use crate::row_fault::RowFault;
 use grant_policy::Identifier;
 use item_lines::{items_text, read_items};
@@ -18,21 +18,21 @@ use std::alloc::{AllocError, Global};
 use zone_core::Update;
 
 /// A receipt is of an origin, an update and a reply. Only proofs need it.
-fn notes_receipt(receipt: &Receipt)
+fn reveal_receipt(receipt: &Receipt)
     ensures { IsReceipt receipt.now }
 {
     let _ = receipt.origin.labels();
     let _ = receipt.update.operations();
-    notes_reply(&receipt.reply);
+    reveal_reply(&receipt.reply);
 }
 
 /// And it is kept under two identifiers. Only proofs need it.
-fn notes_caller_receipt(caller: &Identifier, id: &Identifier, receipt: &Receipt)
+fn reveal_caller_receipt(caller: &Identifier, id: &Identifier, receipt: &Receipt)
     ensures { IsReceiptAt (record { caller = caller.now; id = id.now; receipt = receipt.now }) }
 {
     let _ = caller.as_bytes();
     let _ = id.as_bytes();
-    notes_receipt(receipt);
+    reveal_receipt(receipt);
 }
 
 /// The row of the receipt of a caller under an identifier: the request by its item lines, and the reply by its words. The only
@@ -47,7 +47,7 @@ pub fn receipt_row(
     // What all receipts are.
     ensures receipt { IsReceiptAt (record { caller = caller.now; id = id.now; receipt = receipt.now }) }
 {
-    notes_caller_receipt(caller, id, receipt);
+    reveal_caller_receipt(caller, id, receipt);
     let caller = identifier_text(caller);
     let id = identifier_text(id);
     Ok(ReceiptRow {

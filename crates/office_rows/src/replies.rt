@@ -105,7 +105,7 @@ pub fn read_reply(alloc: Global, words: &str) -> Result<UpdateReply, RowFault>
     if reply_words(alloc, &reply)?.as_str() != words {
         return Err(RowFault::BadRow);
     }
-    notes_reply(&reply);
+    reveal_reply(&reply);
     Ok(reply)
 }
 
@@ -118,24 +118,24 @@ pub(crate) fn reply_in(alloc: Global, words: &str) -> Result<UpdateReply, RowFau
 }
 
 /// The number of an item has 64 bits, and a rule has an identifier. Only proofs need it.
-pub(crate) fn notes_reply(reply: &UpdateReply)
+pub(crate) fn reveal_reply(reply: &UpdateReply)
     ensures { IsReply reply.now }
 {
     match reply {
         UpdateReply::NoError | UpdateReply::NotAuth => {}
-        UpdateReply::NotZone(place) => notes_number(&place.item),
+        UpdateReply::NotZone(place) => reveal_number(&place.item),
         UpdateReply::Refused { place, by } => {
-            notes_number(&place.item);
+            reveal_number(&place.item);
             if let Some(rule) = by {
                 let _ = rule.as_bytes();
             }
         }
-        UpdateReply::Failed(failed) => notes_number(&failed.item),
+        UpdateReply::Failed(failed) => reveal_number(&failed.item),
     }
 }
 
 /// A number has 64 bits. Only proofs need it.
-fn notes_number(number: &usize)
+fn reveal_number(number: &usize)
     ensures { number.now < 2 ^ 64 }
 {
     let _number = *number;

@@ -1,9 +1,10 @@
 -- What is written for an addition to a state that it fits.
 use Rattle.std.proofs.Common.{◌≡◌, ℕ, ℤ, suc, pos, List, length, Option, Some, None, option_map, sym, subst}
 use Rattle.std.specs.Prelude.{MatchOption}
+use Rattle.zone_core.specs.Changes.{change_in}
+use Rattle.zone_core.specs.declared.change.Change.{Change}
 use Rattle.office_core.specs.States.{State}
-use Rattle.office_core.specs.Tables.{FitsChange, change_in}
-use Rattle.office_core.specs.declared.receipt.Change.{Change}
+use Rattle.office_core.specs.Tables.{FitsChange}
 use Rattle.office_sql.specs.Rows.{ReceiptRowOf, BatchOf}
 use Rattle.office_rows.specs.Batches.{IsNext, change_batch, receipts_batch}
 use Rattle.office_store.specs.Additions.{Writes}

@@ -6,10 +6,10 @@ use Rattle.zone_core.specs.Sets.{Records, set_of, listing, is_same, IsIn}
 use Rattle.zone_core.specs.Zones.{ZoneOf, zone_of, evened, latest}
 use Rattle.zone_core.specs.Views.{even_rows}
 use Rattle.zone_core.specs.Rebuilt.{AreAllOf}
-use Rattle.zone_core.proofs.EvenLemmas.{even_set, even_order}
+use Rattle.zone_core.proofs.MinTtlLemmas.{even_set, even_order}
 use Rattle.zone_core.proofs.RebuiltLemmas.{latest_is}
 use Rattle.zone_core.proofs.RowLemmas.{listing_of}
-use Rattle.office_core.specs.States.{ChangeOf}
+use Rattle.zone_core.specs.Changes.{ChangeOf}
 use Rattle.office_rows.specs.Contents.{ZoneRows}
 use Rattle.office_rows.proofs.ZoneReadLemmas.{there, here}
 use Rattle.office_store.specs.OldZones.{AreOfOldZone}

@@ -14,14 +14,12 @@ use Rattle.zone_core.specs.declared.refusals.ZoneFault.{ZoneFault}
 use Rattle.zone_core.specs.Sets.{Records, set_of, listing, is_same, InOrder, IsIn, AreRows}
 use Rattle.zone_core.specs.Zones.{ZoneOf, IsZone, AreKept, zone_of, built, evened, latest, fault_in, unless_fault}
 use Rattle.zone_core.specs.Views.{zone_in, AreOfZone}
-use Rattle.zone_core.specs.Changes.{changed, FitsIn}
+use Rattle.zone_core.specs.Changes.{changed, FitsIn, ChangeOf, change_between}
 use Rattle.zone_core.proofs.AdvancedLemmas.{advanced_is}
 use Rattle.zone_core.proofs.ChangedLemmas.{changes_make, same_sets_are_one, listed}
 use Rattle.zone_core.proofs.RebuiltLemmas.{zones_are_rebuilt}
 use Rattle.zone_core.proofs.RowLemmas.{listing_of}
 use Rattle.zone_core.proofs.WholeLemmas.{kept_of, no_fault}
-use Rattle.office_core.specs.States.{ChangeOf}
-use Rattle.office_core.specs.Machine.{change_of}
 use Rattle.office_sql.specs.Rows.{RecordRowOf, without}
 use Rattle.office_rows.specs.RecordRows.{record_row}
 use Rattle.office_rows.specs.ChangeRows.{IsChange}
@@ -89,14 +87,14 @@ module _ (o : Labels) (rs : List Record) (is : AreOfOldZone o rs) where
 
   -- a change that is made
   pub record IsMade (c : ChangeOf) : Type 0 where
-    pub same : c ≡ change_of (set_of rs) (next_zone o rs).records
+    pub same : c ≡ change_between (set_of rs) (next_zone o rs).records
     pub fits : FitsIn (set_of rs) c.removed c.added
     pub makes : changed (set_of rs) c.removed c.added ≡ (next_zone o rs).records
     pub change : IsChange c
 
-  made : is_same (set_of rs) (zone_of o rs).records ≡ false → IsMade (change_of (set_of rs) (next_zone o rs).records)
+  made : is_same (set_of rs) (zone_of o rs).records ≡ false → IsMade (change_between (set_of rs) (next_zone o rs).records)
   made other =
-      let c = change_of (set_of rs) (next_zone o rs).records in
+      let c = change_between (set_of rs) (next_zone o rs).records in
       let both = changes_make (set_of rs) (next_zone o rs).records kept next_is.kept in
       record {
         same = refl;
@@ -116,9 +114,9 @@ module _ (o : Labels) (rs : List Record) (is : AreOfOldZone o rs) where
   unfolding change_for
   by_change P none some = by_test (is_same (set_of rs) (zone_of o rs).records) refl
     where
-      by_test : (b : Bool) → is_same (set_of rs) (zone_of o rs).records ≡ b → P (if b then None else Some (change_of (set_of rs) (next_zone o rs).records))
+      by_test : (b : Bool) → is_same (set_of rs) (zone_of o rs).records ≡ b → P (if b then None else Some (change_between (set_of rs) (next_zone o rs).records))
       by_test true t = none (even_is t)
-      by_test false t = some (change_of (set_of rs) (next_zone o rs).records) (made t)
+      by_test false t = some (change_between (set_of rs) (next_zone o rs).records) (made t)
 
 -- ---- the rows of a zone, before and after
 
@@ -205,13 +203,13 @@ module _ (o : Labels) (rs : List Record) (is : AreOfOldZone o rs) (zone : ZoneOf
   pub nothing_changes : seen ≡ rs → change_for o rs ≡ None
   unfolding change_for
   nothing_changes same =
-      ap (λ b. if b then None else Some (change_of (set_of rs) (next_zone o rs).records))
+      ap (λ b. if b then None else Some (change_between (set_of rs) (next_zone o rs).records))
       ((same_sets_are_one (set_of rs) (zone_of o rs).records (kept o rs is) is.zone.kept).1 (ap set_of (sym same) ∙ even_set))
 
-  pub something_changes : (seen ≡ rs → ⊥) → change_for o rs ≡ Some (change_of (set_of rs) (next_zone o rs).records)
+  pub something_changes : (seen ≡ rs → ⊥) → change_for o rs ≡ Some (change_between (set_of rs) (next_zone o rs).records)
   unfolding change_for
   something_changes other =
-      ap (λ b. if b then None else Some (change_of (set_of rs) (next_zone o rs).records))
+      ap (λ b. if b then None else Some (change_between (set_of rs) (next_zone o rs).records))
       (false_from_ne_true (is_same (set_of rs) (zone_of o rs).records)
       (λ t. other (sym (listing_of seen order) ∙ ap listing (even_set ∙ sym ((same_sets_are_one (set_of rs) (zone_of o rs).records (kept o rs is) is.zone.kept).0 t)) ∙ listing_of rs is.order)))
 

@@ -5,8 +5,7 @@ use Rattle.sqlite_keyed.proofs.ListLemmas.{all_weaker, test_from_all}
 use Rattle.dns_names.specs.Order.{same_name}
 use Rattle.dns_data.specs.declared.record.Record.{Record}
 use Rattle.zone_core.proofs.SetLemmas.{name_self}
-use Rattle.office_core.specs.States.{ChangeOf}
-use Rattle.office_core.specs.Machine.{is_nothing}
+use Rattle.zone_core.specs.Changes.{ChangeOf, is_empty}
 use Rattle.office_rows.specs.declared.changes.ChangedRecord.{ChangedRecord}
 use Rattle.office_rows.specs.declared.side.Side.{Side}
 use Rattle.office_rows.specs.declared.side.Side.TheVariants.{Removed, Added}
@@ -30,7 +29,7 @@ last_of_side : (o : Labels) (n : ℕ) (s : Side) (rs : List Record) → last_fro
 last_of_side o n s [] = refl
 last_of_side o n s (r ∷ rs) = last_of_side o n s rs
 
-last_of_change : (o : Labels) (m n : ℕ) (removed added : List Record) → is_nothing (record { removed = removed; added = added }) ≡ false → last_from m (sides o n removed added) ≡ n
+last_of_change : (o : Labels) (m n : ℕ) (removed added : List Record) → is_empty (record { removed = removed; added = added }) ≡ false → last_from m (sides o n removed added) ≡ n
 last_of_change o m n [] [] some = absurd cc
 last_of_change o m n [] (r ∷ added) some = last_of_side o n Added added
 last_of_change o m n (r ∷ removed) added some =

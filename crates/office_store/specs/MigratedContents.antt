@@ -5,8 +5,7 @@ use Rattle.dns_data.specs.declared.record.Record.{Record}
 use Rattle.zone_core.specs.Sets.{set_of, listing, is_same}
 use Rattle.zone_core.specs.Zones.{ZoneOf, soa_at, zone_of}
 use Rattle.zone_core.specs.Effects.{with_next}
-use Rattle.office_core.specs.States.{ChangeOf}
-use Rattle.office_core.specs.Machine.{change_of}
+use Rattle.zone_core.specs.Changes.{ChangeOf, change_between}
 use Rattle.office_sql.specs.Rows.{RecordRowOf, ChangeRowOf, RowsOf, BatchOf, written}
 use Rattle.office_sql.specs.Holds.{SameRows}
 use Rattle.office_rows.specs.RecordRows.{record_row}
@@ -25,7 +24,7 @@ next_zone origin rs = advanced (zone_of origin rs)
 -- What is changed in a zone of these records: nothing where each set has its least TTL already; else the records that go, with the
 -- SOA, and those that come in their place.
 unfoldable pub change_for : List (List ℕ) → List Record → Option ChangeOf
-change_for origin rs = if is_same (set_of rs) (zone_of origin rs).records then None else Some (change_of (set_of rs) (next_zone origin rs).records)
+change_for origin rs = if is_same (set_of rs) (zone_of origin rs).records then None else Some (change_between (set_of rs) (next_zone origin rs).records)
 
 -- a zone after a change, if there is one: that zone in record order, and the change behind the earlier ones
 abbrev pub after : ZoneRows → Option ChangeOf → ZoneRows

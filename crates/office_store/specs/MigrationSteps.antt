@@ -3,7 +3,7 @@ use Rattle.std.specs.Prelude.{◌≡◌, ◌≢◌, ℕ, suc, ◌+◌, List, [],
 use Rattle.std.specs.List.{AllByRecursion, AllPairs, flat_map, fold}
 use Rattle.std.specs.List.Sorted.{IsPermutation}
 use Rattle.dns_names.specs.Spelling.{name_text}
-use Rattle.office_core.specs.States.{ChangeOf}
+use Rattle.zone_core.specs.Changes.{ChangeOf}
 use Rattle.office_sql.specs.Rows.{RecordRowOf, ChangeRowOf}
 use Rattle.office_rows.specs.declared.changes.ChangedRecord.{ChangedRecord}
 use Rattle.office_rows.specs.ChangeRows.{are_numbered, gathered}

@@ -1,10 +1,11 @@
 //! What is written, so that one state follows another.
 
 ghost use Rattle.std.specs.Prelude.{◌≡◌, ℕ, pos, suc, false, option_map, IfOk, IfErr, OnOk, OnErr};
+ghost use Rattle.zone_core.specs.Changes.{change_in};
 ghost use Rattle.sqlite.specs.Held.{state};
 ghost use Rattle.sqlite.specs.State.{HasCleanDisk};
 ghost use Rattle.office_core.specs.States.{State};
-ghost use Rattle.office_core.specs.Tables.{Fits, addition_in, change_in, committed};
+ghost use Rattle.office_core.specs.Tables.{Fits, addition_in, committed};
 ghost use Rattle.office_rows.specs.States.{last_of};
 ghost use Rattle.office_rows.specs.Batches.{Leads, IsNext, receipt_rows};
 ghost use Rattle.office_store.specs.Additions.{Writes};

@@ -3,32 +3,27 @@
 ghost use Rattle.std.specs.Prelude.{◌≡◌, map, option_map, IfOk, IfErr};
 ghost use Rattle.std.specs.List.{AllByRecursion};
 ghost use Rattle.zone_core.specs.Sets.{set_of, InOrder};
-ghost use Rattle.office_core.specs.Tables.{change_in};
-ghost use Rattle.office_core.specs.Machine.{change_of};
+ghost use Rattle.zone_core.specs.Changes.{change_in, change_between};
 ghost use Rattle.office_rows.specs.Checks.{IsZoneRecord};
 ghost use Rattle.office_store.specs.OldZones.{AreOfOldZone};
 ghost use Rattle.office_store.specs.MigratedContents.{change_for};
 
 use dns_data::Record;
 use dns_names::Name;
-use office_core::Change;
 use office_rows::RowFault;
 use office_rows::ordered::ZoneRecord;
 use office_rows::reads::{are_in_order, built};
 use office_rows::zones::{are_those, copied};
 use std::alloc::{AllocError, Global};
-use zone_core::{Zone, difference};
+use zone_core::{Change, Zone};
 
 /// What records in record order and those of a zone differ in, as the change from the one to the other. The only error is want of
 /// memory.
 fn change_to(alloc: Global, records: &[Record], zone: &Zone) -> Result<Change, AllocError>
     requires { InOrder records.now }
-    ensures { IfOk result (λ change. change_in change ≡ change_of (set_of records.now) zone.now.records) }
+    ensures { IfOk result (λ change. change_in change ≡ change_between (set_of records.now) zone.now.records) }
 {
-    Ok(Change {
-        removed: difference(alloc, records, zone.records())?,
-        added: difference(alloc, zone.records(), records)?,
-    })
+    Change::between(alloc, records, zone.records())
 }
 
 /// What the migration changes in the zone of an origin with these records: nothing where each set has its least TTL already; else the

@@ -24,7 +24,7 @@ use sqlite::{Alter, Connection, Error as StoreError, ErrorCode};
 use std::alloc::Global;
 
 /// What its type says of a name. It does nothing when it runs.
-fn notes_name(name: &Name)
+fn reveal_name(name: &Name)
     ensures { IsName name.now }
 {
     let _ = name.labels();
@@ -55,7 +55,7 @@ pub(crate) fn held_text<S: Alter>(
 {
     check_alone(conn)?;
     let text = origin.text(alloc)?;
-    notes_name(origin);
+    reveal_name(origin);
     let is_held = has_zone(conn, &text)?;
     if is_held { Ok(Some(text)) } else { Ok(None) }
 }
@@ -90,7 +90,7 @@ pub(crate) fn part_rows<S: Alter>(
 {
     check_alone(conn)?;
     let text = origin.text(alloc)?;
-    notes_name(origin);
+    reveal_name(origin);
     rows_at(alloc, conn, &text, origin, names)
 }
 

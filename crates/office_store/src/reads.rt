@@ -1,10 +1,10 @@
 //! Parts of the state that a connection holds.
 
 ghost use Rattle.std.specs.Prelude.{◌≡◌, false, map, option_map, IfOk, IfErr, IfSome, OnOk};
+ghost use Rattle.zone_core.specs.Changes.{change_in};
 ghost use Rattle.sqlite.specs.Held.{state};
 ghost use Rattle.sqlite.specs.State.{HasCleanDisk};
 ghost use Rattle.office_core.specs.States.{State, zone_at, part_at, subtree_at, changes_at};
-ghost use Rattle.office_core.specs.Tables.{change_in};
 ghost use Rattle.office_rows.specs.StoreFaults.{IsFailure};
 ghost use Rattle.office_store.specs.Holds.{HoldsState};
 ghost use Rattle.office_store.specs.Queries.{AsksOnly};
@@ -13,14 +13,14 @@ use crate::queries::{change_rows, check_alone, part_rows, subtree_rows, zone_row
 use dns_data::Record;
 use dns_names::Name;
 use grant_policy::Identifier;
-use office_core::{Change, Receipt};
+use office_core::Receipt;
 use office_rows::{
     StoreFault, changes_of, identifier_text, part_of, receipt_of, records_within, zone_of,
 };
 use office_sql::receipts_of;
 use sqlite::{Alter, Connection};
 use std::alloc::Global;
-use zone_core::Zone;
+use zone_core::{Change, Zone};
 
 /// The zone of an origin, where there is one.
 pub(crate) fn zone_at<S: Alter>(

@@ -28,12 +28,12 @@ use crate::zones::{export, import, put_zone, replace, take_place};
 use dns_data::Record;
 use dns_names::Name;
 use grant_policy::Identifier;
-use office_core::{Addition, Change, Receipt, TableFault, ZoneTable};
+use office_core::{Addition, Receipt, TableFault, ZoneTable};
 use office_rows::StoreFault;
 use sqlite::{Alter, Connection};
 use std::alloc::Global;
 use std::sync::ledger::{Blank, Book, Ledger, Share};
-use zone_core::Zone;
+use zone_core::{Change, Zone};
 
 /// Zones with their changes, and receipts, in the tables of a database. It counts the failures of its store by a ledger, and keeps
 /// the zone that was read last until something is written.

@@ -54,7 +54,7 @@ pub(crate) fn import<S: Alter>(
 }
 
 /// What its type says of a zone. It does nothing when it runs.
-fn notes_zone(zone: &Zone)
+fn reveal_zone(zone: &Zone)
     ensures { IsZone zone.now }
 {
     let _ = zone.origin();
@@ -75,7 +75,7 @@ fn zone_before<S: Alter>(
     let Some(old) = zone_at(alloc, conn, zone.origin())? else {
         return Err(StoreFault::NoZone);
     };
-    notes_zone(&old);
+    reveal_zone(&old);
     if !serial_less(old.serial(), zone.serial()) {
         return Err(StoreFault::SerialNotGreater);
     }

@@ -2,7 +2,7 @@
 
 ghost use Rattle.std.specs.Prelude.{◌≡◌, [], ℕ, pos, false, IfOk};
 ghost use Rattle.zone_core.specs.Sets.{is_same};
-ghost use Rattle.office_core.specs.Machine.{change_of};
+ghost use Rattle.zone_core.specs.Changes.{change_between};
 ghost use Rattle.office_core.specs.Tables.{addition_in};
 ghost use Rattle.office_rows.specs.Writings.{receipt_rows, receipts_writing, change_writing};
 
@@ -27,7 +27,7 @@ pub fn replacement_writing(
 ) -> Result<Writing, AllocError>
     requires origin { old.now.origin ≡ new.now.origin }
     requires differs { is_same old.now.records new.now.records ≡ false }
-    ensures { (n : ℕ) → number ≡ pos n → IfOk result (λ writing. writing ≡ change_writing new.now.origin n (change_of old.now.records new.now.records) []) }
+    ensures { (n : ℕ) → number ≡ pos n → IfOk result (λ writing. writing ≡ change_writing new.now.origin n (change_between old.now.records new.now.records) []) }
 {
     office_rows::replacement_writing(alloc, old, new, number)
 }

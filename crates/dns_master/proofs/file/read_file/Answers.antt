@@ -9,7 +9,7 @@ pub returns-clause-found : goal.returns-clause-found
 returns-clause-found c =
     let text = c.args.text.now in
     let origin = c.args.origin.now in
-    given (λ v. v.items) (IsFile text origin) c.file_of.result (file_of text origin) (λ rs e. text_found text origin rs c.labels.ensures.name c.notes_octets.ensures e) c.file_of.ensures
+    given (λ v. v.items) (IsFile text origin) c.file_of.result (file_of text origin) (λ rs e. text_found text origin rs c.labels.ensures.name c.reveal_octets.ensures e) c.file_of.ensures
 
 pub returns-clause-only : goal.returns-clause-only
 returns-clause-only c = λ rs h short.

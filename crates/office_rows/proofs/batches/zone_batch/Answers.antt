@@ -16,4 +16,4 @@ returns-clause-exact c =
     λ i. record { version = None; zones = names i; removed = c.new.ensures.items i; added = rows i; changes = c.new-2.ensures.items i; receipts = c.new-3.ensures.items i }
 
 pub returns-clause-leads : goal.returns-clause-leads
-returns-clause-leads c = zone_leads c.args.zone.now _ c.notes_zone.ensures.name c.notes_zone.ensures.zone (returns-clause-exact c)
+returns-clause-leads c = zone_leads c.args.zone.now _ c.reveal_zone.ensures.name c.reveal_zone.ensures.zone (returns-clause-exact c)

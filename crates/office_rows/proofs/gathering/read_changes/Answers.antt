@@ -1,7 +1,7 @@
 use Rattle.std.proofs.Common.{map, IsPermutation, ◌&&◌, sym, subst}
 use Rattle.std.proofs.lemmas.Result.{err_from_is_err_and}
 use Rattle.std.specs.List.{AllByRecursion}
-use Rattle.office_core.specs.Tables.{change_in}
+use Rattle.zone_core.specs.Changes.{change_in}
 use Rattle.office_rows.specs.ChangeRows.{IsChangeRow, row_of, are_of_one, are_numbered, gathered}
 use Rattle.office_rows.specs.RowReading.{changes_among}
 use Rattle.office_rows.proofs.GatheringLaws.{each_row, among}

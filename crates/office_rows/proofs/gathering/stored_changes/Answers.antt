@@ -1,6 +1,6 @@
 use Rattle.std.proofs.Common.{List, map, IsPermutation, sym, subst, ◌∙◌}
 use Rattle.std.proofs.lemmas.Result.{err_from_is_err_and}
-use Rattle.office_core.specs.Tables.{change_in}
+use Rattle.zone_core.specs.Changes.{change_in}
 use Rattle.office_rows.specs.declared.changes.ChangedRecord.{ChangedRecord}
 use Rattle.office_rows.specs.RowReading.{AreStoredIn, changed_in, changes_among, each_read}
 use Rattle.office_rows.proofs.GatheringLaws.{are_stored}

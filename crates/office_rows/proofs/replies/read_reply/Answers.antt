@@ -21,7 +21,7 @@ returns-then-ne-clause-only c = λ reply is e.
 pub returns-clause-found : goal.returns-clause-found
 returns-clause-found c =
     let spelled = same_spelling c.as_str.result.now c.args.words.now c.ne.result c.ne.ensures c.if-ne.false in
-    (sym spelled ∙ c.as_str.ensures.value ∙ c.in_ok-reply_words.ensures, c.notes_reply.ensures)
+    (sym spelled ∙ c.as_str.ensures.value ∙ c.in_ok-reply_words.ensures, c.reveal_reply.ensures)
 
 pub returns-clause-only : goal.returns-clause-only
 returns-clause-only c = λ reply is e. ap done (ok_is reply c.in_ok-reply.reply (sym (ap reply_in e ∙ reply_read reply is) ∙ c.in_ok-reply.ensures))

@@ -4,8 +4,7 @@ use Rattle.dns_data.specs.declared.record.Record.{Record}
 use Rattle.dns_data.specs.RecordOrder.{record_order}
 use Rattle.zone_core.specs.Sets.{set_of, InOrder}
 use Rattle.zone_core.specs.Zones.{IsZone, built}
-use Rattle.office_core.specs.States.{ChangeOf}
-use Rattle.office_core.specs.Machine.{change_of}
+use Rattle.zone_core.specs.Changes.{ChangeOf, change_between}
 use Rattle.office_rows.specs.RowFaults.{Refuses, of_zones}
 use Rattle.office_rows.specs.Orders.{rises}
 use Rattle.office_store.specs.MigratedContents.{advanced, next_zone}
@@ -73,4 +72,4 @@ returns-clause-change c =
     let some = something_changes o rs (returns-clause-zone c) c.in_ok-even.even own c.records.result.now c.records.ensures.order c.records.ensures.set other in
     let old : set_of c.deref-2.result.now ≡ set_of rs = ap set_of (c.deref-2.ensures.value ∙ c.in_ok-old.ensures) in
     let new : c.in_ok-next.next.records ≡ (next_zone o rs).records = next_records o rs c.in_ok-next.next (c.in_ok-next.ensures ∙ ap advanced own) in
-    ap (λ (x : ChangeOf). Some x) (c.in_ok-change_to.ensures ∙ (λ i. change_of (old i) (new i))) ∙ sym some
+    ap (λ (x : ChangeOf). Some x) (c.in_ok-change_to.ensures ∙ (λ i. change_between (old i) (new i))) ∙ sym some

@@ -9,7 +9,7 @@ use Rattle.office_store.proofs.queries.part_rows.Goals as goal
 
 pub returns-clause-found : goal.returns-clause-found
 returns-clause-found g c =
-    λ clean. on_found c.rows_at.result _ _ (λ found tells. stands (λ all rows. AreRowsAt (name_text c.args.origin.now) (map key_of (c.args.origin.now ∷ c.args.names.now)) all.records rows.items) (state g.S.Store c.args.conn.now) c.args.origin.now found c.notes_name.ensures tells)
+    λ clean. on_found c.rows_at.result _ _ (λ found tells. stands (λ all rows. AreRowsAt (name_text c.args.origin.now) (map key_of (c.args.origin.now ∷ c.args.names.now)) all.records rows.items) (state g.S.Store c.args.conn.now) c.args.origin.now found c.reveal_name.ensures tells)
     (rw (c.deref.ensures, c.in_ok-text.ensures.canonical) at (c.rows_at.ensures.found clean))
 
 pub returns-clause-asks : goal.returns-clause-asks

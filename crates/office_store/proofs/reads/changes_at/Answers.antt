@@ -1,5 +1,5 @@
 use Rattle.std.proofs.Common.{◌≡◌, pos, Ok, Some, option_map, sym, ap, ◌∙◌, map}
-use Rattle.office_core.specs.Tables.{change_in}
+use Rattle.zone_core.specs.Changes.{change_in}
 use Rattle.office_store.proofs.reads.changes_at.Goals as goal
 
 pub returns-in_default-clause-answer : goal.returns-in_default-clause-answer

@@ -31,7 +31,7 @@ returns-clause-differs g c =
     let old = c.in-Some.old in
     let zone = c.args.zone.now in
     let less : c.serial_less.result ≡ is_less (serial_of old) (serial_of zone) = c.serial_less.ensures.value ∙ (λ i. is_less (c.serial.ensures i) (c.serial-2.ensures i)) in
-    serials_differ old zone c.notes_zone.ensures c.origin.ensures.zone (returns-clause-origin g c) (sym less ∙ c.if-not-serial_less.false)
+    serials_differ old zone c.reveal_zone.ensures c.origin.ensures.zone (returns-clause-origin g c) (sym less ∙ c.if-not-serial_less.false)
 
 pub returns-clause-held : goal.returns-clause-held
 returns-clause-held g c =
