@@ -9,71 +9,15 @@ use Rattle.clap.specs.Simple.{on_top}
 use Rattle.clap.specs.Lexer.{long_of, short_of}
 use Rattle.clap.specs.declared.builder.ArgAction.TheVariants.{Set, SetTrue}
 use Rattle.clap.specs.declared.builder.value_parser.ValueParser.TheVariants as value
+use Rattle.office_words.specs.Commands.{argument_name, command_of, office}
+use Rattle.office_words.specs.declared.argument.Argument.TheVariants as argument
+use Rattle.office_words.specs.declared.command.Command.{Command}
+use Rattle.office_words.specs.declared.command.Command.TheVariants as command
 use Rattle.office_words.specs.declared.job.Existing.{Existing}
 use Rattle.office_words.specs.declared.job.Existing.TheVariants.{Kept, Replaced}
 use Rattle.office_words.specs.declared.job.StoredZone.{StoredZone}
 use Rattle.office_words.specs.declared.job.Job.{Job}
 use Rattle.office_words.specs.declared.job.Job.TheVariants as job
-
--- ---- the commands
-
--- `--name VALUE`, which has to be there
-abbrev pub needed_rule : Text → Rule
-needed_rule name =
-    record (new_rule name) { long = Some name; required = true; action = Some Set }
-
--- `--name N`, a number of 64 bits
-abbrev pub number_rule : Text → Rule
-number_rule name = record (new_rule name) { long = Some name; action = Some Set; parser = Some (value.Unsigned 0 18446744073709551615) }
-
--- `--name`, without a value
-abbrev pub flag_rule : Text → Rule
-flag_rule name = record (new_rule name) { long = Some name; action = Some SetTrue }
-
--- a word in its place, which has to be there
-abbrev pub place_rule : Text → Rule
-place_rule name = record (new_rule name) { required = true; action = Some Set }
-
-abbrev pub apply_app : App
-apply_app = new_app (codes "apply")
-
-abbrev pub canon_app : App
-canon_app = with_rule (new_app (codes "canon")) (needed_rule (codes "origin"))
-
-abbrev pub import_app : App
-import_app =
-    with_rule (with_rule (with_rule (new_app (codes "import")) (needed_rule (codes "store"))) (needed_rule (codes "origin")))
-    (flag_rule (codes "replace"))
-
-abbrev pub export_app : App
-export_app = with_rule (with_rule (new_app (codes "export")) (needed_rule (codes "store"))) (needed_rule (codes "origin"))
-
-abbrev pub migrate_app : App
-migrate_app = with_rule (new_app (codes "migrate")) (needed_rule (codes "store"))
-
-abbrev pub rights_app : App
-rights_app =
-    with_rule (with_rule (with_rule (with_rule (with_rule (new_app (codes "rights"))
-    (needed_rule (codes "policy"))) (needed_rule (codes "caller"))) (place_rule (codes "name")))
-    (place_rule (codes "type"))) (place_rule (codes "action"))
-
-abbrev pub serve_app : App
-serve_app =
-    with_rule (with_rule (with_rule (with_rule (with_rule (new_app (codes "serve")) (needed_rule (codes "store")))
-    (needed_rule (codes "policy"))) (needed_rule (codes "listen"))) (number_rule (codes "connections"))) (number_rule (codes "patience"))
-
--- the first word is not the program's name
-abbrev pub without_name : Shape → Shape
-without_name s = record s { no_binary_name = true }
-
-unfoldable pub first_commands : App
-first_commands = with_subcommand (with_subcommand (on_top without_name (new_app (codes "zoneoffice"))) apply_app.top) canon_app.top
-
-unfoldable pub more_commands : App
-more_commands = with_subcommand (with_subcommand (with_subcommand first_commands import_app.top) export_app.top) migrate_app.top
-
-unfoldable pub office : App
-office = with_subcommand (with_subcommand more_commands rights_app.top) serve_app.top
 
 -- ---- the jobs
 
@@ -123,45 +67,49 @@ existing_of None = Kept
 existing_of (Some t) = if bytes_eq t (codes "true") then Replaced else Kept
 
 abbrev pub canon_of : List Row → Option JobOf
-canon_of rows = option_map (λ o. canon o) (first_of (codes "origin") rows)
+canon_of rows = option_map (λ o. canon o) (first_of (argument_name argument.Origin) rows)
 
 abbrev pub stored_at : Text → Text → StoredOf
 stored_at store origin = record { store = store; origin = origin }
 
 abbrev pub stored_of : List Row → Option StoredOf
-stored_of rows = option_and_then (λ s. option_map (λ o. stored_at s o) (first_of (codes "origin") rows)) (first_of (codes "store") rows)
+stored_of rows = option_and_then (λ s. option_map (λ o. stored_at s o) (first_of (argument_name argument.Origin) rows)) (first_of (argument_name argument.Store) rows)
 
 abbrev pub import_of : List Row → Option JobOf
-import_of rows = option_map (λ z. imports z (existing_of (first_of (codes "replace") rows))) (stored_of rows)
+import_of rows = option_map (λ z. imports z (existing_of (first_of (argument_name argument.Replace) rows))) (stored_of rows)
 
 abbrev pub export_of : List Row → Option JobOf
 export_of rows = option_map (λ z. export z) (stored_of rows)
 
 abbrev pub migrate_of : List Row → Option JobOf
-migrate_of rows = option_map (λ s. migrate s) (first_of (codes "store") rows)
+migrate_of rows = option_map (λ s. migrate s) (first_of (argument_name argument.Store) rows)
 
 abbrev pub rights_of : List Row → Option JobOf
 rights_of rows =
     option_and_then (λ p. option_and_then (λ c. option_and_then (λ n.
-    option_and_then (λ t. option_map (λ a. rights p c n t a) (first_of (codes "action") rows))
-    (first_of (codes "type") rows)) (first_of (codes "name") rows))
-    (first_of (codes "caller") rows)) (first_of (codes "policy") rows)
+    option_and_then (λ t. option_map (λ a. rights p c n t a) (first_of (argument_name argument.Action) rows))
+    (first_of (argument_name argument.Type) rows)) (first_of (argument_name argument.Name) rows))
+    (first_of (argument_name argument.Caller) rows)) (first_of (argument_name argument.Policy) rows)
 
 abbrev pub serve_of : List Row → Option JobOf
 serve_of rows =
     option_and_then (λ s. option_and_then (λ p. option_and_then (λ l. option_and_then (λ n. option_map (λ w. serve s p l n w)
-    (number_if (one_of (codes "patience") rows))) (number_if (one_of (codes "connections") rows)))
-    (first_of (codes "listen") rows)) (first_of (codes "policy") rows)) (first_of (codes "store") rows)
+    (number_if (one_of (argument_name argument.Patience) rows))) (number_if (one_of (argument_name argument.Connections) rows)))
+    (first_of (argument_name argument.Listen) rows)) (first_of (argument_name argument.Policy) rows)) (first_of (argument_name argument.Store) rows)
 
+-- the job of a command, by what was matched
+abbrev pub job_by : Command → List Row → Option JobOf
+job_by command.Apply rows = Some apply
+job_by command.Canon rows = canon_of rows
+job_by command.Import rows = import_of rows
+job_by command.Export rows = export_of rows
+job_by command.Migrate rows = migrate_of rows
+job_by command.Rights rows = rights_of rows
+job_by command.Serve rows = serve_of rows
+
+-- the job of the command that a word names
 abbrev pub job_named : Text → List Row → Option JobOf
-job_named name rows =
-    if bytes_eq name (codes "apply") then Some apply
-    else (if bytes_eq name (codes "canon") then canon_of rows
-    else (if bytes_eq name (codes "import") then import_of rows
-    else (if bytes_eq name (codes "export") then export_of rows
-    else (if bytes_eq name (codes "migrate") then migrate_of rows
-    else (if bytes_eq name (codes "rights") then rights_of rows
-    else (if bytes_eq name (codes "serve") then serve_of rows else None))))))
+job_named word rows = option_and_then (λ c. job_by c rows) (command_of word)
 
 -- no command is `apply`
 abbrev pub job_met : Option (Text × List Row) → Option JobOf

@@ -1,8 +1,10 @@
 //! The words of the command line: what each job of the program is told by them.
 #![tactic(auto)]
 
-mod commands;
+mod argument;
+mod command;
 mod job;
+mod parser;
 mod words;
 
 pub use job::{Existing, Job, QuestionWords, Service, StoredZone};

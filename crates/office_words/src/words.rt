@@ -2,10 +2,13 @@
 
 ghost use Rattle.std.specs.Prelude.{◌≡◌, ℕ, List, [], IfErr, IfOk, map, option_map, Some, is_some, true, codes};
 ghost use Rattle.clap.specs.Words.{app_of, fault_of, first_of, found_of, kind_of, one_of, rows_of, subcommand_rows_of, takes};
-ghost use Rattle.office_words.specs.Words.{office, asks, IsCanonOf, canon_of, zone_asked, stored_of, import_of, export_of, migrate_of, rights_of, serve_of, number_if, existing_of, job_named, job_met, job_of, canon};
+ghost use Rattle.office_words.specs.Commands.{office, argument_name};
+ghost use Rattle.office_words.specs.Words.{asks, IsCanonOf, canon_of, zone_asked, stored_of, import_of, export_of, migrate_of, rights_of, serve_of, number_if, existing_of, job_by, job_named, job_met, job_of, canon};
 
-use crate::commands::office_command;
+use crate::argument::Argument;
+use crate::command::Command;
 use crate::job::{Existing, Job, QuestionWords, Service, StoredZone};
+use crate::parser::parser;
 use clap::error::ErrorKind;
 use clap::{ArgMatches, Error};
 use std::alloc::Global;
@@ -22,24 +25,24 @@ pub enum WordsFault {
 }
 
 /// The text of an argument, where it has one.
-fn text_at<'a>(matches: &ArgMatches<'a>, id: &str) -> Option<&'a str>
-    ensures { option_map (λ s. s.now) result ≡ first_of id.now (rows_of (found_of matches.now)) }
+fn text_at<'a>(matches: &ArgMatches<'a>, argument: Argument) -> Option<&'a str>
+    ensures { option_map (λ s. s.now) result ≡ first_of (argument_name argument) (rows_of (found_of matches.now)) }
 {
-    matches.get_str(id)
+    matches.get_str(argument.name())
 }
 
 /// The number of an argument, where it has one: no number is given, or this one, or else it is none.
-fn number_at(matches: &ArgMatches<'_>, id: &str) -> Option<Option<u64>>
-    ensures { result ≡ number_if (one_of id.now (rows_of (found_of matches.now))) }
+fn number_at(matches: &ArgMatches<'_>, argument: Argument) -> Option<Option<u64>>
+    ensures { result ≡ number_if (one_of (argument_name argument) (rows_of (found_of matches.now))) }
 {
-    matches.try_get_one::<u64>(id).ok()
+    matches.try_get_one::<u64>(argument.name()).ok()
 }
 
 /// Whether a zone that is there is to be replaced.
 fn existing_at(matches: &ArgMatches<'_>) -> Existing
-    ensures { result ≡ existing_of (first_of (codes "replace") (rows_of (found_of matches.now))) }
+    ensures { result ≡ existing_of (first_of (argument_name Argument.Replace) (rows_of (found_of matches.now))) }
 {
-    match text_at(matches, "replace") {
+    match text_at(matches, Argument::Replace) {
         Some("true") => Existing::Replaced,
         _ => Existing::Kept,
     }
@@ -49,7 +52,7 @@ fn existing_at(matches: &ArgMatches<'_>) -> Existing
 fn canon_in<'a>(matches: &ArgMatches<'a>) -> Option<Job<'a>>
     ensures { option_map asks result ≡ canon_of (rows_of (found_of matches.now)) }
 {
-    let origin = text_at(matches, "origin")?;
+    let origin = text_at(matches, Argument::Origin)?;
     Some(Job::Canon { origin })
 }
 
@@ -57,8 +60,8 @@ fn canon_in<'a>(matches: &ArgMatches<'a>) -> Option<Job<'a>>
 fn zone_at<'a>(matches: &ArgMatches<'a>) -> Option<StoredZone<'a>>
     ensures { option_map zone_asked result ≡ stored_of (rows_of (found_of matches.now)) }
 {
-    let store = text_at(matches, "store")?;
-    let origin = text_at(matches, "origin")?;
+    let store = text_at(matches, Argument::Store)?;
+    let origin = text_at(matches, Argument::Origin)?;
     Some(StoredZone { store, origin })
 }
 
@@ -83,7 +86,7 @@ fn export_in<'a>(matches: &ArgMatches<'a>) -> Option<Job<'a>>
 fn migrate_in<'a>(matches: &ArgMatches<'a>) -> Option<Job<'a>>
     ensures { option_map asks result ≡ migrate_of (rows_of (found_of matches.now)) }
 {
-    let store = text_at(matches, "store")?;
+    let store = text_at(matches, Argument::Store)?;
     Some(Job::Migrate { store })
 }
 
@@ -91,11 +94,11 @@ fn migrate_in<'a>(matches: &ArgMatches<'a>) -> Option<Job<'a>>
 fn serve_in<'a>(matches: &ArgMatches<'a>) -> Option<Job<'a>>
     ensures { option_map asks result ≡ serve_of (rows_of (found_of matches.now)) }
 {
-    let store = text_at(matches, "store")?;
-    let policy = text_at(matches, "policy")?;
-    let listen = text_at(matches, "listen")?;
-    let connections = number_at(matches, "connections")?;
-    let patience = number_at(matches, "patience")?;
+    let store = text_at(matches, Argument::Store)?;
+    let policy = text_at(matches, Argument::Policy)?;
+    let listen = text_at(matches, Argument::Listen)?;
+    let connections = number_at(matches, Argument::Connections)?;
+    let patience = number_at(matches, Argument::Patience)?;
     let service = Service {
         store,
         policy,
@@ -110,11 +113,11 @@ fn serve_in<'a>(matches: &ArgMatches<'a>) -> Option<Job<'a>>
 fn rights_in<'a>(matches: &ArgMatches<'a>) -> Option<Job<'a>>
     ensures { option_map asks result ≡ rights_of (rows_of (found_of matches.now)) }
 {
-    let policy = text_at(matches, "policy")?;
-    let caller = text_at(matches, "caller")?;
-    let name = text_at(matches, "name")?;
-    let record_type = text_at(matches, "type")?;
-    let action = text_at(matches, "action")?;
+    let policy = text_at(matches, Argument::Policy)?;
+    let caller = text_at(matches, Argument::Caller)?;
+    let name = text_at(matches, Argument::Name)?;
+    let record_type = text_at(matches, Argument::Type)?;
+    let action = text_at(matches, Argument::Action)?;
     let asked = QuestionWords {
         caller,
         name,
@@ -124,27 +127,27 @@ fn rights_in<'a>(matches: &ArgMatches<'a>) -> Option<Job<'a>>
     Some(Job::Rights { policy, asked })
 }
 
-/// The job of a command of this name.
-fn job_named<'a>(name: &str, matches: &ArgMatches<'a>) -> Option<Job<'a>>
-    ensures { option_map asks result ≡ job_named name.now (rows_of (found_of matches.now)) }
+/// The job of a command.
+fn job_of_command<'a>(command: Command, matches: &ArgMatches<'a>) -> Option<Job<'a>>
+    ensures { option_map asks result ≡ job_by command (rows_of (found_of matches.now)) }
 {
-    if name == "apply" {
-        Some(Job::Apply)
-    } else if name == "canon" {
-        canon_in(matches)
-    } else if name == "import" {
-        import_in(matches)
-    } else if name == "export" {
-        export_in(matches)
-    } else if name == "migrate" {
-        migrate_in(matches)
-    } else if name == "rights" {
-        rights_in(matches)
-    } else if name == "serve" {
-        serve_in(matches)
-    } else {
-        None
+    match command {
+        Command::Apply => Some(Job::Apply),
+        Command::Canon => canon_in(matches),
+        Command::Import => import_in(matches),
+        Command::Export => export_in(matches),
+        Command::Migrate => migrate_in(matches),
+        Command::Rights => rights_in(matches),
+        Command::Serve => serve_in(matches),
     }
+}
+
+/// The job of the command that a word names.
+fn job_named<'a>(word: &str, matches: &ArgMatches<'a>) -> Option<Job<'a>>
+    ensures { option_map asks result ≡ job_named word.now (rows_of (found_of matches.now)) }
+{
+    let command = Command::read(word)?;
+    job_of_command(command, matches)
 }
 
 /// The job of what was matched.
@@ -152,7 +155,7 @@ fn job_in<'a>(matches: &ArgMatches<'a>) -> Option<Job<'a>>
     ensures { option_map asks result ≡ job_met (subcommand_rows_of matches.now) }
 {
     match matches.subcommand() {
-        Some((name, inner)) => job_named(name, inner),
+        Some((word, inner)) => job_named(word, inner),
         None => Some(Job::Apply),
     }
 }
@@ -188,7 +191,7 @@ pub fn read_words<'a>(alloc: Global, words: &'a [&'a str]) -> Result<Job<'a>, Wo
     // The plain form asks for what it says.
     ensures plain { IfOk result (λ j. (o : List ℕ) → IsCanonOf (map (λ s. s.now) words.entry.now) o → asks j ≡ canon o) }
 {
-    let Ok(mut command) = office_command(alloc) else {
+    let Ok(mut command) = parser(alloc) else {
         return Err(WordsFault::NoMemory);
     };
     let matches = match command.try_get_matches_from_mut(words) {
