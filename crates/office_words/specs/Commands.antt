@@ -1,5 +1,5 @@
 -- The commands and what each takes after its word, and the rules that clap reads words by.
-use Rattle.std.specs.Prelude.{◌≡◌, true, List, [], ◌∷◌, Option, Some, bytes_eq, codes, find, fold}
+use Rattle.std.specs.Prelude.{true, List, [], ◌∷◌, Option, Some, bytes_eq, codes, find, fold}
 use Rattle.clap.specs.Words.{App, Rule, Shape, Text, new_app, new_rule, with_rule, with_subcommand}
 use Rattle.clap.specs.Simple.{on_top}
 use Rattle.clap.specs.declared.builder.ArgAction.TheVariants.{Set, SetTrue}

@@ -1,14 +1,10 @@
 -- What a command line asks for, by its words behind the program's name.
-use Rattle.std.specs.Prelude.{◌≡◌, ℕ, true, false, ◌&&◌, ◌^◌, List, [], ◌∷◌, length, Option, Some, None, option_map, option_and_then, codes, nat_lt, if◌then◌else◌}
+use Rattle.std.specs.Prelude.{ℕ, ◌&&◌, ◌^◌, List, length, Option, Some, None, option_map, option_and_then, codes, nat_lt, if◌then◌else◌}
 use Rattle.std.specs.Char.{digit_value}
 use Rattle.std.specs.List.{list_all}
 use Rattle.std.specs.Str.{bytes_eq}
 use Rattle.std.specs.Str.Parse.{digits_value, without_leading_plus}
-use Rattle.clap.specs.Words.{App, Row, Rule, Shape, Text, first_of, one_of, new_app, new_rule, subcommand_of, with_rule, with_subcommand}
-use Rattle.clap.specs.Simple.{on_top}
-use Rattle.clap.specs.Lexer.{long_of, short_of}
-use Rattle.clap.specs.declared.builder.ArgAction.TheVariants.{Set, SetTrue}
-use Rattle.clap.specs.declared.builder.value_parser.ValueParser.TheVariants as value
+use Rattle.clap.specs.Words.{Row, Text, first_of, one_of, subcommand_of}
 use Rattle.office_words.specs.Commands.{argument_name, command_of, office}
 use Rattle.office_words.specs.declared.argument.Argument.TheVariants as argument
 use Rattle.office_words.specs.declared.command.Command.{Command}
@@ -119,15 +115,3 @@ job_met (Some p) = job_named p.0 p.1
 -- the job of words, as they are told apart by the rules of the commands
 abbrev pub job_of : List Text → Option JobOf
 job_of words = job_met (subcommand_of office words)
-
--- ---- the plain form
-
--- a word that may stand as the value of an option: it is no `--`, and no flag
-pub record IsValue (v : Text) : Type 0 where
-  pub dashes : bytes_eq v (codes "--") ≡ false
-  pub long : long_of v ≡ None
-  pub short : short_of v ≡ None
-
--- `canon --origin NAME`
-abbrev pub IsCanonOf : List Text → Text → Type 0
-IsCanonOf words origin = IsValue origin × (words ≡ codes "canon" ∷ codes "--origin" ∷ origin ∷ [])

@@ -1,9 +1,11 @@
 //! The words of the command line, read as a job.
 
-ghost use Rattle.std.specs.Prelude.{◌≡◌, ℕ, List, [], IfErr, IfOk, map, option_map, Some, is_some, true, codes};
+ghost use Rattle.std.specs.Prelude.{◌≡◌, [], IfErr, IfOk, map, option_map, Some, is_some, true, codes};
 ghost use Rattle.clap.specs.Words.{app_of, fault_of, first_of, found_of, kind_of, one_of, rows_of, subcommand_rows_of, takes};
 ghost use Rattle.office_words.specs.Commands.{office, argument_name};
-ghost use Rattle.office_words.specs.Words.{asks, IsCanonOf, canon_of, zone_asked, stored_of, import_of, export_of, migrate_of, rights_of, serve_of, number_if, existing_of, job_by, job_named, job_met, job_of, canon};
+ghost use Rattle.office_words.specs.Words.{asks, JobOf, canon_of, zone_asked, stored_of, import_of, export_of, migrate_of, rights_of, serve_of, number_if, existing_of, job_by, job_named, job_met, job_of};
+ghost use Rattle.office_words.specs.PlainForms.{IsPlain};
+ghost use Rattle.office_words.specs.Told.{IsToldAs, IsToldOf, is_help};
 
 use crate::argument::Argument;
 use crate::command::Command;
@@ -160,16 +162,25 @@ fn job_in<'a>(matches: &ArgMatches<'a>) -> Option<Job<'a>>
     }
 }
 
+/// Whether an error is an answer to words that ask for it.
+fn asks_for_help(kind: ErrorKind) -> bool
+    ensures { result ≡ is_help kind }
+{
+    matches!(kind, ErrorKind::DisplayHelp | ErrorKind::DisplayVersion)
+}
+
 /// What clap's error says.
 fn told(alloc: Global, error: Error) -> WordsFault
-    ensures { kind_of error ≡ ErrorKind.OutOfMemory → result ≡ WordsFault.NoMemory }
+    ensures kind { IsToldAs (kind_of error) result }
+    ensures memory { kind_of error ≡ ErrorKind.OutOfMemory → result ≡ WordsFault.NoMemory }
 {
-    if matches!(error.kind(), ErrorKind::OutOfMemory) {
+    let kind = error.kind();
+    if matches!(kind, ErrorKind::OutOfMemory) {
         return WordsFault::NoMemory;
     }
     match format!(in alloc; "{error}") {
-        Ok(text) if error.use_stderr() => WordsFault::Misused(text),
-        Ok(text) => WordsFault::Help(text),
+        Ok(text) if asks_for_help(kind) => WordsFault::Help(text),
+        Ok(text) => WordsFault::Misused(text),
         Err(_) => WordsFault::NoMemory,
     }
 }
@@ -179,7 +190,7 @@ fn told(alloc: Global, error: Error) -> WordsFault
 /// `migrate --store PATH`;
 /// `rights --policy PATH --caller CALLER NAME TYPE ACTION`; and
 /// `serve --store PATH --policy PATH --listen ADDRESS:PORT [--connections N] [--patience SECONDS]`. The words behind a command may stand in any order.
-/// `Help` comes where they ask for help, and `Misused` for all other words.
+/// `Help` comes where they ask for help or the version, and `Misused` where there is a mistake in them.
 pub fn read_words<'a>(alloc: Global, words: &'a [&'a str]) -> Result<Job<'a>, WordsFault>
     // The job is the one that the words ask for.
     ensures job { IfOk result (λ j. job_of (map (λ s. s.now) words.entry.now) ≡ Some (asks j)) }
@@ -188,8 +199,10 @@ pub fn read_words<'a>(alloc: Global, words: &'a [&'a str]) -> Result<Job<'a>, Wo
     // Words that ask for a job are read, unless memory runs out.
     ensures passes { IfErr result (λ e. takes office (map (λ s. s.now) words.entry.now) ≡ true
         → is_some (job_of (map (λ s. s.now) words.entry.now)) ≡ true → e ≡ WordsFault.NoMemory) }
-    // The plain form asks for what it says.
-    ensures plain { IfOk result (λ j. (o : List ℕ) → IsCanonOf (map (λ s. s.now) words.entry.now) o → asks j ≡ canon o) }
+    // Help is told where they ask for it, and misuse where there is a mistake in them.
+    ensures told { IfErr result (IsToldOf (map (λ s. s.now) words.entry.now)) }
+    // The plain form of a job asks for it.
+    ensures plain { IfOk result (λ j. (x : JobOf) → IsPlain (map (λ s. s.now) words.entry.now) x → asks j ≡ x) }
 {
     let Ok(mut command) = parser(alloc) else {
         return Err(WordsFault::NoMemory);
