@@ -7,7 +7,6 @@ use dns_master::{Counted, read_file};
 use dns_names::Name;
 use grant_policy::{Policy, read_policy};
 use office_core::MemTable;
-use office_jobs::{Callers, serve_connections};
 use std::alloc::Global;
 use std::io::{Read, Write};
 use std::marker::Brand;
@@ -15,6 +14,7 @@ use std::net::{Shutdown, TcpListener, TcpStream};
 use std::sync::ledger::{Blank, Ledger};
 use std::test::Fail;
 use std::time::Duration;
+use store_commands::{Callers, serve_connections};
 use zone_core::Zone;
 
 /// What two callers send, each over a connection of its own, and what they are answered: an update and the same again, and then
