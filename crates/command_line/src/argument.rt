@@ -47,6 +47,15 @@ struct Row {
     help: &'static str,
 }
 
+impl Row {
+    const fn new(name: &'static str, form: Form, help: &'static str) -> Row
+        ensures name { result.name ≡ name.entry }
+        ensures form { result.form ≡ form }
+    {
+        Row { name, form, help }
+    }
+}
+
 impl Argument {
     /// The one table of arguments.
     const fn row(self) -> Row
@@ -54,61 +63,33 @@ impl Argument {
         ensures form { result.form ≡ argument_form self }
     {
         match self {
-            Argument::Store => Row {
-                name: "store",
-                form: Form::Needed,
-                help: "The path of the store",
-            },
-            Argument::Policy => Row {
-                name: "policy",
-                form: Form::Needed,
-                help: "The path of the policy",
-            },
-            Argument::Origin => Row {
-                name: "origin",
-                form: Form::Needed,
-                help: "The zone's origin, an absolute name",
-            },
-            Argument::Caller => Row {
-                name: "caller",
-                form: Form::Needed,
-                help: "Who asks",
-            },
-            Argument::Name => Row {
-                name: "name",
-                form: Form::Place,
-                help: "At which name, an absolute one",
-            },
-            Argument::Type => Row {
-                name: "type",
-                form: Form::Place,
-                help: "Of which type the records are",
-            },
-            Argument::Action => Row {
-                name: "action",
-                form: Form::Place,
-                help: "list, check, add, delete or delegate",
-            },
-            Argument::Listen => Row {
-                name: "listen",
-                form: Form::Needed,
-                help: "The address and port to listen at",
-            },
-            Argument::Replace => Row {
-                name: "replace",
-                form: Form::Flag,
-                help: "In the place of the zone there",
-            },
-            Argument::Connections => Row {
-                name: "connections",
-                form: Form::Number,
-                help: "After how many to end",
-            },
-            Argument::Patience => Row {
-                name: "patience",
-                form: Form::Number,
-                help: "Seconds to wait for a peer, 30 if left out",
-            },
+            Argument::Store => Row::new("store", Form::Needed, "The path of the store"),
+            Argument::Policy => Row::new("policy", Form::Needed, "The path of the policy"),
+            Argument::Origin => Row::new(
+                "origin",
+                Form::Needed,
+                "The zone's origin, an absolute name",
+            ),
+            Argument::Caller => Row::new("caller", Form::Needed, "Who asks"),
+            Argument::Name => Row::new("name", Form::Place, "At which name, an absolute one"),
+            Argument::Type => Row::new("type", Form::Place, "Of which type the records are"),
+            Argument::Action => Row::new(
+                "action",
+                Form::Place,
+                "list, check, add, delete or delegate",
+            ),
+            Argument::Listen => Row::new(
+                "listen",
+                Form::Needed,
+                "The address and port to listen at",
+            ),
+            Argument::Replace => Row::new("replace", Form::Flag, "In the place of the zone there"),
+            Argument::Connections => Row::new("connections", Form::Number, "After how many to end"),
+            Argument::Patience => Row::new(
+                "patience",
+                Form::Number,
+                "Seconds to wait for a peer, 30 if left out",
+            ),
         }
     }
 

@@ -27,6 +27,19 @@ struct Row {
     arguments: &'static [Argument],
 }
 
+impl Row {
+    const fn new(word: &'static str, about: &'static str, arguments: &'static [Argument]) -> Row
+        ensures word { result.word ≡ word.entry }
+        ensures arguments { result.arguments ≡ arguments.entry }
+    {
+        Row {
+            word,
+            about,
+            arguments,
+        }
+    }
+}
+
 impl Command {
     ghost use Rattle.command_line.specs.Commands.{command_word, arguments_of, command_of};
 
@@ -47,53 +60,49 @@ impl Command {
         ensures arguments { result.arguments.now ≡ arguments_of self }
     {
         match self {
-            Command::Apply => Row {
-                word: "apply",
-                about: "Updates a zone, as without any word",
-                arguments: &[],
-            },
-            Command::Canon => Row {
-                word: "canon",
-                about: "Prints a zone in canonical form",
-                arguments: &[Argument::Origin],
-            },
-            Command::Import => Row {
-                word: "import",
-                about: "Puts a zone into a store",
-                arguments: &[Argument::Store, Argument::Origin, Argument::Replace],
-            },
-            Command::Export => Row {
-                word: "export",
-                about: "Prints a zone of a store",
-                arguments: &[Argument::Store, Argument::Origin],
-            },
-            Command::Migrate => Row {
-                word: "migrate",
-                about: "Takes a store of version 1 to version 2",
-                arguments: &[Argument::Store],
-            },
-            Command::Rights => Row {
-                word: "rights",
-                about: "Asks a policy whether a caller may do something",
-                arguments: &[
+            Command::Apply => Row::new("apply", "Updates a zone, as without any word", &[]),
+            Command::Canon => Row::new(
+                "canon",
+                "Prints a zone in canonical form",
+                &[Argument::Origin],
+            ),
+            Command::Import => Row::new(
+                "import",
+                "Puts a zone into a store",
+                &[Argument::Store, Argument::Origin, Argument::Replace],
+            ),
+            Command::Export => Row::new(
+                "export",
+                "Prints a zone of a store",
+                &[Argument::Store, Argument::Origin],
+            ),
+            Command::Migrate => Row::new(
+                "migrate",
+                "Takes a store of version 1 to version 2",
+                &[Argument::Store],
+            ),
+            Command::Rights => Row::new(
+                "rights",
+                "Asks a policy whether a caller may do something",
+                &[
                     Argument::Policy,
                     Argument::Caller,
                     Argument::Name,
                     Argument::Type,
                     Argument::Action,
                 ],
-            },
-            Command::Serve => Row {
-                word: "serve",
-                about: "Answers callers over HTTP",
-                arguments: &[
+            ),
+            Command::Serve => Row::new(
+                "serve",
+                "Answers callers over HTTP",
+                &[
                     Argument::Store,
                     Argument::Policy,
                     Argument::Listen,
                     Argument::Connections,
                     Argument::Patience,
                 ],
-            },
+            ),
         }
     }
 

@@ -1,4 +1,4 @@
-//! The words of the command line: what each job of the program is told by them.
+//! The command line: its commands, with what each takes, and the job that words ask for.
 #![tactic(auto)]
 
 mod argument;

@@ -33,7 +33,7 @@ fn text_at<'a>(matches: &ArgMatches<'a>, argument: Argument) -> Option<&'a str>
     matches.get_str(argument.name())
 }
 
-/// The number of an argument, where it has one: no number is given, or this one, or else it is none.
+/// The number of an argument: `Some(None)` where none is given, and `None` where what is given is not a number.
 fn number_at(matches: &ArgMatches<'_>, argument: Argument) -> Option<Option<u64>>
     ensures { result ≡ number_if (one_of (argument_name argument) (rows_of (found_of matches.now))) }
 {
