@@ -10,7 +10,7 @@ use Rattle.text_commands.specs.declared.refusal.Refusal.{Refusal}
 use Rattle.text_commands.specs.declared.line_fault.LineFault.{LineFault}
 use Rattle.text_commands.specs.declared.line_fault.LineFault.TheVariants.{Refused, ReadFailed, NoMemory}
 use Rattle.text_commands.specs.LineFaults.{◌>>=◌, Gives, Makes, GivesOf, of_zone, of_store}
-use Rattle.text_commands.proofs.StepLemmas.{refused_before, given_before}
+use Rattle.text_commands.proofs.StepLemmas.{refused_before, given_before, reached_before}
 use Rattle.store_commands.specs.Stores.{IsStoreLine}
 use Rattle.store_commands.specs.Import.{imported_line, PutsZones}
 use Rattle.store_commands.specs.Export.{FindsRecords}
@@ -42,7 +42,7 @@ module _ (left : Option (List ℕ)) (make : List ℕ → Result ZoneOf Refusal) 
   pub read_refused : {X Z : Type 0} (view : X → List ℕ) (seen : Z → ZoneOf) (put : ZoneOf → Result (List ℕ) Refusal) (fault : LineFault)
       → GivesOf seen left make (Err fault) before after → GivesOf view left (λ input. make input >>= put) (Err fault) before after
   read_refused view seen put (Refused refusal) given = ((given.0.0, given.0.1, refused_before (make given.0.0) put refusal given.0.2), given.1)
-  read_refused view seen put ReadFailed given = given
+  read_refused view seen put ReadFailed given = (given.0, reached_before make put given.1)
   read_refused view seen put NoMemory given = given
 
   -- the store refuses the zone

@@ -1,4 +1,4 @@
-use Rattle.text_commands.proofs.streams.do_task.Given as goal
+use Rattle.text_commands.proofs.task.do_task.Given as goal
 
 abbrev pub ghosts-answer-A-Ledger : goal.ghosts-answer-A-Ledger
 ghosts-answer-A-Ledger g a = record { name = a.reads.name; parts = a.reads.parts }

@@ -1,4 +1,4 @@
-use Rattle.text_commands.proofs.streams.answer.Goals as goal
+use Rattle.text_commands.proofs.task.answer.Goals as goal
 
 pub returns : goal.returns
 returns g c =
