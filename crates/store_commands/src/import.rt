@@ -127,10 +127,8 @@ fn imported<R: Source, L: Ledger>(
     requires some { 0 < blank.parts }
     ensures { (put : ZoneOf → Result (List ℕ) RefusalOf) × PutsZones put × GivesOf (λ text. string_bytes text) (R.remaining reader.old) (import_text stored.entry.origin.now put) result (R.failures reader.old) (R.failures reader.new) }
 {
-    match read_zone(rt.alloc(), stored.origin, reader) {
-        Ok(zone) => put_into_store::<L>(rt, stored.store, &zone, existing, blank),
-        Err(fault) => Err(fault),
-    }
+    let zone = read_zone(rt.alloc(), stored.origin, reader)?;
+    put_into_store::<L>(rt, stored.store, &zone, existing, blank)
 }
 
 /// The job `import`: reads a master file, builds its zone, and puts it into a store, which is made where there is none and nothing is to
@@ -201,14 +199,9 @@ fn exported<L: Ledger>(
     requires some { 0 < blank.parts }
     ensures { (held : Result (List RecordOf) RefusalOf) × FindsRecords held × Gives (λ found. zone_text found.0 found.1.items) result (export_text stored.entry.origin.now held) }
 {
-    let origin = match read_name(rt.alloc(), stored.origin) {
-        Ok(origin) => origin,
-        Err(fault) => return Err(fault),
-    };
-    match stored_records::<L>(rt, stored.store, &origin, blank) {
-        Ok(records) => Ok((origin, records)),
-        Err(fault) => Err(fault),
-    }
+    let origin = read_name(rt.alloc(), stored.origin)?;
+    let records = stored_records::<L>(rt, stored.store, &origin, blank)?;
+    Ok((origin, records))
 }
 
 /// Prints records of an origin as a master file. Where memory runs out, a line tells it behind what went out.

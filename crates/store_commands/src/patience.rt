@@ -38,14 +38,6 @@ pub(crate) fn patience_of(seconds: Option<u64>) -> Option<Duration> {
     }
 }
 
-/// What is left of a time.
-fn less(left: Option<Duration>, spent: Duration) -> Option<Duration> {
-    match left {
-        None => None,
-        Some(left) => Some(left.saturating_sub(spent)),
-    }
-}
-
 /// A stream whose reads and writes fail once its peer has been waited for too long: for a request to begin, for the rest of one that has
 /// begun, or for what is written to be taken. Only the time spent in waiting counts, and it counts anew for each of the three.
 #[derive(Drop)]
@@ -105,7 +97,7 @@ impl<'a, C: Clock> PatientStream<'a, C> {
         let spent = begun.elapsed(self.clock)?;
         self.wait.set(Wait {
             awaited: wait.awaited,
-            left: less(wait.left, spent),
+            left: wait.left.map(|left| left.saturating_sub(spent)),
         });
         Ok(())
     }

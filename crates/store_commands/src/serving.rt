@@ -1,11 +1,13 @@
 //! Serving callers over TCP, one connection after the other.
 
-ghost use Rattle.std.specs.Prelude.{◌≡◌, ◌<◌, List, length};
+ghost use Rattle.std.specs.Prelude.{◌≡◌, ◌<◌, List, Option, length};
 ghost use Rattle.office_core.specs.States.{State};
 ghost use Rattle.office_wire.specs.Exchange.{Turn, Run};
 ghost use Rattle.office_wire.specs.Serving.{standing};
+ghost use Rattle.office_wire.specs.declared.fault.ServeFault.{ServeFault as FaultOf};
+ghost use Rattle.text_commands.specs.LineFaults.{GivesOf};
 ghost use Rattle.text_commands.specs.Replies.{IsSent};
-ghost use Rattle.store_commands.specs.Serve.{connection_line, AreServed, IsSoMany};
+ghost use Rattle.store_commands.specs.Serve.{policy_read, connection_line, ended_line, most_of, AreServed, IsSoMany, AreTold};
 
 use crate::patience::{PatientStream, patience_of};
 use crate::store_file::open_store;
@@ -14,7 +16,7 @@ use dns_master::{Counted, DeviceFailed, Sink, Source};
 use grant_policy::{Policy, read_policy};
 use itoa::Buffer;
 use office_core::ZoneTable;
-use office_wire::{ServeFault, serve};
+use office_wire::ServeFault;
 use std::alloc::{AllocError, Global};
 use std::marker::Brand;
 use std::net::{SocketAddr, TcpListener, TcpStream};
@@ -23,7 +25,9 @@ use std::time::{Clock, Duration};
 use text_commands::{JobFault, LineFault, PolicyFile, read_input, tell, write_text};
 
 /// The policy that a reader gives.
-fn read_policy_from<R: Source>(alloc: Global, reader: &mut R) -> Result<Policy, LineFault> {
+fn read_policy_from<R: Source>(alloc: Global, reader: &mut R) -> Result<Policy, LineFault>
+    ensures { GivesOf (λ policy. policy) (R.remaining reader.old) policy_read result (R.failures reader.old) (R.failures reader.new) }
+{
     let text = read_input(alloc, reader)?;
     Ok(read_policy(alloc, &text)?)
 }
@@ -69,7 +73,7 @@ fn serve_stream<T: ZoneTable, C: Clock, A: Ledger, B: Ledger>(
 {
     let mut source: Counted<&PatientStream<'_, C>, A> = Counted::new(stream, reads);
     let mut sink: Counted<&PatientStream<'_, C>, B> = Counted::new(stream, writes);
-    serve(alloc, &mut source, &mut sink, table, policy)
+    office_wire::serve(alloc, &mut source, &mut sink, table, policy)
 }
 
 /// What is said on standard error where others than programs of this machine can connect.
@@ -117,9 +121,10 @@ fn serve_connection<T: ZoneTable, C: Clock, W: Sink>(
     table: &mut T,
     policy: &Policy,
     writer: &mut W,
-) -> Result<(), JobFault>
+) -> Result<(), DeviceFailed>
     ensures run { T.is_honest table.new → (s : State) → T.holds table.old s → (turns : List Turn) × (t : State) × T.holds table.new t × Run policy.now (standing s (T.failures table.old)) turns (standing t (T.failures table.new)) }
     ensures honest { T.is_honest table.new → T.is_honest table.old }
+    ensures told { (end : Option FaultOf) × IsSent (W.contents writer.old) (W.contents writer.new) (ended_line end) result (W.failures writer.old) (W.failures writer.new) }
 {
     let served = serve_stream::<_, _, Brand, Brand>(
         alloc,
@@ -131,14 +136,14 @@ fn serve_connection<T: ZoneTable, C: Clock, W: Sink>(
     );
     match served {
         Ok(()) => Ok(()),
-        Err(fault) => Ok(tell_ended(writer, fault)?),
+        Err(fault) => tell_ended(writer, fault),
     }
 }
 
-/// Whom to serve, and for how long to wait for them.
+/// Where connections come from, and for how long to wait for their peers.
 #[derive(Drop)]
-pub struct Callers<'a, C: Clock> {
-    /// Where they connect.
+pub struct Connections<'a, C: Clock> {
+    /// Where peers connect.
     pub listener: &'a TcpListener,
     /// What tells the time.
     pub clock: &'a C,
@@ -146,7 +151,7 @@ pub struct Callers<'a, C: Clock> {
     pub patience: Option<Duration>,
 }
 
-impl<C: Clock> Callers<'_, C> {
+impl<C: Clock> Connections<'_, C> {
     /// Serves one connection that was accepted.
     fn serve_one<T: ZoneTable, W: Sink>(
         &self,
@@ -155,9 +160,10 @@ impl<C: Clock> Callers<'_, C> {
         table: &mut T,
         policy: &Policy,
         writer: &mut W,
-    ) -> Result<(), JobFault>
+    ) -> Result<(), DeviceFailed>
         ensures run { T.is_honest table.new → (s : State) → T.holds table.old s → (turns : List Turn) × (t : State) × T.holds table.new t × Run policy.now (standing s (T.failures table.old)) turns (standing t (T.failures table.new)) }
         ensures honest { T.is_honest table.new → T.is_honest table.old }
+        ensures told { (end : Option FaultOf) × IsSent (W.contents writer.old) (W.contents writer.new) (ended_line end) result (W.failures writer.old) (W.failures writer.new) }
     {
         // a short response goes out at once
         let _ = stream.set_nodelay(true);
@@ -170,56 +176,72 @@ impl<C: Clock> Callers<'_, C> {
 /// connection cannot be had, and `WriteFailed` comes where a line cannot be written.
 pub fn serve_connections<T: ZoneTable, C: Clock, W: Sink>(
     alloc: Global,
-    callers: &Callers<'_, C>,
+    connections: &Connections<'_, C>,
     table: &mut T,
     policy: &Policy,
-    connections: u64,
+    most: u64,
     writer: &mut W,
 ) -> Result<(), JobFault>
     // Whatever connections come: where the store has kept its word, there are turns of all of them, one connection after the other,
     // that take the table from how it stood to how it stands; each is answered by the policy and the state that it found, and what the
     // office promises of calls holds of all of them together, whichever connection each came by.
-    ensures served { T.is_honest table.new → (s : State) → T.holds table.old s → (turns : List (List Turn)) × (t : State) × T.holds table.new t × AreServed policy.now (standing s (T.failures table.old)) turns (standing t (T.failures table.new)) × IsSoMany connections result (length turns) }
+    ensures served { T.is_honest table.new → (s : State) → T.holds table.old s → (turns : List (List Turn)) × (t : State) × T.holds table.new t × AreServed policy.now (standing s (T.failures table.old)) turns (standing t (T.failures table.new)) × IsSoMany most result (length turns) }
+    // How each connection ended that did so by a fault is told, and why it ended before so many were served.
+    ensures told { (ends : List (Option FaultOf)) × AreTold most ends (W.contents writer.old) (W.contents writer.new) result (W.failures writer.old) (W.failures writer.new) }
     // A store that has kept its word had kept it before.
     ensures honest { T.is_honest table.new → T.is_honest table.old }
 {
-    'accepted: for _ in 0..connections {
-        match callers.listener.accept() {
-            Ok((stream, _)) => callers.serve_one(alloc, &stream, table, policy, writer)?,
+    'accepted: for _ in 0..most {
+        match connections.listener.accept() {
+            Ok((stream, _)) => connections.serve_one(alloc, &stream, table, policy, writer)?,
             Err(_) => return tell(alloc, writer, LineFault::ReadFailed),
         }
     }
     Ok(())
 }
 
-/// Serves callers from a table: it listens, tells where, and serves connections.
-fn serve_table<T: ZoneTable + Drop, W: Sink>(
+/// Serves connections from a table: it listens, tells where, and serves as many as the words say.
+fn serve_table<T: ZoneTable, W: Sink>(
     rt: &HostRuntime,
     service: Service<'_>,
     policy: &Policy,
-    table: T,
+    table: &mut T,
     writer: &mut W,
-) -> Result<(), JobFault> {
+) -> Result<(), JobFault>
+    ensures served { T.is_honest table.new → (s : State) → T.holds table.old s → (turns : List (List Turn)) × (t : State) × T.holds table.new t × AreServed policy.now (standing s (T.failures table.old)) turns (standing t (T.failures table.new)) × IsSoMany (most_of service.entry) result (length turns) }
+    ensures honest { T.is_honest table.new → T.is_honest table.old }
+{
     let alloc = rt.alloc();
     let (listener, listening) = match listening_at(rt, service.listen) {
         Ok(listening) => listening,
         Err(fault) => return tell(alloc, writer, fault),
     };
     write_text(writer, listening.as_bytes())?;
-    let callers = Callers {
+    let connections = Connections {
         listener: &listener,
         clock: rt,
         patience: patience_of(service.patience),
     };
+    let most = service.connections.unwrap_or(u64::MAX);
+    serve_connections(alloc, &connections, table, policy, most, writer)
+}
+
+/// Serves connections from a table that was opened for it.
+fn serve_opened<T: ZoneTable + Drop, W: Sink>(
+    rt: &HostRuntime,
+    service: Service<'_>,
+    policy: &Policy,
+    table: T,
+    writer: &mut W,
+) -> Result<(), JobFault> {
     let mut table = table;
-    let connections = service.connections.unwrap_or(u64::MAX);
-    serve_connections(alloc, &callers, &mut table, policy, connections, writer)
+    serve_table(rt, service, policy, &mut table, writer)
 }
 
 /// The job `serve`: reads the policy, opens the store, listens, and serves connections one after the other, so many of them as the
 /// words say. A line tells where it listens, and one tells each connection that ended by a fault; or a line tells the refusal that
 /// comes first: of the policy, of the store, or `ReadFailed` where there can be no listener or a connection cannot be had.
-pub fn serve_callers<W: Sink, A: Ledger, B: Ledger>(
+pub fn serve<W: Sink, A: Ledger, B: Ledger>(
     rt: &HostRuntime,
     service: Service<'_>,
     reads: Blank,
@@ -238,7 +260,7 @@ pub fn serve_callers<W: Sink, A: Ledger, B: Ledger>(
         Err(fault) => return tell(rt.alloc(), writer, fault),
     };
     match open_store::<B>(rt, service.store, store) {
-        Ok(table) => serve_table(rt, service, &policy, table, writer),
+        Ok(table) => serve_opened(rt, service, &policy, table, writer),
         Err(fault) => tell(rt.alloc(), writer, fault),
     }
 }

@@ -4,7 +4,7 @@ ghost use Rattle.std.specs.Prelude.{◌≡◌, ◌<◌};
 
 use crate::import::{export, import};
 use crate::migrate::migrate;
-use crate::serving::serve_callers;
+use crate::serving::serve;
 use command_line::{Existing, Service, StoredZone};
 use dns_master::Counted;
 use std::io::{Read, Write};
@@ -124,7 +124,7 @@ fn serve_in<W: Write + Drop, A: Ledger, B: Ledger, C: Ledger>(
     requires store_some { 0 < store.parts }
 {
     let mut sink: Counted<W, B> = Counted::new(writer, writes);
-    let outcome = serve_callers::<_, A, C>(rt, service, reads, store, &mut sink);
+    let outcome = serve::<_, A, C>(rt, service, reads, store, &mut sink);
     (sink.into_inner(), outcome)
 }
 

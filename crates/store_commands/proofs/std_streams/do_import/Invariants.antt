@@ -1,4 +1,4 @@
-use Rattle.store_commands.proofs.streams.do_import.Given as goal
+use Rattle.store_commands.proofs.std_streams.do_import.Given as goal
 
 abbrev pub ghosts-import_in-A-Ledger : goal.ghosts-import_in-A-Ledger
 ghosts-import_in-A-Ledger g a = record { name = a.reads.name; parts = a.reads.parts }

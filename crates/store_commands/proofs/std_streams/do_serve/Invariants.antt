@@ -1,4 +1,4 @@
-use Rattle.store_commands.proofs.streams.do_serve.Given as goal
+use Rattle.store_commands.proofs.std_streams.do_serve.Given as goal
 
 abbrev pub ghosts-serve_in-A-Ledger : goal.ghosts-serve_in-A-Ledger
 ghosts-serve_in-A-Ledger g a = record { name = a.reads.name; parts = a.reads.parts }
