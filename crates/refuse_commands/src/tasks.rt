@@ -7,8 +7,8 @@ ghost use Rattle.text_commands.specs.Refusals.{told_refusal};
 ghost use Rattle.text_commands.specs.Replies.{Answered};
 ghost use Rattle.text_commands.specs.Rights.{rights_text};
 
+use command_line::QuestionWords;
 use dns_master::Pieces;
-use office_words::QuestionWords;
 use std::alloc::{AllocError, Global};
 use text_commands::{Apply, Canon, JobFault, Refusal, RefusalLine, do_task};
 

@@ -19,10 +19,12 @@ pub(crate) fn word(text: &[u8]) -> (&[u8], &[u8]) {
     }
 }
 
+/// The absolute name that a text spells.
 pub(crate) fn name(alloc: Global, text: &[u8]) -> Result<Name> {
     Ok(Name::read_absolute(alloc, text)?)
 }
 
+/// The identifier that a text spells.
 pub(crate) fn identifier(alloc: Global, text: &[u8]) -> Result<Identifier> {
     Ok(Identifier::read(alloc, text)?)
 }

@@ -14,6 +14,7 @@ use std::alloc::Global;
 use std::sync::ledger::Ledger;
 use zone_core::Zone;
 
+/// The octets of a text.
 pub(crate) fn spelled(alloc: Global, text: &str) -> Result<Vec<u8>> {
     Ok(Vec::from_slice(alloc, text.as_bytes())?)
 }

@@ -1,5 +1,5 @@
+use command_line::QuestionWords;
 use dns_master::Pieces;
-use office_words::QuestionWords;
 use std::alloc::{AllocError, Global};
 use text_commands::{Apply, Canon, JobFault, Task, do_task};
 

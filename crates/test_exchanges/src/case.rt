@@ -36,6 +36,7 @@ fn table_call(word: &[u8]) -> Result<TableCall> {
 }
 
 impl Case {
+    /// A case of no call, and of no failure.
     pub fn new(alloc: Global) -> Case {
         Case {
             failing: Vec::new(alloc),

@@ -19,6 +19,7 @@ pub struct Given {
 }
 
 impl Given {
+    /// No policy and no zone, which are empty texts.
     pub fn new(alloc: Global) -> Given {
         Given {
             policy: Vec::new(alloc),
@@ -27,6 +28,7 @@ impl Given {
         }
     }
 
+    /// Takes the policy of a row, which must be one.
     pub fn take_policy(
         &mut self,
         alloc: Global,
@@ -38,6 +40,7 @@ impl Given {
         Ok(answer.extend_from_slice(b"taken")?)
     }
 
+    /// Takes the zone of a row, by its origin and its master file, which must be one.
     pub fn take_zone(&mut self, alloc: Global, row: &Row<'_>, answer: &mut Vec<u8>) -> Result<()> {
         self.origin = Vec::from_slice(alloc, &row.text)?;
         self.zone = Vec::from_slice(alloc, &row.body)?;
@@ -45,14 +48,17 @@ impl Given {
         Ok(answer.extend_from_slice(b"taken")?)
     }
 
+    /// The policy.
     pub fn policy(&self, alloc: Global) -> Result<Policy> {
         Ok(read_policy(alloc, &self.policy)?)
     }
 
+    /// The zone's origin.
     pub fn origin(&self, alloc: Global) -> Result<Name> {
         Ok(Name::read_absolute(alloc, &self.origin)?)
     }
 
+    /// The records of the zone's master file.
     pub fn records(&self, alloc: Global) -> Result<Vec<Record>> {
         let origin = self.origin(alloc)?;
         Ok(read_file(alloc, &self.zone, &origin)?)

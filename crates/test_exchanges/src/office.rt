@@ -32,6 +32,7 @@ impl Answers for Office {
 }
 
 impl Office {
+    /// A service with no policy, no zone and no call.
     pub fn new(alloc: Global) -> Office {
         Office {
             given: Given::new(alloc),

@@ -7,7 +7,6 @@ use dns_master::{Counted, read_file};
 use dns_names::Name;
 use grant_policy::{Policy, read_policy};
 use office_core::MemTable;
-use office_jobs::{Callers, serve_connections};
 use std::alloc::Global;
 use std::io::{Read, Write};
 use std::marker::Brand;
@@ -15,6 +14,7 @@ use std::net::{Shutdown, TcpListener, TcpStream};
 use std::sync::ledger::{Blank, Ledger};
 use std::test::Fail;
 use std::time::Duration;
+use store_commands::{Connections, serve_connections};
 use zone_core::Zone;
 
 /// What two callers send, each over a connection of its own, and what they are answered: an update and the same again, and then
@@ -83,12 +83,12 @@ fn served_in<L: Ledger>(
     let alloc = rt.alloc();
     let (policy, mut table) = (policy(alloc)?, table(alloc)?);
     let mut sink: Counted<Vec<u8>, L> = Counted::new(Vec::new(alloc), writes);
-    let callers = Callers {
+    let from = Connections {
         listener,
         clock: rt,
         patience: Some(Duration::from_millis(PATIENCE)),
     };
-    if serve_connections(alloc, &callers, &mut table, &policy, connections, &mut sink).is_err() {
+    if serve_connections(alloc, &from, &mut table, &policy, connections, &mut sink).is_err() {
         return Err(Fail::new("a connection is not served"));
     }
     Ok(sink.into_inner())

@@ -1,7 +1,7 @@
 //! Stores of version 1 in files, and the lines that are told where they are migrated.
 
 use crate::steps::{Row, Step, expect_told};
-use office_words::Existing;
+use command_line::Existing;
 use std::test::Fail;
 
 /// The zone of the examples.

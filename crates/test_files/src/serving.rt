@@ -3,7 +3,7 @@
 use crate::office::{POLICY, ZONE, listening};
 use crate::steps::{Files, Row, Step, expect_told};
 use crate::stores::NO_DATABASE;
-use office_words::Existing;
+use command_line::Existing;
 use std::test::Fail;
 
 /// Services that are refused by their policy, or else by their store.

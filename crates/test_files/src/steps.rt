@@ -1,11 +1,11 @@
 //! What is done to a store and a policy in files, one step after the other.
 
-use office_jobs::{do_export, do_import, do_migrate, do_serve};
-use office_words::{Existing, Service, StoredZone};
+use command_line::{Existing, Service, StoredZone};
 use sqlite::Connection;
 use std::path::PathBuf;
 use std::test::Fail;
 use std::{env, fs, process};
+use store_commands::{do_export, do_import, do_migrate, do_serve};
 
 /// What is done.
 #[derive(Clone, Copy)]

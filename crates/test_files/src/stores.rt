@@ -1,7 +1,7 @@
 //! Stores in files, and the lines that are told of them.
 
 use crate::steps::{Files, Row, Step, expect_told};
-use office_words::Existing;
+use command_line::Existing;
 use std::fs;
 use std::test::Fail;
 

@@ -38,6 +38,7 @@ fn has_line(text: &[u8], line: &str) -> bool {
 }
 
 impl Kept {
+    /// No rows.
     pub fn new(alloc: Global) -> Kept {
         Kept {
             lines: Vec::new(alloc),

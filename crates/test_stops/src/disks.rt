@@ -129,6 +129,7 @@ impl Held {
         }
     }
 
+    /// The same octets once more.
     pub fn copy(&self, alloc: Global) -> Result<Held> {
         let log = Vec::from_slice(alloc, &self.log)?;
         Ok(Held {
@@ -137,6 +138,7 @@ impl Held {
         })
     }
 
+    /// Whether both files have the same octets as those of another.
     pub fn is(&self, other: &Held) -> bool {
         self.log == other.log && self.db == other.db
     }

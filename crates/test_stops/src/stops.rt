@@ -57,6 +57,7 @@ impl Answers for Stops {
 }
 
 impl Stops {
+    /// No policy, no look, and empty files.
     pub fn new(alloc: Global) -> Stops {
         Stops {
             policy: Vec::new(alloc),

@@ -146,6 +146,7 @@ impl Whole {
         }
     }
 
+    /// Appends what was found before and after the stop, and what was told.
     pub fn push(&self, answer: &mut Vec<u8>) -> Result<(), AllocError> {
         push_part("before:\n", &self.old, answer)?;
         push_part("told: ", &self.told, answer)?;

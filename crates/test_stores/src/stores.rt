@@ -39,6 +39,7 @@ fn opened(alloc: Global, script: &[u8]) -> Result<Connection<MemStore>> {
 }
 
 impl Stores {
+    /// No policy, no script and no connection.
     pub fn new(alloc: Global) -> Stores {
         Stores {
             policy: Vec::new(alloc),

@@ -14,7 +14,7 @@ use Rattle.text_commands.specs.declared.line_fault.JobFault.TheVariants.{Told, W
 use Rattle.text_commands.specs.Device.{AppendsFront}
 use Rattle.text_commands.specs.LineFaults.{◌>>=◌, Makes, GivesOf}
 use Rattle.text_commands.specs.Replies.{told, MayTell, IsTold, IsPrinted, IsReply, Answered}
-use Rattle.text_commands.proofs.StepLemmas.{refused_before, given_before}
+use Rattle.text_commands.proofs.StepLemmas.{refused_before, given_before, reached_before}
 
 -- ---- printing
 
@@ -67,12 +67,12 @@ module _ (left : Option (List ℕ)) (answer : List ℕ → Result (List ℕ) Ref
   -- a fault was told by the line of its own, or by that of want of memory
   own_line : {X : Type 0} (view : X → List ℕ) (fault : LineFault) → GivesOf view left answer (Err fault) reads reads_after → Appends old new (told fault) → writes_after ≡ writes → Answered left answer old new (Err (Told fault)) reads reads_after writes writes_after
   own_line view (Refused refusal) given line fine = (given.0, line, given.1, fine)
-  own_line view ReadFailed given line fine = (line, given, fine)
+  own_line view ReadFailed given line fine = (line, given.0, given.1, fine)
   own_line view NoMemory given line fine = ((told NoMemory, inl refl, line), given, fine)
 
   own_front : {X : Type 0} (view : X → List ℕ) (fault : LineFault) → GivesOf view left answer (Err fault) reads reads_after → AppendsFront old new (told fault) → writes < writes_after → Answered left answer old new (Err WriteFailed) reads reads_after writes writes_after
   own_front view (Refused refusal) given front failed = ((told (Refused refusal), inl ((Err refusal, given.0, refl), given.1), front), failed)
-  own_front view ReadFailed given front failed = ((told ReadFailed, inr (inl (refl, given)), front), failed)
+  own_front view ReadFailed given front failed = ((told ReadFailed, inr (inl (refl, given.0, given.1)), front), failed)
   own_front view NoMemory given front failed = ((told NoMemory, inr (inr (inl refl, given)), front), failed)
 
   -- which fault was told in the place of another
@@ -96,5 +96,5 @@ module _ {A : Type 0} (left : Option (List ℕ)) (make : List ℕ → Result A R
   pub text_refused : {X : Type 0} (view : X → A) (fault : LineFault) (before after : ℕ) → GivesOf view left make (Err fault) before after → GivesOf (λ (t : List ℕ). t) left (λ input. make input >>= λ made. Ok (text made)) (Err fault) before after
   text_refused view (Refused refusal) before after given =
       ((given.0.0, given.0.1, refused_before (make given.0.0) (λ made. Ok (text made)) refusal given.0.2), given.1)
-  text_refused view ReadFailed before after given = given
+  text_refused view ReadFailed before after given = (given.0, reached_before make (λ made. Ok (text made)) given.1)
   text_refused view NoMemory before after given = given

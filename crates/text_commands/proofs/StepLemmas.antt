@@ -6,7 +6,7 @@ use Rattle.text_commands.specs.declared.refusal.Refusal.TheVariants.{TooLarge}
 use Rattle.text_commands.specs.declared.line_fault.LineFault.{LineFault}
 use Rattle.text_commands.specs.declared.line_fault.LineFault.TheVariants.{Refused, ReadFailed, NoMemory}
 use Rattle.text_commands.specs.Device.{IsAll}
-use Rattle.text_commands.specs.LineFaults.{◌>>=◌, limited, Gives, Makes, GivesOf}
+use Rattle.text_commands.specs.LineFaults.{◌>>=◌, limited, Gives, Makes, ReachesInput, GivesOf}
 
 -- ---- the input
 
@@ -21,6 +21,9 @@ limited_all left input all small = (input, all, ap (λ b. if b then Err TooLarge
 pub limited_more : (left : Option (List ℕ)) → (input : List ℕ) × IsAll left input × (4194304 < length input) → Makes left limited (Err TooLarge)
 limited_more left more = (more.0, more.1, ap (λ b. if b then Err TooLarge else Ok more.0) (lt-ltb 4194304 (length more.0) more.2))
 
+pub limited_reached : ReachesInput limited
+limited_reached input more = ap (λ b. if b then Err TooLarge else Ok input) (lt-ltb 4194304 (length input) more)
+
 -- ---- two steps
 
 -- what comes behind a step that is refused is not made
@@ -29,6 +32,13 @@ refused_before made next refusal e = ap (λ m. m >>= next) e
 
 pub given_before : {A B : Type 0} (made : Result A Refusal) (next : A → Result B Refusal) (a : A) → made ≡ Ok a → (made >>= next) ≡ next a
 given_before made next a e = ap (λ m. m >>= next) e
+
+-- the input is reached by what makes something of it, and by what asks for it behind words that are not refused
+pub reached_before : {A B : Type 0} (make : List ℕ → Result A Refusal) (next : A → Result B Refusal) → ReachesInput make → ReachesInput (λ input. make input >>= next)
+reached_before make next reached input more = refused_before (make input) next TooLarge (reached input more)
+
+pub reached_behind : {A B : Type 0} (first : Result A Refusal) (make : A → List ℕ → Result B Refusal) (a : A) → first ≡ Ok a → ReachesInput (make a) → ReachesInput (λ input. first >>= λ b. make b input)
+reached_behind first make a is reached input more = given_before first (λ b. make b input) a is ∙ reached input more
 
 -- ---- words, the input, and what is made of them
 
@@ -47,7 +57,8 @@ module _ {A X Y : Type 0} (view : X → Y) (left : Option (List ℕ)) (first : R
       let input = read.0.0 in
       ((input, read.0.1, given_before first (λ b. limited input >>= next b) a is ∙ refused_before (limited input) (next a) refusal read.0.2), read.1)
   input_refused a NoMemory is read = read
-  input_refused a ReadFailed is read = read
+  input_refused a ReadFailed is read =
+      (read.0, reached_behind first (λ b input. limited input >>= next b) a is (reached_before limited (next a) read.1))
 
   -- both are there
   input_given : (a : A) (text : List ℕ) (made : Result Y Refusal) → first ≡ Ok a → Makes left limited (Ok text) → next a text ≡ made → Makes left (λ input. first >>= λ a. limited input >>= next a) made

@@ -9,7 +9,7 @@ use Rattle.text_commands.specs.declared.line_fault.JobFault.{JobFault}
 use Rattle.text_commands.specs.declared.line_fault.JobFault.TheVariants.{Told, WriteFailed}
 use Rattle.text_commands.specs.Device.{AppendsFront}
 use Rattle.text_commands.specs.Refusals.{told_refusal}
-use Rattle.text_commands.specs.LineFaults.{Makes}
+use Rattle.text_commands.specs.LineFaults.{Makes, ReachesInput}
 
 -- the line that tells a fault
 abbrev pub told : LineFault → List ℕ
@@ -64,7 +64,7 @@ IsShortReply left answer text = (text ≡ told NoMemory) ⊎ ((whole : List ℕ)
 abbrev pub IsReply : Option (List ℕ) → (List ℕ → Result (List ℕ) Refusal) → ℕ → ℕ → List ℕ → Type 0
 IsReply left answer reads reads_after text =
     (((made : Result (List ℕ) Refusal) × Makes left answer made × (text ≡ reply made)) × (reads_after ≡ reads))
-    ⊎ (((text ≡ told ReadFailed) × (reads < reads_after))
+    ⊎ (((text ≡ told ReadFailed) × (reads < reads_after) × ReachesInput answer)
     ⊎ (IsShortReply left answer text × (reads_after ≡ reads)))
 
 -- What was left to read, what is answered to it, what the writer held before and after, how the job went, the reader's failures
@@ -76,7 +76,7 @@ Answered left answer old new (Ok done) reads reads_after writes writes_after =
 Answered left answer old new (Err (Told (Refused refusal))) reads reads_after writes writes_after =
     Makes left answer (Err refusal) × Appends old new (told_refusal refusal) × (reads_after ≡ reads) × (writes_after ≡ writes)
 Answered left answer old new (Err (Told ReadFailed)) reads reads_after writes writes_after =
-    Appends old new (told ReadFailed) × (reads < reads_after) × (writes_after ≡ writes)
+    Appends old new (told ReadFailed) × (reads < reads_after) × ReachesInput answer × (writes_after ≡ writes)
 Answered left answer old new (Err (Told NoMemory)) reads reads_after writes writes_after =
     ((text : List ℕ) × IsShortReply left answer text × Appends old new text) × (reads_after ≡ reads) × (writes_after ≡ writes)
 Answered left answer old new (Err WriteFailed) reads reads_after writes writes_after =

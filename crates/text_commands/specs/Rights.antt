@@ -8,7 +8,7 @@ use Rattle.grant_policy.specs.Documents.{document_of}
 use Rattle.grant_policy.specs.Reading.{identifier_of, type_of, policy_of}
 use Rattle.text_commands.specs.declared.refusal.Refusal.{Refusal}
 use Rattle.text_commands.specs.declared.refusal.Refusal.TheVariants.{NoCaller, TypeNotKept, NoAction}
-use Rattle.office_words.specs.declared.job.QuestionWords.{QuestionWords}
+use Rattle.command_line.specs.declared.job.QuestionWords.{QuestionWords}
 use Rattle.text_commands.specs.declared.rights.QuestionRead.{QuestionRead}
 use Rattle.text_commands.specs.LineFaults.{◌>>=◌, or_refused, limited, of_names, of_policies}
 

@@ -11,7 +11,6 @@ mod parts;
 mod policy_file;
 mod refusal;
 mod rights;
-mod streams;
 mod task;
 
 pub use apply::Apply;
@@ -21,5 +20,4 @@ pub use laws::{text_is_divided, zones_are_read_again};
 pub use line_fault::{JobFault, LineFault, NO_MEMORY_LINE};
 pub use policy_file::PolicyFile;
 pub use refusal::{Refusal, RefusalLine};
-pub use streams::do_task;
-pub use task::Task;
+pub use task::{Task, do_task};

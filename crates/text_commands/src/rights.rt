@@ -13,11 +13,11 @@ use crate::device::{read_input, tell, write_text};
 use crate::line_fault::{JobFault, LineFault};
 use crate::refusal::Refusal;
 use crate::task::Task;
+use command_line::QuestionWords;
 use dns_data::RecordType;
 use dns_master::{Sink, Source};
 use dns_names::Name;
 use grant_policy::{Action, Decision, Identifier, IdentifierFault, LookUps, decide, read_policy};
-use office_words::QuestionWords;
 use std::alloc::{AllocError, Global};
 
 /// What is asked of a policy.

@@ -1,15 +1,15 @@
 //! The program: it reads the words of the command line, opens what they name, and does the job.
 #![tactic(auto)]
 
-use office_jobs::{
-    Apply, Canon, JobFault, NO_MEMORY_LINE, PolicyFile, Task, do_export, do_import, do_migrate,
-    do_serve, do_task,
-};
-use office_words::{Job, WordsFault, read_words};
+use command_line::{Job, WordsFault, read_words};
 use std::alloc::{AllocError, Global};
 use std::env;
 use std::io::{self, ErrorKind, Read};
 use std::process::ExitCode;
+use store_commands::{
+    Apply, Canon, JobFault, NO_MEMORY_LINE, PolicyFile, Task, do_export, do_import, do_migrate,
+    do_serve, do_task,
+};
 
 /// The exit status of a job: 0 where it went through, and else 1.
 fn status(done: Result<(), JobFault>) -> ExitCode {

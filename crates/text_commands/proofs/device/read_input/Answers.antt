@@ -1,7 +1,7 @@
-use Rattle.std.proofs.Common.{arith, refl, ◌∙◌}
+use Rattle.std.proofs.Common.{arith, refl, rules, ◌∙◌}
 use Rattle.std.proofs.KnownBytes.{Consumes-nil}
 use Rattle.text_commands.proofs.DeviceLemmas.{refilled, read_more, all_read, more_left}
-use Rattle.text_commands.proofs.StepLemmas.{limited_all, limited_more}
+use Rattle.text_commands.proofs.StepLemmas.{limited_all, limited_more, limited_reached}
 use Rattle.text_commands.proofs.device.read_input.Goals as goal
 
 pub loop-reader-init : goal.loop-reader-init
@@ -30,3 +30,6 @@ pub returns : goal.returns
 returns g c =
     let l = c.loop-reader in
     (limited_more _ (more_left _ _ l.input.items 4194304 l.invariant.read (omega (arith, c.len.ensures))), l.invariant.fine)
+
+pub returns-in_default : goal.returns-in_default
+returns-in_default g c = (search (rules, arith), limited_reached)

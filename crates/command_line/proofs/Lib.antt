@@ -1,0 +1,4 @@
+pub mod CommandLemmas
+pub mod NumberWordLemmas
+pub mod PlainLemmas
+pub mod ToldLemmas

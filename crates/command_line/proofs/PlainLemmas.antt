@@ -1,0 +1,149 @@
+-- The plain form of each job asks for it.
+use Rattle.std.proofs.Common.{◌≡◌, ◌∙◌, ap, ap₂, refl, ℕ, List, [], ◌∷◌, ◌++◌, Option, Some, None, codes, option_map, inl, inr}
+use Rattle.std.specs.Prelude.{if◌then◌else◌, nat_lt, option_and_then}
+use Rattle.clap.specs.Words.{Text}
+use Rattle.clap.specs.Walk.{Held, Walk, arg_by_id, arg_by_index, idle, most_values, option, pending_count, positional_held, pushed, to_positional, walk_from, nothing_held, walked}
+use Rattle.clap.specs.Simple.{filled, with_index}
+use Rattle.clap.proofs.OnLiterals.{clap_on_literals}
+use Rattle.command_line.specs.Commands.{argument_name, rule_for}
+use Rattle.command_line.specs.declared.argument.Argument.{Argument}
+use Rattle.command_line.specs.declared.argument.Argument.TheVariants as argument
+use Rattle.command_line.specs.declared.command.Command.{Command}
+use Rattle.command_line.specs.declared.command.Command.TheVariants as command
+use Rattle.command_line.specs.declared.job.Existing.{Existing}
+use Rattle.command_line.specs.declared.job.Existing.TheVariants.{Kept, Replaced}
+use Rattle.command_line.specs.PlainForms.{IsNumberGiven, IsPlain, IsValue, existing_words, given}
+use Rattle.command_line.specs.Words.{JobOf, apply, canon, imports, export, migrate, rights, serve, job_by, job_of, stored_at}
+use Rattle.command_line.proofs.CommandLemmas.{job_of_command, no_words, place_walked, rows_from, rules_of, standing, value_walked}
+
+-- ---- steps
+
+-- the job of a command, from a walk over its further words
+abbrev job_from : Command → List Text → Walk → Option JobOf
+job_from c words w = job_by c (rows_from (rules_of c) w words)
+
+-- what is held at a walk's start, after an option with its value, and after a word in its place
+abbrev start : Held
+start = nothing_held
+
+-- what is held after the word of an option
+abbrev named : Command → Held → Argument → Held
+named c h a = (walked (rules_of c) [] (standing 1 h idle) (codes "--" ++ argument_name a)).held
+
+abbrev valued : Command → Held → Argument → Text → Held
+valued c h a v = pushed (argument_name a) v (named c h a)
+
+abbrev placed : Command → ℕ → Held → Argument → Text → Held
+placed c k h a v = positional_held (rules_of c) (with_index k (filled (rule_for a))) v h
+
+-- the value of an option is one step of the walk
+option_read : (c : Command) (h : Held) (a : Argument) (v : Text) (words : List Text) → IsValue v
+    → arg_by_id (rules_of c) (argument_name a) ≡ Some (filled (rule_for a))
+    → job_from c words (walked (rules_of c) [] (standing 1 (named c h a) (option (argument_name a))) v)
+    ≡ job_from c words (standing 1 (valued c h a v)
+    (if nat_lt (pending_count (filled (rule_for a)) (valued c h a v).pending) (most_values (filled (rule_for a))) then option (argument_name a) else idle))
+option_read c h a v words is found =
+    ap (job_from c words) (value_walked (rules_of c) 1 (argument_name a) v (filled (rule_for a)) (named c h a) is found)
+
+place_read : (c : Command) (k : ℕ) (h : Held) (a : Argument) (v : Text) (words : List Text) → IsValue v
+    → arg_by_index (rules_of c) k ≡ Some (with_index k (filled (rule_for a)))
+    → job_from c words (walked (rules_of c) [] (standing k h idle) v)
+    ≡ job_from c words (to_positional (rules_of c) (Some (with_index k (filled (rule_for a)))) v (standing k h idle) h)
+place_read c k h a v words is found = ap (job_from c words) (place_walked (rules_of c) k v (with_index k (filled (rule_for a))) h is found)
+
+-- ---- the commands
+
+canon_read : (o : Text) → IsValue o → job_from command.Canon (given argument.Origin o) (walk_from start) ≡ Some (canon o)
+unfolding clap_on_literals
+canon_read o is = option_read command.Canon start argument.Origin o [] is refl
+
+migrate_read : (s : Text) → IsValue s → job_from command.Migrate (given argument.Store s) (walk_from start) ≡ Some (migrate s)
+unfolding clap_on_literals
+migrate_read s is = option_read command.Migrate start argument.Store s [] is refl
+
+export_read : (s o : Text) → IsValue s → IsValue o
+    → job_from command.Export (given argument.Store s ++ given argument.Origin o) (walk_from start) ≡ Some (export (stored_at s o))
+unfolding clap_on_literals
+export_read s o is_s is_o =
+    option_read command.Export start argument.Store s (given argument.Origin o) is_s refl
+    ∙ option_read command.Export (valued command.Export start argument.Store s) argument.Origin o [] is_o refl
+
+import_read : (s o : Text) (existing : Existing) → IsValue s → IsValue o
+    → job_from command.Import (given argument.Store s ++ given argument.Origin o ++ existing_words existing) (walk_from start) ≡ Some (imports (stored_at s o) existing)
+unfolding clap_on_literals
+import_read s o Kept is_s is_o =
+    option_read command.Import start argument.Store s (given argument.Origin o) is_s refl
+    ∙ option_read command.Import (valued command.Import start argument.Store s) argument.Origin o [] is_o refl
+import_read s o Replaced is_s is_o =
+    option_read command.Import start argument.Store s (given argument.Origin o ++ existing_words Replaced) is_s refl
+    ∙ option_read command.Import (valued command.Import start argument.Store s) argument.Origin o (existing_words Replaced) is_o refl
+
+module _ (p q n t a : Text) (is_p : IsValue p) (is_q : IsValue q) (is_n : IsValue n) (is_t : IsValue t) (is_a : IsValue a) where
+  abbrev asked : Held
+  asked = valued command.Rights (valued command.Rights start argument.Policy p) argument.Caller q
+
+  abbrev asked_at : Held
+  asked_at = placed command.Rights 1 asked argument.Name n
+
+  places_read : job_from command.Rights (n ∷ t ∷ a ∷ []) (standing 1 asked idle) ≡ Some (rights p q n t a)
+  unfolding clap_on_literals
+  places_read =
+      place_read command.Rights 1 asked argument.Name n (t ∷ a ∷ []) is_n refl
+      ∙ (place_read command.Rights 2 asked_at argument.Type t (a ∷ []) is_t refl
+      ∙ place_read command.Rights 3 (placed command.Rights 2 asked_at argument.Type t) argument.Action a [] is_a refl)
+
+  rights_read : job_from command.Rights (given argument.Policy p ++ given argument.Caller q ++ n ∷ t ∷ a ∷ []) (walk_from start) ≡ Some (rights p q n t a)
+  unfolding clap_on_literals
+  rights_read =
+      option_read command.Rights start argument.Policy p (given argument.Caller q ++ n ∷ t ∷ a ∷ []) is_p refl
+      ∙ (option_read command.Rights (valued command.Rights start argument.Policy p) argument.Caller q (n ∷ t ∷ a ∷ []) is_q refl ∙ places_read)
+
+module _ (s p l : Text) (is_s : IsValue s) (is_p : IsValue p) (is_l : IsValue l) where
+  abbrev served : Held
+  served = valued command.Serve (valued command.Serve (valued command.Serve start argument.Store s) argument.Policy p) argument.Listen l
+
+  -- the options that have to be there, with any words after them
+  needed_read : (words : List Text) → job_from command.Serve (given argument.Store s ++ given argument.Policy p ++ given argument.Listen l ++ words) (walk_from start)
+      ≡ job_from command.Serve words (standing 1 served idle)
+  unfolding clap_on_literals
+  needed_read words =
+      option_read command.Serve start argument.Store s (given argument.Policy p ++ given argument.Listen l ++ words) is_s refl
+      ∙ (option_read command.Serve (valued command.Serve start argument.Store s) argument.Policy p (given argument.Listen l ++ words) is_p refl
+      ∙ option_read command.Serve (valued command.Serve (valued command.Serve start argument.Store s) argument.Policy p) argument.Listen l words is_l refl)
+
+  abbrev served_by : Option (Option ℕ) → Option (Option ℕ) → Option JobOf
+  served_by n w = option_and_then (λ x. option_map (λ y. serve s p l x y) w) n
+
+  abbrev some : Option ℕ → Option (Option ℕ)
+  some = option_map (λ x. Some x)
+
+  numbers_read : (n w : Option ℕ) (ns ws : List Text) → IsNumberGiven argument.Connections n ns → IsNumberGiven argument.Patience w ws
+      → job_from command.Serve (ns ++ ws) (standing 1 served idle) ≡ Some (serve s p l n w)
+  unfolding clap_on_literals
+  numbers_read None None ns ws is_n is_w = rw (is_n, is_w) refl
+  numbers_read (Some n) None ns ws is_n is_w =
+      rw (is_n.3, is_w) (option_read command.Serve served argument.Connections is_n.0 [] is_n.1 refl
+      ∙ ap (λ x. served_by (some x) (Some None)) is_n.2)
+  numbers_read None (Some w) ns ws is_n is_w =
+      rw (is_n, is_w.3) (option_read command.Serve served argument.Patience is_w.0 [] is_w.1 refl
+      ∙ ap (λ x. served_by (Some None) (some x)) is_w.2)
+  numbers_read (Some n) (Some w) ns ws is_n is_w =
+      rw (is_n.3, is_w.3) (option_read command.Serve served argument.Connections is_n.0 (given argument.Patience is_w.0) is_n.1 refl
+      ∙ (option_read command.Serve (valued command.Serve served argument.Connections is_n.0) argument.Patience is_w.0 [] is_w.1 refl
+      ∙ ap₂ (λ x y. served_by (some x) (some y)) is_n.2 is_w.2))
+
+-- ---- all of them
+
+pub plain_read : (words : List Text) (x : JobOf) → IsPlain words x → job_of words ≡ Some x
+plain_read words apply (inl none) = ap job_of none ∙ no_words
+plain_read words apply (inr word) = ap job_of word ∙ job_of_command command.Apply []
+plain_read words (canon o) is = ap job_of is.1 ∙ (job_of_command command.Canon _ ∙ canon_read o is.0)
+plain_read words (imports z existing) is =
+    ap job_of is.2 ∙ (job_of_command command.Import _ ∙ import_read z.store z.origin existing is.0 is.1)
+plain_read words (export z) is = ap job_of is.2 ∙ (job_of_command command.Export _ ∙ export_read z.store z.origin is.0 is.1)
+plain_read words (migrate s) is = ap job_of is.1 ∙ (job_of_command command.Migrate _ ∙ migrate_read s is.0)
+plain_read words (rights p q n t a) is =
+    ap job_of is.5 ∙ (job_of_command command.Rights _ ∙ rights_read p q n t a is.0 is.1 is.2 is.3 is.4)
+plain_read words (serve s p l n w) is =
+    ap job_of is.7 ∙ (job_of_command command.Serve _ ∙ (needed_read s p l is.0 is.1 is.2 (is.3 ++ is.5)
+    ∙ numbers_read s p l is.0 is.1 is.2 n w is.3 is.5 is.4 is.6))

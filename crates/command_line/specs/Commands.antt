@@ -1,0 +1,93 @@
+-- The commands and what each takes after its word, and the rules that clap reads words by.
+use Rattle.std.specs.Prelude.{true, List, [], ◌∷◌, Option, Some, bytes_eq, codes, find, fold}
+use Rattle.clap.specs.Words.{App, Rule, Shape, Text, new_app, new_rule, with_rule, with_subcommand}
+use Rattle.clap.specs.Simple.{on_top}
+use Rattle.clap.specs.declared.builder.ArgAction.TheVariants.{Set, SetTrue}
+use Rattle.clap.specs.declared.builder.value_parser.ValueParser.TheVariants as value
+use Rattle.command_line.specs.declared.argument.Argument.{Argument}
+use Rattle.command_line.specs.declared.argument.Argument.TheVariants as argument
+use Rattle.command_line.specs.declared.argument.Form.{Form}
+use Rattle.command_line.specs.declared.argument.Form.TheVariants.{Needed, Number, Flag, Place}
+use Rattle.command_line.specs.declared.command.Command.{Command}
+use Rattle.command_line.specs.declared.command.Command.TheVariants as command
+
+-- ---- the table of arguments
+
+-- the name of an argument, and how it is written
+abbrev pub argument_row : Argument → Text × Form
+argument_row argument.Store = (codes "store", Needed)
+argument_row argument.Policy = (codes "policy", Needed)
+argument_row argument.Origin = (codes "origin", Needed)
+argument_row argument.Caller = (codes "caller", Needed)
+argument_row argument.Name = (codes "name", Place)
+argument_row argument.Type = (codes "type", Place)
+argument_row argument.Action = (codes "action", Place)
+argument_row argument.Listen = (codes "listen", Needed)
+argument_row argument.Replace = (codes "replace", Flag)
+argument_row argument.Connections = (codes "connections", Number)
+argument_row argument.Patience = (codes "patience", Number)
+
+abbrev pub argument_name : Argument → Text
+argument_name a = (argument_row a).0
+
+abbrev pub argument_form : Argument → Form
+argument_form a = (argument_row a).1
+
+-- ---- the table of commands
+
+-- the word of a command, and what it takes after it
+abbrev pub command_row : Command → Text × List Argument
+command_row command.Apply = (codes "apply", [])
+command_row command.Canon = (codes "canon", argument.Origin ∷ [])
+command_row command.Import = (codes "import", argument.Store ∷ argument.Origin ∷ argument.Replace ∷ [])
+command_row command.Export = (codes "export", argument.Store ∷ argument.Origin ∷ [])
+command_row command.Migrate = (codes "migrate", argument.Store ∷ [])
+command_row command.Rights =
+    (codes "rights", argument.Policy ∷ argument.Caller ∷ argument.Name ∷ argument.Type ∷ argument.Action ∷ [])
+command_row command.Serve =
+    (codes "serve", argument.Store ∷ argument.Policy ∷ argument.Listen ∷ argument.Connections ∷ argument.Patience ∷ [])
+
+abbrev pub command_word : Command → Text
+command_word c = (command_row c).0
+
+abbrev pub arguments_of : Command → List Argument
+arguments_of c = (command_row c).1
+
+abbrev pub all_commands : List Command
+all_commands =
+    command.Apply ∷ command.Canon ∷ command.Import ∷ command.Export ∷ command.Migrate ∷ command.Rights ∷ command.Serve ∷ []
+
+-- the command that a word names
+abbrev pub command_of : Text → Option Command
+command_of word = find (λ c. bytes_eq (command_word c) word) all_commands
+
+-- ---- the rules that clap reads words by
+
+abbrev pub in_form : Form → Text → Rule → Rule
+in_form Needed name r = record r { long = Some name; required = true; action = Some Set }
+in_form Number name r = record r { long = Some name; action = Some Set; parser = Some (value.Unsigned 0 18446744073709551615) }
+in_form Flag name r = record r { long = Some name; action = Some SetTrue }
+in_form Place name r = record r { required = true; action = Some Set }
+
+abbrev pub rule_for : Argument → Rule
+rule_for a = in_form (argument_form a) (argument_name a) (new_rule (argument_name a))
+
+abbrev pub with_argument : App → Argument → App
+with_argument app a = with_rule app (rule_for a)
+
+abbrev pub app_for : Command → App
+app_for c = fold with_argument (new_app (command_word c)) (arguments_of c)
+
+-- the first word is not the program's name
+abbrev pub without_name : Shape → Shape
+without_name s = record s { no_binary_name = true }
+
+abbrev pub bare_office : App
+bare_office = on_top without_name (new_app (codes "zoneoffice"))
+
+abbrev pub with_command : App → Command → App
+with_command app c = with_subcommand app (app_for c).top
+
+-- the program, with all commands
+unfoldable pub office : App
+office = fold with_command bare_office all_commands

@@ -1,0 +1,49 @@
+-- The plain form of each job: the words that ask for it as a manual writes them.
+use Rattle.std.specs.Prelude.{◌≡◌, ◌⊎◌, ℕ, false, List, [], ◌∷◌, ◌++◌, Option, Some, None, codes}
+use Rattle.std.specs.Str.{bytes_eq}
+use Rattle.clap.specs.Words.{Text}
+use Rattle.clap.specs.Lexer.{long_of, short_of}
+use Rattle.command_line.specs.Commands.{argument_name}
+use Rattle.command_line.specs.Words.{JobOf, apply, canon, imports, export, migrate, rights, serve, number_in}
+use Rattle.command_line.specs.declared.argument.Argument.{Argument}
+use Rattle.command_line.specs.declared.argument.Argument.TheVariants as argument
+use Rattle.command_line.specs.declared.job.Existing.{Existing}
+use Rattle.command_line.specs.declared.job.Existing.TheVariants.{Kept, Replaced}
+
+-- a word that may stand as the value of an option: it is no `--`, and no flag
+pub record IsValue (v : Text) : Type 0 where
+  pub dashes : bytes_eq v (codes "--") ≡ false
+  pub long : long_of v ≡ None
+  pub short : short_of v ≡ None
+
+-- `--name VALUE`
+abbrev pub given : Argument → Text → List Text
+given a v = (codes "--" ++ argument_name a) ∷ v ∷ []
+
+-- `--replace`, where the zone there is to be replaced
+abbrev pub existing_words : Existing → List Text
+existing_words Kept = []
+existing_words Replaced = codes "--replace" ∷ []
+
+-- `--name N`, where a number is given
+abbrev pub IsNumberGiven : Argument → Option ℕ → List Text → Type 0
+IsNumberGiven a None words = words ≡ []
+IsNumberGiven a (Some n) words = (t : Text) × IsValue t × (number_in t ≡ Some n) × (words ≡ given a t)
+
+-- the words are the plain form of a job: its command, the options with their values in the order of the table, and what stands in
+-- its place
+abbrev pub IsPlain : List Text → JobOf → Type 0
+IsPlain words apply = (words ≡ []) ⊎ (words ≡ codes "apply" ∷ [])
+IsPlain words (canon origin) = IsValue origin × (words ≡ codes "canon" ∷ given argument.Origin origin)
+IsPlain words (imports zone existing) = IsValue zone.store × IsValue zone.origin
+    × (words ≡ codes "import" ∷ (given argument.Store zone.store ++ given argument.Origin zone.origin ++ existing_words existing))
+IsPlain words (export zone) = IsValue zone.store × IsValue zone.origin
+    × (words ≡ codes "export" ∷ (given argument.Store zone.store ++ given argument.Origin zone.origin))
+IsPlain words (migrate store) = IsValue store × (words ≡ codes "migrate" ∷ given argument.Store store)
+IsPlain words (rights policy caller name record_type action) =
+    IsValue policy × IsValue caller × IsValue name × IsValue record_type × IsValue action
+    × (words ≡ codes "rights" ∷ (given argument.Policy policy ++ given argument.Caller caller ++ name ∷ record_type ∷ action ∷ []))
+IsPlain words (serve store policy listen connections patience) = IsValue store × IsValue policy × IsValue listen
+    × (ns : List Text) × IsNumberGiven argument.Connections connections ns
+    × (ws : List Text) × IsNumberGiven argument.Patience patience ws
+    × (words ≡ codes "serve" ∷ (given argument.Store store ++ given argument.Policy policy ++ given argument.Listen listen ++ ns ++ ws))

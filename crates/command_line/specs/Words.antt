@@ -1,0 +1,117 @@
+-- What a command line asks for, by its words behind the program's name.
+use Rattle.std.specs.Prelude.{ℕ, ◌&&◌, ◌^◌, List, length, Option, Some, None, option_map, option_and_then, codes, nat_lt, if◌then◌else◌}
+use Rattle.std.specs.Char.{digit_value}
+use Rattle.std.specs.List.{list_all}
+use Rattle.std.specs.Str.{bytes_eq}
+use Rattle.std.specs.Str.Parse.{digits_value, without_leading_plus}
+use Rattle.clap.specs.Words.{Row, Text, first_of, one_of, subcommand_of}
+use Rattle.command_line.specs.Commands.{argument_name, command_of, office}
+use Rattle.command_line.specs.declared.argument.Argument.TheVariants as argument
+use Rattle.command_line.specs.declared.command.Command.{Command}
+use Rattle.command_line.specs.declared.command.Command.TheVariants as command
+use Rattle.command_line.specs.declared.job.Existing.{Existing}
+use Rattle.command_line.specs.declared.job.Existing.TheVariants.{Kept, Replaced}
+use Rattle.command_line.specs.declared.job.StoredZone.{StoredZone}
+use Rattle.command_line.specs.declared.job.Job.{Job}
+use Rattle.command_line.specs.declared.job.Job.TheVariants as job
+
+-- ---- the jobs
+
+-- a zone of a store, by the path of the store and the name of its origin
+pub record StoredOf : Type 0 where
+  pub store : Text
+  pub origin : Text
+
+-- a job, by its words
+pub data JobOf : Type 0 where
+  apply : JobOf
+  canon : (origin : Text) → JobOf
+  imports : StoredOf → Existing → JobOf
+  export : StoredOf → JobOf
+  migrate : (store : Text) → JobOf
+  rights : (policy caller name record_type action : Text) → JobOf
+  serve : (store policy listen : Text) → (connections patience : Option ℕ) → JobOf
+
+abbrev pub zone_asked : StoredZone → StoredOf
+zone_asked zone = record { store = zone.store.now; origin = zone.origin.now }
+
+abbrev pub asks : Job → JobOf
+asks job.Apply = apply
+asks (job.Canon origin) = canon origin.now
+asks (job.Import zone existing) = imports (zone_asked zone) existing
+asks (job.Export zone) = export (zone_asked zone)
+asks (job.Migrate store) = migrate store.now
+asks (job.Rights policy asked) = rights policy.now asked.caller.now asked.name.now asked.record_type.now asked.action.now
+asks (job.Serve service) = serve service.store.now service.policy.now service.listen.now service.connections service.patience
+
+-- ---- what words ask for
+
+-- a decimal number of 64 bits, with or without a plus before it
+abbrev pub number_in : Text → Option ℕ
+number_in t =
+    let ds = without_leading_plus t in
+    if nat_lt 0 (length ds) && list_all (λ d. nat_lt (digit_value d) 10) ds && nat_lt (digits_value 10 ds) (2 ^ 64) then Some (digits_value 10 ds) else None
+
+-- a number that may be left out
+abbrev pub number_if : Option Text → Option (Option ℕ)
+number_if None = Some None
+number_if (Some t) = option_map (λ n. Some n) (number_in t)
+
+-- a zone that is there is replaced where the option is given
+abbrev pub existing_of : Option Text → Existing
+existing_of None = Kept
+existing_of (Some t) = if bytes_eq t (codes "true") then Replaced else Kept
+
+abbrev pub canon_of : List Row → Option JobOf
+canon_of rows = option_map (λ o. canon o) (first_of (argument_name argument.Origin) rows)
+
+abbrev pub stored_at : Text → Text → StoredOf
+stored_at store origin = record { store = store; origin = origin }
+
+abbrev pub stored_of : List Row → Option StoredOf
+stored_of rows = option_and_then (λ s. option_map (λ o. stored_at s o) (first_of (argument_name argument.Origin) rows)) (first_of (argument_name argument.Store) rows)
+
+abbrev pub import_of : List Row → Option JobOf
+import_of rows = option_map (λ z. imports z (existing_of (first_of (argument_name argument.Replace) rows))) (stored_of rows)
+
+abbrev pub export_of : List Row → Option JobOf
+export_of rows = option_map (λ z. export z) (stored_of rows)
+
+abbrev pub migrate_of : List Row → Option JobOf
+migrate_of rows = option_map (λ s. migrate s) (first_of (argument_name argument.Store) rows)
+
+abbrev pub rights_of : List Row → Option JobOf
+rights_of rows =
+    option_and_then (λ p. option_and_then (λ c. option_and_then (λ n.
+    option_and_then (λ t. option_map (λ a. rights p c n t a) (first_of (argument_name argument.Action) rows))
+    (first_of (argument_name argument.Type) rows)) (first_of (argument_name argument.Name) rows))
+    (first_of (argument_name argument.Caller) rows)) (first_of (argument_name argument.Policy) rows)
+
+abbrev pub serve_of : List Row → Option JobOf
+serve_of rows =
+    option_and_then (λ s. option_and_then (λ p. option_and_then (λ l. option_and_then (λ n. option_map (λ w. serve s p l n w)
+    (number_if (one_of (argument_name argument.Patience) rows))) (number_if (one_of (argument_name argument.Connections) rows)))
+    (first_of (argument_name argument.Listen) rows)) (first_of (argument_name argument.Policy) rows)) (first_of (argument_name argument.Store) rows)
+
+-- the job of a command, by what was matched
+abbrev pub job_by : Command → List Row → Option JobOf
+job_by command.Apply rows = Some apply
+job_by command.Canon rows = canon_of rows
+job_by command.Import rows = import_of rows
+job_by command.Export rows = export_of rows
+job_by command.Migrate rows = migrate_of rows
+job_by command.Rights rows = rights_of rows
+job_by command.Serve rows = serve_of rows
+
+-- the job of the command that a word names
+abbrev pub job_named : Text → List Row → Option JobOf
+job_named word rows = option_and_then (λ c. job_by c rows) (command_of word)
+
+-- no command is `apply`
+abbrev pub job_met : Option (Text × List Row) → Option JobOf
+job_met None = Some apply
+job_met (Some p) = job_named p.0 p.1
+
+-- the job of words, as they are told apart by the rules of the commands
+abbrev pub job_of : List Text → Option JobOf
+job_of words = job_met (subcommand_of office words)

@@ -1,0 +1,129 @@
+//! What commands take after their word, in one table.
+
+ghost use Rattle.std.specs.Prelude.{◌≡◌, false};
+ghost use Rattle.clap.specs.Words.{rule_of};
+ghost use Rattle.command_line.specs.Commands.{argument_name, argument_form, rule_for, in_form};
+
+use clap::{Arg, ArgAction};
+use std::alloc::Global;
+
+/// What a command takes after its word: an option, or a word in its place.
+#[derive(Clone, Copy, PartialEq, Eq)]
+pub enum Argument {
+    Store,
+    Policy,
+    Origin,
+    Caller,
+    Name,
+    Type,
+    Action,
+    Listen,
+    Replace,
+    Connections,
+    Patience,
+}
+
+/// How an argument is written.
+#[derive(Clone, Copy, PartialEq, Eq)]
+pub enum Form {
+    /// `--name VALUE`, which must be given.
+    Needed,
+    /// `--name N`, a number of 64 bits, which may be left out.
+    Number,
+    /// `--name`, which may be left out.
+    Flag,
+    /// A word in its place, which must be given.
+    Place,
+}
+
+/// A row of the table of arguments.
+#[derive(Clone, Copy)]
+struct Row {
+    /// Its name.
+    name: &'static str,
+    /// How it is written.
+    form: Form,
+    /// What it is, for the help.
+    help: &'static str,
+}
+
+impl Row {
+    const fn new(name: &'static str, form: Form, help: &'static str) -> Row
+        ensures name { result.name ≡ name.entry }
+        ensures form { result.form ≡ form }
+    {
+        Row { name, form, help }
+    }
+}
+
+impl Argument {
+    /// The one table of arguments.
+    const fn row(self) -> Row
+        ensures name { result.name.now ≡ argument_name self }
+        ensures form { result.form ≡ argument_form self }
+    {
+        match self {
+            Argument::Store => Row::new("store", Form::Needed, "The path of the store"),
+            Argument::Policy => Row::new("policy", Form::Needed, "The path of the policy"),
+            Argument::Origin => Row::new(
+                "origin",
+                Form::Needed,
+                "The zone's origin, an absolute name",
+            ),
+            Argument::Caller => Row::new("caller", Form::Needed, "Who asks"),
+            Argument::Name => Row::new("name", Form::Place, "At which name, an absolute one"),
+            Argument::Type => Row::new("type", Form::Place, "Of which type the records are"),
+            Argument::Action => Row::new(
+                "action",
+                Form::Place,
+                "list, check, add, delete or delegate",
+            ),
+            Argument::Listen => Row::new(
+                "listen",
+                Form::Needed,
+                "The address and port to listen at",
+            ),
+            Argument::Replace => Row::new("replace", Form::Flag, "In the place of the zone there"),
+            Argument::Connections => Row::new("connections", Form::Number, "After how many to end"),
+            Argument::Patience => Row::new(
+                "patience",
+                Form::Number,
+                "Seconds to wait for a peer, 30 if left out",
+            ),
+        }
+    }
+
+    /// Its name, which an option has after two hyphens.
+    pub fn name(self) -> &'static str
+        ensures { result.now ≡ argument_name self }
+    {
+        self.row().name
+    }
+
+    /// The argument as clap is told of it.
+    pub(crate) fn rule<'a>(self, alloc: Global) -> Arg<'a>
+        ensures rule { rule_of result ≡ rule_for self }
+        ensures local { result.global ≡ false }
+    {
+        let row = self.row();
+        let name: &'a str = row.name;
+        let help: &'a str = row.help;
+        in_form(Arg::new(alloc, name).help(help), name, row.form)
+    }
+}
+
+/// An argument of a name, written in a form.
+fn in_form<'a>(rule: Arg<'a>, name: &'a str, form: Form) -> Arg<'a>
+    ensures rule { rule_of result ≡ in_form form name.entry.now (rule_of rule.entry) }
+    ensures local { result.global ≡ rule.entry.global }
+{
+    match form {
+        Form::Needed => rule.long(name).required(true).action(ArgAction::Set),
+        Form::Number => rule
+            .long(name)
+            .action(ArgAction::Set)
+            .value_parser(clap::value_parser!(u64)),
+        Form::Flag => rule.long(name).action(ArgAction::SetTrue),
+        Form::Place => rule.required(true).action(ArgAction::Set),
+    }
+}

@@ -1,0 +1,137 @@
+//! The commands, in one table.
+
+ghost use Rattle.std.specs.Prelude.{◌≡◌, map, find, bytes_eq};
+
+use crate::argument::Argument;
+
+/// A command of the program: the first word of the command line.
+#[derive(Clone, Copy, PartialEq, Eq)]
+pub enum Command {
+    Apply,
+    Canon,
+    Import,
+    Export,
+    Migrate,
+    Rights,
+    Serve,
+}
+
+/// A row of the table of commands.
+#[derive(Clone, Copy)]
+struct Row {
+    /// The word that names the command.
+    word: &'static str,
+    /// What it does, for the help.
+    about: &'static str,
+    /// What it takes after its word.
+    arguments: &'static [Argument],
+}
+
+impl Row {
+    const fn new(word: &'static str, about: &'static str, arguments: &'static [Argument]) -> Row
+        ensures word { result.word ≡ word.entry }
+        ensures arguments { result.arguments ≡ arguments.entry }
+    {
+        Row {
+            word,
+            about,
+            arguments,
+        }
+    }
+}
+
+impl Command {
+    ghost use Rattle.command_line.specs.Commands.{command_word, arguments_of, command_of};
+
+    /// The commands, in the order of the help.
+    pub const ALL: [Command; 7] = [
+        Command::Apply,
+        Command::Canon,
+        Command::Import,
+        Command::Export,
+        Command::Migrate,
+        Command::Rights,
+        Command::Serve,
+    ];
+
+    /// The one table of commands.
+    const fn row(self) -> Row
+        ensures word { result.word.now ≡ command_word self }
+        ensures arguments { result.arguments.now ≡ arguments_of self }
+    {
+        match self {
+            Command::Apply => Row::new("apply", "Updates a zone, as without any word", &[]),
+            Command::Canon => Row::new(
+                "canon",
+                "Prints a zone in canonical form",
+                &[Argument::Origin],
+            ),
+            Command::Import => Row::new(
+                "import",
+                "Puts a zone into a store",
+                &[Argument::Store, Argument::Origin, Argument::Replace],
+            ),
+            Command::Export => Row::new(
+                "export",
+                "Prints a zone of a store",
+                &[Argument::Store, Argument::Origin],
+            ),
+            Command::Migrate => Row::new(
+                "migrate",
+                "Takes a store of version 1 to version 2",
+                &[Argument::Store],
+            ),
+            Command::Rights => Row::new(
+                "rights",
+                "Asks a policy whether a caller may do something",
+                &[
+                    Argument::Policy,
+                    Argument::Caller,
+                    Argument::Name,
+                    Argument::Type,
+                    Argument::Action,
+                ],
+            ),
+            Command::Serve => Row::new(
+                "serve",
+                "Answers callers over HTTP",
+                &[
+                    Argument::Store,
+                    Argument::Policy,
+                    Argument::Listen,
+                    Argument::Connections,
+                    Argument::Patience,
+                ],
+            ),
+        }
+    }
+
+    /// The word that names the command.
+    pub fn word(self) -> &'static str
+        ensures { result.now ≡ command_word self }
+    {
+        self.row().word
+    }
+
+    /// What the command does, in one line.
+    pub fn about(self) -> &'static str {
+        self.row().about
+    }
+
+    /// What the command takes after its word.
+    pub fn arguments(self) -> &'static [Argument]
+        ensures { result.now ≡ arguments_of self }
+    {
+        self.row().arguments
+    }
+
+    /// The command that a word names.
+    pub fn read(word: &str) -> Option<Command>
+        ensures { result ≡ command_of word.now }
+    {
+        Command::ALL
+            .iter()
+            .copied()
+            .find(|command| command.word() == word)
+    }
+}

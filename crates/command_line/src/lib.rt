@@ -1,0 +1,11 @@
+//! The command line: its commands, with what each takes, and the job that words ask for.
+#![tactic(auto)]
+
+mod argument;
+mod command;
+mod job;
+mod parser;
+mod words;
+
+pub use job::{Existing, Job, QuestionWords, Service, StoredZone};
+pub use words::{WordsFault, read_words};

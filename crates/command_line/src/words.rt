@@ -1,0 +1,221 @@
+//! The words of the command line, read as a job.
+
+ghost use Rattle.std.specs.Prelude.{◌≡◌, [], IfErr, IfOk, map, option_map, Some, is_some, true, codes};
+ghost use Rattle.clap.specs.Words.{app_of, fault_of, first_of, found_of, kind_of, one_of, rows_of, subcommand_rows_of, takes};
+ghost use Rattle.command_line.specs.Commands.{office, argument_name};
+ghost use Rattle.command_line.specs.Words.{asks, JobOf, canon_of, zone_asked, stored_of, import_of, export_of, migrate_of, rights_of, serve_of, number_if, existing_of, job_by, job_named, job_met, job_of};
+ghost use Rattle.command_line.specs.PlainForms.{IsPlain};
+ghost use Rattle.command_line.specs.Told.{IsToldAs, IsToldOf, is_help};
+
+use crate::argument::Argument;
+use crate::command::Command;
+use crate::job::{Existing, Job, QuestionWords, Service, StoredZone};
+use crate::parser::parser;
+use clap::error::ErrorKind;
+use clap::{ArgMatches, Error};
+use std::alloc::Global;
+
+/// Why words are no job.
+#[derive(Drop)]
+pub enum WordsFault {
+    /// They ask for help: its text.
+    Help(String),
+    /// They are not understood: a text that says why.
+    Misused(String),
+    /// Memory ran out. This says nothing of the words.
+    NoMemory,
+}
+
+/// The text of an argument, where it has one.
+fn text_at<'a>(matches: &ArgMatches<'a>, argument: Argument) -> Option<&'a str>
+    ensures { option_map (λ s. s.now) result ≡ first_of (argument_name argument) (rows_of (found_of matches.now)) }
+{
+    matches.get_str(argument.name())
+}
+
+/// The number of an argument: `Some(None)` where none is given, and `None` where what is given is not a number.
+fn number_at(matches: &ArgMatches<'_>, argument: Argument) -> Option<Option<u64>>
+    ensures { result ≡ number_if (one_of (argument_name argument) (rows_of (found_of matches.now))) }
+{
+    matches.try_get_one::<u64>(argument.name()).ok()
+}
+
+/// Whether a zone that is there is to be replaced.
+fn existing_at(matches: &ArgMatches<'_>) -> Existing
+    ensures { result ≡ existing_of (first_of (argument_name Argument.Replace) (rows_of (found_of matches.now))) }
+{
+    match text_at(matches, Argument::Replace) {
+        Some("true") => Existing::Replaced,
+        _ => Existing::Kept,
+    }
+}
+
+/// The job of the command `canon`.
+fn canon_in<'a>(matches: &ArgMatches<'a>) -> Option<Job<'a>>
+    ensures { option_map asks result ≡ canon_of (rows_of (found_of matches.now)) }
+{
+    let origin = text_at(matches, Argument::Origin)?;
+    Some(Job::Canon { origin })
+}
+
+/// The zone of a store that words name.
+fn zone_at<'a>(matches: &ArgMatches<'a>) -> Option<StoredZone<'a>>
+    ensures { option_map zone_asked result ≡ stored_of (rows_of (found_of matches.now)) }
+{
+    let store = text_at(matches, Argument::Store)?;
+    let origin = text_at(matches, Argument::Origin)?;
+    Some(StoredZone { store, origin })
+}
+
+/// The job of the command `import`.
+fn import_in<'a>(matches: &ArgMatches<'a>) -> Option<Job<'a>>
+    ensures { option_map asks result ≡ import_of (rows_of (found_of matches.now)) }
+{
+    let zone = zone_at(matches)?;
+    let existing = existing_at(matches);
+    Some(Job::Import { zone, existing })
+}
+
+/// The job of the command `export`.
+fn export_in<'a>(matches: &ArgMatches<'a>) -> Option<Job<'a>>
+    ensures { option_map asks result ≡ export_of (rows_of (found_of matches.now)) }
+{
+    let zone = zone_at(matches)?;
+    Some(Job::Export { zone })
+}
+
+/// The job of the command `migrate`.
+fn migrate_in<'a>(matches: &ArgMatches<'a>) -> Option<Job<'a>>
+    ensures { option_map asks result ≡ migrate_of (rows_of (found_of matches.now)) }
+{
+    let store = text_at(matches, Argument::Store)?;
+    Some(Job::Migrate { store })
+}
+
+/// The job of the command `serve`.
+fn serve_in<'a>(matches: &ArgMatches<'a>) -> Option<Job<'a>>
+    ensures { option_map asks result ≡ serve_of (rows_of (found_of matches.now)) }
+{
+    let store = text_at(matches, Argument::Store)?;
+    let policy = text_at(matches, Argument::Policy)?;
+    let listen = text_at(matches, Argument::Listen)?;
+    let connections = number_at(matches, Argument::Connections)?;
+    let patience = number_at(matches, Argument::Patience)?;
+    let service = Service {
+        store,
+        policy,
+        listen,
+        connections,
+        patience,
+    };
+    Some(Job::Serve { service })
+}
+
+/// The job of the command `rights`.
+fn rights_in<'a>(matches: &ArgMatches<'a>) -> Option<Job<'a>>
+    ensures { option_map asks result ≡ rights_of (rows_of (found_of matches.now)) }
+{
+    let policy = text_at(matches, Argument::Policy)?;
+    let caller = text_at(matches, Argument::Caller)?;
+    let name = text_at(matches, Argument::Name)?;
+    let record_type = text_at(matches, Argument::Type)?;
+    let action = text_at(matches, Argument::Action)?;
+    let asked = QuestionWords {
+        caller,
+        name,
+        record_type,
+        action,
+    };
+    Some(Job::Rights { policy, asked })
+}
+
+/// The job of a command.
+fn job_of_command<'a>(command: Command, matches: &ArgMatches<'a>) -> Option<Job<'a>>
+    ensures { option_map asks result ≡ job_by command (rows_of (found_of matches.now)) }
+{
+    match command {
+        Command::Apply => Some(Job::Apply),
+        Command::Canon => canon_in(matches),
+        Command::Import => import_in(matches),
+        Command::Export => export_in(matches),
+        Command::Migrate => migrate_in(matches),
+        Command::Rights => rights_in(matches),
+        Command::Serve => serve_in(matches),
+    }
+}
+
+/// The job of the command that a word names.
+fn job_named<'a>(word: &str, matches: &ArgMatches<'a>) -> Option<Job<'a>>
+    ensures { option_map asks result ≡ job_named word.now (rows_of (found_of matches.now)) }
+{
+    let command = Command::read(word)?;
+    job_of_command(command, matches)
+}
+
+/// The job of what was matched.
+fn job_in<'a>(matches: &ArgMatches<'a>) -> Option<Job<'a>>
+    ensures { option_map asks result ≡ job_met (subcommand_rows_of matches.now) }
+{
+    match matches.subcommand() {
+        Some((word, inner)) => job_named(word, inner),
+        None => Some(Job::Apply),
+    }
+}
+
+/// Whether an error is an answer to words that ask for it.
+fn asks_for_help(kind: ErrorKind) -> bool
+    ensures { result ≡ is_help kind }
+{
+    matches!(kind, ErrorKind::DisplayHelp | ErrorKind::DisplayVersion)
+}
+
+/// What clap's error says.
+fn told(alloc: Global, error: Error) -> WordsFault
+    ensures kind { IsToldAs (kind_of error) result }
+    ensures memory { kind_of error ≡ ErrorKind.OutOfMemory → result ≡ WordsFault.NoMemory }
+{
+    let kind = error.kind();
+    if matches!(kind, ErrorKind::OutOfMemory) {
+        return WordsFault::NoMemory;
+    }
+    match format!(in alloc; "{error}") {
+        Ok(text) if asks_for_help(kind) => WordsFault::Help(text),
+        Ok(text) => WordsFault::Misused(text),
+        Err(_) => WordsFault::NoMemory,
+    }
+}
+
+/// The job that the words behind the program's name ask for: none or `apply`; `canon --origin NAME`;
+/// `import --store PATH --origin NAME [--replace]`; `export --store PATH --origin NAME`;
+/// `migrate --store PATH`;
+/// `rights --policy PATH --caller CALLER NAME TYPE ACTION`; and
+/// `serve --store PATH --policy PATH --listen ADDRESS:PORT [--connections N] [--patience SECONDS]`. The words behind a command may stand in any order.
+/// `Help` comes where they ask for help or the version, and `Misused` where there is a mistake in them.
+pub fn read_words<'a>(alloc: Global, words: &'a [&'a str]) -> Result<Job<'a>, WordsFault>
+    // The job is the one that the words ask for.
+    ensures job { IfOk result (λ j. job_of (map (λ s. s.now) words.entry.now) ≡ Some (asks j)) }
+    // Nothing is wrong with them.
+    ensures faultless { IfOk result (λ _. fault_of office (map (λ s. s.now) words.entry.now) ≡ []) }
+    // Words that ask for a job are read, unless memory runs out.
+    ensures passes { IfErr result (λ e. takes office (map (λ s. s.now) words.entry.now) ≡ true
+        → is_some (job_of (map (λ s. s.now) words.entry.now)) ≡ true → e ≡ WordsFault.NoMemory) }
+    // Help is told where they ask for it, and misuse where there is a mistake in them.
+    ensures told { IfErr result (IsToldOf (map (λ s. s.now) words.entry.now)) }
+    // The plain form of a job asks for it.
+    ensures plain { IfOk result (λ j. (x : JobOf) → IsPlain (map (λ s. s.now) words.entry.now) x → asks j ≡ x) }
+{
+    let Ok(mut command) = parser(alloc) else {
+        return Err(WordsFault::NoMemory);
+    };
+    let matches = match command.try_get_matches_from_mut(words) {
+        Ok(matches) => matches,
+        Err(error) => return Err(told(alloc, error)),
+    };
+    if let Some(job) = job_in(&matches) {
+        return Ok(job);
+    }
+    match command.error(ErrorKind::InvalidValue, "the words name no job") {
+        Ok(error) => Err(told(alloc, error)),
+        Err(_) => Err(WordsFault::NoMemory),
+    }
+}

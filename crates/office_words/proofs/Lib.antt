@@ -1,2 +1,0 @@
-pub mod CommandLemmas
-pub mod NumberWordLemmas

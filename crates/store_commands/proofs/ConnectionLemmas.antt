@@ -1,0 +1,79 @@
+-- Connections that were served, one after the other.
+use Rattle.std.specs.Io.KnownBytes.{Appends}
+use Rattle.std.proofs.KnownBytes.{Appends-trans}
+use Rattle.std.proofs.Common.{◌≡◌, ◌<◌, ◌≤◌, ◌+◌, inl, inr, ◌∙◌, ℕ, List, [], ◌∷◌, ◌++◌, length, Option, Result, Ok, Err, sym, ap, subst, append-nil, length-append, arith}
+use Rattle.std.proofs.lemmas.Grind.{flat_map-append}
+use Rattle.grant_policy.specs.declared.rule.Rule.{Rule}
+use Rattle.office_core.specs.States.{AreZones, AreReceipts}
+use Rattle.office_wire.specs.Exchange.{Turn, Standing, Run}
+use Rattle.office_wire.proofs.JoinLemmas.{run_join}
+use Rattle.office_wire.proofs.PromiseLemmas.{exchanges_run}
+use Rattle.text_commands.specs.declared.line_fault.LineFault.{LineFault}
+use Rattle.text_commands.specs.declared.line_fault.LineFault.TheVariants.{Refused, ReadFailed, NoMemory}
+use Rattle.text_commands.specs.declared.line_fault.JobFault.{JobFault}
+use Rattle.text_commands.specs.declared.line_fault.JobFault.TheVariants.{Told, WriteFailed}
+use Rattle.text_commands.specs.Device.{AppendsFront}
+use Rattle.text_commands.specs.Replies.{IsTold, told}
+use Rattle.text_commands.proofs.JobLemmas.{front_behind}
+use Rattle.office_wire.specs.declared.fault.ServeFault.{ServeFault}
+use Rattle.store_commands.specs.Serve.{joined, ended_line, ended_lines, AreServed, AreTold, IsSoMany}
+
+-- one more behind the others
+pub served_more : (rules : List Rule) (c m d : Standing) (connections : List (List Turn)) (turns : List Turn) → Run rules c (joined connections) m → Run rules m turns d
+    → Run rules c (joined (connections ++ turns ∷ [])) d
+served_more rules c m d connections turns p q =
+    let all : joined (connections ++ turns ∷ []) ≡ joined connections ++ turns =
+    flat_map-append (λ (us : List Turn). us) connections (turns ∷ []) ∙ ap (λ (l : List Turn). joined connections ++ l) (append-nil turns) in
+    subst (λ (l : List Turn). Run rules c l d) (sym all) (run_join rules c m d (joined connections) turns p q)
+
+pub one_more : (connections : List (List Turn)) (turns : List Turn) (n : ℕ) → length connections ≡ n → length (connections ++ turns ∷ []) ≡ n + 1
+one_more connections turns n count = let all = length-append connections (turns ∷ []) in omega arith
+
+pub one_ended : (ends : List (Option ServeFault)) (end : Option ServeFault) (n : ℕ) → length ends ≡ n → length (ends ++ end ∷ []) ≡ n + 1
+one_ended ends end n count = let all = length-append ends (end ∷ []) in omega arith
+
+-- a fault is told, so that no more need have been served
+pub told_many : (most n : ℕ) (result : Result (Unit {0}) JobFault) (old new : Option (List ℕ)) (fault : LineFault) (before after : ℕ)
+    → IsTold old new fault result before after → n ≤ most → IsSoMany most result n
+told_many most n (Ok u) old new fault before after told less = absurd told
+told_many most n (Err e) old new fault before after told less = less
+
+-- ---- what is told
+
+lines_more : (ends : List (Option ServeFault)) (end : Option ServeFault) → ended_lines (ends ++ end ∷ []) ≡ ended_lines ends ++ ended_line end
+lines_more ends end = flat_map-append ended_line ends (end ∷ []) ∙ ap (λ (l : List ℕ). ended_lines ends ++ l) (append-nil (ended_line end))
+
+module _ (old mid new : Option (List ℕ)) (ends : List (Option ServeFault)) where
+  -- the line of one more
+  pub told_more : (end : Option ServeFault) → Appends old mid (ended_lines ends) → Appends mid new (ended_line end) → Appends old new (ended_lines (ends ++ end ∷ []))
+  told_more end before line = subst (Appends old new) (sym (lines_more ends end)) (Appends-trans old mid new (ended_lines ends) (ended_line end) before line)
+
+  -- the writer failed in that line
+  pub told_in_part : (most n : ℕ) (end : Option ServeFault) (before failed after : ℕ) → length ends ≡ n → n < most → Appends old mid (ended_lines ends) → failed ≡ before
+      → AppendsFront mid new (ended_line end) × (failed < after) → AreTold most (ends ++ end ∷ []) old new (Err WriteFailed) before after
+  told_in_part most n end before failed after count more lines fine sent =
+      let all = length-append ends (end ∷ []) in
+      let front = subst (AppendsFront old new) (sym (lines_more ends end)) (front_behind old mid new (ended_lines ends) (ended_line end) lines sent.0) in
+      (inl (omega (arith, all, count, more), front), omega (arith, fine, sent.1))
+
+  -- no further connection can be had, and that is told
+  pub told_last : (most n : ℕ) (result : Result (Unit {0}) JobFault) (before failed after : ℕ) → length ends ≡ n → n < most → Appends old mid (ended_lines ends) → failed ≡ before
+      → IsTold mid new ReadFailed result failed after → AreTold most ends old new result before after
+  told_last most n (Ok done) before failed after count more lines fine wrote = absurd wrote
+  told_last most n (Err (Told ReadFailed)) before failed after count more lines fine wrote =
+      (omega (arith, count, more), Appends-trans old mid new (ended_lines ends) (told ReadFailed) lines wrote.1, wrote.2 ∙ fine)
+  told_last most n (Err (Told (Refused refusal))) before failed after count more lines fine wrote = absurd (cc wrote.0)
+  told_last most n (Err (Told NoMemory)) before failed after count more lines fine wrote = absurd (cc wrote.0)
+  told_last most n (Err WriteFailed) before failed after count more lines fine wrote =
+      let line = wrote.0.0 in
+      let same : line ≡ ReadFailed = wrote.0.1 in
+      let front = subst (λ l. AppendsFront mid new (told l)) same wrote.0.2 in
+      (inr (omega (arith, count, more), front_behind old mid new (ended_lines ends) (told ReadFailed) lines front), omega (arith, fine, wrote.1))
+
+-- ---- what was run is what is promised
+pub are_served : (rules : List Rule) (c d : Standing) (connections : List (List Turn)) → AreZones c.state → AreReceipts c.state → Run rules c (joined connections) d
+    → AreServed rules c connections d
+are_served rules c d connections zones receipts ran = record {
+  run = ran;
+  promised = exchanges_run rules c d (joined connections) zones receipts ran;
+}

@@ -1,0 +1,114 @@
+-- What is told of a store that refuses something.
+use Rattle.std.proofs.Common.{◌≡◌, ℕ, List, [], Option, None, Result, Ok, Err, IfOk, IfErr, refl, sym, ap, ◌∙◌}
+use Rattle.dns_data.specs.declared.record.Record.{Record}
+use Rattle.zone_core.specs.declared.refusals.ZoneFault.{ZoneFault}
+use Rattle.zone_core.specs.declared.refusals.ZoneFault.TheVariants as zones
+use Rattle.zone_core.specs.Zones.{ZoneOf}
+use Rattle.office_rows.specs.declared.store_fault.StoreFault.{StoreFault}
+use Rattle.office_rows.specs.declared.store_fault.StoreFault.TheVariants as stores
+use Rattle.text_commands.specs.declared.refusal.Refusal.{Refusal}
+use Rattle.text_commands.specs.declared.line_fault.LineFault.{LineFault}
+use Rattle.text_commands.specs.declared.line_fault.LineFault.TheVariants.{Refused, ReadFailed, NoMemory}
+use Rattle.text_commands.specs.LineFaults.{◌>>=◌, Gives, Makes, GivesOf, of_zone, of_store}
+use Rattle.text_commands.proofs.StepLemmas.{refused_before, given_before, reached_before}
+use Rattle.store_commands.specs.Stores.{IsStoreLine}
+use Rattle.store_commands.specs.Import.{imported_line, PutsZones}
+use Rattle.store_commands.specs.Export.{FindsRecords}
+use Rattle.store_commands.specs.Migrate.{Migrates}
+
+zone_line : (fault : ZoneFault) → IsStoreLine (of_zone fault)
+zone_line zones.NoMemory = tt
+zone_line fault = tt
+
+pub line_of_store : (fault : StoreFault) → IsStoreLine (of_store fault)
+line_of_store stores.NoMemory = tt
+line_of_store (stores.Zone fault) = zone_line fault
+line_of_store fault = tt
+
+-- ---- a zone that is put into a store
+
+-- what a store made of each zone, where it told this fault
+abbrev pub put_by : LineFault → ZoneOf → Result (List ℕ) Refusal
+put_by (Refused refusal) zone = Err refusal
+put_by fault zone = Ok (imported_line zone)
+
+pub puts_by : (fault : LineFault) → IsStoreLine fault → PutsZones (put_by fault)
+puts_by (Refused refusal) is = λ zone. is
+puts_by NoMemory is = λ zone. refl
+puts_by ReadFailed is = absurd is
+
+module _ (left : Option (List ℕ)) (make : List ℕ → Result ZoneOf Refusal) (before after : ℕ) where
+  -- the input is refused, or not read
+  pub read_refused : {X Z : Type 0} (view : X → List ℕ) (seen : Z → ZoneOf) (put : ZoneOf → Result (List ℕ) Refusal) (fault : LineFault)
+      → GivesOf seen left make (Err fault) before after → GivesOf view left (λ input. make input >>= put) (Err fault) before after
+  read_refused view seen put (Refused refusal) given = ((given.0.0, given.0.1, refused_before (make given.0.0) put refusal given.0.2), given.1)
+  read_refused view seen put ReadFailed given = (given.0, reached_before make put given.1)
+  read_refused view seen put NoMemory given = given
+
+  -- the store refuses the zone
+  pub put_refused : {X : Type 0} (view : X → List ℕ) (zone : ZoneOf) (fault : LineFault) → Makes left make (Ok zone) → after ≡ before → IsStoreLine fault
+      → GivesOf view left (λ input. make input >>= put_by fault) (Err fault) before after
+  put_refused view zone (Refused refusal) read fine is =
+      ((read.0, read.1, given_before (make read.0) (λ z. Err refusal) zone read.2), fine)
+  put_refused view zone NoMemory read fine is = fine
+  put_refused view zone ReadFailed read fine is = absurd is
+
+  -- the zone was put
+  pub put_told : {X : Type 0} (view : X → List ℕ) (zone : ZoneOf) (line : X) → Makes left make (Ok zone) → after ≡ before → view line ≡ imported_line zone
+      → GivesOf view left (λ input. make input >>= λ z. Ok (imported_line z)) (Ok line) before after
+  put_told view zone line read fine e =
+      ((read.0, read.1, given_before (make read.0) (λ z. Ok (imported_line z)) zone read.2 ∙ ap (λ (l : List ℕ). let made : Result (List ℕ) Refusal = Ok l in made) (sym e)), fine)
+
+  pub stored_gives : {X : Type 0} (view : X → List ℕ) (zone : ZoneOf) (result : Result X LineFault) → Makes left make (Ok zone) → after ≡ before
+      → IfOk result (λ line. view line ≡ imported_line zone) → IfErr result IsStoreLine
+      → (put : ZoneOf → Result (List ℕ) Refusal) × PutsZones put × GivesOf view left (λ input. make input >>= put) result before after
+  stored_gives view zone (Ok line) read fine told named = ((λ z. Ok (imported_line z)), (λ z. refl), put_told view zone line read fine told)
+  stored_gives view zone (Err fault) read fine told named = (put_by fault, puts_by fault named, put_refused view zone fault read fine named)
+
+-- ---- a store that is asked for something, and tells a fault
+
+-- what it made, where it told this fault
+abbrev pub found_by : LineFault → Result (List Record) Refusal
+found_by (Refused refusal) = Err refusal
+found_by fault = Ok []
+
+pub finds_by : (fault : LineFault) → IsStoreLine fault → FindsRecords (found_by fault)
+finds_by (Refused refusal) is = is
+finds_by NoMemory is = tt
+finds_by ReadFailed is = absurd is
+
+-- a word is refused before the store is asked
+pub word_refused : {A B X Z : Type 0} (view : X → B) (seen : Z → A) (first : Result A Refusal) (next : A → Result B Refusal) (fault : LineFault)
+    → Gives seen (Err fault) first → Gives view (Err fault) (first >>= next)
+word_refused view seen first next (Refused refusal) given = refused_before first next refusal given
+word_refused view seen first next NoMemory given = tt
+word_refused view seen first next ReadFailed given = absurd given
+
+-- a store refuses what it is asked for
+pub found_refused : {A X : Type 0} (view : X → List ℕ) (first : Result A Refusal) (text : A → List Record → List ℕ) (a : A) (fault : LineFault)
+    → first ≡ Ok a → IsStoreLine fault → Gives view (Err fault) (first >>= λ b. found_by fault >>= λ records. Ok (text b records))
+found_refused {A} view first text a (Refused refusal) e is =
+    given_before first (λ (b : A). let refused : Result (List ℕ) Refusal = Err refusal in refused) a e
+found_refused view first text a NoMemory e is = tt
+found_refused view first text a ReadFailed e is = absurd is
+
+-- what is made is told at once, where nothing is read
+pub told_at_once : {X : Type 0} (view : X → List ℕ) (made : Result (List ℕ) Refusal) (fault : LineFault) → Gives view (Err fault) made
+    → GivesOf view None (λ input. made) (Err fault) 0 0
+told_at_once view made (Refused refusal) given = (([], tt, given), refl)
+told_at_once view made NoMemory given = refl
+told_at_once view made ReadFailed given = absurd given
+
+abbrev pub made_by : LineFault → List ℕ → Result (List ℕ) Refusal
+made_by (Refused refusal) line = Err refusal
+made_by fault line = Ok line
+
+pub migrates_by : (fault : LineFault) (line : List ℕ) → IsStoreLine fault → Migrates (Ok line) → Migrates (made_by fault line)
+migrates_by (Refused refusal) line is some = is
+migrates_by NoMemory line is some = some
+migrates_by ReadFailed line is some = absurd is
+
+pub migration_refused : {X : Type 0} (view : X → List ℕ) (line : List ℕ) (fault : LineFault) → IsStoreLine fault → Gives view (Err fault) (made_by fault line)
+migration_refused view line (Refused refusal) is = refl
+migration_refused view line NoMemory is = tt
+migration_refused view line ReadFailed is = absurd is

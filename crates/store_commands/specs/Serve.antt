@@ -1,0 +1,64 @@
+-- Serving connections, one after the other, and what is told of one that ended by a fault.
+use Rattle.std.specs.Prelude.{◌≡◌, ◌⊎◌, ℕ, ◌<◌, ◌≤◌, List, ◌∷◌, [], ◌++◌, length, codes, decimal, Option, Some, None, Result, Ok, Err, unwrap_or}
+use Rattle.std.specs.Io.KnownBytes.{Appends}
+use Rattle.std.specs.List.{flat_map}
+use Rattle.grant_policy.specs.declared.rule.Rule.{Rule}
+use Rattle.grant_policy.specs.Documents.{document_of}
+use Rattle.grant_policy.specs.Reading.{policy_of}
+use Rattle.office_wire.specs.declared.fault.ServeFault.{ServeFault}
+use Rattle.office_wire.specs.Exchange.{Turn, Standing, Run}
+use Rattle.office_wire.specs.Promises.{ArePromised}
+use Rattle.office_wire.specs.Refusals.{fault_number}
+use Rattle.command_line.specs.declared.job.Service.{Service}
+use Rattle.text_commands.specs.declared.refusal.Refusal.{Refusal}
+use Rattle.text_commands.specs.LineFaults.{◌>>=◌, limited, of_policies}
+use Rattle.text_commands.specs.declared.line_fault.LineFault.TheVariants.{ReadFailed}
+use Rattle.text_commands.specs.declared.line_fault.JobFault.{JobFault}
+use Rattle.text_commands.specs.declared.line_fault.JobFault.TheVariants.{Told, WriteFailed}
+use Rattle.text_commands.specs.Device.{AppendsFront}
+use Rattle.text_commands.specs.Replies.{told}
+
+-- what is read of a policy's text: its rules, or a refusal
+abbrev pub policy_read : List ℕ → Result (List Rule) Refusal
+policy_read input = limited input >>= λ text. of_policies (policy_of (document_of text))
+
+-- how many connections are served: without a number, as many as a number of 64 bits can say
+abbrev pub most_of : Service → ℕ
+most_of service = unwrap_or service.connections 18446744073709551615
+
+-- the fault's published number
+abbrev pub connection_line : ServeFault → List ℕ
+connection_line fault = codes "connection " ++ decimal (fault_number fault) ++ 10 ∷ []
+
+-- what is told of a connection: nothing, unless a fault ended it
+abbrev pub ended_line : Option ServeFault → List ℕ
+ended_line None = []
+ended_line (Some fault) = connection_line fault
+
+abbrev pub ended_lines : List (Option ServeFault) → List ℕ
+ended_lines ends = flat_map ended_line ends
+
+-- all turns of connections, one connection after the other
+abbrev pub joined : List (List Turn) → List Turn
+joined connections = flat_map (λ turns. turns) connections
+
+-- These turns of connections, one after the other, take a table from one standing to another, and what the office promises of calls holds
+-- of all of them together.
+pub record AreServed (rules : List Rule) (c : Standing) (connections : List (List Turn)) (d : Standing) : Type 0 where
+  pub run : Run rules c (joined connections) d
+  pub promised : ArePromised rules c.state (joined connections) d.state
+
+-- How many connections were asked for, how each ended that was served, what the writer held before and after, the answer, and the
+-- writer's failures before and after. A line tells each fault that ended one. Fewer are served only where one cannot be had, which is
+-- told, or where a line cannot be written.
+abbrev pub AreTold : ℕ → List (Option ServeFault) → Option (List ℕ) → Option (List ℕ) → Result (Unit {0}) JobFault → ℕ → ℕ → Type 0
+AreTold most ends old new (Ok done) before after = (length ends ≡ most) × Appends old new (ended_lines ends) × (after ≡ before)
+AreTold most ends old new (Err (Told ReadFailed)) before after = (length ends < most) × Appends old new (ended_lines ends ++ told ReadFailed) × (after ≡ before)
+AreTold most ends old new (Err (Told fault)) before after = ⊥
+AreTold most ends old new (Err WriteFailed) before after =
+    (((length ends ≤ most) × AppendsFront old new (ended_lines ends)) ⊎ ((length ends < most) × AppendsFront old new (ended_lines ends ++ told ReadFailed))) × (before < after)
+
+-- So many connections were served: as many as were asked for, unless one could not be had or a line not be written.
+abbrev pub IsSoMany : ℕ → Result (Unit {0}) JobFault → ℕ → Type 0
+IsSoMany most (Ok u) n = n ≡ most
+IsSoMany most (Err fault) n = n ≤ most

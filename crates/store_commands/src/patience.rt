@@ -1,0 +1,140 @@
+//! Connections whose peers are waited for, but not for ever.
+
+use std::cell::Cell;
+use std::io::{self, Read, Write};
+use std::net::TcpStream;
+use std::time::{Clock, Duration, Instant};
+
+/// For how many seconds a peer is waited for, where nothing else is said.
+const PATIENCE: u64 = 30;
+
+/// The most seconds that sockets are asked for, some thirty years.
+const PATIENCE_MAX: u64 = 1_000_000_000;
+
+/// What a peer is waited for.
+#[derive(Clone, Copy, PartialEq, Eq)]
+enum Awaited {
+    /// That a request begins.
+    Request,
+    /// That the rest of it comes.
+    Rest,
+    /// That responses are taken.
+    Taking,
+}
+
+/// What a peer is waited for, and for how long still, where there is a limit.
+#[derive(Clone, Copy)]
+struct Wait {
+    awaited: Awaited,
+    left: Option<Duration>,
+}
+
+/// For how long a peer is waited for: the number of seconds, and 30 where none is given; 0 sets no limit.
+pub(crate) fn patience_of(seconds: Option<u64>) -> Option<Duration> {
+    match seconds {
+        None => Some(Duration::from_secs(PATIENCE)),
+        Some(0) => None,
+        Some(seconds) => Some(Duration::from_secs(seconds.min(PATIENCE_MAX))),
+    }
+}
+
+/// A stream whose reads and writes fail once its peer has been waited for too long: for a request to begin, for the rest of one that has
+/// begun, or for what is written to be taken. Only the time spent in waiting counts, and it counts anew for each of the three.
+#[derive(Drop)]
+pub(crate) struct PatientStream<'a, C: Clock> {
+    stream: &'a TcpStream,
+    clock: &'a C,
+    patience: Option<Duration>,
+    wait: Cell<Wait>,
+}
+
+impl<'a, C: Clock> PatientStream<'a, C> {
+    /// A stream that has just been opened.
+    pub(crate) fn new(
+        stream: &'a TcpStream,
+        clock: &'a C,
+        patience: Option<Duration>,
+    ) -> PatientStream<'a, C> {
+        PatientStream {
+            stream,
+            clock,
+            patience,
+            wait: Cell::new(Wait {
+                awaited: Awaited::Request,
+                left: patience,
+            }),
+        }
+    }
+
+    /// For how long a peer is still waited for that is to send something.
+    fn to_read(&self) -> Wait {
+        let wait = self.wait.get();
+        if wait.awaited == Awaited::Taking {
+            Wait {
+                awaited: Awaited::Request,
+                left: self.patience,
+            }
+        } else {
+            wait
+        }
+    }
+
+    /// For how long a peer is still waited for that is to take something.
+    fn to_write(&self) -> Wait {
+        let wait = self.wait.get();
+        if wait.awaited == Awaited::Taking {
+            wait
+        } else {
+            Wait {
+                awaited: Awaited::Taking,
+                left: self.patience,
+            }
+        }
+    }
+
+    /// Notes how long a read or a write took.
+    fn note(&self, wait: Wait, begun: Instant) -> io::Result<()> {
+        let spent = begun.elapsed(self.clock)?;
+        self.wait.set(Wait {
+            awaited: wait.awaited,
+            left: wait.left.map(|left| left.saturating_sub(spent)),
+        });
+        Ok(())
+    }
+}
+
+impl<C: Clock> Read for &PatientStream<'_, C> {
+    fn read(&mut self, buffer: &mut [u8]) -> io::Result<usize> {
+        let wait = self.to_read();
+        // where nothing is left that is an error
+        self.stream.set_read_timeout(wait.left)?;
+        let begun = Instant::now(self.clock)?;
+        let mut stream = self.stream;
+        let count = stream.read(buffer)?;
+        if wait.awaited == Awaited::Request {
+            self.wait.set(Wait {
+                awaited: Awaited::Rest,
+                left: self.patience,
+            });
+        } else {
+            self.note(wait, begun)?;
+        }
+        Ok(count)
+    }
+}
+
+impl<C: Clock> Write for &PatientStream<'_, C> {
+    fn write(&mut self, bytes: &[u8]) -> io::Result<usize> {
+        let wait = self.to_write();
+        self.stream.set_write_timeout(wait.left)?;
+        let begun = Instant::now(self.clock)?;
+        let mut stream = self.stream;
+        let count = stream.write(bytes)?;
+        self.note(wait, begun)?;
+        Ok(count)
+    }
+
+    fn flush(&mut self) -> io::Result<()> {
+        Ok(())
+    }
+}

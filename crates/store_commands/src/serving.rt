@@ -1,0 +1,266 @@
+//! Serving callers over TCP, one connection after the other.
+
+ghost use Rattle.std.specs.Prelude.{◌≡◌, ◌<◌, List, Option, length};
+ghost use Rattle.office_core.specs.States.{State};
+ghost use Rattle.office_wire.specs.Exchange.{Turn, Run};
+ghost use Rattle.office_wire.specs.Serving.{standing};
+ghost use Rattle.office_wire.specs.declared.fault.ServeFault.{ServeFault as FaultOf};
+ghost use Rattle.text_commands.specs.LineFaults.{GivesOf};
+ghost use Rattle.text_commands.specs.Replies.{IsSent};
+ghost use Rattle.store_commands.specs.Serve.{policy_read, connection_line, ended_line, most_of, AreServed, IsSoMany, AreTold};
+
+use crate::patience::{PatientStream, patience_of};
+use crate::store_file::open_store;
+use command_line::Service;
+use dns_master::{Counted, DeviceFailed, Sink, Source};
+use grant_policy::{Policy, read_policy};
+use itoa::Buffer;
+use office_core::ZoneTable;
+use office_wire::ServeFault;
+use std::alloc::{AllocError, Global};
+use std::marker::Brand;
+use std::net::{SocketAddr, TcpListener, TcpStream};
+use std::sync::ledger::{Blank, Ledger};
+use std::time::{Clock, Duration};
+use text_commands::{JobFault, LineFault, PolicyFile, read_input, tell, write_text};
+
+/// The policy that a reader gives.
+fn read_policy_from<R: Source>(alloc: Global, reader: &mut R) -> Result<Policy, LineFault>
+    ensures { GivesOf (λ policy. policy) (R.remaining reader.old) policy_read result (R.failures reader.old) (R.failures reader.new) }
+{
+    let text = read_input(alloc, reader)?;
+    Ok(read_policy(alloc, &text)?)
+}
+
+/// The policy of a path.
+fn policy_of<L: Ledger>(rt: &HostRuntime, path: &str, reads: Blank) -> Result<Policy, LineFault>
+    requires name { reads.name ≡ L.name }
+    requires parts { reads.parts ≡ L.parts }
+    requires some { 0 < reads.parts }
+{
+    let mut source: Counted<PolicyFile, L> = Counted::new(PolicyFile::open(rt, path), reads);
+    read_policy_from(rt.alloc(), &mut source)
+}
+
+/// A listener at an address and a port. `ReadFailed` comes where there can be none.
+fn listener_at(rt: &HostRuntime, listen: &str) -> Result<TcpListener, LineFault> {
+    let Ok(address) = listen.parse::<SocketAddr>() else {
+        return Err(LineFault::ReadFailed);
+    };
+    match TcpListener::bind(rt, address) {
+        Ok(listener) => Ok(listener),
+        Err(_) => Err(LineFault::ReadFailed),
+    }
+}
+
+/// Serves the requests of a connection.
+fn serve_stream<T: ZoneTable, C: Clock, A: Ledger, B: Ledger>(
+    alloc: Global,
+    stream: &PatientStream<'_, C>,
+    table: &mut T,
+    policy: &Policy,
+    reads: Blank,
+    writes: Blank,
+) -> Result<(), ServeFault>
+    requires reads_name { reads.name ≡ A.name }
+    requires reads_parts { reads.parts ≡ A.parts }
+    requires reads_some { 0 < reads.parts }
+    requires writes_name { writes.name ≡ B.name }
+    requires writes_parts { writes.parts ≡ B.parts }
+    requires writes_some { 0 < writes.parts }
+    ensures run { T.is_honest table.new → (s : State) → T.holds table.old s → (turns : List Turn) × (t : State) × T.holds table.new t × Run policy.now (standing s (T.failures table.old)) turns (standing t (T.failures table.new)) }
+    ensures honest { T.is_honest table.new → T.is_honest table.old }
+{
+    let mut source: Counted<&PatientStream<'_, C>, A> = Counted::new(stream, reads);
+    let mut sink: Counted<&PatientStream<'_, C>, B> = Counted::new(stream, writes);
+    office_wire::serve(alloc, &mut source, &mut sink, table, policy)
+}
+
+/// What is said on standard error where others than programs of this machine can connect.
+const REACHABLE: &str =
+    "zoneoffice: this is no loopback address, and whoever reaches it may name any caller";
+
+/// Says so where an address is no loopback one.
+fn warn_if_reachable(rt: &HostRuntime, address: SocketAddr) {
+    if !address.ip().is_loopback() {
+        let _ = rt.eprintln(REACHABLE);
+    }
+}
+
+/// The line that tells where the office listens.
+fn listening_text(alloc: Global, address: SocketAddr) -> Result<String, AllocError> {
+    format!(in alloc; "listening {address}\n")
+}
+
+/// A listener at an address and a port, and the line that tells where it listens.
+fn listening_at(rt: &HostRuntime, listen: &str) -> Result<(TcpListener, String), LineFault> {
+    let listener = listener_at(rt, listen)?;
+    let Ok(address) = listener.local_addr() else {
+        return Err(LineFault::ReadFailed);
+    };
+    warn_if_reachable(rt, address);
+    let text = listening_text(rt.alloc(), address)?;
+    Ok((listener, text))
+}
+
+/// Writes the line that tells that serving a connection ended by a fault. It takes no memory, so that a connection for which there
+/// is none does not end the office.
+fn tell_ended<W: Sink>(writer: &mut W, fault: ServeFault) -> Result<(), DeviceFailed>
+    ensures { IsSent (W.contents writer.old) (W.contents writer.new) (connection_line fault) result (W.failures writer.old) (W.failures writer.new) }
+{
+    let mut digits = Buffer::new();
+    write_text(writer, b"connection ")?;
+    write_text(writer, digits.format(fault.number()).as_bytes())?;
+    write_text(writer, b"\n")
+}
+
+/// Serves a connection. The fault by which it ends, where there is one, is told by a line.
+fn serve_connection<T: ZoneTable, C: Clock, W: Sink>(
+    alloc: Global,
+    stream: &PatientStream<'_, C>,
+    table: &mut T,
+    policy: &Policy,
+    writer: &mut W,
+) -> Result<(), DeviceFailed>
+    ensures run { T.is_honest table.new → (s : State) → T.holds table.old s → (turns : List Turn) × (t : State) × T.holds table.new t × Run policy.now (standing s (T.failures table.old)) turns (standing t (T.failures table.new)) }
+    ensures honest { T.is_honest table.new → T.is_honest table.old }
+    ensures told { (end : Option FaultOf) × IsSent (W.contents writer.old) (W.contents writer.new) (ended_line end) result (W.failures writer.old) (W.failures writer.new) }
+{
+    let served = serve_stream::<_, _, Brand, Brand>(
+        alloc,
+        stream,
+        table,
+        policy,
+        Blank::new(1),
+        Blank::new(1),
+    );
+    match served {
+        Ok(()) => Ok(()),
+        Err(fault) => tell_ended(writer, fault),
+    }
+}
+
+/// Where connections come from, and for how long to wait for their peers.
+#[derive(Drop)]
+pub struct Connections<'a, C: Clock> {
+    /// Where peers connect.
+    pub listener: &'a TcpListener,
+    /// What tells the time.
+    pub clock: &'a C,
+    /// For how long a peer is waited for that sends no request or takes no response, where there is a limit.
+    pub patience: Option<Duration>,
+}
+
+impl<C: Clock> Connections<'_, C> {
+    /// Serves one connection that was accepted.
+    fn serve_one<T: ZoneTable, W: Sink>(
+        &self,
+        alloc: Global,
+        stream: &TcpStream,
+        table: &mut T,
+        policy: &Policy,
+        writer: &mut W,
+    ) -> Result<(), DeviceFailed>
+        ensures run { T.is_honest table.new → (s : State) → T.holds table.old s → (turns : List Turn) × (t : State) × T.holds table.new t × Run policy.now (standing s (T.failures table.old)) turns (standing t (T.failures table.new)) }
+        ensures honest { T.is_honest table.new → T.is_honest table.old }
+        ensures told { (end : Option FaultOf) × IsSent (W.contents writer.old) (W.contents writer.new) (ended_line end) result (W.failures writer.old) (W.failures writer.new) }
+    {
+        // a short response goes out at once
+        let _ = stream.set_nodelay(true);
+        let stream = PatientStream::new(stream, self.clock, self.patience);
+        serve_connection(alloc, &stream, table, policy, writer)
+    }
+}
+
+/// Serves connections one after the other, so many of them. A line tells each that ended by a fault. `ReadFailed` is told where a
+/// connection cannot be had, and `WriteFailed` comes where a line cannot be written.
+pub fn serve_connections<T: ZoneTable, C: Clock, W: Sink>(
+    alloc: Global,
+    connections: &Connections<'_, C>,
+    table: &mut T,
+    policy: &Policy,
+    most: u64,
+    writer: &mut W,
+) -> Result<(), JobFault>
+    // Whatever connections come: where the store has kept its word, there are turns of all of them, one connection after the other,
+    // that take the table from how it stood to how it stands; each is answered by the policy and the state that it found, and what the
+    // office promises of calls holds of all of them together, whichever connection each came by.
+    ensures served { T.is_honest table.new → (s : State) → T.holds table.old s → (turns : List (List Turn)) × (t : State) × T.holds table.new t × AreServed policy.now (standing s (T.failures table.old)) turns (standing t (T.failures table.new)) × IsSoMany most result (length turns) }
+    // How each connection ended that did so by a fault is told, and why it ended before so many were served.
+    ensures told { (ends : List (Option FaultOf)) × AreTold most ends (W.contents writer.old) (W.contents writer.new) result (W.failures writer.old) (W.failures writer.new) }
+    // A store that has kept its word had kept it before.
+    ensures honest { T.is_honest table.new → T.is_honest table.old }
+{
+    'accepted: for _ in 0..most {
+        match connections.listener.accept() {
+            Ok((stream, _)) => connections.serve_one(alloc, &stream, table, policy, writer)?,
+            Err(_) => return tell(alloc, writer, LineFault::ReadFailed),
+        }
+    }
+    Ok(())
+}
+
+/// Serves connections from a table: it listens, tells where, and serves as many as the words say.
+fn serve_table<T: ZoneTable, W: Sink>(
+    rt: &HostRuntime,
+    service: Service<'_>,
+    policy: &Policy,
+    table: &mut T,
+    writer: &mut W,
+) -> Result<(), JobFault>
+    ensures served { T.is_honest table.new → (s : State) → T.holds table.old s → (turns : List (List Turn)) × (t : State) × T.holds table.new t × AreServed policy.now (standing s (T.failures table.old)) turns (standing t (T.failures table.new)) × IsSoMany (most_of service.entry) result (length turns) }
+    ensures honest { T.is_honest table.new → T.is_honest table.old }
+{
+    let alloc = rt.alloc();
+    let (listener, listening) = match listening_at(rt, service.listen) {
+        Ok(listening) => listening,
+        Err(fault) => return tell(alloc, writer, fault),
+    };
+    write_text(writer, listening.as_bytes())?;
+    let connections = Connections {
+        listener: &listener,
+        clock: rt,
+        patience: patience_of(service.patience),
+    };
+    let most = service.connections.unwrap_or(u64::MAX);
+    serve_connections(alloc, &connections, table, policy, most, writer)
+}
+
+/// Serves connections from a table that was opened for it.
+fn serve_opened<T: ZoneTable + Drop, W: Sink>(
+    rt: &HostRuntime,
+    service: Service<'_>,
+    policy: &Policy,
+    table: T,
+    writer: &mut W,
+) -> Result<(), JobFault> {
+    let mut table = table;
+    serve_table(rt, service, policy, &mut table, writer)
+}
+
+/// The job `serve`: reads the policy, opens the store, listens, and serves connections one after the other, so many of them as the
+/// words say. A line tells where it listens, and one tells each connection that ended by a fault; or a line tells the refusal that
+/// comes first: of the policy, of the store, or `ReadFailed` where there can be no listener or a connection cannot be had.
+pub fn serve<W: Sink, A: Ledger, B: Ledger>(
+    rt: &HostRuntime,
+    service: Service<'_>,
+    reads: Blank,
+    store: Blank,
+    writer: &mut W,
+) -> Result<(), JobFault>
+    requires reads_name { reads.name ≡ A.name }
+    requires reads_parts { reads.parts ≡ A.parts }
+    requires reads_some { 0 < reads.parts }
+    requires store_name { store.name ≡ B.name }
+    requires store_parts { store.parts ≡ B.parts }
+    requires store_some { 0 < store.parts }
+{
+    let policy = match policy_of::<A>(rt, service.policy, reads) {
+        Ok(policy) => policy,
+        Err(fault) => return tell(rt.alloc(), writer, fault),
+    };
+    match open_store::<B>(rt, service.store, store) {
+        Ok(table) => serve_opened(rt, service, &policy, table, writer),
+        Err(fault) => tell(rt.alloc(), writer, fault),
+    }
+}

@@ -1,0 +1,139 @@
+//! The jobs with readers and writers of std.
+
+ghost use Rattle.std.specs.Prelude.{◌≡◌, ◌<◌};
+
+use crate::import::{export, import};
+use crate::migrate::migrate;
+use crate::serving::serve;
+use command_line::{Existing, Service, StoredZone};
+use dns_master::Counted;
+use std::io::{Read, Write};
+use std::marker::Brand;
+use std::sync::ledger::{Blank, Ledger};
+use text_commands::JobFault;
+
+/// Puts a zone, whose master file a reader of std gives, into a store, and hands the writer back that was told how it went.
+fn import_in<R: Read + Drop, W: Write + Drop, A: Ledger, B: Ledger, C: Ledger>(
+    rt: &HostRuntime,
+    what: (StoredZone<'_>, Existing),
+    streams: (R, W),
+    reads: Blank,
+    writes: Blank,
+    store: Blank,
+) -> (W, Result<(), JobFault>)
+    requires reads_name { reads.name ≡ A.name }
+    requires reads_parts { reads.parts ≡ A.parts }
+    requires reads_some { 0 < reads.parts }
+    requires writes_name { writes.name ≡ B.name }
+    requires writes_parts { writes.parts ≡ B.parts }
+    requires writes_some { 0 < writes.parts }
+    requires store_name { store.name ≡ C.name }
+    requires store_parts { store.parts ≡ C.parts }
+    requires store_some { 0 < store.parts }
+{
+    let (zone, existing) = what;
+    let (reader, writer) = streams;
+    let mut source: Counted<R, A> = Counted::new(reader, reads);
+    let mut sink: Counted<W, B> = Counted::new(writer, writes);
+    let outcome = import::<_, _, C>(rt, zone, existing, store, &mut source, &mut sink);
+    (sink.into_inner(), outcome)
+}
+
+/// Does the job `import`, with a reader and a writer of std, and hands the writer back.
+pub fn do_import<R: Read + Drop, W: Write + Drop>(
+    rt: &HostRuntime,
+    what: (StoredZone<'_>, Existing),
+    streams: (R, W),
+) -> (W, Result<(), JobFault>) {
+    let (reads, writes, store) = (Blank::new(1), Blank::new(1), Blank::new(1));
+    import_in::<_, _, Brand, Brand, Brand>(rt, what, streams, reads, writes, store)
+}
+
+/// Prints a zone of a store to a writer of std, and hands the writer back.
+fn export_in<W: Write + Drop, B: Ledger, C: Ledger>(
+    rt: &HostRuntime,
+    zone: StoredZone<'_>,
+    writer: W,
+    writes: Blank,
+    store: Blank,
+) -> (W, Result<(), JobFault>)
+    requires writes_name { writes.name ≡ B.name }
+    requires writes_parts { writes.parts ≡ B.parts }
+    requires writes_some { 0 < writes.parts }
+    requires store_name { store.name ≡ C.name }
+    requires store_parts { store.parts ≡ C.parts }
+    requires store_some { 0 < store.parts }
+{
+    let mut sink: Counted<W, B> = Counted::new(writer, writes);
+    let outcome = export::<_, C>(rt, zone, store, &mut sink);
+    (sink.into_inner(), outcome)
+}
+
+/// Does the job `export`, with a writer of std, and hands it back.
+pub fn do_export<W: Write + Drop>(
+    rt: &HostRuntime,
+    zone: StoredZone<'_>,
+    writer: W,
+) -> (W, Result<(), JobFault>) {
+    let (writes, store) = (Blank::new(1), Blank::new(1));
+    export_in::<_, Brand, Brand>(rt, zone, writer, writes, store)
+}
+
+/// Migrates a store, and hands the writer of std back that was told how it went.
+fn migrate_in<W: Write + Drop, B: Ledger>(
+    rt: &HostRuntime,
+    what: (&str, W),
+    writes: Blank,
+) -> (W, Result<(), JobFault>)
+    requires name { writes.name ≡ B.name }
+    requires parts { writes.parts ≡ B.parts }
+    requires some { 0 < writes.parts }
+{
+    let (store, writer) = what;
+    let mut sink: Counted<W, B> = Counted::new(writer, writes);
+    let outcome = migrate(rt, store, &mut sink);
+    (sink.into_inner(), outcome)
+}
+
+/// Does the job `migrate`, with a writer of std, and hands it back.
+pub fn do_migrate<W: Write + Drop>(
+    rt: &HostRuntime,
+    store: &str,
+    writer: W,
+) -> (W, Result<(), JobFault>) {
+    migrate_in::<_, Brand>(rt, (store, writer), Blank::new(1))
+}
+
+/// Serves callers, tells of it to a writer of std, and hands the writer back.
+fn serve_in<W: Write + Drop, A: Ledger, B: Ledger, C: Ledger>(
+    rt: &HostRuntime,
+    service: Service<'_>,
+    writer: W,
+    reads: Blank,
+    writes: Blank,
+    store: Blank,
+) -> (W, Result<(), JobFault>)
+    requires reads_name { reads.name ≡ A.name }
+    requires reads_parts { reads.parts ≡ A.parts }
+    requires reads_some { 0 < reads.parts }
+    requires writes_name { writes.name ≡ B.name }
+    requires writes_parts { writes.parts ≡ B.parts }
+    requires writes_some { 0 < writes.parts }
+    requires store_name { store.name ≡ C.name }
+    requires store_parts { store.parts ≡ C.parts }
+    requires store_some { 0 < store.parts }
+{
+    let mut sink: Counted<W, B> = Counted::new(writer, writes);
+    let outcome = serve::<_, A, C>(rt, service, reads, store, &mut sink);
+    (sink.into_inner(), outcome)
+}
+
+/// Does the job `serve`, with a writer of std, and hands it back.
+pub fn do_serve<W: Write + Drop>(
+    rt: &HostRuntime,
+    service: Service<'_>,
+    writer: W,
+) -> (W, Result<(), JobFault>) {
+    let (reads, writes, store) = (Blank::new(1), Blank::new(1), Blank::new(1));
+    serve_in::<_, Brand, Brand, Brand>(rt, service, writer, reads, writes, store)
+}
