@@ -34,24 +34,38 @@ fn behind_slash(text: &[u8]) -> &[u8]
     }
 }
 
-/// The part of this number, from 0.
-fn part_of(path: &[u8], number: usize) -> &[u8]
-    ensures { result.now ≡ part number path.now }
-{
-    let mut rest = path;
-    let mut left = number;
-    while left > 0 {
-        rest = behind_slash(rest);
-        left -= 1;
-    }
-    before_slash(rest)
+/// A path, and the path of its route, in which the parts have names.
+#[derive(Clone, Copy)]
+pub(crate) struct Parts<'a> {
+    pub(crate) route: &'a [u8],
+    pub(crate) path: &'a [u8],
 }
 
-/// The part of this number, from 0, with its escapes read (RFC 3986 section 2.1). The only error is want of memory.
-pub(crate) fn decoded_part(alloc: Global, path: &[u8], number: usize) -> Result<Vec<u8>, AllocError>
-    ensures { IfOk result (λ part. part.items ≡ decoded_part number path.now) }
-{
-    let mut part = Vec::new(alloc);
-    percent_decode(part_of(path, number)).append_to(&mut part)?;
-    Ok(part)
+impl<'a> Parts<'a> {
+    /// The part of this name, in braces as in the route's path.
+    fn get(&self, name: &[u8]) -> &'a [u8]
+        ensures { result.now ≡ part self.now.route.now self.now.path.now name.now }
+    {
+        let mut route = self.route;
+        let mut path = self.path;
+        while let [octet, rest @ ..] = route {
+            if *octet == b'/' {
+                path = behind_slash(path);
+                if before_slash(rest) == name {
+                    return before_slash(path);
+                }
+            }
+            route = rest;
+        }
+        &[]
+    }
+
+    /// The same with its escapes decoded (RFC 3986 section 2.1). The only error is want of memory.
+    pub(crate) fn decoded(&self, alloc: Global, name: &str) -> Result<Vec<u8>, AllocError>
+        ensures { IfOk result (λ octets. octets.items ≡ decoded_part self.now.route.now self.now.path.now name.now) }
+    {
+        let mut octets = Vec::new(alloc);
+        percent_decode(self.get(name.as_bytes())).append_to(&mut octets)?;
+        Ok(octets)
+    }
 }
