@@ -17,7 +17,7 @@ mod statement;
 mod token;
 mod zone_text;
 
-pub use device::{Counted, DeviceFailed, FaultCount, Pieces, Sink, Source};
+pub use device::{Counted, DeviceFailed, FaultCount, Pieces, Sink, Source, write_all};
 pub use fault::MasterFault;
 pub use file::read_file;
 pub use laws::{
