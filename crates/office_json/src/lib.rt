@@ -22,5 +22,6 @@ pub use body::UpdateBody;
 pub use delegation::read_delegation;
 pub use fault::BodyFault;
 pub use laws::delegations_are_one;
+pub use piece::push_all;
 pub use reply::{form_error_text, refusal_text, reply_text};
 pub use update::read_update;

@@ -5,7 +5,7 @@ ghost use Rattle.dns_data.specs.Rdata.{type_of};
 ghost use Rattle.serde_json.specs.View.{view};
 ghost use Rattle.office_json.specs.Faults.{Gives};
 ghost use Rattle.office_json.specs.Bodies.{IsIdField, IsNameField, IsTypeField, IsTtlField, IsDataField};
-ghost use Rattle.office_json.specs.Reading.{type_named, ttl_of, id_in, name_in, type_in, ttl_in, data_in};
+ghost use Rattle.office_json.specs.Reading.{ttl_of, id_in, name_in, type_in, ttl_in, data_in};
 
 use crate::data::data_said;
 use crate::fault::BodyFault;
@@ -35,20 +35,16 @@ pub(crate) fn read_name(alloc: Global, value: &Value, field: Field) -> Result<Na
     Ok(Name::read_absolute(alloc, text.as_bytes())?)
 }
 
-/// The type of this name, in either letter case.
-fn type_named(text: &[u8]) -> Option<RecordType>
-    ensures { result ≡ type_named text.now }
-{
-    RecordType::read(text).ok()
-}
-
 /// The type of an item.
 pub(crate) fn read_type(value: &Value) -> Result<RecordType, BodyFault>
     ensures exact { Gives (λ record_type. record_type) result (type_in (view value.now)) }
     ensures found { IfOk result (λ record_type. IsTypeField record_type (view value.now)) }
 {
     let text = read_text(value, Field::Type)?;
-    type_named(text.as_bytes()).ok_or(BodyFault::BadField)
+    match RecordType::read(text.as_bytes()) {
+        Ok(record_type) => Ok(record_type),
+        Err(_) => Err(BodyFault::BadField),
+    }
 }
 
 /// A TTL of so many seconds.

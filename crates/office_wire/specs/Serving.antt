@@ -3,6 +3,7 @@ use Rattle.std.specs.Prelude.{◌≡◌, ℕ, ◌+◌, ◌-◌, ◌^◌, ◌<◌
 use Rattle.std.specs.List.{list_all}
 use Rattle.std.specs.Io.KnownBytes.{Appends, Consumes}
 use Rattle.dns_master.specs.declared.device.DeviceFailed.{DeviceFailed}
+use Rattle.dns_master.specs.Written.{IsProperPrefix}
 use Rattle.grant_policy.specs.declared.rule.Rule.{Rule}
 use Rattle.office_core.specs.declared.request.Call.{Call}
 use Rattle.office_core.specs.States.{State}
@@ -17,7 +18,7 @@ use Rattle.office_wire.specs.declared.fault.ServeFault.{ServeFault}
 use Rattle.office_wire.specs.declared.fault.ServeFault.TheVariants.{ReadFailed, WriteFailed, StreamTooLong, NoMemory}
 use Rattle.office_wire.specs.Texts.{text_of}
 use Rattle.office_wire.specs.Heads.{WaitsUpTo}
-use Rattle.office_wire.specs.Exchange.{Turn, octets_of, turn_text, texts, IsOpenTurn, Standing, Answers, Run, Exchange, Waits, IsMethodAt, Closes, Ends, Says, IsPart, is_line_end}
+use Rattle.office_wire.specs.Exchange.{Turn, octets_of, turn_text, texts, IsOpenTurn, Standing, Answers, Run, Exchange, Waits, IsMethodAt, Closes, Ends, Says, is_line_end}
 
 -- how a table stands
 abbrev pub standing : State → ℕ → Standing
@@ -35,7 +36,7 @@ IsAnswered all stream before after =
 abbrev pub IsCut : List Turn → List ℕ → Option (List ℕ) → Option (List ℕ) → Type 0
 IsCut all stream before after =
     (turns last : List Turn) × (rest text part : List ℕ) × (all ≡ turns ++ last) × Exchange stream turns rest
-    × (Says rest last text ⊎ Ends rest last text) × IsPart part text × Appends before after (texts turns ++ part)
+    × (Says rest last text ⊎ Ends rest last text) × IsProperPrefix part text × Appends before after (texts turns ++ part)
 
 -- of at least so many octets that were read all whole requests were answered, all of the responses went out, and what is left is no
 -- request yet
@@ -104,7 +105,7 @@ IsClosed rules c stream before after d =
 abbrev pub IsBroken : List Rule → Standing → List ℕ → Option (List ℕ) → Option (List ℕ) → Standing → Type 0
 IsBroken rules c stream before after d =
     (turns last : List Turn) × (rest text part : List ℕ) × Run rules c (turns ++ last) d × Exchange stream turns rest × Says rest last text
-    × IsPart part text × Appends before after (texts turns ++ part)
+    × IsProperPrefix part text × Appends before after (texts turns ++ part)
 
 -- what had come was served so
 abbrev pub IsServed : List Rule → Standing → List ℕ → Result Bool DeviceFailed → List ℕ → Option (List ℕ) → Option (List ℕ) → Standing → Type 0
@@ -117,4 +118,4 @@ abbrev pub Finishes : List ℕ → Result (Unit {0}) DeviceFailed → Option (Li
 Finishes rest (Ok u) before after =
     (text : List ℕ) × Appends before after text × (((list_all is_line_end rest ≡ true) × (text ≡ [])) ⊎ ((list_all is_line_end rest ≡ false) × (m : Method) × IsMethodAt rest m × (text ≡ text_of m (Refused CutShort) true)))
 Finishes rest (Err e) before after =
-    (list_all is_line_end rest ≡ false) × (m : Method) × IsMethodAt rest m × (part : List ℕ) × IsPart part (text_of m (Refused CutShort) true) × Appends before after part
+    (list_all is_line_end rest ≡ false) × (m : Method) × IsMethodAt rest m × (part : List ℕ) × IsProperPrefix part (text_of m (Refused CutShort) true) × Appends before after part

@@ -1,10 +1,9 @@
 //! Answering requests, one after the other.
 
-ghost use Rattle.std.specs.Prelude.{◌≡◌, ◌≤◌, ◌+◌, ◌++◌, ℕ, List, length, IsUtf8, OnOk, OnErr};
-ghost use Rattle.std.specs.Io.KnownBytes.{Appends};
+ghost use Rattle.std.specs.Prelude.{◌≡◌, ◌+◌, length, IsUtf8, OnOk, OnErr};
 ghost use Rattle.httparse.specs.Grammar.{RequestHead};
 ghost use Rattle.office_core.specs.States.{State};
-ghost use Rattle.office_wire.specs.Exchange.{Answers, IsPart};
+ghost use Rattle.office_wire.specs.Exchange.{Answers};
 ghost use Rattle.office_wire.specs.Heads.{IsAsked};
 ghost use Rattle.office_wire.specs.Requests.{call_of};
 ghost use Rattle.office_wire.specs.Serving.{standing, IsReplied, IsSaid, Stands, IsIdle, IsServed};
@@ -18,7 +17,7 @@ use crate::refusal::Refusal;
 use crate::request::read_call;
 use crate::response::Response;
 use crate::route::Routes;
-use dns_master::{DeviceFailed, Sink};
+use dns_master::{DeviceFailed, Sink, write_all};
 use grant_policy::Policy;
 use httparse::spans::HeaderSpan;
 use office_core::{ZoneTable, step};
@@ -135,28 +134,14 @@ impl<'a> Service<'a> {
                     return Ok(false);
                 }
                 Said::Next(n) => {
-                    write_whole(writer, out.as_slice())?;
+                    write_all(writer, out.as_slice())?;
                     inbox.drop_front(n);
                 }
                 Said::Last => {
-                    write_whole(writer, out.as_slice())?;
+                    write_all(writer, out.as_slice())?;
                     return Ok(true);
                 }
             }
         }
     }
-}
-
-/// Writes all of a text, or, where the writer fails, a beginning of it.
-pub(crate) fn write_whole<W: Sink>(writer: &mut W, text: &[u8]) -> Result<(), DeviceFailed>
-    ensures ok { OnOk result (Appends (W.contents writer.old) (W.contents writer.new) text.now) }
-    ensures err { OnErr result ((part : List ℕ) × IsPart part text.now × Appends (W.contents writer.old) (W.contents writer.new) part) }
-    ensures same { OnOk result (W.failures writer.new ≡ W.failures writer.old) }
-    ensures rose { OnErr result (W.failures writer.new ≡ W.failures writer.old + 1) }
-{
-    let mut at = 0;
-    while at < text.len() {
-        at += writer.write_some(&text[at..])?;
-    }
-    Ok(())
 }

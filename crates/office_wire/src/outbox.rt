@@ -1,7 +1,6 @@
 //! The text of the response that is to be written.
 
 ghost use Rattle.std.specs.Prelude.{◌≡◌, ◌≤◌, ◌<◌, ◌+◌, ◌++◌, ℕ, List, length, drop, vec_len, IsOk, OnErr, OnOk};
-ghost use Rattle.std.specs.List.{flat_map};
 ghost use Rattle.std.specs.Vec.{vec_capacity};
 ghost use Rattle.office_wire.specs.Texts.{text_of, head_end, head_text, head_parts, sent_body, status_of, type_of};
 ghost use Rattle.office_wire.specs.Outbox.{IsShortResponse, IsPut};
@@ -11,6 +10,7 @@ use crate::response::Response;
 use crate::status::phrase;
 use itoa::Buffer;
 use office_core::{Reply, TableFault};
+use office_json::push_all;
 use std::alloc::{AllocError, Global};
 use std::marker::Model;
 
@@ -47,18 +47,6 @@ const fn head_end(closing: bool) -> &'static str
     } else {
         "\r\n\r\n"
     }
-}
-
-/// Appends pieces, one behind the other. It fails only where there is no room for them all.
-fn push_all(out: &mut Vec<u8>, pieces: &[&[u8]]) -> Result<(), AllocError>
-    ensures text { OnOk result (out.new.items ≡ out.old.items ++ flat_map (λ piece. piece.now) pieces.now) }
-    ensures capacity { vec_capacity out.old ≤ vec_capacity out.new }
-    ensures full { OnErr result (vec_capacity out.old < length out.old.items + length (flat_map (λ piece. piece.now) pieces.now)) }
-{
-    for piece in pieces {
-        out.extend_from_slice(piece)?;
-    }
-    Ok(())
 }
 
 /// Appends the head of a response by its parts: the digits of the status, its phrase, the media type, the digits of the body's

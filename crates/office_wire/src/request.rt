@@ -2,7 +2,6 @@
 
 ghost use Rattle.std.specs.Prelude.{◌≡◌, ℕ, List, option_map, IfOk, IsUtf8};
 ghost use Rattle.office_core.specs.Runs.{HasUpdate};
-ghost use Rattle.office_json.specs.Reading.{type_named};
 ghost use Rattle.office_wire.specs.Parts.{decoded_part};
 ghost use Rattle.office_wire.specs.Requests.{Gives, caller_in, name_in, number_in, type_in, action_in, zone_in, request_by, call_by};
 
@@ -52,21 +51,14 @@ fn read_number(alloc: Global, parts: &Parts<'_>, part: &str) -> Result<u32, Requ
     }
 }
 
-/// The record type of this name, in either letter case.
-fn type_named(text: &[u8]) -> Option<RecordType>
-    ensures { result ≡ type_named text.now }
-{
-    RecordType::read(text).ok()
-}
-
 /// The record type that a part of a path is.
 fn read_type(alloc: Global, parts: &Parts<'_>, part: &str) -> Result<RecordType, RequestFault>
     ensures { Gives result (type_in (decoded_part parts.now.route.now parts.now.path.now part.now)) }
 {
     let text = parts.decoded(alloc, part)?;
-    match type_named(&text) {
-        Some(record_type) => Ok(record_type),
-        None => Err(RequestFault::Refused(Refusal::BadPart)),
+    match RecordType::read(&text) {
+        Ok(record_type) => Ok(record_type),
+        Err(_) => Err(RequestFault::Refused(Refusal::BadPart)),
     }
 }
 

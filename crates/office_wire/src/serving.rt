@@ -7,7 +7,7 @@ ghost use Rattle.office_wire.specs.Exchange.{Turn, Run, Waits, is_line_end};
 ghost use Rattle.office_wire.specs.Promises.{ArePromised};
 ghost use Rattle.office_wire.specs.Serving.{standing, IsDone, CountsServed, Finishes};
 
-use crate::exchange::{Service, write_whole};
+use crate::exchange::Service;
 use crate::fault::ServeFault;
 use crate::front::method_at;
 use crate::head::SPANS;
@@ -16,7 +16,7 @@ use crate::outbox::Outbox;
 use crate::refusal::Refusal;
 use crate::response::Response;
 use crate::route::Routes;
-use dns_master::{DeviceFailed, Sink, Source};
+use dns_master::{DeviceFailed, Sink, Source, write_all};
 use grant_policy::Policy;
 use httparse::spans::{EMPTY_HEADER_SPAN, HeaderSpan};
 use office_core::ZoneTable;
@@ -47,7 +47,7 @@ fn finish<W: Sink>(
     }
     let method = method_at(rest, spans);
     out.put_short(method, &Response::Refused(Refusal::CutShort), true);
-    write_whole(writer, out.as_slice())
+    write_all(writer, out.as_slice())
 }
 
 /// Answers each request of a stream, in the rooms that were made for it.

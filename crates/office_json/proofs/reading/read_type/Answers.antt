@@ -1,14 +1,18 @@
-use Rattle.std.proofs.Common.{sym, ap, ◌∙◌}
-use Rattle.serde_json.specs.View.{view}
-use Rattle.office_json.specs.declared.fault.BodyFault.TheVariants.{BadField}
-use Rattle.office_json.specs.Bodies.{IsTypeField}
+use Rattle.std.proofs.Common.{◌∙◌, sym, ap, List, ℕ, Result}
+use Rattle.office_json.specs.declared.fault.BodyFault.{BodyFault}
+use Rattle.office_json.specs.Faults.{or_bad, ◌>>=◌}
 use Rattle.office_json.specs.Reading.{type_named}
-use Rattle.office_json.proofs.ListLemmas.{or_found}
-use Rattle.office_json.proofs.TypeLemmas.{type_named_is}
+use Rattle.office_json.proofs.TypeLemmas.{type_found, type_none}
 use Rattle.office_json.proofs.reading.read_type.Goals as goal
 
-pub returns-clause-found : goal.returns-clause-found
-returns-clause-found c =
-    let text = c.in_ok-text.text.now in
-    or_found (λ t. IsTypeField t (view c.args.value.now)) c.type_named.result BadField c.ok_or.result c.ok_or.ensures.value
-    (λ t e. (text, c.in_ok-text.ensures.found, (type_named_is text t).0 (sym (c.type_named.ensures ∙ ap type_named c.as_bytes.ensures.value) ∙ e)))
+pub returns-in-Ok-clause-exact : goal.returns-in-Ok-clause-exact
+returns-in-Ok-clause-exact c =
+    ap (λ (r : Result (List ℕ) BodyFault). r >>= λ text. or_bad (type_named text)) c.in_ok-text.ensures.exact
+    ∙ ap (λ (text : List ℕ). or_bad (type_named text)) (sym c.as_bytes.ensures.value)
+    ∙ ap or_bad (type_found c.as_bytes.result.now c.read.result c.in-Ok.record_type c.read.ensures.found c.in-Ok.is)
+
+pub returns-in-Err-clause-exact : goal.returns-in-Err-clause-exact
+returns-in-Err-clause-exact c =
+    ap (λ (r : Result (List ℕ) BodyFault). r >>= λ text. or_bad (type_named text)) c.in_ok-text.ensures.exact
+    ∙ ap (λ (text : List ℕ). or_bad (type_named text)) (sym c.as_bytes.ensures.value)
+    ∙ ap or_bad (type_none c.as_bytes.result.now c.read.result c.in-Err.field-0 c.read.ensures.found c.in-Err.is)

@@ -1,7 +1,7 @@
 use Rattle.std.proofs.Common.{◌∙◌, ℕ, List, [], refl, sym, subst, arith, rules}
 use Rattle.office_wire.specs.Exchange.{Waits}
 use Rattle.office_wire.specs.Serving.{standing, IsCurrent}
-use Rattle.office_wire.proofs.KnownLemmas.{consumes_none}
+use Rattle.std.proofs.KnownBytes.{Consumes-nil}
 use Rattle.office_wire.proofs.ServingLemmas.{none_came, consumed_none, ended, ended_part, went_closed, went_broken, went_on, waits_nil, first_current, stayed, stayed_kept}
 use Rattle.office_wire.proofs.serving.serve_in.Goals as goal
 
@@ -11,7 +11,7 @@ reads-init g c = record {
   waits = waits_nil _ c.requires.empty;
   room = omega (arith, c.requires.empty);
   honest = λ honest. honest;
-  served = λ honest s held. (s, held, ([], omega arith, consumes_none _, first_current c.args.service.now.policy.now (standing s (g.T.ZoneTable.failures c.args.table.now)) _ _ c.requires.empty));
+  served = λ honest s held. (s, held, ([], omega arith, Consumes-nil _, first_current c.args.service.now.policy.now (standing s (g.T.ZoneTable.failures c.args.table.now)) _ _ c.requires.empty));
   reads = refl;
   writes = refl;
 }
