@@ -5,9 +5,9 @@ use Rattle.std.specs.Io.KnownBytes.{Appends}
 use Rattle.httparse.specs.Grammar.{print_request}
 use Rattle.dns_master.specs.Written.{IsProperPrefix}
 use Rattle.grant_policy.specs.declared.rule.Rule.{Rule}
-use Rattle.office_wire.specs.declared.exchange.Said.TheVariants.{Next}
+use Rattle.office_wire.specs.declared.exchange.Progress.TheVariants.{Next}
 use Rattle.office_wire.specs.Exchange.{Turn, octets_of, turn_text, octets, texts, IsOpenTurn, Standing, Run, Exchange, Closes, whole, bad_length, bad_head, Says, next, closing}
-use Rattle.office_wire.specs.Serving.{IsSaid, IsCurrent, IsClosed, IsBroken}
+use Rattle.office_wire.specs.Serving.{IsProgress, IsCurrent, IsClosed, IsBroken}
 use Rattle.office_wire.proofs.HeadLemmas.{never_more}
 use Rattle.std.proofs.KnownBytes.{Appends-trans}
 
@@ -93,7 +93,7 @@ module _ (rules : List Rule) (c : Standing) where
   -- ---- one turn of the loop
 
   pub next_served : (d e : Standing) (n : ℕ) (stream rest pending left out text : List ℕ) (before mid after : Option (List ℕ)) → pending ≡ rest → left ≡ drop n rest → text ≡ out
-      → IsCurrent rules c stream rest before mid d → IsSaid rules d pending (Next n) out e → Appends mid after text → IsCurrent rules c stream left before after e
+      → IsCurrent rules c stream rest before mid d → IsProgress rules d pending (Next n) out e → Appends mid after text → IsCurrent rules c stream left before after e
   next_served d e n stream rest pending left out text before mid after is_rest is_left is_out p q wrote =
       let octets_are = subst (λ (l : List ℕ). l ≡ octets_of q.0 ++ drop n l) is_rest q.3 ∙ ap (λ (l : List ℕ). octets_of q.0 ++ l) (sym is_left) in
       let turn = one_turn q.0 rest left q.2 octets_are in
@@ -107,7 +107,7 @@ module _ (rules : List Rule) (c : Standing) where
       )
 
   pub next_broken : (d e : Standing) (n : ℕ) (stream rest pending out text : List ℕ) (before mid after : Option (List ℕ)) → pending ≡ rest → text ≡ out
-      → IsCurrent rules c stream rest before mid d → IsSaid rules d pending (Next n) out e → ((part : List ℕ) × IsProperPrefix part text × Appends mid after part)
+      → IsCurrent rules c stream rest before mid d → IsProgress rules d pending (Next n) out e → ((part : List ℕ) × IsProperPrefix part text × Appends mid after part)
       → IsBroken rules c stream before after e
   next_broken d e n stream rest pending out text before mid after is_rest is_out p q wrote = (
     p.0,

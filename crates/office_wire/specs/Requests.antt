@@ -13,8 +13,8 @@ use Rattle.office_core.specs.declared.request.Call.{Call}
 use Rattle.office_core.specs.declared.request.Request.{Request}
 use Rattle.office_core.specs.declared.request.Request.TheVariants as requests
 use Rattle.office_json.specs.declared.body.UpdateBody.{UpdateBody}
-use Rattle.office_json.specs.declared.fault.BodyFault.{BodyFault}
-use Rattle.office_json.specs.declared.fault.BodyFault.TheVariants as bodies
+use Rattle.office_json.specs.declared.body_fault.BodyFault.{BodyFault}
+use Rattle.office_json.specs.declared.body_fault.BodyFault.TheVariants as bodies
 use Rattle.office_json.specs.Faults.{fault_number}
 use Rattle.office_json.specs.Reading.{type_named, update_of_body, delegation_of_body}
 use Rattle.office_wire.specs.declared.method.Method.{Method}

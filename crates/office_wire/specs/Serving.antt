@@ -12,12 +12,12 @@ use Rattle.office_wire.specs.declared.refusal.Refusal.TheVariants.{CutShort}
 use Rattle.office_wire.specs.declared.request_fault.RequestFault.{RequestFault}
 use Rattle.office_wire.specs.declared.response.Response.{Response}
 use Rattle.office_wire.specs.declared.response.Response.TheVariants.{Refused}
-use Rattle.office_wire.specs.declared.exchange.Said.{Said}
-use Rattle.office_wire.specs.declared.exchange.Said.TheVariants.{Nothing, Next, Last}
-use Rattle.office_wire.specs.declared.fault.ServeFault.{ServeFault}
-use Rattle.office_wire.specs.declared.fault.ServeFault.TheVariants.{ReadFailed, WriteFailed, StreamTooLong, NoMemory}
+use Rattle.office_wire.specs.declared.exchange.Progress.{Progress}
+use Rattle.office_wire.specs.declared.exchange.Progress.TheVariants.{Waiting, Next, Last}
+use Rattle.office_wire.specs.declared.serve_fault.ServeFault.{ServeFault}
+use Rattle.office_wire.specs.declared.serve_fault.ServeFault.TheVariants.{ReadFailed, WriteFailed, StreamTooLong, NoMemory}
 use Rattle.office_wire.specs.Texts.{text_of}
-use Rattle.office_wire.specs.Heads.{WaitsUpTo}
+use Rattle.office_wire.specs.Framing.{WaitsUpTo}
 use Rattle.office_wire.specs.Exchange.{Turn, octets_of, turn_text, texts, IsOpenTurn, Standing, Answers, Run, Exchange, Waits, IsMethodAt, Closes, Ends, Says, is_line_end}
 
 -- how a table stands
@@ -70,15 +70,15 @@ pub record IsReplied (rules : List Rule) (c : Standing) (read : Result Call Requ
   pub text_is : text ≡ text_of method response closing
 
 -- this was answered to what stands at the front, in this text, and how the table stands behind it
-abbrev pub IsSaid : List Rule → Standing → List ℕ → Said → List ℕ → Standing → Type 0
-IsSaid rules c pending (Nothing n) text d = d ≡ c
-IsSaid rules c pending (Next n) text d =
+abbrev pub IsProgress : List Rule → Standing → List ℕ → Progress → List ℕ → Standing → Type 0
+IsProgress rules c pending (Waiting n) text d = d ≡ c
+IsProgress rules c pending (Next n) text d =
     (t : Turn) × Run rules c (t ∷ []) d × IsOpenTurn t × (pending ≡ octets_of t ++ drop n pending) × (text ≡ turn_text t)
-IsSaid rules c pending Last text d = (last : List Turn) × Run rules c last d × Closes pending last text
+IsProgress rules c pending Last text d = (last : List Turn) × Run rules c last d × Closes pending last text
 
 -- what that says of the octets alone
-abbrev pub Stands : List ℕ → Said → Type 0
-Stands pending (Nothing n) = Waits pending × (length pending < 81920) × WaitsUpTo pending n × (n ≤ 81920)
+abbrev pub Stands : List ℕ → Progress → Type 0
+Stands pending (Waiting n) = Waits pending × (length pending < 81920) × WaitsUpTo pending n × (n ≤ 81920)
 Stands pending (Next n) = (0 < n) × (n ≤ length pending)
 Stands pending Last = ⊤
 

@@ -2,7 +2,7 @@
 
 ghost use Rattle.std.specs.Prelude.{◌≡◌, ◌==◌, IfOk};
 ghost use Rattle.std.specs.List.{position};
-ghost use Rattle.office_wire.specs.Parts.{front, behind, part, decoded_part};
+ghost use Rattle.office_wire.specs.Parts.{before_slash, behind_slash, part, decoded_part};
 
 use percent_encoding::percent_decode;
 use std::alloc::{AllocError, Global};
@@ -16,7 +16,7 @@ fn slash_in(text: &[u8]) -> Option<usize>
 
 /// What stands before the first slash of a text.
 fn before_slash(text: &[u8]) -> &[u8]
-    ensures { result.now ≡ front text.now }
+    ensures { result.now ≡ before_slash text.now }
 {
     match slash_in(text) {
         Some(at) => &text[..at],
@@ -26,7 +26,7 @@ fn before_slash(text: &[u8]) -> &[u8]
 
 /// What stands behind it.
 fn behind_slash(text: &[u8]) -> &[u8]
-    ensures { result.now ≡ behind text.now }
+    ensures { result.now ≡ behind_slash text.now }
 {
     match slash_in(text) {
         Some(at) => &text[at + 1..],
