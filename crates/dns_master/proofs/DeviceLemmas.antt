@@ -1,10 +1,11 @@
 -- What goes through a writer in pieces.
-use Rattle.std.proofs.Common.{◌≡◌, ℕ, List, [], ◌∷◌, ◌++◌, length, take, drop, Option, Result, Ok, Err, refl, sym, ap, ◌∙◌, subst, arith, append_assoc, append-nil, length-append, take-append-drop}
+use Rattle.std.proofs.Common.{◌≡◌, ℕ, List, [], ◌∷◌, ◌++◌, ◌<◌, length, take, drop, Option, Result, Ok, Err, refl, sym, ap, ◌∙◌, subst, arith, append_assoc, append-nil, length-append, take-append-drop}
 use lib.Seq.{take-append_seam}
 use Rattle.std.specs.Io.KnownBytes.{Appends, Keeps}
 use Rattle.std.proofs.KnownBytes.{Appends-nil, Appends-trans, Appends-kept}
 use Rattle.dns_master.specs.declared.master_fault.MasterFault.{MasterFault}
 use Rattle.dns_master.specs.declared.master_fault.MasterFault.TheVariants.{ParenOpen, ParenClose, QuoteOpen, NoOwner, NoTtl, ClassNotIn, DirectiveNotKept, BadTtl, Data, TooLarge, EntryShort, WriteFailed, NoMemory}
+use Rattle.dns_master.specs.Written.{IsProperPrefix}
 use Rattle.dns_master.specs.Device.{AppendsFront, TextWritten}
 
 -- a front of the text went out, and this is left of it
@@ -29,6 +30,13 @@ front_went a b text front rest e went =
 
 pub left_front : (a b c : Option (List ℕ)) (text rest : List ℕ) → IsLeft a b text rest → Keeps b c → AppendsFront a c text
 left_front a b c text rest left kept = front_went a c text left.0 rest left.1 (Appends-kept a b c left.0 left.2 kept)
+
+-- the same where something is left
+pub left_part : (a b c : Option (List ℕ)) (text rest : List ℕ) → IsLeft a b text rest → 0 < length rest → Keeps b c → (part : List ℕ) × IsProperPrefix part text × Appends a c part
+left_part a b c text rest left some kept = (left.0, record { tail = rest; is = left.1; some = some }, Appends-kept a b c left.0 left.2 kept)
+
+pub part_front : (a b : Option (List ℕ)) (text : List ℕ) → ((part : List ℕ) × IsProperPrefix part text × Appends a b part) → AppendsFront a b text
+part_front a b text went = front_went a b text went.0 went.1.tail went.1.is went.2
 
 -- ---- a text that is gathered
 

@@ -9,6 +9,7 @@ pub mod Tokens
 pub mod Spans
 pub mod Refusals
 pub mod Device
+pub mod Written
 pub mod EntryFaults
 pub mod Fields
 pub mod Statements

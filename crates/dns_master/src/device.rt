@@ -3,6 +3,7 @@
 ghost use Rattle.std.specs.Prelude.{◌≡◌, ◌+◌, ◌<◌, ◌≤◌, ◌↔◌, ◌⊎◌, ℕ, List, Option, Some, None, drop, length, min, max, vec_len, IfOk, IfErr, IsOk, IsErr, OnOk, OnErr};
 ghost use Rattle.std.specs.IoError.{error_kind};
 ghost use Rattle.std.specs.Io.KnownBytes.{ReadConsumes, WriteAppends};
+ghost use Rattle.dns_master.specs.Written.{IsWritten};
 
 use std::io::{self, ErrorKind, Read, Write};
 use std::sync::ledger::{Blank, Book, Ledger, Share};
@@ -47,6 +48,18 @@ pub trait Sink: FaultCount {
         ensures bytes { WriteAppends (contents self.old) (contents self.new) result bytes.now }
         ensures fine { OnOk result (Self.failures self.new ≡ Self.failures self.old) }
         ensures failed { OnErr result (Self.failures self.new ≡ Self.failures self.old + 1) };
+}
+
+/// Writes all octets, in as many pieces as the writer takes. A write that failed is the last one.
+pub fn write_all<W: Sink>(writer: &mut W, octets: &[u8]) -> Result<(), DeviceFailed>
+    ensures { IsWritten (W.contents writer.old) (W.contents writer.new) octets.now result (W.failures writer.old) (W.failures writer.new) }
+{
+    let mut rest = octets;
+    while !rest.is_empty() {
+        let count = writer.write_some(rest)?;
+        rest = &rest[count..];
+    }
+    Ok(())
 }
 
 /// A reader or a writer of std, with its failures counted.

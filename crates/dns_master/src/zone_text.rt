@@ -4,7 +4,7 @@ ghost use Rattle.std.specs.Prelude.{◌≡◌, ◌++◌, OnOk, string_bytes};
 ghost use Rattle.dns_master.specs.Device.{TextWritten, Drained};
 ghost use Rattle.dns_master.specs.ZoneText.{origin_line, ended_line, records_text, zone_text};
 
-use crate::device::Sink;
+use crate::device::{DeviceFailed, Sink, write_all};
 use crate::master_fault::MasterFault;
 use dns_data::Record;
 use dns_names::Name;
@@ -14,18 +14,14 @@ use std::fmt::Write;
 /// How many octets are gathered before they are written.
 const PIECE: usize = 65_536;
 
-/// Writes all octets, in as many pieces as the writer takes.
+/// Writes all of a text.
 fn write_text<W: Sink>(writer: &mut W, text: &[u8]) -> Result<(), MasterFault>
     ensures { TextWritten (W.contents writer.old) (W.contents writer.new) text.now result (W.failures writer.old) (W.failures writer.new) }
 {
-    let mut rest = text;
-    while !rest.is_empty() {
-        let Ok(count) = writer.write_some(rest) else {
-            return Err(MasterFault::WriteFailed);
-        };
-        rest = &rest[count..];
+    match write_all(writer, text) {
+        Ok(()) => Ok(()),
+        Err(DeviceFailed) => Err(MasterFault::WriteFailed),
     }
-    Ok(())
 }
 
 /// Writes what was gathered, where it is enough, and empties it.

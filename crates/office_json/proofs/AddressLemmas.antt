@@ -10,7 +10,7 @@ use Rattle.serde_json.specs.Data.{Data, Items}
 use Rattle.dns_data.specs.declared.data_fault.DataFault.{DataFault}
 use Rattle.dns_data.specs.Reading.{ipv4_of, ipv6_of}
 use Rattle.dns_data.proofs.FieldLaws.{ipv4_sound, ipv6_sound}
-use Rattle.office_json.specs.declared.fault.BodyFault.{BodyFault}
+use Rattle.office_json.specs.declared.body_fault.BodyFault.{BodyFault}
 use Rattle.office_json.specs.Faults.{◌>>=◌, of_datas}
 use Rattle.office_json.specs.Bodies.{has_colon, SpellsAddress, IsAddressBody, AreItems}
 use Rattle.office_json.specs.Reading.{ipv4_in, ipv6_in, address_of, address_in, each}

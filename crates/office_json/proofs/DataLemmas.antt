@@ -16,14 +16,14 @@ use Rattle.dns_master.specs.declared.token.Token.{Token}
 use Rattle.dns_master.specs.Faults.{on_lines}
 use Rattle.dns_master.specs.Tokens.{TokenText, AreTokens, token_of, tokens_of}
 use Rattle.dns_master.proofs.WalkLaws.{tokens_read}
-use Rattle.office_json.specs.declared.fault.BodyFault.{BodyFault}
-use Rattle.office_json.specs.declared.fault.BodyFault.TheVariants.{BadField}
+use Rattle.office_json.specs.declared.body_fault.BodyFault.{BodyFault}
+use Rattle.office_json.specs.declared.body_fault.BodyFault.TheVariants.{BadField}
 use Rattle.dns_data.specs.declared.data_fault.DataFault.{DataFault}
 use Rattle.dns_data.specs.declared.data_fault.DataFault.TheVariants as datas
 use Rattle.dns_data.specs.Faults as dns
 use Rattle.office_json.specs.Faults.{◌>>=◌, Refuses, of_data, of_shapes, of_datas}
 use Rattle.office_json.specs.Bodies.{SpellsData}
-use Rattle.office_json.specs.Reading.{one_entry, data_said}
+use Rattle.office_json.specs.Reading.{one_entry, data_of_text}
 
 abbrev first : List TokenText → Bool
 first ts = list_all (λ t. t.entry == 0) ts
@@ -38,16 +38,16 @@ items_are (t ∷ ts) = ap (λ (l : List ItemText). item_of t.item ∷ l) (items_
 first_is : (ts : List Token) → first (map token_of ts) ≡ list_all (λ t. t.entry == 0) ts
 first_is ts = list_all-map (λ (t : TokenText). t.entry == 0) token_of ts
 
-said : (t : RecordType) (text : List ℕ) (ts : List TokenText) (b : Bool) → tokens_of text ≡ Ok ts → first ts ≡ b → data_said t text ≡ ((if b then Ok (items ts) else Err BadField) >>= λ xs. of_datas (data_of t None xs))
+said : (t : RecordType) (text : List ℕ) (ts : List TokenText) (b : Bool) → tokens_of text ≡ Ok ts → first ts ≡ b → data_of_text t text ≡ ((if b then Ok (items ts) else Err BadField) >>= λ xs. of_datas (data_of t None xs))
 said t text ts b e is =
     ap (λ (r : Result (List TokenText) MasterFault). of_shapes r >>= one_entry >>= λ xs. of_datas (data_of t None xs)) e
     ∙ ap (λ (x : Bool). (if x then Ok (items ts) else Err BadField) >>= λ xs. of_datas (data_of t None xs)) is
 
 module _ (t : RecordType) (text : List ℕ) (ts : List Token) (e : tokens_of text ≡ Ok (map token_of ts)) where
-  pub data_many : list_all (λ t. t.entry == 0) ts ≡ false → data_said t text ≡ Err BadField
+  pub data_many : list_all (λ t. t.entry == 0) ts ≡ false → data_of_text t text ≡ Err BadField
   data_many is = said t text (map token_of ts) false e (first_is ts ∙ is)
 
-  pub data_one : list_all (λ t. t.entry == 0) ts ≡ true → data_said t text ≡ of_datas (data_of t None (map item_of (map (λ t. t.item) ts)))
+  pub data_one : list_all (λ t. t.entry == 0) ts ≡ true → data_of_text t text ≡ of_datas (data_of t None (map item_of (map (λ t. t.item) ts)))
   data_one is = said t text (map token_of ts) true e (first_is ts ∙ is) ∙ ap (λ (xs : List ItemText). of_datas (data_of t None xs)) (items_are ts)
 
 all_first : (ts : List TokenText) → first ts ≡ true → AllByRecursion (λ t. t.entry ≡ 0) ts
@@ -67,7 +67,7 @@ data_spelled text ts rdata are is h =
     (map token_of ts, are, all_first (map token_of ts) (first_is ts ∙ is), subst (IsData None rdata) (sym (items_are ts)) h)
 
 -- what is spelled so is read
-pub said_only : (rdata : Data) (text : List ℕ) → SpellsData rdata text → data_said (type_of rdata) text ≡ Ok rdata
+pub said_only : (rdata : Data) (text : List ℕ) → SpellsData rdata text → data_of_text (type_of rdata) text ≡ Ok rdata
 said_only rdata text h =
     said (type_of rdata) text h.0 true (ap (on_lines text) (tokens_read text h.0 h.1)) (first_all h.0 h.2)
     ∙ ap of_datas (data_only (type_of rdata) None (items h.0) rdata tt refl h.3)

@@ -16,7 +16,7 @@ use Rattle.zone_core.specs.Updates.{UpdateOf, update_of}
 use Rattle.zone_core.specs.Delegations as zone
 use Rattle.zone_core.specs.declared.refusals.DelegationFault.TheVariants as delegations
 use Rattle.zone_core.specs.Faults as zones
-use Rattle.office_json.specs.declared.fault.BodyFault.{BodyFault}
+use Rattle.office_json.specs.declared.body_fault.BodyFault.{BodyFault}
 use Rattle.office_json.specs.Faults.{Refuses, of_delegation}
 use Rattle.office_json.specs.Bodies.{ServerOf, RequestOf}
 use Rattle.office_json.specs.Delegating.{server_of, request_of, lacks_glue, deletions, addition, glue, operations_of, delegated}

@@ -26,14 +26,14 @@ use Rattle.zone_core.specs.Kinds.{prerequisite_word, operation_word, prerequisit
 use Rattle.zone_core.specs.Updates.{UpdateOf, update_of}
 use Rattle.zone_core.specs.declared.refusals.UpdateFault.{UpdateFault}
 use Rattle.office_json.specs.declared.body.UpdateBody.{UpdateBody}
-use Rattle.office_json.specs.declared.fault.BodyFault.{BodyFault}
+use Rattle.office_json.specs.declared.body_fault.BodyFault.{BodyFault}
 use Rattle.office_json.specs.declared.field.Field.{Field}
 use Rattle.office_json.specs.declared.field.Field.TheVariants as field
 use Rattle.office_json.specs.Fields.{update_fields, needed_fields, prerequisite_fields, operation_fields, delegation_fields, server_fields}
 use Rattle.office_json.specs.Faults.{◌>>=◌, or_bad, of_names, of_datas, of_updates, of_delegations}
 use Rattle.office_json.specs.Bodies.{json_of, at, has_only, HasOnly, IsText, IsArray, IsArrayOrAbsent, AreItems, IsNameField, IsTypeField, IsTtlField, IsDataField, IsIdField, IsSetBody, IsDatumBody, IsRecordBody, TestsBody, ChangesBody, IsPrerequisiteBody, IsOperationBody, IsUpdateValue, IsUpdateBody, ServerOf, RequestOf, has_colon, SpellsAddress, IsAddressBody, IsServerBody, IsDelegationValue, IsDelegationBody}
 use Rattle.office_json.specs.Delegating.{delegated}
-use Rattle.office_json.specs.Reading.{or_no_json, members_in, known_only, all_there, fields_in, text_in, items_in, items_or_none, id_in, name_in, type_named, type_in, ttl_of, ttl_in, data_said, data_in, set_in, datum_in, record_in, test_in, change_in, prerequisite_named, operation_named, word_in, prerequisite_kind_in, operation_kind_in, prerequisite_in, operation_in, each, few, body_with, lists_in, update_in, update_of_body, ipv4_in, ipv6_in, address_of, address_in, server_in, RequestBody, request_in, delegation_of_body}
+use Rattle.office_json.specs.Reading.{or_no_json, members_in, known_only, all_there, fields_in, text_in, items_in, items_or_none, id_in, name_in, type_named, type_in, ttl_of, ttl_in, data_of_text, data_in, set_in, datum_in, record_in, test_in, change_in, prerequisite_named, operation_named, word_in, prerequisite_kind_in, operation_kind_in, prerequisite_in, operation_in, each, few, body_with, lists_in, update_in, update_of_body, ipv4_in, ipv6_in, address_of, address_in, server_in, RequestBody, request_in, delegation_of_body}
 use Rattle.office_json.proofs.KindLemmas.{prerequisite_is, operation_is}
 use Rattle.office_json.proofs.TypeLemmas.{type_named_is}
 use Rattle.office_json.proofs.DataLemmas.{said_only}
@@ -93,7 +93,7 @@ ttl_only : (ttl : ℕ) (d : Data) → IsTtlField ttl d → ttl_in d ≡ Ok ttl
 ttl_only ttl d h = ap (λ (o : Option Data). or_bad (option_and_then as_u64 (option_and_then as_number o)) >>= λ n. or_bad (ttl_of n)) h.0 ∙ ap or_bad (ttl_fits ttl h.1)
 
 data_only : (rdata : Rdata) (d : Data) → IsDataField rdata d → data_in (type_of rdata) d ≡ Ok rdata
-data_only rdata d h = step (text_in field.Data d) (data_said (type_of rdata)) h.0 (text_only field.Data h.0 d h.1) ∙ said_only rdata h.0 h.2
+data_only rdata d h = step (text_in field.Data d) (data_of_text (type_of rdata)) h.0 (text_only field.Data h.0 d h.1) ∙ said_only rdata h.0 h.2
 
 -- ---- items
 

@@ -7,8 +7,8 @@ use Rattle.serde_json.specs.declared.value.Value.{Value}
 use Rattle.serde_json.specs.Data.{Data, Items, no_items, item}
 use Rattle.serde_json.specs.Events.{items_len}
 use Rattle.serde_json.specs.View.{view, items_view}
-use Rattle.office_json.specs.declared.fault.BodyFault.{BodyFault}
-use Rattle.office_json.specs.declared.fault.BodyFault.TheVariants as faults
+use Rattle.office_json.specs.declared.body_fault.BodyFault.{BodyFault}
+use Rattle.office_json.specs.declared.body_fault.BodyFault.TheVariants as faults
 use Rattle.office_json.specs.Faults.{◌>>=◌, Refuses, Gives}
 use Rattle.office_json.specs.Bodies.{AreItems}
 use Rattle.office_json.specs.Reading.{each}

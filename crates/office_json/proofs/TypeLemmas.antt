@@ -1,5 +1,5 @@
 -- Types by what they are called.
-use Rattle.std.proofs.Common.{◌≡◌, ◌↔◌, ℕ, List, Option, Some, None, Result, Ok, Err, refl, ap}
+use Rattle.std.proofs.Common.{◌≡◌, ◌↔◌, ℕ, List, Option, Some, None, Result, Ok, Err, refl, sym, ap, ◌∙◌}
 use Rattle.std.specs.Result.{result_ok}
 use Rattle.dns_data.specs.declared.data_fault.DataFault.{DataFault}
 use Rattle.dns_data.specs.declared.data_fault.DataFault.TheVariants.{TypeNotKept}
@@ -29,3 +29,11 @@ ok_some (Err f) t e = absurd cc
 pub type_same : (text : List ℕ) (r : Result RecordType DataFault) → ((t : RecordType) → (r ≡ Ok t) ↔ IsCalled t text) → result_ok r ≡ type_named text
 type_same text r h =
     same_option (result_ok r) (type_named text) (λ t e. (type_named_is text t).1 ((h t).0 (ok_some r t e))) (λ t e. ap result_ok ((h t).1 ((type_named_is text t).0 e)))
+
+-- a text that is called a type, and one that is called none
+pub type_found : (text : List ℕ) (r : Result RecordType DataFault) (t : RecordType) → ((t : RecordType) → (r ≡ Ok t) ↔ IsCalled t text) → r ≡ Ok t → type_named text ≡ Some t
+type_found text r t h e = sym (type_same text r h) ∙ ap result_ok e
+
+pub type_none : (text : List ℕ) (r : Result RecordType DataFault) (fault : DataFault) → ((t : RecordType) → (r ≡ Ok t) ↔ IsCalled t text) → r ≡ Err fault
+    → (let o : Option RecordType = None in type_named text ≡ o)
+type_none text r fault h e = sym (type_same text r h) ∙ ap result_ok e

@@ -12,8 +12,8 @@ use Rattle.zone_core.specs.declared.refusals.UpdateFault.{UpdateFault}
 use Rattle.zone_core.specs.declared.refusals.DelegationFault.{DelegationFault}
 use Rattle.zone_core.specs.declared.refusals.DelegationFault.TheVariants as delegations
 use Rattle.zone_core.specs.Faults.{update_fault_number, delegation_fault_number}
-use Rattle.office_json.specs.declared.fault.BodyFault.{BodyFault}
-use Rattle.office_json.specs.declared.fault.BodyFault.TheVariants.{NotJson, UnknownField, MissingField, BadField, Update, Delegation, NoMemory}
+use Rattle.office_json.specs.declared.body_fault.BodyFault.{BodyFault}
+use Rattle.office_json.specs.declared.body_fault.BodyFault.TheVariants.{NotJson, UnknownField, MissingField, BadField, Update, Delegation, NoMemory}
 
 -- the published number of a refusal
 abbrev pub fault_number : BodyFault → ℕ

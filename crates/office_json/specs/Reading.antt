@@ -30,8 +30,8 @@ use Rattle.zone_core.specs.declared.update.Operation.TheVariants.{Add, DeleteRrs
 use Rattle.zone_core.specs.Kinds.{prerequisite_word, operation_word}
 use Rattle.zone_core.specs.Updates.{UpdateOf, update_of}
 use Rattle.office_json.specs.declared.body.UpdateBody.{UpdateBody}
-use Rattle.office_json.specs.declared.fault.BodyFault.{BodyFault}
-use Rattle.office_json.specs.declared.fault.BodyFault.TheVariants.{NotJson, UnknownField, MissingField, BadField, Update}
+use Rattle.office_json.specs.declared.body_fault.BodyFault.{BodyFault}
+use Rattle.office_json.specs.declared.body_fault.BodyFault.TheVariants.{NotJson, UnknownField, MissingField, BadField, Update}
 use Rattle.office_json.specs.declared.field.Field.{Field}
 use Rattle.office_json.specs.declared.field.Field.TheVariants as field
 use Rattle.office_json.specs.Fields.{field_text, update_fields, needed_fields, prerequisite_fields, operation_fields, delegation_fields, server_fields}
@@ -110,12 +110,12 @@ abbrev pub one_entry : List TokenText → Result (List ItemText) BodyFault
 one_entry ts = if list_all (λ t. t.entry == 0) ts then Ok (map (λ t. t.item) ts) else Err BadField
 
 -- the data of a type that a text says
-abbrev pub data_said : RecordType → List ℕ → Result Rdata BodyFault
-data_said record_type text = of_shapes (tokens_of text) >>= one_entry >>= λ items. of_datas (data_of record_type None items)
+abbrev pub data_of_text : RecordType → List ℕ → Result Rdata BodyFault
+data_of_text record_type text = of_shapes (tokens_of text) >>= one_entry >>= λ items. of_datas (data_of record_type None items)
 
 -- data of a type
 abbrev pub data_in : RecordType → Data → Result Rdata BodyFault
-data_in record_type d = text_in field.Data d >>= λ text. data_said record_type text
+data_in record_type d = text_in field.Data d >>= λ text. data_of_text record_type text
 
 -- ---- items
 

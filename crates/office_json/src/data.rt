@@ -5,9 +5,9 @@ ghost use Rattle.std.specs.List.{list_all};
 ghost use Rattle.dns_data.specs.Rdata.{type_of};
 ghost use Rattle.office_json.specs.Faults.{Gives};
 ghost use Rattle.office_json.specs.Bodies.{SpellsData};
-ghost use Rattle.office_json.specs.Reading.{data_said};
+ghost use Rattle.office_json.specs.Reading.{data_of_text};
 
-use crate::fault::BodyFault;
+use crate::body_fault::BodyFault;
 use dns_data::{Data, Item, RecordType, read_data};
 use dns_master::{Token, tokens};
 use std::alloc::{AllocError, Global};
@@ -27,12 +27,12 @@ fn items_of<'a>(alloc: Global, tokens: &[Token<'a>]) -> Result<Vec<Item<'a>>, Al
 }
 
 /// The data of a type that a text says: the items of one entry of a master file (RFC 1035 section 5.1), with absolute names.
-pub(crate) fn data_said(
+pub(crate) fn data_of_text(
     alloc: Global,
     record_type: RecordType,
     text: &[u8],
 ) -> Result<Data, BodyFault>
-    ensures exact { Gives (λ rdata. rdata) result (data_said record_type text.now) }
+    ensures exact { Gives (λ rdata. rdata) result (data_of_text record_type text.now) }
     ensures found { IfOk result (λ rdata. SpellsData rdata text.now) }
     ensures typed { IfOk result (λ rdata. type_of rdata ≡ record_type) }
 {

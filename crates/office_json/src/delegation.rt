@@ -10,9 +10,9 @@ ghost use Rattle.office_json.specs.Reading.{RequestBody, request_in, body_with, 
 ghost use Rattle.office_json.specs.Requests.{body_of};
 
 use crate::body::UpdateBody;
-use crate::fault::BodyFault;
+use crate::body_fault::BodyFault;
 use crate::field::Field;
-use crate::reading::{read_id, read_name, read_ttl};
+use crate::field_values::{read_id, read_name, read_ttl};
 use crate::server::read_servers;
 use crate::value::{check_fields, json_of, read_items};
 use dns_names::Name;

@@ -8,9 +8,9 @@ ghost use Rattle.office_json.specs.Faults.{Gives};
 ghost use Rattle.office_json.specs.Bodies.{IsText, IsSetBody, IsDatumBody, IsRecordBody, TestsBody, ChangesBody, IsPrerequisiteBody, IsOperationBody, AreItems};
 ghost use Rattle.office_json.specs.Reading.{set_in, datum_in, record_in, test_in, change_in, prerequisite_named, operation_named, prerequisite_kind_in, operation_kind_in, prerequisite_in, operation_in, each};
 
-use crate::fault::BodyFault;
+use crate::body_fault::BodyFault;
 use crate::field::{Field, operation_fields, prerequisite_fields};
-use crate::reading::{read_name, read_rdata, read_ttl, read_type};
+use crate::field_values::{read_name, read_rdata, read_ttl, read_type};
 use crate::value::{check_fields, read_word};
 use dns_data::{Data, Record, RecordType};
 use dns_names::Name;

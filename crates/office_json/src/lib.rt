@@ -3,15 +3,15 @@
 #![tactic(auto)]
 
 mod body;
+mod body_fault;
 mod data;
 mod delegation;
-mod fault;
 mod field;
+mod field_values;
 mod item;
 mod laws;
 mod listing;
 mod piece;
-mod reading;
 mod reply;
 mod server;
 mod short;
@@ -19,8 +19,9 @@ mod update;
 mod value;
 
 pub use body::UpdateBody;
+pub use body_fault::BodyFault;
 pub use delegation::read_delegation;
-pub use fault::BodyFault;
 pub use laws::delegations_are_one;
+pub use piece::push_all;
 pub use reply::{form_error_text, refusal_text, reply_text};
 pub use update::read_update;

@@ -8,8 +8,8 @@ ghost use Rattle.office_json.specs.Appending.{Appends, comma_before};
 
 use std::alloc::AllocError;
 
-/// Appends pieces, one behind the other. It fails only where there is no room for them all.
-pub(crate) fn push_all(out: &mut Vec<u8>, pieces: &[&[u8]]) -> Result<(), AllocError>
+/// Appends pieces, one behind the other. It fails only where there is no room for them all, and then may have appended some.
+pub fn push_all(out: &mut Vec<u8>, pieces: &[&[u8]]) -> Result<(), AllocError>
     ensures text { Appends out.old out.new (flat_map (λ piece. piece.now) pieces.now) result }
     ensures full { OnErr result (vec_capacity out.old < length out.old.items + length (flat_map (λ piece. piece.now) pieces.now)) }
 {

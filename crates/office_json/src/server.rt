@@ -8,9 +8,9 @@ ghost use Rattle.office_json.specs.Bodies.{has_colon, SpellsAddress, IsAddressBo
 ghost use Rattle.office_json.specs.Delegating.{server_of};
 ghost use Rattle.office_json.specs.Reading.{ipv4_in, ipv6_in, address_of, address_in, server_in, each};
 
-use crate::fault::BodyFault;
+use crate::body_fault::BodyFault;
 use crate::field::Field;
-use crate::reading::read_name;
+use crate::field_values::read_name;
 use crate::value::{check_fields, read_items};
 use serde_json::Value;
 use std::alloc::Global;

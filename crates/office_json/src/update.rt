@@ -8,10 +8,10 @@ ghost use Rattle.office_json.specs.Bodies.{AreItems, IsPrerequisiteBody, IsOpera
 ghost use Rattle.office_json.specs.Reading.{few, lists_in, body_with, update_in, update_of_body};
 
 use crate::body::UpdateBody;
-use crate::fault::BodyFault;
+use crate::body_fault::BodyFault;
 use crate::field::Field;
+use crate::field_values::read_id;
 use crate::item::{read_operations, read_prerequisites};
-use crate::reading::read_id;
 use crate::value::{check_fields, json_of, read_items, read_items_or_none};
 use serde_json::Value;
 use std::alloc::Global;

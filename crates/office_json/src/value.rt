@@ -10,7 +10,7 @@ ghost use Rattle.office_json.specs.Faults.{Gives};
 ghost use Rattle.office_json.specs.Bodies.{json_of, at, has_only, HasOnly, IsText, IsArray, IsArrayOrAbsent};
 ghost use Rattle.office_json.specs.Reading.{or_no_json, members_in, fields_in, text_at, text_in, items_in, items_or_none, word_in};
 
-use crate::fault::BodyFault;
+use crate::body_fault::BodyFault;
 use crate::field::Field;
 use serde_json::{Map, Value};
 use std::alloc::Global;

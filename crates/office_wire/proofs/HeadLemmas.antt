@@ -13,7 +13,7 @@ use Rattle.httparse.proofs.GrammarLemmas.{request_unique, ReadsRequest-append}
 use Rattle.office_wire.specs.declared.length.Ask.{Ask}
 use Rattle.office_wire.specs.declared.length.Ask.TheVariants.{Body}
 use Rattle.office_wire.specs.Lengths.{ask_of}
-use Rattle.office_wire.specs.Heads.{WaitsUpTo}
+use Rattle.office_wire.specs.Framing.{WaitsUpTo}
 use Rattle.office_wire.specs.Exchange.{IsHead, IsUnderWay, nothing, in_head, in_body, Waits, NeverHead, AsksMore}
 
 end_long : (e : LineEnd) → 1 ≤ length (print_end e)

@@ -3,12 +3,13 @@ use Rattle.std.proofs.Common.{◌≡◌, ℕ, drop, List, [], ◌∷◌, ◌++�
 use Rattle.std.specs.List.{AllByRecursion}
 use Rattle.std.specs.Io.KnownBytes.{Appends}
 use Rattle.httparse.specs.Grammar.{print_request}
+use Rattle.dns_master.specs.Written.{IsProperPrefix}
 use Rattle.grant_policy.specs.declared.rule.Rule.{Rule}
-use Rattle.office_wire.specs.declared.exchange.Said.TheVariants.{Next}
-use Rattle.office_wire.specs.Exchange.{Turn, octets_of, turn_text, octets, texts, IsOpenTurn, Standing, Run, Exchange, Closes, whole, bad_length, bad_head, Says, next, closing, IsPart}
-use Rattle.office_wire.specs.Serving.{IsSaid, IsCurrent, IsClosed, IsBroken}
+use Rattle.office_wire.specs.declared.exchange.Progress.TheVariants.{Next}
+use Rattle.office_wire.specs.Exchange.{Turn, octets_of, turn_text, octets, texts, IsOpenTurn, Standing, Run, Exchange, Closes, whole, bad_length, bad_head, Says, next, closing}
+use Rattle.office_wire.specs.Serving.{IsProgress, IsCurrent, IsClosed, IsBroken}
 use Rattle.office_wire.proofs.HeadLemmas.{never_more}
-use Rattle.office_wire.proofs.KnownLemmas.{appends_more}
+use Rattle.std.proofs.KnownBytes.{Appends-trans}
 
 octets_join : (ts us : List Turn) → octets (ts ++ us) ≡ octets ts ++ octets us
 octets_join [] us = refl
@@ -63,7 +64,7 @@ says_more rest text more us (closing is) = closing (closes_more rest text more u
 text_join : (before mid after : Option (List ℕ)) (ts us : List Turn) (text : List ℕ) → Appends before mid (texts ts) → Appends mid after (texts us ++ text)
     → Appends before after (texts (ts ++ us) ++ text)
 text_join before mid after ts us text p q = subst (λ (l : List ℕ). Appends before after l)
-    (sym (append_assoc (texts ts) (texts us) text) ∙ ap (λ (l : List ℕ). l ++ text) (sym (texts_join ts us))) (appends_more before mid after _ _ p q)
+    (sym (append_assoc (texts ts) (texts us) text) ∙ ap (λ (l : List ℕ). l ++ text) (sym (texts_join ts us))) (Appends-trans before mid after _ _ p q)
 
 module _ (rules : List Rule) (c : Standing) where
   three : (a b e : List Turn) (m d : Standing) → Run rules c a m → Run rules m (b ++ e) d → Run rules c ((a ++ b) ++ e) d
@@ -76,7 +77,7 @@ module _ (rules : List Rule) (c : Standing) where
     p.0 ++ q.0,
     run_join rules c d e p.0 q.0 p.1 q.1,
     exchange_join stream got rest left p.0 q.0 p.2 q.2,
-    subst (λ (l : List ℕ). Appends before after l) (sym (texts_join p.0 q.0)) (appends_more before mid after _ _ p.3 q.3),
+    subst (λ (l : List ℕ). Appends before after l) (sym (texts_join p.0 q.0)) (Appends-trans before mid after _ _ p.3 q.3),
   )
 
   pub closed_join : (d e : Standing) (stream got rest : List ℕ) (before mid after : Option (List ℕ))
@@ -92,7 +93,7 @@ module _ (rules : List Rule) (c : Standing) where
   -- ---- one turn of the loop
 
   pub next_served : (d e : Standing) (n : ℕ) (stream rest pending left out text : List ℕ) (before mid after : Option (List ℕ)) → pending ≡ rest → left ≡ drop n rest → text ≡ out
-      → IsCurrent rules c stream rest before mid d → IsSaid rules d pending (Next n) out e → Appends mid after text → IsCurrent rules c stream left before after e
+      → IsCurrent rules c stream rest before mid d → IsProgress rules d pending (Next n) out e → Appends mid after text → IsCurrent rules c stream left before after e
   next_served d e n stream rest pending left out text before mid after is_rest is_left is_out p q wrote =
       let octets_are = subst (λ (l : List ℕ). l ≡ octets_of q.0 ++ drop n l) is_rest q.3 ∙ ap (λ (l : List ℕ). octets_of q.0 ++ l) (sym is_left) in
       let turn = one_turn q.0 rest left q.2 octets_are in
@@ -102,11 +103,11 @@ module _ (rules : List Rule) (c : Standing) where
         p.0 ++ q.0 ∷ [],
         run_join rules c d e p.0 (q.0 ∷ []) p.1 q.1,
         all,
-        subst (λ (l : List ℕ). Appends before after l) (ap (λ (l : List ℕ). texts p.0 ++ l) same ∙ sym (texts_join p.0 (q.0 ∷ []))) (appends_more before mid after _ _ p.3 wrote),
+        subst (λ (l : List ℕ). Appends before after l) (ap (λ (l : List ℕ). texts p.0 ++ l) same ∙ sym (texts_join p.0 (q.0 ∷ []))) (Appends-trans before mid after _ _ p.3 wrote),
       )
 
   pub next_broken : (d e : Standing) (n : ℕ) (stream rest pending out text : List ℕ) (before mid after : Option (List ℕ)) → pending ≡ rest → text ≡ out
-      → IsCurrent rules c stream rest before mid d → IsSaid rules d pending (Next n) out e → ((part : List ℕ) × IsPart part text × Appends mid after part)
+      → IsCurrent rules c stream rest before mid d → IsProgress rules d pending (Next n) out e → ((part : List ℕ) × IsProperPrefix part text × Appends mid after part)
       → IsBroken rules c stream before after e
   next_broken d e n stream rest pending out text before mid after is_rest is_out p q wrote = (
     p.0,
@@ -118,11 +119,11 @@ module _ (rules : List Rule) (c : Standing) where
     p.2,
     next q.0 _ q.2 (subst (λ (l : List ℕ). l ≡ octets_of q.0 ++ drop n l) is_rest q.3) refl (is_out ∙ q.4),
     wrote.1,
-    appends_more before mid after _ _ p.3 wrote.2,
+    Appends-trans before mid after _ _ p.3 wrote.2,
   )
 
   pub last_broken : (d e : Standing) (stream rest pending out text : List ℕ) (us : List Turn) (before mid after : Option (List ℕ)) → pending ≡ rest → text ≡ out
-      → IsCurrent rules c stream rest before mid d → Run rules d us e → Closes pending us out → ((part : List ℕ) × IsPart part text × Appends mid after part)
+      → IsCurrent rules c stream rest before mid d → Run rules d us e → Closes pending us out → ((part : List ℕ) × IsProperPrefix part text × Appends mid after part)
       → IsBroken rules c stream before after e
   last_broken d e stream rest pending out text us before mid after is_rest is_out p ran q wrote = (
     p.0,
@@ -134,7 +135,7 @@ module _ (rules : List Rule) (c : Standing) where
     p.2,
     closing (subst (λ (l : List ℕ). Closes rest us l) (sym is_out) (subst (λ (l : List ℕ). Closes l us out) is_rest q)),
     wrote.1,
-    appends_more before mid after _ _ p.3 wrote.2,
+    Appends-trans before mid after _ _ p.3 wrote.2,
   )
 
   pub last_closed : (d e : Standing) (stream rest pending out text : List ℕ) (us : List Turn) (before mid after : Option (List ℕ)) → pending ≡ rest → text ≡ out
@@ -147,5 +148,5 @@ module _ (rules : List Rule) (c : Standing) where
     run_join rules c d e p.0 us p.1 ran,
     p.2,
     subst (λ (l : List ℕ). Closes rest us l) (sym is_out) (subst (λ (l : List ℕ). Closes l us out) is_rest q),
-    appends_more before mid after _ _ p.3 wrote,
+    Appends-trans before mid after _ _ p.3 wrote,
   )

@@ -10,3 +10,4 @@ pub mod DigitLemmas
 pub mod WindowLemmas
 pub mod PartLemmas
 pub mod TextLemmas
+pub mod RouteLemmas

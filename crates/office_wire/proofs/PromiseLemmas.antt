@@ -17,7 +17,7 @@ use Rattle.office_wire.specs.declared.response.Response.{Response}
 use Rattle.office_wire.specs.declared.response.Response.TheVariants.{Replied}
 use Rattle.office_wire.specs.Requests.{call_of}
 use Rattle.office_wire.specs.Exchange.{Turn, Standing, Answers, replied, failed, refused, Run}
-use Rattle.office_wire.specs.Promises.{call_in, answer_in, calls, told, ExchangesAreRuns}
+use Rattle.office_wire.specs.Promises.{call_in, answer_in, calls, given, ExchangesAreRuns}
 
 -- calls are a run from a state to another, in which this is told
 record IsRunOf (rules : List Rule) (s : State) (cs : List Call) (ys : List Answer) (t : State) : Type 0 where
@@ -31,9 +31,9 @@ none_called : (read : Result Call RequestFault) (fault : TableFault) → call_in
 none_called (Ok call) fault = refl
 none_called (Err e) fault = refl
 
-none_told : (read : Result Call RequestFault) (fault : TableFault) → answer_in read (Replied (Servfail fault)) ≡ []
-none_told (Ok call) fault = refl
-none_told (Err e) fault = refl
+none_given : (read : Result Call RequestFault) (fault : TableFault) → answer_in read (Replied (Servfail fault)) ≡ []
+none_given (Ok call) fault = refl
+none_given (Err e) fault = refl
 
 module _ (rules : List Rule) where
   no_call : (s t : State) (cs : List Call) (ys : List Answer) → cs ≡ [] → ys ≡ [] → t ≡ s → IsRunOf rules s cs ys t
@@ -61,7 +61,7 @@ module _ (rules : List Rule) where
       refl after has
   of_turn c d read response (failed fault r stays count) =
       no_call c.state d.state (call_in read response) (answer_in read response)
-      (ap (λ (o : Response). call_in read o) r ∙ none_called read fault) (ap (λ (o : Response). answer_in read o) r ∙ none_told read fault) stays
+      (ap (λ (o : Response). call_in read o) r ∙ none_called read fault) (ap (λ (o : Response). answer_in read o) r ∙ none_given read fault) stays
   of_turn c d read response (refused fault e r stays) =
       no_call c.state d.state (call_in read response) (answer_in read response)
       (ap (λ (o : Result Call RequestFault). call_in o response) e) (ap (λ (o : Result Call RequestFault). answer_in o response) e) (ap (λ (o : Standing). o.state) stays)
@@ -87,10 +87,10 @@ module _ (rules : List Rule) where
     have = have_join xs ys p.have q.have;
   }
 
-  of_turns : (c d : Standing) (turns : List Turn) → Run rules c turns d → IsRunOf rules c.state (calls turns) (told turns) d.state
+  of_turns : (c d : Standing) (turns : List Turn) → Run rules c turns d → IsRunOf rules c.state (calls turns) (given turns) d.state
   of_turns c d [] run = no_call c.state d.state [] [] refl refl (ap (λ (o : Standing). o.state) run)
   of_turns c d (t ∷ turns) run =
-      run_join c.state run.0.state d.state (call_in (call_of t.head t.body) t.response) (calls turns) (answer_in (call_of t.head t.body) t.response) (told turns)
+      run_join c.state run.0.state d.state (call_in (call_of t.head t.body) t.response) (calls turns) (answer_in (call_of t.head t.body) t.response) (given turns)
       (of_turn c run.0 (call_of t.head t.body) t.response run.1) (of_turns run.0 d turns run.2)
 
 pub exchanges_run : ExchangesAreRuns

@@ -24,10 +24,10 @@ use Rattle.office_wire.specs.declared.request_fault.RequestFault.TheVariants as 
 use Rattle.office_wire.specs.declared.response.Response.{Response}
 use Rattle.office_wire.specs.declared.response.Response.TheVariants.{Replied}
 use Rattle.office_wire.specs.declared.head.Heading.{Heading}
-use Rattle.office_wire.specs.Heads.{IsAsked}
+use Rattle.office_wire.specs.Framing.{IsAsked}
 use Rattle.office_wire.specs.Requests.{Refuses, call_by, call_of}
 use Rattle.office_wire.specs.Serving.{standing, IsReplied}
-use Rattle.office_wire.specs.Outbox.{IsShortResponse, IsPut, servfail}
+use Rattle.office_wire.specs.ShortResponses.{IsShortResponse, IsPut, servfail}
 use Rattle.office_wire.specs.Exchange.{Standing, Answers, replied, failed, refused, refusing}
 
 -- a reply to an update is short

@@ -4,14 +4,16 @@ use Rattle.std.specs.List.{list_all}
 use Rattle.std.specs.Io.KnownBytes.{Appends, Consumes, Keeps, IsAtEnd}
 use Rattle.std.proofs.lemmas.List.{nil_from_length}
 use Rattle.httparse.specs.Grammar.{print_request}
+use Rattle.dns_master.specs.Written.{IsProperPrefix}
 use Rattle.grant_policy.specs.declared.rule.Rule.{Rule}
 use Rattle.office_wire.specs.declared.method.Method.{Method}
 use Rattle.office_wire.specs.declared.refusal.Refusal.TheVariants.{CutShort}
 use Rattle.office_wire.specs.declared.response.Response.TheVariants.{Refused}
 use Rattle.office_wire.specs.Texts.{text_of}
-use Rattle.office_wire.specs.Exchange.{Turn, Standing, Run, Waits, nothing, IsMethodAt, Ends, closed, quiet, cut, IsPart, is_line_end}
+use Rattle.office_wire.specs.Exchange.{Turn, Standing, Run, Waits, nothing, IsMethodAt, Ends, closed, quiet, cut, is_line_end}
 use Rattle.office_wire.specs.Serving.{IsCurrent, IsClosed, IsBroken, IsAnswered, IsCut, IsRead}
-use Rattle.office_wire.proofs.KnownLemmas.{appends_none, appends_more, consumes_more, consumes_kept, on_stream, on_end}
+use Rattle.std.proofs.KnownBytes.{Appends-nil, Appends-trans, Consumes-trans, Consumes-kept, Consumes-whole}
+use Rattle.office_wire.proofs.KnownLemmas.{on_stream}
 use Rattle.office_wire.proofs.TurnLemmas.{head_some}
 use Rattle.office_wire.proofs.JoinLemmas.{current_join, closed_join, broken_join, exchange_more, closes_more, says_more}
 
@@ -25,7 +27,7 @@ none_came now old got n e len none = e ∙ ap (λ (l : List ℕ). old ++ l) (nil
 pub consumed_none : (known left left' : Option (List ℕ)) (read got : List ℕ) (n : ℕ) → Consumes known left read → Consumes left left' got → length got ≡ n → n ≡ 0
     → Consumes known left' read
 consumed_none known left left' read got n p q len none =
-    subst (λ (l : List ℕ). Consumes known left' l) (ap (λ (l : List ℕ). read ++ l) (nil_from_length got (len ∙ none)) ∙ append-nil read) (consumes_more known left left' read got p q)
+    subst (λ (l : List ℕ). Consumes known left' l) (ap (λ (l : List ℕ). read ++ l) (nil_from_length got (len ∙ none)) ∙ append-nil read) (Consumes-trans known left left' read got p q)
 
 pub waits_nil : (rest : List ℕ) → length rest ≡ 0 → Waits rest
 waits_nil rest none = record {
@@ -38,7 +40,7 @@ waits_nil rest none = record {
 
 module _ (rules : List Rule) (c : Standing) where
   pub first_current : (rest : List ℕ) (a : Option (List ℕ)) → length rest ≡ 0 → IsCurrent rules c [] rest a a c
-  first_current rest a none = ([], refl, record { octets_are = sym (nil_from_length rest none); are_open = tt }, appends_none a)
+  first_current rest a none = ([], refl, record { octets_are = sym (nil_from_length rest none); are_open = tt }, Appends-nil a)
 
   -- turns that were run, and of which P holds
   abbrev pub Ran : Standing → (List Turn → Type 0) → Type 0
@@ -52,19 +54,19 @@ module _ (rules : List Rule) (c : Standing) where
       let ends : Ends rest [] said.0 = elim said.2 [ inl both ↦ quiet both.0 refl both.1 | inr both ↦ cut both.1 waits both.2 both.0 refl both.3 ] in (
         p.0,
         p.1,
-        on_end known left read (λ stream. IsAnswered p.0 stream before after) took at_end
-            (p.0, [], rest, said.0, sym (append-nil p.0), p.2, ends, appends_more before mid after _ _ p.3 said.1),
+        Consumes-whole known left read (λ stream. IsAnswered p.0 stream before after) took at_end
+            (p.0, [], rest, said.0, sym (append-nil p.0), p.2, ends, Appends-trans before mid after _ _ p.3 said.1),
       )
 
   pub ended_part : (d : Standing) (read rest : List ℕ) (known left before mid after : Option (List ℕ)) → Consumes known left read → IsAtEnd left → Waits rest
       → IsCurrent rules c read rest before mid d
-      → ((list_all is_line_end rest ≡ false) × (m : Method) × IsMethodAt rest m × (part : List ℕ) × IsPart part (text_of m (Refused CutShort) true) × Appends mid after part)
+      → ((list_all is_line_end rest ≡ false) × (m : Method) × IsMethodAt rest m × (part : List ℕ) × IsProperPrefix part (text_of m (Refused CutShort) true) × Appends mid after part)
       → Ran d (λ all. IfSome known (λ stream. IsCut all stream before after))
   ended_part d read rest known left before mid after took at_end waits p wrote = (
     p.0,
     p.1,
-    on_end known left read (λ stream. IsCut p.0 stream before after) took at_end
-        (p.0, [], rest, text_of wrote.1 (Refused CutShort) true, wrote.3, sym (append-nil p.0), p.2, inr (cut wrote.1 waits wrote.2 wrote.0 refl refl), wrote.4, appends_more before mid after _ _ p.3 wrote.5),
+    Consumes-whole known left read (λ stream. IsCut p.0 stream before after) took at_end
+        (p.0, [], rest, text_of wrote.1 (Refused CutShort) true, wrote.3, sym (append-nil p.0), p.2, inr (cut wrote.1 waits wrote.2 wrote.0 refl refl), wrote.4, Appends-trans before mid after _ _ p.3 wrote.5),
   )
 
   pub went_closed : (d e : Standing) (read got old now : List ℕ) (known left left' before mid after : Option (List ℕ)) → Consumes known left read → Consumes left left' got → now ≡ old ++ got
@@ -73,7 +75,7 @@ module _ (rules : List Rule) (c : Standing) where
       let a = closed_join rules c d e read got old before mid after p (subst (λ (l : List ℕ). IsClosed rules d l mid after e) is q) in (
         a.0 ++ a.1,
         a.4,
-        on_stream known left' (read ++ got) (λ stream. IsAnswered (a.0 ++ a.1) stream before after) (consumes_more known left left' read got took more)
+        on_stream known left' (read ++ got) (λ stream. IsAnswered (a.0 ++ a.1) stream before after) (Consumes-trans known left left' read got took more)
             (λ rest. (a.0, a.1, a.2 ++ rest, a.3, refl, exchange_more _ _ rest _ a.5, closed (closes_more _ _ rest _ a.6), a.7)),
       )
 
@@ -83,7 +85,7 @@ module _ (rules : List Rule) (c : Standing) where
       let a = broken_join rules c d e read got old before mid after p (subst (λ (l : List ℕ). IsBroken rules d l mid after e) is q) in (
         a.0 ++ a.1,
         a.5,
-        on_stream known left' (read ++ got) (λ stream. IsCut (a.0 ++ a.1) stream before after) (consumes_more known left left' read got took more)
+        on_stream known left' (read ++ got) (λ stream. IsCut (a.0 ++ a.1) stream before after) (Consumes-trans known left left' read got took more)
             (λ rest. (a.0, a.1, a.2 ++ rest, a.3, a.4, refl, exchange_more _ _ rest _ a.6, inl (says_more _ _ rest _ a.7), a.8, a.9)),
       )
 
@@ -97,7 +99,7 @@ module _ (rules : List Rule) (c : Standing) where
   went_on d e least n got old now rest known left left' before mid after more is len some p q = (
     p.0 ++ got,
     (let whole = length-append p.0 got in omega (arith, p.1)),
-    consumes_more known left left' p.0 got p.2 more,
+    Consumes-trans known left left' p.0 got p.2 more,
     current_join rules c d e p.0 got old rest before mid after p.3 (subst (λ (l : List ℕ). IsCurrent rules d l rest mid after e) is q),
   )
 
@@ -110,4 +112,4 @@ module _ (rules : List Rule) (c : Standing) where
   pub stayed_kept : (d : Standing) (least : ℕ) (rest : List ℕ) (known left left' before after : Option (List ℕ)) → Waits rest → Keeps left left' → IsAnsweredRead least known left rest before after d
       → Ran d (λ all. IsRead 0 all known left' before after)
   stayed_kept d least rest known left left' before after waits kept p =
-      (p.3.0, p.3.1, (p.0, rest, omega arith, consumes_kept known left left' p.0 p.2 kept, waits, p.3.2, p.3.3))
+      (p.3.0, p.3.1, (p.0, rest, omega arith, Consumes-kept known left left' p.0 p.2 kept, waits, p.3.2, p.3.3))

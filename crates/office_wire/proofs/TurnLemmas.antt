@@ -8,7 +8,7 @@ use Rattle.office_wire.specs.declared.length.Ask.{Ask}
 use Rattle.office_wire.specs.declared.length.Ask.TheVariants.{Body}
 use Rattle.office_wire.specs.declared.head.Heading.{Heading}
 use Rattle.office_wire.specs.declared.response.Response.{Response}
-use Rattle.office_wire.specs.Heads.{IsHeading}
+use Rattle.office_wire.specs.Framing.{IsHeading}
 use Rattle.office_wire.specs.Lengths.{ask_of}
 use Rattle.office_wire.specs.Requests.{call_of}
 use Rattle.office_wire.specs.Texts.{text_of}

@@ -159,12 +159,6 @@ pub data Says (rest : List ℕ) (last : List Turn) (text : List ℕ) : Type 0 wh
   next : (t : Turn) (more : List ℕ) → IsOpenTurn t → rest ≡ octets_of t ++ more → last ≡ t ∷ [] → text ≡ turn_text t → Says rest last text
   closing : Closes rest last text → Says rest last text
 
--- part is a beginning of text, and not the whole
-pub record IsPart (part text : List ℕ) : Type 0 where
-  pub tail : List ℕ
-  pub is : text ≡ part ++ tail
-  pub some : 0 < length tail
-
 -- a stream begins with one whole request at most
 abbrev pub FramingIsUnique : Type 0
 FramingIsUnique =

@@ -6,7 +6,7 @@ pub mod Parts
 pub mod Requests
 pub mod Texts
 pub mod Exchange
-pub mod Outbox
-pub mod Heads
+pub mod ShortResponses
+pub mod Framing
 pub mod Promises
 pub mod Serving

@@ -30,18 +30,18 @@ abbrev pub calls : List Turn → List Call
 calls turns = flat_map (λ t. call_in (call_of t.head t.body) t.response) turns
 
 -- and what was told
-abbrev pub told : List Turn → List Answer
-told turns = flat_map (λ t. answer_in (call_of t.head t.body) t.response) turns
+abbrev pub given : List Turn → List Answer
+given turns = flat_map (λ t. answer_in (call_of t.head t.body) t.response) turns
 
 -- What is promised of turns from a state to another: their calls are a run of the machine, which tells what was told and leads to the
 -- other state; what the office promises of calls holds of them; what was told is right, by what was held before each call and after it;
 -- and what it promises each caller of what others do.
 pub record ArePromised (rules : List Rule) (s : State) (turns : List Turn) (t : State) : Type 0 where
-  pub as_machine : told turns ≡ answers rules s (calls turns)
+  pub as_machine : given turns ≡ answers rules s (calls turns)
   pub after : t ≡ state_after rules s (calls turns)
   pub right : CallsAreRight rules s (calls turns)
-  pub answered : AnswersAreRight rules s (calls turns) (told turns)
-  pub alone : AreToldAlone rules s (calls turns) (told turns)
+  pub answered : AnswersAreRight rules s (calls turns) (given turns)
+  pub alone : AreToldAlone rules s (calls turns) (given turns)
 
 -- exchanges are runs of the machine
 abbrev pub ExchangesAreRuns : Type 0

@@ -13,8 +13,8 @@ use Rattle.office_core.specs.declared.request.Call.{Call}
 use Rattle.office_core.specs.declared.request.Request.{Request}
 use Rattle.office_core.specs.declared.request.Request.TheVariants as requests
 use Rattle.office_json.specs.declared.body.UpdateBody.{UpdateBody}
-use Rattle.office_json.specs.declared.fault.BodyFault.{BodyFault}
-use Rattle.office_json.specs.declared.fault.BodyFault.TheVariants as bodies
+use Rattle.office_json.specs.declared.body_fault.BodyFault.{BodyFault}
+use Rattle.office_json.specs.declared.body_fault.BodyFault.TheVariants as bodies
 use Rattle.office_json.specs.Faults.{fault_number}
 use Rattle.office_json.specs.Reading.{type_named, update_of_body, delegation_of_body}
 use Rattle.office_wire.specs.declared.method.Method.{Method}
@@ -83,20 +83,20 @@ caller_in text = or_refused NoCaller (option_and_then identifier_of text)
 -- ---- the parts of a path
 
 -- an absolute name (RFC 1035 section 5.1)
-abbrev pub name_in : ℕ → List ℕ → Result (List (List ℕ)) RequestFault
-name_in n path = of_names (absolute_name (decoded_part n path))
+abbrev pub name_in : List ℕ → Result (List (List ℕ)) RequestFault
+name_in text = of_names (absolute_name text)
 
 -- a number of 32 bits
-abbrev pub number_in : ℕ → List ℕ → Result ℕ RequestFault
-number_in n path = or_refused BadPart (number_of 4294967295 (decoded_part n path))
+abbrev pub number_in : List ℕ → Result ℕ RequestFault
+number_in text = or_refused BadPart (number_of 4294967295 text)
 
 -- a record type by its name, in either letter case
-abbrev pub type_in : ℕ → List ℕ → Result RecordType RequestFault
-type_in n path = or_refused BadPart (type_named (decoded_part n path))
+abbrev pub type_in : List ℕ → Result RecordType RequestFault
+type_in text = or_refused BadPart (type_named text)
 
 -- an action by its word
-abbrev pub action_in : ℕ → List ℕ → Result Action RequestFault
-action_in n path = or_refused BadPart (action_of (decoded_part n path))
+abbrev pub action_in : List ℕ → Result Action RequestFault
+action_in text = or_refused BadPart (action_of text)
 
 -- ---- requests
 
@@ -104,23 +104,30 @@ action_in n path = or_refused BadPart (action_of (decoded_part n path))
 abbrev pub update_in : List (List ℕ) → Result UpdateBody RequestFault → Result Request RequestFault
 update_in origin read = read >>= λ b. Ok (requests.Update origin b.id b.update)
 
--- the request of a route, by the path and the body
-abbrev pub request_by : Route → List ℕ → List ℕ → Result Request RequestFault
-request_by routes.Update path body = name_in 2 path >>= λ origin. update_in origin (of_bodies (update_of_body body))
-request_by routes.Delegate path body = name_in 2 path >>= λ origin. update_in origin (of_bodies (delegation_of_body origin body))
-request_by routes.Delegations path body = name_in 2 path >>= λ origin. Ok (requests.Delegations origin)
-request_by routes.Records path body = name_in 2 path >>= λ origin. Ok (requests.List origin)
-request_by routes.RecordsWithin path body = name_in 2 path >>= λ origin. name_in 4 path >>= λ top. Ok (requests.ListWithin origin top)
-request_by routes.File path body = name_in 2 path >>= λ origin. Ok (requests.File origin)
-request_by routes.Changes path body = name_in 2 path >>= λ origin. number_in 4 path >>= λ from. Ok (requests.Changes origin from)
-request_by routes.Rights path body =
-    name_in 2 path >>= λ name. type_in 3 path >>= λ record_type. action_in 4 path >>= λ action. Ok (requests.Rights name record_type action)
+-- the zone of a path
+abbrev pub zone_in : (List ℕ → List ℕ) → Result (List (List ℕ)) RequestFault
+zone_in parts = name_in (parts (codes "{zone}"))
+
+-- the request of a route, by the parts of the path, which have the names of the route's row, and the body
+abbrev pub request_by : Route → (List ℕ → List ℕ) → List ℕ → Result Request RequestFault
+request_by routes.Update parts body = zone_in parts >>= λ origin. update_in origin (of_bodies (update_of_body body))
+request_by routes.Delegate parts body = zone_in parts >>= λ origin. update_in origin (of_bodies (delegation_of_body origin body))
+request_by routes.Delegations parts body = zone_in parts >>= λ origin. Ok (requests.Delegations origin)
+request_by routes.Records parts body = zone_in parts >>= λ origin. Ok (requests.List origin)
+request_by routes.RecordsWithin parts body =
+    zone_in parts >>= λ origin. name_in (parts (codes "{name}")) >>= λ top. Ok (requests.ListWithin origin top)
+request_by routes.File parts body = zone_in parts >>= λ origin. Ok (requests.File origin)
+request_by routes.Changes parts body =
+    zone_in parts >>= λ origin. number_in (parts (codes "{from}")) >>= λ from. Ok (requests.Changes origin from)
+request_by routes.Rights parts body =
+    name_in (parts (codes "{name}")) >>= λ name. type_in (parts (codes "{type}")) >>= λ record_type.
+    action_in (parts (codes "{action}")) >>= λ action. Ok (requests.Rights name record_type action)
 
 -- the call that a caller's text, a method, a target and a body are, or the refusal that comes first
 unfoldable pub call_by : Option (List ℕ) → Method → List ℕ → List ℕ → Result Call RequestFault
 call_by text method target body =
-    caller_in text >>= λ caller. or_refused NoRoute (route_of method target) >>= λ route.
-    request_by route target body >>= λ request. Ok (record { caller = caller; request = request })
+    caller_in text >>= λ caller. or_refused NoRoute (route_of method target) >>= λ row.
+    request_by row.0 (decoded_part row.1 target) body >>= λ request. Ok (record { caller = caller; request = request })
 
 -- the same of a head and a body
 unfoldable pub call_of : RequestHead → List ℕ → Result Call RequestFault

@@ -3,6 +3,7 @@ use Rattle.std.specs.Prelude.{◌≡◌, ℕ, ◌+◌, ◌-◌, ◌^◌, ◌<◌
 use Rattle.std.specs.List.{list_all}
 use Rattle.std.specs.Io.KnownBytes.{Appends, Consumes}
 use Rattle.dns_master.specs.declared.device.DeviceFailed.{DeviceFailed}
+use Rattle.dns_master.specs.Written.{IsProperPrefix}
 use Rattle.grant_policy.specs.declared.rule.Rule.{Rule}
 use Rattle.office_core.specs.declared.request.Call.{Call}
 use Rattle.office_core.specs.States.{State}
@@ -11,13 +12,13 @@ use Rattle.office_wire.specs.declared.refusal.Refusal.TheVariants.{CutShort}
 use Rattle.office_wire.specs.declared.request_fault.RequestFault.{RequestFault}
 use Rattle.office_wire.specs.declared.response.Response.{Response}
 use Rattle.office_wire.specs.declared.response.Response.TheVariants.{Refused}
-use Rattle.office_wire.specs.declared.exchange.Said.{Said}
-use Rattle.office_wire.specs.declared.exchange.Said.TheVariants.{Nothing, Next, Last}
-use Rattle.office_wire.specs.declared.fault.ServeFault.{ServeFault}
-use Rattle.office_wire.specs.declared.fault.ServeFault.TheVariants.{ReadFailed, WriteFailed, StreamTooLong, NoMemory}
+use Rattle.office_wire.specs.declared.exchange.Progress.{Progress}
+use Rattle.office_wire.specs.declared.exchange.Progress.TheVariants.{Waiting, Next, Last}
+use Rattle.office_wire.specs.declared.serve_fault.ServeFault.{ServeFault}
+use Rattle.office_wire.specs.declared.serve_fault.ServeFault.TheVariants.{ReadFailed, WriteFailed, StreamTooLong, NoMemory}
 use Rattle.office_wire.specs.Texts.{text_of}
-use Rattle.office_wire.specs.Heads.{WaitsUpTo}
-use Rattle.office_wire.specs.Exchange.{Turn, octets_of, turn_text, texts, IsOpenTurn, Standing, Answers, Run, Exchange, Waits, IsMethodAt, Closes, Ends, Says, IsPart, is_line_end}
+use Rattle.office_wire.specs.Framing.{WaitsUpTo}
+use Rattle.office_wire.specs.Exchange.{Turn, octets_of, turn_text, texts, IsOpenTurn, Standing, Answers, Run, Exchange, Waits, IsMethodAt, Closes, Ends, Says, is_line_end}
 
 -- how a table stands
 abbrev pub standing : State → ℕ → Standing
@@ -35,7 +36,7 @@ IsAnswered all stream before after =
 abbrev pub IsCut : List Turn → List ℕ → Option (List ℕ) → Option (List ℕ) → Type 0
 IsCut all stream before after =
     (turns last : List Turn) × (rest text part : List ℕ) × (all ≡ turns ++ last) × Exchange stream turns rest
-    × (Says rest last text ⊎ Ends rest last text) × IsPart part text × Appends before after (texts turns ++ part)
+    × (Says rest last text ⊎ Ends rest last text) × IsProperPrefix part text × Appends before after (texts turns ++ part)
 
 -- of at least so many octets that were read all whole requests were answered, all of the responses went out, and what is left is no
 -- request yet
@@ -69,15 +70,15 @@ pub record IsReplied (rules : List Rule) (c : Standing) (read : Result Call Requ
   pub text_is : text ≡ text_of method response closing
 
 -- this was answered to what stands at the front, in this text, and how the table stands behind it
-abbrev pub IsSaid : List Rule → Standing → List ℕ → Said → List ℕ → Standing → Type 0
-IsSaid rules c pending (Nothing n) text d = d ≡ c
-IsSaid rules c pending (Next n) text d =
+abbrev pub IsProgress : List Rule → Standing → List ℕ → Progress → List ℕ → Standing → Type 0
+IsProgress rules c pending (Waiting n) text d = d ≡ c
+IsProgress rules c pending (Next n) text d =
     (t : Turn) × Run rules c (t ∷ []) d × IsOpenTurn t × (pending ≡ octets_of t ++ drop n pending) × (text ≡ turn_text t)
-IsSaid rules c pending Last text d = (last : List Turn) × Run rules c last d × Closes pending last text
+IsProgress rules c pending Last text d = (last : List Turn) × Run rules c last d × Closes pending last text
 
 -- what that says of the octets alone
-abbrev pub Stands : List ℕ → Said → Type 0
-Stands pending (Nothing n) = Waits pending × (length pending < 81920) × WaitsUpTo pending n × (n ≤ 81920)
+abbrev pub Stands : List ℕ → Progress → Type 0
+Stands pending (Waiting n) = Waits pending × (length pending < 81920) × WaitsUpTo pending n × (n ≤ 81920)
 Stands pending (Next n) = (0 < n) × (n ≤ length pending)
 Stands pending Last = ⊤
 
@@ -104,7 +105,7 @@ IsClosed rules c stream before after d =
 abbrev pub IsBroken : List Rule → Standing → List ℕ → Option (List ℕ) → Option (List ℕ) → Standing → Type 0
 IsBroken rules c stream before after d =
     (turns last : List Turn) × (rest text part : List ℕ) × Run rules c (turns ++ last) d × Exchange stream turns rest × Says rest last text
-    × IsPart part text × Appends before after (texts turns ++ part)
+    × IsProperPrefix part text × Appends before after (texts turns ++ part)
 
 -- what had come was served so
 abbrev pub IsServed : List Rule → Standing → List ℕ → Result Bool DeviceFailed → List ℕ → Option (List ℕ) → Option (List ℕ) → Standing → Type 0
@@ -117,4 +118,4 @@ abbrev pub Finishes : List ℕ → Result (Unit {0}) DeviceFailed → Option (Li
 Finishes rest (Ok u) before after =
     (text : List ℕ) × Appends before after text × (((list_all is_line_end rest ≡ true) × (text ≡ [])) ⊎ ((list_all is_line_end rest ≡ false) × (m : Method) × IsMethodAt rest m × (text ≡ text_of m (Refused CutShort) true)))
 Finishes rest (Err e) before after =
-    (list_all is_line_end rest ≡ false) × (m : Method) × IsMethodAt rest m × (part : List ℕ) × IsPart part (text_of m (Refused CutShort) true) × Appends before after part
+    (list_all is_line_end rest ≡ false) × (m : Method) × IsMethodAt rest m × (part : List ℕ) × IsProperPrefix part (text_of m (Refused CutShort) true) × Appends before after part

@@ -1,33 +1,32 @@
 //! Answering requests, one after the other.
 
-ghost use Rattle.std.specs.Prelude.{◌≡◌, ◌≤◌, ◌+◌, ◌++◌, ℕ, List, length, IsUtf8, OnOk, OnErr};
-ghost use Rattle.std.specs.Io.KnownBytes.{Appends};
+ghost use Rattle.std.specs.Prelude.{◌≡◌, ◌+◌, length, IsUtf8, OnOk, OnErr};
 ghost use Rattle.httparse.specs.Grammar.{RequestHead};
 ghost use Rattle.office_core.specs.States.{State};
-ghost use Rattle.office_wire.specs.Exchange.{Answers, IsPart};
-ghost use Rattle.office_wire.specs.Heads.{IsAsked};
+ghost use Rattle.office_wire.specs.Exchange.{Answers};
+ghost use Rattle.office_wire.specs.Framing.{IsAsked};
 ghost use Rattle.office_wire.specs.Requests.{call_of};
-ghost use Rattle.office_wire.specs.Serving.{standing, IsReplied, IsSaid, Stands, IsIdle, IsServed};
+ghost use Rattle.office_wire.specs.Serving.{standing, IsReplied, IsProgress, Stands, IsIdle, IsServed};
 
-use crate::front::{Front, front_of};
+use crate::framing::{Framing, framing_of};
 use crate::head::Heading;
-use crate::inbox::Inbox;
 use crate::method::Method;
-use crate::outbox::Outbox;
 use crate::refusal::Refusal;
 use crate::request::read_call;
+use crate::request_buffer::RequestBuffer;
 use crate::response::Response;
+use crate::response_buffer::ResponseBuffer;
 use crate::route::Routes;
-use dns_master::{DeviceFailed, Sink};
+use dns_master::{DeviceFailed, Sink, write_all};
 use grant_policy::Policy;
 use httparse::spans::HeaderSpan;
 use office_core::{ZoneTable, step};
 use std::alloc::Global;
 
 /// What was answered to the octets that have come.
-pub(crate) enum Said {
+pub(crate) enum Progress {
     /// Nothing: no request stands whole among them, nor before there are so many.
-    Nothing(usize),
+    Waiting(usize),
     /// A request of so many octets, and the next may follow.
     Next(usize),
     /// The last response.
@@ -63,10 +62,10 @@ impl<'a> Service<'a> {
         table: &mut T,
         heading: &Heading<'_>,
         body: &[u8],
-        out: &mut Outbox,
+        out: &mut ResponseBuffer,
     )
         requires { IsUtf8 heading.now.target.now }
-        ensures said { T.is_honest table.new → (s : State) → T.holds table.old s → (h : RequestHead) → IsAsked heading.now h → (t : State) × T.holds table.new t × IsReplied self.now.policy.now (standing s (T.failures table.old)) (call_of h body.now) heading.now.method heading.now.closes out.new (standing t (T.failures table.new)) }
+        ensures answered { T.is_honest table.new → (s : State) → T.holds table.old s → (h : RequestHead) → IsAsked heading.now h → (t : State) × T.holds table.new t × IsReplied self.now.policy.now (standing s (T.failures table.old)) (call_of h body.now) heading.now.method heading.now.closes out.new (standing t (T.failures table.new)) }
         ensures honest { T.is_honest table.new → T.is_honest table.old }
     {
         let response = self.respond(table, heading, body);
@@ -79,30 +78,30 @@ impl<'a> Service<'a> {
         pending: &[u8],
         spans: &mut [HeaderSpan],
         table: &mut T,
-        out: &mut Outbox,
-    ) -> Said
+        out: &mut ResponseBuffer,
+    ) -> Progress
         requires { length spans.old ≡ 5462 }
         ensures stands { Stands pending.now result }
-        ensures said { T.is_honest table.new → (s : State) → T.holds table.old s → (t : State) × T.holds table.new t × IsSaid self.now.policy.now (standing s (T.failures table.old)) pending.now result out.new (standing t (T.failures table.new)) }
+        ensures answered { T.is_honest table.new → (s : State) → T.holds table.old s → (t : State) × T.holds table.new t × IsProgress self.now.policy.now (standing s (T.failures table.old)) pending.now result out.new (standing t (T.failures table.new)) }
         ensures honest { T.is_honest table.new → T.is_honest table.old }
     {
-        match front_of(pending, spans) {
-            Front::Waiting(n) => Said::Nothing(n),
-            Front::Bad => {
+        match framing_of(pending, spans) {
+            Framing::Waiting(n) => Progress::Waiting(n),
+            Framing::Bad => {
                 out.put_short(Method::Other, &Response::Refused(Refusal::BadHead), true);
-                Said::Last
+                Progress::Last
             }
-            Front::Refused(method, refusal) => {
+            Framing::Refused(method, refusal) => {
                 out.put_short(method, &Response::Refused(refusal), true);
-                Said::Last
+                Progress::Last
             }
-            Front::Ready(heading, n) => {
+            Framing::Ready(heading, n) => {
                 let end = heading.len + n;
                 self.reply(table, &heading, &pending[heading.len..end], out);
                 if heading.closes {
-                    Said::Last
+                    Progress::Last
                 } else {
-                    Said::Next(end)
+                    Progress::Next(end)
                 }
             }
         }
@@ -112,51 +111,37 @@ impl<'a> Service<'a> {
     /// the responses.
     pub(crate) fn answer_all<W: Sink, T: ZoneTable>(
         &self,
-        inbox: &mut Inbox,
+        buffer: &mut RequestBuffer,
         spans: &mut [HeaderSpan],
         writer: &mut W,
         table: &mut T,
-        out: &mut Outbox,
+        out: &mut ResponseBuffer,
     ) -> Result<bool, DeviceFailed>
         requires { length spans.old ≡ 5462 }
-        ensures idle { IsIdle result inbox.new }
-        ensures served { T.is_honest table.new → (s : State) → T.holds table.old s → (t : State) × T.holds table.new t × IsServed self.now.policy.now (standing s (T.failures table.old)) inbox.old result inbox.new (W.contents writer.old) (W.contents writer.new) (standing t (T.failures table.new)) }
+        ensures idle { IsIdle result buffer.new }
+        ensures served { T.is_honest table.new → (s : State) → T.holds table.old s → (t : State) × T.holds table.new t × IsServed self.now.policy.now (standing s (T.failures table.old)) buffer.old result buffer.new (W.contents writer.old) (W.contents writer.new) (standing t (T.failures table.new)) }
         ensures honest { T.is_honest table.new → T.is_honest table.old }
         ensures same { OnOk result (W.failures writer.new ≡ W.failures writer.old) }
         ensures rose { OnErr result (W.failures writer.new ≡ W.failures writer.old + 1) }
     {
-        if inbox.is_awaiting() {
+        if buffer.is_awaiting() {
             return Ok(false);
         }
         'turns: loop {
-            match self.answer(inbox.as_slice(), spans, table, out) {
-                Said::Nothing(n) => {
-                    inbox.await_octets(n);
+            match self.answer(buffer.as_slice(), spans, table, out) {
+                Progress::Waiting(n) => {
+                    buffer.await_octets(n);
                     return Ok(false);
                 }
-                Said::Next(n) => {
-                    write_whole(writer, out.as_slice())?;
-                    inbox.drop_front(n);
+                Progress::Next(n) => {
+                    write_all(writer, out.as_slice())?;
+                    buffer.consume(n);
                 }
-                Said::Last => {
-                    write_whole(writer, out.as_slice())?;
+                Progress::Last => {
+                    write_all(writer, out.as_slice())?;
                     return Ok(true);
                 }
             }
         }
     }
-}
-
-/// Writes all of a text, or, where the writer fails, a beginning of it.
-pub(crate) fn write_whole<W: Sink>(writer: &mut W, text: &[u8]) -> Result<(), DeviceFailed>
-    ensures ok { OnOk result (Appends (W.contents writer.old) (W.contents writer.new) text.now) }
-    ensures err { OnErr result ((part : List ℕ) × IsPart part text.now × Appends (W.contents writer.old) (W.contents writer.new) part) }
-    ensures same { OnOk result (W.failures writer.new ≡ W.failures writer.old) }
-    ensures rose { OnErr result (W.failures writer.new ≡ W.failures writer.old + 1) }
-{
-    let mut at = 0;
-    while at < text.len() {
-        at += writer.write_some(&text[at..])?;
-    }
-    Ok(())
 }

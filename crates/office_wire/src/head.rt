@@ -1,7 +1,7 @@
 //! The head of a request.
 
 ghost use Rattle.std.specs.Prelude.{◌≡◌, ◌≤◌, length};
-ghost use Rattle.office_wire.specs.Heads.{ReadsHead};
+ghost use Rattle.office_wire.specs.Framing.{ReadsHead};
 
 use crate::field::{closes, only_value};
 use crate::length::{Ask, asked};

@@ -3,25 +3,25 @@
 
 mod digits;
 mod exchange;
-mod fault;
 mod field;
-mod front;
+mod framing;
 mod head;
-mod inbox;
 mod laws;
 mod length;
 mod method;
-mod outbox;
 mod part;
 mod refusal;
 mod request;
+mod request_buffer;
 mod request_fault;
 mod response;
+mod response_buffer;
 mod route;
+mod serve_fault;
 mod serving;
 mod status;
 
-pub use fault::ServeFault;
 pub use laws::{exchanges_are_runs, framing_is_unique};
 pub use refusal::Refusal;
+pub use serve_fault::ServeFault;
 pub use serving::serve;

@@ -2,7 +2,7 @@
 
 ghost use Rattle.std.specs.Prelude.{◌≡◌, ◌==◌, IfOk};
 ghost use Rattle.std.specs.List.{position};
-ghost use Rattle.office_wire.specs.Parts.{front, behind, part, decoded_part};
+ghost use Rattle.office_wire.specs.Parts.{before_slash, behind_slash, part, decoded_part};
 
 use percent_encoding::percent_decode;
 use std::alloc::{AllocError, Global};
@@ -16,7 +16,7 @@ fn slash_in(text: &[u8]) -> Option<usize>
 
 /// What stands before the first slash of a text.
 fn before_slash(text: &[u8]) -> &[u8]
-    ensures { result.now ≡ front text.now }
+    ensures { result.now ≡ before_slash text.now }
 {
     match slash_in(text) {
         Some(at) => &text[..at],
@@ -26,7 +26,7 @@ fn before_slash(text: &[u8]) -> &[u8]
 
 /// What stands behind it.
 fn behind_slash(text: &[u8]) -> &[u8]
-    ensures { result.now ≡ behind text.now }
+    ensures { result.now ≡ behind_slash text.now }
 {
     match slash_in(text) {
         Some(at) => &text[at + 1..],
@@ -34,24 +34,38 @@ fn behind_slash(text: &[u8]) -> &[u8]
     }
 }
 
-/// The part of this number, from 0.
-fn part_of(path: &[u8], number: usize) -> &[u8]
-    ensures { result.now ≡ part number path.now }
-{
-    let mut rest = path;
-    let mut left = number;
-    while left > 0 {
-        rest = behind_slash(rest);
-        left -= 1;
-    }
-    before_slash(rest)
+/// A path, and the path of its route, in which the parts have names.
+#[derive(Clone, Copy)]
+pub(crate) struct Parts<'a> {
+    pub(crate) route: &'a [u8],
+    pub(crate) path: &'a [u8],
 }
 
-/// The part of this number, from 0, with its escapes read (RFC 3986 section 2.1). The only error is want of memory.
-pub(crate) fn decoded_part(alloc: Global, path: &[u8], number: usize) -> Result<Vec<u8>, AllocError>
-    ensures { IfOk result (λ part. part.items ≡ decoded_part number path.now) }
-{
-    let mut part = Vec::new(alloc);
-    percent_decode(part_of(path, number)).append_to(&mut part)?;
-    Ok(part)
+impl<'a> Parts<'a> {
+    /// The part of this name, in braces as in the route's path.
+    fn get(&self, name: &[u8]) -> &'a [u8]
+        ensures { result.now ≡ part self.now.route.now self.now.path.now name.now }
+    {
+        let mut route = self.route;
+        let mut path = self.path;
+        while let [octet, rest @ ..] = route {
+            if *octet == b'/' {
+                path = behind_slash(path);
+                if before_slash(rest) == name {
+                    return before_slash(path);
+                }
+            }
+            route = rest;
+        }
+        &[]
+    }
+
+    /// The same with its escapes decoded (RFC 3986 section 2.1). The only error is want of memory.
+    pub(crate) fn decoded(&self, alloc: Global, name: &str) -> Result<Vec<u8>, AllocError>
+        ensures { IfOk result (λ octets. octets.items ≡ decoded_part self.now.route.now self.now.path.now name.now) }
+    {
+        let mut octets = Vec::new(alloc);
+        percent_decode(self.get(name.as_bytes())).append_to(&mut octets)?;
+        Ok(octets)
+    }
 }

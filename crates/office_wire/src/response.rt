@@ -4,7 +4,7 @@ ghost use Rattle.std.specs.Prelude.{◌≡◌, ◌≤◌, ◌+◌, ◌++◌, len
 ghost use Rattle.std.specs.Vec.{vec_capacity};
 ghost use Rattle.office_wire.specs.Exchange.{refusing};
 ghost use Rattle.office_wire.specs.Texts.{phrase_of, status_of, type_of, reply_type, response_body};
-ghost use Rattle.office_wire.specs.Outbox.{IsShortResponse};
+ghost use Rattle.office_wire.specs.ShortResponses.{IsShortResponse};
 
 use crate::refusal::Refusal;
 use crate::request_fault::RequestFault;

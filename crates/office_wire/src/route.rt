@@ -1,7 +1,8 @@
-//! Which request a method and a target are.
+//! Which request a method and a target are: a new route is a row here, and what `request` reads for it.
 
-ghost use Rattle.std.specs.Prelude.{◌≡◌, IsUtf8, IfOk};
-ghost use Rattle.office_wire.specs.Routes.{post_rows, get_rows, found_in, route_of};
+ghost use Rattle.std.specs.Prelude.{◌≡◌, IsUtf8, IfOk, map, option_map};
+ghost use Rattle.office_wire.specs.declared.method.Method.TheVariants.{Get, Post};
+ghost use Rattle.office_wire.specs.Routes.{RouteRow, routes, router_by, router_of, row_in, route_of};
 
 use crate::method::Method;
 use matchit::{InsertError, Router};
@@ -29,45 +30,74 @@ pub(crate) enum Route {
     Rights,
 }
 
-/// The routes.
+/// The routes: a method, a path with the names of its parts in braces, and what is asked.
+pub(crate) static ROUTES: [(Method, &str, Route); 8] = [
+    (Method::Post, "/zones/{zone}/updates", Route::Update),
+    (Method::Post, "/zones/{zone}/delegations", Route::Delegate),
+    (Method::Get, "/zones/{zone}/delegations", Route::Delegations),
+    (Method::Get, "/zones/{zone}/records", Route::Records),
+    (
+        Method::Get,
+        "/zones/{zone}/records/{name}",
+        Route::RecordsWithin,
+    ),
+    (Method::Get, "/zones/{zone}/file", Route::File),
+    (Method::Get, "/zones/{zone}/changes/{from}", Route::Changes),
+    (Method::Get, "/rights/{name}/{type}/{action}", Route::Rights),
+];
+
+/// A route that was found: what is asked, and the path of its row.
+#[derive(Clone, Copy)]
+pub(crate) struct Found {
+    pub(crate) route: Route,
+    pub(crate) path: &'static str,
+}
+
+/// The numbers of the rows of each method.
 #[derive(Drop)]
 pub(crate) struct Routes {
-    posts: Router<Route>,
-    gets: Router<Route>,
-    ghost posts_are: { posts ≡ post_rows },
-    ghost gets_are: { gets ≡ get_rows },
+    posts: Router<usize>,
+    gets: Router<usize>,
+    ghost posts_are: { posts ≡ router_of Post },
+    ghost gets_are: { gets ≡ router_of Get },
 }
 
-/// The routes of POST.
-fn post_routes(alloc: Global) -> Result<Router<Route>, InsertError>
-    ensures { IfOk result (λ router. router ≡ post_rows) }
+/// The routes, as a slice.
+fn all_routes() -> &'static [(Method, &'static str, Route)]
+    ensures { map (λ r. record { method = r.0; path = r.1.now; route = r.2 }) result.now ≡ routes }
+{
+    &ROUTES
+}
+
+/// The numbers of the rows of a method.
+fn router_of(
+    alloc: Global,
+    method: Method,
+    table: &[(Method, &'static str, Route)],
+) -> Result<Router<usize>, InsertError>
+    ensures { IfOk result (λ router. router ≡ router_by method (map (λ r. record { method = r.0; path = r.1.now; route = r.2 }) table.now)) }
 {
     let mut router = Router::new(alloc);
-    router.insert("/zones/{zone}/updates", Route::Update)?;
-    router.insert("/zones/{zone}/delegations", Route::Delegate)?;
+    for (number, row) in table.iter().enumerate() {
+        if row.0 == method {
+            router.insert(row.1, number)?;
+        }
+    }
     Ok(router)
 }
 
-/// The routes of GET.
-fn get_routes(alloc: Global) -> Result<Router<Route>, InsertError>
-    ensures { IfOk result (λ router. router ≡ get_rows) }
-{
-    let mut router = Router::new(alloc);
-    router.insert("/zones/{zone}/delegations", Route::Delegations)?;
-    router.insert("/zones/{zone}/records", Route::Records)?;
-    router.insert("/zones/{zone}/records/{name}", Route::RecordsWithin)?;
-    router.insert("/zones/{zone}/file", Route::File)?;
-    router.insert("/zones/{zone}/changes/{from}", Route::Changes)?;
-    router.insert("/rights/{name}/{type}/{action}", Route::Rights)?;
-    Ok(router)
-}
-
-/// The route of a path.
-fn found_in(router: &Router<Route>, path: &str) -> Option<Route>
-    ensures { result ≡ found_in router.now path.now }
+/// The row of a path.
+fn row_in(router: &Router<usize>, path: &str) -> Option<Found>
+    ensures { option_map (λ r. (r.route, r.path.now)) result ≡ row_in router.now path.now }
 {
     match router.at(path) {
-        Ok(found) => Some(*found.value),
+        Ok(found) => match all_routes().get(*found.value) {
+            Some(row) => Some(Found {
+                route: row.2,
+                path: row.1,
+            }),
+            None => None,
+        },
         Err(_) => None,
     }
 }
@@ -76,15 +106,15 @@ impl Routes {
     /// All of them. The only error is want of memory.
     pub(crate) fn new(alloc: Global) -> Result<Routes, InsertError> {
         Ok(Routes {
-            posts: post_routes(alloc)?,
-            gets: get_routes(alloc)?,
+            posts: router_of(alloc, Method::Post, all_routes())?,
+            gets: router_of(alloc, Method::Get, all_routes())?,
         })
     }
 
     /// The route of a target, by the method.
-    pub(crate) fn find(&self, method: Method, target: &[u8]) -> Option<Route>
+    pub(crate) fn find(&self, method: Method, target: &[u8]) -> Option<Found>
         requires { IsUtf8 target.now }
-        ensures { result ≡ route_of method target.now }
+        ensures { option_map (λ r. (r.route, r.path.now)) result ≡ route_of method target.now }
     {
         if target.contains(&b'?') {
             return None;
@@ -93,8 +123,8 @@ impl Routes {
             unreachable!()
         };
         match method {
-            Method::Post => found_in(&self.posts, path),
-            Method::Get => found_in(&self.gets, path),
+            Method::Post => row_in(&self.posts, path),
+            Method::Get => row_in(&self.gets, path),
             Method::Head | Method::Other => None,
         }
     }

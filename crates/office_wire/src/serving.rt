@@ -7,16 +7,16 @@ ghost use Rattle.office_wire.specs.Exchange.{Turn, Run, Waits, is_line_end};
 ghost use Rattle.office_wire.specs.Promises.{ArePromised};
 ghost use Rattle.office_wire.specs.Serving.{standing, IsDone, CountsServed, Finishes};
 
-use crate::exchange::{Service, write_whole};
-use crate::fault::ServeFault;
-use crate::front::method_at;
+use crate::exchange::Service;
+use crate::framing::method_at;
 use crate::head::SPANS;
-use crate::inbox::Inbox;
-use crate::outbox::Outbox;
 use crate::refusal::Refusal;
+use crate::request_buffer::RequestBuffer;
 use crate::response::Response;
+use crate::response_buffer::ResponseBuffer;
 use crate::route::Routes;
-use dns_master::{DeviceFailed, Sink, Source};
+use crate::serve_fault::ServeFault;
+use dns_master::{DeviceFailed, Sink, Source, write_all};
 use grant_policy::Policy;
 use httparse::spans::{EMPTY_HEADER_SPAN, HeaderSpan};
 use office_core::ZoneTable;
@@ -34,7 +34,7 @@ fn finish<W: Sink>(
     rest: &[u8],
     spans: &mut [HeaderSpan],
     writer: &mut W,
-    out: &mut Outbox,
+    out: &mut ResponseBuffer,
 ) -> Result<(), DeviceFailed>
     requires spans { length spans.old ≡ 5462 }
     requires waits { Waits rest.now }
@@ -47,37 +47,37 @@ fn finish<W: Sink>(
     }
     let method = method_at(rest, spans);
     out.put_short(method, &Response::Refused(Refusal::CutShort), true);
-    write_whole(writer, out.as_slice())
+    write_all(writer, out.as_slice())
 }
 
 /// Answers each request of a stream, in the rooms that were made for it.
 fn serve_in<R: Source, W: Sink, T: ZoneTable>(
     service: &Service<'_>,
-    inbox: &mut Inbox,
+    buffer: &mut RequestBuffer,
     spans: &mut [HeaderSpan],
-    out: &mut Outbox,
+    out: &mut ResponseBuffer,
     reader: &mut R,
     writer: &mut W,
     table: &mut T,
 ) -> Result<(), ServeFault>
-    requires empty { length inbox.old ≡ 0 }
+    requires empty { length buffer.old ≡ 0 }
     requires spans { length spans.old ≡ 5462 }
     ensures run { T.is_honest table.new → (s : State) → T.holds table.old s → (turns : List Turn) × (t : State) × T.holds table.new t × Run service.now.policy.now (standing s (T.failures table.old)) turns (standing t (T.failures table.new)) × IsDone turns result (R.remaining reader.old) (R.remaining reader.new) (W.contents writer.old) (W.contents writer.new) }
     ensures honest { T.is_honest table.new → T.is_honest table.old }
     ensures devices { CountsServed result (R.failures reader.old) (R.failures reader.new) (W.failures writer.old) (W.failures writer.new) }
 {
     'reads: for _ in 0..u64::MAX {
-        let got = match inbox.fill(reader) {
+        let got = match buffer.fill(reader) {
             Err(_) => return Err(ServeFault::ReadFailed),
             Ok(got) => got,
         };
         if got == 0 {
-            match finish(inbox.as_slice(), spans, writer, out) {
+            match finish(buffer.as_slice(), spans, writer, out) {
                 Err(_) => return Err(ServeFault::WriteFailed),
                 Ok(()) => return Ok(()),
             }
         }
-        match service.answer_all(inbox, spans, writer, table, out) {
+        match service.answer_all(buffer, spans, writer, table, out) {
             Err(_) => return Err(ServeFault::WriteFailed),
             Ok(true) => return Ok(()),
             Ok(false) => {}
@@ -114,10 +114,10 @@ pub fn serve<R: Source, W: Sink, T: ZoneTable>(
     let Ok(routes) = Routes::new(alloc) else {
         return Err(ServeFault::NoMemory);
     };
-    let Ok(mut inbox) = Inbox::new(alloc) else {
+    let Ok(mut buffer) = RequestBuffer::new(alloc) else {
         return Err(ServeFault::NoMemory);
     };
-    let Ok(mut out) = Outbox::new(alloc) else {
+    let Ok(mut out) = ResponseBuffer::new(alloc) else {
         return Err(ServeFault::NoMemory);
     };
     let service = Service {
@@ -127,6 +127,12 @@ pub fn serve<R: Source, W: Sink, T: ZoneTable>(
     };
     let mut spans = [EMPTY_HEADER_SPAN; SPANS];
     serve_in(
-        &service, &mut inbox, &mut spans, &mut out, reader, writer, table,
+        &service,
+        &mut buffer,
+        &mut spans,
+        &mut out,
+        reader,
+        writer,
+        table,
     )
 }

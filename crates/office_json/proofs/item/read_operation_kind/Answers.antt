@@ -1,7 +1,7 @@
 use Rattle.std.proofs.Common.{ℕ, List, sym, ap, subst, ◌∙◌}
 use Rattle.serde_json.specs.View.{view}
 use Rattle.zone_core.specs.Kinds.{operation_word}
-use Rattle.office_json.specs.declared.fault.BodyFault.TheVariants.{BadField}
+use Rattle.office_json.specs.declared.body_fault.BodyFault.TheVariants.{BadField}
 use Rattle.office_json.specs.declared.field.Field.TheVariants.{Op}
 use Rattle.office_json.specs.Bodies.{IsText}
 use Rattle.office_json.specs.Reading.{operation_named}

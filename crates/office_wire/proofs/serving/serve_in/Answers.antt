@@ -1,7 +1,7 @@
 use Rattle.std.proofs.Common.{◌∙◌, ℕ, List, [], refl, sym, subst, arith, rules}
 use Rattle.office_wire.specs.Exchange.{Waits}
 use Rattle.office_wire.specs.Serving.{standing, IsCurrent}
-use Rattle.office_wire.proofs.KnownLemmas.{consumes_none}
+use Rattle.std.proofs.KnownBytes.{Consumes-nil}
 use Rattle.office_wire.proofs.ServingLemmas.{none_came, consumed_none, ended, ended_part, went_closed, went_broken, went_on, waits_nil, first_current, stayed, stayed_kept}
 use Rattle.office_wire.proofs.serving.serve_in.Goals as goal
 
@@ -11,7 +11,7 @@ reads-init g c = record {
   waits = waits_nil _ c.requires.empty;
   room = omega (arith, c.requires.empty);
   honest = λ honest. honest;
-  served = λ honest s held. (s, held, ([], omega arith, consumes_none _, first_current c.args.service.now.policy.now (standing s (g.T.ZoneTable.failures c.args.table.now)) _ _ c.requires.empty));
+  served = λ honest s held. (s, held, ([], omega arith, Consumes-nil _, first_current c.args.service.now.policy.now (standing s (g.T.ZoneTable.failures c.args.table.now)) _ _ c.requires.empty));
   reads = refl;
   writes = refl;
 }
@@ -22,7 +22,7 @@ fill-requires g c = c.reads.invariant.room
 pub returns-in-Err-clause-run : goal.returns-in-Err-clause-run
 returns-in-Err-clause-run g c = λ honest s held.
     let p = c.reads.invariant.served honest s held in
-    let r = stayed_kept c.args.service.now.policy.now (standing s (g.T.ZoneTable.failures c.args.table.now)) _ c.reads.counter c.reads.inbox _ _ _ _ _ c.reads.invariant.waits c.in-Err.ensures.kept.1 p.2 in
+    let r = stayed_kept c.args.service.now.policy.now (standing s (g.T.ZoneTable.failures c.args.table.now)) _ c.reads.counter c.reads.buffer _ _ _ _ _ c.reads.invariant.waits c.in-Err.ensures.kept.1 p.2 in
     (r.0, p.0, p.1, r.1, r.2)
 
 pub returns-in-Err-clause-honest : goal.returns-in-Err-clause-honest
@@ -34,14 +34,14 @@ returns-in-Err-clause-devices g c = (omega (arith, c.in-Err.ensures.failed, c.re
 pub finish-requires-clause-waits : goal.finish-requires-clause-waits
 finish-requires-clause-waits g c =
     let f = c.in-Ok.ensures.got in
-    subst (λ (l : List ℕ). Waits l) (sym (c.as_slice.ensures.value ∙ none_came c.fill.new.self c.reads.inbox f.0 c.in-Ok.got f.1 f.2 c.if-got-eq0.true)) c.reads.invariant.waits
+    subst (λ (l : List ℕ). Waits l) (sym (c.as_slice.ensures.value ∙ none_came c.fill.new.self c.reads.buffer f.0 c.in-Ok.got f.1 f.2 c.if-got-eq0.true)) c.reads.invariant.waits
 
 pub returns-in-Ok-finish-clause-run : goal.returns-in-Ok-finish-clause-run
 returns-in-Ok-finish-clause-run g c = λ honest s held.
     let p = c.reads.invariant.served honest s held in
     let f = c.in-Ok.ensures.got in
     let none = c.if-got-eq0.true in
-    let old = none_came c.fill.new.self c.reads.inbox f.0 c.in-Ok.got f.1 f.2 none in
+    let old = none_came c.fill.new.self c.reads.buffer f.0 c.in-Ok.got f.1 f.2 none in
     let took = consumed_none _ _ _ p.2.0 f.0 c.in-Ok.got p.2.2 f.3 f.2 none in
     let rest = c.as_slice.ensures.value ∙ old in
     let before = standing s (g.T.ZoneTable.failures c.args.table.now) in
@@ -58,7 +58,7 @@ returns-in-Err-finish-clause-run g c = λ honest s held.
     let p = c.reads.invariant.served honest s held in
     let f = c.in-Ok.ensures.got in
     let none = c.if-got-eq0.true in
-    let old = none_came c.fill.new.self c.reads.inbox f.0 c.in-Ok.got f.1 f.2 none in
+    let old = none_came c.fill.new.self c.reads.buffer f.0 c.in-Ok.got f.1 f.2 none in
     let took = consumed_none _ _ _ p.2.0 f.0 c.in-Ok.got p.2.2 f.3 f.2 none in
     let rest = c.as_slice.ensures.value ∙ old in
     let before = standing s (g.T.ZoneTable.failures c.args.table.now) in
@@ -81,7 +81,7 @@ returns-in-Err-answer_all-clause-run g c = λ honest s held.
     let before = standing s (g.T.ZoneTable.failures c.args.table.now) in
     let mid = standing p.0 (g.T.ZoneTable.failures c.reads.table) in
     let now = standing a.0 (g.T.ZoneTable.failures c.answer_all.new.table) in
-    let r = went_broken c.args.service.now.policy.now before mid now p.2.0 f.0 c.reads.inbox c.fill.new.self _ _ _ _ _ _ p.2.2 f.3 f.1 p.2.3 a.2 in
+    let r = went_broken c.args.service.now.policy.now before mid now p.2.0 f.0 c.reads.buffer c.fill.new.self _ _ _ _ _ _ p.2.2 f.3 f.1 p.2.3 a.2 in
     (r.0, a.0, a.1, r.1, r.2)
 
 pub returns-in-Err-answer_all-clause-honest : goal.returns-in-Err-answer_all-clause-honest
@@ -98,7 +98,7 @@ returns-in-Ok-true-clause-run g c = λ honest s held.
     let before = standing s (g.T.ZoneTable.failures c.args.table.now) in
     let mid = standing p.0 (g.T.ZoneTable.failures c.reads.table) in
     let now = standing a.0 (g.T.ZoneTable.failures c.answer_all.new.table) in
-    let r = went_closed c.args.service.now.policy.now before mid now p.2.0 f.0 c.reads.inbox c.fill.new.self _ _ _ _ _ _ p.2.2 f.3 f.1 p.2.3 (rw c.in-Ok-true.field-0-test at a.2) in
+    let r = went_closed c.args.service.now.policy.now before mid now p.2.0 f.0 c.reads.buffer c.fill.new.self _ _ _ _ _ _ p.2.2 f.3 f.1 p.2.3 (rw c.in-Ok-true.field-0-test at a.2) in
     (r.0, a.0, a.1, r.1, r.2)
 
 pub returns-in-Ok-true-clause-honest : goal.returns-in-Ok-true-clause-honest
@@ -121,7 +121,7 @@ reads-preserved g c =
           let now = standing a.0 (g.T.ZoneTable.failures c.answer_all.new.table) in (
             a.0,
             a.1,
-            went_on c.args.service.now.policy.now before mid now c.reads.counter c.in-Ok.got f.0 c.reads.inbox c.fill.new.self c.answer_all.new.inbox _ _ _ _ _ _ f.3 f.1 f.2
+            went_on c.args.service.now.policy.now before mid now c.reads.counter c.in-Ok.got f.0 c.reads.buffer c.fill.new.self c.answer_all.new.buffer _ _ _ _ _ _ f.3 f.1 f.2
                 (let some = c.if-got-eq0.false in omega arith) p.2 (rw c.in-Ok-false.field-0-test at a.2),
           );
       reads = c.in-Ok.ensures.fine ∙ c.reads.invariant.reads;
@@ -131,7 +131,7 @@ reads-preserved g c =
 pub returns-clause-run : goal.returns-clause-run
 returns-clause-run g c = λ honest s held.
     let p = c.reads.invariant.served honest s held in
-    let r = stayed c.args.service.now.policy.now (standing s (g.T.ZoneTable.failures c.args.table.now)) _ c.reads.counter _ c.reads.inbox _ _ _ _ c.reads.invariant.waits (let past = c.reads-test.false in omega arith) p.2 in
+    let r = stayed c.args.service.now.policy.now (standing s (g.T.ZoneTable.failures c.args.table.now)) _ c.reads.counter _ c.reads.buffer _ _ _ _ c.reads.invariant.waits (let past = c.reads-test.false in omega arith) p.2 in
     (r.0, p.0, p.1, r.1, r.2)
 
 pub returns-clause-honest : goal.returns-clause-honest

@@ -8,11 +8,11 @@ use Rattle.office_wire.proofs.serving.serve_in.Given as goal
 abbrev pub invariant-reads : goal.invariant-reads
 invariant-reads g l = record {
   spans : length l.spans ≡ 5462;
-  waits : Waits l.inbox;
-  room : length l.inbox < 81920;
+  waits : Waits l.buffer;
+  room : length l.buffer < 81920;
   honest : g.T.ZoneTable.is_honest l.table → g.T.ZoneTable.is_honest l.fn.table;
   served : g.T.ZoneTable.is_honest l.table → (s : State) → g.T.ZoneTable.holds l.fn.table s → (t : State) × g.T.ZoneTable.holds l.table t
-      × IsAnsweredRead l.service.policy.now (standing s (g.T.ZoneTable.failures l.fn.table)) l.counter (g.R.Source.remaining l.fn.reader) (g.R.Source.remaining l.reader) l.inbox
+      × IsAnsweredRead l.service.policy.now (standing s (g.T.ZoneTable.failures l.fn.table)) l.counter (g.R.Source.remaining l.fn.reader) (g.R.Source.remaining l.reader) l.buffer
       (g.W.Sink.contents l.fn.writer) (g.W.Sink.contents l.writer) (standing t (g.T.ZoneTable.failures l.table));
   reads : g.R.FaultCount.failures l.reader ≡ g.R.FaultCount.failures l.fn.reader;
   writes : g.W.FaultCount.failures l.writer ≡ g.W.FaultCount.failures l.fn.writer;

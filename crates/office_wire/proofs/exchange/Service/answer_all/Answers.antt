@@ -3,33 +3,33 @@ use Rattle.std.proofs.lemmas.Result.{err_from_is_err_and}
 use Rattle.office_wire.proofs.JoinLemmas.{next_served, next_broken, last_broken, last_closed}
 use Rattle.office_wire.proofs.exchange.Service.answer_all.Goals as goal
 
-pub returns-in_err-write_whole-in-Next-clause-served : goal.returns-in_err-write_whole-in-Next-clause-served
-returns-in_err-write_whole-in-Next-clause-served g c = λ honest s held.
+pub returns-in_err-write_all-in-Next-clause-served : goal.returns-in_err-write_all-in-Next-clause-served
+returns-in_err-write_all-in-Next-clause-served g c = λ honest s held.
     let p = c.turns.invariant.served (c.in-Next.ensures.honest honest) s held in
-    let a = c.in-Next.ensures.said honest p.0 p.1 in
-    (a.0, a.1, rw (err_from_is_err_and c.from_residual.result c.from_residual.ensures.1).1 (next_broken _ _ _ _ c.in-Next.n _ _ _ _ _ _ _ _ c.as_slice.ensures.value c.as_slice-in-Next.ensures p.2 a.2 c.in_err-write_whole-in-Next.ensures.err))
+    let a = c.in-Next.ensures.answered honest p.0 p.1 in
+    (a.0, a.1, rw (err_from_is_err_and c.from_residual.result c.from_residual.ensures.1).1 (next_broken _ _ _ _ c.in-Next.n _ _ _ _ _ _ _ _ c.as_slice.ensures.value c.as_slice-in-Next.ensures p.2 a.2 c.in_err-write_all-in-Next.ensures.0))
 
-pub drop_front-requires : goal.drop_front-requires
-drop_front-requires g c = subst (λ (l : List ℕ). c.in-Next.n ≤ length l) c.as_slice.ensures.value c.in-Next.ensures.stands.1
+pub consume-requires : goal.consume-requires
+consume-requires g c = subst (λ (l : List ℕ). c.in-Next.n ≤ length l) c.as_slice.ensures.value c.in-Next.ensures.stands.1
 
 pub turns-smaller : goal.turns-smaller
 turns-smaller g c =
     let within = subst (λ (l : List ℕ). c.in-Next.n ≤ length l) c.as_slice.ensures.value c.in-Next.ensures.stands.1 in
     let some = c.in-Next.ensures.stands.0 in
-    let len = ap (λ (l : List ℕ). length l) c.drop_front.ensures ∙ length-drop c.in-Next.n c.turns.inbox in
+    let len = ap (λ (l : List ℕ). length l) c.consume.ensures ∙ length-drop c.in-Next.n c.turns.buffer in
     omega arith
 
-pub returns-in_err-write_whole-in-Last-clause-served : goal.returns-in_err-write_whole-in-Last-clause-served
-returns-in_err-write_whole-in-Last-clause-served g c = λ honest s held.
+pub returns-in_err-write_all-in-Last-clause-served : goal.returns-in_err-write_all-in-Last-clause-served
+returns-in_err-write_all-in-Last-clause-served g c = λ honest s held.
     let p = c.turns.invariant.served (c.in-Last.ensures.honest honest) s held in
-    let a = c.in-Last.ensures.said honest p.0 p.1 in
-    (a.0, a.1, rw (err_from_is_err_and c.from_residual-in_err-write_whole-in-Last.result c.from_residual-in_err-write_whole-in-Last.ensures.1).1 (last_broken _ _ _ _ _ _ _ _ _ a.2.0 _ _ _ c.as_slice.ensures.value c.as_slice-in-Last.ensures p.2 a.2.1 a.2.2 c.in_err-write_whole-in-Last.ensures.err))
+    let a = c.in-Last.ensures.answered honest p.0 p.1 in
+    (a.0, a.1, rw (err_from_is_err_and c.from_residual-in_err-write_all-in-Last.result c.from_residual-in_err-write_all-in-Last.ensures.1).1 (last_broken _ _ _ _ _ _ _ _ _ a.2.0 _ _ _ c.as_slice.ensures.value c.as_slice-in-Last.ensures p.2 a.2.1 a.2.2 c.in_err-write_all-in-Last.ensures.0))
 
 pub returns-in-Last-clause-served : goal.returns-in-Last-clause-served
 returns-in-Last-clause-served g c = λ honest s held.
     let p = c.turns.invariant.served (c.in-Last.ensures.honest honest) s held in
-    let a = c.in-Last.ensures.said honest p.0 p.1 in
-    (a.0, a.1, last_closed _ _ _ _ _ _ _ _ _ a.2.0 _ _ _ c.as_slice.ensures.value c.as_slice-in-Last.ensures p.2 a.2.1 a.2.2 c.in_ok-write_whole-in-Last.ensures.ok)
+    let a = c.in-Last.ensures.answered honest p.0 p.1 in
+    (a.0, a.1, last_closed _ _ _ _ _ _ _ _ _ a.2.0 _ _ _ c.as_slice.ensures.value c.as_slice-in-Last.ensures p.2 a.2.1 a.2.2 c.in_ok-write_all-in-Last.ensures.0)
 
 pub turns-preserved : goal.turns-preserved
 turns-preserved g c = record {
@@ -37,7 +37,7 @@ turns-preserved g c = record {
   honest = λ honest. c.turns.invariant.honest (c.in-Next.ensures.honest honest);
   served = λ honest s held.
       let p = c.turns.invariant.served (c.in-Next.ensures.honest honest) s held in
-      let a = c.in-Next.ensures.said honest p.0 p.1 in
-      (a.0, a.1, next_served _ _ _ _ c.in-Next.n _ _ _ _ _ _ _ _ _ c.as_slice.ensures.value c.drop_front.ensures c.as_slice-in-Next.ensures p.2 a.2 c.in_ok-write_whole-in-Next.ensures.ok);
-  same = c.in_ok-write_whole-in-Next.ensures.same ∙ c.turns.invariant.same;
+      let a = c.in-Next.ensures.answered honest p.0 p.1 in
+      (a.0, a.1, next_served _ _ _ _ c.in-Next.n _ _ _ _ _ _ _ _ _ c.as_slice.ensures.value c.consume.ensures c.as_slice-in-Next.ensures p.2 a.2 c.in_ok-write_all-in-Next.ensures.0);
+  same = c.in_ok-write_all-in-Next.ensures.1 ∙ c.turns.invariant.same;
 }

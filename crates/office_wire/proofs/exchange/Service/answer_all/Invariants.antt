@@ -8,9 +8,9 @@ invariant-turns g l = record {
   spans : length l.spans ≡ 5462;
   honest : g.T.ZoneTable.is_honest l.table → g.T.ZoneTable.is_honest l.fn.table;
   served : g.T.ZoneTable.is_honest l.table → (s : State) → g.T.ZoneTable.holds l.fn.table s → (t : State) × g.T.ZoneTable.holds l.table t
-      × IsCurrent l.self.policy.now (standing s (g.T.ZoneTable.failures l.fn.table)) l.fn.inbox l.inbox (g.W.Sink.contents l.fn.writer) (g.W.Sink.contents l.writer) (standing t (g.T.ZoneTable.failures l.table));
+      × IsCurrent l.self.policy.now (standing s (g.T.ZoneTable.failures l.fn.table)) l.fn.buffer l.buffer (g.W.Sink.contents l.fn.writer) (g.W.Sink.contents l.writer) (standing t (g.T.ZoneTable.failures l.table));
   same : g.W.FaultCount.failures l.writer ≡ g.W.FaultCount.failures l.fn.writer;
 }
 
 abbrev pub decreases-turns : goal.decreases-turns
-decreases-turns g l = length l.inbox
+decreases-turns g l = length l.buffer

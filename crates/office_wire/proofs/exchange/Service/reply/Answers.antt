@@ -3,8 +3,8 @@ use Rattle.office_wire.specs.Requests.{call_of}
 use Rattle.office_wire.proofs.ResponseLemmas.{put_answers}
 use Rattle.office_wire.proofs.exchange.Service.reply.Goals as goal
 
-pub returns-clause-said : goal.returns-clause-said
-returns-clause-said g c = λ honest s held h asked.
+pub returns-clause-answered : goal.returns-clause-answered
+returns-clause-answered g c = λ honest s held h asked.
     let a = c.respond-response.ensures.answers honest s held h asked in (
       a.0,
       a.1,

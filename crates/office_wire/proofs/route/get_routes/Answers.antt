@@ -1,8 +1,0 @@
-use Rattle.std.proofs.Common.{refl}
-use Rattle.matchit.proofs.OnLiterals.{matchit_on_literals}
-use Rattle.office_wire.specs.Routes.{get_rows}
-use Rattle.office_wire.proofs.route.get_routes.Goals as goal
-
-pub returns : goal.returns
-unfolding matchit_on_literals get_rows
-returns c = rw (c.in_ok-insert-6.ensures.1, c.in_ok-insert-5.ensures.1, c.in_ok-insert-4.ensures.1, c.in_ok-insert-3.ensures.1, c.in_ok-insert-2.ensures.1, c.in_ok-insert.ensures.1, c.new-router.ensures) refl

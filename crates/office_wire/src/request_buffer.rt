@@ -1,0 +1,111 @@
+//! The octets that have come and are not answered yet.
+
+ghost use Rattle.std.specs.Prelude.{◌≡◌, ◌<◌, ◌≤◌, ◌+◌, ◌++◌, ◌-◌, ℕ, List, true, vec_len, take, drop, length, IfOk, OnErr, OnOk};
+ghost use Rattle.std.specs.Io.KnownBytes.{Consumes, IsAtEnd, Keeps};
+ghost use Rattle.std.specs.List.{slice_range};
+ghost use Rattle.office_wire.specs.Exchange.{Waits};
+ghost use Rattle.office_wire.specs.Framing.{WaitsUpTo};
+
+use dns_master::{DeviceFailed, Source};
+use std::alloc::{AllocError, Global};
+use std::marker::Model;
+
+/// The room for a head and a body.
+const ROOM: usize = 81_920;
+
+/// The octets that have come and are not answered yet. They move to the front of their room at a read, and at no other time.
+/// No request stands whole there before so many octets are there as are awaited, so that a head is not read anew at each piece of
+/// its body.
+#[derive(Drop)]
+pub(crate) struct RequestBuffer {
+    bytes: Vec<u8>,
+    start: usize,
+    end: usize,
+    awaited: usize,
+}
+
+impl Model for RequestBuffer {
+    ghost Value = { List ℕ };
+
+    ghost view = { λ s. slice_range s.bytes.items s.start s.end };
+
+    ghost invariant = { λ s. (s.start ≤ s.end) × (s.end ≤ 81920) × (vec_len s.bytes ≡ 81920) × (s.awaited ≤ 81920) × WaitsUpTo (slice_range s.bytes.items s.start s.end) s.awaited };
+}
+
+/// Moves the octets of a range to the front, and answers how many they are.
+fn to_front(bytes: &mut Vec<u8>, start: usize, end: usize) -> usize
+    requires order { start ≤ end }
+    requires within { end ≤ vec_len bytes.old }
+    ensures front { take result bytes.new.items ≡ slice_range bytes.old.items start end }
+    ensures count { result ≡ end - start }
+    ensures len { vec_len bytes.new ≡ vec_len bytes.old }
+{
+    if start == 0 {
+        return end;
+    }
+    bytes.copy_within(start..end, 0);
+    end - start
+}
+
+impl RequestBuffer {
+    /// Room in which nothing has come yet. The only error is want of memory.
+    pub(crate) fn new(alloc: Global) -> Result<RequestBuffer, AllocError>
+        ensures { IfOk result (λ buffer. length buffer ≡ 0) }
+    {
+        let bytes = vec![in alloc; 0; ROOM]?;
+        Ok(RequestBuffer {
+            bytes,
+            start: 0,
+            end: 0,
+            awaited: 0,
+        })
+    }
+
+    /// The octets.
+    pub(crate) fn as_slice(&self) -> &[u8]
+        ensures value { result.now ≡ self.now }
+        ensures bound { length result.now ≤ 81920 }
+    {
+        &self.bytes[self.start..self.end]
+    }
+
+    /// Reads once behind what is there, and answers how many octets came.
+    pub(crate) fn fill<R: Source>(&mut self, reader: &mut R) -> Result<usize, DeviceFailed>
+        requires { length self.old < 81920 }
+        ensures got { IfOk result (λ n. (got : List ℕ) × (self.new ≡ self.old ++ got) × (length got ≡ n) × Consumes (R.remaining reader.old) (R.remaining reader.new) got × (n ≡ 0 → IsAtEnd (R.remaining reader.new))) }
+        ensures kept { OnErr result ((self.new ≡ self.old) × Keeps (R.remaining reader.old) (R.remaining reader.new)) }
+        ensures fine { OnOk result (R.failures reader.new ≡ R.failures reader.old) }
+        ensures failed { OnErr result (R.failures reader.new ≡ R.failures reader.old + 1) }
+    {
+        self.end = to_front(&mut self.bytes, self.start, self.end);
+        self.start = 0;
+        let got = reader.read_some(&mut self.bytes[self.end..])?;
+        self.end += got;
+        Ok(got)
+    }
+
+    /// Lets the first octets go.
+    pub(crate) fn consume(&mut self, n: usize)
+        requires { n ≤ length self.old }
+        ensures { self.new ≡ drop n self.old }
+    {
+        self.start += n;
+        self.awaited = 0;
+    }
+
+    /// Lets the octets wait until so many are there.
+    pub(crate) fn await_octets(&mut self, n: usize)
+        requires waits { WaitsUpTo self.old n }
+        requires bound { n ≤ 81920 }
+        ensures { self.new ≡ self.old }
+    {
+        self.awaited = n;
+    }
+
+    /// Whether fewer octets are there than are awaited.
+    pub(crate) fn is_awaiting(&self) -> bool
+        ensures { result ≡ true → Waits self.now × (length self.now < 81920) }
+    {
+        self.end - self.start < self.awaited
+    }
+}
