@@ -18,7 +18,6 @@ mod token;
 mod zone_text;
 
 pub use device::{Counted, DeviceFailed, FaultCount, Pieces, Sink, Source, write_all};
-pub use master_fault::MasterFault;
 pub use file::read_file;
 pub use laws::{
     defaults_are_one, defaults_are_there, depths_are_counted, pieces_are_one_list, pieces_are_read,

@@ -40,7 +40,7 @@ impl BodyFault {
     ghost use Rattle.office_json.specs.Faults.{fault_number};
 
     /// The published number of the refusal: 85 to 88, that of the update's fault (89 or 92) or the delegation's (40, 48, 49 or
-    /// 89), or 99 for want of memory.
+    /// 89), or 99 when out of memory.
     pub const fn number(self) -> u8
         ensures { result ≡ fault_number self }
     {

@@ -83,7 +83,7 @@ fn push_change(
     let mut digits = Buffer::new();
     push_comma(out, number)?;
     push_all(out, &[r#"{"added":"#.as_bytes()])?;
-    push_lines(out, line, &change.added)?;
+    push_lines(out, line, &change.change.added)?;
     push_all(
         out,
         &[
@@ -92,7 +92,7 @@ fn push_change(
             r#","removed":"#.as_bytes(),
         ],
     )?;
-    push_lines(out, line, &change.removed)?;
+    push_lines(out, line, &change.change.removed)?;
     out.push(b'}')?;
     Ok(())
 }

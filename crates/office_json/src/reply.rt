@@ -31,7 +31,7 @@ fn push_reply(reply: &Reply, out: &mut Vec<u8>) -> Result<(), AllocError>
 }
 
 /// Appends the body of a reply: a JSON text without white space, whose keys stand in byte order, and for a file the text of its
-/// zone. The only error is want of memory, and then nothing is appended. To the replies to updates and on rights, and to those
+/// zone. The only error is out of memory, and then nothing is appended. To the replies to updates and on rights, and to those
 /// that tell no more than a code or a refusal, 256 octets of room are enough.
 pub fn reply_text(reply: &Reply, out: &mut Vec<u8>) -> Result<(), AllocError>
     ensures text { OnOk result (out.new.items ≡ out.old.items ++ body_of reply.now) }
@@ -49,7 +49,7 @@ pub fn reply_text(reply: &Reply, out: &mut Vec<u8>) -> Result<(), AllocError>
     }
 }
 
-/// Appends the body that tells a refusal by its published number alone. The only error is want of memory, which does not come
+/// Appends the body that tells a refusal by its published number alone. The only error is out of memory, which does not come
 /// where there is room for 256 octets, and then nothing is appended.
 pub fn refusal_text(number: u8, out: &mut Vec<u8>) -> Result<(), AllocError>
     ensures text { OnOk result (out.new.items ≡ out.old.items ++ refusal_body number) }
@@ -68,7 +68,7 @@ pub fn refusal_text(number: u8, out: &mut Vec<u8>) -> Result<(), AllocError>
 }
 
 /// Appends the body that tells FORMERR (RFC 2136 section 2.2) with the published number of the refusal of a body. The only error
-/// is want of memory, which does not come where there is room for 256 octets, and then nothing is appended.
+/// is out of memory, which does not come where there is room for 256 octets, and then nothing is appended.
 pub fn form_error_text(number: u8, out: &mut Vec<u8>) -> Result<(), AllocError>
     ensures text { OnOk result (out.new.items ≡ out.old.items ++ form_error_body number) }
     ensures same { OnErr result (out.new.items ≡ out.old.items) }

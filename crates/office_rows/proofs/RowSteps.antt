@@ -77,11 +77,11 @@ pub refuses_any : {Y Z : Type 0} (e : RowFault) (x : Y) (y : Z) → Refuses e (O
 refuses_any NoMemory x y h = tt
 refuses_any BadRow x y h = absurd cc
 
--- want of memory refuses anything
+-- out of memory refuses anything
 pub refuses_memory : {Y : Type 0} (e : RowFault) (x : Y) → e ≡ NoMemory → Refuses e (Ok x)
 refuses_memory e x h = subst (λ (f : RowFault). Refuses f (Ok x)) (sym h) tt
 
--- and is for want of memory
+-- and is when out of memory
 pub refuses_none : {Y : Type 0} (e : RowFault) (x : Y) → Refuses e (Ok x) → e ≡ NoMemory
 refuses_none NoMemory x h = refl
 refuses_none BadRow x h = absurd cc

@@ -27,7 +27,7 @@ use Rattle.office_rows.proofs.ReceiptReadLemmas.{Differ}
 
 -- ---- checks
 
--- where no rows as they are wanted are refused but for want of memory
+-- where no rows as they are wanted are refused but when out of memory
 pub refused : (P : Type 0) (e : RowFault) → (P → e ≡ NoMemory) → Checks P (Err e)
 refused P BadRow memory = λ p. let bad = memory p in cc
 refused P NoMemory memory = tt

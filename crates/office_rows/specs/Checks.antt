@@ -46,7 +46,7 @@ pub record AreStateRows (version : ℤ) (rows : RowsOf) : Type 0 where
   pub zones : AreZoneRows rows.zones rows.records rows.changes
   pub receipts : AreReceiptRows rows.receipts
 
--- a check passes only where this holds, and refuses a row only where it doesn't; want of memory says nothing of it
+-- a check passes only where this holds, and refuses a row only where it doesn't; out of memory says nothing of it
 abbrev pub Checks : Type 0 → Result (Unit {0}) RowFault → Type 0
 Checks P (Ok passed) = P
 Checks P (Err BadRow) = ¬ P

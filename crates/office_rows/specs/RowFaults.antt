@@ -21,7 +21,7 @@ abbrev pub ◌>>=◌ : {A B : Type 0} → Result A RowFault → (A → Result B 
 (Ok x) >>= f = f x
 (Err e) >>= f = Err e
 
--- what a call refused with is the refusal of the definition; want of memory says nothing of the definition
+-- what a call refused with is the refusal of the definition; out of memory says nothing of the definition
 abbrev pub Refuses : {Y : Type 0} → RowFault → Result Y RowFault → Type 0
 Refuses NoMemory read = Unit {0}
 Refuses BadRow read = read ≡ Err BadRow

@@ -29,7 +29,7 @@ fn reveal_zone(zone: &Zone)
     let _ = zone.origin().labels();
 }
 
-/// The rows of records of the zone of an origin. The only error is want of memory.
+/// The rows of records of the zone of an origin. The only error is out of memory.
 fn record_rows(
     alloc: Global,
     origin: &Name,
@@ -44,7 +44,7 @@ fn record_rows(
     Ok(rows)
 }
 
-/// What is written for a change of the zone of an origin under its number, beside receipts. The only error is want of memory.
+/// What is written for a change of the zone of an origin under its number, beside receipts. The only error is out of memory.
 fn change_batch(
     alloc: Global,
     origin: &Name,
@@ -64,7 +64,7 @@ fn change_batch(
     })
 }
 
-/// The row of the receipt of an addition, alone. The only error is want of memory.
+/// The row of the receipt of an addition, alone. The only error is out of memory.
 fn receipt_rows(alloc: Global, addition: &Addition) -> Result<Vec<ReceiptRow>, AllocError>
     ensures rows { IfOk result (λ rows. rows.items ≡ receipt_rows (addition_in addition.now)) }
     ensures receipt { IsReceiptAt (receipt_at (addition_in addition.now)) }
@@ -73,7 +73,7 @@ fn receipt_rows(alloc: Global, addition: &Addition) -> Result<Vec<ReceiptRow>, A
     Ok(vec![in alloc; row]?)
 }
 
-/// What is written for an addition without a change: the row of its receipt. The only error is want of memory.
+/// What is written for an addition without a change: the row of its receipt. The only error is out of memory.
 pub fn receipt_batch(alloc: Global, addition: &Addition) -> Result<Batch, AllocError>
     // This row and nothing else.
     ensures exact { IfOk result (λ batch. batch ≡ receipts_batch (receipt_rows (addition_in addition.now))) }
@@ -93,7 +93,7 @@ pub fn receipt_batch(alloc: Global, addition: &Addition) -> Result<Batch, AllocE
 
 /// What is written for an addition: the row of its receipt; and where it has a change, the rows of the records that go and come, and
 /// of the change under its number, which is the next one of its zone. Without a change the number says nothing. The only error is
-/// want of memory.
+/// out of memory.
 pub fn addition_batch(alloc: Global, addition: &Addition, number: i64) -> Result<Batch, AllocError>
     // These rows and no others.
     ensures exact { IfOk result (λ batch. MatchOption addition.now.change (batch ≡ receipts_batch (receipt_rows (addition_in addition.now))) (λ change. (n : ℕ) → number ≡ pos n → batch ≡ change_batch addition.now.receipt.origin n (change_in change) (receipt_rows (addition_in addition.now)))) }
@@ -107,7 +107,7 @@ pub fn addition_batch(alloc: Global, addition: &Addition, number: i64) -> Result
     change_batch(alloc, &addition.receipt.origin, number, change, receipts)
 }
 
-/// What is written for a zone of an origin that has none: its row and those of its records. The only error is want of memory.
+/// What is written for a zone of an origin that has none: its row and those of its records. The only error is out of memory.
 pub fn zone_batch(alloc: Global, zone: &Zone) -> Result<Batch, AllocError>
     // These rows and no others.
     ensures exact { IfOk result (λ batch. batch ≡ zone_batch zone.now) }
@@ -129,7 +129,7 @@ pub fn zone_batch(alloc: Global, zone: &Zone) -> Result<Batch, AllocError>
 }
 
 /// What is written for a zone in the place of another one of its origin, from which it differs: the rows of the records that go and
-/// come, and of this change under its number, which is the next one of the zone. The only error is want of memory.
+/// come, and of this change under its number, which is the next one of the zone. The only error is out of memory.
 pub fn replacement_batch(
     alloc: Global,
     old: &Zone,

@@ -52,7 +52,7 @@ pub fn change_row(
     })
 }
 
-/// Puts the rows of records on a side of a change behind others. The only error is want of memory.
+/// Puts the rows of records on a side of a change behind others. The only error is out of memory.
 fn push_side(
     alloc: Global,
     rows: &mut Vec<ChangeRow>,
@@ -70,7 +70,7 @@ fn push_side(
 }
 
 /// The rows of the change of a number, of the zone of an origin: those of the records that went, and then those of the records that
-/// came. The only error is want of memory.
+/// came. The only error is out of memory.
 pub fn change_rows(
     alloc: Global,
     origin: &Name,
@@ -109,7 +109,7 @@ pub(crate) fn read_change(alloc: Global, row: &ChangeRow) -> Result<ChangedRecor
     Ok(read)
 }
 
-/// The row of what was read of another one. The only error is want of memory.
+/// The row of what was read of another one. The only error is out of memory.
 fn row_again(alloc: Global, row: &ChangeRow, read: &ChangedRecord) -> Result<ChangeRow, AllocError>
     ensures { row.now.number ≡ pos read.now.number → IfOk result (λ again. again ≡ row_of read.now) }
 {

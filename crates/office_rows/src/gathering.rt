@@ -100,7 +100,7 @@ pub fn sorted_changes(alloc: Global, rows: &[ChangeRow]) -> Result<Vec<ChangedRe
     Ok(in_order(changed)?)
 }
 
-/// What rows have, in order. The only error is want of memory.
+/// What rows have, in order. The only error is out of memory.
 fn in_order(mut changed: Vec<ChangedRecord>) -> Result<Vec<ChangedRecord>, AllocError>
     ensures { IfOk result (λ cs. IsPermutation changed.items cs.items × IsSorted changed_order cs.items) }
 {
@@ -174,7 +174,7 @@ fn are_changes(changed: &[ChangedRecord]) -> bool
     are_of_one(changed) && are_numbered(changed)
 }
 
-/// A change with one more record on a side. The only error is want of memory.
+/// A change with one more record on a side. The only error is out of memory.
 fn with_record(mut change: Change, side: Side, rr: Record) -> Result<Change, AllocError>
     ensures { IfOk result (λ c. change_in c ≡ with_record (change_in change) side rr) }
 {
@@ -185,7 +185,7 @@ fn with_record(mut change: Change, side: Side, rr: Record) -> Result<Change, All
     Ok(change)
 }
 
-/// Puts a change without a record behind others, where there are fewer than this number. The only error is want of memory.
+/// Puts a change without a record behind others, where there are fewer than this number. The only error is out of memory.
 fn opened(alloc: Global, changes: &mut Vec<Change>, number: u64) -> Result<(), AllocError>
     ensures { OnOk result (map change_in changes.new.items ≡ opened (map change_in changes.old.items) number) }
 {
@@ -198,7 +198,7 @@ fn opened(alloc: Global, changes: &mut Vec<Change>, number: u64) -> Result<(), A
     Ok(())
 }
 
-/// Puts what a row has into the last change, or into a new one behind it. The only error is want of memory.
+/// Puts what a row has into the last change, or into a new one behind it. The only error is out of memory.
 fn place(alloc: Global, changes: &mut Vec<Change>, changed: ChangedRecord) -> Result<(), AllocError>
     ensures { OnOk result (map change_in changes.new.items ≡ placed (map change_in changes.old.items) changed) }
 {
@@ -210,7 +210,7 @@ fn place(alloc: Global, changes: &mut Vec<Change>, changed: ChangedRecord) -> Re
     Ok(())
 }
 
-/// The changes of what rows of one zone have, in order. The only error is want of memory.
+/// The changes of what rows of one zone have, in order. The only error is out of memory.
 fn gathered(alloc: Global, changed: Vec<ChangedRecord>) -> Result<Vec<Change>, AllocError>
     ensures { IfOk result (λ cs. map change_in cs.items ≡ gathered changed.items) }
 {

@@ -36,7 +36,7 @@ fn reveal_caller_receipt(caller: &Identifier, id: &Identifier, receipt: &Receipt
 }
 
 /// The row of the receipt of a caller under an identifier: the request by its item lines, and the reply by its words. The only
-/// error is want of memory.
+/// error is out of memory.
 pub fn receipt_row(
     alloc: Global,
     caller: &Identifier,

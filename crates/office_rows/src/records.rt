@@ -16,7 +16,7 @@ use office_sql::RecordRow;
 use std::alloc::{AllocError, Global};
 
 /// The row of a record of the zone of an origin: names and data in canonical text, the type by its number, and the key of the
-/// owner. The only error is want of memory.
+/// owner. The only error is out of memory.
 pub fn record_row(alloc: Global, origin: &Name, rr: &Record) -> Result<RecordRow, AllocError>
     ensures { IfOk result (λ row. row ≡ record_row origin.now rr.now) }
 {

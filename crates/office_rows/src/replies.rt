@@ -59,7 +59,7 @@ const fn failed_word(code: Rcode) -> &'static str
 }
 
 /// A reply in words, with one space between them: the name of its code; then, as far as it has them, the list, the item's number
-/// from 0, and the identifier of the rule that denied it. The only error is want of memory.
+/// from 0, and the identifier of the rule that denied it. The only error is out of memory.
 pub fn reply_words(alloc: Global, reply: &UpdateReply) -> Result<String, AllocError>
     ensures { IfOk result (λ words. string_bytes words ≡ reply_words reply.now) }
 {

@@ -15,7 +15,7 @@ use std::alloc::{AllocError, Global};
 
 /// Whether the rows of all tables are those of a state, in tables of a version: each text is the canonical one, each key is that of
 /// its owner, each zone has its invariants, the changes of each zone are numbered from 1 on, every record and every change is of
-/// a zone that is there, and there is one row of `meta`, which has this version. The only error is want of memory.
+/// a zone that is there, and there is one row of `meta`, which has this version. The only error is out of memory.
 pub fn is_state(alloc: Global, version: i64, rows: &AllRows) -> Result<bool, AllocError>
     ensures { IfOk result (λ yes. (yes ≡ true) ↔ ((s : State) × AreOfState version rows.now s)) }
 {

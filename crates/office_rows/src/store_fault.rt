@@ -41,7 +41,7 @@ pub enum StoreFault {
 }
 
 impl StoreFault {
-    /// The published number of the refusal: 71 to 76, that of the zone's (41 to 47, 50), or 99 for want of memory.
+    /// The published number of the refusal: 71 to 76, that of the zone's (41 to 47, 50), or 99 when out of memory.
     pub const fn number(self) -> u8
         ensures { result ≡ store_fault_number self }
     {

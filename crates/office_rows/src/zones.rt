@@ -47,7 +47,7 @@ pub fn are_apart(names: &[Name]) -> bool
 }
 
 /// Whether records and changes are, one after the other, those of zones of these origins, and nothing is left behind the last. The
-/// only error is want of memory.
+/// only error is out of memory.
 fn are_zones(
     alloc: Global,
     origins: &[Name],
@@ -99,7 +99,7 @@ pub fn changes_first(origin: &Name, changes: &[ChangedRecord]) -> usize
     other_change(origin, changes).unwrap_or(changes.len())
 }
 
-/// Whether records are those of a zone of an origin, in record order, and its changes are numbered. The only error is want of memory.
+/// Whether records are those of a zone of an origin, in record order, and its changes are numbered. The only error is out of memory.
 fn is_zone_of(
     alloc: Global,
     origin: &Name,
@@ -113,7 +113,7 @@ fn is_zone_of(
 }
 
 /// Whether records are those of a zone of an origin, in record order: the zone that is built of them has them, and no others. The only
-/// error is want of memory.
+/// error is out of memory.
 fn is_zone(alloc: Global, origin: &Name, records: &[ZoneRecord]) -> Result<bool, AllocError>
     ensures { IfOk result (λ yes. (yes ≡ true) ↔ AreOfZone origin.now (map (λ r. r.rr) records.now)) }
 {
@@ -124,7 +124,7 @@ fn is_zone(alloc: Global, origin: &Name, records: &[ZoneRecord]) -> Result<bool,
     }
 }
 
-/// Copies of records. The only error is want of memory.
+/// Copies of records. The only error is out of memory.
 pub fn copied(alloc: Global, records: &[ZoneRecord]) -> Result<Vec<Record>, AllocError>
     ensures { IfOk result (λ copies. copies.items ≡ map (λ r. r.rr) records.now) }
 {

@@ -51,7 +51,7 @@ fn files_at<S: Start>(rt: &HostRuntime, path: &str, start: S) -> Result<Files<Fi
 /// database. `start` says what the file held.
 ///
 /// What is refused is named as `Connection::open_from` names it: a file that is no database, that another process has open, or that
-/// cannot be opened; a disk that fails or is full; and want of memory.
+/// cannot be opened; a disk that fails or is full; and out of memory.
 pub fn connect_at<S: Start>(
     rt: &HostRuntime,
     path: &str,

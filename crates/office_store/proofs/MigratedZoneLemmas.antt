@@ -191,7 +191,7 @@ built_one o set (Some fault) zone e = absurd cc
 pub built_zone : (o : Labels) (rs : List Record) (zone : ZoneOf) → of_zones (built o rs) ≡ Ok zone → zone ≡ zone_of o rs
 built_zone o rs zone e = built_one o (evened (latest rs)) (fault_in o (evened (latest rs))) zone e
 
--- records of an old zone are refused only for want of memory
+-- records of an old zone are refused only when out of memory
 pub refused_never : (o : Labels) (rs : List Record) (e : RowFault) → Refuses e (of_zones (built o rs)) → IsZone (zone_of o rs) → e ≡ NoMemory
 refused_never o rs BadRow refuses is = absurd (let built_it = ap of_zones (built_even o rs is) in let bad = sym refuses ∙ built_it in cc)
 refused_never o rs NoMemory refuses is = refl

@@ -16,7 +16,7 @@ use sqlite::{Alter, Connection};
 use std::alloc::{AllocError, Global};
 use zone_core::Zone;
 
-/// A copy of the zone that is kept, if it is the one of an origin. The only error is want of memory.
+/// A copy of the zone that is kept, if it is the one of an origin. The only error is out of memory.
 fn cached_at(alloc: Global, cache: &Option<Zone>, origin: &Name) -> Result<Option<Zone>, AllocError>
     ensures { IfOk result (λ found. IfSome found (λ zone. (cache.now ≡ Some zone) × (zone.origin ≡ origin.now))) }
 {

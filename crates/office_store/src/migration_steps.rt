@@ -26,7 +26,7 @@ pub(crate) struct MigrationSteps {
     pub(crate) zones: usize,
 }
 
-/// Rows, and those of records of the zone of an origin behind them. The only error is want of memory.
+/// Rows, and those of records of the zone of an origin behind them. The only error is out of memory.
 fn with_rows(
     alloc: Global,
     mut rows: Vec<RecordRow>,
@@ -76,7 +76,7 @@ impl MigrationSteps {
         }
     }
 
-    /// With a change of the zone of an origin under its number. The only error is want of memory.
+    /// With a change of the zone of an origin under its number. The only error is out of memory.
     fn with_change(
         self,
         alloc: Global,

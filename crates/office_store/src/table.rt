@@ -60,7 +60,7 @@ fn counted<L: Ledger>(book: &mut Book<L>, share: &mut Share<L>, fault: StoreFaul
     fault
 }
 
-/// Tells a fault as one of a table, and counts it, unless it is for want of memory.
+/// Tells a fault as one of a table, and counts it, unless it is when out of memory.
 fn refused<L: Ledger>(book: &mut Book<L>, share: &mut Share<L>, fault: StoreFault) -> TableFault
     requires { 0 < share.old.parts }
     ensures counts { CountsFault book.old.total book.new.total result }

@@ -1,7 +1,7 @@
 -- The calls of an exchange are a run of the machine.
 use Rattle.std.proofs.Common.{◌≡◌, List, [], ◌∷◌, ◌++◌, Option, Result, Ok, Err, refl, sym, ap, subst, ◌∙◌}
 use Rattle.grant_policy.specs.declared.rule.Rule.{Rule}
-use Rattle.office_core.specs.declared.table_fault.TableFault.{TableFault}
+use Rattle.office_core.specs.declared.table_fault.StepFault.{StepFault}
 use Rattle.office_core.specs.declared.request.Call.{Call}
 use Rattle.office_core.specs.declared.reply.Reply.TheVariants.{Servfail}
 use Rattle.office_core.specs.Replies.{ReplyOf}
@@ -27,11 +27,11 @@ record IsRunOf (rules : List Rule) (s : State) (cs : List Call) (ys : List Answe
 
 -- ---- one turn
 
-none_called : (read : Result Call RequestFault) (fault : TableFault) → call_in read (Replied (Servfail fault)) ≡ []
+none_called : (read : Result Call RequestFault) (fault : StepFault) → call_in read (Replied (Servfail fault)) ≡ []
 none_called (Ok call) fault = refl
 none_called (Err e) fault = refl
 
-none_given : (read : Result Call RequestFault) (fault : TableFault) → answer_in read (Replied (Servfail fault)) ≡ []
+none_given : (read : Result Call RequestFault) (fault : StepFault) → answer_in read (Replied (Servfail fault)) ≡ []
 none_given (Ok call) fault = refl
 none_given (Err e) fault = refl
 

@@ -4,6 +4,7 @@ use Rattle.std.specs.Prelude.{option_map}
 use Rattle.httparse.specs.Grammar.{RequestHead}
 use Rattle.grant_policy.specs.declared.rule.Rule.{Rule}
 use Rattle.office_core.specs.declared.table_fault.TableFault.TheVariants as faults
+use Rattle.office_core.specs.declared.table_fault.StepFault.TheVariants.{BeforeCommit}
 use Rattle.office_core.specs.declared.receipt.Receipt.{Receipt}
 use Rattle.office_core.specs.declared.reply.UpdateReply.{UpdateReply}
 use Rattle.office_core.specs.declared.request.Call.{Call}
@@ -74,7 +75,7 @@ pub servfail_instead : (rules : List Rule) (c d : Standing) (read : Result Call 
     → Answers rules c read servfail d
 servfail_instead rules c d read response (replied call reply e has r said after count) long =
     let long_reply = λ (short : IsShort reply). long (subst (λ (x : Response). IsShortResponse x) (sym r) short) in
-    failed faults.NoMemory refl (after ∙ long_step rules c.state call.caller call.request reply said long_reply) count
+    failed (BeforeCommit faults.NoMemory) refl (after ∙ long_step rules c.state call.caller call.request reply said long_reply) count
 servfail_instead rules c d read response (failed fault r stays count) long =
     absurd (long (subst (λ (x : Response). IsShortResponse x) (sym r) tt))
 servfail_instead rules c d read response (refused fault e r stays) long =
@@ -92,7 +93,7 @@ steps_answer holds rules s before after read call reply e has steps counts =
 pub refusal_answers : (rules : List Rule) (c : Standing) (read : Result Call RequestFault) (fault : RequestFault) → Refuses fault read → Answers rules c read (refusing fault) c
 refusal_answers rules c read (wrong.Refused r) e = refused (wrong.Refused r) e refl refl
 refusal_answers rules c read (wrong.BadBody n) e = refused (wrong.BadBody n) e refl refl
-refusal_answers rules c read wrong.NoMemory e = failed faults.NoMemory refl refl refl
+refusal_answers rules c read wrong.NoMemory e = failed (BeforeCommit faults.NoMemory) refl refl refl
 
 -- the call of what is kept of a head is the call of the head
 pub asked_call : (g : Heading) (h : RequestHead) (body : List ℕ) → IsAsked g h → call_by (option_map (λ v. v.now) g.caller) g.method g.target.now body ≡ call_of h body

@@ -3,7 +3,9 @@ use Rattle.std.specs.Prelude.{◌≡◌, ℕ, ◌<◌, ◌≤◌, ◌⊎◌, Boo
 use Rattle.std.specs.List.{flat_map, list_any, list_all, AllByRecursion}
 use Rattle.httparse.specs.Grammar.{RequestHead, IsRequestHead, ReadsRequest, HasNoRequest, MayBecomeRequest, print_request}
 use Rattle.grant_policy.specs.declared.rule.Rule.{Rule}
-use Rattle.office_core.specs.declared.table_fault.TableFault.{TableFault}
+use Rattle.office_core.specs.declared.table_fault.StepFault.{StepFault}
+use Rattle.office_core.specs.declared.table_fault.StepFault.TheVariants.{BeforeCommit}
+use Rattle.office_core.specs.Faults.{cause}
 use Rattle.office_core.specs.declared.table_fault.TableFault.TheVariants as faults
 use Rattle.office_core.specs.declared.reply.Reply.{Reply}
 use Rattle.office_core.specs.declared.reply.Reply.TheVariants.{Servfail}
@@ -83,7 +85,7 @@ pub record Standing : Type 0 where
 abbrev pub refusing : RequestFault → Response
 refusing (wrong.Refused refusal) = Refusing refusal
 refusing (wrong.BadBody number) = BadBody number
-refusing wrong.NoMemory = Replied (Servfail faults.NoMemory)
+refusing wrong.NoMemory = Replied (Servfail (BeforeCommit faults.NoMemory))
 
 -- What is answered to what was read of a request, and how the table stands behind it: the machine's reply to a call, with the state
 -- behind its turn; SERVFAIL, where the table failed or memory ran out, and then the state is as it was; or a refusal, and then it is
@@ -92,7 +94,7 @@ pub data Answers (rules : List Rule) (c : Standing) (read : Result Call RequestF
   replied : (call : Call) (reply : Reply) → read ≡ Ok call → HasUpdate call.request → response ≡ Replied reply
       → reply_of reply ≡ Some (turn rules c.state call).reply → d.state ≡ (turn rules c.state call).after → d.failures ≡ c.failures
       → Answers rules c read response d
-  failed : (fault : TableFault) → response ≡ Replied (Servfail fault) → d.state ≡ c.state → CountsFault c.failures d.failures fault
+  failed : (fault : StepFault) → response ≡ Replied (Servfail fault) → d.state ≡ c.state → CountsFault c.failures d.failures (cause fault)
       → Answers rules c read response d
   refused : (fault : RequestFault) → read ≡ Err fault → response ≡ refusing fault → d ≡ c → Answers rules c read response d
 

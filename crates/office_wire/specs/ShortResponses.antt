@@ -1,6 +1,7 @@
 -- Responses that fit the room that is taken before the first read.
 use Rattle.std.specs.Prelude.{◌≡◌, ℕ, Bool, true, false, List}
 use Rattle.office_core.specs.declared.table_fault.TableFault.TheVariants.{NoMemory}
+use Rattle.office_core.specs.declared.table_fault.StepFault.TheVariants.{BeforeCommit}
 use Rattle.office_core.specs.declared.reply.Reply.TheVariants.{Servfail}
 use Rattle.office_json.specs.Replies.{IsShort}
 use Rattle.office_wire.specs.declared.method.Method.{Method}
@@ -14,9 +15,9 @@ IsShortResponse (Refused refusal) = Unit {0}
 IsShortResponse (BadBody number) = Unit {0}
 IsShortResponse (Replied reply) = IsShort reply
 
--- SERVFAIL for want of memory
+-- SERVFAIL when out of memory
 abbrev pub servfail : Response
-servfail = Replied (Servfail NoMemory)
+servfail = Replied (Servfail (BeforeCommit NoMemory))
 
 -- The text of a response stands there; in place of one that is not short, where there was no memory for it, that of SERVFAIL.
 abbrev pub IsPut : Method → Response → Bool → Bool → List ℕ → Type 0

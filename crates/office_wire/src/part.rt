@@ -60,7 +60,7 @@ impl<'a> Parts<'a> {
         &[]
     }
 
-    /// The same with its escapes decoded (RFC 3986 section 2.1). The only error is want of memory.
+    /// The same with its escapes decoded (RFC 3986 section 2.1). The only error is out of memory.
     pub(crate) fn decoded(&self, alloc: Global, name: &str) -> Result<Vec<u8>, AllocError>
         ensures { IfOk result (λ octets. octets.items ≡ decoded_part self.now.route.now self.now.path.now name.now) }
     {

@@ -48,7 +48,7 @@ fn to_front(bytes: &mut Vec<u8>, start: usize, end: usize) -> usize
 }
 
 impl RequestBuffer {
-    /// Room in which nothing has come yet. The only error is want of memory.
+    /// Room in which nothing has come yet. The only error is out of memory.
     pub(crate) fn new(alloc: Global) -> Result<RequestBuffer, AllocError>
         ensures { IfOk result (λ buffer. length buffer ≡ 0) }
     {

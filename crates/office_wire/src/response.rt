@@ -10,7 +10,7 @@ use crate::refusal::Refusal;
 use crate::request_fault::RequestFault;
 use crate::status::{refusal_status, reply_status};
 use http::StatusCode;
-use office_core::{Reply, TableFault};
+use office_core::{Reply, StepFault, TableFault};
 use office_json::{form_error_text, refusal_text, reply_text};
 use std::alloc::AllocError;
 
@@ -44,7 +44,9 @@ impl Response {
         match fault {
             RequestFault::Refused(refusal) => Response::Refused(refusal),
             RequestFault::BadBody(number) => Response::BadBody(number),
-            RequestFault::NoMemory => Response::Replied(Reply::Servfail(TableFault::NoMemory)),
+            RequestFault::NoMemory => Response::Replied(Reply::Servfail(StepFault::BeforeCommit(
+                TableFault::NoMemory,
+            ))),
         }
     }
 
@@ -71,7 +73,7 @@ impl Response {
         }
     }
 
-    /// Appends the body. The only error is want of memory, and then nothing is appended; to a short response 256 octets of room
+    /// Appends the body. The only error is out of memory, and then nothing is appended; to a short response 256 octets of room
     /// are enough.
     pub(crate) fn push_body(&self, out: &mut Vec<u8>) -> Result<(), AllocError>
         ensures text { OnOk result (out.new.items ≡ out.old.items ++ response_body self.now) }

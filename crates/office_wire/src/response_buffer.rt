@@ -9,7 +9,7 @@ use crate::method::Method;
 use crate::response::Response;
 use crate::status::phrase;
 use itoa::Buffer;
-use office_core::{Reply, TableFault};
+use office_core::{Reply, StepFault, TableFault};
 use office_json::push_all;
 use std::alloc::{AllocError, Global};
 use std::marker::Model;
@@ -135,7 +135,7 @@ fn drop_unsent(text: &mut Vec<u8>, method: Method)
 }
 
 impl ResponseBuffer {
-    /// An empty one, with room for a short response. The only error is want of memory.
+    /// An empty one, with room for a short response. The only error is out of memory.
     pub(crate) fn new(alloc: Global) -> Result<ResponseBuffer, AllocError> {
         Ok(ResponseBuffer {
             head: Vec::with_capacity(alloc, HALF)?,
@@ -151,7 +151,7 @@ impl ResponseBuffer {
         &self.text[self.start..]
     }
 
-    /// Puts the whole text of a response to a request of a method in place of what was there. The only error is want of memory,
+    /// Puts the whole text of a response to a request of a method in place of what was there. The only error is out of memory,
     /// which does not come where the response is short.
     fn try_put(
         &mut self,
@@ -194,7 +194,7 @@ impl ResponseBuffer {
             Err(_) => {
                 self.put_short(
                     method,
-                    &Response::Replied(Reply::Servfail(TableFault::NoMemory)),
+                    &Response::Replied(Reply::Servfail(StepFault::BeforeCommit(TableFault::NoMemory))),
                     closing,
                 );
                 false

@@ -103,7 +103,7 @@ fn row_in(router: &Router<usize>, path: &str) -> Option<Found>
 }
 
 impl Routes {
-    /// All of them. The only error is want of memory.
+    /// All of them. The only error is out of memory.
     pub(crate) fn new(alloc: Global) -> Result<Routes, InsertError> {
         Ok(Routes {
             posts: router_of(alloc, Method::Post, all_routes())?,

@@ -10,7 +10,7 @@ IsOfStore (Store fault) = Unit {0}
 IsOfStore (Zone fault) = Unit {0}
 IsOfStore refusal = ⊥
 
--- the same as a line, or want of memory
+-- the same as a line, or out of memory
 abbrev pub IsStoreLine : LineFault → Type 0
 IsStoreLine (Refused refusal) = IsOfStore refusal
 IsStoreLine NoMemory = Unit {0}

@@ -49,7 +49,7 @@ impl Display for ImportedLine<'_> {
     }
 }
 
-/// The line of a zone that was imported. The only error is want of memory.
+/// The line of a zone that was imported. The only error is out of memory.
 fn imported_text(alloc: Global, zone: &Zone) -> Result<String, AllocError>
     ensures { IfOk result (λ text. string_bytes text ≡ imported_line zone.now) }
 {

@@ -64,7 +64,7 @@ module _ (left : Option (List ℕ)) (answer : List ℕ → Result (List ℕ) Ref
       ] in
       ((sent, reply, wrote.0.2), wrote.1)
 
-  -- a fault was told by the line of its own, or by that of want of memory
+  -- a fault was told by the line of its own, or by that of out of memory
   own_line : {X : Type 0} (view : X → List ℕ) (fault : LineFault) → GivesOf view left answer (Err fault) reads reads_after → Appends old new (told fault) → writes_after ≡ writes → Answered left answer old new (Err (Told fault)) reads reads_after writes writes_after
   own_line view (Refused refusal) given line fine = (given.0, line, given.1, fine)
   own_line view ReadFailed given line fine = (line, given.0, given.1, fine)

@@ -1,4 +1,4 @@
--- What steps of a job answer, beside the definition of what they make; want of memory and devices say nothing of the definition.
+-- What steps of a job answer, beside the definition of what they make; out of memory and devices say nothing of the definition.
 use Rattle.std.specs.Prelude.{◌≡◌, ℕ, ◌<◌, List, length, nat_lt, if◌then◌else◌, Option, Some, None, Result, Ok, Err}
 use Rattle.dns_names.specs.declared.name_fault.NameFault.{NameFault}
 use Rattle.dns_names.specs.declared.name_fault.NameFault.TheVariants as names

@@ -25,7 +25,7 @@ abbrev pub IsSent : Option (List ℕ) → Option (List ℕ) → List ℕ → Res
 IsSent old new text (Ok done) before after = Appends old new text × (after ≡ before)
 IsSent old new text (Err failed) before after = AppendsFront old new text × (before < after)
 
--- a fault is told by its line; where there is no memory for that of a refusal, want of memory is told in its place
+-- a fault is told by its line; where there is no memory for that of a refusal, out of memory is told in its place
 abbrev pub MayTell : LineFault → LineFault → Type 0
 MayTell (Refused refusal) line = (line ≡ Refused refusal) ⊎ (line ≡ NoMemory)
 MayTell fault line = line ≡ fault
@@ -36,7 +36,7 @@ IsTold old new fault (Ok done) before after = ⊥
 IsTold old new fault (Err (Told line)) before after = MayTell fault line × Appends old new (told line) × (after ≡ before)
 IsTold old new fault (Err WriteFailed) before after = ((line : LineFault) × MayTell fault line × AppendsFront old new (told line)) × (before < after)
 
--- a front of a text, and then the line of want of memory
+-- a front of a text, and then the line of out of memory
 abbrev pub IsCutShort : List ℕ → List ℕ → Type 0
 IsCutShort text cut = (n : ℕ) × (n ≤ length text) × (cut ≡ take n text ++ told NoMemory)
 
@@ -56,7 +56,7 @@ abbrev pub reply : Result (List ℕ) Refusal → List ℕ
 reply (Ok text) = text
 reply (Err refusal) = told_refusal refusal
 
--- the line of want of memory, before which a front of the answer may stand
+-- the line of out of memory, before which a front of the answer may stand
 abbrev pub IsShortReply : Option (List ℕ) → (List ℕ → Result (List ℕ) Refusal) → List ℕ → Type 0
 IsShortReply left answer text = (text ≡ told NoMemory) ⊎ ((whole : List ℕ) × Makes left answer (Ok whole) × IsCutShort whole text)
 

@@ -47,14 +47,14 @@ pub fn write_text<W: Sink>(writer: &mut W, text: &[u8]) -> Result<(), DeviceFail
     Ok(())
 }
 
-/// The line that tells a refusal. The only error is want of memory.
+/// The line that tells a refusal. The only error is out of memory.
 fn refusal_text(alloc: Global, refusal: Refusal) -> Result<String, AllocError>
     ensures { IfOk result (λ text. string_bytes text ≡ told_refusal refusal) }
 {
     format!(in alloc; "{}", RefusalLine(refusal))
 }
 
-/// Tells want of memory, and hands it on.
+/// Tells out of memory, and hands it on.
 fn tell_no_memory<W: Sink>(writer: &mut W) -> Result<(), JobFault>
     ensures { IsTold (W.contents writer.old) (W.contents writer.new) LineFault.NoMemory result (W.failures writer.old) (W.failures writer.new) }
 {
@@ -89,7 +89,7 @@ pub fn tell<W: Sink>(alloc: Global, writer: &mut W, fault: LineFault) -> Result<
             write_text(writer, text.as_bytes())?;
             Err(JobFault::Told(fault))
         }
-        // Told without memory, so that want of memory never hides it.
+        // Told without memory, so that out of memory never hides it.
         LineFault::ReadFailed => {
             write_text(writer, READ_FAILED_LINE.as_bytes())?;
             Err(JobFault::Told(fault))

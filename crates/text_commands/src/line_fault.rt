@@ -43,7 +43,7 @@ pub enum JobFault {
 /// The line of a failed read, which is told without memory.
 pub const READ_FAILED_LINE: &str = "refused 93\n";
 
-/// The line of want of memory, which is told without memory.
+/// The line of out of memory, which is told without memory.
 pub const NO_MEMORY_LINE: &str = "refused 99\n";
 
 impl From<NameFault> for LineFault {
