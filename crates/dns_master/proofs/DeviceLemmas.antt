@@ -8,7 +8,7 @@ use Rattle.dns_master.specs.declared.master_fault.MasterFault.TheVariants.{Paren
 use Rattle.dns_master.specs.Written.{IsProperPrefix}
 use Rattle.dns_master.specs.Device.{AppendsFront, TextWritten}
 
--- a front of the text went out, and this is left of it
+-- a prefix of the text went out, and this is left of it
 abbrev pub IsLeft : Option (List ℕ) → Option (List ℕ) → List ℕ → List ℕ → Type 0
 IsLeft old new text rest = (front : List ℕ) × (text ≡ front ++ rest) × Appends old new front
 

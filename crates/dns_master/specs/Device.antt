@@ -11,12 +11,12 @@ pub record TurnsOnce (old new : Pieces) : Type 0 where
   pub most : new.most ≡ old.most
   pub fails : new.fails ≡ old.fails
 
--- a front of the text went out
+-- a prefix of the text went out
 abbrev pub AppendsFront : Option (List ℕ) → Option (List ℕ) → List ℕ → Type 0
 AppendsFront old new text = (n : ℕ) × (n ≤ length text) × Appends old new (take n text)
 
 -- What the writer held before and after, the text, the answer, and the writer's failures before and after: all of the text went
--- out; or the writer failed, or memory ran out, and a front of it did.
+-- out; or the writer failed, or memory ran out, and a prefix of it did.
 abbrev pub TextWritten : Option (List ℕ) → Option (List ℕ) → List ℕ → Result (Unit {0}) MasterFault → ℕ → ℕ → Type 0
 TextWritten old new text (Ok done) before after = Appends old new text × (after ≡ before)
 TextWritten old new text (Err WriteFailed) before after = AppendsFront old new text × (before < after)

@@ -39,7 +39,7 @@ pub trait Sink: FaultCount {
     /// The octets that it holds, where they are known.
     ghost contents: { Self → Option (List ℕ) };
 
-    /// Writes once, a front of a slice that is not empty, and answers how many octets were taken, at least one. Any error
+    /// Writes once, a prefix of a slice that is not empty, and answers how many octets were taken, at least one. Any error
     /// counts as a failure, and so does a write that takes none.
     fn write_some(&mut self, bytes: &[u8]) -> Result<usize, DeviceFailed>
         requires { 0 < length bytes.now }

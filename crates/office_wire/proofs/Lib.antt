@@ -11,3 +11,4 @@ pub mod WindowLemmas
 pub mod PartLemmas
 pub mod TextLemmas
 pub mod RouteLemmas
+mod RouteExamples

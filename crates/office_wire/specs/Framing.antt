@@ -1,4 +1,4 @@
--- What stands at the front of the octets that have come.
+-- What the octets that were received begin with.
 use Rattle.std.specs.Prelude.{◌≡◌, ℕ, ◌+◌, ◌<◌, ◌≤◌, List, ◌++◌, length, drop, option_map, IsUtf8}
 use Rattle.httparse.specs.Grammar.{RequestHead, ReadsRequest, print_request, HasNoRequest, MayBecomeRequest}
 use Rattle.office_wire.specs.declared.length.Ask.TheVariants.{Body, Refused as Refuse}
@@ -31,11 +31,11 @@ ReadsHead window Partial = HasNoRequest window × MayBecomeRequest window
 ReadsHead window Hopeless = NeverHead window
 ReadsHead window (Whole g) = (h : RequestHead) × IsHeading g h × ReadsRequest window h (drop g.len window) × (g.len ≤ length window) × BodyUpTo 65536 g.ask
 
--- however they go on, no request stands whole there before there are so many octets
+-- however they go on, the request is incomplete until there are so many octets
 abbrev pub WaitsUpTo : List ℕ → ℕ → Type 0
 WaitsUpTo bytes n = (more : List ℕ) → length (bytes ++ more) < n → Waits (bytes ++ more)
 
--- what stands at the front
+-- what octets begin with
 abbrev pub IsFraming : List ℕ → Framing → Type 0
 IsFraming bytes (Waiting n) = Waits bytes × (length bytes < 81920) × WaitsUpTo bytes n × (n ≤ 81920)
 IsFraming bytes Bad = NeverHead bytes

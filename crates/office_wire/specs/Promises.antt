@@ -15,7 +15,7 @@ use Rattle.office_wire.specs.declared.response.Response.TheVariants.{Replied}
 use Rattle.office_wire.specs.Requests.{call_of}
 use Rattle.office_wire.specs.Exchange.{Turn, Standing, Run}
 
--- the call of what was read, where the machine answered it; none where it was refused in reading, or told SERVFAIL
+-- the call of what was read, where the machine answered it; none where it was refused in reading, or answered SERVFAIL
 abbrev pub call_in : Result Call RequestFault → Response → List Call
 call_in (Ok call) (Replied reply) = one_kept call (reply_of reply)
 call_in read response = []
@@ -29,12 +29,12 @@ answer_in read response = []
 abbrev pub calls : List Turn → List Call
 calls turns = flat_map (λ t. call_in (call_of t.head t.body) t.response) turns
 
--- and what was told
+-- and what they were answered
 abbrev pub given : List Turn → List Answer
 given turns = flat_map (λ t. answer_in (call_of t.head t.body) t.response) turns
 
--- What is promised of turns from a state to another: their calls are a run of the machine, which tells what was told and leads to the
--- other state; what the office promises of calls holds of them; what was told is right, by what was held before each call and after it;
+-- What is promised of turns from a state to another: their calls are a run of the machine, which gives the same answers and leads to the
+-- other state; what the office promises of calls holds of them; each answer is right, by the state before its call and after it;
 -- and what it promises each caller of what others do.
 pub record ArePromised (rules : List Rule) (s : State) (turns : List Turn) (t : State) : Type 0 where
   pub as_machine : given turns ≡ answers rules s (calls turns)

@@ -53,9 +53,8 @@ IsDone all (Err ReadFailed) known left before after = IsRead 0 all known left be
 IsDone all (Err StreamTooLong) known left before after = IsRead (2 ^ 64 - 1) all known left before after
 IsDone all (Err NoMemory) known left before after = (all ≡ []) × (left ≡ known) × (after ≡ before)
 
--- How often the reader and the writer failed, by the result: none where the call answers, the stream is too long or there was no memory;
--- and else the one that is told, once. So a read or a write that failed is not tried again, and nothing is written behind a read that
--- failed: since any read may be that one, all requests that stand whole are answered before each read.
+-- How often the reader and the writer failed, by the result: neither at Ok, at StreamTooLong and at NoMemory; at ReadFailed the reader
+-- once and the writer not; at WriteFailed the writer once and the reader not. So a read or a write that failed is not tried again.
 abbrev pub CountsServed : Result (Unit {0}) ServeFault → ℕ → ℕ → ℕ → ℕ → Type 0
 CountsServed (Err ReadFailed) reads reads_now writes writes_now = (reads_now ≡ reads + 1) × (writes_now ≡ writes)
 CountsServed (Err WriteFailed) reads reads_now writes writes_now = (reads_now ≡ reads) × (writes_now ≡ writes + 1)
@@ -69,7 +68,7 @@ pub record IsReplied (rules : List Rule) (c : Standing) (read : Result Call Requ
   pub answers : Answers rules c read response d
   pub text_is : text ≡ text_of method response closing
 
--- this was answered to what stands at the front, in this text, and how the table stands behind it
+-- this was answered to what the octets begin with, in this text, and how the table stands behind it
 abbrev pub IsProgress : List Rule → Standing → List ℕ → Progress → List ℕ → Standing → Type 0
 IsProgress rules c pending (Waiting n) text d = d ≡ c
 IsProgress rules c pending (Next n) text d =

@@ -23,9 +23,9 @@ use httparse::spans::HeaderSpan;
 use office_core::{ZoneTable, step};
 use std::alloc::Global;
 
-/// What was answered to the octets that have come.
+/// How far the octets that were received are answered.
 pub(crate) enum Progress {
-    /// Nothing: no request stands whole among them, nor before there are so many.
+    /// They begin with an incomplete request, which stays so until there are so many.
     Waiting(usize),
     /// A request of so many octets, and the next may follow.
     Next(usize),
@@ -72,7 +72,7 @@ impl<'a> Service<'a> {
         let _whole = out.put(heading.method, &response, heading.closes);
     }
 
-    /// Answers the request at the front, where it stands there whole.
+    /// Answers the request that the octets begin with, where it is complete.
     fn answer<T: ZoneTable>(
         &self,
         pending: &[u8],

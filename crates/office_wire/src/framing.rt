@@ -1,4 +1,4 @@
-//! What stands at the front of the octets that have come.
+//! What the octets that were received begin with.
 
 ghost use Rattle.std.specs.Prelude.{◌≡◌, take, length};
 ghost use Rattle.office_wire.specs.Exchange.{Waits, IsMethodAt};
@@ -10,12 +10,12 @@ use crate::method::Method;
 use crate::refusal::Refusal;
 use httparse::spans::HeaderSpan;
 
-/// What stands at the front of the octets that have come.
+/// What the octets that were received begin with.
 #[derive(Clone, Copy)]
 pub(crate) enum Framing<'a> {
-    /// No whole request yet, nor before there are so many octets.
+    /// An incomplete request, and still incomplete until there are so many octets.
     Waiting(usize),
-    /// No head, however it goes on.
+    /// What no continuation makes a head.
     Bad,
     /// A head that is refused, and its method.
     Refused(Method, Refusal),
@@ -34,7 +34,7 @@ fn window_of(bytes: &[u8]) -> &[u8]
     }
 }
 
-/// What stands at the front.
+/// What the octets begin with.
 pub(crate) fn framing_of<'a>(bytes: &'a [u8], spans: &mut [HeaderSpan]) -> Framing<'a>
     requires { length spans.old ≡ 5462 }
     ensures { IsFraming bytes.now result }
@@ -51,7 +51,7 @@ pub(crate) fn framing_of<'a>(bytes: &'a [u8], spans: &mut [HeaderSpan]) -> Frami
     }
 }
 
-/// The method of the request at the front, where its head has come whole; no request stands whole there.
+/// The method of the request that the octets begin with, where its head is complete; the request is not.
 pub(crate) fn method_at(bytes: &[u8], spans: &mut [HeaderSpan]) -> Method
     requires spans { length spans.old ≡ 5462 }
     requires waits { Waits bytes.now }

@@ -3,13 +3,13 @@
 ghost use Rattle.office_wire.specs.Exchange.{FramingIsUnique};
 ghost use Rattle.office_wire.specs.Promises.{ExchangesAreRuns};
 
-/// A stream begins with one whole request at most: its head, its body and what follows are told by the octets.
+/// A stream begins with one whole request at most: the octets determine its head, its body and what follows.
 pub fn framing_is_unique()
     ensures { FramingIsUnique }
 {}
 
-/// The calls of an exchange, but those that were told SERVFAIL, are a run of the machine, which tells what was told and leads to the
-/// state behind the exchange; so what the office promises of calls holds of them.
+/// The calls of an exchange, but those that were answered SERVFAIL, are a run of the machine, which gives the same answers and leads
+/// to the state after the exchange; so what the office promises of calls holds of them.
 pub fn exchanges_are_runs()
     ensures { ExchangesAreRuns }
 {}

@@ -1,4 +1,4 @@
-//! The octets that have come and are not answered yet.
+//! The octets that were received and are not answered yet.
 
 ghost use Rattle.std.specs.Prelude.{◌≡◌, ◌<◌, ◌≤◌, ◌+◌, ◌++◌, ◌-◌, ℕ, List, true, vec_len, take, drop, length, IfOk, OnErr, OnOk};
 ghost use Rattle.std.specs.Io.KnownBytes.{Consumes, IsAtEnd, Keeps};
@@ -13,8 +13,8 @@ use std::marker::Model;
 /// The room for a head and a body.
 const ROOM: usize = 81_920;
 
-/// The octets that have come and are not answered yet. They move to the front of their room at a read, and at no other time.
-/// No request stands whole there before so many octets are there as are awaited, so that a head is not read anew at each piece of
+/// The octets that were received and are not answered yet. They move to the start of the buffer at a read, and at no other time.
+/// The request is incomplete until as many octets are there as are awaited, so that a head is not parsed again for each piece of
 /// its body.
 #[derive(Drop)]
 pub(crate) struct RequestBuffer {
@@ -32,7 +32,7 @@ impl Model for RequestBuffer {
     ghost invariant = { λ s. (s.start ≤ s.end) × (s.end ≤ 81920) × (vec_len s.bytes ≡ 81920) × (s.awaited ≤ 81920) × WaitsUpTo (slice_range s.bytes.items s.start s.end) s.awaited };
 }
 
-/// Moves the octets of a range to the front, and answers how many they are.
+/// Moves the octets of a range to the start, and returns how many they are.
 fn to_front(bytes: &mut Vec<u8>, start: usize, end: usize) -> usize
     requires order { start ≤ end }
     requires within { end ≤ vec_len bytes.old }
@@ -48,7 +48,7 @@ fn to_front(bytes: &mut Vec<u8>, start: usize, end: usize) -> usize
 }
 
 impl RequestBuffer {
-    /// Room in which nothing has come yet. The only error is out of memory.
+    /// An empty buffer. The only error is want of memory.
     pub(crate) fn new(alloc: Global) -> Result<RequestBuffer, AllocError>
         ensures { IfOk result (λ buffer. length buffer ≡ 0) }
     {
@@ -69,7 +69,7 @@ impl RequestBuffer {
         &self.bytes[self.start..self.end]
     }
 
-    /// Reads once behind what is there, and answers how many octets came.
+    /// Reads once behind what is there, and returns how many octets were received: none only at the end.
     pub(crate) fn fill<R: Source>(&mut self, reader: &mut R) -> Result<usize, DeviceFailed>
         requires { length self.old < 81920 }
         ensures got { IfOk result (λ n. (got : List ℕ) × (self.new ≡ self.old ++ got) × (length got ≡ n) × Consumes (R.remaining reader.old) (R.remaining reader.new) got × (n ≡ 0 → IsAtEnd (R.remaining reader.new))) }
@@ -84,7 +84,7 @@ impl RequestBuffer {
         Ok(got)
     }
 
-    /// Lets the first octets go.
+    /// Drops the first octets.
     pub(crate) fn consume(&mut self, n: usize)
         requires { n ≤ length self.old }
         ensures { self.new ≡ drop n self.old }

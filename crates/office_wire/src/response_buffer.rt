@@ -21,7 +21,7 @@ const ROOM: usize = 512;
 const HALF: usize = 256;
 
 /// The text of the response that is to be written. The room for a short response is taken when it is made; a longer one takes
-/// memory of its own. The body is printed behind room for the head, which is told last, since it tells how long the body is.
+/// memory of its own. The body is printed behind room for the head, which is written last, since it gives the body's length.
 #[derive(Drop)]
 pub(crate) struct ResponseBuffer {
     head: Vec<u8>,

@@ -94,7 +94,8 @@ fn serve_in<R: Source, W: Sink, T: ZoneTable>(
 /// is asked. Each response is written whole before the next request is looked at; a list that there is no memory for is answered
 /// SERVFAIL, and nothing takes memory between the change that an update makes and the end of its response.
 ///
-/// `ReadFailed` and `WriteFailed` come only where the reader or the writer failed in this call. `StreamTooLong` comes after
+/// `ReadFailed` comes where the reader failed in this call, and then the writer did not; `WriteFailed` comes where the writer
+/// failed, and then the reader did not; after `Ok` neither failed. `StreamTooLong` comes after
 /// 2^64 - 1 reads. `NoMemory` comes before anything is read.
 pub fn serve<R: Source, W: Sink, T: ZoneTable>(
     alloc: Global,
@@ -108,7 +109,7 @@ pub fn serve<R: Source, W: Sink, T: ZoneTable>(
     ensures run { T.is_honest table.new → (s : State) → T.holds table.old s → (turns : List Turn) × (t : State) × T.holds table.new t × Run policy.now (standing s (T.failures table.old)) turns (standing t (T.failures table.new)) × IsDone turns result (R.remaining reader.old) (R.remaining reader.new) (W.contents writer.old) (W.contents writer.new) × ArePromised policy.now s turns t }
     // A store that has kept its word had kept it before.
     ensures honest { T.is_honest table.new → T.is_honest table.old }
-    // A device that failed in this call is told, and it failed once; so all requests that stand whole are answered before each read.
+    // A fault of a device is reported only if the device failed in this call, and it failed once. `Ok` means that neither failed.
     ensures devices { CountsServed result (R.failures reader.old) (R.failures reader.new) (W.failures writer.old) (W.failures writer.new) }
 {
     let Ok(routes) = Routes::new(alloc) else {
