@@ -8,7 +8,7 @@ ghost use Rattle.office_rows.specs.RowFaults.{Reads};
 ghost use Rattle.office_rows.specs.RowReading.{request_in, receipt_in};
 
 use crate::columns::{identifier_in, identifier_text, name_from};
-use crate::replies::{reveal_reply, reply_in, reply_words};
+use crate::replies::{reply_in, reply_words, reveal_reply};
 use crate::row_fault::RowFault;
 use grant_policy::Identifier;
 use item_lines::{items_text, read_items};

@@ -48,7 +48,7 @@ fn to_front(bytes: &mut Vec<u8>, start: usize, end: usize) -> usize
 }
 
 impl RequestBuffer {
-    /// An empty buffer. The only error is want of memory.
+    /// An empty buffer. The only error is out of memory.
     pub(crate) fn new(alloc: Global) -> Result<RequestBuffer, AllocError>
         ensures { IfOk result (λ buffer. length buffer ≡ 0) }
     {

@@ -194,7 +194,9 @@ impl ResponseBuffer {
             Err(_) => {
                 self.put_short(
                     method,
-                    &Response::Replied(Reply::Servfail(StepFault::BeforeCommit(TableFault::NoMemory))),
+                    &Response::Replied(Reply::Servfail(StepFault::BeforeCommit(
+                        TableFault::NoMemory,
+                    ))),
                     closing,
                 );
                 false
