@@ -7,9 +7,9 @@ ghost use Rattle.office_core.specs.Tables.{Fits, addition_in, committed};
 
 use dns_names::Name;
 use grant_policy::Identifier;
-use office_core::{Addition, Change, Receipt, TableFault, ZoneTable};
+use office_core::{Addition, Receipt, TableFault, ZoneTable};
 use std::alloc::Global;
-use zone_core::Zone;
+use zone_core::{Change, Zone};
 
 /// `ZoneTable::zone`.
 pub fn zone<T: ZoneTable>(

@@ -3,18 +3,20 @@
 use dns_data::Record;
 use dns_names::Name;
 use grant_policy::Identifier;
-use office_core::{NumberedChange, Reply, Right, TableFault, UpdateReply};
+use office_core::{NumberedChange, Reply, Right, StepFault, TableFault, UpdateReply};
 use office_json::{BodyFault, form_error_text, read_update, refusal_text};
 use std::alloc::Global;
 use test_rows::Row;
-use zone_core::{DelegatedServer, Delegation, Failed, Glue, ItemList, Operation, Place, Rcode};
+use zone_core::{
+    Change, DelegatedServer, Delegation, Failed, Glue, ItemList, Operation, Place, Rcode,
+};
 
 /// The reply of a row, or none where its verb is that of no reply.
 pub fn reply_of(alloc: Global, row: &Row<'_>) -> Result<Option<Reply>, BodyFault> {
     Ok(Some(match row.verb {
         "reply" => Reply::Update(update_reply(alloc, text_of(&row.text)?)?),
         "id-reused" => Reply::IdReused,
-        "servfail" => Reply::Servfail(TableFault::Store),
+        "servfail" => Reply::Servfail(StepFault::Commit(TableFault::Store)),
         "not-auth" => Reply::NotAuth,
         "not-zone" => Reply::NotZone,
         "granted" => Reply::Right(Right::Granted(Identifier::read(alloc, &row.text)?)),
@@ -116,8 +118,10 @@ fn changes(alloc: Global, lines: &str) -> Result<Vec<NumberedChange>, BodyFault>
         let (removed, added) = cut(rest, '|');
         changes.push(NumberedChange {
             number: number.parse::<u64>().or(Err(BodyFault::BadField))?,
-            removed: records(alloc, removed.as_bytes())?,
-            added: records(alloc, added.as_bytes())?,
+            change: Change {
+                removed: records(alloc, removed.as_bytes())?,
+                added: records(alloc, added.as_bytes())?,
+            },
         })?;
     }
     Ok(changes)

@@ -3,7 +3,7 @@
 use dns_data::Record;
 use dns_names::Name;
 use grant_policy::Identifier;
-use office_core::{NumberedChange, Reply, Right, TableFault, UpdateReply};
+use office_core::{NumberedChange, Reply, Right, StepFault, TableFault, UpdateReply};
 use std::alloc::{AllocError, Global};
 use zone_core::{DelegatedServer, Delegation, Glue, ItemList, Place};
 
@@ -114,8 +114,8 @@ fn push_changes(
 ) -> Result<(), AllocError> {
     for change in changes {
         push_line(&format!(in alloc; "change {}", change.number)?, told)?;
-        push_records(alloc, "- ", &change.removed, told)?;
-        push_records(alloc, "+ ", &change.added, told)?;
+        push_records(alloc, "- ", &change.change.removed, told)?;
+        push_records(alloc, "+ ", &change.change.added, told)?;
     }
     Ok(())
 }
@@ -133,13 +133,20 @@ fn push_right(right: &Right, told: &mut Vec<u8>) -> Result<(), AllocError> {
     }
 }
 
+/// What failed in a step.
+fn cause_text(fault: StepFault) -> &'static str {
+    match fault.cause() {
+        TableFault::Store => "the store failed",
+        TableFault::NoMemory => "out of memory",
+    }
+}
+
 /// Appends a reply.
 fn push_reply(alloc: Global, reply: &Reply, told: &mut Vec<u8>) -> Result<(), AllocError> {
     match reply {
         Reply::Update(reply) => push_update(alloc, reply, told),
         Reply::IdReused => push("the identifier is taken", told),
-        Reply::Servfail(TableFault::Store) => push("the store failed", told),
-        Reply::Servfail(TableFault::NoMemory) => push("out of memory", told),
+        Reply::Servfail(fault) => push(cause_text(*fault), told),
         Reply::NotAuth => push("no zone", told),
         Reply::NotZone => push("outside the zone", told),
         Reply::Records(records) => push_records(alloc, "", records, told),

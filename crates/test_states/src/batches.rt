@@ -9,14 +9,14 @@ use dns_data::Record;
 use dns_names::Name;
 use grant_policy::Identifier;
 use item_lines::read_items;
-use office_core::{Addition, Change, Receipt};
+use office_core::{Addition, Receipt};
 use office_rows::{
     addition_batch, new_tables_hold_nothing, read_reply, replacement_batch, zone_batch,
 };
 use office_sql::Batch;
 use std::alloc::{AllocError, Global};
 use test_rows::Row;
-use zone_core::{Operation, Update, Zone};
+use zone_core::{Change, Operation, Update, Zone};
 
 /// The origin of every zone that is written.
 const ORIGIN: &[u8] = b"example.org.";
@@ -57,7 +57,7 @@ fn change_of(alloc: Global, body: &[u8]) -> Result<Option<Change>> {
         removed: records_of(alloc, body, "gone ")?,
         added: records_of(alloc, body, "come ")?,
     };
-    Ok(if change.is_nothing() {
+    Ok(if change.is_empty() {
         None
     } else {
         Some(change)
@@ -92,12 +92,8 @@ pub fn push_new_zone(alloc: Global, row: &Row<'_>, answer: &mut Vec<u8>) -> Resu
 fn have_same(alloc: Global, old: &Zone, new: &Zone) -> Result<bool, AllocError>
     ensures { IfOk result (λ same. same ≡ is_same old.now.records new.now.records) }
 {
-    let gone = old.minus(alloc, new)?;
-    if !gone.as_slice().is_empty() {
-        return Ok(false);
-    }
-    let come = new.minus(alloc, old)?;
-    Ok(come.as_slice().is_empty())
+    let change = Change::between(alloc, old.records(), new.records())?;
+    Ok(change.is_empty())
 }
 
 /// What is written for a zone in the place of another one, if they have one origin and differ.

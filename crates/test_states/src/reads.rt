@@ -4,11 +4,10 @@ use crate::lines::rows_of;
 use anyhow::Result;
 use dns_data::Record;
 use dns_names::Name;
-use office_core::Change;
 use office_rows::{RowFault, changes_of, part_of, receipt_of, records_within, zone_of};
 use std::alloc::{AllocError, Global};
 use test_rows::Row;
-use zone_core::Zone;
+use zone_core::{Change, Zone};
 
 fn push_records(
     alloc: Global,

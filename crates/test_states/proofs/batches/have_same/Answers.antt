@@ -1,25 +1,18 @@
-use Rattle.std.proofs.Common.{◌≡◌, Bool, true, false, ◌&&◌, ◌==◌, List, length, sym, ap, ◌∙◌}
-use Rattle.std.specs.FinMap.{len}
-use Rattle.std.proofs.lemmas.Bool.{and_left}
+use Rattle.std.proofs.Common.{◌≡◌, List, length, ◌&&◌, ◌==◌, sym, ap, ◌∙◌}
+use Rattle.std.specs.FinMap.{len, entries, len-entries}
+use Rattle.std.proofs.lemmas.List.{length-map}
 use Rattle.dns_data.specs.declared.record.Record.{Record}
-use Rattle.zone_core.specs.Sets.{minus}
+use Rattle.zone_core.specs.Sets.{Records, Key, listing, minus}
+use Rattle.zone_core.specs.Changes.{ChangeOf, change_between, is_empty}
 use Rattle.test_states.proofs.batches.have_same.Goals as goal
-use Rattle.office_rows.proofs.BatchLaws.{bare_rows}
 
-pub returns-then-not-is_empty : goal.returns-then-not-is_empty
-returns-then-not-is_empty c =
-    let a = c.args.old.now.records in
-    let b = c.args.new.now.records in
-    let some : (len (minus a b) == 0) ≡ false =
-    bare_rows (minus a b) c.in_ok-gone.gone.items c.in_ok-gone.ensures ∙ ap (λ (rs : List Record). length rs == 0) (sym c.as_slice.ensures.value) ∙ sym c.is_empty.ensures ∙ c.if-not-is_empty.true in
-    sym (and_left (len (minus a b) == 0) (len (minus b a) == 0) some)
+length-listing : (set : Records) → length (listing set) ≡ len set
+length-listing set = length-map (entries set) (λ (e : Key × Record). e.1) ∙ sym (len-entries set)
 
 pub returns : goal.returns
 returns c =
     let a = c.args.old.now.records in
     let b = c.args.new.now.records in
-    let none : (len (minus a b) == 0) ≡ true =
-    bare_rows (minus a b) c.in_ok-gone.gone.items c.in_ok-gone.ensures ∙ ap (λ (rs : List Record). length rs == 0) (sym c.as_slice.ensures.value) ∙ sym c.is_empty.ensures ∙ c.if-not-is_empty.false in
-    let rest : c.is_empty-2.result ≡ (len (minus b a) == 0) =
-    c.is_empty-2.ensures ∙ ap (λ (rs : List Record). length rs == 0) c.as_slice-2.ensures.value ∙ sym (bare_rows (minus b a) c.in_ok-come.come.items c.in_ok-come.ensures) in
-    rest ∙ ap (λ (x : Bool). x && (len (minus b a) == 0)) (sym none)
+    c.is_empty.ensures
+    ∙ ap is_empty (c.in_ok-change.ensures ∙ (λ i. change_between (c.records.ensures.set i) (c.records-2.ensures.set i)))
+    ∙ (λ i. (length-listing (minus a b) i == 0) && (length-listing (minus b a) i == 0))
