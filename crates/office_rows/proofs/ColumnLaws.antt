@@ -21,7 +21,7 @@ use Rattle.dns_master.proofs.CleanLaws.{data_clean}
 use Rattle.office_rows.specs.declared.row_fault.RowFault.{RowFault}
 use Rattle.office_rows.specs.declared.row_fault.RowFault.TheVariants.{BadRow}
 use Rattle.office_rows.specs.RowFaults.{◌>>=◌, of_names, of_datas, canonical}
-use Rattle.office_rows.specs.RowReading.{name_in, fields_of, type_in, data_in, ttl_in, record_at}
+use Rattle.office_rows.specs.RowReading.{or_bad, name_in, fields_of, type_in, data_in, ttl_in, record_at}
 use Rattle.office_rows.proofs.RowSteps.{done, ok_is, step_ok, datas_ok, or_bad_ok, needed_ok, canonical_again, canonical_ok}
 use Rattle.office_rows.proofs.FieldsLaws.{fields_read}
 
@@ -40,7 +40,7 @@ name_found text name e =
 -- ---- types
 
 pub type_read : (t : RecordType) → type_in (pos (type_number t)) ≡ Ok t
-type_read t = ap or_bad (number_found t)
+type_read t = ap (or_bad {A = RecordType}) (number_found t)
 
 pub type_found : (number : ℤ) (t : RecordType) → type_in number ≡ Ok t → number ≡ pos (type_number t)
 type_found (pos n) t e =
