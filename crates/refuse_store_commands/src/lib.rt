@@ -6,7 +6,7 @@ ghost use Rattle.std.specs.Prelude.{List, Option, length};
 ghost use Rattle.office_core.specs.States.{State};
 ghost use Rattle.office_wire.specs.Exchange.{Turn};
 ghost use Rattle.office_wire.specs.Serving.{standing};
-ghost use Rattle.office_wire.specs.declared.fault.ServeFault.{ServeFault as FaultOf};
+ghost use Rattle.office_wire.specs.declared.serve_fault.ServeFault.{ServeFault as FaultOf};
 ghost use Rattle.store_commands.specs.Serve.{AreServed, AreTold, IsSoMany};
 
 use dns_master::Sink;

@@ -15,7 +15,7 @@ use Rattle.text_commands.specs.declared.line_fault.JobFault.TheVariants.{Told, W
 use Rattle.text_commands.specs.Device.{AppendsFront}
 use Rattle.text_commands.specs.Replies.{IsTold, told}
 use Rattle.text_commands.proofs.JobLemmas.{front_behind}
-use Rattle.office_wire.specs.declared.fault.ServeFault.{ServeFault}
+use Rattle.office_wire.specs.declared.serve_fault.ServeFault.{ServeFault}
 use Rattle.store_commands.specs.Serve.{joined, ended_line, ended_lines, AreServed, AreTold, IsSoMany}
 
 -- one more behind the others

@@ -5,7 +5,7 @@ use Rattle.std.specs.List.{flat_map}
 use Rattle.grant_policy.specs.declared.rule.Rule.{Rule}
 use Rattle.grant_policy.specs.Documents.{document_of}
 use Rattle.grant_policy.specs.Reading.{policy_of}
-use Rattle.office_wire.specs.declared.fault.ServeFault.{ServeFault}
+use Rattle.office_wire.specs.declared.serve_fault.ServeFault.{ServeFault}
 use Rattle.office_wire.specs.Exchange.{Turn, Standing, Run}
 use Rattle.office_wire.specs.Promises.{ArePromised}
 use Rattle.office_wire.specs.Refusals.{fault_number}

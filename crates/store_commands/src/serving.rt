@@ -4,7 +4,7 @@ ghost use Rattle.std.specs.Prelude.{◌≡◌, ◌<◌, List, Option, length};
 ghost use Rattle.office_core.specs.States.{State};
 ghost use Rattle.office_wire.specs.Exchange.{Turn, Run};
 ghost use Rattle.office_wire.specs.Serving.{standing};
-ghost use Rattle.office_wire.specs.declared.fault.ServeFault.{ServeFault as FaultOf};
+ghost use Rattle.office_wire.specs.declared.serve_fault.ServeFault.{ServeFault as FaultOf};
 ghost use Rattle.text_commands.specs.LineFaults.{GivesOf};
 ghost use Rattle.text_commands.specs.Replies.{IsSent};
 ghost use Rattle.store_commands.specs.Serve.{policy_read, connection_line, ended_line, most_of, AreServed, IsSoMany, AreTold};

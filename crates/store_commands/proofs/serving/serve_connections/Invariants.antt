@@ -1,6 +1,6 @@
 use Rattle.std.proofs.Common.{◌≡◌, List, Option, length}
 use Rattle.std.specs.Io.KnownBytes.{Appends}
-use Rattle.office_wire.specs.declared.fault.ServeFault.{ServeFault}
+use Rattle.office_wire.specs.declared.serve_fault.ServeFault.{ServeFault}
 use Rattle.office_core.specs.States.{State}
 use Rattle.office_wire.specs.Exchange.{Turn, Run}
 use Rattle.office_wire.specs.Serving.{standing}
