@@ -35,7 +35,7 @@ use Rattle.office_rows.specs.declared.row_fault.RowFault.TheVariants.{BadRow}
 use Rattle.office_rows.specs.RowFaults.{◌>>=◌, Refuses, of_zone, of_zones}
 use Rattle.office_rows.specs.RowReading.{each_read, record_in, zone_by}
 use Rattle.office_rows.proofs.StoredLaws.{rows_stored}
-use Rattle.zone_core.specs.Zones.{ZoneOf, IsZone, built, unless_fault, fault_in, evened, latest}
+use Rattle.zone_core.specs.Zones.{ZoneOf, IsZone, built, unless_fault, fault_in, min_rrset_ttls, latest}
 use Rattle.zone_core.specs.Views.{zone_in, AreOfZone}
 use Rattle.zone_core.specs.Parts.{part_of, at_names}
 use Rattle.zone_core.specs.Rebuilt.{AreAllOf}
@@ -123,7 +123,7 @@ origin_of origin set None zone e = let same : record { origin = origin; records 
 origin_of origin set (Some fault) zone e = absurd cc
 
 pub built_at : (origin : Labels) (rs : List Record) (zone : ZoneOf) → built origin rs ≡ Ok zone → zone.origin ≡ origin
-built_at origin rs zone e = origin_of origin (evened (latest rs)) (fault_in origin (evened (latest rs))) zone e
+built_at origin rs zone e = origin_of origin (min_rrset_ttls (latest rs)) (fault_in origin (min_rrset_ttls (latest rs))) zone e
 
 built_is : (zone : ZoneOf) (rs : List Record) → IsZone zone → AreAllOf rs zone.records → built zone.origin rs ≡ Ok zone
 built_is = zones_are_rebuilt

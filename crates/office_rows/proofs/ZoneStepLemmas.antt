@@ -5,7 +5,7 @@ use Rattle.std.proofs.lemmas.List.{drop_more, drop_all, nil_from_length}
 use Rattle.sqlite_rules.proofs.ListLemmas.{all_from, contains_had}
 use Rattle.zone_core.specs.declared.refusals.ZoneFault.{ZoneFault}
 use Rattle.zone_core.specs.Sets.{Records, set_of, listing, InOrder, IsIn}
-use Rattle.zone_core.specs.Zones.{ZoneOf, IsZone, built, evened, latest, fault_in, unless_fault}
+use Rattle.zone_core.specs.Zones.{ZoneOf, IsZone, built, min_rrset_ttls, latest, fault_in, unless_fault}
 use Rattle.zone_core.specs.Views.{zone_in, AreOfZone}
 use Rattle.zone_core.proofs.RowLemmas.{listing_of}
 use Rattle.zone_core.proofs.RebuiltLemmas.{zones_are_rebuilt}
@@ -80,7 +80,7 @@ module _ (o : Labels) (rs : List Record) where
   is_built zone seen e order set is b tells = (
     λ t.
         (let same = tells.0 t in
-        let origin : zone.origin ≡ o = built_origin o (evened (latest rs)) (fault_in o (evened (latest rs))) zone (zones_ok (built o rs) zone e) in
+        let origin : zone.origin ≡ o = built_origin o (min_rrset_ttls (latest rs)) (fault_in o (min_rrset_ttls (latest rs))) zone (zones_ok (built o rs) zone e) in
         let records : zone.records ≡ set_of rs = sym set ∙ ap set_of same in
         record { order = subst InOrder same order; zone = subst IsZone ((λ i. record { origin = origin i; records = records i })) is }),
     λ of.

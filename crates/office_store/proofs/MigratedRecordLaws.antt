@@ -3,10 +3,10 @@ use Rattle.std.proofs.Common.{◌≡◌, ℕ, Bool, true, false, cond, List, Opt
 use Rattle.sqlite_rules.proofs.ListLemmas.{all_from, contains_had}
 use Rattle.dns_data.specs.declared.record.Record.{Record}
 use Rattle.zone_core.specs.Sets.{Records, set_of, listing, is_same, IsIn}
-use Rattle.zone_core.specs.Zones.{ZoneOf, zone_of, evened, latest}
-use Rattle.zone_core.specs.Views.{even_rows}
+use Rattle.zone_core.specs.Zones.{ZoneOf, zone_of, min_rrset_ttls, latest}
+use Rattle.zone_core.specs.Views.{min_ttl_rows}
 use Rattle.zone_core.specs.Rebuilt.{AreAllOf}
-use Rattle.zone_core.proofs.MinTtlLemmas.{even_set, even_order}
+use Rattle.zone_core.proofs.MinTtlLemmas.{min_ttl_set, min_ttl_order}
 use Rattle.zone_core.proofs.RebuiltLemmas.{latest_is}
 use Rattle.zone_core.proofs.RowLemmas.{listing_of}
 use Rattle.zone_core.specs.Changes.{ChangeOf}
@@ -24,11 +24,11 @@ module _ (o : Labels) (rs : List Record) (is : AreOfOldZone o rs) where
   latest_here : latest rs ≡ set_of rs
   latest_here = latest_is (set_of rs) (kept o rs is) rs (record { inside = all_from (λ r. IsIn r (set_of rs)) rs (λ r h. here rs r is.order h); whole = λ r h. contains_had rs r (there rs r h) })
 
-  zone_is : zone_of o rs ≡ record { origin = o; records = set_of (even_rows rs) }
-  zone_is = ap (λ (set : Records). record { origin = o; records = set }) (ap evened latest_here ∙ sym (even_set rs is.order))
+  zone_is : zone_of o rs ≡ record { origin = o; records = set_of (min_ttl_rows rs) }
+  zone_is = ap (λ (set : Records). record { origin = o; records = set }) (ap min_rrset_ttls latest_here ∙ sym (min_ttl_set rs is.order))
 
-  records_are : listing (zone_of o rs).records ≡ even_rows rs
-  records_are = ap (λ (z : ZoneOf). listing z.records) zone_is ∙ listing_of (even_rows rs) (even_order rs is.order)
+  records_are : listing (zone_of o rs).records ≡ min_ttl_rows rs
+  records_are = ap (λ (z : ZoneOf). listing z.records) zone_is ∙ listing_of (min_ttl_rows rs) (min_ttl_order rs is.order)
 
   none_changed : is_some (change_for o rs) ≡ false → is_same (set_of rs) (zone_of o rs).records ≡ true
   unfolding change_for
@@ -37,10 +37,10 @@ module _ (o : Labels) (rs : List Record) (is : AreOfOldZone o rs) where
     go true c f = refl
     go false c f = absurd cc
 
-  were_even : is_some (change_for o rs) ≡ false → rs ≡ even_rows rs
+  were_even : is_some (change_for o rs) ≡ false → rs ≡ min_ttl_rows rs
   were_even e = sym (listing_of rs is.order) ∙ ap listing (sym (own_even o rs (even_is o rs is (none_changed e)))) ∙ records_are
 
-  next_records : listing (next_zone o rs).records ≡ listing (advanced (record { origin = o; records = set_of (even_rows rs) })).records
+  next_records : listing (next_zone o rs).records ≡ listing (advanced (record { origin = o; records = set_of (min_ttl_rows rs) })).records
   unfolding next_zone
   next_records = ap (λ (z : ZoneOf). listing (advanced z).records) zone_is
 

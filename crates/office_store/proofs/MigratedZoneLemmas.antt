@@ -12,7 +12,7 @@ use Rattle.std.specs.List.Sorted.{IsStrictlySortedBy}
 use Rattle.std.specs.declared.cmp.Ordering.TheVariants.{Less}
 use Rattle.zone_core.specs.declared.refusals.ZoneFault.{ZoneFault}
 use Rattle.zone_core.specs.Sets.{Records, set_of, listing, is_same, InOrder, IsIn, AreRows}
-use Rattle.zone_core.specs.Zones.{ZoneOf, IsZone, AreKept, zone_of, built, evened, latest, fault_in, unless_fault}
+use Rattle.zone_core.specs.Zones.{ZoneOf, IsZone, AreKept, zone_of, built, min_rrset_ttls, latest, fault_in, unless_fault}
 use Rattle.zone_core.specs.Views.{zone_in, AreOfZone}
 use Rattle.zone_core.specs.Changes.{changed, FitsIn, ChangeOf, change_between}
 use Rattle.zone_core.proofs.AdvancedLemmas.{advanced_is}
@@ -49,12 +49,12 @@ evened_records o set (Some fault) zone e = absurd cc
 
 pub own_even : (o : Labels) (rs : List Record) → AreOfZone o rs → (zone_of o rs).records ≡ set_of rs
 own_even o rs is =
-    evened_records o (evened (latest rs)) (fault_in o (evened (latest rs))) (zone_in o rs)
+    evened_records o (min_rrset_ttls (latest rs)) (fault_in o (min_rrset_ttls (latest rs))) (zone_in o rs)
     (zones_are_rebuilt (zone_in o rs) rs is.zone (record { inside = all_from (λ r. IsIn r (set_of rs)) rs (λ r h. here rs r is.order h); whole = λ r h. contains_had rs r (there rs r h) }))
 
 -- records that make a zone are built as it
 pub built_even : (o : Labels) (rs : List Record) → IsZone (zone_of o rs) → built o rs ≡ Ok (zone_of o rs)
-built_even o rs is = ap (unless_fault o (evened (latest rs))) (no_fault o (evened (latest rs)) is.kept is)
+built_even o rs is = ap (unless_fault o (min_rrset_ttls (latest rs))) (no_fault o (min_rrset_ttls (latest rs)) is.kept is)
 
 module _ (o : Labels) (rs : List Record) (is : AreOfOldZone o rs) where
   pub kept : AreKept (set_of rs)
@@ -189,7 +189,7 @@ built_one o set (Some fault) zone e = absurd cc
 
 -- what is built is the zone of the records
 pub built_zone : (o : Labels) (rs : List Record) (zone : ZoneOf) → of_zones (built o rs) ≡ Ok zone → zone ≡ zone_of o rs
-built_zone o rs zone e = built_one o (evened (latest rs)) (fault_in o (evened (latest rs))) zone e
+built_zone o rs zone e = built_one o (min_rrset_ttls (latest rs)) (fault_in o (min_rrset_ttls (latest rs))) zone e
 
 -- records of an old zone are refused only when out of memory
 pub refused_never : (o : Labels) (rs : List Record) (e : RowFault) → Refuses e (of_zones (built o rs)) → IsZone (zone_of o rs) → e ≡ NoMemory

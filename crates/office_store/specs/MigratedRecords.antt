@@ -2,7 +2,7 @@
 use Rattle.std.specs.Prelude.{◌≡◌, true, false}
 use Rattle.zone_core.specs.Sets.{set_of, listing}
 use Rattle.zone_core.specs.Zones.{zone_of}
-use Rattle.zone_core.specs.Views.{even_rows}
+use Rattle.zone_core.specs.Views.{min_ttl_rows}
 use Rattle.office_rows.specs.Contents.{ZoneRows}
 use Rattle.office_store.specs.OldZones.{IsOldZoneRows}
 use Rattle.office_store.specs.MigratedContents.{advanced, is_changed, migrated}
@@ -10,9 +10,9 @@ use Rattle.office_store.specs.MigratedContents.{advanced, is_changed, migrated}
 -- Each record has its owner, its data and the least TTL of its set: without a change all had it before, and with one they have it now,
 -- in a zone whose serial is one further.
 pub record IsEven (z : ZoneRows) : Type 0 where
-  pub zone : listing (zone_of z.origin z.records).records ≡ even_rows z.records
-  pub unchanged : is_changed z ≡ false → (z.records ≡ even_rows z.records) × ((migrated z).records ≡ z.records)
-  pub changed : is_changed z ≡ true → (migrated z).records ≡ listing (advanced (record { origin = z.origin; records = set_of (even_rows z.records) })).records
+  pub zone : listing (zone_of z.origin z.records).records ≡ min_ttl_rows z.records
+  pub unchanged : is_changed z ≡ false → (z.records ≡ min_ttl_rows z.records) × ((migrated z).records ≡ z.records)
+  pub changed : is_changed z ≡ true → (migrated z).records ≡ listing (advanced (record { origin = z.origin; records = set_of (min_ttl_rows z.records) })).records
 
 abbrev pub MigratedZonesAreEven : Type 0
 MigratedZonesAreEven = (z : ZoneRows) → IsOldZoneRows z → IsEven z

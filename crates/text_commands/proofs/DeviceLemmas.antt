@@ -5,27 +5,6 @@ use Rattle.std.specs.Io.KnownBytes.{Appends, Consumes, IsAtEnd, Keeps}
 use Rattle.std.proofs.KnownBytes.{Appends-nil, Appends-trans, Appends-kept, Consumes-trans}
 use Rattle.text_commands.specs.Device.{AppendsFront, IsAll}
 
--- a front of the text went out, and this is left of it
-abbrev pub IsLeft : Option (List ℕ) → Option (List ℕ) → List ℕ → List ℕ → Type 0
-IsLeft old new text rest = (front : List ℕ) × (text ≡ front ++ rest) × Appends old new front
-
-pub left_whole : (a : Option (List ℕ)) (text : List ℕ) → IsLeft a a text text
-left_whole a text = ([], refl, Appends-nil a)
-
-pub left_less : (a b c : Option (List ℕ)) (text rest : List ℕ) (n : ℕ) → IsLeft a b text rest → Appends b c (take n rest) → IsLeft a c text (drop n rest)
-left_less a b c text rest n left more =
-    (left.0 ++ take n rest, left.1 ∙ ap (λ (xs : List ℕ). left.0 ++ xs) (sym (take-append-drop n rest)) ∙ sym (append_assoc left.0 (take n rest) (drop n rest)), Appends-trans a b c left.0 (take n rest) left.2 more)
-
-pub left_none : (a b : Option (List ℕ)) (text rest : List ℕ) → IsLeft a b text rest → length rest ≡ 0 → Appends a b text
-left_none a b text [] left none = subst (Appends a b) (sym (left.1 ∙ append-nil left.0)) left.2
-left_none a b text (x ∷ rest) left none = absurd (omega (arith, none))
-
-pub left_front : (a b c : Option (List ℕ)) (text rest : List ℕ) → IsLeft a b text rest → Keeps b c → AppendsFront a c text
-left_front a b c text rest left kept =
-    let front : take (length left.0) text ≡ left.0 = ap (take (length left.0)) left.1 ∙ take-append_seam left.0 rest in
-    let short : length left.0 ≤ length text = omega (arith, ap length left.1, length-append left.0 rest) in
-    (length left.0, short, subst (Appends a c) (sym front) (Appends-kept a b c left.0 left.2 kept))
-
 -- ---- reading
 
 -- a buffer that was filled whole

@@ -8,7 +8,7 @@ ghost use Rattle.text_commands.specs.Replies.{IsSent, IsTold, IsPrinted};
 
 use crate::line_fault::{JobFault, LineFault, NO_MEMORY_LINE, READ_FAILED_LINE};
 use crate::refusal::{Refusal, RefusalLine};
-use dns_master::{DeviceFailed, MasterFault, Sink, Source};
+use dns_master::{DeviceFailed, MasterFault, Sink, Source, write_all};
 use std::alloc::{AllocError, Global};
 
 /// The most octets of an input.
@@ -39,12 +39,7 @@ pub fn read_input<R: Source>(alloc: Global, reader: &mut R) -> Result<Vec<u8>, L
 pub fn write_text<W: Sink>(writer: &mut W, text: &[u8]) -> Result<(), DeviceFailed>
     ensures { IsSent (W.contents writer.old) (W.contents writer.new) text.now result (W.failures writer.old) (W.failures writer.new) }
 {
-    let mut rest = text;
-    while !rest.is_empty() {
-        let count = writer.write_some(rest)?;
-        rest = &rest[count..];
-    }
-    Ok(())
+    write_all(writer, text)
 }
 
 /// The line that tells a refusal. The only error is out of memory.

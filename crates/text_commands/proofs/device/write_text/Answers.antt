@@ -1,16 +1,13 @@
-use Rattle.std.proofs.Common.{◌∙◌, arith}
-use Rattle.std.proofs.lemmas.List.{take_rest}
-use Rattle.std.proofs.lemmas.Result.{err_from_is_err_and}
-use Rattle.text_commands.proofs.DeviceLemmas.{left_less, left_front}
+use Rattle.std.proofs.Common.{◌+◌, ℕ, List, Option, Result, Ok, Err, arith}
+use Rattle.dns_master.specs.declared.device.DeviceFailed.{DeviceFailed}
+use Rattle.dns_master.specs.Written.{IsWritten}
+use Rattle.dns_master.proofs.DeviceLemmas.{part_front}
+use Rattle.text_commands.specs.Replies.{IsSent}
 use Rattle.text_commands.proofs.device.write_text.Goals as goal
 
-pub loop-rest-preserved : goal.loop-rest-preserved
-loop-rest-preserved g c =
-    let e = c.in_ok-count.ensures in
-    rw take_rest (record { left = left_less _ _ _ _ _ c.in_ok-count.count c.loop-rest.invariant.left e.bytes; fine = e.fine ∙ c.loop-rest.invariant.fine })
+sent : (old new : Option (List ℕ)) (text : List ℕ) (r : Result (Unit {0}) DeviceFailed) (before after : ℕ) → IsWritten old new text r before after → IsSent old new text r before after
+sent old new text (Ok done) before after went = went
+sent old new text (Err failed) before after went = (part_front old new text went.0, omega (arith, went.1))
 
-pub returns-in_err-count : goal.returns-in_err-count
-returns-in_err-count g c =
-    let e = c.in_err-count.ensures in
-    let p = err_from_is_err_and c.from_residual.result c.from_residual.ensures.1 in
-    rw (p.1) (left_front _ _ _ _ _ c.loop-rest.invariant.left e.bytes, omega (arith, e.failed, c.loop-rest.invariant.fine))
+pub returns : goal.returns
+returns g c = sent _ _ _ c.write_all.result _ _ c.write_all.ensures
