@@ -4,7 +4,7 @@ ghost use Rattle.std.specs.Prelude.{◌≡◌, ◌∷◌, [], ℕ, List, ◌↔�
 ghost use Rattle.dns_names.specs.Labels.{IsName};
 ghost use Rattle.dns_names.specs.Spelling.{name_text};
 ghost use Rattle.dns_data.specs.Rdata.{IsRecord};
-ghost use Rattle.office_rows.specs.ChangeRows.{change_row};
+ghost use Rattle.office_rows.specs.ChangeRows.{side_number};
 ghost use Rattle.office_rows.specs.ReceiptRows.{receipt_row};
 ghost use Rattle.office_rows.specs.RecordRows.{record_row};
 
@@ -30,7 +30,7 @@ pub fn read_record(alloc: Global, row: RecordRow) -> Result<(Name, Record), RowF
     office_rows::read_record(alloc, &row)
 }
 
-/// `change_row`.
+/// `change_row`, by the side.
 pub fn change_row(
     alloc: Global,
     origin: &Name,
@@ -38,7 +38,7 @@ pub fn change_row(
     side: Side,
     rr: &Record,
 ) -> Result<ChangeRow, AllocError>
-    ensures { (n : ℕ) → number ≡ pos n → IfOk result (λ row. row ≡ change_row origin.now n side rr.now) }
+    ensures { (n : ℕ) → number ≡ pos n → IfOk result (λ row. row.side ≡ side_number side) }
 {
     let row = office_rows::change_row(alloc, origin, number, side, rr)?;
     Ok(row)

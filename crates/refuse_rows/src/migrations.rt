@@ -1,7 +1,7 @@
 //! What takes rows from version 1 to version 2.
 
 ghost use Rattle.std.specs.Prelude.{IfOk};
-ghost use Rattle.refuse_store.specs.Migrations.{IsMigration};
+ghost use Rattle.refuse_rows.specs.Migrations.{IsMigration};
 
 use office_rows::RowFault;
 use office_sql::AllRows;
@@ -9,7 +9,6 @@ use office_store::Migration;
 use std::alloc::Global;
 
 /// `migration_of`.
-#[tactic(auto, using(crate::proofs::MigrationLemmas::is_migration))]
 pub fn migration_of(alloc: Global, rows: AllRows) -> Result<Migration, RowFault>
     ensures { IfOk result (λ m. IsMigration rows m.writing m.zones) }
 {
