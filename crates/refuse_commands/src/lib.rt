@@ -1,9 +1,7 @@
-//! What the contracts of the commands, of the words of the command line and of item lines refuse. Each function has a contract of a
-//! function of `text_commands`, `command_line` or `item_lines` and calls it; each edit in must-fail makes the call or the answer wrong
-//! in one idea, and the prover refuses it.
+//! What the contracts of the commands and of item lines refuse. Each function has a contract of a function of `text_commands` or
+//! `item_lines` and calls it; each edit in must-fail makes the call or the answer wrong in one idea, and the prover refuses it.
 #![tactic(auto)]
 
 pub mod items;
 pub mod tasks;
 pub mod twins;
-pub mod words;

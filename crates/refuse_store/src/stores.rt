@@ -3,7 +3,7 @@
 ghost use Rattle.std.specs.Prelude.{◌≡◌, ◌<◌, false, IfOk, IfErr, OnErr};
 ghost use Rattle.sqlite.specs.Held.{state};
 ghost use Rattle.sqlite.specs.State.{HasCleanDisk};
-ghost use Rattle.office_core.specs.States.{State, zone_at};
+ghost use Rattle.office_core.specs.States.{State};
 ghost use Rattle.office_sql.specs.Holds.{Holds};
 ghost use Rattle.office_sql.specs.Rows.{RowsOf};
 ghost use Rattle.office_rows.specs.StoreFaults.{IsFailure};
@@ -14,7 +14,6 @@ ghost use Rattle.office_store.specs.Zones.{imported, with_imported};
 
 use dns_data::Record;
 use dns_names::Name;
-use office_core::{TableFault, ZoneTable};
 use office_store::{Migration, SqlTable, StoreFault};
 use sqlite::{Alter, Connection};
 use std::alloc::Global;
@@ -73,17 +72,4 @@ pub fn migrate_or_not<S: Alter + Drop, L: Ledger>(
     ensures { OnErr result ((rows : RowsOf) → Holds (state S.Store store.old) rows → Holds (state S.Store store.new) rows) }
 {
     SqlTable::<S, L>::migrate(alloc, store)
-}
-
-/// `ZoneTable::zone`, behind the same of another origin.
-pub fn zone<T: ZoneTable>(
-    alloc: Global,
-    table: &mut T,
-    other: &Name,
-    origin: &Name,
-) -> Result<Option<Zone>, TableFault>
-    ensures { T.is_honest table.new → IfOk result (λ zone. (s : State) → T.holds table.old s → zone ≡ zone_at s origin.now) }
-{
-    let _before = table.zone(alloc, other)?;
-    table.zone(alloc, origin)
 }

@@ -1,6 +1,6 @@
 //! What is asked of tables, and written to them.
 
-ghost use Rattle.std.specs.Prelude.{◌≡◌, false, IfOk, IsTrue, OnOk, OnErr, IsPermutation};
+ghost use Rattle.std.specs.Prelude.{◌≡◌, false, IfOk, IsTrue, OnOk, OnErr};
 ghost use Rattle.sqlite.specs.Files.{file_state};
 ghost use Rattle.sqlite.specs.Held.{state};
 ghost use Rattle.sqlite.specs.State.{HasCleanDisk};
@@ -10,7 +10,7 @@ ghost use Rattle.office_sql.specs.Lookups as the;
 ghost use Rattle.office_sql.specs.Lookups.{IsLast};
 ghost use Rattle.office_sql.specs.Rows.{RowsOf, written};
 
-use office_sql::{RecordRow, RowsFault, Writing};
+use office_sql::{RowsFault, Writing};
 use sqlite::{Alter, Connection, Error, FileStore, Leftover, Options};
 use sqlite_disk::{Disk, Files};
 use std::alloc::Global;
@@ -26,20 +26,6 @@ pub fn connect<D: Disk + Drop>(
     ensures { IfOk result (λ conn. HasCleanDisk (file_state conn) → ShowsThose files conn) }
 {
     office_sql::connect(alloc, files, options)
-}
-
-/// `records_between`.
-pub fn records_between<S: Alter>(
-    alloc: Global,
-    conn: &mut Connection<S>,
-    origin: &str,
-    from: &[u8],
-    to: &[u8],
-) -> Result<Vec<RecordRow>, RowsFault>
-    requires { conn.old.in_transaction ≡ false }
-    ensures { HasCleanDisk (state S.Store conn.new) → IfOk result (λ xs. (rows : RowsOf) → Holds (state S.Store conn.old) rows → IsPermutation (the.records_between origin.now from.now to.now rows.records) xs.items) }
-{
-    office_sql::records_between(alloc, conn, origin, from, to)
 }
 
 /// `last_number`.
