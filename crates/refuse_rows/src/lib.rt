@@ -6,4 +6,4 @@
 pub mod migrations;
 pub mod rows;
 pub mod twins;
-pub mod writings;
+pub mod batches;

@@ -10,7 +10,7 @@ use std::alloc::Global;
 
 /// `migration_of`.
 pub fn migration_of(alloc: Global, rows: AllRows) -> Result<Migration, RowFault>
-    ensures { IfOk result (λ m. IsMigration rows m.writing m.zones) }
+    ensures { IfOk result (λ m. IsMigration rows m.batch m.zones) }
 {
     let migration = office_store::migration_of(alloc, &rows)?;
     Ok(migration)

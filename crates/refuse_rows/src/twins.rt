@@ -12,11 +12,11 @@ fn is_soa(record_type: i64) -> bool {
 
 /// A migration that leaves each SOA, and so each serial, as it is.
 pub fn with_serials_left(migration: Migration) -> Migration {
-    let Migration { mut writing, zones } = migration;
-    writing.removed.retain(|row| !is_soa(row.record_type));
-    writing.added.retain(|row| !is_soa(row.record_type));
-    writing.changes.retain(|row| !is_soa(row.record_type));
-    Migration { writing, zones }
+    let Migration { mut batch, zones } = migration;
+    batch.removed.retain(|row| !is_soa(row.record_type));
+    batch.added.retain(|row| !is_soa(row.record_type));
+    batch.changes.retain(|row| !is_soa(row.record_type));
+    Migration { batch, zones }
 }
 
 /// The greatest TTL of the rows of one set.
@@ -36,8 +36,8 @@ fn greatest_ttl(rows: &[RecordRow], origin: &str, owner: &str, record_type: i64)
 
 /// A migration in which each record that comes has the greatest TTL of its set.
 pub fn with_greatest_ttls(rows: &AllRows, migration: Migration) -> Migration {
-    let Migration { mut writing, zones } = migration;
-    for row in &mut writing.added {
+    let Migration { mut batch, zones } = migration;
+    for row in &mut batch.added {
         row.ttl = greatest_ttl(
             &rows.records,
             row.origin.as_str(),
@@ -45,7 +45,7 @@ pub fn with_greatest_ttls(rows: &AllRows, migration: Migration) -> Migration {
             row.record_type,
         );
     }
-    Migration { writing, zones }
+    Migration { batch, zones }
 }
 
 /// A row of a change of a zone in which a record goes or comes.
@@ -77,13 +77,13 @@ pub fn with_even_zones_changed(
     rows: &AllRows,
     migration: Migration,
 ) -> Result<Migration, AllocError> {
-    let Migration { mut writing, zones } = migration;
+    let Migration { mut batch, zones } = migration;
     for row in &rows.records {
         if is_soa(row.record_type) {
             let number = next_number(&rows.changes, row.origin.as_str());
-            writing.changes.push(change_row(number, 0, row)?)?;
-            writing.changes.push(change_row(number, 1, row)?)?;
+            batch.changes.push(change_row(number, 0, row)?)?;
+            batch.changes.push(change_row(number, 1, row)?)?;
         }
     }
-    Ok(Migration { writing, zones })
+    Ok(Migration { batch, zones })
 }

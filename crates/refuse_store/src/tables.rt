@@ -10,7 +10,7 @@ ghost use Rattle.office_sql.specs.Lookups as the;
 ghost use Rattle.office_sql.specs.Lookups.{IsLast};
 ghost use Rattle.office_sql.specs.Rows.{RowsOf, written};
 
-use office_sql::{RowsFault, Writing};
+use office_sql::{RowsFault, Batch};
 use sqlite::{Alter, Connection, Error, FileStore, Leftover, Options};
 use sqlite_disk::{Disk, Files};
 use std::alloc::Global;
@@ -44,19 +44,19 @@ pub fn last_number<S: Alter>(
 pub fn write<S: Alter>(
     _alloc: Global,
     conn: &mut Connection<S>,
-    writing: Writing,
+    batch: Batch,
 ) -> Result<(), RowsFault>
     requires { conn.old.in_transaction ≡ false }
-    ensures { OnOk result ((rows : RowsOf) → Holds (state S.Store conn.old) rows → Holds (state S.Store conn.new) (written writing rows)) }
+    ensures { OnOk result ((rows : RowsOf) → Holds (state S.Store conn.old) rows → Holds (state S.Store conn.new) (written batch rows)) }
 {
-    office_sql::write(conn, &writing)
+    office_sql::write(conn, &batch)
 }
 
 /// What `write` leaves where it fails.
 pub fn write_or_not<S: Alter>(
     _alloc: Global,
     conn: &mut Connection<S>,
-    whole: Writing,
+    whole: Batch,
 ) -> Result<(), RowsFault>
     requires { conn.old.in_transaction ≡ false }
     ensures { OnErr result ((rows : RowsOf) → Holds (state S.Store conn.old) rows → Holds (state S.Store conn.new) rows) }

@@ -1,11 +1,11 @@
 //! What edits need beside one line.
 
-use office_sql::Writing;
+use office_sql::Batch;
 use std::alloc::Global;
 
-/// A writing of nothing.
-fn nothing(alloc: Global) -> Writing {
-    Writing {
+/// A batch of nothing.
+fn nothing(alloc: Global) -> Batch {
+    Batch {
         version: None,
         zones: Vec::new(alloc),
         removed: Vec::new(alloc),
@@ -15,27 +15,27 @@ fn nothing(alloc: Global) -> Writing {
     }
 }
 
-/// A writing without its receipts, and these alone.
-pub fn receipts_apart(alloc: Global, writing: Writing) -> (Writing, Writing) {
-    let (receipts, last) = (writing.receipts, nothing(alloc));
+/// A batch without its receipts, and these alone.
+pub fn receipts_apart(alloc: Global, batch: Batch) -> (Batch, Batch) {
+    let (receipts, last) = (batch.receipts, nothing(alloc));
     let none = Vec::new(alloc);
     (
-        Writing {
+        Batch {
             receipts: none,
-            ..writing
+            ..batch
         },
-        Writing { receipts, ..last },
+        Batch { receipts, ..last },
     )
 }
 
-/// A writing without its version, and this alone.
-pub fn version_apart(alloc: Global, writing: Writing) -> (Writing, Writing) {
-    let (version, last) = (writing.version, nothing(alloc));
+/// A batch without its version, and this alone.
+pub fn version_apart(alloc: Global, batch: Batch) -> (Batch, Batch) {
+    let (version, last) = (batch.version, nothing(alloc));
     (
-        Writing {
+        Batch {
             version: None,
-            ..writing
+            ..batch
         },
-        Writing { version, ..last },
+        Batch { version, ..last },
     )
 }
