@@ -11,4 +11,3 @@ pub mod WindowLemmas
 pub mod PartLemmas
 pub mod TextLemmas
 pub mod RouteLemmas
-mod RouteExamples

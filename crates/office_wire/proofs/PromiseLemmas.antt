@@ -104,7 +104,7 @@ exchanges_run rules c d turns zones receipts run =
       answered = subst (λ (ys : List Answer). AnswersAreRight rules c.state cs ys) (sym of.given) (answers_are_right rules c.state cs zones receipts of.have);
       alone = record {
         by_rights = λ caller blind away. ap (told_to caller) of.given ∙ callers_are_alone rules caller c.state cs zones of.have blind away;
-        by_sight = λ caller blind quiet. ap (told_to caller) of.given ∙ blind_callers_are_alone rules caller c.state cs zones of.have blind quiet;
+        by_visibility = λ caller blind quiet. ap (told_to caller) of.given ∙ blind_callers_are_alone rules caller c.state cs zones of.have blind quiet;
         by_policy = λ caller blind others. ap (told_to caller) of.given ∙ policies_keep_alone rules caller c.state cs zones of.have blind others;
       };
     }

@@ -4,7 +4,7 @@ ghost use Rattle.std.specs.Prelude.{◌≡◌, [], ℕ, pos, false, IfOk};
 ghost use Rattle.zone_core.specs.Sets.{is_same};
 ghost use Rattle.zone_core.specs.Changes.{change_between};
 ghost use Rattle.office_core.specs.Tables.{addition_in};
-ghost use Rattle.office_rows.specs.Batches.{receipt_rows, receipts_writing, change_batch};
+ghost use Rattle.office_rows.specs.Batches.{receipt_rows, receipts_batch, change_batch};
 
 use office_core::Addition;
 use office_sql::Batch;
@@ -13,7 +13,7 @@ use zone_core::Zone;
 
 /// `receipt_batch`.
 pub fn receipt_batch(alloc: Global, addition: &Addition) -> Result<Batch, AllocError>
-    ensures { IfOk result (λ batch. batch ≡ receipts_writing (receipt_rows (addition_in addition.now))) }
+    ensures { IfOk result (λ batch. batch ≡ receipts_batch (receipt_rows (addition_in addition.now))) }
 {
     office_rows::receipt_batch(alloc, addition)
 }

@@ -3,7 +3,7 @@
 //! one idea, and the prover refuses it.
 #![tactic(auto)]
 
+pub mod batches;
 pub mod migrations;
 pub mod rows;
 pub mod twins;
-pub mod batches;

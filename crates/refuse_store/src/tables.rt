@@ -10,7 +10,7 @@ ghost use Rattle.office_sql.specs.Lookups as the;
 ghost use Rattle.office_sql.specs.Lookups.{IsLast};
 ghost use Rattle.office_sql.specs.Rows.{RowsOf, written};
 
-use office_sql::{RowsFault, Batch};
+use office_sql::{Batch, RowsFault};
 use sqlite::{Alter, Connection, Error, FileStore, Leftover, Options};
 use sqlite_disk::{Disk, Files};
 use std::alloc::Global;
