@@ -16,7 +16,7 @@ use std::alloc::{AllocError, Global};
 use std::cmp::Ordering;
 
 /// `read_data`.
-#[tactic(auto, unfolding(dns_data::specs::Reading::soa_at, dns_data::specs::Reading::ds_at, dns_data::specs::Reading::digest_at, dns_data::specs::Reading::joined))]
+#[tactic(auto, unfolding(dns_data::specs::Reading::values_at, dns_data::specs::Reading::digest_at, dns_data::specs::Reading::joined))]
 pub fn read_data(
     alloc: Global,
     record_type: RecordType,
