@@ -1,10 +1,14 @@
 //! The program: it reads the words of the command line, opens what they name, and does the job.
 #![tactic(auto)]
 
+ghost use Rattle.std.specs.Prelude.{◌≡◌};
+ghost use Rattle.std.specs.Process.{exit_status};
+ghost use Rattle.zoneoffice.specs.Status.{EndsTask, status_of};
+
 use command_line::{Job, WordsFault, read_words};
 use std::alloc::{AllocError, Global};
 use std::env;
-use std::io::{self, ErrorKind, Read};
+use std::io::{self, ErrorKind, Read, Write};
 use std::process::ExitCode;
 use store_commands::{
     Apply, Canon, JobFault, NO_MEMORY_LINE, PolicyFile, Task, do_export, do_import, do_migrate,
@@ -12,29 +16,45 @@ use store_commands::{
 };
 
 /// The exit status of a job: 0 where it went through, and else 1.
-fn status(done: Result<(), JobFault>) -> ExitCode {
+fn status(done: Result<(), JobFault>) -> ExitCode
+    ensures { exit_status result ≡ status_of done }
+{
     match done {
         Ok(()) => ExitCode::SUCCESS,
         Err(_) => ExitCode::FAILURE,
     }
 }
 
-/// Does a task with a reader, and standard output.
-fn do_with<T: Task, R: Read + Drop>(rt: &HostRuntime, task: T, reader: R) -> ExitCode {
-    status(do_task(rt.alloc(), task, reader, rt.stdout()).1)
+/// Does a task with a reader and a writer.
+fn do_with<T: Task, R: Read + Drop, W: Write + Drop>(
+    alloc: Global,
+    task: T,
+    reader: R,
+    writer: W,
+) -> ExitCode
+    // The task is answered, and the status is 0 exactly where its answer was written.
+    ensures { EndsTask (R.remaining reader) (T.answer task) (W.contents writer) (exit_status result) }
+{
+    status(do_task(alloc, task, reader, writer).1)
 }
 
 /// Does a job.
 fn do_job(rt: &HostRuntime, job: Job<'_>) -> ExitCode {
+    let alloc = rt.alloc();
     match job {
-        Job::Apply => do_with(rt, Apply, rt.stdin()),
-        Job::Canon { origin } => do_with(rt, Canon { origin }, rt.stdin()),
+        Job::Apply => do_with(alloc, Apply, rt.stdin(), rt.stdout()),
+        Job::Canon { origin } => do_with(alloc, Canon { origin }, rt.stdin(), rt.stdout()),
         Job::Import { zone, existing } => {
             status(do_import(rt, (zone, existing), (rt.stdin(), rt.stdout())).1)
         }
         Job::Export { zone } => status(do_export(rt, zone, rt.stdout()).1),
         Job::Migrate { store } => status(do_migrate(rt, store, rt.stdout()).1),
-        Job::Rights { policy, asked } => do_with(rt, asked, PolicyFile::open(rt, policy)),
+        Job::Rights { policy, asked } => do_with(
+            alloc,
+            asked,
+            PolicyFile::open(rt, policy),
+            rt.stdout(),
+        ),
         Job::Serve { service } => status(do_serve(rt, service, rt.stdout()).1),
     }
 }

@@ -1,0 +1,16 @@
+-- The exit status of the program.
+use Rattle.std.specs.Prelude.{◌≡◌, ℕ, List, Option, Result, Ok, Err}
+use Rattle.text_commands.specs.declared.refusal.Refusal.{Refusal}
+use Rattle.text_commands.specs.declared.line_fault.JobFault.{JobFault}
+use Rattle.text_commands.specs.Replies.{Answered}
+
+-- 0 where the job went through, and else 1
+abbrev pub status_of : Result (Unit {0}) JobFault → ℕ
+status_of (Ok done) = 0
+status_of (Err fault) = 1
+
+-- What was left to read, what is answered to it, what the writer held, and the status: the task was answered, and the status is 0
+-- exactly where its answer was written.
+abbrev pub EndsTask : Option (List ℕ) → (List ℕ → Result (List ℕ) Refusal) → Option (List ℕ) → ℕ → Type 0
+EndsTask left answer old status = (new : Option (List ℕ)) × (outcome : Result (Unit {0}) JobFault) × (failed_reads : ℕ) × (failed_writes : ℕ)
+    × Answered left answer old new outcome 0 failed_reads 0 failed_writes × (status ≡ status_of outcome)
