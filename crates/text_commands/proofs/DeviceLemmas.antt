@@ -5,7 +5,7 @@ use Rattle.std.specs.Io.KnownBytes.{Appends, Consumes, IsAtEnd, Keeps}
 use Rattle.std.proofs.KnownBytes.{Appends-nil, Appends-trans, Appends-kept, Consumes-trans}
 use Rattle.text_commands.specs.Device.{AppendsFront, IsAll}
 
--- a front of the text went out, and this is left of it
+-- a prefix of the text went out, and this is left of it
 abbrev pub IsLeft : Option (List ℕ) → Option (List ℕ) → List ℕ → List ℕ → Type 0
 IsLeft old new text rest = (front : List ℕ) × (text ≡ front ++ rest) × Appends old new front
 
