@@ -84,7 +84,7 @@ fn put_in<S: Alter + Drop, L: Ledger>(
     ensures told { IfOk result (λ text. string_bytes text ≡ imported_line zone.now) }
     ensures named { IfErr result IsStoreLine }
 {
-    // the line is there before the zone is, so that no memory is wanting behind it
+    // the line is made before the zone is put, so that memory cannot run out after it
     let text = imported_text(alloc, zone)?;
     let mut table = table;
     match put(alloc, &mut table, zone, existing) {

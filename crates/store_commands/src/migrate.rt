@@ -10,7 +10,7 @@ use dns_master::{DeviceFailed, Sink};
 use itoa::Buffer;
 use text_commands::{JobFault, tell, write_text};
 
-/// Writes the line that tells how many zones a migration changed. It takes no memory, so that none is wanting behind the migration.
+/// Writes the line that tells how many zones a migration changed. It takes no memory, so that memory cannot run out after the migration.
 fn tell_migrated<W: Sink>(writer: &mut W, zones: usize) -> Result<(), DeviceFailed>
     ensures { IsSent (W.contents writer.old) (W.contents writer.new) (migrated_line zones) result (W.failures writer.old) (W.failures writer.new) }
 {

@@ -114,7 +114,7 @@ fn tell_ended<W: Sink>(writer: &mut W, fault: ServeFault) -> Result<(), DeviceFa
     write_text(writer, b"\n")
 }
 
-/// Serves a connection. The fault by which it ends, where there is one, is told by a line.
+/// Serves a connection. A line tells the fault that ended it, if one did.
 fn serve_connection<T: ZoneTable, C: Clock, W: Sink>(
     alloc: Global,
     stream: &PatientStream<'_, C>,

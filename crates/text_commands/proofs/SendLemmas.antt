@@ -8,7 +8,7 @@ use Rattle.text_commands.specs.Device.{AppendsFront}
 use Rattle.text_commands.specs.Replies.{IsSent}
 use Rattle.text_commands.proofs.JobLemmas.{front_behind}
 
--- a front of the first piece is one of the whole
+-- a prefix of the first piece is one of the whole
 pub sent_front : (a b : Option (List ℕ)) (first second : List ℕ) → AppendsFront a b first → AppendsFront a b (first ++ second)
 sent_front a b first second front =
     let short : front.0 ≤ length (first ++ second) = omega (arith, front.1, length-append first second) in

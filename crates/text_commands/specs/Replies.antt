@@ -20,7 +20,7 @@ told NoMemory = codes "refused 99" ++ 10 ∷ []
 -- ---- one text
 
 -- What the writer held before and after, the text, the answer, and the writer's failures before and after: all of the text went
--- out; or the writer failed, and a front of it did.
+-- out; or the writer failed, and a prefix of it did.
 abbrev pub IsSent : Option (List ℕ) → Option (List ℕ) → List ℕ → Result (Unit {0}) DeviceFailed → ℕ → ℕ → Type 0
 IsSent old new text (Ok done) before after = Appends old new text × (after ≡ before)
 IsSent old new text (Err failed) before after = AppendsFront old new text × (before < after)
@@ -36,7 +36,7 @@ IsTold old new fault (Ok done) before after = ⊥
 IsTold old new fault (Err (Told line)) before after = MayTell fault line × Appends old new (told line) × (after ≡ before)
 IsTold old new fault (Err WriteFailed) before after = ((line : LineFault) × MayTell fault line × AppendsFront old new (told line)) × (before < after)
 
--- a front of a text, and then the line of out of memory
+-- a prefix of a text, and then the line of out of memory
 abbrev pub IsCutShort : List ℕ → List ℕ → Type 0
 IsCutShort text cut = (n : ℕ) × (n ≤ length text) × (cut ≡ take n text ++ told NoMemory)
 
@@ -56,7 +56,7 @@ abbrev pub reply : Result (List ℕ) Refusal → List ℕ
 reply (Ok text) = text
 reply (Err refusal) = told_refusal refusal
 
--- the line of out of memory, before which a front of the answer may stand
+-- the line of out of memory, before which a prefix of the answer may stand
 abbrev pub IsShortReply : Option (List ℕ) → (List ℕ → Result (List ℕ) Refusal) → List ℕ → Type 0
 IsShortReply left answer text = (text ≡ told NoMemory) ⊎ ((whole : List ℕ) × Makes left answer (Ok whole) × IsCutShort whole text)
 
@@ -68,7 +68,7 @@ IsReply left answer reads reads_after text =
     ⊎ (IsShortReply left answer text × (reads_after ≡ reads)))
 
 -- What was left to read, what is answered to it, what the writer held before and after, how the job went, the reader's failures
--- before and after, and the writer's failures before and after. A failed write leaves a front of what was to be written; else it
+-- before and after, and the writer's failures before and after. A failed write leaves a prefix of what was to be written; else it
 -- is all written.
 abbrev pub Answered : Option (List ℕ) → (List ℕ → Result (List ℕ) Refusal) → Option (List ℕ) → Option (List ℕ) → Result (Unit {0}) JobFault → ℕ → ℕ → ℕ → ℕ → Type 0
 Answered left answer old new (Ok done) reads reads_after writes writes_after =
