@@ -1,7 +1,7 @@
 //! One step of the machine.
 
 ghost use Rattle.office_core.specs.States.{State};
-ghost use Rattle.office_core.specs.Steps.{Steps, CountsReply};
+ghost use Rattle.office_core.specs.Steps.{Steps, Leaves, CountsReply};
 
 use grant_policy::{Identifier, Policy};
 use office_core::{Reply, Request, ZoneTable};
@@ -31,4 +31,17 @@ pub fn counted_step<T: ZoneTable>(
     ensures { CountsReply (T.failures table.old) (T.failures table.new) result }
 {
     office_core::step(alloc, table, policy, caller, asked)
+}
+
+/// `step`, by what a crash leaves.
+pub fn left_by_step<T: ZoneTable>(
+    alloc: Global,
+    table: &mut T,
+    policy: &Policy,
+    caller: &Identifier,
+    wanted: &Request,
+) -> Reply
+    ensures { T.is_honest table.new → (s : State) → T.holds table.old s → T.leaves table.old s s → Leaves (T.leaves table.new) policy.now s caller.now wanted.now result }
+{
+    office_core::step(alloc, table, policy, caller, wanted)
 }

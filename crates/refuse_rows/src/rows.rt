@@ -1,12 +1,13 @@
 //! What rows say.
 
-ghost use Rattle.std.specs.Prelude.{◌≡◌, ◌∷◌, [], ℕ, List, ◌↔◌, pos, true, map, IfOk, MatchOption};
+ghost use Rattle.std.specs.Prelude.{◌≡◌, ℕ, ◌↔◌, pos, true, map, IfOk};
 ghost use Rattle.dns_names.specs.Labels.{IsName};
 ghost use Rattle.dns_names.specs.Spelling.{name_text};
 ghost use Rattle.dns_data.specs.Rdata.{IsRecord};
 ghost use Rattle.office_rows.specs.ChangeRows.{side_number};
-ghost use Rattle.office_rows.specs.ReceiptRows.{receipt_row};
 ghost use Rattle.office_rows.specs.RecordRows.{record_row};
+ghost use Rattle.office_rows.specs.RowFaults.{Reads};
+ghost use Rattle.office_rows.specs.RowReading.{receipt_by};
 
 use dns_data::Record;
 use dns_names::Name;
@@ -46,7 +47,7 @@ pub fn change_row(
 
 /// `receipt_of`.
 pub fn receipt_of(alloc: Global, rows: &[ReceiptRow]) -> Result<Option<Receipt>, RowFault>
-    ensures { IfOk result (λ found. MatchOption found (rows.now ≡ []) (λ receipt. (caller : List ℕ) × (id : List ℕ) × (rows.now ≡ receipt_row caller id receipt ∷ []))) }
+    ensures { Reads (λ receipt. receipt) result (receipt_by rows.now) }
 {
     office_rows::receipt_of(alloc, rows)
 }
