@@ -9,8 +9,8 @@ abbrev pub status_of : Result (Unit {0}) JobFault → ℕ
 status_of (Ok done) = 0
 status_of (Err fault) = 1
 
--- What was left to read, what is answered to it, what the writer held, and the status: the task was answered, and the status is 0
--- exactly where its answer was written.
-abbrev pub EndsTask : Option (List ℕ) → (List ℕ → Result (List ℕ) Refusal) → Option (List ℕ) → ℕ → Type 0
-EndsTask left answer old status = (new : Option (List ℕ)) × (outcome : Result (Unit {0}) JobFault) × (failed_reads : ℕ) × (failed_writes : ℕ)
+-- What was left to read, what is answered to it, what the writer held before and after, and the status: the task was answered so, and
+-- the status is that of its outcome. So at 0 the whole answer was written.
+abbrev pub EndsTask : Option (List ℕ) → (List ℕ → Result (List ℕ) Refusal) → Option (List ℕ) → Option (List ℕ) → ℕ → Type 0
+EndsTask left answer old new status = (outcome : Result (Unit {0}) JobFault) × (failed_reads : ℕ) × (failed_writes : ℕ)
     × Answered left answer old new outcome 0 failed_reads 0 failed_writes × (status ≡ status_of outcome)

@@ -25,36 +25,34 @@ fn status(done: Result<(), JobFault>) -> ExitCode
     }
 }
 
-/// Does a task with a reader and a writer.
+/// Does a task with a reader and a writer, which is handed back.
 fn do_with<T: Task, R: Read + Drop, W: Write + Drop>(
     alloc: Global,
     task: T,
     reader: R,
     writer: W,
-) -> ExitCode
-    // The task is answered, and the status is 0 exactly where its answer was written.
-    ensures { EndsTask (R.remaining reader) (T.answer task) (W.contents writer) (exit_status result) }
+) -> (W, ExitCode)
+    // The task is answered, and at status 0 its whole answer was written.
+    ensures { EndsTask (R.remaining reader) (T.answer task) (W.contents writer) (W.contents result.0) (exit_status result.1) }
 {
-    status(do_task(alloc, task, reader, writer).1)
+    let (writer, done) = do_task(alloc, task, reader, writer);
+    (writer, status(done))
 }
 
 /// Does a job.
 fn do_job(rt: &HostRuntime, job: Job<'_>) -> ExitCode {
     let alloc = rt.alloc();
     match job {
-        Job::Apply => do_with(alloc, Apply, rt.stdin(), rt.stdout()),
-        Job::Canon { origin } => do_with(alloc, Canon { origin }, rt.stdin(), rt.stdout()),
+        Job::Apply => do_with(alloc, Apply, rt.stdin(), rt.stdout()).1,
+        Job::Canon { origin } => do_with(alloc, Canon { origin }, rt.stdin(), rt.stdout()).1,
         Job::Import { zone, existing } => {
             status(do_import(rt, (zone, existing), (rt.stdin(), rt.stdout())).1)
         }
         Job::Export { zone } => status(do_export(rt, zone, rt.stdout()).1),
         Job::Migrate { store } => status(do_migrate(rt, store, rt.stdout()).1),
-        Job::Rights { policy, asked } => do_with(
-            alloc,
-            asked,
-            PolicyFile::open(rt, policy),
-            rt.stdout(),
-        ),
+        Job::Rights { policy, asked } => {
+            do_with(alloc, asked, PolicyFile::open(rt, policy), rt.stdout()).1
+        }
         Job::Serve { service } => status(do_serve(rt, service, rt.stdout()).1),
     }
 }
