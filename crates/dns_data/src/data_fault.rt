@@ -34,7 +34,7 @@ pub enum DataFault {
     /// Data of more than 65,535 octets (RFC 1035 section 3.2.1).
     #[error("the record data have more than 65535 octets")]
     DataTooLong,
-    /// A name that is none, or a bad escape in a character-string.
+    /// A malformed name, or a bad escape in a character-string.
     #[error("{0}")]
     Name(NameFault),
     /// A quoted item in the place of a name, a number, an address or a digest.

@@ -54,7 +54,7 @@ left_drained a b c text rest front now e went left =
 pub left_all : (a b c : Option (List ℕ)) (text rest : List ℕ) → IsLeft a b text rest → Appends b c rest → Appends a c text
 left_all a b c text rest left went = subst (Appends a c) (sym left.1) (Appends-trans a b c left.0 rest left.2 went)
 
--- or a front of it, where more would have followed
+-- or a prefix of it, where more would have followed
 pub left_cut : (a b c : Option (List ℕ)) (all text rest behind : List ℕ) → all ≡ text ++ behind → IsLeft a b text rest → AppendsFront b c rest → AppendsFront a c all
 left_cut a b c all text rest behind e left cut =
     let n = cut.0 in

@@ -32,7 +32,7 @@ use Rattle.dns_master.proofs.CarriedLaws.{carried, carried_in_force, one_in_forc
 use Rattle.dns_master.proofs.CutLaws.{view, entries_are, entries_read}
 use Rattle.dns_master.proofs.ByteLaws.{AreEntryBytes, entries_bytes}
 
--- ---- what is in force is told by two functions that agree
+-- ---- two functions say what is in force, and agree
 
 -- so many numbers on
 abbrev on : ℕ → ℕ → ℕ

@@ -20,7 +20,7 @@ pub(crate) enum EntryFault {
     ClassNotIn,
     /// A directive that is neither `$ORIGIN` nor `$TTL`.
     DirectiveNotKept,
-    /// A TTL that is none.
+    /// A malformed TTL.
     BadTtl,
     /// A name, the type or the data, or an item behind a directive.
     Data(DataFault),

@@ -31,7 +31,7 @@ pub enum MasterFault {
     /// A directive that is neither `$ORIGIN` nor `$TTL` (RFC 1035 section 5.1, RFC 2308 section 4).
     #[error("line {0}: only the directives $ORIGIN and $TTL are read")]
     DirectiveNotKept(usize),
-    /// A TTL that is none (RFC 2181 section 8).
+    /// A malformed TTL (RFC 2181 section 8).
     #[error("line {0}: this is no TTL")]
     BadTtl(usize),
     /// The type, a name or the data of a record, or an item behind a directive.

@@ -227,7 +227,7 @@ escaped_itself a (b ∷ c ∷ rest) h = rw h refl
 escaped_number : (o : ℕ) (rest : List ℕ) → o < 256 → escaped (three_digits o ++ rest) ≡ Ok (Octet o, rest)
 escaped_number o rest h = rw (first_digit o h, numbered_again o h) refl
 
--- what spells a symbol is read as it, whatever comes behind
+-- what spells a symbol is read as that symbol, whatever follows
 pub symbol_again : (s : Symbol) (front rest : List ℕ) → SpellsSymbol s front → symbol_at (front ++ rest) ≡ Ok (s, rest)
 symbol_again Dot front rest e = rw e refl
 symbol_again (Octet o) front rest (inl h) = rw (h.2, ne_eqb o 46 h.0, ne_eqb o 92 h.1) refl

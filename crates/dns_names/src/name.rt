@@ -47,7 +47,7 @@ impl Model for Name {
 pub struct KeyRange<'a> {
     /// The key of the name itself.
     pub first: &'a [u8],
-    /// The first key behind those of the names within, and `None` where there is none, which is so for the root.
+    /// The first key after those of the names within; `None` for the root, after whose names no key comes.
     pub end: Option<Vec<u8>>,
 }
 
@@ -263,7 +263,7 @@ impl Name {
         self.rows().key
     }
 
-    /// The key of the name that the last `labels` labels are, which is a front of `key()`; `None` where there are not so
+    /// The key of the name of the last `labels` labels, which is a prefix of `key()`; `None` where there are not so
     /// many.
     pub fn ancestor_key(&self, labels: usize) -> Option<&[u8]>
         ensures key { option_copied result ≡ ancestor_key self.now labels }

@@ -64,12 +64,12 @@ of_updates (Err fault) = Err (Update fault)
 
 -- ---- one entry
 
--- an entry with a name that is none is no item
+-- an entry with a malformed name is not an item
 abbrev pub of_name : NameFault → ItemFault
 of_name names.NoMemory = entries.NoMemory
 of_name fault = entries.NoItem
 
--- an entry with data, a TTL or a type that is none is no item
+-- an entry with malformed data, a malformed TTL or an unknown type is not an item
 abbrev pub of_data : DataFault → ItemFault
 of_data datas.NoMemory = entries.NoMemory
 of_data fault = entries.NoItem

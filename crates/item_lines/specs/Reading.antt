@@ -32,7 +32,7 @@ use Rattle.item_lines.specs.declared.item.UpdateItem.{UpdateItem}
 use Rattle.item_lines.specs.declared.item.UpdateItem.TheVariants as items
 use Rattle.item_lines.specs.Faults.{◌>>=◌, of_shapes, of_updates}
 
--- the next step, unless something is none
+-- the next step, unless this one failed
 infixl 10 ◌>>?◌
 abbrev pub ◌>>?◌ : {A B : Type 0} → Option A → (A → Option B) → Option B
 o >>? f = option_and_then f o
@@ -157,7 +157,7 @@ one_item (items.Operation op) = record { prerequisites = []; operations = op ∷
 abbrev pub behind : UpdateOf → UpdateOf → UpdateOf
 behind front back = record { prerequisites = front.prerequisites ++ back.prerequisites; operations = front.operations ++ back.operations }
 
--- an item, or the line of an entry that is none
+-- an item, or the line of an entry that is not one
 abbrev pub or_bad_line : {A : Type 0} → ℕ → Option A → Result A ItemsFault
 or_bad_line line None = Err (BadLine line)
 or_bad_line line (Some x) = Ok x

@@ -84,7 +84,7 @@ fn read_entry(alloc: Global, line: usize, tokens: &[Token]) -> Result<UpdateItem
     }
 }
 
-/// The items of all entries, or the line of the first entry that is none.
+/// The items of all entries, or the line of the first entry that is not an item.
 fn read_lists(alloc: Global, tokens: &[Token]) -> Result<ItemLists, ItemsFault>
     ensures { Gives lists_view result (lists_in (gathered (map token_of tokens.now))) }
 {

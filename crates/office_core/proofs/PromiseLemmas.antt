@@ -125,7 +125,7 @@ module _ (rules : List Rule) (s : State) (zones : AreZones s) (receipts : AreRec
 
   -- a new one
   module _ (fresh : s.receipts caller id ≡ None) where
-    -- it is told a reply exactly where that is why it is refused
+    -- it gets a reply exactly where that is why it is refused
     told_as : (reply : UpdateReply) → refused ≡ Some reply → (answer : UpdateReply) (Why : Type 0) → (refused ≡ Some answer) ↔ Why → (to_update reply ≡ to_update answer) ↔ Why
     told_as reply e answer Why both = (
       λ f. let same : reply ≡ answer = cc in both.0 (e ∙ ap (λ (x : UpdateReply). Some x) same),

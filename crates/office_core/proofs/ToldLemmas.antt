@@ -163,7 +163,7 @@ module _ (rules : List Rule) (caller : List ℕ) where
       by_test true rest = rest
       by_test false rest = ap (λ (l : List ChangeOf). seen_of rules caller c ∷ l) rest
 
-  -- ---- what it is told
+  -- ---- what it is answered
 
   seen_at : (cs : List ChangeOf) (k : ℕ) → slice_get (seen rules caller cs) k ≡ option_map (seen_of rules caller) (slice_get (filter sees cs) k)
   seen_at cs k = ap (λ (l : List ChangeOf). slice_get l k) (seen_is cs) ∙ slice_get-map (seen_of rules caller) (filter sees cs) k

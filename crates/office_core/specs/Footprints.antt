@@ -1,4 +1,4 @@
--- What the items of an update ask for: to do something with the records of a type at the item's own name. It is told from the
+-- What the items of an update ask for: to do something with the records of a type at the item's own name. It depends on the
 -- item and the zone's origin alone.
 use Rattle.std.specs.Prelude.{◌≡◌, ◌≢◌, ◌⊎◌, ◌↔◌, ℕ, ◌<◌, suc, List, [], ◌∷◌, ◌++◌, Bool, true, false, not, if◌then◌else◌, Option, Some, None, option_map, slice_get}
 use Rattle.std.specs.List.{Contains, AllPairs, filter_map}

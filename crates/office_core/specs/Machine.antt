@@ -61,7 +61,7 @@ changes_from rules caller from cs = filter (λ c. nat_le from c.number) (numbere
 
 -- ---- requests that change nothing
 
--- what is read of a zone, or that there is none
+-- what is read of a zone, or that there is no zone
 abbrev pub of_zone : Option Held → (Held → ReplyOf) → ReplyOf
 of_zone None reads = not_auth
 of_zone (Some held) reads = reads held

@@ -152,7 +152,7 @@ pub record IsToldAs (rules : List Rule) (caller : List ℕ) (cs : List ChangeOf)
   pub removed : AreShown rules caller change.removed n.removed
   pub added : AreShown rules caller change.added n.added
 
--- A caller is told these changes from a number on: exactly those that it is told so, in the order of their numbers.
+-- A caller gets these changes from a number on: exactly those with at least that number, in the order of their numbers.
 pub record AreToldFrom (rules : List Rule) (caller : List ℕ) (from : ℕ) (cs : List ChangeOf) (ns : List NumberedOf) : Type 0 where
   pub order : AllPairs (λ a b. a.number < b.number) ns
   pub exactly : (n : NumberedOf) → Contains ns n ↔ ((from ≤ n.number) × IsToldAs rules caller cs n)
@@ -195,7 +195,7 @@ pub record UpdateIsRight (rules : List Rule) (s : State) (caller id : List ℕ) 
   -- it is refused exactly where the policy denies a point of it
   pub denied : s.receipts caller id ≡ None → (denial : DenialOf)
       → (done.reply ≡ tells denial) ↔ (IsJudged s caller id origin update × IsFirstDenial rules caller (footprint origin update) denial)
-  -- it is told that there is no zone, which item has a name outside it or which prerequisite fails, each exactly where that is so
+  -- the reply says that there is no zone, which item has a name outside it or which prerequisite fails, each exactly where that is so
   -- and no earlier test refuses it
   pub not_auth : s.receipts caller id ≡ None → (done.reply ≡ to_update replies.NotAuth) ↔ (s.zones origin ≡ None)
   pub not_zone : s.receipts caller id ≡ None → (place : Place) → (done.reply ≡ to_update (replies.NotZone place)) ↔ IsOutside s origin update place

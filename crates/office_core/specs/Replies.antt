@@ -52,7 +52,7 @@ right_of (rights.Denied by) = denied by
 abbrev pub numbered_of : NumberedChange → NumberedOf
 numbered_of c = record { number = c.number; removed = c.change.removed.items; added = c.change.added.items }
 
--- a reply of the machine; where the table failed or memory ran out there is none
+-- a reply of the machine; none where the table failed or memory ran out
 abbrev pub reply_of : Reply → Option ReplyOf
 reply_of (replies.Update reply) = Some (to_update reply)
 reply_of replies.IdReused = Some id_reused

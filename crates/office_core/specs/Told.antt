@@ -67,7 +67,7 @@ LeavesZones rules before caller origin update after replies.NoError =
     (held : Held) × (before.zones origin ≡ Some held) × IsMadeWhole rules before caller origin update held after
 LeavesZones rules before caller origin update after told = (o : List (List ℕ)) → after.zones o ≡ before.zones o
 
--- What is promised of the reply to an update whose identifier is new: it is told what it is due, and nothing else; the zones are as
+-- What is promised of the reply to an update whose identifier is new: it is the one that is due, and no other; the zones are as
 -- that says; and the reply is kept in a receipt, while every other receipt is as it was.
 pub record NewIsRight (rules : List Rule) (before : State) (caller id : List ℕ) (origin : List (List ℕ)) (update : UpdateOf) (reply : ReplyOf) (after : State) : Type 0 where
   pub told : UpdateReply
@@ -81,7 +81,7 @@ pub record NewIsRight (rules : List Rule) (before : State) (caller id : List ℕ
 abbrev pub IsReceiptOf : List (List ℕ) → UpdateOf → Receipt → Type 0
 IsReceiptOf origin update kept = (kept.origin ≡ origin) × (kept.update ≡ update)
 
--- What is promised of the reply to an update whose identifier has a receipt: it is told the reply that was kept where the receipt
+-- What is promised of the reply to an update whose identifier has a receipt: it is the reply that was kept where the receipt
 -- is of this update, and else that its identifier was given to another; and nothing changes.
 abbrev pub RepeatIsRight : State → List (List ℕ) → UpdateOf → Receipt → ReplyOf → State → Type 0
 RepeatIsRight before origin update kept reply after =

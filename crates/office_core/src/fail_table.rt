@@ -1,4 +1,4 @@
-//! A table that fails where it is told to, for tests.
+//! A table that fails at chosen calls, for tests.
 
 ghost use Rattle.std.specs.Prelude.{◌≡◌, ◌<◌, OnErr};
 ghost use Rattle.office_core.specs.Memory.{HoldsState};

@@ -58,7 +58,7 @@ fn unchanged(alloc: Global, zone: Zone) -> HeldZone
     ensures changes { result.changes.items ≡ [] }
     ensures is_zone { IsZone zone }
 {
-    // that it is a zone is told by what it is asked
+    // that it is a zone follows from the conditions of the call
     let _origin = zone.origin();
     HeldZone {
         zone,

@@ -46,7 +46,7 @@ pub fn step<T: ZoneTable>(
     }
 }
 
-/// The answer to a request of a caller, or why there is none.
+/// The answer to a request of a caller, or why it has no answer.
 fn answer<T: ZoneTable>(
     alloc: Global,
     table: &mut T,

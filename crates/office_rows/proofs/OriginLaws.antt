@@ -29,7 +29,7 @@ of_origin o r = bytes_eq r.origin (name_text o)
 abbrev at_origin : Labels → RecordRowOf → Bool
 at_origin o r = bytes_eq r.owner_key (key_of o)
 
--- zones among which there is none of an origin are of others
+-- zones among which an origin does not occur are of other origins
 all_other : (zones : List ZoneRows) (o : Labels) → zone_among zones o ≡ None → AllByRecursion (λ z. z.origin ≢ o) zones
 all_other [] o none = tt
 all_other (z ∷ zs) o none =

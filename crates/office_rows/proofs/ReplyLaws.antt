@@ -203,7 +203,7 @@ pub reply_read : (reply : UpdateReply) → IsReply reply → reply_in (reply_wor
 reply_read reply is =
     ap (λ r. r >>= λ items. reply_of (map (λ i. i.raw) items)) (fields_read (map plain (words_of reply)) (words_clean reply is)) ∙ ap reply_of (raws (words_of reply)) ∙ words_read reply is
 
--- other numbers of words are none
+-- other numbers of words are not a reply
 pub reply_none : (xs : List Item) → (length xs ≡ 1 → ⊥) → (length xs ≡ 3 → ⊥) → (length xs ≡ 4 → ⊥) → reply_of (map (λ i. i.raw) (map item_of xs)) ≡ Err BadRow
 reply_none [] one three four = refl
 reply_none (a ∷ []) one three four = absurd (one refl)

@@ -40,7 +40,7 @@ use Rattle.office_rows.specs.RowFaults.{◌>>=◌, of_names, of_datas, of_master
 use Rattle.item_lines.specs.Reading.{items_of}
 use Rattle.office_rows.specs.ReplyWords.{list_word}
 
--- what is found, or that a row is none
+-- what is found, or that a row is bad
 abbrev pub or_bad : {A : Type 0} → Option A → Result A RowFault
 or_bad None = Err BadRow
 or_bad (Some x) = Ok x

@@ -108,7 +108,7 @@ pub(crate) fn record_from(
     Ok(rr)
 }
 
-/// The identifier that stands so.
+/// Parses an identifier.
 pub(crate) fn identifier_in(alloc: Global, text: &[u8]) -> Result<Identifier, RowFault>
     ensures { Reads (λ id. id) result (identifier_in text.now) }
 {

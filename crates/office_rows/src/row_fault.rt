@@ -1,4 +1,4 @@
-//! Why a row is none that this crate writes.
+//! Why a row cannot be one that this crate writes.
 
 ghost use Rattle.std.specs.Prelude.{◌≡◌};
 

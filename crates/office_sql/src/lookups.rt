@@ -18,7 +18,7 @@ use sqlite::{Alter, Connection, params};
 use std::alloc::Global;
 
 /// Whether there is a zone of an origin. Each question here fails with `Store` where the store does, with `NoMemory` where memory
-/// runs out, and with `BadRow` where a row is none that is written here.
+/// runs out, and with `BadRow` where a row cannot have been written here.
 pub fn has_zone<S: Alter>(conn: &mut Connection<S>, origin: &str) -> Result<bool, RowsFault>
     requires { conn.old.in_transaction ≡ false }
     ensures answer { HasCleanDisk (state S.Store conn.new) → IfOk result (λ yes. (rows : RowsOf) → Holds (state S.Store conn.old) rows → yes ≡ list_any (bytes_eq origin.now) rows.zones) }

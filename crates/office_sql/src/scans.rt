@@ -100,7 +100,7 @@ fn all<S: Alter, T: FromRow>(
 }
 
 /// The rows of `meta`. Each of these fails with `Store` where the store does, with `NoMemory` where memory runs out, and with
-/// `BadRow` where the tables are not those of the office or a row is none that is written here.
+/// `BadRow` where the tables are not those of the office or a row cannot have been written here.
 pub fn versions<S: Alter>(alloc: Global, conn: &mut Connection<S>) -> Result<Vec<i64>, RowsFault>
     requires { conn.old.in_transaction ≡ false }
     ensures found { HasCleanDisk (state S.Store conn.new) → IfOk result (λ xs. ((state S.Store conn.new).now.schema ≡ office_schema) × Stores ((state S.Store conn.new).now.trees 0) (map stored_version xs.items)) }

@@ -44,7 +44,7 @@ fn is_only_key(unique: &[usize], order: Order, key: &[usize]) -> bool
     order.digits == 0
 }
 
-/// Whether the keys of a table are its primary key alone, in the order of the octets; where it has none, there are none.
+/// Whether the only key of a table is its primary key, in the order of the octets; a table without one has no keys.
 fn are_keys(table: &Table, key: &[usize]) -> bool
     ensures { (result ≡ true) ↔ ((table.now.uniques ≡ keys_over key.now) × (table.now.orders ≡ map (λ _. plain) (keys_over key.now))) }
 {

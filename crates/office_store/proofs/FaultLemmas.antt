@@ -39,7 +39,7 @@ gives_refused view e r told is refuses = subst (λ q. Gives view q told) (sym is
 pub gives_nothing : {X Y : Type 0} (view : X → Y) (e : StoreFault) (r : Result X StoreFault) (told : Result Y StoreFault) → r ≡ Err e → IsFailure e → Gives view r told
 gives_nothing view e r told is fails = gives_refused view e r told is (says_nothing e told fails)
 
--- a failure is none of the refusals of tables
+-- a failure is not a refusal of tables
 pub no_refusal : {X : Type 0} (e : StoreFault) (r : Result X StoreFault) → r ≡ Err e → IsFailure e → (r ≡ Err WrongVersion) ⊎ (r ≡ Err BadRow) → ⊥
 no_refusal e r is fails told =
     elim told [

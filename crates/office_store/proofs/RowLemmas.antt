@@ -112,7 +112,7 @@ rows_none origin all = record {
 pub rows_first : (origin k : List ℕ) (all rows : List RecordRowOf) → IsPermutation (records_at origin k all) rows → AreRowsAt origin (k ∷ []) all rows
 rows_first origin k all rows same = rows_more origin k [] all [] rows (rows_none origin all) same
 
--- whether rows are none, by the same in another order
+-- whether there are no rows, by the same rows in another order
 pub none_stand : (there rows : List RecordRowOf) → IsPermutation there rows → (length rows == 0) ≡ true → there ≡ []
 none_stand there [] same empty = none_moved there (IsPermutation-sym there [] same)
 none_stand there (r ∷ rows) same empty = absurd (let bad : true ≡ false = sym empty ∙ eqb-suc-zero (length rows) in cc)

@@ -52,7 +52,7 @@ fn last_number(changes: &[ChangedRecord]) -> u64
     number
 }
 
-/// The number of the next change of a zone. Behind 9,223,372,036,854,775,807 there is none: so many changes are in no memory.
+/// The number of the next change of a zone. After 9,223,372,036,854,775,807 there is none: no memory holds so many changes.
 fn next_number(changes: &[ChangedRecord]) -> Result<i64, AllocError>
     ensures { IfOk result (λ number. number ≡ pos (suc (last_number changes.now))) }
 {

@@ -33,7 +33,7 @@ pub struct Refused<S: Alter + Drop> {
     pub blank: Blank,
 }
 
-/// Makes the tables, which hold nothing, where there are none.
+/// Makes the tables, which hold nothing, in a database without tables.
 pub(crate) fn make<S: Alter>(conn: &mut Connection<S>) -> Result<(), StoreFault>
     requires { conn.old.in_transaction ≡ false }
     ensures made { OnOk result (HoldsState (state S.Store conn.new) nothing_held) }

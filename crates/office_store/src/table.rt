@@ -184,7 +184,7 @@ impl<S: Alter + Drop, L: Ledger> SqlTable<S, L> {
         ensures crash { OnErr result (Leaves (state S.Store conn.new) (λ db. (state S.Store conn.old).may_leave db ⊎ IsMigratedFrom (state S.Store conn.old) db)) }
         // Behind `WrongVersion` and `BadRow` it leaves nothing else than before.
         ensures same { (result ≡ Err WrongVersion) ⊎ (result ≡ Err BadRow) → Asked (state S.Store conn.old) (state S.Store conn.new) }
-        // Over rows of version 1 only the store fails or memory runs out; so `BadRow` says that they are none.
+        // Over rows of version 1 only the store fails or memory runs out; so `BadRow` says that they are not such rows.
         ensures good { HasCleanDisk (state S.Store conn.new) → IfErr result (λ e. (content : ContentOf) → HoldsOld (state S.Store conn.old) content → IsFailure e) }
         ensures wrong { HasCleanDisk (state S.Store conn.new) → result ≡ Err WrongVersion → ¬ IsOfVersion (pos 1) (state S.Store conn.old) }
         // `BadRow` comes only over tables of version 1.

@@ -33,7 +33,7 @@ pub fn without_items(input: Vec<u8>) -> Vec<u8> {
     input
 }
 
-/// The line of the first item of an input that is none, counted from the divider.
+/// The line of the first entry of an input that is not an item, counted from the divider.
 pub fn bad_line(alloc: Global, input: &[u8]) -> Option<usize> {
     match read_items(alloc, items(input)) {
         Err(ItemsFault::BadLine(line)) => Some(line),

@@ -8,7 +8,7 @@ use dns_data::RecordType;
 use dns_names::Name;
 use grant_policy::{Action, Decision, Effect, Identifier, LookUps, Policy, Rule};
 
-/// What a rule decides, and the closing denial where there is none.
+/// What a rule decides; without a rule, the closing denial.
 pub fn told(rule: Option<&Rule>) -> Decision<'_>
     ensures { verdict_of result ≡ option_map_or decided (option_copied rule.entry) (denied None) }
 {

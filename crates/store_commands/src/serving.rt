@@ -103,8 +103,8 @@ fn listening_at(rt: &HostRuntime, listen: &str) -> Result<(TcpListener, String),
     Ok((listener, text))
 }
 
-/// Writes the line that tells that serving a connection ended by a fault. It takes no memory, so that a connection for which there
-/// is none does not end the office.
+/// Writes the line that reports the fault by which a connection ended. It takes no memory, so running out of memory on one
+/// connection does not end the office.
 fn tell_ended<W: Sink>(writer: &mut W, fault: ServeFault) -> Result<(), DeviceFailed>
     ensures { IsSent (W.contents writer.old) (W.contents writer.new) (connection_line fault) result (W.failures writer.old) (W.failures writer.new) }
 {

@@ -47,7 +47,7 @@ fn text_of(octets: &[u8]) -> Result<&str, BodyFault> {
     str::from_utf8(octets).or(Err(BodyFault::BadField))
 }
 
-/// The text before the first of a character, and what stands behind it; all of it, and nothing, where there is none.
+/// The text before the first of a character, and what follows it; all of it, and nothing, where it does not occur.
 fn cut(text: &str, at: char) -> (&str, &str) {
     text.split_once(at).unwrap_or((text, ""))
 }

@@ -36,7 +36,7 @@ impl Spoiling {
     }
 }
 
-/// Takes from what is told of a stream the octets that were written before a write failed, if they are a front of what is written
+/// Takes from what is told of a stream the octets that were written before a write failed, if they are a prefix of what is written
 /// otherwise.
 pub fn without_front(
     alloc: Global,

@@ -64,7 +64,7 @@ fn number(text: &[u8]) -> usize {
         .unwrap_or(0)
 }
 
-/// The origin of a row; a fault of it is told as one of line 0.
+/// The origin of a row; its faults have line 0.
 fn origin(alloc: Global, text: &[u8]) -> Result<Name, MasterFault> {
     match Name::read_absolute(alloc, text) {
         Ok(name) => Ok(name),

@@ -15,7 +15,7 @@ pub enum Fault {
     Name(#[from] NameFault),
     #[error("refused {}: {}", .0.number(), .0)]
     Data(#[from] DataFault),
-    /// A word of the row is none of those that may stand there.
+    /// A word of the row is not one of those allowed there.
     #[error("no such word")]
     Word,
     /// No policy is kept.

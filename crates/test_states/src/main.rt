@@ -1,4 +1,4 @@
-//! Rows of the tables, by rows: those that are a state and those that are none, what is read of them, and what is written. They are
+//! Rows of the tables, by rows: those that are a state and those that are not, what is read of them, and what is written. They are
 //! written by hand from the texts of RFC 1035 section 5.1 and the numbers of its section 3.2.2.
 //!
 //! In a body, and in answers, a row of a table is a line: `version N`, `zone ORIGIN`, `record ORIGIN OWNER TYPE TTL KEY DATA`,

@@ -31,7 +31,7 @@ first_soa records = find (λ r. is_some (soa_in r.rdata)) records
 abbrev pub origin_of : List Record → Option (List (List ℕ))
 origin_of records = option_map (λ r. r.owner) (first_soa records)
 
--- the zone of records, whose origin is told by them
+-- the zone of records, whose origin is that of the first SOA
 abbrev pub zone_of_records : List Record → Result ZoneOf Refusal
 zone_of_records records = or_refused (origin_of records) (Zone NoSoa) >>= λ origin. of_zones (built origin records)
 

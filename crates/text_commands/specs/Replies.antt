@@ -25,7 +25,7 @@ abbrev pub IsSent : Option (List ℕ) → Option (List ℕ) → List ℕ → Res
 IsSent old new text (Ok done) before after = Appends old new text × (after ≡ before)
 IsSent old new text (Err failed) before after = AppendsFront old new text × (before < after)
 
--- a fault is told by its line; where there is no memory for that of a refusal, out of memory is told in its place
+-- a fault is reported by its line; without memory for the line of a refusal, by that of out of memory
 abbrev pub MayTell : LineFault → LineFault → Type 0
 MayTell (Refused refusal) line = (line ≡ Refused refusal) ⊎ (line ≡ NoMemory)
 MayTell fault line = line ≡ fault

@@ -15,7 +15,7 @@ use std::alloc::AllocError;
 use thiserror::Error;
 use zone_core::ZoneFault;
 
-/// Why a job has no answer. Each is told by a line in its place.
+/// Why a job has no answer. Each is reported by a line in place of the answer.
 #[derive(Clone, Copy, Debug, PartialEq, Eq, Error)]
 pub enum LineFault {
     /// The words or the input are refused.

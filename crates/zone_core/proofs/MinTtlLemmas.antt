@@ -79,7 +79,7 @@ module _ (f : Record → ℕ) where
   given_keys [] = refl
   given_keys (r ∷ xs) = ap (λ es. (key_of r, record r { ttl = f r }) ∷ es) (given_keys xs)
 
-  -- where a TTL is told by the key alone, each record has the TTL of its key
+  -- where a TTL depends on the key only, each record has the TTL of its key
   pub given_all : ((r : Record) (ttl : ℕ) → f (record r { ttl = ttl }) ≡ f r) → (xs : List Record) → AllByRecursion (λ r. r.ttl ≡ f r) (given_ttls xs (map f xs))
   given_all same [] = tt
   given_all same (r ∷ xs) = (sym (same r (f r)), given_all same xs)

@@ -19,7 +19,7 @@ pub enum Glue {
     Outside,
     /// An A or AAAA of the server is there.
     Listed,
-    /// The server is within the child, and there is none.
+    /// The server is within the child, and has no such record.
     Unlisted,
 }
 
