@@ -1,7 +1,8 @@
 //! Policies.
 
-ghost use Rattle.std.specs.Prelude.{◌≡◌, ◌↔◌, ◌+◌, ◌*◌, ◌≤◌, length, count_by, IfOk, IsTrue};
-ghost use Rattle.grant_policy.specs.Decisions.{concerns, decision, verdict_of};
+ghost use Rattle.std.specs.Prelude.{◌≡◌, ◌↔◌, ◌+◌, ◌*◌, ◌≤◌, length, count_by, IfOk, IsTrue, None};
+ghost use Rattle.std.specs.Option.{option_copied, option_map_or};
+ghost use Rattle.grant_policy.specs.Decisions.{concerns, decided, decision, denied, verdict_of};
 ghost use Rattle.grant_policy.specs.Rules.{IsOf, Matches};
 ghost use Rattle.grant_policy.specs.Scopes.{Covers};
 
@@ -38,20 +39,39 @@ pub fn matches(
     rule.matches(caller, name, record_type, action)
 }
 
-/// `decide`, where the rules of the policy are known.
+/// `decide`.
 pub fn decide<'a>(
     policy: &'a Policy,
-    rules: &'a [Rule],
     caller: &Identifier,
     name: &Name,
     record_type: RecordType,
     action: Action,
     look_ups: &mut LookUps,
 ) -> Decision<'a>
-    requires { rules.now ≡ policy.now }
     ensures { verdict_of result ≡ decision (record { caller = caller.now; name = name.now; record_type = record_type; action = action }) policy.now }
 {
     grant_policy::decide(policy, caller, name, record_type, action, look_ups)
+}
+
+/// The rule that decides among the rules of a list, by going through them: what `decide` answers is of this rule.
+pub fn first_match<'a>(
+    rules: &'a [Rule],
+    caller: &Identifier,
+    name: &Name,
+    record_type: RecordType,
+    action: Action,
+) -> Option<&'a Rule>
+    ensures { option_map_or decided (option_copied result) (denied None) ≡ decision (record { caller = caller.now; name = name.now; record_type = record_type; action = action }) rules.entry.now }
+{
+    match rules {
+        [] => None,
+        [rule, rest @ ..] => {
+            if rule.matches(caller, name, record_type, action) {
+                return Some(rule);
+            }
+            first_match(rest, caller, name, record_type, action)
+        }
+    }
 }
 
 /// `decide`, by what it looks up.

@@ -1,25 +1,10 @@
 //! What edits call in the place of the right thing.
 
-ghost use Rattle.std.specs.Prelude.{◌≡◌, ◌+◌, ◌≤◌, length, None};
-ghost use Rattle.std.specs.Option.{option_copied, option_map_or};
-ghost use Rattle.grant_policy.specs.Decisions.{decided, denied, verdict_of};
+ghost use Rattle.std.specs.Prelude.{◌+◌, ◌≤◌, length};
 
 use dns_data::RecordType;
 use dns_names::Name;
-use grant_policy::{Action, Decision, Effect, Identifier, LookUps, Policy, Rule};
-
-/// What a rule decides; without a rule, the closing denial.
-pub fn told(rule: Option<&Rule>) -> Decision<'_>
-    ensures { verdict_of result ≡ option_map_or decided (option_copied rule.entry) (denied None) }
-{
-    match rule {
-        None => Decision::Denied(None),
-        Some(rule) => match rule.effect {
-            Effect::Grant => Decision::Granted(&rule.id),
-            Effect::Deny => Decision::Denied(Some(&rule.id)),
-        },
-    }
-}
+use grant_policy::{Action, Identifier, LookUps, Policy, Rule};
 
 /// Looks something up for each of the rules.
 pub fn look_all_up(

@@ -1,8 +1,7 @@
 -- One tactic for what the function ensures, so that a wrong body is refused soon.
-use Rattle.std.proofs.Common.{rules}
 use Rattle.dns_data.specs.Reading.{digest_at, joined, values_at}
 use Rattle.refuse_dns.proofs.data.read_data.Goals as goal
 
 pub returns : goal.returns
 unfolding values_at digest_at joined
-returns c = search rules
+returns c = search

@@ -1,6 +1,5 @@
 -- One tactic for what the function ensures, so that a wrong body is refused soon.
-use Rattle.std.proofs.Common.{rules}
 use Rattle.refuse_policy.proofs.policy.covers.Goals as goal
 
 pub returns : goal.returns
-returns c = search rules
+returns c = search
