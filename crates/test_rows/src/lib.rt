@@ -12,4 +12,4 @@ mod rows;
 
 pub use answering::{Answers, run};
 pub use octets::{push_octets, push_shown};
-pub use rows::Row;
+pub use rows::{Row, word};

@@ -32,14 +32,24 @@ fn push_char(alloc: Global, c: char, octets: &mut Vec<u8>) -> Result<(), AllocEr
 /// Appends what stands between `<` and `>`: `TEXT*N`, or an octet by its two hexadecimal digits.
 fn push_spelled(spelled: &str, octets: &mut Vec<u8>) -> Result<(), AllocError> {
     match spelled.split_once('*') {
-        Some((text, times)) => {
-            for _ in 0..times.parse::<usize>().unwrap_or(0) {
-                octets.extend_from_slice(text.as_bytes())?;
-            }
-        }
-        None => octets.push(u8::from_str_radix(spelled, 16).unwrap_or(b'?'))?,
+        Some((text, times)) => push_repeated(text.as_bytes(), number(times), octets),
+        None => Ok(octets.push(octet(spelled))?),
+    }
+}
+
+fn push_repeated(text: &[u8], times: usize, octets: &mut Vec<u8>) -> Result<(), AllocError> {
+    for _ in 0..times {
+        octets.extend_from_slice(text)?;
     }
     Ok(())
+}
+
+fn number(digits: &str) -> usize {
+    digits.parse().unwrap_or(0)
+}
+
+fn octet(digits: &str) -> u8 {
+    u8::from_str_radix(digits, 16).unwrap_or(b'?')
 }
 
 /// Appends octets as a file of wanted text shows them: printable ASCII and line ends as they are, and others as `<0D>`.

@@ -1,6 +1,14 @@
 use crate::octets::push_octets;
 use std::alloc::{AllocError, Global};
 
+/// The text before its first space, and what stands behind it; all of it, and nothing, where there is no space.
+pub fn word(text: &[u8]) -> (&[u8], &[u8]) {
+    match text.iter().position(|octet| *octet == b' ') {
+        Some(at) => (&text[..at], &text[at + 1..]),
+        None => (text, &[]),
+    }
+}
+
 /// A row: what is asked, and of what.
 #[derive(Drop)]
 pub struct Row<'a> {
@@ -38,12 +46,9 @@ impl<'a> Row<'a> {
         }
     }
 
-    /// The text before its first space, and what stands behind it; all of it, and nothing, where there is no space.
+    /// The first word of the text, and what stands behind it.
     pub fn split(&self) -> (&[u8], &[u8]) {
-        match self.text.iter().position(|octet| *octet == b' ') {
-            Some(at) => (&self.text[..at], &self.text[at + 1..]),
-            None => (&self.text, &[]),
-        }
+        word(&self.text)
     }
 
     /// The words of the text, with one space between two.

@@ -54,7 +54,8 @@ fn are_in_order(first: &Record, second: &Record) -> bool {
 
 /// Whether a record ties with itself, and with itself at another TTL.
 fn ties_with_itself(alloc: Global, record: &Record) -> Result<bool, DataFault> {
+    let ttl = Ttl::read(b"2h")?;
     let mut later = record.try_copy(alloc)?;
-    later.ttl = Ttl::read(b"2h")?;
+    later.ttl = ttl;
     Ok(record_order(record, record).is_eq() && record_order(record, &later).is_eq())
 }

@@ -1,14 +1,7 @@
 use dns_data::{Data, DataFault, Item, Record, RecordType, Ttl, read_data};
 use dns_names::Name;
 use std::alloc::{AllocError, Global};
-
-/// The text before its first space, and what stands behind it.
-pub fn first_word(text: &[u8]) -> (&[u8], &[u8]) {
-    match text.iter().position(|octet| *octet == b' ') {
-        Some(at) => (&text[..at], &text[at + 1..]),
-        None => (text, &[]),
-    }
-}
+use test_rows::word;
 
 /// The items of a text that has one space between them.
 fn items(alloc: Global, text: &[u8]) -> Result<Vec<Item<'_>>, AllocError> {
@@ -27,18 +20,19 @@ fn items(alloc: Global, text: &[u8]) -> Result<Vec<Item<'_>>, AllocError> {
 
 /// The data that `TYPE ITEMS` writes.
 pub fn data(alloc: Global, text: &[u8], origin: Option<&Name>) -> Result<Data, DataFault> {
-    let (record_type, rest) = first_word(text);
+    let (record_type, rest) = word(text);
     let record_type = RecordType::read(record_type)?;
     read_data(alloc, record_type, &items(alloc, rest)?, origin)
 }
 
 /// The record that `OWNER TTL TYPE ITEMS` writes.
 pub fn record(alloc: Global, text: &[u8]) -> Result<Record, DataFault> {
-    let (owner, rest) = first_word(text);
-    let (ttl, rest) = first_word(rest);
+    let (owner, rest) = word(text);
+    let (ttl, rest) = word(rest);
+    let ttl = Ttl::read(ttl)?;
     Ok(Record {
         owner: Name::read_absolute(alloc, owner)?,
-        ttl: Ttl::read(ttl)?,
+        ttl,
         rdata: data(alloc, rest, None)?,
     })
 }

@@ -1,10 +1,10 @@
-use crate::items::{data, first_word};
+use crate::items::data;
 use crate::records::{line, rank, sameness};
 use dns_data::{Data, DataFault, Record, RecordType, Ttl, data_text};
 use dns_names::Name;
 use std::alloc::{AllocError, Global};
 use std::net::{Ipv4Addr, Ipv6Addr};
-use test_rows::{Answers, Row};
+use test_rows::{Answers, Row, word};
 
 /// Answers to rows of record data, with the records that are ranked so far.
 #[derive(Drop)]
@@ -69,6 +69,10 @@ fn decimal(text: &[u8]) -> Option<u16> {
     str::from_utf8(text).ok()?.parse().ok()
 }
 
+fn decimal_octet(text: &[u8]) -> Option<u8> {
+    str::from_utf8(text).ok()?.parse().ok()
+}
+
 fn hexadecimal(text: &[u8]) -> Option<u16> {
     u16::from_str_radix(str::from_utf8(text).ok()?, 16).ok()
 }
@@ -79,7 +83,7 @@ fn ttl(alloc: Global, text: &[u8]) -> Result<String, DataFault> {
 }
 
 fn data_at(alloc: Global, text: &[u8]) -> Result<String, DataFault> {
-    let (origin, rest) = first_word(text);
+    let (origin, rest) = word(text);
     let origin = Name::read_absolute(alloc, origin)?;
     Ok(data_text(alloc, &data(alloc, rest, Some(&origin))?)?)
 }
@@ -95,9 +99,7 @@ fn count(alloc: Global, rdata: &Data) -> Result<String, DataFault> {
 fn ipv4(alloc: Global, text: &[u8]) -> Result<String, DataFault> {
     let mut octets = [0u8; 4];
     for (octet, word) in octets.iter_mut().zip(text.split(|octet| *octet == b' ')) {
-        *octet = decimal(word)
-            .and_then(|number| u8::try_from(number).ok())
-            .unwrap_or(0);
+        *octet = decimal_octet(word).unwrap_or(0);
     }
     Ok(data_text(alloc, &Data::A(Ipv4Addr::from(octets)))?)
 }

@@ -4,23 +4,13 @@ use dns_master::{MasterFault, Token, read_file, tokens};
 use dns_names::Name;
 use std::alloc::{AllocError, Global};
 use std::str;
-use test_rows::{Answers, Row};
+use test_rows::Row;
 
-/// Answers to rows of master files.
-#[derive(Drop)]
-pub struct Files;
-
-impl Answers for Files {
-    fn answer(
-        &mut self,
-        alloc: Global,
-        row: &Row<'_>,
-        answer: &mut Vec<u8>,
-    ) -> Result<(), AllocError> {
-        match answer_to(alloc, row, answer) {
-            Ok(()) => Ok(()),
-            Err(fault) => push_fault(alloc, fault, answer),
-        }
+/// Appends the answer to a row of master files.
+pub fn push_answer(alloc: Global, row: &Row<'_>, answer: &mut Vec<u8>) -> Result<(), AllocError> {
+    match answer_to(alloc, row, answer) {
+        Ok(()) => Ok(()),
+        Err(fault) => push_fault(alloc, fault, answer),
     }
 }
 

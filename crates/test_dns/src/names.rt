@@ -1,23 +1,13 @@
 use dns_names::{Name, NameFault, Symbol, first_symbol};
 use std::alloc::{AllocError, Global};
 use std::cmp::Ordering;
-use test_rows::{Answers, Row};
+use test_rows::Row;
 
-/// Answers to rows of names.
-#[derive(Drop)]
-pub struct Names;
-
-impl Answers for Names {
-    fn answer(
-        &mut self,
-        alloc: Global,
-        row: &Row<'_>,
-        answer: &mut Vec<u8>,
-    ) -> Result<(), AllocError> {
-        match answer_to(alloc, row, answer) {
-            Ok(()) => Ok(()),
-            Err(fault) => push_fault(alloc, &fault, answer),
-        }
+/// Appends the answer to a row of names.
+pub fn push_answer(alloc: Global, row: &Row<'_>, answer: &mut Vec<u8>) -> Result<(), AllocError> {
+    match answer_to(alloc, row, answer) {
+        Ok(()) => Ok(()),
+        Err(fault) => push_fault(alloc, &fault, answer),
     }
 }
 
