@@ -10,15 +10,16 @@ use Rattle.zone_core.specs.declared.update.Operation.{Operation}
 use Rattle.zone_core.specs.declared.update.Operation.TheVariants.{Add, DeleteRrset, DeleteName, DeleteRecord}
 use Rattle.zone_core.specs.Serials.{serial_sum, is_less}
 use Rattle.zone_core.specs.Sets.{Records, Key, key_of, rank_of, same_key, IsIn, cut, at, is_same}
-use Rattle.zone_core.specs.Zones.{is_soa, serial_in, soa_at}
+use Rattle.zone_core.specs.Zones.{is_soa, serial_in, serial_at, soa_at}
 use Rattle.zone_core.specs.Updates.{IsOperation, acted_name, adds_soa}
 use Rattle.zone_core.specs.Effects.{next_version, add, effects, serial_advanced}
 use Rattle.zone_core.proofs.SetLemmas.{by_cases, key_is, key_self, get-cut, same_sets, some_is, found_by_put}
 use Rattle.zone_core.proofs.ZoneLemmas.{Keys, at_has, soa_is, no}
+use Rattle.zone_core.proofs.VersionLemmas.{is_less-Decides}
 use Rattle.zone_core.proofs.ChangedLemmas.{same_sets_are_one}
 use Rattle.zone_core.specs.Changes.{ChangeOf, change_between}
-use Rattle.zone_diff.specs.Differences.{is_gone, at_serial, with_soa, with_soa_at, target, is_server, is_other, addition, deletion, servers, gone, others, edits, is_equal, next_soa, needs_soa, soa_additions, with_soa_addition, operations}
-use Rattle.zone_diff.specs.Promises.{Lead, deletes, IsNeeded, AddsSoaLast, AreWithin}
+use Rattle.zone_diff.specs.Differences.{is_gone, at_serial, with_soa, with_soa_at, with_serial, target, is_server, is_other, addition, deletion, servers, gone, others, edits, is_equal, next_soa, needs_soa, soa_additions, with_soa_addition, operations}
+use Rattle.zone_diff.specs.Promises.{Lead, HaveNoNews, deletes, IsNeeded, AddsSoaLast, AreWithin}
 use Rattle.zone_diff.proofs.ListLemmas.{effects-append, some_one}
 use Rattle.zone_diff.proofs.LeadLemmas.{IsServer, IsOther, IsGone, are_servers, are_others, are_gone, server_off, edited_other, edited_soa}
 use Rattle.zone_diff.proofs.SoaLemmas.{next_is_at, at_twice, at_own, data_type, serial_is, at_fits, serial_fits, sum_fits, less_next, not_less, equal_is, is_equal_self, IsSoaHere, other_with, soa_here, own_soa, is_with, own_with, keys_with, with_at, with_twice, added_soa, serial_own, stays_taken, goes_further, stays_same}
@@ -178,8 +179,14 @@ module _ (origin : List (List ℕ)) (old new : Records) (z : Keys origin old) (n
 
   -- ---- the target
 
+  abbrev by_rest : Bool → Records
+  by_rest same = if same then old else with_soa new further
+
+  abbrev by_serial : Bool → Records
+  by_serial greater = if greater then new else by_rest (is_same old (with_soa new (at_serial (serial_in s) m)))
+
   abbrev aim : Records
-  aim = if less then new else (if is_same old (with_soa new (at_serial (serial_in s) m)) then old else with_soa new further)
+  aim = by_serial less
 
   target_is : target origin old new ≡ aim
   target_is =
@@ -227,17 +234,17 @@ module _ (origin : List (List ℕ)) (old new : Records) (z : Keys origin old) (n
   aim_with : (same_next ≡ false) ⊎ ((bare ≡ false) ⊎ (less ≡ true)) → aim ≡ with_soa new a
   aim_with one =
       by_cases less (aim ≡ with_soa new a)
-      (λ e. ap (λ b. if b then new else (if is_same old (with_soa new (at_serial (serial_in s) m)) then old else with_soa new further)) e ∙ own_with origin new n ∙ ap (with_soa new) (sym (a_new e)))
+      (λ e. ap by_serial e ∙ own_with origin new n ∙ ap (with_soa new) (sym (a_new e)))
       (λ e.
-      ap (λ b. if b then new else (if is_same old (with_soa new (at_serial (serial_in s) m)) then old else with_soa new further)) e
-      ∙ ap (λ b. if b then old else with_soa new further) (not_old e (elim one [ inl f ↦ inl f | inr more ↦ (elim more [ inl some ↦ inr some | inr t ↦ absurd (no less t e) ]) ]))
+      ap by_serial e
+      ∙ ap by_rest (not_old e (elim one [ inl f ↦ inl f | inr more ↦ (elim more [ inl some ↦ inr some | inr t ↦ absurd (no less t e) ]) ]))
       ∙ ap (with_soa new) (sym (a_further e)))
 
   aim_old : same_next ≡ true → bare ≡ true → less ≡ false → aim ≡ old
   aim_old t none e =
       let stays : with_soa new (at_serial (serial_in s) m) ≡ old = ap (with_soa new) (same_fields e t) ∙ sym edited_with ∙ ap (effects origin old) (none_is E none) in
-      ap (λ b. if b then new else (if is_same old (with_soa new (at_serial (serial_in s) m)) then old else with_soa new further)) e
-      ∙ ap (λ b. if b then old else with_soa new further) (ap (is_same old) stays ∙ (same_sets_are_one old old z.rows.kept z.rows.kept).1 refl)
+      ap by_serial e
+      ∙ ap by_rest (ap (is_same old) stays ∙ (same_sets_are_one old old z.rows.kept z.rows.kept).1 refl)
 
   -- ---- which of the three
 
@@ -331,10 +338,47 @@ module _ (origin : List (List ℕ)) (old new : Records) (z : Keys origin old) (n
   operations_needed =
       subst (λ (x : Records). AllByRecursion (IsNeeded old x) (operations origin old new)) (sym target_is) (subst (AllByRecursion (IsNeeded old aim)) (sym ops_are) all_needed)
 
-  pub operations_none : (operations origin old new ≡ []) ↔ (target origin old new ≡ old)
+  with_serial_is : with_serial origin (serial_at origin old) new ≡ with_soa new (at_serial (serial_in s) m)
+  with_serial_is = λ i. with_soa_at (serial_own origin old z i) new (soa_is origin new n i)
+
+  -- where the target is the old set, nothing is new
+  no_news : aim ≡ old → HaveNoNews origin old new
+  no_news same =
+      by_cases less (HaveNoNews origin old new)
+      (λ e.
+      let both = ap by_serial (sym e) ∙ same in
+      let soas = some_one m s (sym (soa_is origin new n) ∙ ap (soa_at origin) both ∙ soa_is origin old z) in
+      absurd (not_less (serial_in s) (ap (λ (r : Record). is_less (serial_in s) (serial_in r)) (sym soas) ∙ e)))
+      (λ e. (
+        λ l. no less (ap (λ p. is_less p (serial_in m)) (sym (serial_own origin old z)) ∙ ap (is_less (serial_at origin old)) (sym (serial_own origin new n)) ∙ (is_less-Decides (serial_at origin old) (serial_at origin new)).1 l) e,
+        with_serial_is ∙ by_cases (is_same old (with_soa new (at_serial (serial_in s) m))) (with_soa new (at_serial (serial_in s) m) ≡ old)
+            (λ t. sym ((same_sets_are_one old (with_soa new (at_serial (serial_in s) m)) z.rows.kept (keys_with origin new n (at_serial (serial_in s) m) low_here).0.rows.kept).0 t))
+            (λ f. absurd (moved (ap by_rest (sym f) ∙ ap by_serial (sym e) ∙ same))),
+      ))
+    where
+      -- an SOA with a greater serial is not the old one
+      moved : with_soa new further ≡ old → ⊥
+      moved is =
+          let here = at_here (serial_sum (serial_in s) 1) m m_here refl in
+          let soas = some_one further s (sym (with_at origin new n further here) ∙ ap (soa_at origin) is ∙ soa_is origin old z) in
+          let serials : serial_sum (serial_in s) 1 ≡ serial_in s = sym (serial_is (serial_sum (serial_in s) 1) m m_here.type) ∙ ap serial_in soas in
+          not_less (serial_in s) (ap (is_less (serial_in s)) (sym serials) ∙ less_next (serial_in s) (serial_fits s s_here.is))
+
+  idle_aim : HaveNoNews origin old new → aim ≡ old
+  idle_aim none =
+      let e : less ≡ false =
+      by_cases less (less ≡ false)
+      (λ t. absurd (none.0 ((is_less-Decides (serial_at origin old) (serial_at origin new)).0 (ap (λ p. is_less p (serial_at origin new)) (serial_own origin old z) ∙ ap (is_less (serial_in s)) (serial_own origin new n) ∙ t))))
+      (λ f. f) in
+      ap by_serial e
+      ∙ ap by_rest (ap (is_same old) (sym with_serial_is ∙ none.1) ∙ (same_sets_are_one old old z.rows.kept z.rows.kept).1 refl)
+
+  pub operations_none : (operations origin old new ≡ []) ↔ HaveNoNews origin old new
   operations_none = (
-    λ e. sym operations_lead ∙ ap (λ (x : List Operation). serial_advanced origin old (effects origin old x)) e ∙ stays_same origin old z,
-    λ e. none_needed old (operations origin old new) (subst (λ (x : Records). AllByRecursion (IsNeeded old x) (operations origin old new)) e operations_needed),
+    λ e. no_news (sym target_is ∙ sym operations_lead ∙ ap (λ (x : List Operation). serial_advanced origin old (effects origin old x)) e ∙ stays_same origin old z),
+    λ none.
+        none_needed old (operations origin old new)
+        (subst (λ (x : Records). AllByRecursion (IsNeeded old x) (operations origin old new)) (target_is ∙ idle_aim none) operations_needed),
   )
 
   edits_plain : AllByRecursion (λ op. adds_soa op ≡ false) E

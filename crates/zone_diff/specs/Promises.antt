@@ -7,14 +7,19 @@ use Rattle.dns_data.specs.declared.record_type.RecordType.TheVariants as types
 use Rattle.zone_core.specs.declared.update.Operation.{Operation}
 use Rattle.zone_core.specs.declared.update.Operation.TheVariants.{Add, DeleteRrset, DeleteName, DeleteRecord}
 use Rattle.zone_core.specs.Sets.{Records, Key, key_of, same_key, at_name, at, IsIn, cut}
-use Rattle.zone_core.specs.Zones.{soa_at}
+use Rattle.zone_core.specs.Serials.{IsLess}
+use Rattle.zone_core.specs.Zones.{soa_at, serial_at}
 use Rattle.zone_core.specs.Updates.{IsOperation, acted_name, adds_soa}
 use Rattle.zone_core.specs.Effects.{key_at, next_version, effects, serial_advanced}
-use Rattle.zone_diff.specs.Differences.{target}
+use Rattle.zone_diff.specs.Differences.{with_serial, target}
 
 -- the operations, made in turn in the old zone, give the target (RFC 2136 sections 3.4.2 and 3.6)
 abbrev pub Lead : List (List ℕ) → Records → Records → List Operation → Type 0
 Lead origin old new ops = serial_advanced origin old (effects origin old ops) ≡ target origin old new
+
+-- two zones differ in nothing but a serial, which in the new one is not greater (RFC 1982 section 3.2)
+abbrev pub HaveNoNews : List (List ℕ) → Records → Records → Type 0
+HaveNoNews origin old new = ¬ IsLess (serial_at origin old) (serial_at origin new) × (with_serial origin (serial_at origin old) new ≡ old)
 
 -- the keys that a deletion names
 abbrev pub deletes : Operation → Key → Bool

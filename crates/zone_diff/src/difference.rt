@@ -6,7 +6,7 @@ ghost use Rattle.zone_core.specs.Sets.{set_of, key_of, InOrder, minus};
 ghost use Rattle.zone_core.specs.Zones.{serial_in};
 ghost use Rattle.zone_core.specs.Effects.{next_version};
 ghost use Rattle.zone_diff.specs.Differences.{is_server, is_gone, is_other, addition, deletion, data_at, at_serial, next_soa, soa_additions, operations, target};
-ghost use Rattle.zone_diff.specs.Promises.{Lead, IsNeeded, AddsSoaLast, AreWithin};
+ghost use Rattle.zone_diff.specs.Promises.{Lead, HaveNoNews, IsNeeded, AddsSoaLast, AreWithin};
 
 use crate::same::{has_same, has_type, is_at, is_equal};
 use dns_data::{Data, Record, RecordType, Serial, Soa};
@@ -26,8 +26,8 @@ pub fn operations_between(
     requires { new.now.origin ≡ old.now.origin }
     // They make the zone that is wanted.
     ensures made { IfOk result (λ ops. Lead old.now.origin old.now.records new.now.records ops.items) }
-    // There are none exactly where it is the old one.
-    ensures none { IfOk result (λ ops. (ops.items ≡ []) ↔ (target old.now.origin old.now.records new.now.records ≡ old.now.records)) }
+    // There are none exactly where the two differ in nothing but a serial that is not greater.
+    ensures none { IfOk result (λ ops. (ops.items ≡ []) ↔ HaveNoNews old.now.origin old.now.records new.now.records) }
     // Each is for a record in which the two differ.
     ensures needed { IfOk result (λ ops. AllByRecursion (IsNeeded old.now.records (target old.now.origin old.now.records new.now.records)) ops.items) }
     // At most the last adds an SOA, where nothing else would make it.

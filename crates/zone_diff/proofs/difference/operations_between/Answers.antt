@@ -6,7 +6,7 @@ use Rattle.zone_core.specs.Changes.{change_in}
 use Rattle.zone_core.specs.Zones.{ZoneOf, IsZone}
 use Rattle.zone_core.proofs.ZoneLemmas.{Keys, keys_of}
 use Rattle.zone_diff.specs.Differences.{soa_additions, operations, target}
-use Rattle.zone_diff.specs.Promises.{Lead, IsNeeded, AddsSoaLast, AreWithin}
+use Rattle.zone_diff.specs.Promises.{Lead, HaveNoNews, IsNeeded, AddsSoaLast, AreWithin}
 use Rattle.zone_diff.proofs.PromiseLemmas.{exact_is, operations_lead, operations_none, operations_needed, operations_soa, operations_within}
 use Rattle.zone_diff.proofs.difference.operations_between.Goals as goal
 
@@ -39,8 +39,8 @@ pub returns-clause-none : goal.returns-clause-none
 returns-clause-none c =
     let old = c.args.old.now in
     let new = c.args.new.now in
-    IfOk-weaker c.with_soa.result (λ ops. ops.items ≡ operations old.origin old.records new.records) (λ ops. (ops.items ≡ []) ↔ (target old.origin old.records new.records ≡ old.records))
-    (λ ops e. subst (λ (xs : List Operation). (xs ≡ []) ↔ (target old.origin old.records new.records ≡ old.records)) (sym e) (operations_none old.origin old.records new.records (old_keys old c.records.ensures.zone) (new_keys old new c.requires c.records-2.ensures.zone)))
+    IfOk-weaker c.with_soa.result (λ ops. ops.items ≡ operations old.origin old.records new.records) (λ ops. (ops.items ≡ []) ↔ HaveNoNews old.origin old.records new.records)
+    (λ ops e. subst (λ (xs : List Operation). (xs ≡ []) ↔ HaveNoNews old.origin old.records new.records) (sym e) (operations_none old.origin old.records new.records (old_keys old c.records.ensures.zone) (new_keys old new c.requires c.records-2.ensures.zone)))
     (returns-clause-exact c)
 
 pub returns-clause-needed : goal.returns-clause-needed
