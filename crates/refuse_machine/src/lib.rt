@@ -5,4 +5,3 @@
 pub mod permission;
 pub mod steps;
 pub mod tables;
-pub mod twins;

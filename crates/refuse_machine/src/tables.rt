@@ -83,16 +83,3 @@ pub fn zone_behind<T: ZoneTable>(
     table.commit(alloc, added)?;
     table.zone(alloc, at)
 }
-
-/// `ZoneTable::zone`, behind the same of another origin.
-pub fn zone_behind_another<T: ZoneTable>(
-    alloc: Global,
-    table: &mut T,
-    first: &Name,
-    second: &Name,
-) -> Result<Option<Zone>, TableFault>
-    ensures { T.is_honest table.new → IfOk result (λ zone. (s : State) → T.holds table.old s → zone ≡ zone_at s second.now) }
-{
-    let _before = table.zone(alloc, first)?;
-    table.zone(alloc, second)
-}
