@@ -11,3 +11,5 @@ pub mod WindowLemmas
 pub mod PartLemmas
 pub mod TextLemmas
 pub mod RouteLemmas
+pub mod SlashLemmas
+pub mod SegmentLemmas

@@ -1,6 +1,7 @@
 //! Laws of the definitions. The functions do nothing: their contracts are the laws.
 
 ghost use Rattle.office_wire.specs.Exchange.{FramingIsUnique};
+ghost use Rattle.office_wire.specs.Paths.{SegmentsAreBetweenSlashes};
 ghost use Rattle.office_wire.specs.Promises.{ExchangesAreRuns};
 
 /// A stream begins with one whole request at most: the octets determine its head, its body and what follows.
@@ -12,4 +13,9 @@ pub fn framing_is_unique()
 /// to the state after the exchange; so what the office promises of calls holds of them.
 pub fn exchanges_are_runs()
     ensures { ExchangesAreRuns }
+{}
+
+/// The segments of a path are the pieces without a slash that make the path with a slash between each two.
+pub fn segments_are_between_slashes()
+    ensures { SegmentsAreBetweenSlashes }
 {}

@@ -21,7 +21,7 @@ mod serve_fault;
 mod serving;
 mod status;
 
-pub use laws::{exchanges_are_runs, framing_is_unique};
+pub use laws::{exchanges_are_runs, framing_is_unique, segments_are_between_slashes};
 pub use refusal::Refusal;
 pub use serve_fault::ServeFault;
 pub use serving::serve;
