@@ -13,3 +13,6 @@ pub mod TextLemmas
 pub mod RouteLemmas
 pub mod SlashLemmas
 pub mod SegmentLemmas
+pub mod WalkLemmas
+pub mod PatternLemmas
+pub mod TakenLemmas

@@ -1,6 +1,9 @@
 -- Which targets a row of the routes takes, by the segments of its path.
-use Rattle.std.specs.Prelude.{◌≡◌, ◌<◌, ◌↔◌, ◌==◌, ℕ, List, [], ◌∷◌, ◌++◌, if◌then◌else◌, length}
-use Rattle.std.specs.List.{AllByRecursion, Contains, flat_map}
+use Rattle.std.specs.Prelude.{◌≡◌, ◌<◌, ◌↔◌, ◌==◌, ◌&&◌, ℕ, List, [], ◌∷◌, ◌++◌, Bool, if◌then◌else◌, length, MatchBool, nat_eq, Some}
+use Rattle.std.specs.List.{AllByRecursion, AllZip, Contains, flat_map, starts_with, ends_with}
+use Rattle.office_wire.specs.declared.method.Method.{Method}
+use Rattle.office_wire.specs.declared.route.Route.{Route}
+use Rattle.office_wire.specs.Routes.{RouteRow, routes, route_of}
 
 -- an octet before the first of these segments
 abbrev pub widen : ℕ → List (List ℕ) → List (List ℕ)
@@ -25,3 +28,31 @@ HasNoSlash segment = Contains segment 47 → ⊥
 abbrev pub SegmentsAreBetweenSlashes : Type 0
 SegmentsAreBetweenSlashes =
     (path : List ℕ) (ss : List (List ℕ)) → (segments path ≡ ss) ↔ ((0 < length ss) × AllByRecursion HasNoSlash ss × (path ≡ joined ss))
+
+-- a segment in braces is the name of a part
+abbrev pub is_name : List ℕ → Bool
+is_name segment = starts_with nat_eq segment (123 ∷ []) && ends_with nat_eq segment (125 ∷ [])
+
+-- the name of a part is met by each segment that has an octet, another segment by itself only
+abbrev pub MeetsSegment : List ℕ → List ℕ → Type 0
+MeetsSegment pattern segment = MatchBool (is_name pattern) (0 < length segment) (segment ≡ pattern)
+
+-- a path has as many segments as the path of a row, and they meet those one by one
+abbrev pub IsPath : List ℕ → List ℕ → Type 0
+IsPath pattern path = AllZip MeetsSegment (segments pattern) (segments path)
+
+-- a target has no query: none of its octets is a question mark (RFC 3986 section 3.4)
+abbrev pub HasNoQuery : List ℕ → Type 0
+HasNoQuery target = Contains target 63 → ⊥
+
+-- a row takes a target exactly where its method is asked, the target has no query, and its path is the row's
+abbrev pub RoutesAreTheirPaths : Type 0
+RoutesAreTheirPaths =
+    (method : Method) (target : List ℕ) (route : Route) (path : List ℕ)
+    → (route_of method target ≡ Some (route, path)) ↔ (Contains routes (record { method = method; path = path; route = route }) × HasNoQuery target × IsPath path target)
+
+-- a path is that of one row of a method
+abbrev pub TargetsHaveOneRow : Type 0
+TargetsHaveOneRow =
+    (target : List ℕ) (a b : RouteRow) → Contains routes a → Contains routes b → a.method ≡ b.method → IsPath a.path target → IsPath b.path target
+    → a ≡ b
