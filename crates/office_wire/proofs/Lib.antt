@@ -16,3 +16,4 @@ pub mod SegmentLemmas
 pub mod WalkLemmas
 pub mod PatternLemmas
 pub mod TakenLemmas
+pub mod PlaceLemmas

@@ -1,9 +1,11 @@
 -- Which targets a row of the routes takes, by the segments of its path.
-use Rattle.std.specs.Prelude.{◌≡◌, ◌<◌, ◌↔◌, ◌==◌, ◌&&◌, ℕ, List, [], ◌∷◌, ◌++◌, Bool, if◌then◌else◌, length, MatchBool, nat_eq, Some}
+use Rattle.std.specs.Prelude.{◌≡◌, ◌<◌, ◌↔◌, ◌==◌, ◌&&◌, ℕ, List, [], ◌∷◌, ◌++◌, Bool, true, if◌then◌else◌, length, slice_index_or, MatchBool, nat_eq, Some}
 use Rattle.std.specs.List.{AllByRecursion, AllZip, Contains, flat_map, starts_with, ends_with}
 use Rattle.office_wire.specs.declared.method.Method.{Method}
 use Rattle.office_wire.specs.declared.route.Route.{Route}
+use Rattle.percent_encoding.specs.Percent.{percent_decode}
 use Rattle.office_wire.specs.Routes.{RouteRow, routes, route_of}
+use Rattle.office_wire.specs.Parts.{decoded_part}
 
 -- an octet before the first of these segments
 abbrev pub widen : ℕ → List (List ℕ) → List (List ℕ)
@@ -56,3 +58,10 @@ abbrev pub TargetsHaveOneRow : Type 0
 TargetsHaveOneRow =
     (target : List ℕ) (a b : RouteRow) → Contains routes a → Contains routes b → a.method ≡ b.method → IsPath a.path target → IsPath b.path target
     → a ≡ b
+
+-- the part of a name, where a row takes a target, is the target's segment at the place that the name has in the row's path, decoded
+abbrev pub PartsAreSegments : Type 0
+PartsAreSegments =
+    (row : RouteRow) (target : List ℕ) (i : ℕ) → Contains routes row → IsPath row.path target → i < length (segments row.path)
+    → is_name (slice_index_or (segments row.path) i []) ≡ true
+    → decoded_part row.path target (slice_index_or (segments row.path) i []) ≡ percent_decode (slice_index_or (segments target) i [])

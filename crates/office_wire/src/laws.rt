@@ -1,7 +1,7 @@
 //! Laws of the definitions. The functions do nothing: their contracts are the laws.
 
 ghost use Rattle.office_wire.specs.Exchange.{FramingIsUnique};
-ghost use Rattle.office_wire.specs.Paths.{RoutesAreTheirPaths, SegmentsAreBetweenSlashes, TargetsHaveOneRow};
+ghost use Rattle.office_wire.specs.Paths.{PartsAreSegments, RoutesAreTheirPaths, SegmentsAreBetweenSlashes, TargetsHaveOneRow};
 ghost use Rattle.office_wire.specs.Promises.{ExchangesAreRuns};
 
 /// A stream begins with one whole request at most: the octets determine its head, its body and what follows.
@@ -29,4 +29,9 @@ pub fn targets_have_one_row()
 /// The segments of a path are the pieces without a slash that make the path with a slash between each two.
 pub fn segments_are_between_slashes()
     ensures { SegmentsAreBetweenSlashes }
+{}
+
+/// Where a row takes a target, the part of a name is the target's segment at the place of that name in the row's path, decoded.
+pub fn parts_are_segments()
+    ensures { PartsAreSegments }
 {}
