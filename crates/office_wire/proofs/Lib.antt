@@ -11,3 +11,9 @@ pub mod WindowLemmas
 pub mod PartLemmas
 pub mod TextLemmas
 pub mod RouteLemmas
+pub mod SlashLemmas
+pub mod SegmentLemmas
+pub mod WalkLemmas
+pub mod PatternLemmas
+pub mod TakenLemmas
+pub mod PlaceLemmas

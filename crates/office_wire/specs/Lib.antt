@@ -3,6 +3,7 @@ pub mod Lengths
 pub mod Refusals
 pub mod Routes
 pub mod Parts
+pub mod Paths
 pub mod Requests
 pub mod Texts
 pub mod Exchange

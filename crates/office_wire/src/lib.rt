@@ -21,7 +21,10 @@ mod serve_fault;
 mod serving;
 mod status;
 
-pub use laws::{exchanges_are_runs, framing_is_unique};
+pub use laws::{
+    exchanges_are_runs, framing_is_unique, parts_are_segments, routes_are_their_paths,
+    segments_are_between_slashes, targets_have_one_row,
+};
 pub use refusal::Refusal;
 pub use serve_fault::ServeFault;
 pub use serving::serve;
