@@ -78,12 +78,12 @@ with_argument app a = with_rule app (rule_for a)
 abbrev pub app_for : Command → App
 app_for c = fold with_argument (new_app (command_word c)) (arguments_of c)
 
--- the first word is not the program's name
-abbrev pub without_name : Shape → Shape
-without_name s = record s { no_binary_name = true }
+-- the first word is not the program's name, and `--version` prints the version
+abbrev pub of_program : Shape → Shape
+of_program s = record s { no_binary_name = true; has_version = true }
 
 abbrev pub bare_office : App
-bare_office = on_top without_name (new_app (codes "zoneoffice"))
+bare_office = on_top of_program (new_app (codes "zoneoffice"))
 
 abbrev pub with_command : App → Command → App
 with_command app c = with_subcommand app (app_for c).top

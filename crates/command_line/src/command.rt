@@ -23,18 +23,26 @@ struct Row {
     word: &'static str,
     /// What it does, for the help.
     about: &'static str,
+    /// How it is used, for the end of its help.
+    example: &'static str,
     /// What it takes after its word.
     arguments: &'static [Argument],
 }
 
 impl Row {
-    const fn new(word: &'static str, about: &'static str, arguments: &'static [Argument]) -> Row
+    const fn new(
+        word: &'static str,
+        about: &'static str,
+        example: &'static str,
+        arguments: &'static [Argument],
+    ) -> Row
         ensures word { result.word ≡ word.entry }
         ensures arguments { result.arguments ≡ arguments.entry }
     {
         Row {
             word,
             about,
+            example,
             arguments,
         }
     }
@@ -60,30 +68,40 @@ impl Command {
         ensures arguments { result.arguments.now ≡ arguments_of self }
     {
         match self {
-            Command::Apply => Row::new("apply", "Updates a zone, as without any word", &[]),
+            Command::Apply => Row::new(
+                "apply",
+                "Updates a zone, as without any word",
+                "Example: zoneoffice apply < update.txt",
+                &[],
+            ),
             Command::Canon => Row::new(
                 "canon",
                 "Prints a zone in canonical form",
+                "Example: zoneoffice canon --origin example.org. < zone.txt",
                 &[Argument::Origin],
             ),
             Command::Import => Row::new(
                 "import",
                 "Puts a zone into a store",
+                "Example: zoneoffice import --store office.db --origin example.org. < zone.txt",
                 &[Argument::Store, Argument::Origin, Argument::Replace],
             ),
             Command::Export => Row::new(
                 "export",
                 "Prints a zone of a store",
+                "Example: zoneoffice export --store office.db --origin example.org.",
                 &[Argument::Store, Argument::Origin],
             ),
             Command::Migrate => Row::new(
                 "migrate",
                 "Takes a store of version 1 to version 2",
+                "Example: zoneoffice migrate --store office.db",
                 &[Argument::Store],
             ),
             Command::Rights => Row::new(
                 "rights",
                 "Asks a policy whether a caller may do something",
+                "Example: zoneoffice rights --policy policy.toml --caller phys www.example.org. A add",
                 &[
                     Argument::Policy,
                     Argument::Caller,
@@ -95,6 +113,7 @@ impl Command {
             Command::Serve => Row::new(
                 "serve",
                 "Answers callers over HTTP",
+                "Example: zoneoffice serve --store office.db --policy policy.toml --listen 127.0.0.1:8053",
                 &[
                     Argument::Store,
                     Argument::Policy,
@@ -116,6 +135,11 @@ impl Command {
     /// What the command does, in one line.
     pub fn about(self) -> &'static str {
         self.row().about
+    }
+
+    /// How the command is used, in one line.
+    pub fn example(self) -> &'static str {
+        self.row().example
     }
 
     /// What the command takes after its word.

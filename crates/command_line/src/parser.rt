@@ -8,6 +8,9 @@ ghost use Rattle.command_line.specs.Commands.{app_for, office, bare_office};
 use crate::command::Command;
 use std::alloc::{AllocError, Global};
 
+/// The version of the program, which `--version` prints.
+const VERSION: &str = "0.9.0";
+
 /// One command, with what it takes.
 fn command_parser<'a>(alloc: Global, command: Command) -> Result<clap::Command<'a>, AllocError>
     ensures shape { IfOk result (λ c. app_of c ≡ app_for command) }
@@ -15,7 +18,10 @@ fn command_parser<'a>(alloc: Global, command: Command) -> Result<clap::Command<'
 {
     let word: &'a str = command.word();
     let about: &'a str = command.about();
-    let mut parser = clap::Command::new(alloc, word).about(about);
+    let example: &'a str = command.example();
+    let mut parser = clap::Command::new(alloc, word)
+        .about(about)
+        .after_help(example);
     for argument in command.arguments() {
         parser = parser.arg(argument.rule(alloc))?;
     }
@@ -23,17 +29,21 @@ fn command_parser<'a>(alloc: Global, command: Command) -> Result<clap::Command<'
 }
 
 /// The program before its commands.
-fn bare_parser<'a>(alloc: Global) -> clap::Command<'a>
-    ensures { app_of result ≡ bare_office }
+fn bare_parser<'a>(alloc: Global) -> Result<clap::Command<'a>, AllocError>
+    ensures { IfOk result (λ c. app_of c ≡ bare_office) }
 {
-    clap::Command::new(alloc, "zoneoffice").no_binary_name(true)
+    clap::Command::new(alloc, "zoneoffice")
+        .no_binary_name(true)
+        .version(VERSION)
+        .bin_name("zoneoffice")
 }
 
 /// The program, with all commands.
 pub fn parser<'a>(alloc: Global) -> Result<clap::Command<'a>, AllocError>
     ensures { IfOk result (λ c. app_of c ≡ office) }
 {
-    let mut parser = bare_parser(alloc);
+    let bare = bare_parser(alloc)?;
+    let mut parser = bare;
     for command in &Command::ALL {
         parser = parser.subcommand(command_parser(alloc, *command)?)?;
     }

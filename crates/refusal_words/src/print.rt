@@ -1,0 +1,50 @@
+//! Rows as texts.
+
+ghost use Rattle.std.specs.Prelude.{◌≡◌, IfOk, Some, map, string_bytes};
+ghost use Rattle.refusal_words.specs.Numbers.{row_of};
+ghost use Rattle.refusal_words.specs.Texts.{row_head, row_text, text_of};
+
+use crate::row::Row;
+use std::alloc::{AllocError, Global};
+use std::fmt::{self, Display, Formatter, Write};
+
+/// A row without its standard.
+#[derive(Clone, Copy)]
+struct RowHead<'a>(&'a Row);
+
+impl Display for RowHead<'_> {
+    ghost output = { λ row. Some (row_head (row_of row.0.now)) };
+
+    fn fmt<W: Write>(&self, f: &mut Formatter<W>) -> fmt::Result {
+        let row = self.0;
+        write!(
+            f,
+            "{}  {}\n    {}\n    {}\n",
+            row.number, row.name, row.meaning, row.advice
+        )
+    }
+}
+
+/// A row for a person: its number and its name, what it means, what to do, and the standard that it comes from.
+impl Display for Row {
+    ghost output = { λ row. Some (row_text (row_of row)) };
+
+    fn fmt<W: Write>(&self, f: &mut Formatter<W>) -> fmt::Result {
+        write!(f, "{}", RowHead(self))?;
+        if self.source.is_empty() {
+            return Ok(());
+        }
+        write!(f, "    {}\n", self.source)
+    }
+}
+
+/// Rows for a person. The only error is out of memory.
+pub fn plain_text(alloc: Global, rows: &[Row]) -> Result<String, AllocError>
+    ensures { IfOk result (λ text. string_bytes text ≡ text_of (map row_of rows.now)) }
+{
+    let mut text = String::new(alloc);
+    for row in rows {
+        write!(text, "{row}")?;
+    }
+    Ok(text)
+}
