@@ -19,7 +19,7 @@ use Rattle.grant_policy.specs.Rules.{Question, Matches, matches}
 use Rattle.grant_policy.specs.Decisions.{Verdict, granted, denied, effect_by, decided, decision, NoneMatches, IsFirstMatch, IsDecision, IsDecidedBy, told, is_granted, has_right, has_right_to, HasRight}
 use Rattle.grant_policy.proofs.RuleLemmas.{matches-Decides}
 
-same_Some : {T : Type 0} (a b : T) → Some a ≡ Some b → a ≡ b
+pub same_Some : {T : Type 0} (a b : T) → Some a ≡ Some b → a ≡ b
 same_Some a b e = cc
 
 -- ---- the decision is one
@@ -56,14 +56,14 @@ some_passes {X} p (x ∷ xs) e = first (p x) refl (some_passes p xs) e
     first true is later e = (x, is)
     first false is later e = later e
 
-some_action : (p : Action → Bool) (a : Action) → p a ≡ true → list_any p all_actions ≡ true
+pub some_action : (p : Action → Bool) (a : Action) → p a ≡ true → list_any p all_actions ≡ true
 some_action p action.List e = list_any_at p all_actions 0 action.List (lit< tt) e
 some_action p action.Check e = list_any_at p all_actions 1 action.List (lit< tt) e
 some_action p action.Add e = list_any_at p all_actions 2 action.List (lit< tt) e
 some_action p action.Delete e = list_any_at p all_actions 3 action.List (lit< tt) e
 some_action p action.Delegate e = list_any_at p all_actions 4 action.List (lit< tt) e
 
-granted_by : (v : Verdict) → is_granted v ≡ true → (id : List ℕ) × (v ≡ granted id)
+pub granted_by : (v : Verdict) → is_granted v ≡ true → (id : List ℕ) × (v ≡ granted id)
 granted_by (granted id) e = (id, refl)
 granted_by (denied id) e = absurd cc
 

@@ -65,6 +65,14 @@ impl Policy {
         Policy::checked(alloc, rules)
     }
 
+    /// The rules, in order.
+    pub fn rules(&self) -> &[Rule]
+        ensures rules { result.now ≡ self.now }
+        ensures policy { AreRules self.now }
+    {
+        &self.rules
+    }
+
     /// The policy of a list of rules, or the refusal that comes first.
     fn checked(alloc: Global, rules: Vec<Rule>) -> Result<Policy, PolicyFault>
         ensures { Reads (λ policy. policy) result (built rules.items) }

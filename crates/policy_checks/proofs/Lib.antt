@@ -1,0 +1,5 @@
+pub mod ChildLemmas
+pub mod NameLemmas
+pub mod CallerLemmas
+pub mod TakeLemmas
+pub mod IdleLemmas

@@ -1,0 +1,4 @@
+pub mod Idle
+pub mod Names
+pub mod Children
+pub mod Taking
