@@ -50,6 +50,7 @@ met command.Export = refl
 met command.Migrate = refl
 met command.Rights = refl
 met command.Serve = refl
+met command.Explain = refl
 
 entered_by : (c : Command) (words : List Text) → entered_at (Some (command_word c, words)) ≡ Some (command_word c, rows_after (rules_of c) [] words)
 unfolding office clap_on_literals
@@ -60,6 +61,7 @@ entered_by command.Export words = refl
 entered_by command.Migrate words = refl
 entered_by command.Rights words = refl
 entered_by command.Serve words = refl
+entered_by command.Explain words = refl
 
 read_back : (c : Command) → command_of (command_word c) ≡ Some c
 read_back command.Apply = refl
@@ -69,6 +71,7 @@ read_back command.Export = refl
 read_back command.Migrate = refl
 read_back command.Rights = refl
 read_back command.Serve = refl
+read_back command.Explain = refl
 
 -- the words after a command's word are read by its own rules
 pub job_of_command : (c : Command) (words : List Text) → job_of (command_word c ∷ words) ≡ job_by c (rows_after (rules_of c) [] words)

@@ -12,8 +12,10 @@ use Rattle.command_line.specs.declared.command.Command.{Command}
 use Rattle.command_line.specs.declared.command.Command.TheVariants as command
 use Rattle.command_line.specs.declared.job.Existing.{Existing}
 use Rattle.command_line.specs.declared.job.Existing.TheVariants.{Kept, Replaced}
-use Rattle.command_line.specs.PlainForms.{IsNumberGiven, IsPlain, IsValue, existing_words, given}
-use Rattle.command_line.specs.Words.{JobOf, apply, canon, imports, export, migrate, rights, serve, job_by, job_of, stored_at}
+use Rattle.command_line.specs.declared.job.TextForm.{TextForm}
+use Rattle.command_line.specs.declared.job.TextForm.TheVariants.{Plain, Json}
+use Rattle.command_line.specs.PlainForms.{IsNumberGiven, IsPlain, IsValue, IsValueIfGiven, existing_words, form_words, given, place_words}
+use Rattle.command_line.specs.Words.{JobOf, apply, canon, imports, export, migrate, rights, serve, explain, job_by, job_of, stored_at}
 use Rattle.command_line.proofs.CommandLemmas.{job_of_command, no_words, place_walked, rows_from, rules_of, standing, value_walked}
 
 -- ---- steps
@@ -132,6 +134,14 @@ module _ (s p l : Text) (is_s : IsValue s) (is_p : IsValue p) (is_l : IsValue l)
       ∙ (option_read command.Serve (valued command.Serve served argument.Connections is_n.0) argument.Patience is_w.0 [] is_w.1 refl
       ∙ ap₂ (λ x y. served_by (some x) (some y)) is_n.2 is_w.2))
 
+explain_read : (n : Option Text) (form : TextForm) → IsValueIfGiven n
+    → job_from command.Explain (place_words n ++ form_words form) (walk_from start) ≡ Some (explain n form)
+unfolding clap_on_literals
+explain_read None Plain is = refl
+explain_read None Json is = refl
+explain_read (Some n) Plain is = place_read command.Explain 1 start argument.Number n [] is refl
+explain_read (Some n) Json is = place_read command.Explain 1 start argument.Number n (form_words Json) is refl
+
 -- ---- all of them
 
 pub plain_read : (words : List Text) (x : JobOf) → IsPlain words x → job_of words ≡ Some x
@@ -147,3 +157,4 @@ plain_read words (rights p q n t a) is =
 plain_read words (serve s p l n w) is =
     ap job_of is.7 ∙ (job_of_command command.Serve _ ∙ (needed_read s p l is.0 is.1 is.2 (is.3 ++ is.5)
     ∙ numbers_read s p l is.0 is.1 is.2 n w is.3 is.5 is.4 is.6))
+plain_read words (explain n form) is = ap job_of is.1 ∙ (job_of_command command.Explain _ ∙ explain_read n form is.0)

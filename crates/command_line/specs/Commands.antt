@@ -7,7 +7,7 @@ use Rattle.clap.specs.declared.builder.value_parser.ValueParser.TheVariants as v
 use Rattle.command_line.specs.declared.argument.Argument.{Argument}
 use Rattle.command_line.specs.declared.argument.Argument.TheVariants as argument
 use Rattle.command_line.specs.declared.argument.Form.{Form}
-use Rattle.command_line.specs.declared.argument.Form.TheVariants.{Needed, Number, Flag, Place}
+use Rattle.command_line.specs.declared.argument.Form.TheVariants.{Needed, Number, Flag, Place, OptionalPlace}
 use Rattle.command_line.specs.declared.command.Command.{Command}
 use Rattle.command_line.specs.declared.command.Command.TheVariants as command
 
@@ -26,6 +26,8 @@ argument_row argument.Listen = (codes "listen", Needed)
 argument_row argument.Replace = (codes "replace", Flag)
 argument_row argument.Connections = (codes "connections", Number)
 argument_row argument.Patience = (codes "patience", Number)
+argument_row argument.Number = (codes "number", OptionalPlace)
+argument_row argument.Json = (codes "json", Flag)
 
 abbrev pub argument_name : Argument → Text
 argument_name a = (argument_row a).0
@@ -46,6 +48,7 @@ command_row command.Rights =
     (codes "rights", argument.Policy ∷ argument.Caller ∷ argument.Name ∷ argument.Type ∷ argument.Action ∷ [])
 command_row command.Serve =
     (codes "serve", argument.Store ∷ argument.Policy ∷ argument.Listen ∷ argument.Connections ∷ argument.Patience ∷ [])
+command_row command.Explain = (codes "explain", argument.Number ∷ argument.Json ∷ [])
 
 abbrev pub command_word : Command → Text
 command_word c = (command_row c).0
@@ -55,7 +58,7 @@ arguments_of c = (command_row c).1
 
 abbrev pub all_commands : List Command
 all_commands =
-    command.Apply ∷ command.Canon ∷ command.Import ∷ command.Export ∷ command.Migrate ∷ command.Rights ∷ command.Serve ∷ []
+    command.Apply ∷ command.Canon ∷ command.Import ∷ command.Export ∷ command.Migrate ∷ command.Rights ∷ command.Serve ∷ command.Explain ∷ []
 
 -- the command that a word names
 abbrev pub command_of : Text → Option Command
@@ -68,6 +71,7 @@ in_form Needed name r = record r { long = Some name; required = true; action = S
 in_form Number name r = record r { long = Some name; action = Some Set; parser = Some (value.Unsigned 0 18446744073709551615) }
 in_form Flag name r = record r { long = Some name; action = Some SetTrue }
 in_form Place name r = record r { required = true; action = Some Set }
+in_form OptionalPlace name r = record r { action = Some Set }
 
 abbrev pub rule_for : Argument → Rule
 rule_for a = in_form (argument_form a) (argument_name a) (new_rule (argument_name a))

@@ -1,14 +1,16 @@
 -- The plain form of each job: the words that ask for it as a manual writes them.
-use Rattle.std.specs.Prelude.{◌≡◌, ◌⊎◌, ℕ, false, List, [], ◌∷◌, ◌++◌, Option, Some, None, codes}
+use Rattle.std.specs.Prelude.{◌≡◌, ◌⊎◌, ⊤, ℕ, false, List, [], ◌∷◌, ◌++◌, Option, Some, None, codes}
 use Rattle.std.specs.Str.{bytes_eq}
 use Rattle.clap.specs.Words.{Text}
 use Rattle.clap.specs.Lexer.{long_of, short_of}
 use Rattle.command_line.specs.Commands.{argument_name}
-use Rattle.command_line.specs.Words.{JobOf, apply, canon, imports, export, migrate, rights, serve, number_in}
+use Rattle.command_line.specs.Words.{JobOf, apply, canon, imports, export, migrate, rights, serve, explain, number_in}
 use Rattle.command_line.specs.declared.argument.Argument.{Argument}
 use Rattle.command_line.specs.declared.argument.Argument.TheVariants as argument
 use Rattle.command_line.specs.declared.job.Existing.{Existing}
 use Rattle.command_line.specs.declared.job.Existing.TheVariants.{Kept, Replaced}
+use Rattle.command_line.specs.declared.job.TextForm.{TextForm}
+use Rattle.command_line.specs.declared.job.TextForm.TheVariants.{Plain, Json}
 
 -- a word that may stand as the value of an option: it is no `--`, and no flag
 pub record IsValue (v : Text) : Type 0 where
@@ -24,6 +26,20 @@ given a v = (codes "--" ++ argument_name a) ∷ v ∷ []
 abbrev pub existing_words : Existing → List Text
 existing_words Kept = []
 existing_words Replaced = codes "--replace" ∷ []
+
+-- `--json`, where JSON is asked for
+abbrev pub form_words : TextForm → List Text
+form_words Plain = []
+form_words Json = codes "--json" ∷ []
+
+-- a word in its place, where one is given
+abbrev pub place_words : Option Text → List Text
+place_words None = []
+place_words (Some v) = v ∷ []
+
+abbrev pub IsValueIfGiven : Option Text → Type 0
+IsValueIfGiven None = ⊤
+IsValueIfGiven (Some v) = IsValue v
 
 -- `--name N`, where a number is given
 abbrev pub IsNumberGiven : Argument → Option ℕ → List Text → Type 0
@@ -47,3 +63,4 @@ IsPlain words (serve store policy listen connections patience) = IsValue store �
     × (ns : List Text) × IsNumberGiven argument.Connections connections ns
     × (ws : List Text) × IsNumberGiven argument.Patience patience ws
     × (words ≡ codes "serve" ∷ (given argument.Store store ++ given argument.Policy policy ++ given argument.Listen listen ++ ns ++ ws))
+IsPlain words (explain number form) = IsValueIfGiven number × (words ≡ codes "explain" ∷ (place_words number ++ form_words form))

@@ -11,6 +11,8 @@ use Rattle.command_line.specs.declared.command.Command.{Command}
 use Rattle.command_line.specs.declared.command.Command.TheVariants as command
 use Rattle.command_line.specs.declared.job.Existing.{Existing}
 use Rattle.command_line.specs.declared.job.Existing.TheVariants.{Kept, Replaced}
+use Rattle.command_line.specs.declared.job.TextForm.{TextForm}
+use Rattle.command_line.specs.declared.job.TextForm.TheVariants.{Plain, Json}
 use Rattle.command_line.specs.declared.job.StoredZone.{StoredZone}
 use Rattle.command_line.specs.declared.job.Job.{Job}
 use Rattle.command_line.specs.declared.job.Job.TheVariants as job
@@ -31,6 +33,7 @@ pub data JobOf : Type 0 where
   migrate : (store : Text) → JobOf
   rights : (policy caller name record_type action : Text) → JobOf
   serve : (store policy listen : Text) → (connections patience : Option ℕ) → JobOf
+  explain : (number : Option Text) → TextForm → JobOf
 
 abbrev pub zone_asked : StoredZone → StoredOf
 zone_asked zone = record { store = zone.store.now; origin = zone.origin.now }
@@ -43,6 +46,7 @@ asks (job.Export zone) = export (zone_asked zone)
 asks (job.Migrate store) = migrate store.now
 asks (job.Rights policy asked) = rights policy.now asked.caller.now asked.name.now asked.record_type.now asked.action.now
 asks (job.Serve service) = serve service.store.now service.policy.now service.listen.now service.connections service.patience
+asks (job.Explain number form) = explain (option_map (λ n. n.now) number) form
 
 -- ---- what words ask for
 
@@ -61,6 +65,11 @@ number_if (Some t) = option_map (λ n. Some n) (number_in t)
 abbrev pub existing_of : Option Text → Existing
 existing_of None = Kept
 existing_of (Some t) = if bytes_eq t (codes "true") then Replaced else Kept
+
+-- JSON is printed where the option is given
+abbrev pub form_of : Option Text → TextForm
+form_of None = Plain
+form_of (Some t) = if bytes_eq t (codes "true") then Json else Plain
 
 abbrev pub canon_of : List Row → Option JobOf
 canon_of rows = option_map (λ o. canon o) (first_of (argument_name argument.Origin) rows)
@@ -93,6 +102,9 @@ serve_of rows =
     (number_if (one_of (argument_name argument.Patience) rows))) (number_if (one_of (argument_name argument.Connections) rows)))
     (first_of (argument_name argument.Listen) rows)) (first_of (argument_name argument.Policy) rows)) (first_of (argument_name argument.Store) rows)
 
+abbrev pub explain_of : List Row → JobOf
+explain_of rows = explain (first_of (argument_name argument.Number) rows) (form_of (first_of (argument_name argument.Json) rows))
+
 -- the job of a command, by what was matched
 abbrev pub job_by : Command → List Row → Option JobOf
 job_by command.Apply rows = Some apply
@@ -102,6 +114,7 @@ job_by command.Export rows = export_of rows
 job_by command.Migrate rows = migrate_of rows
 job_by command.Rights rows = rights_of rows
 job_by command.Serve rows = serve_of rows
+job_by command.Explain rows = Some (explain_of rows)
 
 -- the job of the command that a word names
 abbrev pub job_named : Text → List Row → Option JobOf

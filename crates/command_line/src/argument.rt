@@ -21,6 +21,8 @@ pub enum Argument {
     Replace,
     Connections,
     Patience,
+    Number,
+    Json,
 }
 
 /// How an argument is written.
@@ -34,6 +36,8 @@ pub enum Form {
     Flag,
     /// A word in its place, which must be given.
     Place,
+    /// A word in its place, which may be left out.
+    OptionalPlace,
 }
 
 /// A row of the table of arguments.
@@ -90,6 +94,12 @@ impl Argument {
                 Form::Number,
                 "Seconds to wait for a peer, 30 if left out",
             ),
+            Argument::Number => Row::new(
+                "number",
+                Form::OptionalPlace,
+                "The number, as 29.19.1, or the code; all if left out",
+            ),
+            Argument::Json => Row::new("json", Form::Flag, "As an array of JSON"),
         }
     }
 
@@ -125,5 +135,6 @@ fn in_form<'a>(rule: Arg<'a>, name: &'a str, form: Form) -> Arg<'a>
             .value_parser(clap::value_parser!(u64)),
         Form::Flag => rule.long(name).action(ArgAction::SetTrue),
         Form::Place => rule.required(true).action(ArgAction::Set),
+        Form::OptionalPlace => rule.action(ArgAction::Set),
     }
 }

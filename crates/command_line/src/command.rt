@@ -14,6 +14,7 @@ pub enum Command {
     Migrate,
     Rights,
     Serve,
+    Explain,
 }
 
 /// A row of the table of commands.
@@ -52,7 +53,7 @@ impl Command {
     ghost use Rattle.command_line.specs.Commands.{command_word, arguments_of, command_of};
 
     /// The commands, in the order of the help.
-    pub const ALL: [Command; 7] = [
+    pub const ALL: [Command; 8] = [
         Command::Apply,
         Command::Canon,
         Command::Import,
@@ -60,6 +61,7 @@ impl Command {
         Command::Migrate,
         Command::Rights,
         Command::Serve,
+        Command::Explain,
     ];
 
     /// The one table of commands.
@@ -121,6 +123,12 @@ impl Command {
                     Argument::Connections,
                     Argument::Patience,
                 ],
+            ),
+            Command::Explain => Row::new(
+                "explain",
+                "Says what the number of a refusal means",
+                "Example: zoneoffice explain 29.19.1",
+                &[Argument::Number, Argument::Json],
             ),
         }
     }

@@ -39,6 +39,22 @@ pub enum Job<'a> {
         /// What is served, and where.
         service: Service<'a>,
     },
+    /// To say what the number of a refusal means.
+    Explain {
+        /// The number, or the code, and all where none is given.
+        number: Option<&'a str>,
+        /// As what it is printed.
+        form: TextForm,
+    },
+}
+
+/// As what a text is printed.
+#[derive(Clone, Copy, PartialEq, Eq)]
+pub enum TextForm {
+    /// Lines for a person.
+    Plain,
+    /// JSON (RFC 8259), for a program.
+    Json,
 }
 
 /// A zone of a store, as the words of `import` and of `export` name it.

@@ -7,5 +7,5 @@ mod job;
 mod parser;
 mod words;
 
-pub use job::{Existing, Job, QuestionWords, Service, StoredZone};
+pub use job::{Existing, Job, QuestionWords, Service, StoredZone, TextForm};
 pub use words::{WordsFault, read_words};

@@ -3,13 +3,13 @@
 ghost use Rattle.std.specs.Prelude.{◌≡◌, [], IfErr, IfOk, map, option_map, Some, is_some, true, codes};
 ghost use Rattle.clap.specs.Words.{app_of, fault_of, first_of, found_of, kind_of, one_of, rows_of, subcommand_rows_of, takes};
 ghost use Rattle.command_line.specs.Commands.{office, argument_name};
-ghost use Rattle.command_line.specs.Words.{asks, JobOf, canon_of, zone_asked, stored_of, import_of, export_of, migrate_of, rights_of, serve_of, number_if, existing_of, job_by, job_named, job_met, job_of};
+ghost use Rattle.command_line.specs.Words.{asks, JobOf, canon_of, zone_asked, stored_of, import_of, export_of, migrate_of, rights_of, serve_of, explain_of, number_if, existing_of, form_of, job_by, job_named, job_met, job_of};
 ghost use Rattle.command_line.specs.PlainForms.{IsPlain};
 ghost use Rattle.command_line.specs.Told.{IsToldAs, IsToldOf, is_help};
 
 use crate::argument::Argument;
 use crate::command::Command;
-use crate::job::{Existing, Job, QuestionWords, Service, StoredZone};
+use crate::job::{Existing, Job, QuestionWords, Service, StoredZone, TextForm};
 use crate::parser::parser;
 use clap::error::ErrorKind;
 use clap::{ArgMatches, Error};
@@ -47,6 +47,16 @@ fn existing_at(matches: &ArgMatches<'_>) -> Existing
     match text_at(matches, Argument::Replace) {
         Some("true") => Existing::Replaced,
         _ => Existing::Kept,
+    }
+}
+
+/// As what a text is to be printed.
+fn form_at(matches: &ArgMatches<'_>) -> TextForm
+    ensures { result ≡ form_of (first_of (argument_name Argument.Json) (rows_of (found_of matches.now))) }
+{
+    match text_at(matches, Argument::Json) {
+        Some("true") => TextForm::Json,
+        _ => TextForm::Plain,
     }
 }
 
@@ -129,6 +139,15 @@ fn rights_in<'a>(matches: &ArgMatches<'a>) -> Option<Job<'a>>
     Some(Job::Rights { policy, asked })
 }
 
+/// The job of the command `explain`.
+fn explain_in<'a>(matches: &ArgMatches<'a>) -> Job<'a>
+    ensures { asks result ≡ explain_of (rows_of (found_of matches.now)) }
+{
+    let number = text_at(matches, Argument::Number);
+    let form = form_at(matches);
+    Job::Explain { number, form }
+}
+
 /// The job of a command.
 fn job_of_command<'a>(command: Command, matches: &ArgMatches<'a>) -> Option<Job<'a>>
     ensures { option_map asks result ≡ job_by command (rows_of (found_of matches.now)) }
@@ -141,6 +160,7 @@ fn job_of_command<'a>(command: Command, matches: &ArgMatches<'a>) -> Option<Job<
         Command::Migrate => migrate_in(matches),
         Command::Rights => rights_in(matches),
         Command::Serve => serve_in(matches),
+        Command::Explain => Some(explain_in(matches)),
     }
 }
 
@@ -188,8 +208,9 @@ fn told(alloc: Global, error: Error) -> WordsFault
 /// The job that the words behind the program's name ask for: none or `apply`; `canon --origin NAME`;
 /// `import --store PATH --origin NAME [--replace]`; `export --store PATH --origin NAME`;
 /// `migrate --store PATH`;
-/// `rights --policy PATH --caller CALLER NAME TYPE ACTION`; and
-/// `serve --store PATH --policy PATH --listen ADDRESS:PORT [--connections N] [--patience SECONDS]`. The words behind a command may stand in any order.
+/// `rights --policy PATH --caller CALLER NAME TYPE ACTION`;
+/// `serve --store PATH --policy PATH --listen ADDRESS:PORT [--connections N] [--patience SECONDS]`; and
+/// `explain [NUMBER] [--json]`. The words behind a command may come in any order.
 /// `Help` comes where they ask for help or the version, and `Misused` where there is a mistake in them.
 pub fn read_words<'a>(alloc: Global, words: &'a [&'a str]) -> Result<Job<'a>, WordsFault>
     // The job is the one that the words ask for.

@@ -1,5 +1,5 @@
 //! The refusals of the program in words: one table of all numbers, with what each means and what to do, which numbers the program
-//! prints, and their words as a text.
+//! prints, and their words as a text and as JSON.
 #![tactic(auto)]
 
 mod laws;
@@ -10,5 +10,5 @@ mod table;
 
 pub use laws::{numbers_are_apart, rows_are_of_their_number, texts_are_plain};
 pub use number::{all_rows, explained};
-pub use print::plain_text;
+pub use print::{json_text, plain_text};
 pub use row::{Kind, Place, Row};

@@ -2,7 +2,7 @@
 
 ghost use Rattle.std.specs.Prelude.{◌≡◌, IfOk, Some, map, string_bytes};
 ghost use Rattle.refusal_words.specs.Numbers.{row_of};
-ghost use Rattle.refusal_words.specs.Texts.{row_head, row_text, text_of};
+ghost use Rattle.refusal_words.specs.Texts.{row_head, row_text, row_json, text_of, further, json_of};
 
 use crate::row::Row;
 use std::alloc::{AllocError, Global};
@@ -38,6 +38,23 @@ impl Display for Row {
     }
 }
 
+/// A row as an object of JSON (RFC 8259). No text of the table has an octet that needs an escape.
+#[derive(Clone, Copy)]
+struct JsonRow<'a>(&'a Row);
+
+impl Display for JsonRow<'_> {
+    ghost output = { λ row. Some (row_json (row_of row.0.now)) };
+
+    fn fmt<W: Write>(&self, f: &mut Formatter<W>) -> fmt::Result {
+        let row = self.0;
+        write!(
+            f,
+            r#"{{"number":"{}","name":"{}","meaning":"{}","advice":"{}","source":"{}"}}"#,
+            row.number, row.name, row.meaning, row.advice, row.source
+        )
+    }
+}
+
 /// Rows for a person. The only error is out of memory.
 pub fn plain_text(alloc: Global, rows: &[Row]) -> Result<String, AllocError>
     ensures { IfOk result (λ text. string_bytes text ≡ text_of (map row_of rows.now)) }
@@ -47,4 +64,26 @@ pub fn plain_text(alloc: Global, rows: &[Row]) -> Result<String, AllocError>
         write!(text, "{row}")?;
     }
     Ok(text)
+}
+
+/// The rows behind the first of an array, each behind a comma and on a line of its own. The only error is out of memory.
+fn further_text(alloc: Global, rows: &[Row]) -> Result<String, AllocError>
+    ensures { IfOk result (λ text. string_bytes text ≡ further (map row_of rows.now)) }
+{
+    let mut text = String::new(alloc);
+    for row in rows {
+        write!(text, ",\n{}", JsonRow(row))?;
+    }
+    Ok(text)
+}
+
+/// Rows as an array of JSON, a row a line. The only error is out of memory.
+pub fn json_text(alloc: Global, rows: &[Row]) -> Result<String, AllocError>
+    ensures { IfOk result (λ text. string_bytes text ≡ json_of (map row_of rows.now)) }
+{
+    let Some((first, more)) = rows.split_first() else {
+        return String::from_str(alloc, "[]\n");
+    };
+    let further = further_text(alloc, more)?;
+    format!(in alloc; "[{}{further}]\n", JsonRow(first))
 }

@@ -581,7 +581,7 @@ pub(crate) static REQUESTS: [(&str, Kind, &str, &str, &str, &str); 12] = [
 ];
 
 /// Devices, memory and words of the command line.
-pub(crate) static COMMANDS: [(&str, Kind, &str, &str, &str, &str); 6] = [
+pub(crate) static COMMANDS: [(&str, Kind, &str, &str, &str, &str); 7] = [
     (
         "93",
         Kind::Whole,
@@ -621,6 +621,14 @@ pub(crate) static COMMANDS: [(&str, Kind, &str, &str, &str, &str); 6] = [
         "An entry behind the divider is not an item of an update, or a parenthesis or a quote there is wrong.",
         "Begin it with a word such as add, delete-record or rrset-exists. Names are absolute, add has a TTL, and there is no class.",
         "RFC 2136 sections 2.4 and 2.5",
+    ),
+    (
+        "98",
+        Kind::Whole,
+        "unknown number",
+        "The program never prints this number, or this word, for a refusal.",
+        "Copy it from the line, as 29.19.1 or NXRRSET. Without a number, explain prints them all.",
+        "",
     ),
     (
         "99",

@@ -1,8 +1,9 @@
 //! The commands that need no store, with an input and an answer in memory, and how a refusal is told.
 
-ghost use Rattle.std.specs.Prelude.{◌≡◌, ℕ, [], Some, IfOk, string_bytes};
+ghost use Rattle.std.specs.Prelude.{◌≡◌, ℕ, [], Some, IfOk, option_map, string_bytes};
 ghost use Rattle.text_commands.specs.Apply.{apply_text};
 ghost use Rattle.text_commands.specs.Canon.{canon_text};
+ghost use Rattle.text_commands.specs.Explain.{explain_text};
 ghost use Rattle.text_commands.specs.Refusals.{told_refusal};
 ghost use Rattle.text_commands.specs.Replies.{Answered};
 ghost use Rattle.text_commands.specs.Rights.{rights_text};
@@ -10,7 +11,7 @@ ghost use Rattle.text_commands.specs.Rights.{rights_text};
 use command_line::QuestionWords;
 use dns_master::Pieces;
 use std::alloc::{AllocError, Global};
-use text_commands::{Apply, Canon, JobFault, Refusal, RefusalLine, do_task};
+use text_commands::{Apply, Canon, Explain, JobFault, Refusal, RefusalLine, do_task};
 
 /// `do_task` of `Canon`.
 pub fn canon(alloc: Global, origin: &str, input: Vec<u8>) -> (Vec<u8>, Result<(), JobFault>)
@@ -43,6 +44,16 @@ pub fn rights(
     let reader = Pieces::new(policy, usize::MAX, 0);
     let writer = Pieces::new(Vec::new(alloc), usize::MAX, 0);
     let (writer, outcome) = do_task(alloc, words, reader, writer);
+    (writer.octets, outcome)
+}
+
+/// `do_task` of `Explain`.
+pub fn explain(alloc: Global, asked: Explain<'_>, input: Vec<u8>) -> (Vec<u8>, Result<(), JobFault>)
+    ensures { (failed_reads : ℕ) × (failed_writes : ℕ) × Answered (Some input.items) (explain_text (option_map (λ n. n.now) asked.entry.number) asked.entry.form) (Some []) (Some result.0.items) result.1 0 failed_reads 0 failed_writes }
+{
+    let reader = Pieces::new(input, usize::MAX, 0);
+    let writer = Pieces::new(Vec::new(alloc), usize::MAX, 0);
+    let (writer, outcome) = do_task(alloc, asked, reader, writer);
     (writer.octets, outcome)
 }
 

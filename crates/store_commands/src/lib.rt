@@ -11,6 +11,6 @@ mod store_file;
 pub use serving::{Connections, serve_connections};
 pub use std_streams::{do_export, do_import, do_migrate, do_serve};
 pub use text_commands::{
-    Apply, Canon, JobFault, LineFault, NO_MEMORY_LINE, PolicyFile, Refusal, RefusalLine, Task,
-    do_task, text_is_divided, zones_are_read_again,
+    Apply, Canon, Explain, JobFault, LineFault, NO_MEMORY_LINE, PolicyFile, Refusal, RefusalLine,
+    Task, do_task, text_is_divided, zones_are_read_again,
 };

@@ -1,4 +1,4 @@
-use command_line::{Existing, Job, QuestionWords, Service, WordsFault, read_words};
+use command_line::{Existing, Job, QuestionWords, Service, TextForm, WordsFault, read_words};
 use std::alloc::{AllocError, Global};
 use test_rows::{Answers, Row};
 
@@ -51,6 +51,18 @@ fn job_text(alloc: Global, job: &Job<'_>) -> Result<String, AllocError> {
         Job::Migrate { store } => format!(in alloc; "migrate ({store})"),
         Job::Rights { policy, asked } => question_text(alloc, policy, asked),
         Job::Serve { service } => service_text(alloc, service),
+        Job::Explain { number, form } => explain_text(alloc, *number, *form),
+    }
+}
+
+fn explain_text(alloc: Global, number: Option<&str>, form: TextForm) -> Result<String, AllocError> {
+    let form = match form {
+        TextForm::Plain => "plain",
+        TextForm::Json => "json",
+    };
+    match number {
+        Some(number) => format!(in alloc; "explain ({number}) {form}"),
+        None => format!(in alloc; "explain all {form}"),
     }
 }
 

@@ -27,6 +27,7 @@ impl Answers for Commands {
             }
             "reads" => push_reads(alloc, text, &row.body, answer),
             "writes" => push_writes(alloc, text, &row.body, answer),
+            "heads" => push_heads(alloc, text, answer),
             "no-memory" => push_status(alloc, Err(JobFault::Told(LineFault::NoMemory)), answer),
             name => {
                 let command = Command {
@@ -83,6 +84,34 @@ fn push_run(
         }
         None => push("no such command", answer),
     }
+}
+
+/// Appends, for each number of a text with bars between them, the first lines of its rows, or what is printed in their place.
+fn push_heads(alloc: Global, text: &str, answer: &mut Vec<u8>) -> Result<(), AllocError> {
+    for number in text.split('|') {
+        let command = Command {
+            name: "explain",
+            words: number,
+            input: &[],
+        };
+        let printed = command.run(alloc, Manner::SOUND, Manner::SOUND)?;
+        push(number, answer)?;
+        push(":", answer)?;
+        push_rows(&printed.map_or(Vec::new(alloc), |run| run.0), answer)?;
+    }
+    Ok(())
+}
+
+/// Appends the lines of a text that begin with no space, as one line.
+fn push_rows(text: &[u8], answer: &mut Vec<u8>) -> Result<(), AllocError> {
+    for line in str::from_utf8(text).unwrap_or("").lines() {
+        if !line.starts_with(' ') {
+            push(" | ", answer)?;
+            push(line, answer)?;
+        }
+    }
+    answer.push(b'\n')?;
+    Ok(())
 }
 
 /// Appends a line, without its end, for how a command went.

@@ -1,7 +1,7 @@
-use command_line::QuestionWords;
+use command_line::{QuestionWords, TextForm};
 use dns_master::Pieces;
 use std::alloc::{AllocError, Global};
-use text_commands::{Apply, Canon, JobFault, Task, do_task};
+use text_commands::{Apply, Canon, Explain, JobFault, Task, do_task};
 
 /// How a device works.
 #[derive(Clone, Copy)]
@@ -48,6 +48,7 @@ impl Command<'_> {
             "apply" => self.run_task(alloc, Apply, reading, writing),
             "canon" => self.run_task(alloc, Canon { origin: words }, reading, writing),
             "rights" => self.run_task(alloc, question(words), reading, writing),
+            "explain" => self.run_task(alloc, asked(words), reading, writing),
             _ => Ok(None),
         }
     }
@@ -74,5 +75,18 @@ fn question(words: &str) -> QuestionWords<'_> {
         name: words.next().unwrap_or(""),
         record_type: words.next().unwrap_or(""),
         action: words.next().unwrap_or(""),
+    }
+}
+
+/// What words with a bar between them ask about refusals: a number, or `all`, and then `json` for that form.
+fn asked(words: &str) -> Explain<'_> {
+    let (number, form) = words.split_once('|').unwrap_or((words, ""));
+    Explain {
+        number: (number != "all").then_some(number),
+        form: if form == "json" {
+            TextForm::Json
+        } else {
+            TextForm::Plain
+        },
     }
 }

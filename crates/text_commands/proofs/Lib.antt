@@ -6,3 +6,4 @@ pub mod PartLemmas
 pub mod ReadAgainLemmas
 pub mod SendLemmas
 pub mod StepLemmas
+pub mod ExplainLemmas

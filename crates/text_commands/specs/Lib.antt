@@ -7,3 +7,4 @@ pub mod Parts
 pub mod Apply
 pub mod PartViews
 pub mod Rights
+pub mod Explain

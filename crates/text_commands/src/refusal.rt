@@ -54,6 +54,9 @@ pub enum Refusal {
         /// The number of the item in its list, from 0.
         item: usize,
     },
+    /// A word of the command line is no number that the program prints for a refusal.
+    #[error("the program prints no such number")]
+    UnknownNumber,
     /// The store refuses it, or failed.
     #[error("{0}")]
     Store(StoreFault),
@@ -71,6 +74,7 @@ impl Refusal {
             Refusal::NoCaller | Refusal::NoAction => 54,
             Refusal::TooLarge => 30,
             Refusal::NoDivider => 96,
+            Refusal::UnknownNumber => 98,
             Refusal::Master(fault) => fault.number(),
             Refusal::Zone(fault) => fault.number(),
             Refusal::Policy(fault) => fault.number(),

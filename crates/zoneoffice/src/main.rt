@@ -11,8 +11,8 @@ use std::env;
 use std::io::{self, ErrorKind, Read, Write};
 use std::process::ExitCode;
 use store_commands::{
-    Apply, Canon, JobFault, NO_MEMORY_LINE, PolicyFile, Task, do_export, do_import, do_migrate,
-    do_serve, do_task,
+    Apply, Canon, Explain, JobFault, NO_MEMORY_LINE, PolicyFile, Task, do_export, do_import,
+    do_migrate, do_serve, do_task,
 };
 
 /// The exit status of a job: 0 where it went through, and else 1.
@@ -52,6 +52,10 @@ fn do_job(rt: &HostRuntime, job: Job<'_>) -> ExitCode {
         Job::Migrate { store } => status(do_migrate(rt, store, rt.stdout()).1),
         Job::Rights { policy, asked } => {
             do_with(alloc, asked, PolicyFile::open(rt, policy), rt.stdout()).1
+        }
+        Job::Explain { number, form } => {
+            let task = Explain { number, form };
+            do_with(alloc, task, rt.stdin(), rt.stdout()).1
         }
         Job::Serve { service } => status(do_serve(rt, service, rt.stdout()).1),
     }
