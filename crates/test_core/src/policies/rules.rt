@@ -1,4 +1,4 @@
-use crate::fault::Fault;
+use crate::policies::fault::Fault;
 use dns_data::RecordType;
 use dns_names::Name;
 use grant_policy::{Action, Actions, Callers, Effect, Identifier, Rule, Scope, Types};
@@ -22,13 +22,13 @@ fn rule(alloc: Global, line: &[u8]) -> Result<Rule, Fault> {
         return Err(Fault::Word);
     };
     Ok(Rule {
-        id: Identifier::read(alloc, id)?,
         effect: Effect::read(effect).ok_or(Fault::Word)?,
-        callers: callers_of(alloc, caller)?,
         scope: Scope::read(scope).ok_or(Fault::Word)?,
-        at: Name::read_absolute(alloc, at)?,
         types: types_of(alloc, types)?,
         actions: actions_of(alloc, actions)?,
+        id: Identifier::read(alloc, id)?,
+        callers: callers_of(alloc, caller)?,
+        at: Name::read_absolute(alloc, at)?,
     })
 }
 

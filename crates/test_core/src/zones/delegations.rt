@@ -1,11 +1,11 @@
 //! Rows of delegations.
 
-use crate::lines::{push, push_name, push_operation};
-use crate::reading::{name, servers, word};
-use crate::refusal::Refusal;
+use crate::zones::lines::{push, push_name, push_operation};
+use crate::zones::reading::{name, servers};
+use crate::zones::refusal::Refusal;
 use dns_data::Ttl;
 use std::alloc::Global;
-use test_rows::Row;
+use test_rows::{Row, word};
 use zone_core::{
     DelegationRequest, Glue, Update, Zone, cuts, delegation_report, delegation_update,
 };
@@ -15,8 +15,8 @@ fn delegation(alloc: Global, row: &Row<'_>) -> Result<Update, Refusal> {
     let (origin, rest) = row.split();
     let (child, ttl) = word(rest);
     let request = DelegationRequest {
-        child: name(alloc, child)?,
         ttl: Ttl::read(ttl)?,
+        child: name(alloc, child)?,
         servers: servers(alloc, &row.body)?,
     };
     Ok(delegation_update(alloc, &name(alloc, origin)?, &request)?)

@@ -1,27 +1,19 @@
 //! What is read of bodies.
 
-use crate::replies::{push_refusals, reply_of};
+mod replies;
+
+use crate::bodies::replies::{push_refusals, reply_of};
 use dns_names::Name;
 use office_json::{BodyFault, UpdateBody, read_delegation, read_update, reply_text};
 use std::alloc::{AllocError, Global};
-use test_rows::{Answers, Row};
+use test_rows::Row;
 use zone_core::{Operation, Prerequisite};
 
-/// Answers to rows of bodies.
-#[derive(Drop)]
-pub struct Bodies;
-
-impl Answers for Bodies {
-    fn answer(
-        &mut self,
-        alloc: Global,
-        row: &Row<'_>,
-        answer: &mut Vec<u8>,
-    ) -> Result<(), AllocError> {
-        match answer_to(alloc, row, answer) {
-            Ok(()) => Ok(()),
-            Err(fault) => push_fault(alloc, &fault, answer),
-        }
+/// Appends the answer to a row of bodies.
+pub fn push_answer(alloc: Global, row: &Row<'_>, answer: &mut Vec<u8>) -> Result<(), AllocError> {
+    match answer_to(alloc, row, answer) {
+        Ok(()) => Ok(()),
+        Err(fault) => push_fault(alloc, &fault, answer),
     }
 }
 

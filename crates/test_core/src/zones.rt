@@ -1,11 +1,18 @@
 //! Answers to rows, and rows of one zone.
 
-use crate::delegations::{push_count, push_delegation, push_report};
-use crate::lines::{push, push_name, push_records};
-use crate::reading::{name, record_type};
-use crate::refusal::Refusal;
-use crate::serials::{push_less, push_sum};
-use crate::updates::{
+mod delegations;
+mod lines;
+mod reading;
+mod refusal;
+mod serials;
+mod updates;
+
+use crate::zones::delegations::{push_count, push_delegation, push_report};
+use crate::zones::lines::{push, push_name, push_records};
+use crate::zones::reading::{name, record_type};
+use crate::zones::refusal::Refusal;
+use crate::zones::serials::{push_less, push_sum};
+use crate::zones::updates::{
     push_after, push_change, push_outside, push_same, push_serial_after, push_update, push_verdict,
 };
 use dns_data::record_line;

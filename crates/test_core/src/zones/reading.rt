@@ -1,12 +1,13 @@
 //! Records, updates and servers that rows write.
 
-use crate::refusal::Refusal;
+use crate::zones::refusal::Refusal;
 use dns_data::{DataFault, Record, RecordType};
 use dns_master::read_file;
 use dns_names::Name;
 use std::alloc::Global;
 use std::net::IpAddr;
 use std::str;
+use test_rows::word;
 use zone_core::{ChildServer, Operation, OperationKind, Prerequisite, PrerequisiteKind, Update};
 
 /// The name of an absolute text.
@@ -25,14 +26,6 @@ pub fn number(text: &[u8]) -> u32 {
         .ok()
         .and_then(|text| text.parse::<u32>().ok())
         .unwrap_or(0)
-}
-
-/// A text up to its first space, and what stands behind it.
-pub fn word(text: &[u8]) -> (&[u8], &[u8]) {
-    match text.iter().position(|octet| *octet == b' ') {
-        Some(at) => (&text[..at], &text[at + 1..]),
-        None => (text, &[]),
-    }
 }
 
 /// Whether an octet ends an item: a line end, or a bar.
@@ -55,20 +48,19 @@ fn prerequisite(
     text: &[u8],
 ) -> Result<Prerequisite, Refusal> {
     let (owner, rest) = word(text);
-    let name = name(alloc, owner)?;
     Ok(match kind {
-        PrerequisiteKind::NameUsed => Prerequisite::NameUsed(name),
-        PrerequisiteKind::NameUnused => Prerequisite::NameUnused(name),
+        PrerequisiteKind::NameUsed => Prerequisite::NameUsed(name(alloc, owner)?),
+        PrerequisiteKind::NameUnused => Prerequisite::NameUnused(name(alloc, owner)?),
         PrerequisiteKind::RrsetExists => Prerequisite::RrsetExists {
-            name,
             record_type: record_type(rest)?,
+            name: name(alloc, owner)?,
         },
         PrerequisiteKind::RrsetAbsent => Prerequisite::RrsetAbsent {
-            name,
             record_type: record_type(rest)?,
+            name: name(alloc, owner)?,
         },
         PrerequisiteKind::RrsetEquals => Prerequisite::RrsetEquals {
-            name,
+            name: name(alloc, owner)?,
             rdata: record(alloc, text)?.rdata,
         },
     })
@@ -77,16 +69,15 @@ fn prerequisite(
 /// An operation, from what stands behind its first word.
 fn operation(alloc: Global, kind: OperationKind, text: &[u8]) -> Result<Operation, Refusal> {
     let (owner, rest) = word(text);
-    let name = name(alloc, owner)?;
     Ok(match kind {
         OperationKind::Add => Operation::Add(record(alloc, text)?),
-        OperationKind::DeleteName => Operation::DeleteName(name),
+        OperationKind::DeleteName => Operation::DeleteName(name(alloc, owner)?),
         OperationKind::DeleteRrset => Operation::DeleteRrset {
-            name,
             record_type: record_type(rest)?,
+            name: name(alloc, owner)?,
         },
         OperationKind::DeleteRecord => Operation::DeleteRecord {
-            name,
+            name: name(alloc, owner)?,
             rdata: record(alloc, text)?.rdata,
         },
     })

@@ -1,8 +1,8 @@
 //! Rows of updates.
 
-use crate::lines::{push, push_marked};
-use crate::reading::{name, update};
-use crate::refusal::Refusal;
+use crate::zones::lines::{push, push_marked};
+use crate::zones::reading::{name, update};
+use crate::zones::refusal::Refusal;
 use std::alloc::{AllocError, Global};
 use zone_core::{ItemList, Outcome, Update, Zone, apply, apply_owned, holds};
 

@@ -1,6 +1,6 @@
 //! Item lines.
 
-use crate::refusal::Refusal;
+use crate::items::refusal::Refusal;
 use item_lines::{items_text, read_items};
 use std::alloc::Global;
 

@@ -1,5 +1,7 @@
-use crate::fault::Fault;
-use crate::rules::rules;
+mod fault;
+mod rules;
+
+use crate::policies::fault::Fault;
 use dns_data::RecordType;
 use dns_names::Name;
 use grant_policy::{
@@ -29,7 +31,7 @@ impl Policies {
                 alloc,
                 read_policy(alloc, &numbered(alloc, &row.body, first)?),
             ),
-            "build" => self.keep(alloc, Policy::build(alloc, rules(alloc, &row.body)?)),
+            "build" => self.keep(alloc, Policy::build(alloc, rules::rules(alloc, &row.body)?)),
             "decide" => decision(alloc, self.policy()?, row),
             "rights" => rights(alloc, self.policy()?, first, rest),
             "covers" => covering(alloc, first, rest),

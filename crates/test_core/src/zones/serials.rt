@@ -1,8 +1,8 @@
 //! Rows of serials.
 
-use crate::lines::push;
-use crate::reading::number;
-use crate::refusal::Refusal;
+use crate::zones::lines::push;
+use crate::zones::reading::number;
+use crate::zones::refusal::Refusal;
 use std::alloc::Global;
 use zone_core::{serial_add, serial_less};
 

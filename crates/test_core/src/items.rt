@@ -1,8 +1,12 @@
 //! What is answered to each row.
 
-use crate::asking::{push_denial, push_points};
-use crate::items::{push_items, push_many};
-use crate::refusal::Refusal;
+mod lines;
+mod points;
+mod refusal;
+
+use crate::items::lines::{push_items, push_many};
+use crate::items::points::{push_denial, push_points};
+use crate::items::refusal::Refusal;
 use grant_policy::{Policy, read_policy};
 use item_lines::ItemsFault;
 use std::alloc::{AllocError, Global};

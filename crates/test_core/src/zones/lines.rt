@@ -1,6 +1,6 @@
 //! Texts of names, records and operations.
 
-use crate::refusal::Refusal;
+use crate::zones::refusal::Refusal;
 use dns_data::{Data, Record, data_text, record_line};
 use dns_names::Name;
 use std::alloc::Global;
