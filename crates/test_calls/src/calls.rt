@@ -8,16 +8,8 @@ use item_lines::read_items;
 use office_core::{Call, Request};
 use std::alloc::Global;
 use std::net::IpAddr;
-use test_rows::Row;
+use test_rows::{Row, word};
 use zone_core::{ChildServer, DelegationRequest, Update, delegation_update};
-
-/// The first word of a text, and what stands behind it.
-pub(crate) fn word(text: &[u8]) -> (&[u8], &[u8]) {
-    match text.iter().position(|octet| *octet == b' ') {
-        Some(at) => (&text[..at], &text[at + 1..]),
-        None => (text, &[]),
-    }
-}
 
 /// The absolute name that a text spells.
 pub(crate) fn name(alloc: Global, text: &[u8]) -> Result<Name> {
@@ -37,10 +29,9 @@ pub fn call_of(alloc: Global, row: &Row<'_>) -> Result<Call> {
 /// The call of a verb, of what stands behind it, and of the lines below.
 pub(crate) fn call(alloc: Global, verb: &str, text: &[u8], body: &[u8]) -> Result<Call> {
     let (caller, rest) = word(text);
-    let request = request_of(alloc, verb, rest, body)?;
     Ok(Call {
         caller: identifier(alloc, caller)?,
-        request,
+        request: request_of(alloc, verb, rest, body)?,
     })
 }
 
@@ -76,8 +67,8 @@ fn list_within(alloc: Global, text: &[u8]) -> Result<Request> {
 fn changes(alloc: Global, text: &[u8]) -> Result<Request> {
     let (origin, from) = word(text);
     Ok(Request::Changes {
-        origin: name(alloc, origin)?,
         from: str::from_utf8(from)?.parse()?,
+        origin: name(alloc, origin)?,
     })
 }
 
@@ -86,9 +77,9 @@ fn rights(alloc: Global, text: &[u8]) -> Result<Request> {
     let (record_type, action) = word(rest);
     let action = Action::read(action).ok_or(anyhow!("this is no action"))?;
     Ok(Request::Rights {
-        name: name(alloc, owner)?,
         record_type: RecordType::read(record_type)?,
         action,
+        name: name(alloc, owner)?,
     })
 }
 
@@ -106,11 +97,11 @@ fn update(alloc: Global, text: &[u8], items: &[u8]) -> Result<Request> {
 fn delegation(alloc: Global, text: &[u8], body: &[u8]) -> Result<Request> {
     let (id, rest) = word(text);
     let (origin, rest) = word(rest);
+    let id = identifier(alloc, id)?;
     let origin = name(alloc, origin)?;
-    let update = delegated(alloc, &origin, rest, body)?;
     Ok(Request::Update {
-        id: identifier(alloc, id)?,
-        update,
+        id,
+        update: delegated(alloc, &origin, rest, body)?,
         origin,
     })
 }
@@ -118,8 +109,8 @@ fn delegation(alloc: Global, text: &[u8], body: &[u8]) -> Result<Request> {
 fn delegated(alloc: Global, origin: &Name, text: &[u8], body: &[u8]) -> Result<Update> {
     let (child, ttl) = word(text);
     let request = DelegationRequest {
-        child: name(alloc, child)?,
         ttl: Ttl::read(ttl)?,
+        child: name(alloc, child)?,
         servers: servers(alloc, str::from_utf8(body)?)?,
     };
     Ok(delegation_update(alloc, origin, &request)?)

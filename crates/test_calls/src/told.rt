@@ -1,6 +1,6 @@
 //! What the table of a store tells.
 
-use crate::calls::{call, identifier, name, word};
+use crate::calls::{call, identifier, name};
 use crate::deed::Deed;
 use crate::replies::{push_records, reply_text};
 use anyhow::Result;
@@ -12,6 +12,7 @@ use office_store::{SqlTable, StoreFault};
 use sqlite::Alter;
 use std::alloc::Global;
 use std::sync::ledger::Ledger;
+use test_rows::word;
 use zone_core::Zone;
 
 /// The octets of a text.

@@ -36,7 +36,7 @@ impl Given {
         answer: &mut Vec<u8>,
     ) -> Result<()> {
         self.policy = Vec::from_slice(alloc, &row.body)?;
-        let _policy = self.policy(alloc)?;
+        drop(self.policy(alloc)?);
         Ok(answer.extend_from_slice(b"taken")?)
     }
 
@@ -44,7 +44,7 @@ impl Given {
     pub fn take_zone(&mut self, alloc: Global, row: &Row<'_>, answer: &mut Vec<u8>) -> Result<()> {
         self.origin = Vec::from_slice(alloc, &row.text)?;
         self.zone = Vec::from_slice(alloc, &row.body)?;
-        let _table = self.mem_table(alloc)?;
+        drop(self.mem_table(alloc)?);
         Ok(answer.extend_from_slice(b"taken")?)
     }
 
@@ -66,8 +66,9 @@ impl Given {
 
     /// A table in memory that has the zone.
     pub fn mem_table(&self, alloc: Global) -> Result<MemTable> {
+        let zone = self.zone(alloc)?;
         let mut zones = Vec::new(alloc);
-        zones.push(self.zone(alloc)?)?;
+        zones.push(zone)?;
         Ok(MemTable::new(alloc, zones)?)
     }
 

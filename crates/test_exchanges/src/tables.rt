@@ -5,31 +5,31 @@ ghost use Rattle.std.specs.Prelude.{◌≡◌, ◌<◌, false};
 use crate::given::Given;
 use crate::steps::{Step, Told, answered};
 use anyhow::{Result, anyhow, bail};
-use dns_data::Record;
-use dns_names::Name;
-use office_core::{FailTable, MemTable, TableCall};
+use office_core::{FailTable, MemTable, TableCall, ZoneTable};
 use office_store::{SqlTable, StoreFault};
 use sqlite::{Alter, Connection, Files};
-use sqlite_disk::Memory;
+use sqlite_disk::{Disk, Memory};
 use std::alloc::Global;
 use std::marker::Brand;
 use std::sync::ledger::{Blank, Ledger};
 use test_calls::opened;
 
+/// What a table answers to some steps, and no more.
+fn answered_by<T: ZoneTable + Drop>(
+    alloc: Global,
+    given: &Given,
+    table: T,
+    steps: &[Step],
+) -> Result<Told> {
+    let mut table = table;
+    answered(alloc, &mut table, &given.policy(alloc)?, steps)
+}
+
 fn over_memory(alloc: Global, given: &Given, steps: &[Step]) -> Result<Told> {
-    let policy = given.policy(alloc)?;
-    let mut table = given.mem_table(alloc)?;
-    answered(alloc, &mut table, &policy, steps)
+    answered_by(alloc, given, given.mem_table(alloc)?, steps)
 }
 
-/// A zone that is to be imported.
-#[derive(Drop)]
-struct Import {
-    origin: Name,
-    records: Vec<Record>,
-}
-
-/// Makes the table in a database without tables, imports a zone, and asks it some steps.
+/// Makes the table in a database without tables, imports the zone, and asks it some steps.
 fn over_connection<S: Alter + Drop>(
     alloc: Global,
     given: &Given,
@@ -39,18 +39,13 @@ fn over_connection<S: Alter + Drop>(
     if !conn.is_autocommit() {
         bail!("a transaction goes on");
     }
-    let import = Import {
-        origin: given.origin(alloc)?,
-        records: given.records(alloc)?,
-    };
-    made::<S, Brand>(alloc, given, steps, import, conn, Blank::new(1))
+    made::<S, Brand>(alloc, given, steps, conn, Blank::new(1))
 }
 
 fn made<S: Alter + Drop, L: Ledger>(
     alloc: Global,
     given: &Given,
     steps: &[Step],
-    import: Import,
     conn: Connection<S>,
     blank: Blank,
 ) -> Result<Told>
@@ -62,7 +57,7 @@ fn made<S: Alter + Drop, L: Ledger>(
     match SqlTable::<S, L>::create(conn, blank) {
         Ok(table) => {
             let mut table = table;
-            asked(alloc, given, steps, import, &mut table)
+            asked(alloc, given, steps, &mut table)
         }
         Err(refused) => unmade(refused.fault),
     }
@@ -76,11 +71,10 @@ fn asked<S: Alter + Drop, L: Ledger>(
     alloc: Global,
     given: &Given,
     steps: &[Step],
-    import: Import,
     table: &mut SqlTable<S, L>,
 ) -> Result<Told> {
-    let Import { origin, records } = import;
-    let _zone = table.import(alloc, origin, records)?;
+    let origin = given.origin(alloc)?;
+    drop(table.import(alloc, origin, given.records(alloc)?)?);
     answered(alloc, table, &given.policy(alloc)?, steps)
 }
 
@@ -88,14 +82,22 @@ fn over_sqlite(alloc: Global, given: &Given, steps: &[Step]) -> Result<Told> {
     over_connection(alloc, given, steps, Connection::open_in_memory(alloc)?)
 }
 
-fn over_files(alloc: Global, given: &Given, steps: &[Step]) -> Result<Told> {
-    let files = Files {
-        log: Memory::new(alloc),
-        db: Memory::new(alloc),
-    };
+fn over_files<D: Disk + Drop>(
+    alloc: Global,
+    given: &Given,
+    steps: &[Step],
+    files: Files<D>,
+) -> Result<Told> {
     match opened(alloc, files) {
         Ok(conn) => over_connection(alloc, given, steps, conn),
         Err(_) => Err(anyhow!("the files are not opened")),
+    }
+}
+
+fn empty_files(alloc: Global) -> Files<Memory> {
+    Files {
+        log: Memory::new(alloc),
+        db: Memory::new(alloc),
     }
 }
 
@@ -108,7 +110,7 @@ pub fn push_over_each(
 ) -> Result<()> {
     all.push(over_memory(alloc, given, steps)?)?;
     all.push(over_sqlite(alloc, given, steps)?)?;
-    all.push(over_files(alloc, given, steps)?)?;
+    all.push(over_files(alloc, given, steps, empty_files(alloc))?)?;
     Ok(())
 }
 
@@ -120,12 +122,22 @@ pub fn over_failing(
     failing: &[TableCall],
 ) -> Result<Told> {
     let (first, rest) = steps.split_at(steps.len().min(1));
-    let table = given.mem_table(alloc)?;
     let failing = Vec::from_slice(alloc, failing)?;
+    let table = given.mem_table(alloc)?;
     let (told, table) = failed::<Brand>(alloc, given, first, failing, table, Blank::new(1));
-    let mut table = table;
+    answered_behind(alloc, given, told, table, rest)
+}
+
+/// What was told, and behind it what a table answers to more steps.
+fn answered_behind<T: ZoneTable + Drop>(
+    alloc: Global,
+    given: &Given,
+    told: Result<Told>,
+    table: T,
+    steps: &[Step],
+) -> Result<Told> {
+    let more = answered_by(alloc, given, table, steps)?;
     let mut told = told?;
-    let more = answered(alloc, &mut table, &given.policy(alloc)?, rest)?;
     for text in more {
         told.push(text)?;
     }
@@ -146,15 +158,15 @@ fn failed<L: Ledger>(
     requires some { 0 < blank.parts }
 {
     let mut table: FailTable<L> = FailTable::new(table, failing, blank);
-    let told = answered_by(alloc, given, steps, &mut table);
+    let told = asked_all(alloc, given, steps, &mut table);
     (told, table.into_inner())
 }
 
-fn answered_by<L: Ledger>(
+fn asked_all<T: ZoneTable>(
     alloc: Global,
     given: &Given,
     steps: &[Step],
-    table: &mut FailTable<L>,
+    table: &mut T,
 ) -> Result<Told> {
     answered(alloc, table, &given.policy(alloc)?, steps)
 }

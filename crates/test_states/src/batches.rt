@@ -35,9 +35,13 @@ fn update_of(alloc: Global, body: &[u8], word: &str) -> Result<Update> {
 
 /// The records that the items behind a word add.
 fn records_of(alloc: Global, body: &[u8], word: &str) -> Result<Vec<Record>> {
-    let update = update_of(alloc, body, word)?;
+    added(alloc, update_of(alloc, body, word)?.operations())
+}
+
+/// The records that operations add.
+fn added(alloc: Global, operations: &[Operation]) -> Result<Vec<Record>> {
     let mut records = Vec::new(alloc);
-    for operation in update.operations() {
+    for operation in operations {
         match operation {
             Operation::Add(rr) => records.push(rr.try_copy(alloc)?)?,
             _ => bail!("this is no addition"),
@@ -67,17 +71,35 @@ fn change_of(alloc: Global, body: &[u8]) -> Result<Option<Change>> {
 /// Appends what is written for an update of the caller `admin` under the identifier `a1`.
 pub fn push_addition(alloc: Global, row: &Row<'_>, answer: &mut Vec<u8>) -> Result<()> {
     let (number, reply) = word(str::from_utf8(&row.text)?);
-    let addition = Addition {
+    let number = number.parse()?;
+    let addition = addition_of(alloc, reply, &row.body)?;
+    push_addition_batch(alloc, &addition, number, answer)
+}
+
+fn addition_of(alloc: Global, reply: &str, body: &[u8]) -> Result<Addition> {
+    Ok(Addition {
         caller: Identifier::read(alloc, b"admin")?,
         id: Identifier::read(alloc, b"a1")?,
-        receipt: Receipt {
-            origin: Name::read_absolute(alloc, ORIGIN)?,
-            update: update_of(alloc, &row.body, "item ")?,
-            reply: read_reply(alloc, reply)?,
-        },
-        change: change_of(alloc, &row.body)?,
-    };
-    let batch = addition_batch(alloc, &addition, number.parse()?)?;
+        change: change_of(alloc, body)?,
+        receipt: receipt_of(alloc, reply, body)?,
+    })
+}
+
+fn receipt_of(alloc: Global, reply: &str, body: &[u8]) -> Result<Receipt> {
+    Ok(Receipt {
+        origin: Name::read_absolute(alloc, ORIGIN)?,
+        reply: read_reply(alloc, reply)?,
+        update: update_of(alloc, body, "item ")?,
+    })
+}
+
+fn push_addition_batch(
+    alloc: Global,
+    addition: &Addition,
+    number: i64,
+    answer: &mut Vec<u8>,
+) -> Result<()> {
+    let batch = addition_batch(alloc, addition, number)?;
     Ok(push_batch(alloc, &batch, answer)?)
 }
 
@@ -114,9 +136,18 @@ pub fn push_replacement(alloc: Global, row: &Row<'_>, answer: &mut Vec<u8>) -> R
     let number = str::from_utf8(&row.text)?.parse()?;
     let old = zone_of(alloc, &row.body, "old ")?;
     let new = zone_of(alloc, &row.body, "new ")?;
-    match replaced(alloc, &old, &new, number)? {
-        Some(batch) => push_batch(alloc, &batch, answer)?,
-        None => answer.extend_from_slice(b"nothing\n")?,
+    Ok(push_replaced(alloc, &old, &new, number, answer)?)
+}
+
+fn push_replaced(
+    alloc: Global,
+    old: &Zone,
+    new: &Zone,
+    number: i64,
+    answer: &mut Vec<u8>,
+) -> Result<(), AllocError> {
+    match replaced(alloc, old, new, number)? {
+        Some(batch) => push_batch(alloc, &batch, answer),
+        None => answer.extend_from_slice(b"nothing\n"),
     }
-    Ok(())
 }

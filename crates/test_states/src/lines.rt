@@ -51,12 +51,13 @@ fn record_row(alloc: Global, text: &str) -> Result<RecordRow> {
     let (record_type, rest) = word(rest);
     let (ttl, rest) = word(rest);
     let (key, rdata) = word(rest);
+    let (record_type, ttl) = (record_type.parse()?, ttl.parse()?);
     Ok(RecordRow {
         origin: String::from_str(alloc, origin)?,
         owner: String::from_str(alloc, owner)?,
-        record_type: record_type.parse()?,
+        record_type,
         rdata: String::from_str(alloc, rdata)?,
-        ttl: ttl.parse()?,
+        ttl,
         owner_key: Vec::from_slice(alloc, key.as_bytes())?,
     })
 }
@@ -68,14 +69,16 @@ fn change_row(alloc: Global, text: &str) -> Result<ChangeRow> {
     let (owner, rest) = word(rest);
     let (record_type, rest) = word(rest);
     let (ttl, rdata) = word(rest);
+    let (number, side) = (number.parse()?, side.parse()?);
+    let (record_type, ttl) = (record_type.parse()?, ttl.parse()?);
     Ok(ChangeRow {
         origin: String::from_str(alloc, origin)?,
-        number: number.parse()?,
-        side: side.parse()?,
+        number,
+        side,
         owner: String::from_str(alloc, owner)?,
-        record_type: record_type.parse()?,
+        record_type,
         rdata: String::from_str(alloc, rdata)?,
-        ttl: ttl.parse()?,
+        ttl,
     })
 }
 

@@ -95,7 +95,12 @@ fn held_behind(alloc: Global, disks: Disks, loss: Loss) -> Result<Held> {
 }
 
 /// Does something to the store on some disks.
-fn acted(alloc: Global, disks: Disks, policy: &Policy, deed: &Deed) -> (Result<Vec<u8>>, Disks) {
+fn acted<D: Disk + Drop>(
+    alloc: Global,
+    disks: Files<D>,
+    policy: &Policy,
+    deed: &Deed,
+) -> (Result<Vec<u8>>, Files<D>) {
     match opened(alloc, disks) {
         Ok(conn) => {
             let (told, conn) = done(alloc, conn, policy, deed);
@@ -110,7 +115,7 @@ fn unopened(alloc: Global) -> Result<Vec<u8>> {
 }
 
 /// Copies the log into the database.
-fn settled(alloc: Global, disks: Disks) -> Result<Disks> {
+fn settled<D: Disk + Drop>(alloc: Global, disks: Files<D>) -> Result<Files<D>> {
     match opened(alloc, disks) {
         Ok(conn) => match conn.close_files() {
             Ok(disks) => Ok(disks),

@@ -2,20 +2,20 @@
 
 use anyhow::{Result, bail};
 use grant_policy::read_policy;
-use sqlite::{Connection, MemStore};
+use sqlite::{Alter, Connection, MemStore};
 use std::alloc::{AllocError, Global};
 use test_calls::{Deed, done};
 use test_rows::{Answers, Row};
 
 /// The texts of the policy and of the script that made a database, and a connection to it, while there is one.
 #[derive(Drop)]
-pub struct Stores {
+pub struct Stores<S: Alter + Drop> {
     policy: Vec<u8>,
     script: Vec<u8>,
-    conn: Option<Connection<MemStore>>,
+    conn: Option<Connection<S>>,
 }
 
-impl Answers for Stores {
+impl Answers for Stores<MemStore> {
     fn answer(
         &mut self,
         alloc: Global,
@@ -32,22 +32,17 @@ impl Answers for Stores {
 }
 
 fn opened(alloc: Global, script: &[u8]) -> Result<Connection<MemStore>> {
-    let script = str::from_utf8(script)?;
-    let mut conn = Connection::open_in_memory(alloc)?;
-    conn.execute_batch(script)?;
+    with_script(Connection::open_in_memory(alloc)?, script)
+}
+
+/// A connection on which a script was run.
+fn with_script<S: Alter + Drop>(conn: Connection<S>, script: &[u8]) -> Result<Connection<S>> {
+    let mut conn = conn;
+    conn.execute_batch(str::from_utf8(script)?)?;
     Ok(conn)
 }
 
-impl Stores {
-    /// No policy, no script and no connection.
-    pub fn new(alloc: Global) -> Stores {
-        Stores {
-            policy: Vec::new(alloc),
-            script: Vec::new(alloc),
-            conn: None,
-        }
-    }
-
+impl Stores<MemStore> {
     fn answer_to(&mut self, alloc: Global, row: &Row<'_>, answer: &mut Vec<u8>) -> Result<()> {
         match row.verb {
             "policy" => self.take_policy(alloc, row),
@@ -57,15 +52,10 @@ impl Stores {
         }
     }
 
-    fn take_policy(&mut self, alloc: Global, row: &Row<'_>) -> Result<()> {
-        self.policy = Vec::from_slice(alloc, &row.body)?;
-        Ok(())
-    }
-
     /// Makes a database by a script.
     fn make(&mut self, alloc: Global, row: &Row<'_>) -> Result<()> {
         self.script = Vec::from_slice(alloc, &row.body)?;
-        self.conn = Some(opened(alloc, &row.body)?);
+        self.hold(opened(alloc, &row.body)?);
         Ok(())
     }
 
@@ -73,13 +63,34 @@ impl Stores {
     fn make_again(&mut self, alloc: Global, row: &Row<'_>, answer: &mut Vec<u8>) -> Result<()> {
         let mut script = Vec::from_slice(alloc, &self.script)?;
         script.extend_from_slice(&row.body)?;
-        self.conn = Some(opened(alloc, &script)?);
+        self.hold(opened(alloc, &script)?);
         let verb = if row.text.is_empty() {
             "adopt"
         } else {
             "migrate"
         };
         self.act(alloc, &Deed::below(alloc, verb, &[])?, answer)
+    }
+}
+
+impl<S: Alter + Drop> Stores<S> {
+    /// No policy, no script and no connection.
+    pub fn new(alloc: Global) -> Stores<S> {
+        Stores {
+            policy: Vec::new(alloc),
+            script: Vec::new(alloc),
+            conn: None,
+        }
+    }
+
+    fn take_policy(&mut self, alloc: Global, row: &Row<'_>) -> Result<()> {
+        self.policy = Vec::from_slice(alloc, &row.body)?;
+        Ok(())
+    }
+
+    /// Holds a connection in the place of the last one.
+    fn hold(&mut self, conn: Connection<S>) {
+        self.conn = Some(conn);
     }
 
     /// Does something to the database.
@@ -89,7 +100,7 @@ impl Stores {
             bail!("there is no database");
         };
         let (told, conn) = done(alloc, conn, &policy, deed);
-        self.conn = Some(conn);
+        self.hold(conn);
         Ok(answer.extend_from_slice(&told?)?)
     }
 }

@@ -8,7 +8,7 @@ use office_sql::{
     RecordRow, all_rows, changes_of, has_zone, last_number, receipts_of, records_at,
     records_between, records_of, versions,
 };
-use sqlite::{Connection, MemStore};
+use sqlite::{Alter, Connection};
 use std::alloc::Global;
 use test_rows::Row;
 
@@ -34,8 +34,8 @@ fn push_rows(alloc: Global, rows: &[RecordRow], answer: &mut Vec<u8>) -> Result<
 }
 
 /// Appends whether there is a zone of an origin.
-pub fn push_zone(
-    conn: &mut Connection<MemStore>,
+pub fn push_zone<S: Alter>(
+    conn: &mut Connection<S>,
     row: &Row<'_>,
     answer: &mut Vec<u8>,
 ) -> Result<(), Refusal>
@@ -47,9 +47,9 @@ pub fn push_zone(
 }
 
 /// Appends the records of a zone.
-pub fn push_records(
+pub fn push_records<S: Alter>(
     alloc: Global,
-    conn: &mut Connection<MemStore>,
+    conn: &mut Connection<S>,
     row: &Row<'_>,
     answer: &mut Vec<u8>,
 ) -> Result<(), Refusal>
@@ -63,9 +63,9 @@ pub fn push_records(
 }
 
 /// Appends the records of a zone at a key.
-pub fn push_records_at(
+pub fn push_records_at<S: Alter>(
     alloc: Global,
-    conn: &mut Connection<MemStore>,
+    conn: &mut Connection<S>,
     row: &Row<'_>,
     answer: &mut Vec<u8>,
 ) -> Result<(), Refusal>
@@ -77,9 +77,9 @@ pub fn push_records_at(
 }
 
 /// Appends the records of a zone from one key on and below another.
-pub fn push_records_between(
+pub fn push_records_between<S: Alter>(
     alloc: Global,
-    conn: &mut Connection<MemStore>,
+    conn: &mut Connection<S>,
     row: &Row<'_>,
     answer: &mut Vec<u8>,
 ) -> Result<(), Refusal>
@@ -98,9 +98,9 @@ pub fn push_records_between(
 }
 
 /// Appends the receipts of a caller under an identifier.
-pub fn push_receipts(
+pub fn push_receipts<S: Alter>(
     alloc: Global,
-    conn: &mut Connection<MemStore>,
+    conn: &mut Connection<S>,
     row: &Row<'_>,
     answer: &mut Vec<u8>,
 ) -> Result<(), Refusal>
@@ -116,9 +116,9 @@ pub fn push_receipts(
 }
 
 /// Appends what the changes of a zone took away and brought.
-pub fn push_changes(
+pub fn push_changes<S: Alter>(
     alloc: Global,
-    conn: &mut Connection<MemStore>,
+    conn: &mut Connection<S>,
     row: &Row<'_>,
     answer: &mut Vec<u8>,
 ) -> Result<(), Refusal>
@@ -132,9 +132,9 @@ pub fn push_changes(
 }
 
 /// Appends the greatest number of a change of a zone.
-pub fn push_last(
+pub fn push_last<S: Alter>(
     alloc: Global,
-    conn: &mut Connection<MemStore>,
+    conn: &mut Connection<S>,
     row: &Row<'_>,
     answer: &mut Vec<u8>,
 ) -> Result<(), Refusal>
@@ -150,9 +150,9 @@ pub fn push_last(
 }
 
 /// Appends the versions.
-pub fn push_versions(
+pub fn push_versions<S: Alter>(
     alloc: Global,
-    conn: &mut Connection<MemStore>,
+    conn: &mut Connection<S>,
     answer: &mut Vec<u8>,
 ) -> Result<(), Refusal>
     requires { conn.old.in_transaction ≡ false }
@@ -165,9 +165,9 @@ pub fn push_versions(
 }
 
 /// Appends all rows, each behind what it is.
-pub fn push_all(
+pub fn push_all<S: Alter>(
     alloc: Global,
-    conn: &mut Connection<MemStore>,
+    conn: &mut Connection<S>,
     answer: &mut Vec<u8>,
 ) -> Result<(), Refusal>
     requires { conn.old.in_transaction ≡ false }

@@ -23,12 +23,13 @@ pub fn record_of(alloc: Global, text: &str) -> Result<RecordRow, Refusal> {
     let [origin, owner, record_type, rdata, ttl, key] = columns.as_slice() else {
         return Err(Refusal::Columns);
     };
+    let (record_type, ttl) = (number(record_type)?, number(ttl)?);
     Ok(RecordRow {
         origin: String::from_str(alloc, origin)?,
         owner: String::from_str(alloc, owner)?,
-        record_type: number(record_type)?,
+        record_type,
         rdata: String::from_str(alloc, rdata)?,
-        ttl: number(ttl)?,
+        ttl,
         owner_key: Vec::from_slice(alloc, key.as_bytes())?,
     })
 }
@@ -39,14 +40,16 @@ pub fn change_of(alloc: Global, text: &str) -> Result<ChangeRow, Refusal> {
     let [origin, change, side, owner, record_type, rdata, ttl] = columns.as_slice() else {
         return Err(Refusal::Columns);
     };
+    let (change, side) = (number(change)?, number(side)?);
+    let (record_type, ttl) = (number(record_type)?, number(ttl)?);
     Ok(ChangeRow {
         origin: String::from_str(alloc, origin)?,
-        number: number(change)?,
-        side: number(side)?,
+        number: change,
+        side,
         owner: String::from_str(alloc, owner)?,
-        record_type: number(record_type)?,
+        record_type,
         rdata: String::from_str(alloc, rdata)?,
-        ttl: number(ttl)?,
+        ttl,
     })
 }
 

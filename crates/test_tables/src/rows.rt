@@ -4,6 +4,8 @@ use crate::columns::{
     change_of, change_text, receipt_of, receipt_text, record_of, record_text, text_of,
 };
 use crate::refusal::Refusal;
+use dns_data::Record;
+use dns_names::Name;
 use grant_policy::Identifier;
 use item_lines::{items_text, read_items};
 use office_core::Receipt;
@@ -37,13 +39,23 @@ pub fn push_record_row(
 ) -> Result<(), Refusal> {
     let origin = read_origin(alloc, text_of(origin)?)?;
     let update = read_items(alloc, item).map_err(RowFault::from)?;
-    if let [Operation::Add(record)] = update.operations() {
-        let row = record_row(alloc, &origin, record)?;
-        answer.extend_from_slice(record_text(alloc, &row)?.as_bytes())?;
-        let (of, read) = read_record(alloc, &row)?;
-        if of != origin || read != *record {
-            answer.extend_from_slice(b", which is that of another record")?;
-        }
+    match update.operations() {
+        [Operation::Add(record)] => push_written_record(alloc, &origin, record, answer),
+        _ => Ok(()),
+    }
+}
+
+fn push_written_record(
+    alloc: Global,
+    origin: &Name,
+    record: &Record,
+    answer: &mut Vec<u8>,
+) -> Result<(), Refusal> {
+    let row = record_row(alloc, origin, record)?;
+    answer.extend_from_slice(record_text(alloc, &row)?.as_bytes())?;
+    let (of, read) = read_record(alloc, &row)?;
+    if of != *origin || read != *record {
+        answer.extend_from_slice(b", which is that of another record")?;
     }
     Ok(())
 }
@@ -67,17 +79,28 @@ pub fn push_receipt_row(alloc: Global, row: &Row<'_>, answer: &mut Vec<u8>) -> R
     let [caller, id, origin, reply] = words.as_slice() else {
         return Err(Refusal::Columns);
     };
+    let (origin, reply) = (text_of(origin)?, text_of(reply)?);
     let caller = Identifier::read(alloc, caller).map_err(RowFault::from)?;
     let id = Identifier::read(alloc, id).map_err(RowFault::from)?;
     let receipt = Receipt {
-        origin: read_origin(alloc, text_of(origin)?)?,
+        origin: read_origin(alloc, origin)?,
+        reply: read_reply(alloc, reply)?,
         update: read_items(alloc, &row.body).map_err(RowFault::from)?,
-        reply: read_reply(alloc, text_of(reply)?)?,
     };
-    let row = receipt_row(alloc, &caller, &id, &receipt)?;
+    push_written_receipt(alloc, &caller, &id, &receipt, answer)
+}
+
+fn push_written_receipt(
+    alloc: Global,
+    caller: &Identifier,
+    id: &Identifier,
+    receipt: &Receipt,
+    answer: &mut Vec<u8>,
+) -> Result<(), Refusal> {
+    let row = receipt_row(alloc, caller, id, receipt)?;
     answer.extend_from_slice(receipt_text(alloc, &row)?.as_bytes())?;
     let (of, under, read) = read_receipt(alloc, &row)?;
-    let is_kept = of == caller && under == id && read.origin == receipt.origin;
+    let is_kept = of == *caller && under == *id && read.origin == receipt.origin;
     if !is_kept || !read.update.is_same(&receipt.update) {
         answer.extend_from_slice(b", which is that of another receipt")?;
     }

@@ -13,17 +13,17 @@ use crate::replies::push_reply;
 use crate::rows;
 use office_rows::RowFault;
 use office_sql::{RowsFault, has_no_tables, has_tables, make_tables, write};
-use sqlite::{Connection, MemStore};
+use sqlite::{Alter, Connection, MemStore};
 use std::alloc::{AllocError, Global};
 use test_rows::{Answers, Row};
 
 /// Answers to rows over a store in memory.
 #[derive(Drop)]
-pub struct Tables {
-    conn: Connection<MemStore>,
+pub struct Tables<S: Alter + Drop> {
+    conn: Connection<S>,
 }
 
-impl Answers for Tables {
+impl Answers for Tables<MemStore> {
     fn answer(
         &mut self,
         alloc: Global,
@@ -37,9 +37,9 @@ impl Answers for Tables {
     }
 }
 
-impl Tables {
+impl Tables<MemStore> {
     /// Over a store without tables.
-    pub fn new(alloc: Global) -> Result<Tables, AllocError> {
+    pub fn new(alloc: Global) -> Result<Self, AllocError> {
         Ok(Tables {
             conn: Connection::open_in_memory(alloc)?,
         })
@@ -52,9 +52,21 @@ impl Tables {
         answer: &mut Vec<u8>,
     ) -> Result<(), Refusal> {
         if row.verb == "new" {
-            self.conn = Connection::open_in_memory(alloc)?;
+            self.hold(Connection::open_in_memory(alloc)?);
             return push("new", answer);
         }
+        self.act(alloc, row, answer)
+    }
+}
+
+impl<S: Alter + Drop> Tables<S> {
+    /// Holds a connection in the place of the last one.
+    fn hold(&mut self, conn: Connection<S>) {
+        self.conn = conn;
+    }
+
+    /// Answers a row over the connection.
+    fn act(&mut self, alloc: Global, row: &Row<'_>, answer: &mut Vec<u8>) -> Result<(), Refusal> {
         if !self.conn.is_autocommit() {
             return push("a transaction goes on", answer);
         }
@@ -74,7 +86,11 @@ fn push(text: &str, answer: &mut Vec<u8>) -> Result<(), Refusal> {
     Ok(answer.extend_from_slice(text.as_bytes())?)
 }
 
-fn make(conn: &mut Connection<MemStore>, row: &Row<'_>, answer: &mut Vec<u8>) -> Result<(), Refusal>
+fn make<S: Alter>(
+    conn: &mut Connection<S>,
+    row: &Row<'_>,
+    answer: &mut Vec<u8>,
+) -> Result<(), Refusal>
     requires { conn.old.in_transaction ≡ false }
 {
     if !has_no_tables(conn) {
@@ -85,9 +101,9 @@ fn make(conn: &mut Connection<MemStore>, row: &Row<'_>, answer: &mut Vec<u8>) ->
     push("made", answer)
 }
 
-fn write_below(
+fn write_below<S: Alter>(
     alloc: Global,
-    conn: &mut Connection<MemStore>,
+    conn: &mut Connection<S>,
     row: &Row<'_>,
     answer: &mut Vec<u8>,
 ) -> Result<(), Refusal>
@@ -97,8 +113,8 @@ fn write_below(
     push("written", answer)
 }
 
-fn run(
-    conn: &mut Connection<MemStore>,
+fn run<S: Alter>(
+    conn: &mut Connection<S>,
     row: &Row<'_>,
     answer: &mut Vec<u8>,
 ) -> Result<(), Refusal> {
@@ -108,7 +124,7 @@ fn run(
     push("run", answer)
 }
 
-fn tables_of(conn: &Connection<MemStore>) -> &'static str {
+fn tables_of<S: Alter>(conn: &Connection<S>) -> &'static str {
     match (has_no_tables(conn), has_tables(conn)) {
         (true, false) => "none",
         (false, true) => "the tables",
@@ -118,9 +134,9 @@ fn tables_of(conn: &Connection<MemStore>) -> &'static str {
 }
 
 /// Appends the answer to a question.
-fn answer_from(
+fn answer_from<S: Alter>(
     alloc: Global,
-    conn: &mut Connection<MemStore>,
+    conn: &mut Connection<S>,
     row: &Row<'_>,
     answer: &mut Vec<u8>,
 ) -> Result<(), Refusal>

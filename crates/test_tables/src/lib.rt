@@ -20,8 +20,4 @@ mod replies;
 mod rows;
 mod tables;
 
-use std::io;
-
-fn main(rt: HostRuntime) -> io::Result<()> {
-    test_rows::run(&rt, &mut tables::Tables::new(rt.alloc())?)
-}
+pub use tables::Tables;

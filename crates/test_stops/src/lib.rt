@@ -12,8 +12,4 @@ mod disks;
 mod stops;
 mod trial;
 
-use std::io;
-
-fn main(rt: HostRuntime) -> io::Result<()> {
-    test_rows::run(&rt, &mut stops::Stops::new(rt.alloc()))
-}
+pub use stops::Stops;

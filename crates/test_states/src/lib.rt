@@ -15,8 +15,4 @@ mod kept;
 mod lines;
 mod reads;
 
-use std::io;
-
-fn main(rt: HostRuntime) -> io::Result<()> {
-    test_rows::run(&rt, &mut kept::Kept::new(rt.alloc()))
-}
+pub use kept::Kept;

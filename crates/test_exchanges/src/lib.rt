@@ -19,8 +19,4 @@ mod steps;
 mod streams;
 mod tables;
 
-use std::io;
-
-fn main(rt: HostRuntime) -> io::Result<()> {
-    test_rows::run(&rt, &mut office::Office::new(rt.alloc()))
-}
+pub use office::Office;

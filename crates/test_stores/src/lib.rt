@@ -7,8 +7,4 @@
 
 mod stores;
 
-use std::io;
-
-fn main(rt: HostRuntime) -> io::Result<()> {
-    test_rows::run(&rt, &mut stores::Stores::new(rt.alloc()))
-}
+pub use stores::Stores;

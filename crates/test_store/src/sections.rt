@@ -1,0 +1,76 @@
+use sqlite::MemStore;
+use std::alloc::{AllocError, Global};
+use test_exchanges::Office;
+use test_rows::{Answers, Row};
+use test_states::Kept;
+use test_stops::Stops;
+use test_stores::Stores;
+use test_tables::Tables;
+
+/// What rows are about.
+#[derive(Clone, Copy)]
+enum Section {
+    Tables,
+    States,
+    Stores,
+    Stops,
+    Exchanges,
+}
+
+/// Answers to rows of the section that is open.
+#[derive(Drop)]
+pub struct Sections {
+    section: Section,
+    tables: Tables<MemStore>,
+    kept: Kept,
+    stores: Stores<MemStore>,
+    stops: Stops,
+    office: Office,
+}
+
+impl Sections {
+    /// The section of tables is open.
+    pub fn new(alloc: Global) -> Result<Sections, AllocError> {
+        Ok(Sections {
+            section: Section::Tables,
+            tables: Tables::new(alloc)?,
+            kept: Kept::new(alloc),
+            stores: Stores::new(alloc),
+            stops: Stops::new(alloc),
+            office: Office::new(alloc),
+        })
+    }
+
+    /// Opens the section of a row.
+    fn open(&mut self, row: &Row<'_>, answer: &mut Vec<u8>) -> Result<(), AllocError> {
+        self.section = match row.text.as_slice() {
+            b"tables" => Section::Tables,
+            b"states" => Section::States,
+            b"stores" => Section::Stores,
+            b"stops" => Section::Stops,
+            b"exchanges" => Section::Exchanges,
+            _ => return answer.extend_from_slice(b"no such section"),
+        };
+        Ok(())
+    }
+}
+
+impl Answers for Sections {
+    fn answer(
+        &mut self,
+        alloc: Global,
+        row: &Row<'_>,
+        answer: &mut Vec<u8>,
+    ) -> Result<(), AllocError> {
+        if row.verb == "section" {
+            return self.open(row, answer);
+        }
+        match self.section {
+            Section::Tables => self.tables.answer(alloc, row, answer),
+            Section::States => self.kept.answer(alloc, row, answer),
+            Section::Stores => self.stores.answer(alloc, row, answer),
+            Section::Stops => self.stops.answer(alloc, row, answer),
+            Section::Exchanges => self.office.answer(alloc, row, answer),
+        }
+    }
+}
