@@ -12,3 +12,4 @@ pub mod ReadingLaws
 pub mod TextOrderLemmas
 pub mod ReadLemmas
 pub mod TextLemmas
+pub mod RelativeLemmas

@@ -265,7 +265,7 @@ octets_text_spells [] h = refl
 octets_text_spells (octet ∷ octets) h = (octet_text octet, flat_map octet_text octets, refl, (octet, h.0.below, h.0.folded, octet_text_spells octet h.0.below), octets_text_spells octets h.1)
 
 -- the printed labels spell them
-labels_text_spells : (name : List (List ℕ)) → AllByRecursion IsLabel name → SpellsLabels name (flat_map label_text name)
+pub labels_text_spells : (name : List (List ℕ)) → AllByRecursion IsLabel name → SpellsLabels name (flat_map label_text name)
 labels_text_spells [] h = refl
 labels_text_spells (label ∷ labels) h = (flat_map octet_text label, flat_map label_text labels, append_assoc (flat_map octet_text label) (46 ∷ []) (flat_map label_text labels), octets_text_spells label h.0.octets, labels_text_spells labels h.1)
 

@@ -93,7 +93,7 @@ run_and_octet done run octet plain =
     ∙ ap (λ (l : List ℕ). flat_map octet_text done ++ l) (ap (λ (l : List ℕ). l ++ octet_text octet) (sym (run_text run plain)) ∙ ap (λ (l : List ℕ). flat_map octet_text run ++ l) (sym (append-nil (octet_text octet))) ∙ sym (flat_map-append octet_text run (octet ∷ [])))
     ∙ sym (flat_map-append octet_text done (run ++ octet ∷ []))
 
--- a last run and the dot behind what was written
-pub run_and_dot : (done run label : List ℕ) → AllPass is_plain run → done ++ run ≡ label → (flat_map octet_text done ++ run) ++ 46 ∷ [] ≡ label_text label
-run_and_dot done run label plain whole =
-    ap (λ (l : List ℕ). l ++ 46 ∷ []) (ap (λ (l : List ℕ). flat_map octet_text done ++ l) (sym (run_text run plain)) ∙ sym (flat_map-append octet_text done run) ∙ ap (flat_map octet_text) whole)
+-- a last run behind what was written
+pub last_run : (done run label : List ℕ) → AllPass is_plain run → done ++ run ≡ label → flat_map octet_text done ++ run ≡ flat_map octet_text label
+last_run done run label plain whole =
+    ap (λ (l : List ℕ). flat_map octet_text done ++ l) (sym (run_text run plain)) ∙ sym (flat_map-append octet_text done run) ∙ ap (flat_map octet_text) whole

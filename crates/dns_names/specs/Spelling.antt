@@ -1,7 +1,8 @@
 -- How a name is spelled in a master file (RFC 1035 section 5.1), and which of its spellings is printed.
-use Rattle.std.specs.Prelude.{◌≡◌, ◌≢◌, ℕ, ◌+◌, ◌/◌, ◌%◌, ◌<◌, ◌⊎◌, List, [], ◌∷◌, ◌++◌, Bool, false, ◌||◌, ◌&&◌, ◌==◌, nat_le, not, if◌then◌else◌}
+use Rattle.std.specs.Prelude.{◌≡◌, ◌≢◌, ℕ, ◌+◌, ◌-◌, ◌/◌, ◌%◌, ◌<◌, ◌⊎◌, List, [], ◌∷◌, ◌++◌, length, take, Bool, false, ◌||◌, ◌&&◌, ◌==◌, nat_le, not, if◌then◌else◌}
 use Rattle.std.specs.List.{flat_map}
 use Rattle.std.specs.Char.{to_ascii_lowercase, is_ascii_digit}
+use Rattle.dns_names.specs.Labels.{is_within}
 
 -- the three decimal digits of a number below 1000
 abbrev pub three_digits : ℕ → List ℕ
@@ -56,10 +57,32 @@ is_plain o = nat_le 33 o && nat_le o 126 && not (is_special o)
 abbrev pub octet_text : ℕ → List ℕ
 octet_text o = if is_special o then 92 ∷ o ∷ [] else (if nat_le 33 o && nat_le o 126 then o ∷ [] else 92 ∷ three_digits o)
 
+-- the octets of a label, each in its one spelling
+abbrev pub label_octets : List ℕ → List ℕ
+label_octets label = flat_map octet_text label
+
 abbrev pub label_text : List ℕ → List ℕ
-label_text label = flat_map octet_text label ++ 46 ∷ []
+label_text label = label_octets label ++ 46 ∷ []
 
 -- the one spelling of a name that is printed
 abbrev pub name_text : List (List ℕ) → List ℕ
 name_text [] = 46 ∷ []
 name_text (label ∷ labels) = flat_map label_text (label ∷ labels)
+
+-- ---- relative to an origin
+
+abbrev pub dotted_label : List ℕ → List ℕ
+dotted_label label = 46 ∷ label_octets label
+
+-- labels with a dot between them, and `@` where there are none
+abbrev pub dotted_text : List (List ℕ) → List ℕ
+dotted_text [] = 64 ∷ []
+dotted_text (label ∷ labels) = label_octets label ++ flat_map dotted_label labels
+
+-- the labels of a name before the last ones, which are as many as an origin's
+abbrev pub labels_before : List (List ℕ) → List (List ℕ) → List (List ℕ)
+labels_before origin name = take (length name - length origin) name
+
+-- A name as it is printed relative to an origin: by the labels before the origin's, and whole where it is not within.
+abbrev pub relative_text : List (List ℕ) → List (List ℕ) → List ℕ
+relative_text origin name = if is_within name origin then dotted_text (labels_before origin name) else name_text name

@@ -9,13 +9,14 @@ ghost use Rattle.dns_names.specs.Labels.{IsName, IsWithin, IsBelow, is_within, p
 ghost use Rattle.dns_names.specs.Order.{canonical_cmp, same_name, canonical_total, same_name_equiv, same_name_partial, canonical_partial};
 ghost use Rattle.dns_names.specs.Keys.{key_of, key_end, ancestor_key, OrdersNames, IsKeyOfOne, RangesOver, BeginsAll, BeginsAtAncestor};
 ghost use Rattle.dns_names.specs.Rows.{AreRows, IsPlain, name_in};
-ghost use Rattle.dns_names.specs.Spelling.{SpellsAbsolute, SpellsRelative, name_text};
+ghost use Rattle.dns_names.specs.Spelling.{SpellsAbsolute, SpellsRelative, name_text, relative_text};
 ghost use Rattle.dns_names.specs.Reading.{absolute_name, ended_name, relative_name, placed_name};
 
 use crate::labels::Labels;
 use crate::name_fault::NameFault;
 use crate::octets::cmp_octets;
 use crate::pieces::PieceRows;
+use crate::relative_text::RelativeName;
 use crate::representation::{
     ESCAPED, NewLabels, Rows, behind_label, escapes, push_key, push_row, stand_in_keys,
 };
@@ -229,6 +230,24 @@ impl Name {
         // the proof needs that it is a name
         let _ = &self.memory;
         self.to_string(alloc)
+    }
+
+    /// The name in its one canonical spelling relative to an origin (RFC 1035 section 5.1): `@` for the origin, the labels before
+    /// the origin's with a dot between them for a name below it, and `text()` for any other. The only error is out of memory.
+    pub fn relative_text<'a>(
+        &'a self,
+        alloc: Global,
+        origin: &'a Name,
+    ) -> Result<String, AllocError>
+        ensures canonical { IfOk result (λ text. string_bytes text ≡ relative_text origin.now self.now) }
+        // Reading it relative to the origin gives the name back.
+        ensures again { IfOk result (λ text. relative_name origin.now (string_bytes text) ≡ Ok self.now) }
+    {
+        // the proof needs that they are names
+        let _ = &self.memory;
+        let _ = &origin.memory;
+        let relative = RelativeName { name: self, origin };
+        relative.to_string(alloc)
     }
 
     /// What the name holds, row by row.

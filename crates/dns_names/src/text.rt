@@ -3,7 +3,7 @@
 ghost use Rattle.std.specs.Prelude.{◌≡◌, ◌<◌, ◌∷◌, ◌++◌, Some, IfSome, IfNone};
 ghost use Rattle.std.specs.List.{AllPass, flat_map};
 ghost use Rattle.std.specs.Fmt.{WritesOnOk};
-ghost use Rattle.dns_names.specs.Spelling.{is_special, is_plain, octet_text, label_text, name_text};
+ghost use Rattle.dns_names.specs.Spelling.{is_special, is_plain, octet_text, label_octets, label_text, name_text};
 
 use crate::labels::Labels;
 use crate::name::Name;
@@ -74,12 +74,12 @@ fn first_escaped(label: &[u8]) -> Option<(&str, u8, &[u8])>
     Some((plain_text(run), *octet, rest))
 }
 
-/// A label with a dot after it, as it is printed.
+/// The octets of a label, as they are printed.
 #[derive(Clone, Copy)]
-struct LabelText<'a>(&'a [u8]);
+pub(crate) struct LabelOctets<'a>(pub(crate) &'a [u8]);
 
-impl fmt::Display for LabelText<'_> {
-    ghost output = { λ l. Some (label_text l.0.now) };
+impl fmt::Display for LabelOctets<'_> {
+    ghost output = { λ l. Some (label_octets l.0.now) };
 
     fn fmt<W: fmt::Write>(&self, f: &mut fmt::Formatter<W>) -> fmt::Result {
         let mut rest = self.0;
@@ -88,8 +88,19 @@ impl fmt::Display for LabelText<'_> {
             write_octet(f, octet)?;
             rest = others;
         }
-        f.write_str(plain_text(rest))?;
-        f.write_str(".")
+        f.write_str(plain_text(rest))
+    }
+}
+
+/// A label with a dot after it, as it is printed.
+#[derive(Clone, Copy)]
+struct LabelText<'a>(&'a [u8]);
+
+impl fmt::Display for LabelText<'_> {
+    ghost output = { λ l. Some (label_text l.0.now) };
+
+    fn fmt<W: fmt::Write>(&self, f: &mut fmt::Formatter<W>) -> fmt::Result {
+        write!(f, "{}.", LabelOctets(self.0))
     }
 }
 

@@ -2,7 +2,7 @@ use Rattle.std.proofs.Common.{◌≡◌, ◌++◌, ℕ, List, length}
 use Rattle.std.specs.List.{flat_map}
 use Rattle.std.specs.Fmt.{HasWritten, IsPlainFormatter}
 use Rattle.dns_names.specs.Spelling.{octet_text}
-use Rattle.dns_names.proofs.text.LabelTextDisplay.fmt.Given as goal
+use Rattle.dns_names.proofs.text.LabelOctetsDisplay.fmt.Given as goal
 
 -- a prefix of the label was written
 abbrev pub invariant-loop-run : goal.invariant-loop-run

@@ -1,7 +1,7 @@
 use Rattle.std.proofs.Common.{ℕ, List, [], ◌∷◌, ◌++◌, length, sym, ap, ◌∙◌, append_assoc, arith, length-append, refl}
 use Rattle.std.proofs.Output.{has_written_append, has_written_of_eq}
-use Rattle.dns_names.proofs.TextLemmas.{run_and_octet, run_and_dot}
-use Rattle.dns_names.proofs.text.LabelTextDisplay.fmt.Goals as goal
+use Rattle.dns_names.proofs.TextLemmas.{run_and_octet, last_run}
+use Rattle.dns_names.proofs.text.LabelOctetsDisplay.fmt.Goals as goal
 
 pub loop-run-smaller : goal.loop-run-smaller
 loop-run-smaller g c =
@@ -24,5 +24,5 @@ pub returns-clause-writes : goal.returns-clause-writes
 returns-clause-writes g c = λ plain ok.
     let now = c.loop-run.invariant plain in
     let rest = c.loop-run.rest.now in
-    let wrote = has_written_append _ _ _ _ _ _ now.1 (rw c.plain_text.ensures at (c.in_ok-write_str-2.ensures.writes now.1.plain refl)) in
-    has_written_of_eq _ _ _ _ _ (run_and_dot now.0 rest c.args.self.now.0.now c.in_default.ensures.none now.2) (has_written_append _ _ _ _ _ _ wrote (c.write_str-3.ensures.writes wrote.plain ok))
+    let wrote = has_written_append _ _ _ _ _ _ now.1 (rw c.plain_text.ensures at (c.write_str-2.ensures.writes now.1.plain ok)) in
+    has_written_of_eq _ _ _ _ _ (last_run now.0 rest c.args.self.now.0.now c.in_default.ensures.none now.2) wrote
