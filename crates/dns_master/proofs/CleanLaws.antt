@@ -1,16 +1,11 @@
 -- The texts of printed items: in a master file each is one item.
-use Rattle.std.proofs.Common.{◌≡◌, ℕ, zero, suc, ◌+◌, ◌/◌, ◌%◌, ◌<◌, ◌≤◌, ◌^◌, Bool, true, false, cond, eqb, leb, ltb, not, ◌||◌, ◌&&◌, List, [], ◌∷◌, ◌++◌, length, take, drop, get_or, refl, sym, subst, arith, length-append, length-drop}
-use Rattle.std.proofs.lemmas.Bool.{cond_both, and_parts, and_from, agree_below_at, ltb-true}
-use Rattle.std.specs.Prelude.{codes, decimal, slice_index}
-use Rattle.std.specs.List.{AllByRecursion, list_all, flat_map}
-use Rattle.std.specs.Char.{is_ascii_digit, digit_char}
-use Rattle.std.specs.Net.Addr.{ipv4_octets, ipv6_segments}
-use Rattle.std.specs.Net.Text.{ipv4_text, leading_zero_digits, hex, groups_text, longest_zero_run, hex_groups_text}
-use Rattle.hex.specs.Hex.{lower_digits, encode_with, encode_lower}
+use Rattle.std.proofs.Common.{◌≡◌, ℕ, ◌<◌, ◌^◌, Bool, true, false, eqb, ltb, not, ◌&&◌, List, [], ◌∷◌, ◌++◌, length, refl, sym, subst, arith, length-append}
+use Rattle.std.proofs.lemmas.Bool.{and_parts, and_from, agree_below_at, ltb-true}
+use Rattle.std.specs.Prelude.{decimal}
+use Rattle.std.specs.List.{AllByRecursion, flat_map}
 use Rattle.dns_names.specs.Labels.{IsFolded, IsLabel, IsName}
 use Rattle.dns_names.specs.Spelling.{name_text, label_text}
 use Rattle.dns_names.specs.Spelling as names
-use Rattle.dns_names.proofs.SymbolLaws.{All-both}
 use Rattle.dns_data.specs.declared.rdata.Data.{Data}
 use Rattle.dns_data.specs.declared.record_type.RecordType.{RecordType}
 use Rattle.dns_data.specs.Items.{ItemText, plain, in_quotes}
@@ -44,7 +39,7 @@ runs_are stops false (o ∷ rest) e =
     let r = runs_are stops (eqb o 92) rest p.1 in
     ((not_true (stops o) p.0, r.0), r.1)
 
-runs_both : (stops : ℕ → Bool) (taken : Bool) (a b : List ℕ) → runs stops taken a ≡ true → runs stops false b ≡ true → runs stops taken (a ++ b) ≡ true
+pub runs_both : (stops : ℕ → Bool) (taken : Bool) (a b : List ℕ) → runs stops taken a ≡ true → runs stops false b ≡ true → runs stops taken (a ++ b) ≡ true
 runs_both stops taken [] b e f = subst (λ (t : Bool). runs stops t b ≡ true) (sym (not_true taken e)) f
 runs_both stops true (o ∷ a) b e f = runs_both stops false a b e f
 runs_both stops false (o ∷ a) b e f =
@@ -76,7 +71,7 @@ CleanAt false (o ∷ raw) = runs ends_item false (o ∷ raw) ≡ true
 abbrev pub Clean : ItemText → Type 0
 Clean item = CleanAt item.quoted item.raw
 
-clean_plain : (raw : List ℕ) → 0 < length raw → runs ends_item false raw ≡ true → Clean (plain raw)
+pub clean_plain : (raw : List ℕ) → 0 < length raw → runs ends_item false raw ≡ true → Clean (plain raw)
 clean_plain [] some h = absurd (omega arith)
 clean_plain (o ∷ raw) some h = h
 
@@ -85,7 +80,7 @@ clean_ordinary raw some h = clean_plain raw some (ordinary_run raw h)
 
 -- ---- names
 
-octets_run : (label : List ℕ) → AllByRecursion IsFolded label → runs ends_item false (flat_map names.octet_text label) ≡ true
+pub octets_run : (label : List ℕ) → AllByRecursion IsFolded label → runs ends_item false (flat_map names.octet_text label) ≡ true
 octets_run [] h = refl
 octets_run (o ∷ label) h =
     runs_both ends_item false (names.octet_text o) (flat_map names.octet_text label)
@@ -101,7 +96,7 @@ name_some [] = omega arith
 name_some (label ∷ labels) =
     omega (arith, length-append (label_text label) (flat_map label_text labels), length-append (flat_map names.octet_text label) (46 ∷ []))
 
-name_run : (name : List (List ℕ)) → IsName name → runs ends_item false (name_text name) ≡ true
+pub name_run : (name : List (List ℕ)) → IsName name → runs ends_item false (name_text name) ≡ true
 name_run [] is = refl
 name_run (label ∷ labels) is = labels_run (label ∷ labels) is.labels
 

@@ -22,6 +22,7 @@ pub mod FileLaws
 pub mod CleanLaws
 pub mod LineLaws
 pub mod ZoneLaws
+pub mod RelativeLaws
 pub mod LineLemmas
 pub mod DepthLaws
 pub mod PlaceLemmas

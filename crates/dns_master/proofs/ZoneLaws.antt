@@ -1,5 +1,5 @@
 -- The printed text of a zone has its records.
-use Rattle.std.proofs.Common.{◌≡◌, ℕ, suc, ◌<◌, ◌^◌, inl, inr, Bool, true, false, not, eqb, List, [], ◌∷◌, ◌++◌, map, Some, None, refl, sym, ap, subst, ◌∙◌, arith}
+use Rattle.std.proofs.Common.{◌≡◌, ℕ, suc, ◌<◌, ◌^◌, inl, inr, Bool, true, false, not, eqb, List, [], ◌∷◌, ◌++◌, map, Some, refl, sym, ap, subst, ◌∙◌, arith}
 use Rattle.std.proofs.lemmas.Bool.{agree_below_at}
 use Rattle.std.specs.Prelude.{codes, decimal}
 use Rattle.std.specs.List.{AllByRecursion, flat_map}
@@ -31,15 +31,15 @@ use Rattle.dns_master.proofs.LineLaws.{line_text, CleanLine, AreLines, lines_rea
 -- ---- a printed name makes no directive
 
 -- the first octet is there, and no `$`
-abbrev starts_other : List ℕ → Bool
+abbrev pub starts_other : List ℕ → Bool
 starts_other [] = false
 starts_other (o ∷ rest) = not (eqb o 36)
 
-starts_more : (a b : List ℕ) → starts_other a ≡ true → starts_other (a ++ b) ≡ true
+pub starts_more : (a b : List ℕ) → starts_other a ≡ true → starts_other (a ++ b) ≡ true
 starts_more [] b e = absurd cc
 starts_more (o ∷ a) b e = e
 
-no_dollar : (text : List ℕ) → starts_other text ≡ true → begins_with_dollar text ≡ false
+pub no_dollar : (text : List ℕ) → starts_other text ≡ true → begins_with_dollar text ≡ false
 no_dollar [] e = refl
 no_dollar (o ∷ rest) e = not_true (eqb o 36) e
   where
@@ -52,16 +52,16 @@ label_starts [] h = refl
 label_starts (o ∷ label) h =
     starts_more (octet_text o ++ flat_map octet_text label) (46 ∷ []) (starts_more (octet_text o) (flat_map octet_text label) (agree_below_at (λ n. starts_other (octet_text n)) (λ n. true) 256 o refl h.0.below))
 
-name_starts : (name : List (List ℕ)) → IsName name → starts_other (name_text name) ≡ true
+pub name_starts : (name : List (List ℕ)) → IsName name → starts_other (name_text name) ≡ true
 name_starts [] is = refl
 name_starts (label ∷ labels) is = starts_more (label_text label) (flat_map label_text labels) (label_starts label is.labels.0.octets)
 
 -- ---- the lines
 
-abbrev origin_items : List (List ℕ) → List ItemText
+abbrev pub origin_items : List (List ℕ) → List ItemText
 origin_items origin = plain (codes "$ORIGIN") ∷ plain (name_text origin) ∷ []
 
-origin_said : (handed origin : List (List ℕ)) → IsName origin → States handed false (origin_items origin) (statements.Origin origin)
+pub origin_said : (handed origin : List (List ℕ)) → IsName origin → States handed false (origin_items origin) (statements.Origin origin)
 origin_said handed origin is = (codes "$ORIGIN", name_text origin, refl, refl, (is, inl (text_spells origin is)))
 
 abbrev stated_of : Record → StatedRecord
@@ -103,7 +103,7 @@ records_clean : (rs : List Record) → AllByRecursion IsRecord rs → AllByRecur
 records_clean [] h = tt
 records_clean (r ∷ rs) h = (record_clean r h.0, records_clean rs h.1)
 
-origin_clean : (origin : List (List ℕ)) → IsName origin → CleanLine (origin_items origin)
+pub origin_clean : (origin : List (List ℕ)) → IsName origin → CleanLine (origin_items origin)
 origin_clean origin is = record { some = omega arith; clean = (refl, (name_clean origin is, tt)) }
 
 lines_printed : (rs : List Record) → flat_map ended_line rs ≡ flat_map line_text (map record_items rs)
@@ -112,7 +112,7 @@ lines_printed (r ∷ rs) = ap (λ (t : List ℕ). ended_line r ++ t) (lines_prin
 
 -- ---- the file
 
-here_said : (origin : List (List ℕ)) (white : Bool) (items line : List ItemText) (s : Statement) → white ≡ false → items ≡ line → States origin false line s → States origin white items s
+pub here_said : (origin : List (List ℕ)) (white : Bool) (items line : List ItemText) (s : Statement) → white ≡ false → items ≡ line → States origin false line s → States origin white items s
 here_said origin white items line s w e h = subst (λ (b : Bool). States origin b items s) (sym w) (subst (λ (l : List ItemText). States origin false l s) (sym e) h)
 
 lines_said : (f : ℕ → InForce) (k : ℕ) (es : List Entry) (rs : List Record) → AllByRecursion IsRecord rs → AreLines es (map record_items rs) → AreStated f k (map view es) (map said rs)

@@ -12,7 +12,7 @@ ghost use Rattle.dns_master.specs.Depth.{split_behind};
 ghost use Rattle.dns_master.specs.declared.statement.Statement.{Statement};
 ghost use Rattle.dns_master.specs.InForce.{InForce, AreInForce};
 ghost use Rattle.dns_master.specs.FileGrammar.{IsFile};
-ghost use Rattle.dns_master.specs.ZoneText.{zone_text};
+ghost use Rattle.dns_master.specs.ZoneText.{zone_text, relative_zone_text};
 
 /// A text has at most one list of pieces.
 pub fn pieces_are_one_list()
@@ -42,4 +42,10 @@ pub fn defaults_are_one()
 /// The text of a zone that is printed has the records of the zone, in their order, whichever origin is handed in.
 pub fn printed_is_read()
     ensures { (handed origin : List (List ℕ)) (records : List Record) → IsName origin → AllByRecursion IsRecord records → IsFile (zone_text origin records) handed records }
+{}
+
+/// The text of a zone that is printed relative to its origin has the records of the zone too, in their order, whichever origin is
+/// handed in.
+pub fn relative_is_read()
+    ensures { (handed origin : List (List ℕ)) (records : List Record) → IsName origin → AllByRecursion IsRecord records → IsFile (relative_zone_text origin records) handed records }
 {}

@@ -25,4 +25,4 @@ pub use laws::{
 };
 pub use master_fault::MasterFault;
 pub use token::{Token, tokens};
-pub use zone_text::{print_records, print_zone};
+pub use zone_text::{print_records, print_relative_zone, print_zone};

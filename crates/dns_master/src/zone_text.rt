@@ -1,14 +1,18 @@
 //! Printing a zone as a master file, and records as lines.
 
-ghost use Rattle.std.specs.Prelude.{◌≡◌, ◌++◌, OnOk, string_bytes};
+ghost use Rattle.std.specs.Prelude.{◌≡◌, ◌++◌, OnOk, Some, string_bytes};
+ghost use Rattle.std.specs.List.{flat_map};
+ghost use Rattle.std.specs.Option.{option_map};
+ghost use Rattle.dns_data.specs.Items.{items_text};
 ghost use Rattle.dns_master.specs.Device.{TextWritten, Drained};
-ghost use Rattle.dns_master.specs.ZoneText.{origin_line, ended_line, records_text, zone_text};
+ghost use Rattle.dns_master.specs.ZoneText.{origin_line, ttl_line, line_in, records_text, zone_text, relative_items, relative_zone_text};
 
 use crate::device::{DeviceFailed, Sink, write_all};
 use crate::master_fault::MasterFault;
-use dns_data::Record;
-use dns_names::Name;
+use dns_data::{Record, Ttl};
+use dns_names::{Name, RelativeName};
 use std::alloc::{AllocError, Global};
+use std::fmt;
 use std::fmt::Write;
 
 /// How many octets are gathered before they are written.
@@ -44,24 +48,72 @@ fn push_origin(text: &mut String, origin: &Name) -> Result<(), AllocError>
     Ok(())
 }
 
-/// Gathers the line of a record. The only error is out of memory.
-fn push_line(text: &mut String, rr: &Record) -> Result<(), AllocError>
-    ensures { OnOk result (string_bytes text.new ≡ string_bytes text.old ++ ended_line rr.now) }
+/// Gathers the line of the TTL in force. The only error is out of memory.
+fn push_ttl(text: &mut String, ttl: Ttl) -> Result<(), AllocError>
+    ensures { OnOk result (string_bytes text.new ≡ string_bytes text.old ++ ttl_line ttl) }
 {
-    writeln!(text, "{rr}")?;
+    writeln!(text, "$TTL {}", ttl.seconds())?;
     Ok(())
 }
 
-/// Writes what was gathered, and then the record lines of records. Some 65,536 octets go out at a time.
-fn print_behind<W: Sink>(
+/// What the lines of records leave out: the origin behind each owner, and the TTL that is in force.
+#[derive(Clone, Copy)]
+struct RelativeForm<'a> {
+    origin: &'a Name,
+    ttl: Ttl,
+}
+
+/// The items of a record, relative to an origin.
+#[derive(Clone, Copy)]
+struct RelativeLine<'a> {
+    rr: &'a Record,
+    form: &'a RelativeForm<'a>,
+}
+
+impl fmt::Display for RelativeLine<'_> {
+    ghost output = { λ l. Some (items_text (relative_items l.form.now.origin.now l.form.now.ttl l.rr.now)) };
+
+    fn fmt<W: fmt::Write>(&self, f: &mut fmt::Formatter<W>) -> fmt::Result {
+        let owner = RelativeName {
+            name: &self.rr.owner,
+            origin: self.form.origin,
+        };
+        let (ttl, record_type) = (self.rr.ttl, self.rr.record_type().text());
+        if ttl == self.form.ttl {
+            write!(f, "{owner} {record_type} {}", self.rr.rdata)
+        } else {
+            let seconds = ttl.seconds();
+            write!(f, "{owner} {seconds} {record_type} {}", self.rr.rdata)
+        }
+    }
+}
+
+/// Gathers the line of a record. The only error is out of memory.
+fn push_line<'a>(
+    text: &mut String,
+    rr: &'a Record,
+    form: Option<&'a RelativeForm<'a>>,
+) -> Result<(), AllocError>
+    ensures { OnOk result (string_bytes text.new ≡ string_bytes text.old ++ line_in (option_map (λ f. f.now) form.entry) rr.now) }
+{
+    match form {
+        None => writeln!(text, "{rr}")?,
+        Some(form) => writeln!(text, "{}", RelativeLine { rr, form })?,
+    }
+    Ok(())
+}
+
+/// Writes what was gathered, and then the lines of records. Some 65,536 octets go out at a time.
+fn print_behind<'a, W: Sink>(
     mut text: String,
-    records: &[Record],
+    records: &'a [Record],
+    form: Option<&'a RelativeForm<'a>>,
     writer: &mut W,
 ) -> Result<(), MasterFault>
-    ensures { TextWritten (W.contents writer.old) (W.contents writer.new) (string_bytes text ++ records_text records.now) result (W.failures writer.old) (W.failures writer.new) }
+    ensures { TextWritten (W.contents writer.old) (W.contents writer.new) (string_bytes text ++ flat_map (line_in (option_map (λ f. f.now) form.entry)) records.now) result (W.failures writer.old) (W.failures writer.new) }
 {
     for rr in records {
-        push_line(&mut text, rr)?;
+        push_line(&mut text, rr, form)?;
         drain(writer, &mut text)?;
     }
     write_text(writer, text.as_bytes())
@@ -79,7 +131,7 @@ pub fn print_records<W: Sink>(
 ) -> Result<(), MasterFault>
     ensures { TextWritten (W.contents writer.old) (W.contents writer.new) (records_text records.now) result (W.failures writer.old) (W.failures writer.new) }
 {
-    print_behind(String::new(alloc), records, writer)
+    print_behind(String::new(alloc), records, None, writer)
 }
 
 /// Prints a zone as a master file (RFC 1035 section 5.1): the line `$ORIGIN` and the origin, and then its records, as
@@ -97,5 +149,32 @@ pub fn print_zone<W: Sink>(
 {
     let mut text = String::new(alloc);
     push_origin(&mut text, origin)?;
-    print_behind(text, records, writer)
+    print_behind(text, records, None, writer)
+}
+
+/// Prints a zone as a master file relative to its origin (RFC 1035 section 5.1, RFC 2308 section 4): the lines `$ORIGIN` and
+/// `$TTL`, the latter with the TTL of the first record, and then for each record its owner relative to the origin, its TTL where
+/// that is another, its type and its data. Some 65,536 octets go out at a time.
+///
+/// `WriteFailed` comes only where the writer failed in this call, `NoMemory` at the growth that was refused, and then a front
+/// of the text went out.
+pub fn print_relative_zone<'a, W: Sink>(
+    alloc: Global,
+    origin: &'a Name,
+    records: &'a [Record],
+    writer: &mut W,
+) -> Result<(), MasterFault>
+    ensures { TextWritten (W.contents writer.old) (W.contents writer.new) (relative_zone_text origin.now records.now) result (W.failures writer.old) (W.failures writer.new) }
+{
+    let mut text = String::new(alloc);
+    push_origin(&mut text, origin)?;
+    let Some(first) = records.first() else {
+        return write_text(writer, text.as_bytes());
+    };
+    push_ttl(&mut text, first.ttl)?;
+    let form = RelativeForm {
+        origin,
+        ttl: first.ttl,
+    };
+    print_behind(text, records, Some(&form), writer)
 }
