@@ -21,6 +21,7 @@ fn answer_to(alloc: Global, row: &Row<'_>, answer: &mut Vec<u8>) -> Result<(), M
         "entries" => push_entries(alloc, &tokens(alloc, &row.body)?, answer),
         "file" => push_records(alloc, &records(alloc, first, &row.body)?, answer),
         "print" => push_zone(alloc, number(first), rest, &row.body, answer),
+        "print-relative" => push_relative(alloc, number(first), rest, &row.body, answer),
         "print-records" => push_lines(alloc, number(first), rest, &row.body, answer),
         "no-memory" => Err(MasterFault::NoMemory),
         _ => push("no such verb", answer),
@@ -144,6 +145,24 @@ fn push_zone(
     let again = records(alloc, b".", &page)?;
     if printed(alloc, Sheet::Zone(&name, &again), most)? != page {
         push("and otherwise once it is read", answer)?;
+    }
+    Ok(())
+}
+
+/// Appends the zone that is printed of a file relative to its origin, which has to have the same records once it is read.
+fn push_relative(
+    alloc: Global,
+    most: usize,
+    top: &[u8],
+    text: &[u8],
+    answer: &mut Vec<u8>,
+) -> Result<(), MasterFault> {
+    let name = origin(alloc, top)?;
+    let zone = read_file(alloc, text, &name)?;
+    let page = printed(alloc, Sheet::Relative(&name, &zone), most)?;
+    answer.extend_from_slice(&page)?;
+    if records(alloc, b".", &page)? != zone {
+        push("and other records once it is read", answer)?;
     }
     Ok(())
 }

@@ -16,6 +16,7 @@ fn answer_to(alloc: Global, row: &Row<'_>, answer: &mut Vec<u8>) -> Result<(), N
     match row.verb {
         "absolute" => push_name(alloc, &Name::read_absolute(alloc, &row.text)?, answer),
         "relative" => push_relative(alloc, first, rest, answer),
+        "print-relative" => push_printed(alloc, first, rest, answer),
         "labels" => push_labels(&Name::read_absolute(alloc, first)?, answer),
         "parents" => push_parents(alloc, Name::read_absolute(alloc, first)?, answer),
         "key" => push_key(alloc, &Name::read_absolute(alloc, first)?, answer),
@@ -57,6 +58,23 @@ fn push_relative(
 ) -> Result<(), NameFault> {
     let origin = Name::read_absolute(alloc, origin)?;
     push_name(alloc, &Name::read_relative(alloc, text, &origin)?, answer)
+}
+
+/// Appends the text of a name relative to an origin, which has to be the same name again.
+fn push_printed(
+    alloc: Global,
+    origin: &[u8],
+    text: &[u8],
+    answer: &mut Vec<u8>,
+) -> Result<(), NameFault> {
+    let origin = Name::read_absolute(alloc, origin)?;
+    let name = Name::read_absolute(alloc, text)?;
+    let text = name.relative_text(alloc, &origin)?;
+    push(text.as_str(), answer)?;
+    if Name::read_relative(alloc, text.as_bytes(), &origin)? != name {
+        push(", which is another name", answer)?;
+    }
+    Ok(())
 }
 
 fn push_labels(name: &Name, answer: &mut Vec<u8>) -> Result<(), NameFault> {

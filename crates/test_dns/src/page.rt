@@ -3,7 +3,7 @@
 ghost use Rattle.std.specs.Prelude.{◌≡◌, ◌<◌};
 
 use dns_data::Record;
-use dns_master::{Counted, MasterFault, Pieces, print_records, print_zone};
+use dns_master::{Counted, MasterFault, Pieces, print_records, print_relative_zone, print_zone};
 use dns_names::Name;
 use std::alloc::Global;
 use std::marker::Brand;
@@ -14,6 +14,8 @@ use std::sync::ledger::{Blank, Ledger};
 pub enum Sheet<'a> {
     /// The zone of an origin.
     Zone(&'a Name, &'a [Record]),
+    /// The zone of an origin, relative to it.
+    Relative(&'a Name, &'a [Record]),
     /// Their lines alone.
     Lines(&'a [Record]),
 }
@@ -37,6 +39,9 @@ fn printed_on<L: Ledger>(
     let mut page: Counted<Pieces, L> = Counted::new(pieces, blank);
     match sheet {
         Sheet::Zone(origin, records) => print_zone(alloc, origin, records, &mut page)?,
+        Sheet::Relative(origin, records) => {
+            print_relative_zone(alloc, origin, records, &mut page)?
+        }
         Sheet::Lines(records) => print_records(alloc, records, &mut page)?,
     }
     Ok(page.into_inner().octets)
