@@ -12,9 +12,11 @@ use Rattle.command_line.specs.declared.command.Command.{Command}
 use Rattle.command_line.specs.declared.command.Command.TheVariants as command
 use Rattle.command_line.specs.declared.job.Existing.{Existing}
 use Rattle.command_line.specs.declared.job.Existing.TheVariants.{Kept, Replaced}
+use Rattle.command_line.specs.declared.job.ZoneForm.{ZoneForm}
+use Rattle.command_line.specs.declared.job.ZoneForm.TheVariants.{Whole, Relative}
 use Rattle.command_line.specs.declared.job.TextForm.{TextForm}
 use Rattle.command_line.specs.declared.job.TextForm.TheVariants.{Plain, Json}
-use Rattle.command_line.specs.PlainForms.{IsNumberGiven, IsPlain, IsValue, IsValueIfGiven, existing_words, form_words, given, place_words}
+use Rattle.command_line.specs.PlainForms.{IsNumberGiven, IsPlain, IsValue, IsValueIfGiven, existing_words, form_words, given, place_words, zone_form_words}
 use Rattle.command_line.specs.Words.{JobOf, apply, canon, imports, export, migrate, rights, serve, explain, job_by, job_of, stored_at}
 use Rattle.command_line.proofs.CommandLemmas.{job_of_command, no_words, place_walked, rows_from, rules_of, standing, value_walked}
 
@@ -55,20 +57,24 @@ place_read c k h a v words is found = ap (job_from c words) (place_walked (rules
 
 -- ---- the commands
 
-canon_read : (o : Text) → IsValue o → job_from command.Canon (given argument.Origin o) (walk_from start) ≡ Some (canon o)
+canon_read : (o : Text) (form : ZoneForm) → IsValue o → job_from command.Canon (given argument.Origin o ++ zone_form_words form) (walk_from start) ≡ Some (canon o form)
 unfolding clap_on_literals
-canon_read o is = option_read command.Canon start argument.Origin o [] is refl
+canon_read o Whole is = option_read command.Canon start argument.Origin o [] is refl
+canon_read o Relative is = option_read command.Canon start argument.Origin o (zone_form_words Relative) is refl
 
 migrate_read : (s : Text) → IsValue s → job_from command.Migrate (given argument.Store s) (walk_from start) ≡ Some (migrate s)
 unfolding clap_on_literals
 migrate_read s is = option_read command.Migrate start argument.Store s [] is refl
 
-export_read : (s o : Text) → IsValue s → IsValue o
-    → job_from command.Export (given argument.Store s ++ given argument.Origin o) (walk_from start) ≡ Some (export (stored_at s o))
+export_read : (s o : Text) (form : ZoneForm) → IsValue s → IsValue o
+    → job_from command.Export (given argument.Store s ++ given argument.Origin o ++ zone_form_words form) (walk_from start) ≡ Some (export (stored_at s o) form)
 unfolding clap_on_literals
-export_read s o is_s is_o =
+export_read s o Whole is_s is_o =
     option_read command.Export start argument.Store s (given argument.Origin o) is_s refl
     ∙ option_read command.Export (valued command.Export start argument.Store s) argument.Origin o [] is_o refl
+export_read s o Relative is_s is_o =
+    option_read command.Export start argument.Store s (given argument.Origin o ++ zone_form_words Relative) is_s refl
+    ∙ option_read command.Export (valued command.Export start argument.Store s) argument.Origin o (zone_form_words Relative) is_o refl
 
 import_read : (s o : Text) (existing : Existing) → IsValue s → IsValue o
     → job_from command.Import (given argument.Store s ++ given argument.Origin o ++ existing_words existing) (walk_from start) ≡ Some (imports (stored_at s o) existing)
@@ -147,10 +153,10 @@ explain_read (Some n) Json is = place_read command.Explain 1 start argument.Numb
 pub plain_read : (words : List Text) (x : JobOf) → IsPlain words x → job_of words ≡ Some x
 plain_read words apply (inl none) = ap job_of none ∙ no_words
 plain_read words apply (inr word) = ap job_of word ∙ job_of_command command.Apply []
-plain_read words (canon o) is = ap job_of is.1 ∙ (job_of_command command.Canon _ ∙ canon_read o is.0)
+plain_read words (canon o form) is = ap job_of is.1 ∙ (job_of_command command.Canon _ ∙ canon_read o form is.0)
 plain_read words (imports z existing) is =
     ap job_of is.2 ∙ (job_of_command command.Import _ ∙ import_read z.store z.origin existing is.0 is.1)
-plain_read words (export z) is = ap job_of is.2 ∙ (job_of_command command.Export _ ∙ export_read z.store z.origin is.0 is.1)
+plain_read words (export z form) is = ap job_of is.2 ∙ (job_of_command command.Export _ ∙ export_read z.store z.origin form is.0 is.1)
 plain_read words (migrate s) is = ap job_of is.1 ∙ (job_of_command command.Migrate _ ∙ migrate_read s is.0)
 plain_read words (rights p q n t a) is =
     ap job_of is.5 ∙ (job_of_command command.Rights _ ∙ rights_read p q n t a is.0 is.1 is.2 is.3 is.4)

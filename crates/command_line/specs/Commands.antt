@@ -24,6 +24,7 @@ argument_row argument.Type = (codes "type", Place)
 argument_row argument.Action = (codes "action", Place)
 argument_row argument.Listen = (codes "listen", Needed)
 argument_row argument.Replace = (codes "replace", Flag)
+argument_row argument.Relative = (codes "relative", Flag)
 argument_row argument.Connections = (codes "connections", Number)
 argument_row argument.Patience = (codes "patience", Number)
 argument_row argument.Number = (codes "number", OptionalPlace)
@@ -40,9 +41,9 @@ argument_form a = (argument_row a).1
 -- the word of a command, and what it takes after it
 abbrev pub command_row : Command → Text × List Argument
 command_row command.Apply = (codes "apply", [])
-command_row command.Canon = (codes "canon", argument.Origin ∷ [])
+command_row command.Canon = (codes "canon", argument.Origin ∷ argument.Relative ∷ [])
 command_row command.Import = (codes "import", argument.Store ∷ argument.Origin ∷ argument.Replace ∷ [])
-command_row command.Export = (codes "export", argument.Store ∷ argument.Origin ∷ [])
+command_row command.Export = (codes "export", argument.Store ∷ argument.Origin ∷ argument.Relative ∷ [])
 command_row command.Migrate = (codes "migrate", argument.Store ∷ [])
 command_row command.Rights =
     (codes "rights", argument.Policy ∷ argument.Caller ∷ argument.Name ∷ argument.Type ∷ argument.Action ∷ [])

@@ -9,6 +9,8 @@ use Rattle.command_line.specs.declared.argument.Argument.{Argument}
 use Rattle.command_line.specs.declared.argument.Argument.TheVariants as argument
 use Rattle.command_line.specs.declared.job.Existing.{Existing}
 use Rattle.command_line.specs.declared.job.Existing.TheVariants.{Kept, Replaced}
+use Rattle.command_line.specs.declared.job.ZoneForm.{ZoneForm}
+use Rattle.command_line.specs.declared.job.ZoneForm.TheVariants.{Whole, Relative}
 use Rattle.command_line.specs.declared.job.TextForm.{TextForm}
 use Rattle.command_line.specs.declared.job.TextForm.TheVariants.{Plain, Json}
 
@@ -26,6 +28,11 @@ given a v = (codes "--" ++ argument_name a) ∷ v ∷ []
 abbrev pub existing_words : Existing → List Text
 existing_words Kept = []
 existing_words Replaced = codes "--replace" ∷ []
+
+-- `--relative`, where the text is to be relative to the origin
+abbrev pub zone_form_words : ZoneForm → List Text
+zone_form_words Whole = []
+zone_form_words Relative = codes "--relative" ∷ []
 
 -- `--json`, where JSON is asked for
 abbrev pub form_words : TextForm → List Text
@@ -50,11 +57,11 @@ IsNumberGiven a (Some n) words = (t : Text) × IsValue t × (number_in t ≡ Som
 -- its place
 abbrev pub IsPlain : List Text → JobOf → Type 0
 IsPlain words apply = (words ≡ []) ⊎ (words ≡ codes "apply" ∷ [])
-IsPlain words (canon origin) = IsValue origin × (words ≡ codes "canon" ∷ given argument.Origin origin)
+IsPlain words (canon origin form) = IsValue origin × (words ≡ codes "canon" ∷ (given argument.Origin origin ++ zone_form_words form))
 IsPlain words (imports zone existing) = IsValue zone.store × IsValue zone.origin
     × (words ≡ codes "import" ∷ (given argument.Store zone.store ++ given argument.Origin zone.origin ++ existing_words existing))
-IsPlain words (export zone) = IsValue zone.store × IsValue zone.origin
-    × (words ≡ codes "export" ∷ (given argument.Store zone.store ++ given argument.Origin zone.origin))
+IsPlain words (export zone form) = IsValue zone.store × IsValue zone.origin
+    × (words ≡ codes "export" ∷ (given argument.Store zone.store ++ given argument.Origin zone.origin ++ zone_form_words form))
 IsPlain words (migrate store) = IsValue store × (words ≡ codes "migrate" ∷ given argument.Store store)
 IsPlain words (rights policy caller name record_type action) =
     IsValue policy × IsValue caller × IsValue name × IsValue record_type × IsValue action

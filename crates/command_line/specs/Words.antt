@@ -13,6 +13,8 @@ use Rattle.command_line.specs.declared.job.Existing.{Existing}
 use Rattle.command_line.specs.declared.job.Existing.TheVariants.{Kept, Replaced}
 use Rattle.command_line.specs.declared.job.TextForm.{TextForm}
 use Rattle.command_line.specs.declared.job.TextForm.TheVariants.{Plain, Json}
+use Rattle.command_line.specs.declared.job.ZoneForm.{ZoneForm}
+use Rattle.command_line.specs.declared.job.ZoneForm.TheVariants.{Whole, Relative}
 use Rattle.command_line.specs.declared.job.StoredZone.{StoredZone}
 use Rattle.command_line.specs.declared.job.Job.{Job}
 use Rattle.command_line.specs.declared.job.Job.TheVariants as job
@@ -27,9 +29,9 @@ pub record StoredOf : Type 0 where
 -- a job, by its words
 pub data JobOf : Type 0 where
   apply : JobOf
-  canon : (origin : Text) → JobOf
+  canon : (origin : Text) → ZoneForm → JobOf
   imports : StoredOf → Existing → JobOf
-  export : StoredOf → JobOf
+  export : StoredOf → ZoneForm → JobOf
   migrate : (store : Text) → JobOf
   rights : (policy caller name record_type action : Text) → JobOf
   serve : (store policy listen : Text) → (connections patience : Option ℕ) → JobOf
@@ -40,9 +42,9 @@ zone_asked zone = record { store = zone.store.now; origin = zone.origin.now }
 
 abbrev pub asks : Job → JobOf
 asks job.Apply = apply
-asks (job.Canon origin) = canon origin.now
+asks (job.Canon origin form) = canon origin.now form
 asks (job.Import zone existing) = imports (zone_asked zone) existing
-asks (job.Export zone) = export (zone_asked zone)
+asks (job.Export zone form) = export (zone_asked zone) form
 asks (job.Migrate store) = migrate store.now
 asks (job.Rights policy asked) = rights policy.now asked.caller.now asked.name.now asked.record_type.now asked.action.now
 asks (job.Serve service) = serve service.store.now service.policy.now service.listen.now service.connections service.patience
@@ -66,13 +68,18 @@ abbrev pub existing_of : Option Text → Existing
 existing_of None = Kept
 existing_of (Some t) = if bytes_eq t (codes "true") then Replaced else Kept
 
+-- a zone is printed relative to its origin where the option is given
+abbrev pub zone_form_of : Option Text → ZoneForm
+zone_form_of None = Whole
+zone_form_of (Some t) = if bytes_eq t (codes "true") then Relative else Whole
+
 -- JSON is printed where the option is given
 abbrev pub form_of : Option Text → TextForm
 form_of None = Plain
 form_of (Some t) = if bytes_eq t (codes "true") then Json else Plain
 
 abbrev pub canon_of : List Row → Option JobOf
-canon_of rows = option_map (λ o. canon o) (first_of (argument_name argument.Origin) rows)
+canon_of rows = option_map (λ o. canon o (zone_form_of (first_of (argument_name argument.Relative) rows))) (first_of (argument_name argument.Origin) rows)
 
 abbrev pub stored_at : Text → Text → StoredOf
 stored_at store origin = record { store = store; origin = origin }
@@ -84,7 +91,7 @@ abbrev pub import_of : List Row → Option JobOf
 import_of rows = option_map (λ z. imports z (existing_of (first_of (argument_name argument.Replace) rows))) (stored_of rows)
 
 abbrev pub export_of : List Row → Option JobOf
-export_of rows = option_map (λ z. export z) (stored_of rows)
+export_of rows = option_map (λ z. export z (zone_form_of (first_of (argument_name argument.Relative) rows))) (stored_of rows)
 
 abbrev pub migrate_of : List Row → Option JobOf
 migrate_of rows = option_map (λ s. migrate s) (first_of (argument_name argument.Store) rows)

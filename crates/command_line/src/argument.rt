@@ -19,6 +19,7 @@ pub enum Argument {
     Action,
     Listen,
     Replace,
+    Relative,
     Connections,
     Patience,
     Number,
@@ -88,6 +89,11 @@ impl Argument {
                 "The address and port to listen at",
             ),
             Argument::Replace => Row::new("replace", Form::Flag, "In the place of the zone there"),
+            Argument::Relative => Row::new(
+                "relative",
+                Form::Flag,
+                "Relative to the origin, with a $TTL line",
+            ),
             Argument::Connections => Row::new("connections", Form::Number, "After how many to end"),
             Argument::Patience => Row::new(
                 "patience",

@@ -80,7 +80,7 @@ impl Command {
                 "canon",
                 "Prints a zone in canonical form",
                 "Example: zoneoffice canon --origin example.org. < zone.txt",
-                &[Argument::Origin],
+                &[Argument::Origin, Argument::Relative],
             ),
             Command::Import => Row::new(
                 "import",
@@ -92,7 +92,7 @@ impl Command {
                 "export",
                 "Prints a zone of a store",
                 "Example: zoneoffice export --store office.db --origin example.org.",
-                &[Argument::Store, Argument::Origin],
+                &[Argument::Store, Argument::Origin, Argument::Relative],
             ),
             Command::Migrate => Row::new(
                 "migrate",

@@ -9,6 +9,8 @@ pub enum Job<'a> {
     Canon {
         /// The name of its origin.
         origin: &'a str,
+        /// In which form it is printed.
+        form: ZoneForm,
     },
     /// To put a zone that is read from standard input into a store.
     Import {
@@ -21,6 +23,8 @@ pub enum Job<'a> {
     Export {
         /// Which zone, and which store.
         zone: StoredZone<'a>,
+        /// In which form it is printed.
+        form: ZoneForm,
     },
     /// To take a store from version 1 of the tables to version 2.
     Migrate {
@@ -55,6 +59,15 @@ pub enum TextForm {
     Plain,
     /// JSON (RFC 8259), for a program.
     Json,
+}
+
+/// In which form a zone is printed.
+#[derive(Clone, Copy, PartialEq, Eq)]
+pub enum ZoneForm {
+    /// Names, TTLs and classes are written whole.
+    Whole,
+    /// Owners are relative to the origin, and a TTL is written where it is not the zone's.
+    Relative,
 }
 
 /// A zone of a store, as the words of `import` and of `export` name it.

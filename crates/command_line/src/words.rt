@@ -3,13 +3,13 @@
 ghost use Rattle.std.specs.Prelude.{◌≡◌, [], IfErr, IfOk, map, option_map, Some, is_some, true, codes};
 ghost use Rattle.clap.specs.Words.{app_of, fault_of, first_of, found_of, kind_of, one_of, rows_of, subcommand_rows_of, takes};
 ghost use Rattle.command_line.specs.Commands.{office, argument_name};
-ghost use Rattle.command_line.specs.Words.{asks, JobOf, canon_of, zone_asked, stored_of, import_of, export_of, migrate_of, rights_of, serve_of, explain_of, number_if, existing_of, form_of, job_by, job_named, job_met, job_of};
+ghost use Rattle.command_line.specs.Words.{asks, JobOf, canon_of, zone_asked, stored_of, import_of, export_of, migrate_of, rights_of, serve_of, explain_of, number_if, existing_of, zone_form_of, form_of, job_by, job_named, job_met, job_of};
 ghost use Rattle.command_line.specs.PlainForms.{IsPlain};
 ghost use Rattle.command_line.specs.Told.{IsToldAs, IsToldOf, is_help};
 
 use crate::argument::Argument;
 use crate::command::Command;
-use crate::job::{Existing, Job, QuestionWords, Service, StoredZone, TextForm};
+use crate::job::{Existing, Job, QuestionWords, Service, StoredZone, TextForm, ZoneForm};
 use crate::parser::parser;
 use clap::error::ErrorKind;
 use clap::{ArgMatches, Error};
@@ -50,6 +50,16 @@ fn existing_at(matches: &ArgMatches<'_>) -> Existing
     }
 }
 
+/// In which form a zone is to be printed.
+fn zone_form_at(matches: &ArgMatches<'_>) -> ZoneForm
+    ensures { result ≡ zone_form_of (first_of (argument_name Argument.Relative) (rows_of (found_of matches.now))) }
+{
+    match text_at(matches, Argument::Relative) {
+        Some("true") => ZoneForm::Relative,
+        _ => ZoneForm::Whole,
+    }
+}
+
 /// As what a text is to be printed.
 fn form_at(matches: &ArgMatches<'_>) -> TextForm
     ensures { result ≡ form_of (first_of (argument_name Argument.Json) (rows_of (found_of matches.now))) }
@@ -65,7 +75,8 @@ fn canon_in<'a>(matches: &ArgMatches<'a>) -> Option<Job<'a>>
     ensures { option_map asks result ≡ canon_of (rows_of (found_of matches.now)) }
 {
     let origin = text_at(matches, Argument::Origin)?;
-    Some(Job::Canon { origin })
+    let form = zone_form_at(matches);
+    Some(Job::Canon { origin, form })
 }
 
 /// The zone of a store that words name.
@@ -91,7 +102,8 @@ fn export_in<'a>(matches: &ArgMatches<'a>) -> Option<Job<'a>>
     ensures { option_map asks result ≡ export_of (rows_of (found_of matches.now)) }
 {
     let zone = zone_at(matches)?;
-    Some(Job::Export { zone })
+    let form = zone_form_at(matches);
+    Some(Job::Export { zone, form })
 }
 
 /// The job of the command `migrate`.
@@ -205,8 +217,8 @@ fn told(alloc: Global, error: Error) -> WordsFault
     }
 }
 
-/// The job that the words behind the program's name ask for: none or `apply`; `canon --origin NAME`;
-/// `import --store PATH --origin NAME [--replace]`; `export --store PATH --origin NAME`;
+/// The job that the words behind the program's name ask for: none or `apply`; `canon --origin NAME [--relative]`;
+/// `import --store PATH --origin NAME [--replace]`; `export --store PATH --origin NAME [--relative]`;
 /// `migrate --store PATH`;
 /// `rights --policy PATH --caller CALLER NAME TYPE ACTION`;
 /// `serve --store PATH --policy PATH --listen ADDRESS:PORT [--connections N] [--patience SECONDS]`; and
