@@ -14,12 +14,12 @@ use std::alloc::{AllocError, Global};
 use text_commands::{Apply, Canon, Explain, JobFault, Refusal, RefusalLine, do_task};
 
 /// `do_task` of `Canon`.
-pub fn canon(alloc: Global, origin: &str, input: Vec<u8>) -> (Vec<u8>, Result<(), JobFault>)
-    ensures { (failed_reads : ℕ) × (failed_writes : ℕ) × Answered (Some input.items) (canon_text origin.now) (Some []) (Some result.0.items) result.1 0 failed_reads 0 failed_writes }
+pub fn canon(alloc: Global, canon: Canon<'_>, input: Vec<u8>) -> (Vec<u8>, Result<(), JobFault>)
+    ensures { (failed_reads : ℕ) × (failed_writes : ℕ) × Answered (Some input.items) (canon_text canon.entry.form canon.entry.origin.now) (Some []) (Some result.0.items) result.1 0 failed_reads 0 failed_writes }
 {
     let reader = Pieces::new(input, usize::MAX, 0);
     let writer = Pieces::new(Vec::new(alloc), usize::MAX, 0);
-    let (writer, outcome) = do_task(alloc, Canon { origin }, reader, writer);
+    let (writer, outcome) = do_task(alloc, canon, reader, writer);
     (writer.octets, outcome)
 }
 

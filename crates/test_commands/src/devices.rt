@@ -1,4 +1,4 @@
-use command_line::{QuestionWords, TextForm};
+use command_line::{QuestionWords, TextForm, ZoneForm};
 use dns_master::Pieces;
 use std::alloc::{AllocError, Global};
 use text_commands::{Apply, Canon, Explain, JobFault, Task, do_task};
@@ -46,7 +46,10 @@ impl Command<'_> {
         let words = self.words;
         match self.name {
             "apply" => self.run_task(alloc, Apply, reading, writing),
-            "canon" => self.run_task(alloc, Canon { origin: words }, reading, writing),
+            "canon" => self.run_task(alloc, canon(words, ZoneForm::Whole), reading, writing),
+            "canon-relative" => {
+                self.run_task(alloc, canon(words, ZoneForm::Relative), reading, writing)
+            }
             "rights" => self.run_task(alloc, question(words), reading, writing),
             "explain" => self.run_task(alloc, asked(words), reading, writing),
             _ => Ok(None),
@@ -65,6 +68,11 @@ impl Command<'_> {
         let (page, done) = do_task(alloc, task, reader, writer);
         Ok(Some((page.octets, done)))
     }
+}
+
+/// The task `canon` for an origin.
+fn canon(origin: &str, form: ZoneForm) -> Canon<'_> {
+    Canon { origin, form }
 }
 
 /// What words with bars between them ask of a policy.

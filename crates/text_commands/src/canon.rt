@@ -5,13 +5,15 @@ ghost use Rattle.dns_names.specs.Reading.{absolute_name};
 ghost use Rattle.dns_master.specs.Files.{file_of};
 ghost use Rattle.text_commands.specs.LineFaults.{Gives, GivesOf, of_names, of_masters};
 ghost use Rattle.text_commands.specs.Replies.{IsPrinted};
-ghost use Rattle.text_commands.specs.Canon.{zone_of_file, zone_read, text_of_zone};
+ghost use Rattle.text_commands.specs.Canon.{zone_of_file, zone_read, zone_text_in, text_of_zone};
+ghost use Rattle.dns_master.specs.Device.{TextWritten};
 
 use crate::device::{ended, read_input, tell};
 use crate::line_fault::{JobFault, LineFault};
 use crate::task::Task;
+use command_line::ZoneForm;
 use dns_data::Record;
-use dns_master::{Sink, Source, print_zone, read_file};
+use dns_master::{MasterFault, Sink, Source, print_relative_zone, print_zone, read_file};
 use dns_names::Name;
 use std::alloc::Global;
 use zone_core::Zone;
@@ -47,27 +49,51 @@ pub fn read_zone<R: Source>(alloc: Global, origin: &str, reader: &mut R) -> Resu
     zone_of_file(alloc, origin, text)
 }
 
-/// Prints a zone. Where memory runs out, a line tells it behind what went out.
-fn print<W: Sink>(alloc: Global, zone: &Zone, writer: &mut W) -> Result<(), JobFault>
-    ensures { IsPrinted (W.contents writer.old) (W.contents writer.new) (text_of_zone zone.now) result (W.failures writer.old) (W.failures writer.new) }
+/// Prints the zone of an origin and records in a form: as `print_zone` does, or as `print_relative_zone` does.
+pub fn print_zone_in<'a, W: Sink>(
+    alloc: Global,
+    form: ZoneForm,
+    origin: &'a Name,
+    records: &'a [Record],
+    writer: &mut W,
+) -> Result<(), MasterFault>
+    ensures { TextWritten (W.contents writer.old) (W.contents writer.new) (zone_text_in form origin.now records.now) result (W.failures writer.old) (W.failures writer.new) }
 {
-    let printed = print_zone(alloc, zone.origin(), zone.records(), writer);
+    match form {
+        ZoneForm::Whole => print_zone(alloc, origin, records, writer),
+        ZoneForm::Relative => print_relative_zone(alloc, origin, records, writer),
+    }
+}
+
+/// Prints a zone. Where memory runs out, a line tells it behind what went out.
+fn print<W: Sink>(
+    alloc: Global,
+    zone: &Zone,
+    form: ZoneForm,
+    writer: &mut W,
+) -> Result<(), JobFault>
+    ensures { IsPrinted (W.contents writer.old) (W.contents writer.new) (text_of_zone form zone.now) result (W.failures writer.old) (W.failures writer.new) }
+{
+    let printed = print_zone_in(alloc, form, zone.origin(), zone.records(), writer);
     ended(writer, printed)
 }
 
 /// The task `canon`: to read a master file (RFC 1035 section 5.1), to build its zone, and to print it: the line `$ORIGIN` and the
-/// origin, and its record lines in record order. Otherwise one line tells the refusal that comes first: of the origin, that the
-/// input is too large, of the master file, of its records as a zone.
+/// origin, and its record lines in record order, which in the relative form have the owner relative to the origin and no TTL that
+/// a line `$TTL` gives. Otherwise one line tells the refusal that comes first: of the origin, that the input is too large, of the
+/// master file, of its records as a zone.
 #[derive(Clone, Copy)]
 pub struct Canon<'a> {
     /// The name of the zone's origin, a word of the command line.
     pub origin: &'a str,
+    /// In which form it is printed.
+    pub form: ZoneForm,
 }
 
 impl Task for Canon<'_> {
     ghost use Rattle.text_commands.specs.Canon.{canon_text};
 
-    ghost answer = { λ c. canon_text c.origin.now };
+    ghost answer = { λ c. canon_text c.form c.origin.now };
 
     fn run<R: Source, W: Sink>(
         self,
@@ -76,7 +102,7 @@ impl Task for Canon<'_> {
         writer: &mut W,
     ) -> Result<(), JobFault> {
         match read_zone(alloc, self.origin, reader) {
-            Ok(zone) => print(alloc, &zone, writer),
+            Ok(zone) => print(alloc, &zone, self.form, writer),
             Err(fault) => tell(alloc, writer, fault),
         }
     }

@@ -9,8 +9,8 @@ pub fn text_is_divided()
     ensures { (text : List ℕ) (parts : Parts) → (divided text ≡ Some parts) ↔ IsDivided text parts }
 {}
 
-/// A zone whose records are exported and printed, and whose text is read and built again, is that zone, if its text is not too long
-/// for a master file.
+/// A zone whose records are exported and printed in either form, and whose text is read and built again, is that zone, if its text
+/// is not too long for a master file.
 pub fn zones_are_read_again()
     ensures { ZonesAreReadAgain }
 {}

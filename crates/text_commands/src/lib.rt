@@ -15,7 +15,7 @@ mod rights;
 mod task;
 
 pub use apply::Apply;
-pub use canon::{Canon, read_name, read_zone};
+pub use canon::{Canon, print_zone_in, read_name, read_zone};
 pub use device::{ended, read_input, tell, write_text};
 pub use explain::Explain;
 pub use laws::{text_is_divided, zones_are_read_again};

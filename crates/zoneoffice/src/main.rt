@@ -44,7 +44,12 @@ fn do_job(rt: &HostRuntime, job: Job<'_>) -> ExitCode {
     let alloc = rt.alloc();
     match job {
         Job::Apply => do_with(alloc, Apply, rt.stdin(), rt.stdout()).1,
-        Job::Canon { origin } => do_with(alloc, Canon { origin }, rt.stdin(), rt.stdout()).1,
+        Job::Canon { origin, form } => do_with(
+            alloc,
+            Canon { origin, form },
+            rt.stdin(),
+            rt.stdout(),
+        ).1,
         Job::Import { zone, existing } => {
             status(do_import(rt, (zone, existing), (rt.stdin(), rt.stdout())).1)
         }
