@@ -22,10 +22,10 @@ pub enum LineFault {
     #[error("{0}")]
     Refused(Refusal),
     /// The reader failed.
-    #[error("the reader failed")]
+    #[error("an input cannot be read, or nothing can listen at the address")]
     ReadFailed,
     /// Memory ran out. This says nothing of the words or the input.
-    #[error("memory ran out")]
+    #[error("out of memory")]
     NoMemory,
 }
 
@@ -36,7 +36,7 @@ pub enum JobFault {
     #[error("{0}")]
     Told(LineFault),
     /// The writer failed, and a beginning of what was to be written went out.
-    #[error("the writer failed")]
+    #[error("the output cannot be written")]
     WriteFailed,
 }
 

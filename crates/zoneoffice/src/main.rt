@@ -25,9 +25,26 @@ fn status(done: Result<(), JobFault>) -> ExitCode
     }
 }
 
+/// Says in words on standard error why a job was not done.
+fn complain(rt: &HostRuntime, fault: JobFault) {
+    if let Ok(words) = format!(in rt.alloc(); "zoneoffice: {fault}") {
+        let _ = rt.eprintln(words.as_str());
+    }
+}
+
+/// The exit status of a job, behind the words that say why it was not done.
+fn ended(rt: &HostRuntime, done: Result<(), JobFault>) -> ExitCode
+    ensures { exit_status result ≡ status_of done }
+{
+    if let Err(fault) = done {
+        complain(rt, fault);
+    }
+    status(done)
+}
+
 /// Does a task with a reader and a writer, which is handed back.
 fn do_with<T: Task, R: Read + Drop, W: Write + Drop>(
-    alloc: Global,
+    rt: &HostRuntime,
     task: T,
     reader: R,
     writer: W,
@@ -35,34 +52,36 @@ fn do_with<T: Task, R: Read + Drop, W: Write + Drop>(
     // The task is answered, and at status 0 its whole answer was written.
     ensures { EndsTask (R.remaining reader) (T.answer task) (W.contents writer) (W.contents result.0) (exit_status result.1) }
 {
-    let (writer, done) = do_task(alloc, task, reader, writer);
-    (writer, status(done))
+    let (writer, done) = do_task(rt.alloc(), task, reader, writer);
+    (writer, ended(rt, done))
 }
 
 /// Does a job.
 fn do_job(rt: &HostRuntime, job: Job<'_>) -> ExitCode {
-    let alloc = rt.alloc();
     match job {
-        Job::Apply => do_with(alloc, Apply, rt.stdin(), rt.stdout()).1,
+        Job::Apply => do_with(rt, Apply, rt.stdin(), rt.stdout()).1,
         Job::Canon { origin, form } => do_with(
-            alloc,
+            rt,
             Canon { origin, form },
             rt.stdin(),
             rt.stdout(),
         ).1,
         Job::Import { zone, existing } => {
-            status(do_import(rt, (zone, existing), (rt.stdin(), rt.stdout())).1)
+            ended(
+                rt,
+                do_import(rt, (zone, existing), (rt.stdin(), rt.stdout())).1,
+            )
         }
-        Job::Export { zone } => status(do_export(rt, zone, rt.stdout()).1),
-        Job::Migrate { store } => status(do_migrate(rt, store, rt.stdout()).1),
+        Job::Export { zone } => ended(rt, do_export(rt, zone, rt.stdout()).1),
+        Job::Migrate { store } => ended(rt, do_migrate(rt, store, rt.stdout()).1),
         Job::Rights { policy, asked } => {
-            do_with(alloc, asked, PolicyFile::open(rt, policy), rt.stdout()).1
+            do_with(rt, asked, PolicyFile::open(rt, policy), rt.stdout()).1
         }
         Job::Explain { number, form } => {
             let task = Explain { number, form };
-            do_with(alloc, task, rt.stdin(), rt.stdout()).1
+            do_with(rt, task, rt.stdin(), rt.stdout()).1
         }
-        Job::Serve { service } => status(do_serve(rt, service, rt.stdout()).1),
+        Job::Serve { service } => ended(rt, do_serve(rt, service, rt.stdout()).1),
     }
 }
 
