@@ -1,7 +1,7 @@
-mod fault;
+mod row_fault;
 mod rules;
 
-use crate::policies::fault::Fault;
+use crate::policies::row_fault::Fault;
 use dns_data::RecordType;
 use dns_names::Name;
 use grant_policy::{

@@ -2,14 +2,14 @@
 
 mod delegations;
 mod lines;
-mod reading;
+mod parsed_rows;
 mod refusal;
 mod serials;
 mod updates;
 
 use crate::zones::delegations::{push_count, push_delegation, push_report};
 use crate::zones::lines::{push, push_name, push_records};
-use crate::zones::reading::{name, record_type};
+use crate::zones::parsed_rows::{name, record_type};
 use crate::zones::refusal::Refusal;
 use crate::zones::serials::{push_less, push_sum};
 use crate::zones::updates::{

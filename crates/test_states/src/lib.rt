@@ -11,8 +11,8 @@
 #![tactic(auto)]
 
 mod batches;
-mod kept;
 mod lines;
 mod reads;
+mod state_rows;
 
-pub use kept::Kept;
+pub use state_rows::Kept;

@@ -12,12 +12,12 @@
 //! `no-memory` and `no-memory-row` print those refusals.
 #![tactic(auto)]
 
-mod asking;
 mod batch;
 mod columns;
 mod refusal;
 mod replies;
 mod rows;
+mod table_queries;
 mod tables;
 
 pub use tables::Tables;

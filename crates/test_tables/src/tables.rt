@@ -2,15 +2,15 @@
 
 ghost use Rattle.std.specs.Prelude.{◌≡◌, false};
 
-use crate::asking::{
-    push_all, push_changes, push_last, push_receipts, push_records, push_records_at,
-    push_records_between, push_versions, push_zone,
-};
 use crate::batch::batch_of;
 use crate::columns::text_of;
 use crate::refusal::Refusal;
 use crate::replies::push_reply;
 use crate::rows;
+use crate::table_queries::{
+    push_all, push_changes, push_last, push_receipts, push_records, push_records_at,
+    push_records_between, push_versions, push_zone,
+};
 use office_rows::RowFault;
 use office_sql::{RowsFault, has_no_tables, has_tables, make_tables, write};
 use sqlite::{Alter, Connection, MemStore};

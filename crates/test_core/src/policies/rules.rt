@@ -1,4 +1,4 @@
-use crate::policies::fault::Fault;
+use crate::policies::row_fault::Fault;
 use dns_data::RecordType;
 use dns_names::Name;
 use grant_policy::{Action, Actions, Callers, Effect, Identifier, Rule, Scope, Types};

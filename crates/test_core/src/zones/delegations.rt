@@ -1,7 +1,7 @@
 //! Rows of delegations.
 
 use crate::zones::lines::{push, push_name, push_operation};
-use crate::zones::reading::{name, servers};
+use crate::zones::parsed_rows::{name, servers};
 use crate::zones::refusal::Refusal;
 use dns_data::Ttl;
 use std::alloc::Global;

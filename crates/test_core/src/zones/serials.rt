@@ -1,7 +1,7 @@
 //! Rows of serials.
 
 use crate::zones::lines::push;
-use crate::zones::reading::number;
+use crate::zones::parsed_rows::number;
 use crate::zones::refusal::Refusal;
 use std::alloc::Global;
 use zone_core::{serial_add, serial_less};

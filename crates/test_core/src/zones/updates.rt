@@ -1,7 +1,7 @@
 //! Rows of updates.
 
 use crate::zones::lines::{push, push_marked};
-use crate::zones::reading::{name, update};
+use crate::zones::parsed_rows::{name, update};
 use crate::zones::refusal::Refusal;
 use std::alloc::{AllocError, Global};
 use zone_core::{ItemList, Outcome, Update, Zone, apply, apply_owned, holds};
