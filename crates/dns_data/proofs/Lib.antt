@@ -6,6 +6,7 @@ pub mod DataLaws
 pub mod DigestLaws
 pub mod EachLemmas
 pub mod FieldLaws
+pub mod GenericLaws
 pub mod GroupOrderLemmas
 pub mod JoinedLaws
 pub mod KeptLaws

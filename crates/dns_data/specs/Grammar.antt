@@ -6,7 +6,7 @@ use Rattle.std.specs.Net.Grammar.{IsIpv4Text, IsIpv6Text}
 use Rattle.dns_names.specs.Labels.{IsName}
 use Rattle.dns_names.specs.Spelling.{SpellsAbsolute, SpellsRelative}
 use Rattle.dns_data.specs.declared.rdata.Data.{Data}
-use Rattle.dns_data.specs.Items.{ItemText, plain}
+use Rattle.dns_data.specs.Items.{ItemText, plain, IsGeneric}
 use Rattle.dns_data.specs.Numbers.{IsNumber, IsDuration}
 use Rattle.dns_data.specs.Strings.{AreStrings, SpellsString}
 use Rattle.dns_data.specs.Digests.{IsDigest, SpellsDigest}
@@ -56,6 +56,6 @@ SpellValues origin (kind ▸ fields) values items =
 SpellValues origin Strings strings items = AreStrings strings × SpellStrings strings items
 SpellValues origin Digest digest items = IsDigestItems digest items
 
--- data, by the values of their fields
+-- data, by the values of their fields, but not in the generic form
 abbrev pub IsData : Option (List (List ℕ)) → Data → List ItemText → Type 0
-IsData origin rdata items = by_parts (λ t v. SpellValues origin (fields_of t) v items) rdata
+IsData origin rdata items = ¬ (IsGeneric items) × by_parts (λ t v. SpellValues origin (fields_of t) v items) rdata

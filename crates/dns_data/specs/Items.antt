@@ -1,5 +1,5 @@
 -- Items of a master file (RFC 1035 section 5.1).
-use Rattle.std.specs.Prelude.{ℕ, List, [], ◌∷◌, ◌++◌, Bool, true, false, if◌then◌else◌}
+use Rattle.std.specs.Prelude.{◌≡◌, ℕ, List, [], ◌∷◌, ◌++◌, Bool, true, false, not, ◌&&◌, bytes_eq, if◌then◌else◌}
 use Rattle.dns_data.specs.declared.item.Item.{Item}
 
 -- the octets of an item, with escapes unread and without the quotes, and whether it stood in quotes
@@ -15,6 +15,21 @@ plain raw = record { raw = raw; quoted = false }
 
 abbrev pub in_quotes : List ℕ → ItemText
 in_quotes raw = record { raw = raw; quoted = true }
+
+-- ---- the generic form of record data (RFC 3597 section 5)
+
+-- `\#`, not quoted, which comes first in it
+abbrev pub generic_mark : ItemText
+generic_mark = plain (92 ∷ 35 ∷ [])
+
+abbrev pub IsGeneric : List ItemText → Type 0
+IsGeneric items = (rest : List ItemText) × (items ≡ generic_mark ∷ rest)
+
+abbrev pub is_generic : List ItemText → Bool
+is_generic [] = false
+is_generic (item ∷ items) = not item.quoted && bytes_eq item.raw generic_mark.raw
+
+-- ---- texts of items
 
 -- an item as it stands in a file
 abbrev pub item_text : ItemText → List ℕ

@@ -1,16 +1,16 @@
--- What items say as the data of a record of a type: fields from left to right, with the refusal that comes first; then what
--- stands behind the last field, and then the size.
+-- What items say as the data of a record of a type: the generic form is not read; then fields from left to right, with the
+-- refusal that comes first; then what stands behind the last field, and then the size.
 use Rattle.std.specs.Prelude.{ℕ, ◌-◌, ◌^◌, List, [], ◌∷◌, ◌++◌, length, ◌==◌, nat_lt, if◌then◌else◌, Option, Some, None, Result, Ok, Err}
 use Rattle.std.specs.Net.Reader.{whole_value, read_ipv4, read_ipv6}
 use Rattle.std.specs.declared.net.ipv4_addr.Ipv4Addr.{Ipv4Addr}
 use Rattle.std.specs.declared.net.ipv6_addr.Ipv6Addr.{Ipv6Addr}
 use Rattle.dns_names.specs.Reading.{absolute_name, relative_name}
 use Rattle.dns_data.specs.declared.data_fault.DataFault.{DataFault}
-use Rattle.dns_data.specs.declared.data_fault.DataFault.TheVariants.{BadAddress, FieldMissing, FieldExtra, DataTooLong, QuotedItem}
+use Rattle.dns_data.specs.declared.data_fault.DataFault.TheVariants.{BadAddress, FieldMissing, FieldExtra, TypeNotKept, DataTooLong, QuotedItem}
 use Rattle.dns_data.specs.declared.record_type.RecordType.{RecordType}
 use Rattle.dns_data.specs.declared.rdata.Data.{Data}
 use Rattle.dns_data.specs.Faults.{◌>>=◌, of_names}
-use Rattle.dns_data.specs.Items.{ItemText}
+use Rattle.dns_data.specs.Items.{ItemText, is_generic}
 use Rattle.dns_data.specs.Numbers.{number_of, duration_of}
 use Rattle.dns_data.specs.Strings.{string_of, strings_len}
 use Rattle.dns_data.specs.Digests.{digest_of}
@@ -112,4 +112,4 @@ abbrev pub ended : Data × List ItemText → Result Data DataFault
 ended read = if length read.1 == 0 then Ok read.0 else Err FieldExtra
 
 abbrev pub data_of : RecordType → Option (List (List ℕ)) → List ItemText → Result Data DataFault
-data_of record_type origin items = data_at record_type origin items >>= ended
+data_of record_type origin items = if is_generic items then Err TypeNotKept else (data_at record_type origin items >>= ended)

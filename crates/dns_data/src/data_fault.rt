@@ -28,7 +28,7 @@ pub enum DataFault {
     /// Items stand behind the last field.
     #[error("an item stands behind the record data")]
     FieldExtra,
-    /// A type that is not kept here.
+    /// A type that is not kept here, or data in the generic form of RFC 3597.
     #[error("records of this type are not kept")]
     TypeNotKept,
     /// Data of more than 65,535 octets (RFC 1035 section 3.2.1).

@@ -1,10 +1,10 @@
 //! Record data from the items of a master file.
 
-ghost use Rattle.std.specs.Prelude.{◌≡◌, List, ℕ, [], map, Option, Some, None, Ok, IfOk};
+ghost use Rattle.std.specs.Prelude.{◌≡◌, List, ℕ, [], map, Option, Some, None, Ok, Err, IfOk};
 ghost use Rattle.std.specs.Option.{option_copied};
 ghost use Rattle.std.specs.List.{AllByRecursion};
 ghost use Rattle.dns_data.specs.Faults.{Reads};
-ghost use Rattle.dns_data.specs.Items.{item_of};
+ghost use Rattle.dns_data.specs.Items.{item_of, IsGeneric, is_generic};
 ghost use Rattle.dns_data.specs.Strings.{IsString};
 ghost use Rattle.dns_data.specs.Rdata.{type_of};
 ghost use Rattle.dns_data.specs.Grammar.{IsData};
@@ -267,6 +267,16 @@ fn data_at<'a>(
     }
 }
 
+/// Whether the items are data in the generic form (RFC 3597 section 5), which begins with `\#`, not quoted.
+fn is_generic(items: &[Item]) -> bool
+    ensures { result ≡ is_generic (map item_of items.now) }
+{
+    match items {
+        [first, ..] => !first.quoted && first.raw == b"\\#".as_slice(),
+        [] => false,
+    }
+}
+
 /// The data that all items say, or the refusal that comes first.
 fn whole_data(
     alloc: Global,
@@ -276,6 +286,9 @@ fn whole_data(
 ) -> Result<Data, DataFault>
     ensures { Reads (λ made. made) result (data_of record_type (option_copied origin.entry) (map item_of items.now)) }
 {
+    if is_generic(items) {
+        return Err(DataFault::TypeNotKept);
+    }
     let (data, rest) = data_at(alloc, record_type, items, origin)?;
     if !rest.is_empty() {
         return Err(DataFault::FieldExtra);
@@ -286,7 +299,8 @@ fn whole_data(
 /// Reads the data of a record from its items (RFC 1035 sections 3.3, 3.4 and 5.1, RFC 2782, RFC 3596 section 2.4, RFC 4034
 /// section 5.3). With no origin only absolute names are read.
 ///
-/// The fields are tested from left to right, each for `FieldMissing`, `QuotedItem` (but a character-string may be quoted)
+/// Data in the generic form of RFC 3597 section 5, whose first item is `\#`, not quoted, are `TypeNotKept` for every type.
+/// Then the fields are tested from left to right, each for `FieldMissing`, `QuotedItem` (but a character-string may be quoted)
 /// and its own faults; then comes `FieldExtra`, and then `DataTooLong`. A digest takes all items that are left, and is
 /// tested once they are joined. `NoMemory` comes at the growth that was refused.
 pub fn read_data(
@@ -299,6 +313,8 @@ pub fn read_data(
     ensures found { IfOk result (λ made. (type_of made ≡ record_type) × IsData (option_copied origin.entry) made (map item_of items.now)) }
     // What is in the grammar is read, unless memory runs out.
     ensures only { (made : Data) → type_of made ≡ record_type → IsData (option_copied origin.entry) made (map item_of items.now) → Reads (λ read. read) result (Ok made) }
+    // The generic form is refused before any field is read.
+    ensures generic { IsGeneric (map item_of items.now) → Reads (λ made. made) result (Err DataFault.TypeNotKept) }
     // Which refusal it is.
     ensures exact { Reads (λ made. made) result (data_of record_type (option_copied origin.entry) (map item_of items.now)) }
 {
