@@ -21,7 +21,7 @@ pub use data_fault::DataFault;
 pub use ds::Digest;
 pub use fields::read_data;
 pub use item::Item;
-pub use number::{Seconds, Serial, Ttl};
+pub use number::{Seconds, Serial, Ttl, is_number};
 pub use order::{data_order, record_order};
 pub use rdata::Data;
 pub use record::{Record, record_line, same_record};

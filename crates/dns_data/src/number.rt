@@ -81,7 +81,7 @@ fn all_digits(text: &[u8]) -> bool
 }
 
 /// Whether a text is one or more decimal digits.
-fn is_number(text: &[u8]) -> bool
+pub fn is_number(text: &[u8]) -> bool
     ensures { result ≡ is_number text.now }
 {
     !text.is_empty() && all_digits(text)
