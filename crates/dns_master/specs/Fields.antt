@@ -1,6 +1,5 @@
 -- What stands before the data of a record: owner, TTL, class and type (RFC 1035 section 5.1).
 use Rattle.std.specs.Prelude.{ℕ, List, [], ◌∷◌, codes, drop, Bool, true, false, not, ◌||◌, ◌&&◌, if◌then◌else◌, Option, Some, None, Result, Ok, Err}
-use Rattle.std.specs.List.{find}
 use Rattle.std.specs.Option.{is_some}
 use Rattle.std.specs.Char.{is_ascii_digit}
 use Rattle.std.specs.Str.{str_eq_ignore_ascii_case}
@@ -10,7 +9,7 @@ use Rattle.dns_data.specs.declared.record_type.RecordType.{RecordType}
 use Rattle.dns_data.specs.Items.{ItemText}
 use Rattle.dns_data.specs.Numbers.{duration_of}
 use Rattle.dns_data.specs.Reading.{name_of}
-use Rattle.dns_data.specs.Types.{type_text, kept_types}
+use Rattle.dns_data.specs.Types.{type_named}
 use Rattle.dns_master.specs.declared.entry_fault.EntryFault.{EntryFault}
 use Rattle.dns_master.specs.declared.entry_fault.EntryFault.TheVariants.{ClassNotIn, BadTtl, Data, EntryShort}
 use Rattle.dns_master.specs.declared.field.Part.{Part}
@@ -41,7 +40,7 @@ or_not_kept (Some record_type) = Ok record_type
 
 -- the kept type that is called so, in either letter case
 abbrev pub type_of_text : List ℕ → Result RecordType EntryFault
-type_of_text raw = or_not_kept (find (λ t. str_eq_ignore_ascii_case (type_text t) raw) kept_types)
+type_of_text raw = or_not_kept (type_named raw)
 
 abbrev pub begins_with_digit : List ℕ → Bool
 begins_with_digit [] = false

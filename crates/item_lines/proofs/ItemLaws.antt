@@ -9,13 +9,14 @@ use Rattle.dns_data.specs.declared.record.Record.{Record}
 use Rattle.dns_data.specs.declared.record_type.RecordType.{RecordType}
 use Rattle.dns_data.specs.Items.{ItemText, plain}
 use Rattle.dns_data.specs.Numbers.{duration_of}
-use Rattle.dns_data.specs.Types.{IsCalled}
+use Rattle.dns_data.specs.Types.{IsCalled, type_named}
 use Rattle.dns_data.specs.Rdata.{type_of}
 use Rattle.dns_data.specs.Grammar.{SpellsName, IsNameItem}
 use Rattle.dns_data.specs.Reading.{data_of}
 use Rattle.dns_data.proofs.FieldLaws.{AreBytes}
 use Rattle.dns_data.proofs.NumberLaws.{duration_found, duration_only}
 use Rattle.dns_data.proofs.DataLaws.{data_found, data_only}
+use Rattle.dns_data.proofs.KeptLaws.{named_called}
 use Rattle.dns_master.specs.EntryGrammar.{SpellsTtl}
 use Rattle.zone_core.specs.declared.kind.PrerequisiteKind.{PrerequisiteKind}
 use Rattle.zone_core.specs.declared.kind.PrerequisiteKind.TheVariants as tests
@@ -29,8 +30,7 @@ use Rattle.zone_core.specs.Kinds.{prerequisite_word, operation_word, prerequisit
 use Rattle.item_lines.specs.declared.item.UpdateItem.{UpdateItem}
 use Rattle.item_lines.specs.declared.item.UpdateItem.TheVariants as items
 use Rattle.item_lines.specs.ItemLines.{IsTypeItem, IsTtlItem, IsSetText, IsDatumText, IsRecordText, TestsText, ChangesText, IsItem}
-use Rattle.item_lines.specs.Reading.{◌>>?◌, unquoted, name_at, ttl_at, type_named, type_at, name_alone, type_alone, set_at, datum_at, record_at, prerequisite_of, operation_of, prerequisite_named, operation_named, operation_item, kind_item, update_item}
-use Rattle.item_lines.proofs.FieldLemmas.{type_named_is}
+use Rattle.item_lines.specs.Reading.{◌>>?◌, unquoted, name_at, ttl_at, type_at, name_alone, type_alone, set_at, datum_at, record_at, prerequisite_of, operation_of, prerequisite_named, operation_named, operation_item, kind_item, update_item}
 use Rattle.item_lines.proofs.KindLemmas.{prerequisite_is, operation_is, no_prerequisite}
 
 abbrev Labels : Type 0
@@ -84,10 +84,10 @@ ttl_only raw ttl h = ap result_ok (duration_only 2147483647 raw ttl h.0 h.1)
 type_found : (item : ItemText) (t : RecordType) → type_at item ≡ Some t → IsTypeItem t (item ∷ [])
 type_found item t e =
     let s = step_some (unquoted item) type_named t e in
-    (s.0, ap (λ (i : ItemText). i ∷ []) (unquoted_is item s.0 s.1), (type_named_is s.0 t).0 s.2)
+    (s.0, ap (λ (i : ItemText). i ∷ []) (unquoted_is item s.0 s.1), (named_called s.0 t).0 s.2)
 
 type_only : (raw : List ℕ) (t : RecordType) → IsCalled t raw → type_at (plain raw) ≡ Some t
-type_only raw t h = (type_named_is raw t).1 h
+type_only raw t h = (named_called raw t).1 h
 
 -- ---- what stands behind the words is in the grammar
 

@@ -2,14 +2,13 @@
 use Rattle.std.specs.Prelude.{ℕ, ◌-◌, List, [], ◌∷◌, ◌++◌, length, map, if◌then◌else◌, Option, Some, None, option_and_then, Result, Ok, Err, bytes_eq}
 use Rattle.std.specs.List.{find}
 use Rattle.std.specs.Result.{result_ok}
-use Rattle.std.specs.Str.{str_eq_ignore_ascii_case}
 use Rattle.dns_names.specs.Reading.{absolute_name}
 use Rattle.dns_data.specs.declared.rdata.Data.{Data}
 use Rattle.dns_data.specs.declared.record.Record.{Record}
 use Rattle.dns_data.specs.declared.record_type.RecordType.{RecordType}
 use Rattle.dns_data.specs.Items.{ItemText}
 use Rattle.dns_data.specs.Numbers.{duration_of}
-use Rattle.dns_data.specs.Types.{type_text, kept_types}
+use Rattle.dns_data.specs.Types.{type_named}
 use Rattle.dns_data.specs.Reading.{data_of}
 use Rattle.dns_master.specs.Lines.{line_at}
 use Rattle.dns_master.specs.Entries.{Entry, entries}
@@ -51,11 +50,7 @@ name_at item = unquoted item >>? λ raw. result_ok (absolute_name raw)
 abbrev pub ttl_at : ItemText → Option ℕ
 ttl_at item = unquoted item >>? λ raw. result_ok (duration_of 2147483647 raw)
 
--- the kept type that is called so, in either letter case
-abbrev pub type_named : List ℕ → Option RecordType
-type_named raw = find (λ t. str_eq_ignore_ascii_case (type_text t) raw) kept_types
-
--- a type
+-- a kept type, by its name in either letter case
 abbrev pub type_at : ItemText → Option RecordType
 type_at item = unquoted item >>? type_named
 

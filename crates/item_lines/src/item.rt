@@ -3,7 +3,7 @@
 ghost use Rattle.std.specs.Prelude.{◌≡◌, map};
 ghost use Rattle.dns_data.specs.Items.{item_of};
 ghost use Rattle.item_lines.specs.Faults.{Tells};
-ghost use Rattle.item_lines.specs.Reading.{unquoted, name_at, ttl_at, type_named, type_at, name_alone, type_alone, set_at, datum_at, record_at, prerequisite_of, operation_of, prerequisite_named, operation_named, update_item};
+ghost use Rattle.item_lines.specs.Reading.{unquoted, name_at, ttl_at, type_at, name_alone, type_alone, set_at, datum_at, record_at, prerequisite_of, operation_of, prerequisite_named, operation_named, update_item};
 
 use crate::item_fault::ItemFault;
 use dns_data::{Data, Item, Record, RecordType, Ttl, read_data};
@@ -44,18 +44,11 @@ fn read_ttl(item: Item) -> Result<Ttl, ItemFault>
     Ok(Ttl::read(unquoted(item)?)?)
 }
 
-/// The type of this name, in either letter case.
-fn type_named(raw: &[u8]) -> Option<RecordType>
-    ensures { result ≡ type_named raw.now }
-{
-    RecordType::read(raw).ok()
-}
-
 /// The type that an item names.
 fn read_type(item: Item) -> Result<RecordType, ItemFault>
     ensures { Tells (λ record_type. record_type) result (type_at (item_of item.entry)) }
 {
-    type_named(unquoted(item)?).ok_or(ItemFault::NoItem)
+    Ok(RecordType::read(unquoted(item)?)?)
 }
 
 /// A name, and no more.
