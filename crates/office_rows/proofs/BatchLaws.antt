@@ -7,7 +7,6 @@ use Rattle.dns_names.specs.Labels.{IsName}
 use Rattle.dns_data.specs.declared.record.Record.{Record}
 use Rattle.zone_core.specs.Sets.{Records, Key, listing, minus, is_same, AreRows}
 use Rattle.zone_core.specs.Zones.{ZoneOf, IsZone, AreKept}
-use Rattle.zone_core.proofs.ChangeLemmas.{listed_so}
 use Rattle.zone_core.proofs.RowLemmas.{len_of}
 use Rattle.zone_core.proofs.ChangedLemmas.{changes_make}
 use Rattle.zone_core.specs.Changes.{ChangeOf, change_between, is_empty}

@@ -107,6 +107,16 @@ filter_one {X} p (x ∷ xs) up =
     none_pass [] all = refl
     none_pass (y ∷ ys) all = rw all.0 (none_pass ys all.1)
 
+-- ---- fronts
+
+-- one element more
+pub front_more : {X : Type 0} (xs : List X) (i : ℕ) (x : X) → i < length xs → x ≡ get_or xs i x → take (i + 1) xs ≡ take i xs ++ x ∷ []
+front_more [] i x below is = absurd (omega arith)
+front_more (y ∷ xs) zero x below is = ap (λ z. z ∷ []) (sym is)
+front_more (y ∷ xs) (suc i) x below is =
+    let n : suc i + 1 ≡ suc (i + 1) = omega arith in
+    ap (λ k. take k (y ∷ xs)) n ∙ ap (λ l. y ∷ l) (front_more xs i x (omega arith) is)
+
 -- ---- images
 
 -- an element of a list of images

@@ -1,14 +1,16 @@
 -- Replies in words: what is written is read, and what is read was written so.
-use Rattle.std.proofs.Common.{◌≡◌, ℕ, zero, suc, ◌-◌, ◌^◌, ◌<◌, ◌≤◌, Bool, true, false, cond, eqb, leb, not, ◌&&◌, ◌||◌, List, [], ◌∷◌, length, map, Option, Some, None, Result, Ok, Err, refl, sym, ap, subst, ◌∙◌, arith, eqb-true}
-use Rattle.std.proofs.lemmas.Bool.{agree_below_at, leb-true, le-leb, lt-ltb, and_parts, and_from}
+use Rattle.std.proofs.Common.{◌≡◌, ℕ, zero, suc, ◌-◌, ◌^◌, ◌<◌, ◌≤◌, Bool, true, false, cond, eqb, leb, not, ◌&&◌, ◌||◌, ◌↔◌, ◌⊎◌, inl, inr, List, [], ◌∷◌, ◌++◌, append_assoc, length, map, Option, Some, None, Result, Ok, Err, refl, sym, ap, subst, ◌∙◌, arith, eqb-true}
+use Rattle.std.proofs.lemmas.Bool.{false≢true, agree_below_at, leb-true, le-leb, lt-ltb, and_parts, and_from}
+use Rattle.std.proofs.lemmas.List.{append_cancel_right}
+use Rattle.std.proofs.lemmas.Slice.Eq.{bytes_eq-Decides}
 use Rattle.std.proofs.lemmas.Str.{IsUtf8-from_ascii}
-use Rattle.std.specs.Prelude.{nat_le, nat_lt, decimal, slice_index, IsUtf8}
+use Rattle.std.specs.Prelude.{nat_le, nat_lt, decimal, slice_index, if◌then◌else◌, IfSome, IsUtf8, bytes_eq, codes}
 use Rattle.std.specs.Char.{is_ascii_alphanumeric}
 use Rattle.std.specs.Int.{is_in_range}
 use Rattle.std.specs.List.{AllByRecursion, list_all}
 use Rattle.std.specs.Str.Parse.{digits_value}
 use Rattle.dns_data.specs.declared.item.Item.{Item}
-use Rattle.dns_data.specs.Items.{item_of, plain}
+use Rattle.dns_data.specs.Items.{item_of, plain, in_quotes}
 use Rattle.dns_data.specs.Numbers.{is_number}
 use Rattle.dns_data.proofs.NumberLaws.{is_numeral, decimal_is_number}
 use Rattle.dns_master.specs.Pieces.{ends_item}
@@ -25,10 +27,10 @@ use Rattle.office_core.specs.declared.reply.UpdateReply.{UpdateReply}
 use Rattle.office_core.specs.declared.reply.UpdateReply.TheVariants.{NoError, NotAuth, NotZone, Refused, Failed}
 use Rattle.office_rows.specs.declared.row_fault.RowFault.{RowFault}
 use Rattle.office_rows.specs.declared.row_fault.RowFault.TheVariants.{BadRow}
-use Rattle.office_rows.specs.ReplyWords.{list_word, place_words, failed_word, words_of, reply_words, IsReply}
+use Rattle.office_rows.specs.ReplyWords.{list_word, place_items, failed_word, denier_item, reply_items, reply_words, Wording, Current, Former, is_by_default, items_in, words_in, AreWordsOf, IsReply}
 use Rattle.office_rows.specs.RowFaults.{◌>>=◌}
-use Rattle.office_rows.specs.RowReading.{or_bad, identifier_in, code_named, list_named, number_named, reply_with, reply_at, denied_by, reply_of, reply_in}
-use Rattle.office_rows.proofs.RowSteps.{done}
+use Rattle.office_rows.specs.RowReading.{or_bad, identifier_in, code_named, list_named, number_named, reply_with, reply_at, denier_in, denied_by, reply_of, reply_in}
+use Rattle.office_rows.proofs.RowSteps.{done, ok_is}
 use Rattle.office_rows.proofs.FieldsLaws.{fields_read}
 
 -- ---- single words
@@ -69,16 +71,28 @@ number_read n h =
 abbrev at_item : Option ItemList → Rcode → List ℕ → Result UpdateReply RowFault
 at_item list code item = or_bad (number_named item) >>= λ n. Ok (reply_with code list n)
 
-item_read : (code : Rcode) (list : List ℕ) (n : ℕ) → n < 2 ^ 64 → reply_of (rcode_text code ∷ list ∷ decimal n ∷ []) ≡ Ok (reply_with code (list_named list) n)
+item_read : (code : Rcode) (list : List ℕ) (n : ℕ) → n < 2 ^ 64 → reply_at (rcode_text code) list (decimal n) ≡ Ok (reply_with code (list_named list) n)
 item_read code list n h =
     ap (λ o. or_bad o >>= λ c. at_item (list_named list) c (decimal n)) (code_read code)
     ∙ ap (λ o. or_bad o >>= λ m. done (reply_with code (list_named list) m)) (number_read n h)
 
-rule_read : (place : Place) (rule : List ℕ) → place.item < 2 ^ 64 → IsIdentifier rule → reply_of (rcode_text rcodes.Refused ∷ list_word place.list ∷ decimal place.item ∷ rule ∷ []) ≡ Ok (Refused place (Some rule))
-rule_read place rule h is =
-    ap (λ r. r >>= λ id. reply_at (rcode_text rcodes.Refused) (list_word place.list) (decimal place.item) >>= λ reply. denied_by reply id) (identifier_read rule is)
-    ∙ ap (λ r. r >>= λ reply. denied_by reply rule) (item_read rcodes.Refused (list_word place.list) place.item h)
-    ∙ ap (λ o. denied_by (reply_with rcodes.Refused o place.item) rule) (list_read place.list)
+-- who denied an item is read
+denier_read : (by : Option (List ℕ)) → IfSome by IsIdentifier → denier_in (denier_item by) ≡ Ok by
+denier_read None is = refl
+denier_read (Some rule) is = by_word (bytes_eq rule (codes "closing")) refl
+  where
+    id_is : (identifier_in rule >>= λ id. done (Some id)) ≡ Ok (Some rule)
+    id_is = ap (λ r. r >>= λ id. done (Some id)) (identifier_read rule is)
+
+    by_word : (b : Bool) → bytes_eq rule (codes "closing") ≡ b → denier_in (if b then in_quotes rule else plain rule) ≡ Ok (Some rule)
+    by_word true e = id_is
+    by_word false e = rw e id_is
+
+denied_read : (place : Place) (by : Option (List ℕ)) → place.item < 2 ^ 64 → IfSome by IsIdentifier → reply_of (reply_items (Refused place by)) ≡ Ok (Refused place by)
+denied_read place by h is =
+    ap (λ r. r >>= λ d. reply_at (rcode_text rcodes.Refused) (list_word place.list) (decimal place.item) >>= λ reply. denied_by reply d) (denier_read by is)
+    ∙ ap (λ r. r >>= λ reply. denied_by reply by) (item_read rcodes.Refused (list_word place.list) place.item h)
+    ∙ ap (λ o. denied_by (reply_with rcodes.Refused o place.item) by) (list_read place.list)
 
 failed_read : (code : Rcode) (n : ℕ) → reply_with code (list_named (failed_word code)) n ≡ Failed (record { code = code; item = n })
 failed_read rcodes.NoError n = refl
@@ -93,20 +107,23 @@ failed_read rcodes.NxRrset n = refl
 failed_read rcodes.NotAuth n = refl
 failed_read rcodes.NotZone n = refl
 
--- the words of a reply say it
-words_read : (reply : UpdateReply) → IsReply reply → reply_of (words_of reply) ≡ Ok reply
+-- the words of a reply say it, in either wording
+words_read : (reply : UpdateReply) → IsReply reply → reply_of (reply_items reply) ≡ Ok reply
 words_read NoError is = refl
 words_read NotAuth is = refl
 words_read (NotZone place) is =
     item_read rcodes.NotZone (list_word place.list) place.item is
     ∙ ap (λ o. done (reply_with rcodes.NotZone o place.item)) (list_read place.list)
-words_read (Refused place None) is =
-    item_read rcodes.Refused (list_word place.list) place.item is.0
-    ∙ ap (λ o. done (reply_with rcodes.Refused o place.item)) (list_read place.list)
-words_read (Refused place (Some rule)) is = rule_read place rule is.0 is.1
+words_read (Refused place by) is = denied_read place by is.0 is.1
 words_read (Failed failure) is =
     item_read failure.code (failed_word failure.code) failure.item is
     ∙ ap done (failed_read failure.code failure.item)
+
+worded_read : (wording : Wording) (reply : UpdateReply) → IsReply reply → reply_of (items_in wording reply) ≡ Ok reply
+worded_read Former (Refused place None) is =
+    item_read rcodes.Refused (list_word place.list) place.item is.0
+    ∙ ap (λ o. done (reply_with rcodes.Refused o place.item)) (list_read place.list)
+worded_read wording reply is = words_read reply is
 
 -- ---- words are items of a line
 
@@ -140,7 +157,7 @@ failed_clean rcodes.NxRrset = refl
 failed_clean rcodes.NotAuth = refl
 failed_clean rcodes.NotZone = refl
 
-place_clean : (place : Place) → place.item < 2 ^ 64 → AllByRecursion Clean (map plain (place_words place))
+place_clean : (place : Place) → place.item < 2 ^ 64 → AllByRecursion Clean (place_items place)
 place_clean place h = (list_clean place.list, (number_clean place.item h, tt))
 
 -- an octet of an identifier is of ASCII, and is ordinary in a line
@@ -183,28 +200,71 @@ rule_clean : (rule : List ℕ) → IsIdentifier rule → Clean (plain rule)
 rule_clean [] is = absurd (let none = is.not_empty in omega arith)
 rule_clean (o ∷ rule) is = octets_run (o ∷ rule) is.octets
 
-words_clean : (reply : UpdateReply) → IsReply reply → CleanLine (map plain (words_of reply))
+denier_clean : (by : Option (List ℕ)) → IfSome by IsIdentifier → Clean (denier_item by)
+denier_clean None is = refl
+denier_clean (Some rule) is = by_word (bytes_eq rule (codes "closing")) refl
+  where
+    by_word : (b : Bool) → bytes_eq rule (codes "closing") ≡ b → Clean (if b then in_quotes rule else plain rule)
+    by_word true e = subst (λ (text : List ℕ). Clean (in_quotes text)) (sym ((bytes_eq-Decides rule (codes "closing")).0 e)) refl
+    by_word false e = rule_clean rule is
+
+words_clean : (reply : UpdateReply) → IsReply reply → CleanLine (reply_items reply)
 words_clean NoError is = record { some = omega arith; clean = (code_clean rcodes.NoError, tt) }
 words_clean NotAuth is = record { some = omega arith; clean = (code_clean rcodes.NotAuth, tt) }
 words_clean (NotZone place) is = record { some = omega arith; clean = (code_clean rcodes.NotZone, place_clean place is) }
-words_clean (Refused place None) is = record { some = omega arith; clean = (code_clean rcodes.Refused, place_clean place is.0) }
-words_clean (Refused place (Some rule)) is =
-    record { some = omega arith; clean = (code_clean rcodes.Refused, (list_clean place.list, (number_clean place.item is.0, (rule_clean rule is.1, tt)))) }
+words_clean (Refused place by) is =
+    record { some = omega arith; clean = (code_clean rcodes.Refused, (list_clean place.list, (number_clean place.item is.0, (denier_clean by is.1, tt)))) }
 words_clean (Failed failure) is =
     record { some = omega arith; clean = (code_clean failure.code, (failed_clean failure.code, (number_clean failure.item is, tt))) }
 
+worded_clean : (wording : Wording) (reply : UpdateReply) → IsReply reply → CleanLine (items_in wording reply)
+worded_clean Former (Refused place None) is = record { some = omega arith; clean = (code_clean rcodes.Refused, place_clean place is.0) }
+worded_clean wording reply is = words_clean reply is
+
 -- ---- the words of a reply
 
-raws : (words : List (List ℕ)) → map (λ i. i.raw) (map plain words) ≡ words
-raws [] = refl
-raws (word ∷ words) = ap (λ (l : List (List ℕ)). word ∷ l) (raws words)
+pub reply_read : (wording : Wording) (reply : UpdateReply) → IsReply reply → reply_in (words_in wording reply) ≡ Ok reply
+reply_read wording reply is = ap (λ r. r >>= reply_of) (fields_read (items_in wording reply) (worded_clean wording reply is)) ∙ worded_read wording reply is
 
-pub reply_read : (reply : UpdateReply) → IsReply reply → reply_in (reply_words reply) ≡ Ok reply
-reply_read reply is =
-    ap (λ r. r >>= λ items. reply_of (map (λ i. i.raw) items)) (fields_read (map plain (words_of reply)) (words_clean reply is)) ∙ ap reply_of (raws (words_of reply)) ∙ words_read reply is
+-- whatever the wording
+pub text_read : (reply : UpdateReply) (text : List ℕ) → IsReply reply → AreWordsOf reply text → reply_in text ≡ Ok reply
+text_read reply text is (wording, e) = ap reply_in e ∙ reply_read wording reply is
+
+-- the words of one reply are not those of another
+pub one_reply : (text : List ℕ) (a b : UpdateReply) → IsReply a → IsReply b → AreWordsOf a text → AreWordsOf b text → a ≡ b
+one_reply text a b is also ours theirs = ok_is a b (sym (text_read a text is ours) ∙ text_read b text also theirs)
+
+-- ---- wordings
+
+closing_behind : (place : Place) → reply_words (Refused place None) ≡ words_in Former (Refused place None) ++ codes " closing"
+closing_behind place = sym (simp append_assoc)
+
+-- a text is that of a reply where it is what is written, or is that of a denial by the closing default, without its word
+pub written_or_former : (reply : UpdateReply) (text written : List ℕ) → written ≡ reply_words reply
+    → AreWordsOf reply text ↔ ((text ≡ written) ⊎ ((is_by_default reply ≡ true) × (written ≡ text ++ codes " closing")))
+written_or_former reply text written w = (λ are. from are.0 reply w are.1, to reply w)
+  where
+    Told : UpdateReply → Type 0
+    Told r = (text ≡ written) ⊎ ((is_by_default r ≡ true) × (written ≡ text ++ codes " closing"))
+
+    from : (wording : Wording) (r : UpdateReply) → written ≡ reply_words r → text ≡ words_in wording r → Told r
+    from Current r v e = inl (e ∙ sym v)
+    from Former (Refused place None) v e = inr (refl, v ∙ closing_behind place ∙ ap (λ (l : List ℕ). l ++ codes " closing") (sym e))
+    from Former r v e = inl (e ∙ sym v)
+
+    shorter : (r : UpdateReply) → written ≡ reply_words r → is_by_default r ≡ true → written ≡ text ++ codes " closing" → AreWordsOf r text
+    shorter (Refused place None) v d e =
+        (Former, append_cancel_right text (words_in Former (Refused place None)) (codes " closing") (sym e ∙ v ∙ closing_behind place))
+    shorter r v d e = absurd (false≢true d)
+
+    to : (r : UpdateReply) → written ≡ reply_words r → Told r → AreWordsOf r text
+    to r v (inl e) = (Current, e ∙ v)
+    to r v (inr h) = shorter r v h.0 h.1
+
+-- ---- other words
 
 -- other numbers of words are not a reply
-pub reply_none : (xs : List Item) → (length xs ≡ 1 → ⊥) → (length xs ≡ 3 → ⊥) → (length xs ≡ 4 → ⊥) → reply_of (map (λ i. i.raw) (map item_of xs)) ≡ Err BadRow
+pub reply_none : (xs : List Item) → (length xs ≡ 1 → ⊥) → (length xs ≡ 3 → ⊥) → (length xs ≡ 4 → ⊥) → reply_of (map item_of xs) ≡ Err BadRow
 reply_none [] one three four = refl
 reply_none (a ∷ []) one three four = absurd (one refl)
 reply_none (a ∷ b ∷ []) one three four = refl

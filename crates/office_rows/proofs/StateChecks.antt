@@ -1,7 +1,7 @@
 -- Rows of receipts, and all rows: they pass the check exactly where they are a state's.
 use Rattle.std.proofs.Common.{◌≡◌, ℕ, ℤ, true, List, [], ◌∷◌, map, Err, IsPermutation, IsSorted, refl, sym, ap, subst, ◌∙◌}
 use Rattle.std.proofs.lemmas.Cmp.{tied_itself}
-use Rattle.std.proofs.lemmas.List.Sorted.{IsPermutation-sym, IsPermutation-trans}
+use Rattle.std.proofs.lemmas.List.Sorted.{IsPermutation-sym, IsPermutation-trans, IsPermutation-map}
 use Rattle.std.specs.Prelude.{option_map}
 use Rattle.std.specs.declared.cmp.Ordering.{Ordering}
 use Rattle.std.specs.declared.cmp.Ordering.TheVariants.{Less, Equal, Greater}
@@ -10,18 +10,19 @@ use Rattle.std.specs.List.{AllByRecursion}
 use Rattle.std.specs.Ordering.{nat_cmp, ordering_then}
 use Rattle.sqlite_trees.proofs.ListLemmas.{IsPermutation-same}
 use Rattle.sqlite_keyed.proofs.ListLemmas.{all_weaker, all_map, ascending-map, ascending_from_map, ascending_weaker, map-map}
+use Rattle.sqlite_trees.specs.Tree.{IsAscending}
 use Rattle.dns_names.proofs.KeyLaws.{octets_exact}
-use Rattle.office_core.specs.declared.receipt.Receipt.{Receipt}
 use Rattle.office_core.specs.States.{State}
+use Rattle.office_core.specs.declared.receipt.Receipt.{Receipt}
 use Rattle.office_sql.specs.Rows.{ReceiptRowOf, RowsOf}
+use Rattle.office_rows.specs.ReceiptRows.{IsRowOfReceipt}
 use Rattle.office_rows.specs.declared.row_fault.RowFault.{RowFault}
 use Rattle.office_rows.specs.declared.row_fault.RowFault.TheVariants.{BadRow, NoMemory}
-use Rattle.office_rows.specs.Contents.{ReceiptAt, ContentOf, row_of_receipt, IsReceiptAt, held_of, zone_among, receipt_among, AreOfState}
-use Rattle.office_rows.proofs.ReceiptRowLaws.{receipt_rows_are_apart}
-use Rattle.office_rows.specs.declared.ordered.CallerReceipt.{CallerReceipt}
+use Rattle.office_rows.specs.Contents.{ReceiptAt, receipt_under, ContentOf, row_of_receipt, IsReceiptAt, held_of, zone_among, receipt_among, AreOfState}
+use Rattle.office_rows.specs.declared.ordered.ReceiptKey.{ReceiptKey}
 use Rattle.office_rows.specs.Orders.{rises}
-use Rattle.office_rows.specs.Checks.{AreReceiptRows, AreStateRows, Checks, receipt_at, row_of_caller_receipt, IsCallerReceipt, IsReceiptRow, caller_receipt_order, caller_receipt_total}
-use Rattle.office_rows.proofs.ListLemmas.{ascending_from_pairs, pairs_from_ascending, all_permutation, moved_back, apart_moved, one_moved}
+use Rattle.office_rows.specs.Checks.{AreReceiptRows, AreStateRows, Checks, IsReceiptRow, row_key, receipt_key_order, receipt_key_total}
+use Rattle.office_rows.proofs.ListLemmas.{ascending_from_pairs, pairs_from_ascending, all_permutation, chosen, apart_moved, one_moved}
 use Rattle.office_rows.proofs.OrderLemmas.{rises_from, rises_up, sorted_strict}
 use Rattle.office_rows.proofs.ReceiptReadLemmas.{Differ}
 
@@ -45,25 +46,35 @@ both_tied Less b e = absurd cc
 both_tied Equal b e = (refl, e)
 both_tied Greater b e = absurd cc
 
-not_tied : (a b : CallerReceipt) → Differ (receipt_at a) (receipt_at b) → caller_receipt_order a b ≡ Equal → ⊥
+-- two keys differ
+abbrev KeysDiffer : ReceiptKey → ReceiptKey → Type 0
+KeysDiffer a b = ¬ ((a.caller ≡ b.caller) × (a.id ≡ b.id))
+
+not_tied : (a b : ReceiptKey) → KeysDiffer a b → receipt_key_order a b ≡ Equal → ⊥
 not_tied a b differ tie =
     let both = both_tied (slice_cmp nat_cmp a.caller b.caller) (slice_cmp nat_cmp a.id b.id) tie in
     differ (octets_exact a.caller b.caller both.0, octets_exact a.id b.id both.1)
 
-differ_from : (a b : CallerReceipt) → caller_receipt_order a b ≡ Less → Differ (receipt_at a) (receipt_at b)
+differ_from : (a b : ReceiptKey) → receipt_key_order a b ≡ Less → KeysDiffer a b
 differ_from a b less same =
     let callers : slice_cmp nat_cmp a.caller b.caller ≡ Equal = ap (λ x. slice_cmp nat_cmp x b.caller) same.0 ∙ tied_itself nat_list_cmp_total b.caller in
     let ids : slice_cmp nat_cmp a.id b.id ≡ Equal = ap (λ x. slice_cmp nat_cmp x b.id) same.1 ∙ tied_itself nat_list_cmp_total b.id in
-    let tie : caller_receipt_order a b ≡ Equal = ap (λ x. ordering_then x (slice_cmp nat_cmp a.id b.id)) callers ∙ ids in
+    let tie : receipt_key_order a b ≡ Equal = ap (λ x. ordering_then x (slice_cmp nat_cmp a.id b.id)) callers ∙ ids in
     let bad : Less ≡ Equal = sym less ∙ tie in
     cc
 
-one_row : (a b : ReceiptAt) → IsReceiptAt a → IsReceiptAt b → row_of_receipt a ≡ row_of_receipt b → a ≡ b
-one_row a b is also e =
-    let all = receipt_rows_are_apart a.caller b.caller a.id b.id a.receipt b.receipt is.receipt also.receipt e in
-    ap (λ (c : List ℕ). record { caller = c; id = a.id; receipt = a.receipt }) all.0
-    ∙ ap (λ (i : List ℕ). record { caller = b.caller; id = i; receipt = a.receipt }) all.1
-    ∙ ap (λ (r : Receipt). record { caller = b.caller; id = b.id; receipt = r }) all.2
+-- keys of the one order differ where those of the other do
+keys_moved : (ks ls : List ReceiptKey) → IsPermutation ks ls → IsAscending KeysDiffer ks → IsAscending KeysDiffer ls
+keys_moved = apart_moved KeysDiffer (λ a b differ s. differ (sym s.0, sym s.1))
+
+-- a row of a receipt that was read
+pub row_is : (row : ReceiptRowOf) (caller id : List ℕ) (receipt : Receipt) → IsRowOfReceipt caller id receipt row → IsReceiptAt (receipt_under caller id receipt) → IsReceiptRow row
+row_is row caller id receipt (wording, e) is =
+    (record { caller = caller; id = id; receipt = receipt; wording = wording }, record { caller = is.caller; id = is.id; receipt = is.receipt }, e)
+
+-- the key of a receipt
+abbrev key_at : ReceiptAt → ReceiptKey
+key_at r = row_key (row_of_receipt r)
 
 module _ (rows : List ReceiptRowOf) where
   pub receipt_rows : AreReceiptRows rows → AllByRecursion IsReceiptRow rows
@@ -71,25 +82,27 @@ module _ (rows : List ReceiptRowOf) where
       all_permutation IsReceiptRow (map row_of_receipt are.receipts) rows are.same
       (all_map IsReceiptRow row_of_receipt are.receipts (all_weaker IsReceiptAt (λ r. IsReceiptRow (row_of_receipt r)) (λ r is. (r, is, refl)) are.receipts are.each))
 
-  module _ (ks : List CallerReceipt) (same : IsPermutation (map row_of_caller_receipt ks) rows) (each : AllByRecursion IsCallerReceipt ks) where
-    mine : IsPermutation (map row_of_receipt (map receipt_at ks)) rows
-    mine = subst (λ l. IsPermutation l rows) (sym (map-map row_of_receipt receipt_at ks)) same
-
-    pub receipts_rise : AreReceiptRows rows → IsSorted caller_receipt_order ks → rises caller_receipt_order ks ≡ true
+  module _ (ks : List ReceiptKey) (same : IsPermutation (map row_key rows) ks) where
+    pub receipts_rise : AreReceiptRows rows → IsSorted receipt_key_order ks → rises receipt_key_order ks ≡ true
     receipts_rise are sorted =
-        let moved = moved_back IsReceiptAt row_of_receipt one_row are.receipts (map receipt_at ks) are.each (all_map IsReceiptAt receipt_at ks each)
-        (IsPermutation-trans (map row_of_receipt are.receipts) rows (map row_of_receipt (map receipt_at ks)) are.same (IsPermutation-sym (map row_of_receipt (map receipt_at ks)) rows mine)) in
-        let apart = apart_moved Differ (λ a b differ s. differ (sym s.0, sym s.1)) are.receipts (map receipt_at ks) moved (ascending_from_pairs Differ are.receipts are.apart) in
-        let untied = ascending_weaker (λ a b. Differ (receipt_at a) (receipt_at b)) (λ a b. ¬ (caller_receipt_order a b ≡ Equal)) not_tied ks (ascending_from_map Differ receipt_at ks apart) in
-        rises_from caller_receipt_order ks (sorted_strict caller_receipt_order caller_receipt_total ks sorted untied)
+        let keys = subst (λ l. IsPermutation l (map row_key rows)) (map-map row_key row_of_receipt are.receipts) (IsPermutation-map row_key (map row_of_receipt are.receipts) rows are.same) in
+        let moved = IsPermutation-trans (map key_at are.receipts) (map row_key rows) ks keys same in
+        let apart = keys_moved (map key_at are.receipts) ks moved (ascending-map KeysDiffer key_at are.receipts (ascending_from_pairs Differ are.receipts are.apart)) in
+        let untied = ascending_weaker KeysDiffer (λ a b. ¬ (receipt_key_order a b ≡ Equal)) not_tied ks apart in
+        rises_from receipt_key_order ks (sorted_strict receipt_key_order receipt_key_total ks sorted untied)
 
-    pub are_receipt_rows : rises caller_receipt_order ks ≡ true → AreReceiptRows rows
-    are_receipt_rows rise = record {
-      receipts = map receipt_at ks;
-      apart = pairs_from_ascending Differ (map receipt_at ks) (ascending-map Differ receipt_at ks (ascending_weaker (λ a b. caller_receipt_order a b ≡ Less) (λ a b. Differ (receipt_at a) (receipt_at b)) differ_from ks (rises_up caller_receipt_order caller_receipt_total ks rise)));
-      each = all_map IsReceiptAt receipt_at ks each;
-      same = mine;
-    }
+    pub are_receipt_rows : AllByRecursion IsReceiptRow rows → rises receipt_key_order ks ≡ true → AreReceiptRows rows
+    are_receipt_rows each rise =
+        let all = chosen IsReceiptAt row_of_receipt rows each in
+        let keys : map row_key rows ≡ map key_at all.0 = ap (map row_key) all.1 ∙ map-map row_key row_of_receipt all.0 in
+        let back = subst (IsPermutation ks) keys (IsPermutation-sym (map row_key rows) ks same) in
+        let apart = keys_moved ks (map key_at all.0) back (ascending_weaker (λ a b. receipt_key_order a b ≡ Less) KeysDiffer differ_from ks (rises_up receipt_key_order receipt_key_total ks rise)) in
+        record {
+          receipts = all.0;
+          apart = pairs_from_ascending Differ all.0 (ascending_from_map KeysDiffer key_at all.0 apart);
+          each = all.2;
+          same = IsPermutation-same (map row_of_receipt all.0) rows (sym all.1);
+        }
 
 -- ---- all rows
 

@@ -10,7 +10,7 @@ use Rattle.office_core.specs.Tables.{AdditionOf}
 use Rattle.office_sql.specs.Rows.{BatchOf, ReceiptRowOf, RowsOf, written}
 use Rattle.office_sql.specs.Holds.{made_rows}
 use Rattle.office_rows.specs.ChangeRows.{change_rows}
-use Rattle.office_rows.specs.Contents.{ReceiptAt, row_of_receipt, AreOfState}
+use Rattle.office_rows.specs.Contents.{ReceiptAt, receipt_under, row_of_receipt, AreOfState}
 use Rattle.office_rows.specs.RecordRows.{record_row}
 
 -- a batch turns rows that are one state, in tables of whatever version, into rows that are another
@@ -42,7 +42,7 @@ NewTablesHoldNothing = (version : ℤ) → AreOfState version (made_rows version
 
 -- the receipt of an addition, as it is kept
 abbrev pub receipt_at : AdditionOf → ReceiptAt
-receipt_at a = record { caller = a.caller; id = a.id; receipt = a.receipt }
+receipt_at a = receipt_under a.caller a.id a.receipt
 
 -- the row of the receipt of an addition
 abbrev pub receipt_rows : AdditionOf → List ReceiptRowOf

@@ -19,7 +19,7 @@ use Rattle.office_rows.specs.declared.row_fault.RowFault.TheVariants.{BadRow, No
 use Rattle.office_rows.specs.RecordRows.{record_row}
 use Rattle.office_rows.specs.ChangeRows.{are_numbered}
 use Rattle.office_rows.specs.Contents.{ZoneRows, ReceiptAt, zone_records, zone_changes, row_of_receipt, IsZoneRows, IsReceiptAt}
-use Rattle.office_rows.specs.declared.ordered.CallerReceipt.{CallerReceipt}
+use Rattle.office_rows.specs.declared.ordered.ReceiptKey.{ReceiptKey}
 use Rattle.office_rows.specs.declared.ordered.ZoneRecord.{ZoneRecord}
 
 -- ---- table by table
@@ -79,29 +79,21 @@ zone_record_order = then_cmp (on (λ r. r.origin) canonical_cmp) (on (λ r. r.rr
 pub zone_record_total : IsTotalOrder zone_record_order
 zone_record_total = then_total (on_total (λ r. r.origin) canonical_total) (on_total (λ r. r.rr) record_order_total)
 
--- a receipt with its caller and its identifier
-abbrev pub receipt_at : CallerReceipt → ReceiptAt
-receipt_at k = record { caller = k.caller; id = k.id; receipt = k.receipt }
-
--- the row of such a receipt
-abbrev pub row_of_caller_receipt : CallerReceipt → ReceiptRowOf
-row_of_caller_receipt k = row_of_receipt (receipt_at k)
-
--- what every such receipt is
-abbrev pub IsCallerReceipt : CallerReceipt → Type 0
-IsCallerReceipt k = IsReceiptAt (receipt_at k)
-
--- a row of such a receipt
+-- a row of a receipt
 abbrev pub IsReceiptRow : ReceiptRowOf → Type 0
 IsReceiptRow row = (r : ReceiptAt) × IsReceiptAt r × (row ≡ row_of_receipt r)
 
+-- the caller and the identifier of a row
+abbrev pub row_key : ReceiptRowOf → ReceiptKey
+row_key row = record { caller = row.caller; id = row.id }
+
 -- by caller, and then by identifier
-abbrev pub caller_receipt_order : CallerReceipt → CallerReceipt → Ordering
-caller_receipt_order = then_cmp (on (λ k. k.caller) (slice_cmp nat_cmp)) (on (λ k. k.id) (slice_cmp nat_cmp))
+abbrev pub receipt_key_order : ReceiptKey → ReceiptKey → Ordering
+receipt_key_order = then_cmp (on (λ k. k.caller) (slice_cmp nat_cmp)) (on (λ k. k.id) (slice_cmp nat_cmp))
 
 -- which is a total order
-pub caller_receipt_total : IsTotalOrder caller_receipt_order
-caller_receipt_total = then_total (on_total (λ k. k.caller) nat_list_cmp_total) (on_total (λ k. k.id) nat_list_cmp_total)
+pub receipt_key_total : IsTotalOrder receipt_key_order
+receipt_key_total = then_total (on_total (λ k. k.caller) nat_list_cmp_total) (on_total (λ k. k.id) nat_list_cmp_total)
 
 -- ---- zone by zone
 

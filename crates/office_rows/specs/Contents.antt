@@ -14,7 +14,8 @@ use Rattle.office_core.specs.States.{Held, State}
 use Rattle.office_sql.specs.Rows.{RecordRowOf, ReceiptRowOf, ChangeRowOf, RowsOf}
 use Rattle.office_sql.specs.Holds.{SameRows}
 use Rattle.office_rows.specs.RecordRows.{record_row}
-use Rattle.office_rows.specs.ReceiptRows.{receipt_row, IsReceipt}
+use Rattle.office_rows.specs.ReplyWords.{Wording, Current}
+use Rattle.office_rows.specs.ReceiptRows.{receipt_row_in, IsReceipt}
 use Rattle.office_rows.specs.ChangeRows.{changes_rows, IsChange}
 
 -- a zone as rows have it: its origin, its records in record order, and its changes, the oldest first
@@ -23,11 +24,16 @@ pub record ZoneRows : Type 0 where
   pub records : List Record
   pub changes : List ChangeOf
 
--- a receipt, with the caller and the identifier under which it is kept
+-- a receipt, with the caller and the identifier under which it is kept, and the wording of its reply
 pub record ReceiptAt : Type 0 where
   pub caller : List ℕ
   pub id : List ℕ
   pub receipt : Receipt
+  pub wording : Wording
+
+-- as it is written
+abbrev pub receipt_under : List ℕ → List ℕ → Receipt → ReceiptAt
+receipt_under caller id receipt = record { caller = caller; id = id; receipt = receipt; wording = Current }
 
 pub record ContentOf : Type 0 where
   pub zones : List ZoneRows
@@ -45,7 +51,7 @@ zone_changes z = changes_rows z.origin 1 z.changes
 
 -- the row of a receipt
 abbrev pub row_of_receipt : ReceiptAt → ReceiptRowOf
-row_of_receipt r = receipt_row r.caller r.id r.receipt
+row_of_receipt r = receipt_row_in r.wording r.caller r.id r.receipt
 
 -- the rows of a content, in tables of this version
 abbrev pub rows_of : ℤ → ContentOf → RowsOf

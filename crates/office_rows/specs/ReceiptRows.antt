@@ -6,17 +6,29 @@ use Rattle.zone_core.specs.Updates.{IsUpdate}
 use Rattle.office_core.specs.declared.receipt.Receipt.{Receipt}
 use Rattle.office_sql.specs.Rows.{ReceiptRowOf}
 use Rattle.item_lines.specs.Texts.{update_text}
-use Rattle.office_rows.specs.ReplyWords.{reply_words, IsReply}
+use Rattle.office_rows.specs.ReplyWords.{Wording, Current, words_in, IsReply}
 
--- the receipt of a caller under an identifier: the request by its item lines, and the reply by its words
-abbrev pub receipt_row : List ℕ → List ℕ → Receipt → ReceiptRowOf
-receipt_row caller id receipt = record {
+-- the receipt of a caller under an identifier: the request by its item lines, and the reply by its words, in a wording
+abbrev pub receipt_row_in : Wording → List ℕ → List ℕ → Receipt → ReceiptRowOf
+receipt_row_in wording caller id receipt = record {
   caller = caller;
   id = id;
   origin = name_text receipt.origin;
   request = update_text receipt.update;
-  reply = reply_words receipt.reply;
+  reply = words_in wording receipt.reply;
 }
+
+-- as it is written
+abbrev pub receipt_row : List ℕ → List ℕ → Receipt → ReceiptRowOf
+receipt_row = receipt_row_in Current
+
+-- a row is that of the receipt of a caller under an identifier, in one of the wordings
+abbrev pub IsRowOfReceipt : List ℕ → List ℕ → Receipt → ReceiptRowOf → Type 0
+IsRowOfReceipt caller id receipt row = (wording : Wording) × (row ≡ receipt_row_in wording caller id receipt)
+
+-- two rows differ in their replies at most
+abbrev pub SameButReply : ReceiptRowOf → ReceiptRowOf → Type 0
+SameButReply a b = (a.caller ≡ b.caller) × (a.id ≡ b.id) × (a.origin ≡ b.origin) × (a.request ≡ b.request)
 
 -- what every receipt is: of an origin, an update and a reply
 pub record IsReceipt (receipt : Receipt) : Type 0 where
@@ -27,4 +39,4 @@ pub record IsReceipt (receipt : Receipt) : Type 0 where
 -- a row is of one caller, one identifier and one receipt
 abbrev pub ReceiptRowsAreApart : Type 0
 ReceiptRowsAreApart =
-    (b c i j : List ℕ) (r s : Receipt) → IsReceipt r → IsReceipt s → receipt_row b i r ≡ receipt_row c j s → (b ≡ c) × (i ≡ j) × (r ≡ s)
+    (b c i j : List ℕ) (r s : Receipt) (row : ReceiptRowOf) → IsReceipt r → IsReceipt s → IsRowOfReceipt b i r row → IsRowOfReceipt c j s row → (b ≡ c) × (i ≡ j) × (r ≡ s)

@@ -1,5 +1,5 @@
 -- What rows say. Whether a row is the one row of what it is read as is another question.
-use Rattle.std.specs.Prelude.{◌≡◌, ℕ, ◌^◌, ◌-◌, ℤ, pos, negsuc, List, [], ◌∷◌, length, map, Bool, ◌&&◌, ◌==◌, nat_le, nat_lt, if◌then◌else◌, Option, Some, None, Result, Ok, Err, bytes_eq}
+use Rattle.std.specs.Prelude.{◌≡◌, ℕ, ◌^◌, ◌-◌, ℤ, pos, negsuc, List, [], ◌∷◌, length, map, Bool, not, ◌&&◌, ◌==◌, nat_le, nat_lt, if◌then◌else◌, Option, Some, None, Result, Ok, Err, bytes_eq, codes}
 use Rattle.std.specs.List.{find, list_all}
 use Rattle.std.specs.List.Sorted.{IsPermutation, IsSorted}
 use Rattle.std.specs.Ordering.{int_eq}
@@ -150,21 +150,26 @@ reply_with code list n = Failed (failed n code)
 abbrev pub reply_at : List ℕ → List ℕ → List ℕ → Result UpdateReply RowFault
 reply_at code list item = or_bad (code_named code) >>= λ c. or_bad (number_named item) >>= λ n. Ok (reply_with c (list_named list) n)
 
--- a denial by a rule, where it was one by none
-abbrev pub denied_by : UpdateReply → List ℕ → Result UpdateReply RowFault
-denied_by (Refused place None) rule = Ok (Refused place (Some rule))
-denied_by reply rule = Err BadRow
+-- who denied an item: the closing default, by its word, which is not in quotes, or a rule
+abbrev pub denier_in : ItemText → Result (Option (List ℕ)) RowFault
+denier_in item =
+    if not item.quoted && bytes_eq item.raw (codes "closing") then Ok None else (identifier_in item.raw >>= λ rule. Ok (Some rule))
 
--- a reply by its words, whatever their spelling
-abbrev pub reply_of : List (List ℕ) → Result UpdateReply RowFault
-reply_of (code ∷ []) = or_bad (code_named code) >>= reply_alone
-reply_of (code ∷ list ∷ item ∷ []) = reply_at code list item
-reply_of (code ∷ list ∷ item ∷ rule ∷ []) = identifier_in rule >>= λ id. reply_at code list item >>= λ reply. denied_by reply id
+-- a denial, with who denied it
+abbrev pub denied_by : UpdateReply → Option (List ℕ) → Result UpdateReply RowFault
+denied_by (Refused place None) by = Ok (Refused place by)
+denied_by reply by = Err BadRow
+
+-- a reply by its words, whatever their spelling; a denial by nobody is one by the closing default
+abbrev pub reply_of : List ItemText → Result UpdateReply RowFault
+reply_of (code ∷ []) = or_bad (code_named code.raw) >>= reply_alone
+reply_of (code ∷ list ∷ item ∷ []) = reply_at code.raw list.raw item.raw
+reply_of (code ∷ list ∷ item ∷ by ∷ []) = denier_in by >>= λ d. reply_at code.raw list.raw item.raw >>= λ reply. denied_by reply d
 reply_of words = Err BadRow
 
 -- a reply
 abbrev pub reply_in : List ℕ → Result UpdateReply RowFault
-reply_in text = fields_of text >>= λ items. reply_of (map (λ i. i.raw) items)
+reply_in text = fields_of text >>= reply_of
 
 -- ---- receipts
 

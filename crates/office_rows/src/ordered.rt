@@ -6,7 +6,7 @@ ghost use Rattle.std.specs.List.Sorted.{IsPermutation, IsSorted};
 ghost use Rattle.dns_names.specs.Labels.{IsName};
 ghost use Rattle.dns_names.specs.Order.{canonical_cmp};
 ghost use Rattle.dns_names.specs.Spelling.{name_text};
-ghost use Rattle.office_rows.specs.Checks.{IsOriginText, row_of_record, IsZoneRecord, IsZoneRecordRow, zone_record_order, row_of_caller_receipt, IsCallerReceipt, IsReceiptRow, caller_receipt_order};
+ghost use Rattle.office_rows.specs.Checks.{IsOriginText, row_of_record, IsZoneRecord, IsZoneRecordRow, zone_record_order, IsReceiptRow, row_key, receipt_key_order};
 
 use crate::ascending::Ordered;
 use crate::columns::read_origin;
@@ -16,7 +16,6 @@ use crate::row_fault::RowFault;
 use dns_data::{Record, record_order};
 use dns_names::Name;
 use grant_policy::Identifier;
-use office_core::Receipt;
 use office_sql::{ReceiptRow, RecordRow, ZoneRow};
 use std::alloc::Global;
 use std::cmp::Ordering;
@@ -30,12 +29,11 @@ pub struct ZoneRecord {
     pub rr: Record,
 }
 
-/// A receipt, with the caller and the identifier under which it is kept, as a row has it.
+/// The caller and the identifier under which a receipt is kept.
 #[derive(Drop)]
-pub(crate) struct CallerReceipt {
+pub(crate) struct ReceiptKey {
     pub(crate) caller: Identifier,
     pub(crate) id: Identifier,
-    pub(crate) receipt: Receipt,
 }
 
 /// The origin of each row.
@@ -93,26 +91,22 @@ pub fn records(alloc: Global, rows: &[RecordRow]) -> Result<Vec<ZoneRecord>, Row
     Ok(records)
 }
 
-/// The receipt of each row.
-fn all_receipts(alloc: Global, rows: &[ReceiptRow]) -> Result<Vec<CallerReceipt>, RowFault>
-    ensures found { IfOk result (λ ks. (map row_of_caller_receipt ks.items ≡ rows.now) × AllByRecursion IsCallerReceipt ks.items) }
+/// Under what the receipt of each row is kept.
+fn receipt_keys(alloc: Global, rows: &[ReceiptRow]) -> Result<Vec<ReceiptKey>, RowFault>
+    ensures found { IfOk result (λ ks. (ks.items ≡ map row_key rows.now) × AllByRecursion IsReceiptRow rows.now) }
     ensures only { AllByRecursion IsReceiptRow rows.now → IfErr result (λ e. e ≡ RowFault.NoMemory) }
 {
-    let mut receipts = Vec::with_capacity(alloc, rows.len())?;
+    let mut keys = Vec::with_capacity(alloc, rows.len())?;
     for row in rows {
-        let (caller, id, receipt) = read_receipt(alloc, row)?;
-        receipts.push(CallerReceipt {
-            caller,
-            id,
-            receipt,
-        })?;
+        let (caller, id, _receipt) = read_receipt(alloc, row)?;
+        keys.push(ReceiptKey { caller, id })?;
     }
-    Ok(receipts)
+    Ok(keys)
 }
 
 /// By caller, and then by identifier.
-fn caller_receipt_order(first: &CallerReceipt, second: &CallerReceipt) -> Ordering
-    ensures { result ≡ caller_receipt_order first.now second.now }
+fn receipt_key_order(first: &ReceiptKey, second: &ReceiptKey) -> Ordering
+    ensures { result ≡ receipt_key_order first.now second.now }
 {
     first
         .caller
@@ -120,22 +114,22 @@ fn caller_receipt_order(first: &CallerReceipt, second: &CallerReceipt) -> Orderi
         .then(first.id.cmp(&second.id))
 }
 
-impl Ordered for CallerReceipt {
-    ghost use Rattle.office_rows.specs.Checks.{caller_receipt_order};
+impl Ordered for ReceiptKey {
+    ghost use Rattle.office_rows.specs.Checks.{receipt_key_order};
 
-    ghost compare = { caller_receipt_order };
+    ghost compare = { receipt_key_order };
 
-    fn compare(&self, other: &CallerReceipt) -> Ordering {
-        caller_receipt_order(self, other)
+    fn compare(&self, other: &ReceiptKey) -> Ordering {
+        receipt_key_order(self, other)
     }
 }
 
-/// The receipts of rows of `receipts`, by caller, and then by identifier.
-pub(crate) fn receipts(alloc: Global, rows: &[ReceiptRow]) -> Result<Vec<CallerReceipt>, RowFault>
-    ensures found { IfOk result (λ ks. IsPermutation (map row_of_caller_receipt ks.items) rows.now × AllByRecursion IsCallerReceipt ks.items × IsSorted caller_receipt_order ks.items) }
+/// Under what the receipts of rows of `receipts` are kept, by caller, and then by identifier.
+pub(crate) fn receipts(alloc: Global, rows: &[ReceiptRow]) -> Result<Vec<ReceiptKey>, RowFault>
+    ensures found { IfOk result (λ ks. IsPermutation (map row_key rows.now) ks.items × AllByRecursion IsReceiptRow rows.now × IsSorted receipt_key_order ks.items) }
     ensures only { AllByRecursion IsReceiptRow rows.now → IfErr result (λ e. e ≡ RowFault.NoMemory) }
 {
-    let mut receipts = all_receipts(alloc, rows)?;
-    receipts.sort_by(|first, second| caller_receipt_order(first, second))?;
-    Ok(receipts)
+    let mut keys = receipt_keys(alloc, rows)?;
+    keys.sort_by(|first, second| receipt_key_order(first, second))?;
+    Ok(keys)
 }

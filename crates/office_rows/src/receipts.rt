@@ -2,17 +2,18 @@
 
 ghost use Rattle.std.specs.Prelude.{◌≡◌, ◌↔◌, List, ℕ, true, Ok, IfOk};
 ghost use Rattle.office_core.specs.declared.receipt.Receipt.{Receipt as ReceiptOf};
-ghost use Rattle.office_rows.specs.Contents.{ReceiptAt, row_of_receipt, IsReceiptAt};
-ghost use Rattle.office_rows.specs.ReceiptRows.{receipt_row, IsReceipt};
+ghost use Rattle.office_rows.specs.Contents.{ReceiptAt, receipt_under, row_of_receipt, IsReceiptAt};
+ghost use Rattle.office_rows.specs.ReceiptRows.{receipt_row, IsRowOfReceipt, SameButReply, IsReceipt};
+ghost use Rattle.office_rows.specs.ReplyWords.{reply_words, AreWordsOf};
 ghost use Rattle.office_rows.specs.RowFaults.{Reads};
 ghost use Rattle.office_rows.specs.RowReading.{request_in, receipt_in};
 
 use crate::columns::{identifier_in, identifier_text, name_from};
-use crate::replies::{reply_in, reply_words, reveal_reply};
+use crate::replies::{are_words_of, reply_in, reply_words, reveal_reply};
 use crate::row_fault::RowFault;
 use grant_policy::Identifier;
 use item_lines::{items_text, read_items};
-use office_core::Receipt;
+use office_core::{Receipt, UpdateReply};
 use office_sql::ReceiptRow;
 use std::alloc::{AllocError, Global};
 use zone_core::Update;
@@ -28,7 +29,7 @@ fn reveal_receipt(receipt: &Receipt)
 
 /// And it is kept under two identifiers. Only proofs need it.
 fn reveal_caller_receipt(caller: &Identifier, id: &Identifier, receipt: &Receipt)
-    ensures { IsReceiptAt (record { caller = caller.now; id = id.now; receipt = receipt.now }) }
+    ensures { IsReceiptAt (receipt_under caller.now id.now receipt.now) }
 {
     let _ = caller.as_bytes();
     let _ = id.as_bytes();
@@ -45,7 +46,7 @@ pub fn receipt_row(
 ) -> Result<ReceiptRow, AllocError>
     ensures row { IfOk result (λ row. row ≡ receipt_row caller.now id.now receipt.now) }
     // What all receipts are.
-    ensures receipt { IsReceiptAt (record { caller = caller.now; id = id.now; receipt = receipt.now }) }
+    ensures receipt { IsReceiptAt (receipt_under caller.now id.now receipt.now) }
 {
     reveal_caller_receipt(caller, id, receipt);
     let caller = identifier_text(caller);
@@ -59,14 +60,15 @@ pub fn receipt_row(
     })
 }
 
-/// Reads a row of `receipts`: the caller, the identifier, and the receipt under it. A row that is that of no receipt is `BadRow`: a
-/// text is in another spelling than the canonical one, or is no identifier, no name, no update or no reply.
+/// Reads a row of `receipts`: the caller, the identifier, and the receipt under it. The reply may be in the wording of rows that
+/// were written before, as `read_reply` has it. A row that is that of no receipt is `BadRow`: a text is in another spelling than the
+/// canonical one, or is no identifier, no name, no update or no reply.
 pub fn read_receipt(
     alloc: Global,
     row: &ReceiptRow,
 ) -> Result<(Identifier, Identifier, Receipt), RowFault>
     // The row is that of what is read.
-    ensures found { IfOk result (λ x. (row.now ≡ receipt_row x.0 x.1 x.2) × IsReceiptAt (record { caller = x.0; id = x.1; receipt = x.2 })) }
+    ensures found { IfOk result (λ x. IsRowOfReceipt x.0 x.1 x.2 row.now × IsReceiptAt (receipt_under x.0 x.1 x.2)) }
     // The row of a receipt is read as this receipt, unless memory runs out.
     ensures only { (r : ReceiptAt) → IsReceiptAt r → row.now ≡ row_of_receipt r → Reads {Y = List ℕ × (List ℕ × ReceiptOf)} (λ x. (x.0, (x.1, x.2))) result (Ok (r.caller, (r.id, r.receipt))) }
 {
@@ -74,21 +76,29 @@ pub fn read_receipt(
     let id = identifier_in(alloc, row.id.as_bytes())?;
     let receipt = stored_receipt(alloc, row)?;
     let again = receipt_row(alloc, &caller, &id, &receipt)?;
-    if !are_same(&again, row) {
+    if !is_row_of(row, &again, &receipt.reply) {
         return Err(RowFault::BadRow);
     }
     Ok((caller, id, receipt))
 }
 
-/// Whether two rows have the same columns.
-fn are_same(first: &ReceiptRow, second: &ReceiptRow) -> bool
-    ensures { (result ≡ true) ↔ (first.now ≡ second.now) }
+/// Whether a row is that of a receipt with this reply, of which this row is written now.
+fn is_row_of(row: &ReceiptRow, written: &ReceiptRow, reply: &UpdateReply) -> bool
+    requires { written.now.reply ≡ reply_words reply.now }
+    ensures { (result ≡ true) ↔ (SameButReply written.now row.now × AreWordsOf reply.now row.now.reply) }
+{
+    are_same_but_reply(written, row)
+        && are_words_of(row.reply.as_str(), written.reply.as_str(), reply)
+}
+
+/// Whether two rows have the same columns but for the reply.
+fn are_same_but_reply(first: &ReceiptRow, second: &ReceiptRow) -> bool
+    ensures { (result ≡ true) ↔ SameButReply first.now second.now }
 {
     first.caller == second.caller
         && first.id == second.id
         && first.origin == second.origin
         && first.request == second.request
-        && first.reply == second.reply
 }
 
 /// The update of item lines.

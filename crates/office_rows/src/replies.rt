@@ -1,15 +1,15 @@
 //! Replies to updates, as lines of words.
 
-ghost use Rattle.std.specs.Prelude.{◌≡◌, ◌<◌, ◌^◌, ◌∷◌, ◌++◌, [], map, true, nat_le, if◌then◌else◌, Some, None, Ok, IfOk, decimal, string_bytes};
+ghost use Rattle.std.specs.Prelude.{◌≡◌, ◌↔◌, ◌<◌, ◌^◌, ◌∷◌, ◌++◌, [], map, true, nat_le, if◌then◌else◌, Some, None, Ok, IfOk, decimal, string_bytes, codes};
 ghost use Rattle.std.specs.List.{list_all};
 ghost use Rattle.std.specs.Char.{is_ascii_digit};
 ghost use Rattle.std.specs.Str.Parse.{digits_value};
-ghost use Rattle.dns_data.specs.Items.{item_of};
+ghost use Rattle.dns_data.specs.Items.{item_of, item_text};
 ghost use Rattle.dns_data.specs.Numbers.{is_number};
 ghost use Rattle.office_core.specs.declared.reply.UpdateReply.{UpdateReply as ReplyOf};
-ghost use Rattle.office_rows.specs.ReplyWords.{list_word, failed_word, reply_words, IsReply};
+ghost use Rattle.office_rows.specs.ReplyWords.{list_word, failed_word, denier_item, reply_words, is_by_default, AreWordsOf, IsReply};
 ghost use Rattle.office_rows.specs.RowFaults.{Reads};
-ghost use Rattle.office_rows.specs.RowReading.{code_named, list_named, number_named, reply_alone, reply_with, reply_at, denied_by, reply_of, reply_in};
+ghost use Rattle.office_rows.specs.RowReading.{code_named, list_named, number_named, reply_alone, reply_with, reply_at, denier_in, denied_by, reply_of, reply_in};
 
 use crate::columns::{fields_of, identifier_in, identifier_text};
 use crate::row_fault::RowFault;
@@ -37,6 +37,12 @@ const CODES: [Rcode; 11] = [
 /// The lists of an update.
 const LISTS: [ItemList; 2] = [ItemList::Prerequisites, ItemList::Operations];
 
+/// The word of the closing default.
+const CLOSING: &str = "closing";
+
+/// An identifier that is this word, which no rule of a policy has.
+const QUOTED_CLOSING: &str = "\"closing\"";
+
 /// What a list of an update is called.
 const fn list_word(list: ItemList) -> &'static str
     ensures { result.now ≡ list_word list }
@@ -59,7 +65,7 @@ const fn failed_word(code: Rcode) -> &'static str
 }
 
 /// A reply in words, with one space between them: the name of its code; then, as far as it has them, the list, the item's number
-/// from 0, and the identifier of the rule that denied it. The only error is out of memory.
+/// from 0, and the identifier of the rule that denied it or `closing`. The only error is out of memory.
 pub fn reply_words(alloc: Global, reply: &UpdateReply) -> Result<String, AllocError>
     ensures { IfOk result (λ words. string_bytes words ≡ reply_words reply.now) }
 {
@@ -69,10 +75,7 @@ pub fn reply_words(alloc: Global, reply: &UpdateReply) -> Result<String, AllocEr
         UpdateReply::NotZone(place) => words_at(alloc, code, list_word(place.list), place.item),
         UpdateReply::Refused { place, by } => {
             let words = words_at(alloc, code, list_word(place.list), place.item)?;
-            match by {
-                Some(rule) => with_word(words, identifier_text(rule)),
-                None => Ok(words),
-            }
+            with_denier(words, by)
         }
         UpdateReply::Failed(failed) => words_at(alloc, code, failed_word(failed.code), failed.item),
     }
@@ -94,19 +97,57 @@ fn with_word(mut words: String, word: &str) -> Result<String, AllocError>
     Ok(words)
 }
 
-/// Reads a reply in words, as `reply_words` gives them. Any other text is `BadRow`.
+/// Words, and who denies an item: a rule, or the closing default.
+fn with_denier(words: String, by: &Option<Identifier>) -> Result<String, AllocError>
+    ensures { IfOk result (λ more. string_bytes more ≡ string_bytes words ++ 32 ∷ item_text (denier_item by.now)) }
+{
+    match by {
+        None => with_word(words, CLOSING),
+        Some(rule) if rule.as_bytes() == CLOSING.as_bytes() => with_word(words, QUOTED_CLOSING),
+        Some(rule) => with_word(words, identifier_text(rule)),
+    }
+}
+
+/// Reads a reply in words, as `reply_words` gives them, or as they were written once: a denial by the closing default had no
+/// word for it. Any other text is `BadRow`.
 pub fn read_reply(alloc: Global, words: &str) -> Result<UpdateReply, RowFault>
     // The words are those of what is read.
-    ensures found { IfOk result (λ reply. (words.now ≡ reply_words reply) × IsReply reply) }
+    ensures found { IfOk result (λ reply. AreWordsOf reply words.now × IsReply reply) }
     // The words of a reply are read as this reply, unless memory runs out.
-    ensures only { (reply : ReplyOf) → IsReply reply → words.now ≡ reply_words reply → Reads (λ read. read) result (Ok reply) }
+    ensures only { (reply : ReplyOf) → IsReply reply → AreWordsOf reply words.now → Reads (λ read. read) result (Ok reply) }
 {
     let reply = reply_in(alloc, words)?;
-    if reply_words(alloc, &reply)?.as_str() != words {
+    let written = reply_words(alloc, &reply)?;
+    if !are_words_of(words, written.as_str(), &reply) {
         return Err(RowFault::BadRow);
     }
     reveal_reply(&reply);
     Ok(reply)
+}
+
+/// Whether words are those of a reply, of which these are written now.
+pub(crate) fn are_words_of(words: &str, written: &str, reply: &UpdateReply) -> bool
+    requires { written.now ≡ reply_words reply.now }
+    ensures { (result ≡ true) ↔ AreWordsOf reply.now words.now }
+{
+    words == written || (is_by_default(reply) && ends_in_closing(words, written))
+}
+
+/// Whether a reply is a denial by the closing default.
+fn is_by_default(reply: &UpdateReply) -> bool
+    ensures { result ≡ is_by_default reply.now }
+{
+    matches!(reply, UpdateReply::Refused { by: None, .. })
+}
+
+/// Whether a text is another one and the word of the closing default.
+fn ends_in_closing(words: &str, written: &str) -> bool
+    ensures { (result ≡ true) ↔ (written.now ≡ words.now ++ codes " closing") }
+{
+    match written.as_bytes().strip_suffix(b" closing".as_slice()) {
+        Some(front) => front == words.as_bytes(),
+        None => false,
+    }
 }
 
 /// The reply of words, whatever their spelling.
@@ -233,43 +274,50 @@ fn reply_at(code: &[u8], list: &[u8], item: &[u8]) -> Result<UpdateReply, RowFau
     Ok(reply_with(code, list_named(list), item))
 }
 
-/// A denial by a rule, where it was one by none.
-fn denied_by(reply: UpdateReply, rule: Identifier) -> Result<UpdateReply, RowFault>
-    ensures { result ≡ denied_by reply rule }
+/// Who denied an item: the closing default, by its word, which is not in quotes, or a rule.
+fn denier_in(alloc: Global, word: &Item) -> Result<Option<Identifier>, RowFault>
+    ensures { Reads (λ by. by) result (denier_in (item_of word.now)) }
+{
+    if !word.quoted && word.raw == CLOSING.as_bytes() {
+        return Ok(None);
+    }
+    Ok(Some(identifier_in(alloc, word.raw)?))
+}
+
+/// A denial, with who denied it.
+fn denied_by(reply: UpdateReply, by: Option<Identifier>) -> Result<UpdateReply, RowFault>
+    ensures { result ≡ denied_by reply by }
 {
     match reply {
-        UpdateReply::Refused { place, by: None } => Ok(UpdateReply::Refused {
-            place,
-            by: Some(rule),
-        }),
+        UpdateReply::Refused { place, by: None } => Ok(UpdateReply::Refused { place, by }),
         _ => Err(RowFault::BadRow),
     }
 }
 
-/// The reply of a code, a list, the number of an item and a rule.
+/// The reply of a code, a list, the number of an item and who denied it.
 fn reply_by(
     alloc: Global,
-    code: &[u8],
-    list: &[u8],
-    item: &[u8],
-    rule: &[u8],
+    code: &Item,
+    list: &Item,
+    item: &Item,
+    by: &Item,
 ) -> Result<UpdateReply, RowFault>
-    ensures { Reads (λ reply. reply) result (reply_of (code.now ∷ list.now ∷ item.now ∷ rule.now ∷ [])) }
+    ensures { Reads (λ reply. reply) result (reply_of (item_of code.now ∷ item_of list.now ∷ item_of item.now ∷ item_of by.now ∷ [])) }
 {
-    let rule = identifier_in(alloc, rule)?;
-    denied_by(reply_at(code, list, item)?, rule)
+    let by = denier_in(alloc, by)?;
+    denied_by(reply_at(code.raw, list.raw, item.raw)?, by)
 }
 
 /// The reply of words.
 fn reply_of(alloc: Global, words: &[Item]) -> Result<UpdateReply, RowFault>
-    ensures { Reads (λ reply. reply) result (reply_of (map (λ i. i.raw) (map item_of words.now))) }
+    ensures { Reads (λ reply. reply) result (reply_of (map item_of words.now)) }
 {
     match words {
         [] => Err(RowFault::BadRow),
         [code] => reply_alone(code_named(code.raw).ok_or(RowFault::BadRow)?),
         [_, _] => Err(RowFault::BadRow),
         [code, list, item] => reply_at(code.raw, list.raw, item.raw),
-        [code, list, item, rule] => reply_by(alloc, code.raw, list.raw, item.raw, rule.raw),
+        [code, list, item, by] => reply_by(alloc, code, list, item, by),
         [_, _, _, _, _, ..] => Err(RowFault::BadRow),
     }
 }

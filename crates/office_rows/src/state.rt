@@ -4,10 +4,10 @@ ghost use Rattle.std.specs.Prelude.{◌≡◌, ◌↔◌, [], ◌∷◌, true, I
 ghost use Rattle.office_core.specs.States.{State};
 ghost use Rattle.office_rows.specs.Contents.{AreOfState};
 ghost use Rattle.office_rows.specs.Orders.{rises};
-ghost use Rattle.office_rows.specs.Checks.{AreReceiptRows, AreStateRows, Checks, caller_receipt_order};
+ghost use Rattle.office_rows.specs.Checks.{AreReceiptRows, AreStateRows, Checks, receipt_key_order};
 
 use crate::ascending::rise;
-use crate::ordered::{self, CallerReceipt};
+use crate::ordered::{self, ReceiptKey};
 use crate::row_fault::RowFault;
 use crate::zones::check_zones;
 use office_sql::{AllRows, ReceiptRow};
@@ -52,16 +52,16 @@ pub fn is_alone(version: i64, versions: &[i64]) -> bool
 pub fn check_receipts(alloc: Global, rows: &[ReceiptRow]) -> Result<(), RowFault>
     ensures { Checks (AreReceiptRows rows.now) result }
 {
-    let receipts = ordered::receipts(alloc, rows)?;
-    if !are_apart(&receipts) {
+    let keys = ordered::receipts(alloc, rows)?;
+    if !are_apart(&keys) {
         return Err(RowFault::BadRow);
     }
     Ok(())
 }
 
-/// Whether each receipt stands before the next one by caller and identifier, so that no two of one caller have one identifier.
-fn are_apart(receipts: &[CallerReceipt]) -> bool
-    ensures { result ≡ rises caller_receipt_order receipts.now }
+/// Whether each key stands before the next one by caller and identifier, so that no two of one caller have one identifier.
+fn are_apart(keys: &[ReceiptKey]) -> bool
+    ensures { result ≡ rises receipt_key_order keys.now }
 {
-    rise(receipts)
+    rise(keys)
 }
