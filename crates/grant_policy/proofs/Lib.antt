@@ -4,6 +4,7 @@ pub mod ScopeLemmas
 pub mod RuleLemmas
 pub mod IndexLemmas
 pub mod DecideLemmas
+mod BoundaryLemmas
 pub mod DecisionLaws
 pub mod IdLemmas
 pub mod ReadLemmas

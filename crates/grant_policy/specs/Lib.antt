@@ -3,6 +3,7 @@ pub mod Words
 pub mod Scopes
 pub mod Rules
 pub mod Decisions
+pub mod Boundaries
 pub mod Index
 pub mod Found
 pub mod Faults

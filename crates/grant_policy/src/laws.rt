@@ -4,6 +4,7 @@ ghost use Rattle.std.specs.Prelude.{◌≡◌, ◌≢◌, ◌↔◌, ℕ, List, 
 ghost use Rattle.grant_policy.specs.declared.effect.Effect.TheVariants.{Grant, Deny};
 ghost use Rattle.grant_policy.specs.declared.rule.Rule.{Rule};
 ghost use Rattle.grant_policy.specs.Rules.{Question};
+ghost use Rattle.grant_policy.specs.Boundaries.{DecidesAlike};
 ghost use Rattle.grant_policy.specs.Decisions.{Verdict, granted, denied, IsDecision, IsDecidedBy, NoneMatches, decision};
 
 /// A list of rules decides each question, and in one way only.
@@ -31,4 +32,11 @@ pub fn no_rules_deny_everything()
 /// A rule at the end changes nothing that a rule before it decided.
 pub fn a_rule_at_the_end_changes_no_decision_of_a_rule()
     ensures { (asked : Question) (rules : List Rule) (rule : Rule) → decision asked rules ≢ denied None → decision asked (rules ++ rule ∷ []) ≡ decision asked rules }
+{}
+
+/// A policy decides alike at all names between whose keys no rule of the caller, or of every caller, begins or ends: where the same
+/// of these are before both keys or at them: the key of the rule's name, the first key after it, and the first after those of the
+/// names within.
+pub fn names_between_boundaries_are_decided_alike()
+    ensures { DecidesAlike }
 {}

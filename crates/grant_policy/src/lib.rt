@@ -30,7 +30,8 @@ pub use effect::Effect;
 pub use identifier::{Identifier, IdentifierFault};
 pub use laws::{
     a_rule_at_the_end_changes_no_decision_of_a_rule, a_rule_is_named_where_it_decided,
-    closing_denies_where_no_rule_matches, each_question_has_one_decision, no_rules_deny_everything,
+    closing_denies_where_no_rule_matches, each_question_has_one_decision,
+    names_between_boundaries_are_decided_alike, no_rules_deny_everything,
 };
 pub use look_ups::LookUps;
 pub use policy::Policy;
