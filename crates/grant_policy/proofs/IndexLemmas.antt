@@ -87,7 +87,7 @@ lt_down Greater Less le e = absurd (omega arith)
 lt_down Greater Equal le e = absurd (omega arith)
 lt_down Greater Greater le e = e
 
-le_down : (a b : Ordering) → ordering_index a ≤ ordering_index b → is_le b ≡ true → is_le a ≡ true
+pub le_down : (a b : Ordering) → ordering_index a ≤ ordering_index b → is_le b ≡ true → is_le a ≡ true
 le_down Less b le e = refl
 le_down Equal b le e = refl
 le_down Greater Less le e = absurd (omega arith)

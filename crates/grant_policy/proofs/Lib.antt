@@ -5,6 +5,9 @@ pub mod RuleLemmas
 pub mod IndexLemmas
 pub mod DecideLemmas
 mod BoundaryLemmas
+mod RegionLemmas
+mod KnownLemmas
+mod GrantLemmas
 pub mod DecisionLaws
 pub mod IdLemmas
 pub mod ReadLemmas

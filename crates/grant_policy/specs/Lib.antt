@@ -4,6 +4,8 @@ pub mod Scopes
 pub mod Rules
 pub mod Decisions
 pub mod Boundaries
+pub mod Known
+pub mod Grants
 pub mod Index
 pub mod Found
 pub mod Faults

@@ -6,7 +6,7 @@ ghost use Rattle.std.specs.Option.{option_copied};
 ghost use Rattle.dns_names.specs.Keys.{IsKeyOfOne};
 ghost use Rattle.grant_policy.specs.declared.rule.Rule.{Rule as RuleOf};
 ghost use Rattle.grant_policy.specs.Rules.{matches};
-ghost use Rattle.grant_policy.specs.Decisions.{IsDecision, NoneMatches, HasRight, told, decision, verdict_of, concerns, is_granted, has_right, has_right_to as has_right_to_type};
+ghost use Rattle.grant_policy.specs.Decisions.{IsDecision, NoneMatches, HasRight, told, decision, verdict_of, concerns, is_granted as is_grant, has_right, has_right_to as has_right_to_type};
 ghost use Rattle.grant_policy.specs.Index.{is_at, place_of};
 ghost use Rattle.grant_policy.specs.Found.{IsFound, question_of, bound_of, is_before};
 
@@ -144,14 +144,14 @@ pub fn decide<'a>(
 }
 
 /// Whether a policy grants a question.
-fn grants(
+pub(crate) fn is_granted(
     policy: &Policy,
     caller: &Identifier,
     name: &Name,
     record_type: RecordType,
     action: Action,
 ) -> bool
-    ensures { result ≡ is_granted (decision (record { caller = caller.now; name = name.now; record_type = record_type; action = action }) policy.now) }
+    ensures { result ≡ is_grant (decision (record { caller = caller.now; name = name.now; record_type = record_type; action = action }) policy.now) }
 {
     let mut look_ups = LookUps::new();
     decide(policy, caller, name, record_type, action, &mut look_ups).is_granted()
@@ -161,7 +161,7 @@ fn grants(
 fn has_right_to(policy: &Policy, caller: &Identifier, name: &Name, record_type: RecordType) -> bool
     ensures { result ≡ has_right_to_type policy.now caller.now name.now record_type }
 {
-    Action::ALL.iter().any(|action| grants(policy, caller, name, record_type, *action))
+    Action::ALL.iter().any(|action| is_granted(policy, caller, name, record_type, *action))
 }
 
 /// Whether a policy grants a caller some action on the records of some kept type at a name. It takes no memory, and always

@@ -3,14 +3,17 @@
 #![tactic(auto)]
 
 mod action;
+mod boundaries;
 mod callers;
 mod deciding;
 mod decision;
 mod document;
 mod effect;
+mod grants;
 mod identifier;
 mod ids;
 mod index_row;
+mod known;
 mod laws;
 mod look_ups;
 mod policy;
@@ -27,6 +30,7 @@ pub use deciding::{decide, has_any_right};
 pub use decision::Decision;
 pub use document::read_policy;
 pub use effect::Effect;
+pub use grants::Grants;
 pub use identifier::{Identifier, IdentifierFault};
 pub use laws::{
     a_rule_at_the_end_changes_no_decision_of_a_rule, a_rule_is_named_where_it_decided,

@@ -1,0 +1,59 @@
+//! Decisions that are known.
+
+ghost use Rattle.std.specs.Prelude.{◌≡◌, ◌<◌, List, Bool, Option, Some, None, length, if◌then◌else◌};
+ghost use Rattle.dns_data.specs.declared.record_type.RecordType.{RecordType as RecordTypeOf};
+ghost use Rattle.grant_policy.specs.Rules.{same_type};
+ghost use Rattle.grant_policy.specs.Known.{index_of, known};
+
+use dns_data::RecordType;
+use std::marker::Model;
+
+/// How many record types are kept.
+const TYPES: usize = RecordType::ALL.len();
+
+/// For each record type whether it is granted, where that is known.
+#[derive(Drop)]
+pub(crate) struct Known {
+    granted: [Option<bool>; TYPES],
+}
+
+impl Model for Known {
+    ghost Value = { List (Option Bool) };
+
+    ghost view = { λ k. k.granted };
+
+    ghost invariant = { λ k. length k.granted ≡ 10 };
+}
+
+/// The place of a type in the order of the types.
+fn index_of(record_type: RecordType) -> usize
+    ensures value { result ≡ index_of record_type }
+    ensures below { result < 10 }
+{
+    record_type as usize
+}
+
+impl Known {
+    /// Nothing is known.
+    pub(crate) fn nothing() -> Known
+        ensures { (record_type : RecordTypeOf) → known result record_type ≡ None }
+    {
+        Known {
+            granted: [None; TYPES],
+        }
+    }
+
+    /// Whether a type is granted, where that is known.
+    pub(crate) fn of(&self, record_type: RecordType) -> Option<bool>
+        ensures { result ≡ known self.now record_type }
+    {
+        self.granted[index_of(record_type)]
+    }
+
+    /// Keeps whether a type is granted.
+    pub(crate) fn keep(&mut self, record_type: RecordType, granted: bool)
+        ensures { (other : RecordTypeOf) → known self.new other ≡ (if same_type other record_type then Some granted else known self.old other) }
+    {
+        self.granted[index_of(record_type)] = Some(granted);
+    }
+}
