@@ -16,43 +16,53 @@ use crate::table::ZoneTable;
 use crate::table_fault::TableFault;
 use dns_data::{Record, RecordType};
 use dns_names::Name;
-use grant_policy::{Action, Decision, Identifier, LookUps, Policy, decide};
+use grant_policy::{Action, Decision, Grants, Identifier, LookUps, Policy, decide};
 use std::alloc::{AllocError, Global};
 use zone_core::{Change, delegation_report};
 
 /// Whether a caller may list a record.
-fn may_list(policy: &Policy, caller: &Identifier, rr: &Record) -> bool
-    ensures { result ≡ may_list policy.now caller.now rr.now }
+fn may_list(grants: &mut Grants<'_>, rr: &Record) -> bool
+    requires { grants.old.action ≡ Action.List }
+    ensures value { result ≡ may_list grants.old.rules grants.old.caller rr.now }
+    ensures same { grants.new ≡ grants.old }
 {
-    let record_type = rr.record_type();
-    let mut look_ups = LookUps::new();
-    decide(
-        policy,
-        caller,
-        &rr.owner,
-        record_type,
-        Action::List,
-        &mut look_ups,
-    )
-    .is_granted()
+    grants.include(&rr.owner, rr.record_type())
 }
 
 /// Records, and one more, if the caller may list it. The only error is out of memory.
 fn with_listed(
     mut all: Vec<Record>,
-    policy: &Policy,
-    caller: &Identifier,
+    grants: &mut Grants<'_>,
     rr: Record,
 ) -> Result<Vec<Record>, AllocError>
-    ensures { IfOk result (λ rs. rs.items ≡ all.items ++ listed policy.now caller.now (rr ∷ [])) }
+    requires { grants.old.action ≡ Action.List }
+    ensures value { IfOk result (λ rs. rs.items ≡ all.items ++ listed grants.old.rules grants.old.caller (rr ∷ [])) }
+    ensures same { grants.new ≡ grants.old }
 {
-    if may_list(policy, caller, &rr) {
+    if may_list(grants, &rr) {
         all.push(rr)?;
     }
     Ok(all)
 }
 
 /// The records that a caller may list. The only error is out of memory.
+fn granted(
+    alloc: Global,
+    grants: &mut Grants<'_>,
+    records: Vec<Record>,
+) -> Result<Vec<Record>, AllocError>
+    requires { grants.old.action ≡ Action.List }
+    ensures value { IfOk result (λ rs. rs.items ≡ listed grants.old.rules grants.old.caller records.items) }
+    ensures same { grants.new ≡ grants.old }
+{
+    let mut all = Vec::new(alloc);
+    for record in records {
+        all = with_listed(all, grants, record)?;
+    }
+    Ok(all)
+}
+
+/// The records that a policy grants a caller to list. The only error is out of memory.
 fn listed(
     alloc: Global,
     policy: &Policy,
@@ -61,11 +71,8 @@ fn listed(
 ) -> Result<Vec<Record>, AllocError>
     ensures { IfOk result (λ rs. rs.items ≡ listed policy.now caller.now records.items) }
 {
-    let mut all = Vec::new(alloc);
-    for record in records {
-        all = with_listed(all, policy, caller, record)?;
-    }
-    Ok(all)
+    let mut grants = Grants::of(alloc, policy, caller, Action::List)?;
+    granted(alloc, &mut grants, records)
 }
 
 /// The records of a zone that the caller may list.
@@ -158,17 +165,14 @@ pub(crate) fn delegations<T: ZoneTable>(
 }
 
 /// What a caller may list of a change. The only error is out of memory.
-fn seen_of(
-    alloc: Global,
-    policy: &Policy,
-    caller: &Identifier,
-    change: Change,
-) -> Result<Change, AllocError>
-    ensures { IfOk result (λ c. change_in c ≡ seen_of policy.now caller.now (change_in change)) }
+fn seen_of(alloc: Global, grants: &mut Grants<'_>, change: Change) -> Result<Change, AllocError>
+    requires { grants.old.action ≡ Action.List }
+    ensures value { IfOk result (λ c. change_in c ≡ seen_of grants.old.rules grants.old.caller (change_in change)) }
+    ensures same { grants.new ≡ grants.old }
 {
     Ok(Change {
-        removed: listed(alloc, policy, caller, change.removed)?,
-        added: listed(alloc, policy, caller, change.added)?,
+        removed: granted(alloc, grants, change.removed)?,
+        added: granted(alloc, grants, change.added)?,
     })
 }
 
@@ -176,13 +180,14 @@ fn seen_of(
 fn with_seen(
     alloc: Global,
     mut all: Vec<Change>,
-    policy: &Policy,
-    caller: &Identifier,
+    grants: &mut Grants<'_>,
     change: Change,
 ) -> Result<Vec<Change>, AllocError>
-    ensures { IfOk result (λ cs. map change_in cs.items ≡ map change_in all.items ++ if_some (seen_of policy.now caller.now (change_in change))) }
+    requires { grants.old.action ≡ Action.List }
+    ensures value { IfOk result (λ cs. map change_in cs.items ≡ map change_in all.items ++ if_some (seen_of grants.old.rules grants.old.caller (change_in change))) }
+    ensures same { grants.new ≡ grants.old }
 {
-    let seen = seen_of(alloc, policy, caller, change)?;
+    let seen = seen_of(alloc, grants, change)?;
     if !seen.is_empty() {
         all.push(seen)?;
     }
@@ -199,9 +204,10 @@ fn seen(
 ) -> Result<Vec<Change>, AllocError>
     ensures { IfOk result (λ cs. map change_in cs.items ≡ seen policy.now caller.now (map change_in changes.items)) }
 {
+    let mut grants = Grants::of(alloc, policy, caller, Action::List)?;
     let mut all = Vec::new(alloc);
     for change in changes {
-        all = with_seen(alloc, all, policy, caller, change)?;
+        all = with_seen(alloc, all, &mut grants, change)?;
     }
     Ok(all)
 }
