@@ -31,7 +31,7 @@ use Rattle.office_core.specs.declared.request.Request.TheVariants as requests
 use Rattle.office_core.specs.Permissions.{question}
 use Rattle.office_core.specs.Replies.{ReplyOf, to_update, id_reused, not_zone, records, file, delegations}
 use Rattle.office_core.specs.States.{Held, State, AreZones, AreReceipts, zone_held}
-use Rattle.office_core.specs.Machine.{Turn, listed, changes_from, of_zone, list_within_reply, changes_reply, told, step, refused_by, refusal, answered, updated, again, hold, keep, receipt, held_after}
+use Rattle.office_core.specs.Machine.{Turn, listed, changes_from, of_zone, list_within_reply, changes_reply, unchanged, step, refused_by, refusal, answered, updated, again, hold, keep, receipt, held_after}
 use Rattle.office_core.specs.Runs.{HasUpdate}
 use Rattle.office_core.specs.Promises.{IsMade, IsNoted, IsWhole, IsOutside, IsFailing, IsOfZone, TellsList, TellsWithin, TellsChanges, UpdateIsRight, RequestIsRight, TurnIsRight}
 use Rattle.office_core.proofs.ListLemmas.{lists_are_exact}
@@ -270,7 +270,7 @@ module _ (rules : List Rule) (s : State) (zones : AreZones s) (caller : List ℕ
 -- ---- a request
 
 -- what only reads is right where its reply is
-reads_right : {reply : ReplyOf} (rules : List Rule) (s : State) (caller : List ℕ) (request : Request) → RequestIsRight rules s caller request (told s reply) → TurnIsRight rules s caller request (told s reply)
+reads_right : {reply : ReplyOf} (rules : List Rule) (s : State) (caller : List ℕ) (request : Request) → RequestIsRight rules s caller request (unchanged s reply) → TurnIsRight rules s caller request (unchanged s reply)
 reads_right rules s caller request is = record { request_is_right = is; zones_stay = λ o. inl refl; receipts_stay = λ c i kept e. e; receipts_of_others = λ c i. inl refl }
 
 pub step_is_right : (rules : List Rule) (s : State) → AreZones s → AreReceipts s → (caller : List ℕ) (request : Request) → HasUpdate request → TurnIsRight rules s caller request (step rules s caller request)

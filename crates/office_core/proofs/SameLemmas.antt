@@ -35,7 +35,7 @@ use Rattle.office_core.specs.Footprints.{footprint}
 use Rattle.office_core.specs.Permissions.{question, IsGranted, IsPermitted, first_denial}
 use Rattle.office_core.specs.Replies.{ReplyOf, records, file, delegations, changes, not_zone}
 use Rattle.office_core.specs.States.{Held, State, zone_held, AreZones}
-use Rattle.office_core.specs.Machine.{may_list, listed, seen_of, if_some, seen, numbered, of_zone, list_reply, list_within_reply, file_reply, delegations_reply, changes_reply, outside_reply, denied_reply, failed_reply, refused_by, refusal, with_change, held_after, hold, keep, receipt, Turn, told, answered, updated, step, made_now, made}
+use Rattle.office_core.specs.Machine.{may_list, listed, seen_of, if_some, seen, numbered, of_zone, list_reply, list_within_reply, file_reply, delegations_reply, changes_reply, outside_reply, denied_reply, failed_reply, refused_by, refusal, with_change, held_after, hold, keep, receipt, Turn, unchanged, answered, updated, step, made_now, made}
 use Rattle.office_core.specs.Runs.{HasUpdate}
 use Rattle.office_core.specs.Isolation.{IsOwn, IsBlindAt, SeesNoSoa, origin_of}
 use Rattle.office_core.proofs.PermissionLaws.{none_permits}
@@ -262,8 +262,8 @@ module _ (rules : List Rule) (caller : List ℕ) where
     pub reply : x.reply ≡ y.reply
     pub after : Same x.after y.after
 
-  told_alike : (s t : State) → Same s t → (x y : ReplyOf) → x ≡ y → Turns (told s x) (told t y)
-  told_alike s t same x y e = record { reply = e; after = same }
+  unchanged_alike : (s t : State) → Same s t → (x y : ReplyOf) → x ≡ y → Turns (unchanged s x) (unchanged t y)
+  unchanged_alike s t same x y e = record { reply = e; after = same }
 
   answered_alike : (s t : State) → Same s t → (id : List ℕ) (origin : List (List ℕ)) (update : UpdateOf) → IsUpdate update → (f : Option UpdateReply) → refusal rules caller origin update (s.zones origin) ≡ f → Turns (answered s caller id origin update f) (answered t caller id origin update f)
   answered_alike s t same id origin update is (Some reply) e = record { reply = refl; after = same_keep s t id (receipt origin update reply) same }
@@ -289,18 +289,18 @@ module _ (rules : List Rule) (caller : List ℕ) where
       subst (λ (kept : Option Receipt). Turns (updated rules s caller id origin update (s.receipts caller id)) (updated rules t caller id origin update kept)) (same.receipts id)
       (updated_alike s t same id origin update is (s.receipts caller id))
   step_alike s t same (requests.List origin) is =
-      told_alike s t same _ _ (of_zone_alike origin (s.zones origin) (t.zones origin) (same.zones origin) (list_reply rules caller) (λ a b z. ap records (all_listed origin a b z)))
+      unchanged_alike s t same _ _ (of_zone_alike origin (s.zones origin) (t.zones origin) (same.zones origin) (list_reply rules caller) (λ a b z. ap records (all_listed origin a b z)))
   step_alike s t same (requests.ListWithin origin top) is =
-      told_alike s t same _ _ (of_zone_alike origin (s.zones origin) (t.zones origin) (same.zones origin) (list_within_reply rules caller origin top)
+      unchanged_alike s t same _ _ (of_zone_alike origin (s.zones origin) (t.zones origin) (same.zones origin) (list_within_reply rules caller origin top)
       (λ a b z. ap (λ rs. if is_within top origin then records rs else not_zone) (part_listed origin top a b z)))
   step_alike s t same (requests.File origin) is =
-      told_alike s t same _ _ (of_zone_alike origin (s.zones origin) (t.zones origin) (same.zones origin) (file_reply rules caller origin) (λ a b z. ap (file origin) (all_listed origin a b z)))
+      unchanged_alike s t same _ _ (of_zone_alike origin (s.zones origin) (t.zones origin) (same.zones origin) (file_reply rules caller origin) (λ a b z. ap (file origin) (all_listed origin a b z)))
   step_alike s t same (requests.Delegations origin) is =
-      told_alike s t same _ _ (of_zone_alike origin (s.zones origin) (t.zones origin) (same.zones origin) (delegations_reply rules caller origin) (λ a b z. ap (λ rs. delegations (report origin rs)) (all_listed origin a b z)))
+      unchanged_alike s t same _ _ (of_zone_alike origin (s.zones origin) (t.zones origin) (same.zones origin) (delegations_reply rules caller origin) (λ a b z. ap (λ rs. delegations (report origin rs)) (all_listed origin a b z)))
   step_alike s t same (requests.Changes origin from) is =
-      told_alike s t same _ _ (of_zone_alike origin (s.zones origin) (t.zones origin) (same.zones origin) (changes_reply rules caller from)
+      unchanged_alike s t same _ _ (of_zone_alike origin (s.zones origin) (t.zones origin) (same.zones origin) (changes_reply rules caller from)
       (λ a b z. ap (λ cs. changes (filter (λ c. nat_le from c.number) (numbered 1 cs))) z.changes))
-  step_alike s t same (requests.Rights name record_type asked) is = told_alike s t same _ _ refl
+  step_alike s t same (requests.Rights name record_type asked) is = unchanged_alike s t same _ _ refl
 
   -- ---- the steps of another
 

@@ -139,8 +139,8 @@ pub record Turn : Type 0 where
   pub after : State
 
 -- a reply that leaves the state as it was
-abbrev pub told : State → ReplyOf → Turn
-told s reply = record { reply = reply; after = s }
+abbrev pub unchanged : State → ReplyOf → Turn
+unchanged s reply = record { reply = reply; after = s }
 
 -- the reply of a receipt, where it is of the same update; another update under the same identifier is not made
 abbrev pub again : List (List ℕ) → UpdateOf → Receipt → ReplyOf
@@ -154,18 +154,18 @@ answered s caller id origin update None =
 
 -- an update, by the receipt that there is under its identifier
 abbrev pub updated : List Rule → State → List ℕ → List ℕ → List (List ℕ) → UpdateOf → Option Receipt → Turn
-updated rules s caller id origin update (Some kept) = told s (again origin update kept)
+updated rules s caller id origin update (Some kept) = unchanged s (again origin update kept)
 updated rules s caller id origin update None = answered s caller id origin update (refusal rules caller origin update (s.zones origin))
 
 -- a request of a caller
 abbrev pub step : List Rule → State → List ℕ → Request → Turn
 step rules s caller (requests.Update origin id update) = updated rules s caller id origin update (s.receipts caller id)
-step rules s caller (requests.List origin) = told s (of_zone (s.zones origin) (list_reply rules caller))
-step rules s caller (requests.ListWithin origin top) = told s (of_zone (s.zones origin) (list_within_reply rules caller origin top))
-step rules s caller (requests.File origin) = told s (of_zone (s.zones origin) (file_reply rules caller origin))
-step rules s caller (requests.Delegations origin) = told s (of_zone (s.zones origin) (delegations_reply rules caller origin))
-step rules s caller (requests.Changes origin from) = told s (of_zone (s.zones origin) (changes_reply rules caller from))
-step rules s caller (requests.Rights name record_type asked) = told s (right (decision (question caller name record_type asked) rules))
+step rules s caller (requests.List origin) = unchanged s (of_zone (s.zones origin) (list_reply rules caller))
+step rules s caller (requests.ListWithin origin top) = unchanged s (of_zone (s.zones origin) (list_within_reply rules caller origin top))
+step rules s caller (requests.File origin) = unchanged s (of_zone (s.zones origin) (file_reply rules caller origin))
+step rules s caller (requests.Delegations origin) = unchanged s (of_zone (s.zones origin) (delegations_reply rules caller origin))
+step rules s caller (requests.Changes origin from) = unchanged s (of_zone (s.zones origin) (changes_reply rules caller from))
+step rules s caller (requests.Rights name record_type asked) = unchanged s (right (decision (question caller name record_type asked) rules))
 
 -- ---- what a step makes
 

@@ -8,7 +8,7 @@ ghost use Rattle.office_core.specs.Permissions.{question};
 ghost use Rattle.office_core.specs.Replies.{reply_of, right_of, numbered_of, right};
 ghost use Rattle.office_core.specs.States.{State};
 ghost use Rattle.office_core.specs.Tables.{Counts};
-ghost use Rattle.office_core.specs.Machine.{told, of_zone, may_list, listed, list_reply, list_within_reply, file_reply, delegations_reply, changes_reply, if_some, seen, seen_of, numbered};
+ghost use Rattle.office_core.specs.Machine.{unchanged, of_zone, may_list, listed, list_reply, list_within_reply, file_reply, delegations_reply, changes_reply, if_some, seen, seen_of, numbered};
 ghost use Rattle.office_core.specs.Steps.{IsAnswer, Takes};
 
 use crate::reply::{NumberedChange, Reply, Right};
@@ -83,7 +83,7 @@ pub(crate) fn list<T: ZoneTable>(
     caller: &Identifier,
     origin: &Name,
 ) -> Result<Reply, TableFault>
-    ensures takes { T.is_honest table.new → (s : State) → T.holds table.old s → Takes (T.holds table.new) s (told s (of_zone (s.zones origin.now) (list_reply policy.now caller.now))) result }
+    ensures takes { T.is_honest table.new → (s : State) → T.holds table.old s → Takes (T.holds table.new) s (unchanged s (of_zone (s.zones origin.now) (list_reply policy.now caller.now))) result }
     ensures crash { (s t : State) → T.leaves table.old s t → T.leaves table.new s t }
     ensures honest { T.is_honest table.new → T.is_honest table.old }
     ensures answers { IfOk result IsAnswer }
@@ -105,7 +105,7 @@ pub(crate) fn list_within<T: ZoneTable>(
     origin: &Name,
     top: &Name,
 ) -> Result<Reply, TableFault>
-    ensures takes { T.is_honest table.new → (s : State) → T.holds table.old s → Takes (T.holds table.new) s (told s (of_zone (s.zones origin.now) (list_within_reply policy.now caller.now origin.now top.now))) result }
+    ensures takes { T.is_honest table.new → (s : State) → T.holds table.old s → Takes (T.holds table.new) s (unchanged s (of_zone (s.zones origin.now) (list_within_reply policy.now caller.now origin.now top.now))) result }
     ensures crash { (s t : State) → T.leaves table.old s t → T.leaves table.new s t }
     ensures honest { T.is_honest table.new → T.is_honest table.old }
     ensures answers { IfOk result IsAnswer }
@@ -129,7 +129,7 @@ pub(crate) fn file<T: ZoneTable>(
     caller: &Identifier,
     origin: &Name,
 ) -> Result<Reply, TableFault>
-    ensures takes { T.is_honest table.new → (s : State) → T.holds table.old s → Takes (T.holds table.new) s (told s (of_zone (s.zones origin.now) (file_reply policy.now caller.now origin.now))) result }
+    ensures takes { T.is_honest table.new → (s : State) → T.holds table.old s → Takes (T.holds table.new) s (unchanged s (of_zone (s.zones origin.now) (file_reply policy.now caller.now origin.now))) result }
     ensures crash { (s t : State) → T.leaves table.old s t → T.leaves table.new s t }
     ensures honest { T.is_honest table.new → T.is_honest table.old }
     ensures answers { IfOk result IsAnswer }
@@ -151,7 +151,7 @@ pub(crate) fn delegations<T: ZoneTable>(
     caller: &Identifier,
     origin: &Name,
 ) -> Result<Reply, TableFault>
-    ensures takes { T.is_honest table.new → (s : State) → T.holds table.old s → Takes (T.holds table.new) s (told s (of_zone (s.zones origin.now) (delegations_reply policy.now caller.now origin.now))) result }
+    ensures takes { T.is_honest table.new → (s : State) → T.holds table.old s → Takes (T.holds table.new) s (unchanged s (of_zone (s.zones origin.now) (delegations_reply policy.now caller.now origin.now))) result }
     ensures crash { (s t : State) → T.leaves table.old s t → T.leaves table.new s t }
     ensures honest { T.is_honest table.new → T.is_honest table.old }
     ensures answers { IfOk result IsAnswer }
@@ -254,7 +254,7 @@ pub(crate) fn changes<T: ZoneTable>(
     origin: &Name,
     from: u32,
 ) -> Result<Reply, TableFault>
-    ensures takes { T.is_honest table.new → (s : State) → T.holds table.old s → Takes (T.holds table.new) s (told s (of_zone (s.zones origin.now) (changes_reply policy.now caller.now from))) result }
+    ensures takes { T.is_honest table.new → (s : State) → T.holds table.old s → Takes (T.holds table.new) s (unchanged s (of_zone (s.zones origin.now) (changes_reply policy.now caller.now from))) result }
     ensures crash { (s t : State) → T.leaves table.old s t → T.leaves table.new s t }
     ensures honest { T.is_honest table.new → T.is_honest table.old }
     ensures answers { IfOk result IsAnswer }
