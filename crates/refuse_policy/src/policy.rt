@@ -3,13 +3,16 @@
 ghost use Rattle.std.specs.Prelude.{◌≡◌, ◌↔◌, ◌+◌, ◌*◌, ◌≤◌, length, count_by, IfOk, IsTrue, None};
 ghost use Rattle.std.specs.Option.{option_copied, option_map_or};
 ghost use Rattle.grant_policy.specs.Decisions.{concerns, decided, decision, denied, verdict_of};
+ghost use Rattle.grant_policy.specs.Grants.{includes};
 ghost use Rattle.grant_policy.specs.Rules.{IsOf, Matches};
 ghost use Rattle.grant_policy.specs.Scopes.{Covers};
 
 use crate::twins;
 use dns_data::RecordType;
 use dns_names::Name;
-use grant_policy::{Action, Callers, Decision, Effect, Identifier, LookUps, Policy, Rule, Scope};
+use grant_policy::{
+    Action, Callers, Decision, Effect, Grants, Identifier, LookUps, Policy, Rule, Scope,
+};
 use std::alloc::{AllocError, Global};
 
 /// `covers`.
@@ -51,6 +54,13 @@ pub fn decide<'a>(
     ensures { verdict_of result ≡ decision (record { caller = caller.now; name = name.now; record_type = record_type; action = action }) policy.now }
 {
     grant_policy::decide(policy, caller, name, record_type, action, look_ups)
+}
+
+/// `Grants::include`.
+pub fn grant(grants: &mut Grants<'_>, name: &Name, record_type: RecordType) -> bool
+    ensures { result ≡ includes grants.old name.now record_type }
+{
+    grants.include(name, record_type)
 }
 
 /// The rule that decides among the rules of a list, by going through them: what `decide` answers is of this rule.
