@@ -4,6 +4,7 @@ pub mod RowLemmas
 pub mod TurnLemmas
 pub mod VersionLemmas
 pub mod ZoneLemmas
+pub mod CacheLemmas
 pub mod AdditionLemmas
 pub mod GoneRowLemmas
 pub mod MigratedZoneLemmas

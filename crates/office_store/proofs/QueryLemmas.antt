@@ -1,8 +1,8 @@
 -- Questions, one after the other.
-use Rattle.std.proofs.Common.{◌≡◌, ℕ, List, Bool, true, false, Option, Some, None, is_some, pos, Ok, Err, Result, IfOk, refl, sym, ap, ◌∙◌, bytes_eq}
+use Rattle.std.proofs.Common.{◌≡◌, ℕ, List, Bool, true, false, Option, Some, None, is_some, pos, Ok, Err, Result, IfOk, refl, sym, ap, subst, ◌∙◌, bytes_eq}
 use Rattle.std.specs.List.{list_any}
 use Rattle.std.specs.Result.{IsErr}
-use Rattle.sqlite.specs.State.{State as Shown, HasCleanDisk}
+use Rattle.sqlite.specs.State.{State as Shown, HasCleanDisk, IsUnchanged}
 use Rattle.dns_names.specs.Keys.{key_of}
 use Rattle.dns_names.specs.Labels.{IsName}
 use Rattle.dns_names.specs.Spelling.{name_text}
@@ -10,7 +10,7 @@ use Rattle.office_core.specs.States.{Held, State}
 use Rattle.office_sql.specs.Rows.{RowsOf}
 use Rattle.office_sql.specs.Lookups.{records_at}
 use Rattle.office_rows.specs.Contents.{AreOfState}
-use Rattle.office_sql.specs.Holds.{Holds, Keeps, Leaves, OnlyAsks}
+use Rattle.office_sql.specs.Holds.{Holds, Keeps, Leaves, OnlyAsks, Reads}
 use Rattle.office_rows.proofs.StateLaws.{zones_are_listed}
 use Rattle.office_rows.proofs.OriginLaws.{zones_stand_at_origins}
 use Rattle.office_store.specs.Holds.{HoldsState}
@@ -43,6 +43,13 @@ only_of old new back = record { rows = back; same = λ s h. record { rows = h.ro
 
 pub only_then : (old mid new : Shown) → Only old mid → Only mid new → Only old new
 only_then old mid new first next = only_of old new (λ rows h. first.rows rows (next.rows rows h))
+
+-- what shows as it was showed the same before
+pub unchanged_only : (old new : Shown) → IsUnchanged old new → Only old new
+unchanged_only old new same =
+    only_of old new (λ rows h up.
+    let now = h same.0.is_open in
+    (subst (λ db. Reads db rows) same.0.now_is now.0, sym same.0.committed_is ∙ now.1 ∙ same.0.now_is))
 
 -- what is refused has asked
 pub asks_refused : {X E : Type 0} (old new : Shown) (r : Result X E) → IsErr r → Asked old new → AsksOnly old new r

@@ -1,10 +1,39 @@
--- A zone that a table keeps beside its connection.
-use Rattle.std.specs.Prelude.{◌≡◌, Some}
+-- The zone that a table keeps beside its connection.
+use Rattle.std.specs.Prelude.{◌≡◌, ℕ, List, if◌then◌else◌, Option, Some, None, option_map}
 use Rattle.sqlite.specs.State.{State as Shown, HasCleanDisk}
+use Rattle.dns_names.specs.Order.{same_name}
 use Rattle.zone_core.specs.Zones.{ZoneOf}
+use Rattle.zone_core.specs.Changes.{ChangeOf, changed}
 use Rattle.office_core.specs.States.{State, zone_at}
+use Rattle.office_core.specs.Tables.{AdditionOf}
 use Rattle.office_store.specs.Holds.{HoldsState}
 
--- As long as the store has kept its word, it is the zone of its origin in the state that the connection holds.
-abbrev pub IsHeldZone : Shown → ZoneOf → Type 0
-IsHeldZone conn zone = HasCleanDisk conn → (s : State) → HoldsState conn s → Some zone ≡ zone_at s zone.origin
+-- ---- when it is one of the state
+
+-- a zone, if there is one, is that of its origin in a state
+abbrev pub IsZoneIn : State → Option ZoneOf → Type 0
+IsZoneIn s None = Unit {0}
+IsZoneIn s (Some zone) = zone_at s zone.origin ≡ Some zone
+
+-- As long as the store has kept its word, the connection holds a state, and the cached zone is one of it.
+pub record FitsCache (conn : Shown) (cached : Option ZoneOf) : Type 0 where
+  pub held : HasCleanDisk conn → ∥ ((s : State) × HoldsState conn s × IsZoneIn s cached) ∥₁
+
+-- ---- behind a commit
+
+-- a zone with a change made
+abbrev pub with_change : ZoneOf → ChangeOf → ZoneOf
+with_change zone c = record zone { records = changed zone.records c.removed c.added }
+
+-- a zone behind a change of the zone of an origin
+abbrev pub changed_at : List (List ℕ) → ChangeOf → ZoneOf → ZoneOf
+changed_at origin c zone = if same_name zone.origin origin then with_change zone c else zone
+
+-- a zone behind a change of the zone of an origin, if there is one
+abbrev pub cached_behind : List (List ℕ) → Option ChangeOf → Option ZoneOf → Option ZoneOf
+cached_behind origin None cached = cached
+cached_behind origin (Some c) cached = option_map (changed_at origin c) cached
+
+-- the cached zone behind an addition
+abbrev pub cached_after : AdditionOf → Option ZoneOf → Option ZoneOf
+cached_after a cached = cached_behind a.receipt.origin a.change cached

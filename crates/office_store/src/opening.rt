@@ -14,6 +14,7 @@ ghost use Rattle.office_rows.specs.StoreFaults.{IsFailure, IsOfRows, of_found};
 ghost use Rattle.office_store.specs.Holds.{HoldsState, HasNone, HasVersion, IsOfVersion, IsStateIn, LeavesStates};
 ghost use Rattle.office_store.specs.Queries.{Asked, AsksOnly};
 
+use crate::queries::check_open;
 use office_rows::state::is_alone;
 use office_rows::{StoreFault, is_state};
 use office_sql::{RowsFault, all_rows, has_no_tables, has_tables, make_tables, versions};
@@ -80,7 +81,7 @@ fn check_tables<S: Alter>(conn: &mut Connection<S>) -> Result<(), StoreFault>
         return Ok(());
     }
     // what a connection that is shut shows says nothing of its tables
-    let _statement = conn.prepare("")?;
+    check_open(conn)?;
     Err(StoreFault::WrongVersion)
 }
 

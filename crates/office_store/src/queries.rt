@@ -1,6 +1,6 @@
 //! What is asked of the rows for a part of the state.
 
-ghost use Rattle.std.specs.Prelude.{◌≡◌, ◌∷◌, false, map, IfOk, IfErr, IfSome, OnOk, is_some, string_bytes, IsPermutation};
+ghost use Rattle.std.specs.Prelude.{◌≡◌, ◌∷◌, false, map, IfOk, IfErr, IfSome, IsTrue, OnOk, is_some, string_bytes, IsPermutation};
 ghost use Rattle.sqlite.specs.Held.{state};
 ghost use Rattle.sqlite.specs.State.{HasCleanDisk};
 ghost use Rattle.dns_names.specs.Keys.{key_of};
@@ -8,7 +8,7 @@ ghost use Rattle.dns_names.specs.Labels.{IsName};
 ghost use Rattle.dns_names.specs.Spelling.{name_text};
 ghost use Rattle.office_core.specs.States.{State};
 ghost use Rattle.office_sql.specs.Rows.{RowsOf};
-ghost use Rattle.office_sql.specs.Holds.{Holds, OnlyAsks};
+ghost use Rattle.office_sql.specs.Holds.{Holds, Keeps, OnlyAsks};
 ghost use Rattle.office_sql.specs.Lookups.{records_of as rows_of, records_at, changes_of as changes_in};
 ghost use Rattle.office_rows.specs.PartRows.{AreRowsAt, rows_within};
 ghost use Rattle.office_rows.specs.StoreFaults.{IsFailure};
@@ -39,6 +39,18 @@ pub(crate) fn check_alone<S: Alter>(conn: &Connection<S>) -> Result<(), StoreFau
         return Ok(());
     }
     Err(StoreFault::Store(StoreError::SqliteFailure(ErrorCode::TransactionState)))
+}
+
+/// Tells whether the store has not shut the connection.
+pub(crate) fn check_open<S: Alter>(conn: &mut Connection<S>) -> Result<(), StoreFault>
+    ensures open { HasCleanDisk (state S.Store conn.new) → OnOk result (IsTrue (state S.Store conn.old).is_open) }
+    ensures asks { AsksOnly (state S.Store conn.old) (state S.Store conn.new) result }
+    ensures shown { Keeps (state S.Store conn.old) (state S.Store conn.new) }
+    ensures ended { conn.old.in_transaction ≡ false → conn.new.in_transaction ≡ false }
+    ensures named { IfErr result IsFailure }
+{
+    let _statement = conn.prepare("")?;
+    Ok(())
 }
 
 /// The text of an origin, where there is a zone of it.

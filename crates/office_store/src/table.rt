@@ -1,7 +1,6 @@
 //! The table in SQLite.
 
-ghost use Rattle.std.specs.Prelude.{pos, ◌≡◌, ◌≢◌, ◌↔◌, ◌⊎◌, ◌<◌, false, IfOk, IfErr, IsErrAnd, IsTrue, OnErr};
-ghost use Rattle.std.specs.Option.{ForSome};
+ghost use Rattle.std.specs.Prelude.{pos, ◌≡◌, ◌≢◌, ◌↔◌, ◌⊎◌, ◌<◌, false, None, IfOk, IfErr, IsErrAnd, IsTrue, OnErr};
 ghost use Rattle.sqlite.specs.Held.{state};
 ghost use Rattle.sqlite.specs.State.{HasCleanDisk};
 ghost use Rattle.office_core.specs.States.{State};
@@ -13,14 +12,13 @@ ghost use Rattle.office_rows.specs.Batches.{nothing_held};
 ghost use Rattle.office_rows.specs.declared.store_fault.StoreFault.TheVariants.{BadRow, WrongVersion};
 ghost use Rattle.office_rows.specs.StoreFaults.{CountsFailure, CountsCall, Gives, IsFailure, IsOfRows};
 ghost use Rattle.office_store.specs.Holds.{HoldsState, HasNone, HasVersion, IsOfVersion, IsStateIn, LeavesStates};
-ghost use Rattle.office_store.specs.Cache.{IsHeldZone};
+ghost use Rattle.office_store.specs.Cache.{FitsCache};
 ghost use Rattle.office_store.specs.Migration.{HoldsOld, IsMigratedFrom, IsMigrated};
 ghost use Rattle.office_store.specs.Queries.{Asked, AsksOnly, Only};
 ghost use Rattle.office_store.specs.Turns.{Turns};
 ghost use Rattle.office_store.specs.Zones.{exported, if_free, if_later, imported, replaced, with_imported, with_replaced};
 
-use crate::batch::commit;
-use crate::cache::cached_zone;
+use crate::cache::{cached_zone, commit_cached};
 use crate::migration::migrate;
 use crate::opening::{Refused, check_state, make};
 use crate::reads::{changes_at, part_at, receipt_at, subtree_at};
@@ -35,8 +33,8 @@ use std::alloc::Global;
 use std::sync::ledger::{Blank, Book, Ledger, Share};
 use zone_core::{Change, Zone};
 
-/// Zones with their changes, and receipts, in the tables of a database. It counts the failures of its store by a ledger, and keeps
-/// the zone that was read last until something is written.
+/// Zones with their changes, and receipts, in the tables of a database. It counts the failures of its store by a ledger, and caches
+/// the zone that was read last, until that is changed or a call fails.
 #[derive(Drop)]
 pub struct SqlTable<S: Alter + Drop, L: Ledger> {
     conn: Connection<S>,
@@ -44,7 +42,7 @@ pub struct SqlTable<S: Alter + Drop, L: Ledger> {
     share: Share<L>,
     cache: Option<Zone>,
     ghost counts: { 0 < share.parts },
-    ghost fits: { ForSome cache (IsHeldZone (state S.Store conn)) },
+    ghost fits: { FitsCache (state S.Store conn) cache },
 }
 
 /// Counts a fault, if it is a failure of the store.
@@ -81,6 +79,7 @@ impl<S: Alter + Drop, L: Ledger> SqlTable<S, L> {
         requires name { blank.name ≡ L.name }
         requires parts { blank.parts ≡ L.parts }
         requires some { 0 < blank.parts }
+        requires fits { FitsCache (state S.Store conn) None }
         ensures conn { result.conn ≡ conn }
         ensures none { result.book.total ≡ 0 }
     {
@@ -292,10 +291,12 @@ impl<S: Alter + Drop, L: Ledger> SqlTable<S, L> {
         ensures asks { AsksOnly (state S.Store self.old.conn) (state S.Store self.new.conn) result }
         ensures counts { CountsCall self.old.book.total self.new.book.total result }
     {
-        self.cache = None;
         match export(alloc, &mut self.conn, origin) {
             Ok(records) => Ok(records),
-            Err(fault) => Err(counted(&mut self.book, &mut self.share, fault)),
+            Err(fault) => {
+                self.cache = None;
+                Err(counted(&mut self.book, &mut self.share, fault))
+            }
         }
     }
 }
@@ -315,7 +316,10 @@ impl<S: Alter + Drop, L: Ledger> ZoneTable for SqlTable<S, L> {
     fn zone(&mut self, alloc: Global, origin: &Name) -> Result<Option<Zone>, TableFault> {
         match cached_zone(alloc, &mut self.conn, &mut self.cache, origin) {
             Ok(zone) => Ok(zone),
-            Err(fault) => Err(refused(&mut self.book, &mut self.share, fault)),
+            Err(fault) => {
+                self.cache = None;
+                Err(refused(&mut self.book, &mut self.share, fault))
+            }
         }
     }
 
@@ -375,8 +379,7 @@ impl<S: Alter + Drop, L: Ledger> ZoneTable for SqlTable<S, L> {
     }
 
     fn commit(&mut self, alloc: Global, addition: Addition) -> Result<(), TableFault> {
-        self.cache = None;
-        match commit(alloc, &mut self.conn, &addition) {
+        match commit_cached(alloc, &mut self.conn, &mut self.cache, &addition) {
             Ok(()) => Ok(()),
             Err(fault) => Err(refused(&mut self.book, &mut self.share, fault)),
         }

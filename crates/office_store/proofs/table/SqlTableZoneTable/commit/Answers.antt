@@ -1,4 +1,4 @@
 use Rattle.office_store.proofs.table.SqlTableZoneTable.commit.Goals as goal
 
 pub returns-in-Ok-clause-kept : goal.returns-in-Ok-clause-kept
-returns-in-Ok-clause-kept g c = λ clean s h left. c.in-Ok.ensures.kept clean s h
+returns-in-Ok-clause-kept g c = λ clean s h left. c.in-Ok.ensures.turns.kept clean s h
