@@ -1,7 +1,11 @@
 -- The cached zone, and the state that the connection holds.
-use Rattle.std.proofs.Common.{◌≡◌, ◌⊎◌, ℕ, inl, inr, pos, List, ◌&&◌, bytes_eq, cond, true, false, map, drop, Option, Some, None, option_map, Result, Ok, Err, IfSome, IsTrue, IsPermutation, refl, sym, ap, subst, ◌∙◌}
+use Rattle.std.proofs.Common.{◌≡◌, ◌⊎◌, ℕ, inl, inr, pos, suc, ◌+◌, ◌<◌, ◌≤◌, List, [], ◌∷◌, ◌++◌, length, get_or, add-one, ◌&&◌, bytes_eq, cond, true, false, map, drop, Option, Some, None, option_map, Result, Ok, Err, IfSome, IsTrue, IsPermutation, refl, sym, ap, subst, ◌∙◌}
 use Rattle.std.proofs.Math.Logic.{∥∥₁_map, ∥∥₁_elim}
 use Rattle.std.specs.Coded.{Coded-set, coded_option}
+use Rattle.std.specs.Bool.{Decides}
+use Rattle.std.proofs.lemmas.Bool.Decides.{Decides-and, Decides-like, Decides-eqb}
+use Rattle.std.proofs.Math.Seq.{drop-cons}
+use Rattle.std.proofs.lemmas.List.{map-append, drop_all}
 use Rattle.std.proofs.lemmas.List.Sorted.{IsPermutation-sym, IsPermutation-trans}
 use Rattle.sqlite_trees.proofs.ListLemmas.{IsPermutation-filter}
 use Rattle.sqlite.specs.State.{State as Shown, HasCleanDisk}
@@ -9,9 +13,13 @@ use Rattle.dns_names.specs.Keys.{key_of}
 use Rattle.dns_names.specs.Order.{same_name}
 use Rattle.dns_names.specs.Spelling.{name_text}
 use Rattle.dns_names.proofs.NameLemmas.{same_name-Decides}
+use Rattle.dns_data.specs.declared.record.Record.{Record}
+use Rattle.dns_data.specs.contracts.record.RecordPartialEq.TheImpl as of_record
+use Rattle.dns_data.proofs.SameLemmas.{data_decides}
 use Rattle.zone_core.specs.Codes.{zone_code}
+use Rattle.zone_core.specs.Sets.{Records}
 use Rattle.zone_core.specs.Zones.{ZoneOf}
-use Rattle.zone_core.specs.Changes.{ChangeOf, changed}
+use Rattle.zone_core.specs.Changes.{ChangeOf, change_in, changed}
 use Rattle.zone_core.specs.Views.{zone_in}
 use Rattle.zone_core.proofs.SetLemmas.{by_cases}
 use Rattle.office_core.specs.States.{Held, State, zone_held, zone_at}
@@ -26,7 +34,8 @@ use Rattle.office_rows.specs.RecordRows.{record_row}
 use Rattle.office_rows.proofs.ListLemmas.{none_moved}
 use Rattle.office_rows.proofs.OriginLaws.{zones_stand_at_origins}
 use Rattle.office_rows.proofs.ZoneReadLemmas.{rows_moved, zone_of_state, zone_stored}
-use Rattle.office_store.specs.Cache.{FitsCache, IsZoneIn, cached_after, cached_behind, changed_at, with_change}
+use Rattle.office_store.specs.declared.cache.WaitingChange.{WaitingChange}
+use Rattle.office_store.specs.Cache.{FitsCache, IsZoneIn, cached_after, cached_behind, changed_at, records_after, with_change}
 use Rattle.office_store.specs.Holds.{HoldsState}
 use Rattle.office_store.specs.Queries.{Asked}
 use Rattle.office_store.specs.Turns.{Turns}
@@ -101,6 +110,11 @@ fits_committed old new x a before after turns fits follows =
     record { held = λ clean. ∥∥₁_map (fits.held (turns.honest clean)) (λ it. (committed a it.0, turns.made clean it.0 it.1, in_committed a it.0 before it.2)) } in
     fits_kept new (cached_after a before) after made follows
 
+-- one change more
+pub one_more : (set : Records) (cs : List ChangeOf) (c : ChangeOf) → records_after set (cs ++ c ∷ []) ≡ changed (records_after set cs) c.removed c.added
+one_more set [] c = refl
+one_more set (d ∷ cs) c = one_more (changed set d.removed d.added) cs c
+
 -- ---- what is answered of it
 
 -- the records' rows tell the zone of an origin
@@ -158,3 +172,36 @@ fits_found old new before found None o fits asked own tells is = fits_asked_none
 fits_found old new before found (Some zone) o fits asked own tells is =
     let named : zone.origin ≡ o = subst (λ f. IfSome f (λ z. z.origin ≡ o)) is own in
     record { held = λ clean. ∥∥₁_map (fits.held (asked.honest clean)) (λ it. (it.0, asked.same it.0 it.1, subst (λ n. zone_at it.0 n ≡ Some zone) (sym named) (sym (tells clean it.0 it.1) ∙ is))) }
+
+-- ---- the changes of records
+
+-- `==` of records
+pub record_eq : (r s : Record) → Decides (of_record.ghosts.eq r s) (r ≡ s)
+record_eq r s =
+    Decides-like _ (λ e. λ i. record { owner = e.0 i; ttl = e.1.0 i; rdata = e.1.1 i })
+    (λ e. (ap (λ (x : Record). x.owner) e, (ap (λ (x : Record). x.ttl) e, ap (λ (x : Record). x.rdata) e)))
+    (Decides-and _ _ (same_name-Decides r.owner s.owner) (Decides-and _ _ (Decides-eqb r.ttl s.ttl) (data_decides r.rdata s.rdata)))
+
+-- ---- changes that wait
+
+-- a zone behind changes that wait
+abbrev pub zone_behind : ZoneOf → List WaitingChange → ZoneOf
+zone_behind zone waiting = record { origin = zone.origin; records = records_after zone.records (map (λ w. change_in w.change) waiting) }
+
+-- with one more
+pub one_waits : (zone : ZoneOf) (before after : List WaitingChange) (w : WaitingChange) → after ≡ before ++ w ∷ [] → zone_behind zone after ≡ with_change (zone_behind zone before) (change_in w.change)
+one_waits zone before after w more =
+    ap (zone_behind zone) more
+    ∙ ap (λ cs. record { origin = zone.origin; records = records_after zone.records cs }) (map-append (λ (x : WaitingChange). change_in x.change) before (w ∷ []))
+    ∙ ap (λ set. record { origin = zone.origin; records = set }) (one_more zone.records (map (λ (x : WaitingChange). change_in x.change) before) (change_in w.change))
+
+-- with the next one made
+pub one_made : (zone after all : ZoneOf) (waiting : List WaitingChange) (i : ℕ) (w : WaitingChange) → i < length waiting → w ≡ get_or waiting i w → after ≡ with_change zone (change_in w.change)
+    → zone_behind zone (drop i waiting) ≡ all → zone_behind after (drop (i + 1) waiting) ≡ all
+one_made zone after all waiting i w within is made so =
+    let next : drop i waiting ≡ w ∷ drop (i + 1) waiting = rw add-one (drop-cons waiting i w within ∙ ap (λ x. x ∷ drop (suc i) waiting) (sym is)) in
+    ap (λ z. zone_behind z (drop (i + 1) waiting)) made ∙ sym (ap (zone_behind zone) next) ∙ so
+
+-- with all made
+pub all_made : (zone all : ZoneOf) (waiting : List WaitingChange) (n : ℕ) → length waiting ≤ n → zone_behind zone (drop n waiting) ≡ all → zone ≡ all
+all_made zone all waiting n most so = sym (ap (zone_behind zone) (drop_all n waiting most)) ∙ so

@@ -1,29 +1,46 @@
--- The zone that a table keeps beside its connection.
-use Rattle.std.specs.Prelude.{◌≡◌, ℕ, List, if◌then◌else◌, Option, Some, None, option_map}
+-- The zone that a table keeps beside its connection, and the changes of it that wait.
+use Rattle.std.specs.Prelude.{◌≡◌, ℕ, List, [], ◌∷◌, map, if◌then◌else◌, Option, Some, None, option_map}
 use Rattle.sqlite.specs.State.{State as Shown, HasCleanDisk}
 use Rattle.dns_names.specs.Order.{same_name}
+use Rattle.zone_core.specs.Sets.{Records}
 use Rattle.zone_core.specs.Zones.{ZoneOf}
-use Rattle.zone_core.specs.Changes.{ChangeOf, changed}
+use Rattle.zone_core.specs.Changes.{ChangeOf, change_in, changed}
 use Rattle.office_core.specs.States.{State, zone_at}
 use Rattle.office_core.specs.Tables.{AdditionOf}
+use Rattle.office_store.specs.declared.cache.CachedZone.{CachedZone}
 use Rattle.office_store.specs.Holds.{HoldsState}
 
--- ---- when it is one of the state
-
--- a zone, if there is one, is that of its origin in a state
-abbrev pub IsZoneIn : State → Option ZoneOf → Type 0
-IsZoneIn s None = Unit {0}
-IsZoneIn s (Some zone) = zone_at s zone.origin ≡ Some zone
-
--- As long as the store has kept its word, the connection holds a state, and the cached zone is one of it.
-pub record FitsCache (conn : Shown) (cached : Option ZoneOf) : Type 0 where
-  pub held : HasCleanDisk conn → ∥ ((s : State) × HoldsState conn s × IsZoneIn s cached) ∥₁
-
--- ---- behind a commit
+-- ---- the cached zone
 
 -- a zone with a change made
 abbrev pub with_change : ZoneOf → ChangeOf → ZoneOf
 with_change zone c = record zone { records = changed zone.records c.removed c.added }
+
+-- records behind changes, the oldest first
+abbrev pub records_after : Records → List ChangeOf → Records
+records_after set [] = set
+records_after set (c ∷ cs) = records_after (changed set c.removed c.added) cs
+
+-- the cached zone: the one that was read, with the changes made that wait
+abbrev pub current_zone : CachedZone → ZoneOf
+current_zone cached = record { origin = cached.zone.origin; records = records_after cached.zone.records (map (λ w. change_in w.change) cached.waiting.items) }
+
+-- the cached zone, if there is one
+abbrev pub cached_in : Option CachedZone → Option ZoneOf
+cached_in cache = option_map current_zone cache
+
+-- ---- when it is one of the state
+
+-- a zone is the one of its origin in a state
+abbrev pub IsZoneIn : State → Option ZoneOf → Type 0
+IsZoneIn s None = Unit {0}
+IsZoneIn s (Some zone) = zone_at s zone.origin ≡ Some zone
+
+-- As long as the store has kept its word, the connection holds a state, and the cached zone is a zone of it.
+pub record FitsCache (conn : Shown) (cached : Option ZoneOf) : Type 0 where
+  pub held : HasCleanDisk conn → ∥ ((s : State) × HoldsState conn s × IsZoneIn s cached) ∥₁
+
+-- ---- behind a commit
 
 -- a zone behind a change of the zone of an origin
 abbrev pub changed_at : List (List ℕ) → ChangeOf → ZoneOf → ZoneOf

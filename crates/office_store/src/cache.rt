@@ -1,42 +1,148 @@
-//! The zone that was read last, which is cached until a commit changes it.
+//! The zone that was read last. It follows the commits: a change of it waits beside it, and is made when the zone is asked for next.
 
-ghost use Rattle.std.specs.Prelude.{◌≡◌, false, Some, IfOk, IfSome};
+ghost use Rattle.std.specs.Prelude.{◌≡◌, ◌⊎◌, Some, None, IfOk, IfSome};
 ghost use Rattle.sqlite.specs.Held.{state};
 ghost use Rattle.sqlite.specs.State.{HasCleanDisk};
+ghost use Rattle.zone_core.specs.Changes.{change_in};
 ghost use Rattle.office_core.specs.States.{State, zone_at};
 ghost use Rattle.office_core.specs.Tables.{Fits, addition_in, committed};
 ghost use Rattle.office_store.specs.Queries.{AsksOnly};
 ghost use Rattle.office_store.specs.Holds.{HoldsState};
 ghost use Rattle.office_store.specs.Turns.{Turns};
-ghost use Rattle.office_store.specs.Cache.{FitsCache, cached_after};
+ghost use Rattle.office_store.specs.Cache.{FitsCache, cached_after, cached_in, changed_at, current_zone, with_change};
 
 use crate::batch::commit;
 use crate::queries::check_open;
 use crate::reads::zone_at;
 use dns_names::Name;
-use office_core::Addition;
+use office_core::{Addition, Receipt};
 use office_rows::StoreFault;
 use sqlite::{Alter, Connection};
 use std::alloc::{AllocError, Global};
-use zone_core::Zone;
+use zone_core::{Change, Update, Zone, apply_owned};
 
-/// A copy of the cached zone, if it is the one of an origin. The only error is out of memory.
-fn cached_at(alloc: Global, cache: &Option<Zone>, origin: &Name) -> Result<Option<Zone>, AllocError>
-    ensures { IfOk result (λ found. IfSome found (λ zone. (cache.now ≡ Some zone) × (zone.origin ≡ origin.now))) }
-{
-    match cache {
-        Some(zone) if zone.origin() == origin => Ok(Some(zone.try_copy(alloc)?)),
-        _ => Ok(None),
+/// How many changes wait at most. To make one costs a thirtieth of what it costs to read the zone.
+const MOST_WAITING: usize = 16;
+
+/// A change of the cached zone that was committed, and the update that made it.
+#[derive(Drop)]
+struct WaitingChange {
+    update: Update,
+    change: Change,
+}
+
+/// The zone that was read last, and its changes since then, the oldest first.
+#[derive(Drop)]
+pub(crate) struct CachedZone {
+    zone: Zone,
+    waiting: Vec<WaitingChange>,
+}
+
+impl WaitingChange {
+    /// The zone with the change made, if the update changes the zone so. It does, unless the store has broken its word. The only
+    /// error is out of memory.
+    fn made(&self, alloc: Global, zone: Zone) -> Result<Option<Zone>, AllocError>
+        ensures { IfOk result (λ made. IfSome made (λ after. after ≡ with_change zone (change_in self.now.change))) }
+    {
+        let None = self.update.outside(zone.origin()) else {
+            return Ok(None);
+        };
+        let outcome = apply_owned(alloc, zone, &self.update)?;
+        if outcome.removed == self.change.removed && outcome.added == self.change.added {
+            return Ok(Some(outcome.zone));
+        }
+        Ok(None)
     }
 }
 
-/// A copy of a zone that was found, as far as there is memory.
-fn copy_of(alloc: Global, found: &Option<Zone>) -> Option<Zone>
-    ensures { IfSome result (λ zone. found.now ≡ Some zone) }
+impl CachedZone {
+    /// A zone that was read just now.
+    fn of(alloc: Global, zone: Zone) -> CachedZone
+        ensures { current_zone result ≡ zone }
+    {
+        CachedZone {
+            zone,
+            waiting: Vec::new(alloc),
+        }
+    }
+
+    /// The zone with one change more, unless too many wait or memory runs out.
+    fn changed(self, change: WaitingChange) -> Option<CachedZone>
+        ensures { IfSome result (λ cached. current_zone cached ≡ with_change (current_zone self) (change_in change.change)) }
+    {
+        let CachedZone { zone, mut waiting } = self;
+        if waiting.len() >= MOST_WAITING {
+            return None;
+        }
+        match waiting.push(change) {
+            Ok(()) => Some(CachedZone { zone, waiting }),
+            Err(_) => None,
+        }
+    }
+
+    /// What is cached behind a change that an update made of its zone.
+    fn behind(self, receipt: Receipt, change: Change) -> Option<CachedZone>
+        ensures { IfSome result (λ cached. current_zone cached ≡ changed_at receipt.origin (change_in change) (current_zone self)) }
+    {
+        let Receipt {
+            origin,
+            update,
+            reply: _,
+        } = receipt;
+        if *self.zone.origin() == origin {
+            return self.changed(WaitingChange { update, change });
+        }
+        Some(self)
+    }
+
+    /// The zone with the waiting changes made, if each is what its update makes. The only error is out of memory.
+    fn into_zone(self, alloc: Global) -> Result<Option<Zone>, AllocError>
+        ensures { IfOk result (λ found. IfSome found (λ zone. zone ≡ current_zone self)) }
+    {
+        let CachedZone { mut zone, waiting } = self;
+        for change in &waiting {
+            let Some(after) = change.made(alloc, zone)? else {
+                return Ok(None);
+            };
+            zone = after;
+        }
+        Ok(Some(zone))
+    }
+}
+
+/// A copy of the cached zone, if it is the one of an origin, with the waiting changes made. The only error is out of memory.
+fn cached_at(
+    alloc: Global,
+    cache: &mut Option<CachedZone>,
+    origin: &Name,
+) -> Result<Option<Zone>, AllocError>
+    ensures found { IfOk result (λ found. IfSome found (λ zone. (cached_in cache.new ≡ Some zone) × (zone.origin ≡ origin.now))) }
+    ensures kept { (cached_in cache.new ≡ cached_in cache.old) ⊎ (cached_in cache.new ≡ None) }
 {
-    match found {
-        Some(zone) => zone.try_copy(alloc).ok(),
-        None => None,
+    let Some(cached) = cache.take() else {
+        return Ok(None);
+    };
+    if cached.zone.origin() != origin {
+        return Ok(None);
+    }
+    let Some(zone) = cached.into_zone(alloc)? else {
+        return Ok(None);
+    };
+    let copy = zone.try_copy(alloc)?;
+    *cache = Some(CachedZone::of(alloc, zone));
+    Ok(Some(copy))
+}
+
+/// What is cached of a zone that was found: a copy of it, as far as there is memory.
+fn cached_of(alloc: Global, found: &Option<Zone>) -> Option<CachedZone>
+    ensures { IfSome (cached_in result) (λ zone. found.now ≡ Some zone) }
+{
+    let Some(zone) = found else {
+        return None;
+    };
+    match zone.try_copy(alloc) {
+        Ok(copy) => Some(CachedZone::of(alloc, copy)),
+        Err(_) => None,
     }
 }
 
@@ -44,51 +150,57 @@ fn copy_of(alloc: Global, found: &Option<Zone>) -> Option<Zone>
 pub(crate) fn cached_zone<S: Alter>(
     alloc: Global,
     conn: &mut Connection<S>,
-    cache: &mut Option<Zone>,
+    cache: &mut Option<CachedZone>,
     origin: &Name,
 ) -> Result<Option<Zone>, StoreFault>
-    requires fits { FitsCache (state S.Store conn.old) cache.old }
+    requires fits { FitsCache (state S.Store conn.old) (cached_in cache.old) }
     ensures answer { HasCleanDisk (state S.Store conn.new) → IfOk result (λ zone. (s : State) → HoldsState (state S.Store conn.old) s → zone ≡ zone_at s origin.now) }
     ensures asks { AsksOnly (state S.Store conn.old) (state S.Store conn.new) result }
-    ensures fits { FitsCache (state S.Store conn.new) cache.new }
+    ensures fits { FitsCache (state S.Store conn.new) (cached_in cache.new) }
 {
     if let Some(zone) = cached_at(alloc, cache, origin)? {
         check_open(conn)?;
         return Ok(Some(zone));
     }
-    *cache = None;
     let found = zone_at(alloc, conn, origin)?;
-    *cache = copy_of(alloc, &found);
+    *cache = cached_of(alloc, &found);
     Ok(found)
 }
 
-/// Whether an addition changes the cached zone.
-fn is_changed(cache: &Option<Zone>, addition: &Addition) -> bool
-    ensures { result ≡ false → cached_after (addition_in addition.now) cache.now ≡ cache.now }
+/// What is cached behind an addition: a change of the cached zone waits, and any other leaves it.
+fn follow(cache: &mut Option<CachedZone>, addition: Addition)
+    ensures { (cached_in cache.new ≡ cached_after (addition_in addition) (cached_in cache.old)) ⊎ (cached_in cache.new ≡ None) }
 {
-    match cache {
-        Some(zone) => addition.change.is_some() && *zone.origin() == addition.receipt.origin,
-        None => false,
-    }
+    let Addition {
+        caller: _,
+        id: _,
+        receipt,
+        change,
+    } = addition;
+    let Some(change) = change else {
+        return;
+    };
+    let Some(cached) = cache.take() else {
+        return;
+    };
+    *cache = cached.behind(receipt, change);
 }
 
-/// Makes an addition: all of it, or nothing. The zone remains cached unless it is changed; after a failure none is cached.
+/// Makes an addition: all of it, or nothing. The cached zone follows it; after a failure none is cached.
 pub(crate) fn commit_cached<S: Alter>(
     alloc: Global,
     conn: &mut Connection<S>,
-    cache: &mut Option<Zone>,
-    addition: &Addition,
+    cache: &mut Option<CachedZone>,
+    addition: Addition,
 ) -> Result<(), StoreFault>
-    requires cache { FitsCache (state S.Store conn.old) cache.old }
-    requires fits { HasCleanDisk (state S.Store conn.old) → (s : State) → HoldsState (state S.Store conn.old) s → Fits s (addition_in addition.now) }
-    ensures turns { Turns (state S.Store conn.old) (state S.Store conn.new) result (committed (addition_in addition.now)) }
-    ensures cache { FitsCache (state S.Store conn.new) cache.new }
+    requires cache { FitsCache (state S.Store conn.old) (cached_in cache.old) }
+    requires fits { HasCleanDisk (state S.Store conn.old) → (s : State) → HoldsState (state S.Store conn.old) s → Fits s (addition_in addition) }
+    ensures turns { Turns (state S.Store conn.old) (state S.Store conn.new) result (committed (addition_in addition)) }
+    ensures cache { FitsCache (state S.Store conn.new) (cached_in cache.new) }
 {
-    match commit(alloc, conn, addition) {
+    match commit(alloc, conn, &addition) {
         Ok(()) => {
-            if is_changed(cache, addition) {
-                *cache = None;
-            }
+            follow(cache, addition);
             Ok(())
         }
         Err(fault) => {

@@ -12,13 +12,13 @@ ghost use Rattle.office_rows.specs.Batches.{nothing_held};
 ghost use Rattle.office_rows.specs.declared.store_fault.StoreFault.TheVariants.{BadRow, WrongVersion};
 ghost use Rattle.office_rows.specs.StoreFaults.{CountsFailure, CountsCall, Gives, IsFailure, IsOfRows};
 ghost use Rattle.office_store.specs.Holds.{HoldsState, HasNone, HasVersion, IsOfVersion, IsStateIn, LeavesStates};
-ghost use Rattle.office_store.specs.Cache.{FitsCache};
+ghost use Rattle.office_store.specs.Cache.{FitsCache, cached_in};
 ghost use Rattle.office_store.specs.Migration.{HoldsOld, IsMigratedFrom, IsMigrated};
 ghost use Rattle.office_store.specs.Queries.{Asked, AsksOnly, Only};
 ghost use Rattle.office_store.specs.Turns.{Turns};
 ghost use Rattle.office_store.specs.Zones.{exported, if_free, if_later, imported, replaced, with_imported, with_replaced};
 
-use crate::cache::{cached_zone, commit_cached};
+use crate::cache::{CachedZone, cached_zone, commit_cached};
 use crate::migration::migrate;
 use crate::opening::{Refused, check_state, make};
 use crate::reads::{changes_at, part_at, receipt_at, subtree_at};
@@ -34,15 +34,15 @@ use std::sync::ledger::{Blank, Book, Ledger, Share};
 use zone_core::{Change, Zone};
 
 /// Zones with their changes, and receipts, in the tables of a database. It counts the failures of its store by a ledger, and caches
-/// the zone that was read last, until that is changed or a call fails.
+/// the zone that was read last, which follows the commits, until a call fails or a whole zone is written.
 #[derive(Drop)]
 pub struct SqlTable<S: Alter + Drop, L: Ledger> {
     conn: Connection<S>,
     book: Book<L>,
     share: Share<L>,
-    cache: Option<Zone>,
+    cache: Option<CachedZone>,
     ghost counts: { 0 < share.parts },
-    ghost fits: { FitsCache (state S.Store conn) cache },
+    ghost fits: { FitsCache (state S.Store conn) (cached_in cache) },
 }
 
 /// Counts a fault, if it is a failure of the store.
@@ -379,7 +379,7 @@ impl<S: Alter + Drop, L: Ledger> ZoneTable for SqlTable<S, L> {
     }
 
     fn commit(&mut self, alloc: Global, addition: Addition) -> Result<(), TableFault> {
-        match commit_cached(alloc, &mut self.conn, &mut self.cache, &addition) {
+        match commit_cached(alloc, &mut self.conn, &mut self.cache, addition) {
             Ok(()) => Ok(()),
             Err(fault) => Err(refused(&mut self.book, &mut self.share, fault)),
         }
