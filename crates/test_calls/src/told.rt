@@ -44,7 +44,7 @@ pub(crate) fn told<S: Alter + Drop, L: Ledger>(
     }
 }
 
-/// What it tells of each line, one below the other.
+/// What it tells of each line, one below the other. A line may have one item of an update behind a `|`.
 fn looked<S: Alter + Drop, L: Ledger>(
     alloc: Global,
     table: &mut SqlTable<S, L>,
@@ -53,8 +53,9 @@ fn looked<S: Alter + Drop, L: Ledger>(
 ) -> Result<Vec<u8>> {
     let mut all = Vec::new(alloc);
     for line in lines.lines() {
-        let (verb, text) = line.split_once(' ').unwrap_or((line, ""));
-        let told = answered(alloc, table, policy, verb, text.as_bytes(), &[])?;
+        let (call, item) = line.split_once(" | ").unwrap_or((line, ""));
+        let (verb, text) = call.split_once(' ').unwrap_or((call, ""));
+        let told = answered(alloc, table, policy, verb, text.as_bytes(), item.as_bytes())?;
         all.extend_from_slice(&told)?;
         all.push(b'\n')?;
     }
