@@ -3,7 +3,8 @@
 ghost use Rattle.std.specs.Prelude.{◌≡◌, ◌<◌, false, IfOk, IfErr, OnErr};
 ghost use Rattle.sqlite.specs.Held.{state};
 ghost use Rattle.sqlite.specs.State.{HasCleanDisk};
-ghost use Rattle.office_core.specs.States.{State};
+ghost use Rattle.office_core.specs.States.{State, zone_at};
+ghost use Rattle.office_core.specs.Tables.{Fits, addition_in, committed};
 ghost use Rattle.office_sql.specs.Holds.{Holds};
 ghost use Rattle.office_sql.specs.Rows.{RowsOf};
 ghost use Rattle.office_rows.specs.StoreFaults.{IsFailure};
@@ -14,6 +15,7 @@ ghost use Rattle.office_store.specs.Zones.{imported, with_imported};
 
 use dns_data::Record;
 use dns_names::Name;
+use office_core::{Addition, TableFault, ZoneTable};
 use office_store::{Migration, SqlTable, StoreFault};
 use sqlite::{Alter, Connection};
 use std::alloc::Global;
@@ -72,4 +74,19 @@ pub fn migrate_or_not<S: Alter + Drop, L: Ledger>(
     ensures { OnErr result ((rows : RowsOf) → Holds (state S.Store store.old) rows → Holds (state S.Store store.new) rows) }
 {
     SqlTable::<S, L>::migrate(alloc, store)
+}
+
+/// The zone of an origin behind an addition, from a table that was asked for it before.
+pub fn zone_behind<T: ZoneTable>(
+    alloc: Global,
+    table: &mut T,
+    origin: &Name,
+    addition: Addition,
+) -> Result<Option<Zone>, TableFault>
+    requires { T.is_honest table.old → (s : State) → T.holds table.old s → Fits s (addition_in addition) }
+    ensures { T.is_honest table.new → IfOk result (λ zone. (s : State) → T.holds table.old s → zone ≡ zone_at (committed (addition_in addition) s) origin.now) }
+{
+    let _before = table.zone(alloc, origin)?;
+    table.commit(alloc, addition)?;
+    table.zone(alloc, origin)
 }
