@@ -1,12 +1,12 @@
 -- Which rules are idle, and lists of numbers in order.
 use Rattle.std.proofs.Common.{◌≡◌, ◌↔◌, ℕ, ◌+◌, ◌<◌, ◌≤◌, List, [], ◌∷◌, ◌++◌, length, get_or, sym, subst, ⊎_elim, arith}
 use Rattle.std.specs.List.{Contains}
-use Rattle.std.specs.List.Sorted.{IsStrictlyIncreasing}
 use Rattle.std.proofs.lemmas.Bool.{cases_lt}
 use Rattle.std.proofs.lemmas.List.{get_or_append_left, get_or_push, length_push}
 use Rattle.std.proofs.lemmas.List.Elements.{Contains-push, Contains-push_cases, Contains-append_left, Contains-get_or}
 use Rattle.grant_policy.specs.declared.rule.Rule.{Rule}
 use Rattle.policy_checks.specs.Idle.{IsIdle, Takes}
+use Rattle.policy_checks.specs.Rows.{AreBelow}
 
 -- a rule is idle where it does not decide what it matches itself
 pub idle_from : (rules : List Rule) (i : ℕ) → ¬ Takes rules i i → IsIdle rules i
@@ -24,11 +24,6 @@ upto rules i j takes =
     (cases_lt i j)
 
 -- ---- numbers in order
-
--- the numbers below n of which P is true, in order
-pub record AreBelow (P : ℕ → Type 0) (n : ℕ) (xs : List ℕ) : Type 0 where
-  pub each : (k : ℕ) → Contains xs k ↔ ((k < n) × P k)
-  pub ordered : IsStrictlyIncreasing xs
 
 pub none_below : (P : ℕ → Type 0) → AreBelow P 0 []
 none_below P = record { each = λ k. (λ c. absurd (omega (arith, c.1)), λ h. absurd (omega (arith, h.0))); ordered = λ k lt. absurd (omega arith) }

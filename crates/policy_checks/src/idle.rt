@@ -1,14 +1,15 @@
 //! Rules that never decide.
 
-ghost use Rattle.std.specs.Prelude.{◌≡◌, ◌↔◌, ◌<◌, ◌≤◌, ◌++◌, ◌∷◌, [], ℕ, length, map, IfOk, OnOk};
-ghost use Rattle.std.specs.List.{All, Contains};
+ghost use Rattle.std.specs.Prelude.{◌≡◌, ◌↔◌, ◌<◌, ◌≤◌, ◌==◌, ℕ, length, map, IfOk};
+ghost use Rattle.std.specs.List.{All, Contains, list_any};
 ghost use Rattle.std.specs.List.Sorted.{IsStrictlyIncreasing};
 ghost use Rattle.policy_checks.specs.Idle.{IsIdle, AreTakers};
 ghost use Rattle.policy_checks.specs.Names.{Represent};
+ghost use Rattle.policy_checks.specs.Rows.{IsClaim, IsRow, rules_of};
 
 use crate::names::representatives;
-use crate::taking::takes;
-use dns_names::Name;
+use crate::rows::{Claim, Row, claims_of, rows_of};
+use crate::taking::takers;
 use grant_policy::{Policy, Rule};
 use std::alloc::{AllocError, Global};
 
@@ -42,51 +43,38 @@ fn idle_among(alloc: Global, rules: &[Rule]) -> Result<Vec<IdleRule>, AllocError
     ensures ordered { IfOk result (λ idle. IsStrictlyIncreasing (map (λ r. r.rule) idle.items)) }
 {
     let names = representatives(alloc, rules)?;
+    let claims = claims_of(alloc, rules)?;
+    let rows = rows_of(alloc, &claims, &names)?;
+    idle_of(alloc, &claims, &rows)
+}
+
+/// The same, of rules with their pairs. The rows have to be of names that represent all names.
+fn idle_of(
+    alloc: Global,
+    claims: &[Claim<'_>],
+    rows: &[Row<'_>],
+) -> Result<Vec<IdleRule>, AllocError>
+    requires few { length claims.now ≤ 1024 }
+    requires claims { All IsClaim claims.now }
+    requires rows { All (IsRow (rules_of claims.now)) rows.now }
+    requires names { Represent (rules_of claims.now) (map (λ r. r.name.now) rows.now) }
+    ensures idle { IfOk result (λ idle. (i : ℕ) → Contains (map (λ r. r.rule) idle.items) i ↔ ((i < length (rules_of claims.now)) × IsIdle (rules_of claims.now) i)) }
+    ensures takers { IfOk result (λ idle. All (λ r. AreTakers (rules_of claims.now) r.rule r.takers.items) idle.items) }
+    ensures ordered { IfOk result (λ idle. IsStrictlyIncreasing (map (λ r. r.rule) idle.items)) }
+{
     let mut idle = Vec::new(alloc);
-    for rule in 0..rules.len() {
-        if !takes(rules, &names, rule, rule) {
-            add_idle(alloc, rules, &names, rule, &mut idle)?;
+    for rule in 0..claims.len() {
+        let takers = takers(alloc, claims, rows, rule)?;
+        if !is_among(&takers, rule) {
+            idle.push(IdleRule { rule, takers })?;
         }
     }
     Ok(idle)
 }
 
-/// Adds a rule, with its takers. The names have to represent all names.
-fn add_idle(
-    alloc: Global,
-    rules: &[Rule],
-    names: &[Name],
-    rule: usize,
-    idle: &mut Vec<IdleRule>,
-) -> Result<(), AllocError>
-    requires few { length rules.now ≤ 1024 }
-    requires rule { rule < length rules.now }
-    requires names { Represent rules.now names.now }
-    ensures rules { OnOk result (map (λ r. r.rule) idle.new.items ≡ map (λ r. r.rule) idle.old.items ++ rule ∷ []) }
-    ensures takers { OnOk result (All (λ r. AreTakers rules.now r.rule r.takers.items) idle.old.items → All (λ r. AreTakers rules.now r.rule r.takers.items) idle.new.items) }
+/// Whether a number is among others.
+fn is_among(numbers: &[usize], number: usize) -> bool
+    ensures { result ≡ list_any (λ n. n == number) numbers.now }
 {
-    let takers = takers(alloc, rules, names, rule)?;
-    idle.push(IdleRule { rule, takers })?;
-    Ok(())
-}
-
-/// The rules that decide what a rule matches. The names have to represent all names.
-fn takers(
-    alloc: Global,
-    rules: &[Rule],
-    names: &[Name],
-    rule: usize,
-) -> Result<Vec<usize>, AllocError>
-    requires few { length rules.now ≤ 1024 }
-    requires rule { rule < length rules.now }
-    requires names { Represent rules.now names.now }
-    ensures { IfOk result (λ takers. AreTakers rules.now rule takers.items) }
-{
-    let mut takers = Vec::new(alloc);
-    for taker in 0..rule + 1 {
-        if takes(rules, names, rule, taker) {
-            takers.push(taker)?;
-        }
-    }
-    Ok(takers)
+    numbers.iter().any(|other| *other == number)
 }

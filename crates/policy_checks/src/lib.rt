@@ -3,9 +3,12 @@
 //! short list of names, and each caller that no rule names is like any other.
 #![tactic(auto)]
 
+mod callers;
 mod child;
 mod idle;
 mod names;
+mod points;
+mod rows;
 mod taking;
 
 pub use idle::{IdleRule, idle_rules};

@@ -1,183 +1,85 @@
-//! Whether a rule decides what another matches.
+//! The rules that decide what a rule matches.
 
-ghost use Rattle.std.specs.Prelude.{◌≡◌, ◌↔◌, ◌&&◌, ◌<◌, ◌≤◌, length, take, not, slice_index_or, IsTrue, IfSome};
-ghost use Rattle.std.specs.List.{list_any};
-ghost use Rattle.std.specs.Option.{option_copied};
-ghost use Rattle.grant_policy.specs.declared.rule.Rule.{Rule as RuleOf};
-ghost use Rattle.dns_data.specs.Types.{kept_types};
-ghost use Rattle.grant_policy.specs.Words.{all_actions};
-ghost use Rattle.policy_checks.specs.Idle.{Takes};
+ghost use Rattle.std.specs.Prelude.{◌≡◌, ◌↔◌, ◌⊎◌, ◌<◌, ◌≤◌, ◌==◌, ℕ, List, false, true, map, length, slice_index_or, IfOk};
+ghost use Rattle.std.specs.List.{All, list_any};
+ghost use Rattle.dns_data.specs.declared.record_type.RecordType.{RecordType as TypeOf};
+ghost use Rattle.grant_policy.specs.declared.action.Action.{Action as ActionOf};
+ghost use Rattle.policy_checks.specs.Idle.{AreTakers};
 ghost use Rattle.policy_checks.specs.Names.{Represent};
-ghost use Rattle.policy_checks.specs.Taking.{AreCallers, shared_of, includes, speaks, contest_of, is_open, takes_by, takes_with, takes_at, takes_between};
+ghost use Rattle.policy_checks.specs.declared.rows.Entry.{Entry as EntryOf};
+ghost use Rattle.policy_checks.specs.Points.{has_point};
+ghost use Rattle.policy_checks.specs.Rows.{AreBelow, IsClaim, IsRow, Hits, TakesBehind, is_decided, rules_of};
 
-use dns_data::RecordType;
-use dns_names::Name;
-use grant_policy::{Action, Callers, Rule, covers};
+use crate::callers::{include_all, shared};
+use crate::points::Points;
+use crate::rows::{Claim, Entry, Row};
+use std::alloc::{AllocError, Global};
 
-/// Two rules, of which the second may decide what the first matches.
-#[derive(Clone, Copy)]
-struct Contest<'a> {
-    /// The callers of whom both speak.
-    callers: &'a Callers,
-    /// The rule that matches.
-    rule: &'a Rule,
-    /// The rule that may decide.
-    taker: &'a Rule,
-    /// The rules before that one.
-    before: &'a [Rule],
+/// The rules that decide what the rule of this number matches, in order. The rows have to be of names that represent all names.
+pub(crate) fn takers(
+    alloc: Global,
+    claims: &[Claim<'_>],
+    rows: &[Row<'_>],
+    number: usize,
+) -> Result<Vec<usize>, AllocError>
+    requires few { length claims.now ≤ 1024 }
+    requires number { number < length claims.now }
+    requires claims { All IsClaim claims.now }
+    requires rows { All (IsRow (rules_of claims.now)) rows.now }
+    requires names { Represent (rules_of claims.now) (map (λ r. r.name.now) rows.now) }
+    ensures { IfOk result (λ takers. AreTakers (rules_of claims.now) number takers.items) }
+{
+    let claim = claims[number];
+    let mut found = vec![in alloc; false; claims.len()]?;
+    for row in rows {
+        if is_in(&row.entries, number) {
+            mark(claim, &row.entries, &mut found);
+        }
+    }
+    let takers = marked(alloc, &found)?;
+    Ok(takers)
 }
 
-/// Whether rule `j` decides a question that rule `i` matches. The names have to represent all names.
-pub(crate) fn takes(rules: &[Rule], names: &[Name], i: usize, j: usize) -> bool
-    requires few { length rules.now ≤ 1024 }
-    requires matching { i < length rules.now }
-    requires taker { j < length rules.now }
-    requires names { Represent rules.now names.now }
-    ensures { IsTrue result ↔ Takes rules.now i j }
+/// Whether the rule of this number has an entry.
+fn is_in(entries: &[Entry<'_>], number: usize) -> bool
+    ensures { result ≡ list_any (λ e. e.number == number) entries.now }
 {
-    // the proof needs that the callers are identifiers
-    let _ = shared(&rules[i].callers, &rules[j].callers);
-    takes_somewhere(rules, names, i, j)
+    entries.iter().any(|entry| entry.number == number)
 }
 
-/// Makes known to a proof that callers are named by identifiers. It does nothing when it runs.
-fn reveal_callers(callers: &Callers)
-    ensures { AreCallers callers.now }
+/// Marks the rules of entries that take questions of a rule there.
+fn mark(claim: Claim<'_>, entries: &[Entry<'_>], found: &mut [bool])
+    requires { All (λ e. e.number < length found.old) entries.now }
+    ensures { (j : ℕ) → j < length found.old → slice_index_or found.new j false ≡ true ↔ ((slice_index_or found.old j false ≡ true) ⊎ Hits claim.entry entries.now (length entries.now) j) }
 {
-    if let Callers::One(identifier) = callers {
-        let _ = identifier.as_bytes();
+    let mut decided = Points::none();
+    for entry in entries {
+        if takes(claim, *entry, decided) {
+            found[entry.number] = true;
+        }
+        if include_all(&entry.claim.rule.callers, &claim.rule.callers) {
+            decided = decided.with(entry.claim.points);
+        }
     }
 }
 
-/// The callers of whom both speak, where there are any: all, or one.
-fn shared<'a>(own: &'a Callers, other: &'a Callers) -> Option<&'a Callers>
-    ensures value { option_copied result ≡ shared_of own.now other.now }
-    ensures named { IfSome (option_copied result) AreCallers }
+/// Whether the rule of an entry takes questions of a rule, behind rules that decide some for all its callers.
+fn takes(claim: Claim<'_>, entry: Entry<'_>, decided: Points) -> bool
+    ensures { (before : List EntryOf) → ((t : TypeOf) (a : ActionOf) → has_point decided.bits t a ≡ is_decided before claim.entry.rule.now.callers t a) → result ≡ true ↔ TakesBehind claim.entry before entry.entry }
 {
-    let callers = common(own, other)?;
-    reveal_callers(callers);
-    Some(callers)
+    claim.points.meets(entry.left.without(decided))
+        && shared(&claim.rule.callers, &entry.claim.rule.callers).is_some()
 }
 
-/// The same.
-fn common<'a>(own: &'a Callers, other: &'a Callers) -> Option<&'a Callers>
-    ensures { option_copied result ≡ shared_of own.now other.now }
+/// The places that are marked, in order.
+fn marked(alloc: Global, found: &[bool]) -> Result<Vec<usize>, AllocError>
+    ensures { IfOk result (λ places. AreBelow (λ j. slice_index_or found.now j false ≡ true) (length found.now) places.items) }
 {
-    match (own, other) {
-        (Callers::Every, _) => Some(other),
-        (Callers::One(_), Callers::Every) => Some(own),
-        (Callers::One(one), Callers::One(_)) => other.include(one).then_some(own),
+    let mut places = Vec::new(alloc);
+    for (place, is_found) in found.iter().enumerate() {
+        if *is_found {
+            places.push(place)?;
+        }
     }
-}
-
-/// Whether the names have one at which it does.
-fn takes_somewhere(rules: &[Rule], names: &[Name], i: usize, j: usize) -> bool
-    requires matching { i < length rules.now }
-    requires taker { j < length rules.now }
-    ensures { (d : RuleOf) → result ≡ takes_between names.now (take j rules.now) (slice_index_or rules.now i d) (slice_index_or rules.now j d) }
-{
-    let (rule, taker) = (&rules[i], &rules[j]);
-    let Some(callers) = shared(&rule.callers, &taker.callers) else {
-        return false;
-    };
-    let contest = Contest {
-        callers,
-        rule,
-        taker,
-        before: &rules[..j],
-    };
-    decides_somewhere(contest, names)
-}
-
-/// The same, of rules that share callers.
-fn decides_somewhere(contest: Contest<'_>, names: &[Name]) -> bool
-    ensures { result ≡ list_any (takes_at (contest_of contest.entry)) names.now }
-{
-    names.iter().any(|name| decides_at(contest, name))
-}
-
-/// Whether it does at a name.
-fn decides_at(contest: Contest<'_>, name: &Name) -> bool
-    ensures { result ≡ takes_at (contest_of contest.entry) name.now }
-{
-    covers(contest.rule.scope, &contest.rule.at, name)
-        && covers(contest.taker.scope, &contest.taker.at, name)
-        && decides_with_some(contest, name)
-}
-
-/// Whether it does with the records of some type.
-fn decides_with_some(contest: Contest<'_>, name: &Name) -> bool
-    ensures { result ≡ list_any (takes_with (contest_of contest.entry) name.now) kept_types }
-{
-    RecordType::ALL
-        .iter()
-        .any(|record_type| decides_with(contest, name, *record_type))
-}
-
-/// Whether it does at a name with the records of a type.
-fn decides_with(contest: Contest<'_>, name: &Name, record_type: RecordType) -> bool
-    ensures { result ≡ takes_with (contest_of contest.entry) name.now record_type }
-{
-    contest.rule.types.include(record_type)
-        && contest.taker.types.include(record_type)
-        && decides_by_some(contest, name, record_type)
-}
-
-/// Whether it does by some action.
-fn decides_by_some(contest: Contest<'_>, name: &Name, record_type: RecordType) -> bool
-    ensures { result ≡ list_any (takes_by (contest_of contest.entry) name.now record_type) all_actions }
-{
-    Action::ALL
-        .iter()
-        .any(|action| decides_by(contest, name, record_type, *action))
-}
-
-/// Whether it does by an action.
-fn decides_by(contest: Contest<'_>, name: &Name, record_type: RecordType, action: Action) -> bool
-    ensures { result ≡ takes_by (contest_of contest.entry) name.now record_type action }
-{
-    contest.rule.actions.include(action)
-        && contest.taker.actions.include(action)
-        && is_left(contest, name, record_type, action)
-}
-
-/// Whether no rule before the taker matches.
-fn is_left(contest: Contest<'_>, name: &Name, record_type: RecordType, action: Action) -> bool
-    ensures { result ≡ is_open (contest_of contest.entry) name.now record_type action }
-{
-    !is_decided_before(contest.before, contest.callers, name, record_type, action)
-}
-
-/// Whether some rule speaks of all of some callers, a name, a type and an action.
-fn is_decided_before(
-    before: &[Rule],
-    callers: &Callers,
-    name: &Name,
-    record_type: RecordType,
-    action: Action,
-) -> bool
-    ensures { result ≡ list_any (λ rule. includes rule.callers callers.now && speaks rule name.now record_type action) before.now }
-{
-    before.iter().any(|rule| {
-        include_all(&rule.callers, callers) && speaks_of(rule, name, record_type, action)
-    })
-}
-
-/// Whether callers have others among them.
-fn include_all(callers: &Callers, others: &Callers) -> bool
-    ensures { result ≡ includes callers.now others.now }
-{
-    match others {
-        Callers::One(caller) => callers.include(caller),
-        Callers::Every => matches!(callers, Callers::Every),
-    }
-}
-
-/// Whether a rule speaks of a name, a type and an action, whoever asks.
-fn speaks_of(rule: &Rule, name: &Name, record_type: RecordType, action: Action) -> bool
-    ensures { result ≡ speaks rule.now name.now record_type action }
-{
-    covers(rule.scope, &rule.at, name)
-        && rule.types.include(record_type)
-        && rule.actions.include(action)
+    Ok(places)
 }

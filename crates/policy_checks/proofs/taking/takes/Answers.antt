@@ -1,20 +1,44 @@
-use Rattle.std.proofs.Common.{◌∙◌, get_or, ap}
-use Rattle.std.proofs.lemmas.Bool.Decides.{Decides-at}
-use Rattle.std.proofs.lemmas.List.{get_or_default}
-use Rattle.std.proofs.lemmas.Option.{slice_get-get_or}
-use Rattle.grant_policy.specs.declared.rule.Rule.{Rule}
-use Rattle.policy_checks.specs.Taking.{shared_of}
-use Rattle.policy_checks.proofs.TakeLemmas.{takes-Decides, looked_at}
+use Rattle.std.proofs.Common.{sym, ◌∙◌, not}
+use Rattle.std.proofs.lemmas.Bool.{both_ways, and_from, not-true, not_from_false}
+use Rattle.policy_checks.specs.Points.{has_point}
+use Rattle.policy_checks.proofs.RowLemmas.{shared_some, some_shared}
+use Rattle.policy_checks.proofs.TakeLemmas.{fst, snd}
 use Rattle.policy_checks.proofs.taking.takes.Goals as goal
 
-pub returns : goal.returns
-returns c =
-    let rules = c.args.rules.now in
-    let i = c.args.i in
-    let j = c.args.j in
-    let own = c.index-rules-i.result in
-    let other = c.index-rules-j.result in
-    let rule = get_or rules i own in
-    let taker = get_or rules j own in
-    let shared = c.shared.ensures.value ∙ ap (λ (r : Rule). shared_of rule.callers r.callers) (get_or_default rules j other own c.requires.taker) in
-    Decides-at _ _ (c.takes_somewhere.ensures own) (takes-Decides rules c.args.names.now c.requires.few c.requires.names i j rule taker (slice_get-get_or rules i own c.requires.matching) (slice_get-get_or rules j own c.requires.taker) (looked_at _ _ shared c.shared.ensures.named))
+pub returns-then-meets : goal.returns-then-meets
+returns-then-meets c = λ before same.
+    let left = c.args.entry.left.bits in
+    let gone = c.args.decided.bits in (
+      λ yes'.
+          let m = c.meets.ensures.0 c.if-meets.true in
+          let t = m.record_type in
+          let a = m.action in
+          let both = sym (c.without.ensures t a) ∙ m.in_other in
+          let who = shared_some c.shared.result _ c.shared.ensures (sym c.is_some.ensures ∙ yes') in
+          record {
+            record_type = t;
+            action = a;
+            callers = who.0;
+            own = m.in_one;
+            left = fst (has_point left t a) (not (has_point gone t a)) both;
+            undecided = sym (same t a) ∙ not-true (has_point gone t a) (snd (has_point left t a) (not (has_point gone t a)) both);
+            shared = who.1;
+          },
+      λ takes. c.is_some.ensures ∙ some_shared c.shared.result _ takes.callers c.shared.ensures takes.shared,
+    )
+
+pub returns-else-meets : goal.returns-else-meets
+returns-else-meets c = λ before same.
+    let left = c.args.entry.left.bits in
+    let gone = c.args.decided.bits in (
+      λ yes'. absurd (both_ways c.meets.result c.if-meets.false yes'),
+      λ takes.
+          let t = takes.record_type in
+          let a = takes.action in
+          c.meets.ensures.1 (record {
+            record_type = t;
+            action = a;
+            in_one = takes.own;
+            in_other = c.without.ensures t a ∙ and_from (has_point left t a) (not (has_point gone t a)) takes.left (not_from_false (has_point gone t a) (same t a ∙ takes.undecided));
+          }),
+    )
