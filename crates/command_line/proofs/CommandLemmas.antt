@@ -50,6 +50,7 @@ met command.Export = refl
 met command.Migrate = refl
 met command.Rights = refl
 met command.Serve = refl
+met command.Check = refl
 met command.Explain = refl
 
 entered_by : (c : Command) (words : List Text) → entered_at (Some (command_word c, words)) ≡ Some (command_word c, rows_after (rules_of c) [] words)
@@ -61,6 +62,7 @@ entered_by command.Export words = refl
 entered_by command.Migrate words = refl
 entered_by command.Rights words = refl
 entered_by command.Serve words = refl
+entered_by command.Check words = refl
 entered_by command.Explain words = refl
 
 read_back : (c : Command) → command_of (command_word c) ≡ Some c
@@ -71,6 +73,7 @@ read_back command.Export = refl
 read_back command.Migrate = refl
 read_back command.Rights = refl
 read_back command.Serve = refl
+read_back command.Check = refl
 read_back command.Explain = refl
 
 -- the words after a command's word are read by its own rules

@@ -17,7 +17,7 @@ use Rattle.command_line.specs.declared.job.ZoneForm.TheVariants.{Whole, Relative
 use Rattle.command_line.specs.declared.job.TextForm.{TextForm}
 use Rattle.command_line.specs.declared.job.TextForm.TheVariants.{Plain, Json}
 use Rattle.command_line.specs.PlainForms.{IsNumberGiven, IsPlain, IsValue, IsValueIfGiven, existing_words, form_words, given, place_words, zone_form_words}
-use Rattle.command_line.specs.Words.{JobOf, apply, canon, imports, export, migrate, rights, serve, explain, job_by, job_of, stored_at}
+use Rattle.command_line.specs.Words.{JobOf, apply, canon, imports, export, migrate, rights, serve, check_policy, explain, job_by, job_of, stored_at}
 use Rattle.command_line.proofs.CommandLemmas.{job_of_command, no_words, place_walked, rows_from, rules_of, standing, value_walked}
 
 -- ---- steps
@@ -140,6 +140,26 @@ module _ (s p l : Text) (is_s : IsValue s) (is_p : IsValue p) (is_l : IsValue l)
       ∙ (option_read command.Serve (valued command.Serve served argument.Connections is_n.0) argument.Patience is_w.0 [] is_w.1 refl
       ∙ ap₂ (λ x y. served_by (some x) (some y)) is_n.2 is_w.2))
 
+-- the value of an option behind a word in its place
+option_read_behind : (c : Command) (k : ℕ) (h : Held) (a : Argument) (v : Text) (words : List Text) → IsValue v
+    → arg_by_id (rules_of c) (argument_name a) ≡ Some (filled (rule_for a))
+    → job_from c words (walked (rules_of c) [] (standing k h (option (argument_name a))) v)
+    ≡ job_from c words (standing k (pushed (argument_name a) v h)
+    (if nat_lt (pending_count (filled (rule_for a)) (pushed (argument_name a) v h).pending) (most_values (filled (rule_for a))) then option (argument_name a) else idle))
+option_read_behind c k h a v words is found =
+    ap (job_from c words) (value_walked (rules_of c) k (argument_name a) v (filled (rule_for a)) h is found)
+
+-- what is held after `policy` and the word of the option
+abbrev subject_held : Held
+subject_held = placed command.Check 1 start argument.Subject (codes "policy")
+
+abbrev policy_named : Held
+policy_named = (walked (rules_of command.Check) [] (standing 2 subject_held idle) (codes "--" ++ argument_name argument.Policy)).held
+
+check_read : (p : Text) → IsValue p → job_from command.Check (codes "policy" ∷ given argument.Policy p) (walk_from start) ≡ Some (check_policy p)
+unfolding clap_on_literals
+check_read p is = option_read_behind command.Check 2 policy_named argument.Policy p [] is refl
+
 explain_read : (n : Option Text) (form : TextForm) → IsValueIfGiven n
     → job_from command.Explain (place_words n ++ form_words form) (walk_from start) ≡ Some (explain n form)
 unfolding clap_on_literals
@@ -163,4 +183,5 @@ plain_read words (rights p q n t a) is =
 plain_read words (serve s p l n w) is =
     ap job_of is.7 ∙ (job_of_command command.Serve _ ∙ (needed_read s p l is.0 is.1 is.2 (is.3 ++ is.5)
     ∙ numbers_read s p l is.0 is.1 is.2 n w is.3 is.5 is.4 is.6))
+plain_read words (check_policy p) is = ap job_of is.1 ∙ (job_of_command command.Check _ ∙ check_read p is.0)
 plain_read words (explain n form) is = ap job_of is.1 ∙ (job_of_command command.Explain _ ∙ explain_read n form is.0)

@@ -28,6 +28,7 @@ argument_row argument.Relative = (codes "relative", Flag)
 argument_row argument.Connections = (codes "connections", Number)
 argument_row argument.Patience = (codes "patience", Number)
 argument_row argument.Number = (codes "number", OptionalPlace)
+argument_row argument.Subject = (codes "subject", Place)
 argument_row argument.Json = (codes "json", Flag)
 
 abbrev pub argument_name : Argument → Text
@@ -49,6 +50,7 @@ command_row command.Rights =
     (codes "rights", argument.Policy ∷ argument.Caller ∷ argument.Name ∷ argument.Type ∷ argument.Action ∷ [])
 command_row command.Serve =
     (codes "serve", argument.Store ∷ argument.Policy ∷ argument.Listen ∷ argument.Connections ∷ argument.Patience ∷ [])
+command_row command.Check = (codes "check", argument.Subject ∷ argument.Policy ∷ [])
 command_row command.Explain = (codes "explain", argument.Number ∷ argument.Json ∷ [])
 
 abbrev pub command_word : Command → Text
@@ -59,7 +61,7 @@ arguments_of c = (command_row c).1
 
 abbrev pub all_commands : List Command
 all_commands =
-    command.Apply ∷ command.Canon ∷ command.Import ∷ command.Export ∷ command.Migrate ∷ command.Rights ∷ command.Serve ∷ command.Explain ∷ []
+    command.Apply ∷ command.Canon ∷ command.Import ∷ command.Export ∷ command.Migrate ∷ command.Rights ∷ command.Serve ∷ command.Check ∷ command.Explain ∷ []
 
 -- the command that a word names
 abbrev pub command_of : Text → Option Command

@@ -4,7 +4,7 @@ use Rattle.std.specs.Str.{bytes_eq}
 use Rattle.clap.specs.Words.{Text}
 use Rattle.clap.specs.Lexer.{long_of, short_of}
 use Rattle.command_line.specs.Commands.{argument_name}
-use Rattle.command_line.specs.Words.{JobOf, apply, canon, imports, export, migrate, rights, serve, explain, number_in}
+use Rattle.command_line.specs.Words.{JobOf, apply, canon, imports, export, migrate, rights, serve, check_policy, explain, number_in}
 use Rattle.command_line.specs.declared.argument.Argument.{Argument}
 use Rattle.command_line.specs.declared.argument.Argument.TheVariants as argument
 use Rattle.command_line.specs.declared.job.Existing.{Existing}
@@ -70,4 +70,5 @@ IsPlain words (serve store policy listen connections patience) = IsValue store �
     × (ns : List Text) × IsNumberGiven argument.Connections connections ns
     × (ws : List Text) × IsNumberGiven argument.Patience patience ws
     × (words ≡ codes "serve" ∷ (given argument.Store store ++ given argument.Policy policy ++ given argument.Listen listen ++ ns ++ ws))
+IsPlain words (check_policy policy) = IsValue policy × (words ≡ codes "check" ∷ codes "policy" ∷ given argument.Policy policy)
 IsPlain words (explain number form) = IsValueIfGiven number × (words ≡ codes "explain" ∷ (place_words number ++ form_words form))

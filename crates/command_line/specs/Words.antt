@@ -35,6 +35,7 @@ pub data JobOf : Type 0 where
   migrate : (store : Text) → JobOf
   rights : (policy caller name record_type action : Text) → JobOf
   serve : (store policy listen : Text) → (connections patience : Option ℕ) → JobOf
+  check_policy : (policy : Text) → JobOf
   explain : (number : Option Text) → TextForm → JobOf
 
 abbrev pub zone_asked : StoredZone → StoredOf
@@ -48,6 +49,7 @@ asks (job.Export zone form) = export (zone_asked zone) form
 asks (job.Migrate store) = migrate store.now
 asks (job.Rights policy asked) = rights policy.now asked.caller.now asked.name.now asked.record_type.now asked.action.now
 asks (job.Serve service) = serve service.store.now service.policy.now service.listen.now service.connections service.patience
+asks (job.CheckPolicy policy) = check_policy policy.now
 asks (job.Explain number form) = explain (option_map (λ n. n.now) number) form
 
 -- ---- what words ask for
@@ -109,6 +111,17 @@ serve_of rows =
     (number_if (one_of (argument_name argument.Patience) rows))) (number_if (one_of (argument_name argument.Connections) rows)))
     (first_of (argument_name argument.Listen) rows)) (first_of (argument_name argument.Policy) rows)) (first_of (argument_name argument.Store) rows)
 
+abbrev pub checked_of : List Row → Option JobOf
+checked_of rows = option_map (λ p. check_policy p) (first_of (argument_name argument.Policy) rows)
+
+-- what is checked is the policy
+abbrev pub check_if : Option Text → List Row → Option JobOf
+check_if None rows = None
+check_if (Some t) rows = if bytes_eq t (codes "policy") then checked_of rows else None
+
+abbrev pub check_of : List Row → Option JobOf
+check_of rows = check_if (first_of (argument_name argument.Subject) rows) rows
+
 abbrev pub explain_of : List Row → JobOf
 explain_of rows = explain (first_of (argument_name argument.Number) rows) (form_of (first_of (argument_name argument.Json) rows))
 
@@ -121,6 +134,7 @@ job_by command.Export rows = export_of rows
 job_by command.Migrate rows = migrate_of rows
 job_by command.Rights rows = rights_of rows
 job_by command.Serve rows = serve_of rows
+job_by command.Check rows = check_of rows
 job_by command.Explain rows = Some (explain_of rows)
 
 -- the job of the command that a word names

@@ -23,6 +23,7 @@ pub enum Argument {
     Connections,
     Patience,
     Number,
+    Subject,
     Json,
 }
 
@@ -105,6 +106,7 @@ impl Argument {
                 Form::OptionalPlace,
                 "The number, as 29.19.1, or the code; all if left out",
             ),
+            Argument::Subject => Row::new("subject", Form::Place, "What to check: policy"),
             Argument::Json => Row::new("json", Form::Flag, "As an array of JSON"),
         }
     }

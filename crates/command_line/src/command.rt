@@ -14,6 +14,7 @@ pub enum Command {
     Migrate,
     Rights,
     Serve,
+    Check,
     Explain,
 }
 
@@ -53,7 +54,7 @@ impl Command {
     ghost use Rattle.command_line.specs.Commands.{command_word, arguments_of, command_of};
 
     /// The commands, in the order of the help.
-    pub const ALL: [Command; 8] = [
+    pub const ALL: [Command; 9] = [
         Command::Apply,
         Command::Canon,
         Command::Import,
@@ -61,6 +62,7 @@ impl Command {
         Command::Migrate,
         Command::Rights,
         Command::Serve,
+        Command::Check,
         Command::Explain,
     ];
 
@@ -123,6 +125,12 @@ impl Command {
                     Argument::Connections,
                     Argument::Patience,
                 ],
+            ),
+            Command::Check => Row::new(
+                "check",
+                "Finds the rules of a policy that never decide",
+                "Example: zoneoffice check policy --policy policy.toml",
+                &[Argument::Subject, Argument::Policy],
             ),
             Command::Explain => Row::new(
                 "explain",

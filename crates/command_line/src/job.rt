@@ -43,6 +43,11 @@ pub enum Job<'a> {
         /// What is served, and where.
         service: Service<'a>,
     },
+    /// To find the rules of a policy that never decide.
+    CheckPolicy {
+        /// The path of the policy.
+        policy: &'a str,
+    },
     /// To say what the number of a refusal means.
     Explain {
         /// The number, or the code, and all where none is given.

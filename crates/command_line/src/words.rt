@@ -3,7 +3,7 @@
 ghost use Rattle.std.specs.Prelude.{◌≡◌, [], IfErr, IfOk, map, option_map, Some, is_some, true, codes};
 ghost use Rattle.clap.specs.Words.{app_of, fault_of, first_of, found_of, kind_of, one_of, rows_of, subcommand_rows_of, takes};
 ghost use Rattle.command_line.specs.Commands.{office, argument_name};
-ghost use Rattle.command_line.specs.Words.{asks, JobOf, canon_of, zone_asked, stored_of, import_of, export_of, migrate_of, rights_of, serve_of, explain_of, number_if, existing_of, zone_form_of, form_of, job_by, job_named, job_met, job_of};
+ghost use Rattle.command_line.specs.Words.{asks, JobOf, canon_of, zone_asked, stored_of, import_of, export_of, migrate_of, rights_of, serve_of, checked_of, check_of, explain_of, number_if, existing_of, zone_form_of, form_of, job_by, job_named, job_met, job_of};
 ghost use Rattle.command_line.specs.PlainForms.{IsPlain};
 ghost use Rattle.command_line.specs.Told.{IsToldAs, IsToldOf, is_help};
 
@@ -151,6 +151,24 @@ fn rights_in<'a>(matches: &ArgMatches<'a>) -> Option<Job<'a>>
     Some(Job::Rights { policy, asked })
 }
 
+/// The job of `check policy`.
+fn policy_check_in<'a>(matches: &ArgMatches<'a>) -> Option<Job<'a>>
+    ensures { option_map asks result ≡ checked_of (rows_of (found_of matches.now)) }
+{
+    let policy = text_at(matches, Argument::Policy)?;
+    Some(Job::CheckPolicy { policy })
+}
+
+/// The job of the command `check`.
+fn check_in<'a>(matches: &ArgMatches<'a>) -> Option<Job<'a>>
+    ensures { option_map asks result ≡ check_of (rows_of (found_of matches.now)) }
+{
+    match text_at(matches, Argument::Subject) {
+        Some("policy") => policy_check_in(matches),
+        _ => None,
+    }
+}
+
 /// The job of the command `explain`.
 fn explain_in<'a>(matches: &ArgMatches<'a>) -> Job<'a>
     ensures { asks result ≡ explain_of (rows_of (found_of matches.now)) }
@@ -172,6 +190,7 @@ fn job_of_command<'a>(command: Command, matches: &ArgMatches<'a>) -> Option<Job<
         Command::Migrate => migrate_in(matches),
         Command::Rights => rights_in(matches),
         Command::Serve => serve_in(matches),
+        Command::Check => check_in(matches),
         Command::Explain => Some(explain_in(matches)),
     }
 }
@@ -221,7 +240,8 @@ fn told(alloc: Global, error: Error) -> WordsFault
 /// `import --store PATH --origin NAME [--replace]`; `export --store PATH --origin NAME [--relative]`;
 /// `migrate --store PATH`;
 /// `rights --policy PATH --caller CALLER NAME TYPE ACTION`;
-/// `serve --store PATH --policy PATH --listen ADDRESS:PORT [--connections N] [--patience SECONDS]`; and
+/// `serve --store PATH --policy PATH --listen ADDRESS:PORT [--connections N] [--patience SECONDS]`;
+/// `check policy --policy PATH`; and
 /// `explain [NUMBER] [--json]`. The words behind a command may come in any order.
 /// `Help` comes where they ask for help or the version, and `Misused` where there is a mistake in them.
 pub fn read_words<'a>(alloc: Global, words: &'a [&'a str]) -> Result<Job<'a>, WordsFault>

@@ -51,6 +51,7 @@ fn job_text(alloc: Global, job: &Job<'_>) -> Result<String, AllocError> {
         Job::Migrate { store } => format!(in alloc; "migrate ({store})"),
         Job::Rights { policy, asked } => question_text(alloc, policy, asked),
         Job::Serve { service } => service_text(alloc, service),
+        Job::CheckPolicy { policy } => format!(in alloc; "check policy ({policy})"),
         Job::Explain { number, form } => explain_text(alloc, *number, *form),
     }
 }
