@@ -7,3 +7,4 @@ pub mod ReadAgainLemmas
 pub mod SendLemmas
 pub mod StepLemmas
 pub mod ExplainLemmas
+pub mod CheckLemmas

@@ -1,5 +1,5 @@
 -- A zone that is printed and read.
-use Rattle.std.proofs.Common.{◌≡◌, ◌∙◌, ap, ℕ, suc, List, [], ◌∷◌, Result, Ok, Some, refl, arith}
+use Rattle.std.proofs.Common.{◌≡◌, ◌∙◌, ap, ℕ, suc, List, [], ◌∷◌, Ok, Some, refl, arith}
 use Rattle.std.specs.FinMap.{find}
 use Rattle.std.specs.List.{AllByRecursion, Contains}
 use Rattle.dns_data.specs.declared.record.Record.{Record}

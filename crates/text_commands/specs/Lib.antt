@@ -8,3 +8,4 @@ pub mod Apply
 pub mod PartViews
 pub mod Rights
 pub mod Explain
+pub mod Check

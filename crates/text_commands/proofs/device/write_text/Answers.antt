@@ -1,4 +1,4 @@
-use Rattle.std.proofs.Common.{◌+◌, ℕ, List, Option, Result, Ok, Err, arith}
+use Rattle.std.proofs.Common.{ℕ, List, Option, Result, Ok, Err, arith}
 use Rattle.dns_master.specs.declared.device.DeviceFailed.{DeviceFailed}
 use Rattle.dns_master.specs.Written.{IsWritten}
 use Rattle.dns_master.proofs.DeviceLemmas.{part_front}
