@@ -3,6 +3,9 @@ use Rattle.std.specs.Prelude.{◌≡◌, ℕ, List, Option, Result, Ok, Err}
 use Rattle.text_commands.specs.declared.refusal.Refusal.{Refusal}
 use Rattle.text_commands.specs.declared.line_fault.JobFault.{JobFault}
 use Rattle.text_commands.specs.Replies.{Answered}
+use Rattle.text_commands.specs.declared.check.Findings.{Findings}
+use Rattle.text_commands.specs.declared.check.Findings.TheVariants.{Absent, Present}
+use Rattle.text_commands.specs.Check.{Checked}
 
 -- 0 where the job went through, and else 1
 abbrev pub status_of : Result (Unit {0}) JobFault → ℕ
@@ -14,3 +17,14 @@ status_of (Err fault) = 1
 abbrev pub EndsTask : Option (List ℕ) → (List ℕ → Result (List ℕ) Refusal) → Option (List ℕ) → Option (List ℕ) → ℕ → Type 0
 EndsTask left answer old new status = (outcome : Result (Unit {0}) JobFault) × (failed_reads : ℕ) × (failed_writes : ℕ)
     × Answered left answer old new outcome 0 failed_reads 0 failed_writes × (status ≡ status_of outcome)
+
+-- 0 where a check went through and found nothing, and else 1
+abbrev pub check_status_of : Result Findings JobFault → ℕ
+check_status_of (Ok Absent) = 0
+check_status_of (Ok Present) = 1
+check_status_of (Err fault) = 1
+
+-- the same of a check: at 0 the policy was read, and each of its rules decides something
+abbrev pub EndsCheck : Option (List ℕ) → Option (List ℕ) → Option (List ℕ) → ℕ → Type 0
+EndsCheck left old new status = (outcome : Result Findings JobFault) × (failed_reads : ℕ) × (failed_writes : ℕ)
+    × Checked left old new outcome 0 failed_reads 0 failed_writes × (status ≡ check_status_of outcome)

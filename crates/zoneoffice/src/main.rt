@@ -3,7 +3,7 @@
 
 ghost use Rattle.std.specs.Prelude.{◌≡◌};
 ghost use Rattle.std.specs.Process.{exit_status};
-ghost use Rattle.zoneoffice.specs.Status.{EndsTask, status_of};
+ghost use Rattle.zoneoffice.specs.Status.{EndsTask, EndsCheck, status_of, check_status_of};
 
 use command_line::{Job, WordsFault, read_words};
 use std::alloc::{AllocError, Global};
@@ -14,6 +14,7 @@ use store_commands::{
     Apply, Canon, Explain, JobFault, NO_MEMORY_LINE, PolicyFile, Task, do_export, do_import,
     do_migrate, do_serve, do_task,
 };
+use text_commands::{Findings, do_check};
 
 /// The exit status of a job: 0 where it went through, and else 1.
 fn status(done: Result<(), JobFault>) -> ExitCode
@@ -56,6 +57,25 @@ fn do_with<T: Task, R: Read + Drop, W: Write + Drop>(
     (writer, ended(rt, done))
 }
 
+/// The exit status of a check: 0 where it found nothing, and else 1.
+fn check_status(done: Result<Findings, JobFault>) -> ExitCode
+    ensures { exit_status result ≡ check_status_of done }
+{
+    match done {
+        Ok(Findings::Absent) => ExitCode::SUCCESS,
+        _ => ExitCode::FAILURE,
+    }
+}
+
+/// Checks the policy that a reader gives, with a writer, which is handed back.
+fn check_with<R: Read + Drop, W: Write + Drop>(alloc: Global, reader: R, writer: W) -> (W, ExitCode)
+    // Each rule that never decides is told, and the status is 0 exactly where there is none.
+    ensures { EndsCheck (R.remaining reader) (W.contents writer) (W.contents result.0) (exit_status result.1) }
+{
+    let (writer, done) = do_check(alloc, reader, writer);
+    (writer, check_status(done))
+}
+
 /// Does a job.
 fn do_job(rt: &HostRuntime, job: Job<'_>) -> ExitCode {
     match job {
@@ -76,6 +96,9 @@ fn do_job(rt: &HostRuntime, job: Job<'_>) -> ExitCode {
         Job::Migrate { store } => ended(rt, do_migrate(rt, store, rt.stdout()).1),
         Job::Rights { policy, asked } => {
             do_with(rt, asked, PolicyFile::open(rt, policy), rt.stdout()).1
+        }
+        Job::CheckPolicy { policy } => {
+            check_with(alloc, PolicyFile::open(rt, policy), rt.stdout()).1
         }
         Job::Explain { number, form } => {
             let task = Explain { number, form };
