@@ -3,6 +3,7 @@
 ghost use Rattle.std.specs.Prelude.{◌≡◌, ℕ, [], Some, IfOk, option_map, string_bytes};
 ghost use Rattle.text_commands.specs.Apply.{apply_text};
 ghost use Rattle.text_commands.specs.Canon.{canon_text};
+ghost use Rattle.text_commands.specs.Check.{Checked};
 ghost use Rattle.text_commands.specs.Explain.{explain_text};
 ghost use Rattle.text_commands.specs.Refusals.{told_refusal};
 ghost use Rattle.text_commands.specs.Replies.{Answered};
@@ -11,7 +12,9 @@ ghost use Rattle.text_commands.specs.Rights.{rights_text};
 use command_line::QuestionWords;
 use dns_master::Pieces;
 use std::alloc::{AllocError, Global};
-use text_commands::{Apply, Canon, Explain, JobFault, Refusal, RefusalLine, do_task};
+use text_commands::{
+    Apply, Canon, Explain, Findings, JobFault, Refusal, RefusalLine, do_check, do_task,
+};
 
 /// `do_task` of `Canon`.
 pub fn canon(alloc: Global, canon: Canon<'_>, input: Vec<u8>) -> (Vec<u8>, Result<(), JobFault>)
@@ -44,6 +47,16 @@ pub fn rights(
     let reader = Pieces::new(policy, usize::MAX, 0);
     let writer = Pieces::new(Vec::new(alloc), usize::MAX, 0);
     let (writer, outcome) = do_task(alloc, words, reader, writer);
+    (writer.octets, outcome)
+}
+
+/// `do_check`.
+pub fn check(alloc: Global, policy: Vec<u8>) -> (Vec<u8>, Result<Findings, JobFault>)
+    ensures { (failed_reads : ℕ) × (failed_writes : ℕ) × Checked (Some policy.items) (Some []) (Some result.0.items) result.1 0 failed_reads 0 failed_writes }
+{
+    let reader = Pieces::new(policy, usize::MAX, 0);
+    let writer = Pieces::new(Vec::new(alloc), usize::MAX, 0);
+    let (writer, outcome) = do_check(alloc, reader, writer);
     (writer.octets, outcome)
 }
 

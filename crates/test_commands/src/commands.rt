@@ -1,7 +1,7 @@
 use crate::devices::{Command, Manner};
 use std::alloc::{AllocError, Global};
 use test_rows::{Answers, Row};
-use text_commands::{JobFault, LineFault};
+use text_commands::{Findings, JobFault, LineFault};
 
 /// Answers to rows of commands.
 #[derive(Drop)]
@@ -117,11 +117,12 @@ fn push_rows(text: &[u8], answer: &mut Vec<u8>) -> Result<(), AllocError> {
 /// Appends a line, without its end, for how a command went.
 fn push_status(
     alloc: Global,
-    done: Result<(), JobFault>,
+    done: Result<Findings, JobFault>,
     answer: &mut Vec<u8>,
 ) -> Result<(), AllocError> {
     match done {
-        Ok(()) => push("status 0", answer),
+        Ok(Findings::Absent) => push("status 0", answer),
+        Ok(Findings::Present) => push("status 1", answer),
         Err(fault) => push(format!(in alloc; "status 1: {fault}")?.as_str(), answer),
     }
 }

@@ -1,7 +1,7 @@
 use command_line::{QuestionWords, TextForm, ZoneForm};
 use dns_master::Pieces;
 use std::alloc::{AllocError, Global};
-use text_commands::{Apply, Canon, Explain, JobFault, Task, do_task};
+use text_commands::{Apply, Canon, Explain, Findings, JobFault, Task, do_check, do_task};
 
 /// How a device works.
 #[derive(Clone, Copy)]
@@ -24,8 +24,8 @@ impl Manner {
     }
 }
 
-/// What a command printed, and how it went.
-pub type Printed = (Vec<u8>, Result<(), JobFault>);
+/// What a command printed, and how it went. A command that checks nothing finds nothing.
+pub type Printed = (Vec<u8>, Result<Findings, JobFault>);
 
 /// A command, its words, and its input.
 #[derive(Clone, Copy)]
@@ -52,6 +52,7 @@ impl Command<'_> {
             }
             "rights" => self.run_task(alloc, question(words), reading, writing),
             "explain" => self.run_task(alloc, asked(words), reading, writing),
+            "check" => self.run_check(alloc, reading, writing),
             _ => Ok(None),
         }
     }
@@ -66,6 +67,18 @@ impl Command<'_> {
         let reader = reading.device(Vec::from_slice(alloc, self.input)?);
         let writer = writing.device(Vec::new(alloc));
         let (page, done) = do_task(alloc, task, reader, writer);
+        Ok(Some((page.octets, done.map(|()| Findings::Absent))))
+    }
+
+    fn run_check(
+        self,
+        alloc: Global,
+        reading: Manner,
+        writing: Manner,
+    ) -> Result<Option<Printed>, AllocError> {
+        let reader = reading.device(Vec::from_slice(alloc, self.input)?);
+        let writer = writing.device(Vec::new(alloc));
+        let (page, done) = do_check(alloc, reader, writer);
         Ok(Some((page.octets, done)))
     }
 }
