@@ -7,7 +7,8 @@ use Rattle.dns_master.specs.Written.{IsProperPrefix}
 use Rattle.grant_policy.specs.declared.rule.Rule.{Rule}
 use Rattle.office_wire.specs.declared.exchange.Progress.TheVariants.{Next}
 use Rattle.office_wire.specs.Exchange.{Turn, octets_of, turn_text, octets, texts, IsOpenTurn, Standing, Run, Exchange, Closes, whole, bad_length, bad_head, Says, next, closing}
-use Rattle.office_wire.specs.Serving.{IsProgress, IsCurrent, IsClosed, IsBroken}
+use Rattle.office_wire.specs.Serving.{Mark, Leads, IsProgress, IsCurrent, IsClosed, IsBroken}
+use Rattle.office_wire.proofs.ServfailLemmas.{servfails_join}
 use Rattle.office_wire.proofs.HeadLemmas.{never_more}
 use Rattle.std.proofs.KnownBytes.{Appends-trans}
 
@@ -26,6 +27,9 @@ open_join (t ∷ ts) us p q = (p.0, open_join ts us p.1 q)
 pub run_join : (rules : List Rule) (c m d : Standing) (ts us : List Turn) → Run rules c ts m → Run rules m us d → Run rules c (ts ++ us) d
 run_join rules c m d [] us p q = subst (λ (k : Standing). Run rules k us d) p q
 run_join rules c m d (t ∷ ts) us p q = (p.0, p.1, run_join rules p.0 m d ts us p.2 q)
+
+pub leads_join : (rules : List Rule) (c m d : Mark) (ts us : List Turn) → Leads rules c ts m → Leads rules m us d → Leads rules c (ts ++ us) d
+leads_join rules c m d ts us p q = (run_join rules c.standing m.standing d.standing ts us p.0 q.0, servfails_join c.note m.note d.note ts us p.1 q.1)
 
 -- what follows one part of a stream was answered too
 exchange_join : (stream got rest final : List ℕ) (ts us : List Turn) → Exchange stream ts rest → Exchange (rest ++ got) us final
@@ -66,33 +70,33 @@ text_join : (before mid after : Option (List ℕ)) (ts us : List Turn) (text : L
 text_join before mid after ts us text p q = subst (λ (l : List ℕ). Appends before after l)
     (sym (append_assoc (texts ts) (texts us) text) ∙ ap (λ (l : List ℕ). l ++ text) (sym (texts_join ts us))) (Appends-trans before mid after _ _ p q)
 
-module _ (rules : List Rule) (c : Standing) where
-  three : (a b e : List Turn) (m d : Standing) → Run rules c a m → Run rules m (b ++ e) d → Run rules c ((a ++ b) ++ e) d
-  three a b e m d p q = subst (λ (l : List Turn). Run rules c l d) (sym (append_assoc a b e)) (run_join rules c m d a (b ++ e) p q)
+module _ (rules : List Rule) (c : Mark) where
+  three : (a b e : List Turn) (m d : Mark) → Leads rules c a m → Leads rules m (b ++ e) d → Leads rules c ((a ++ b) ++ e) d
+  three a b e m d p q = subst (λ (l : List Turn). Leads rules c l d) (sym (append_assoc a b e)) (leads_join rules c m d a (b ++ e) p q)
 
   -- after what came before, in the same words
-  pub current_join : (d e : Standing) (stream got rest left : List ℕ) (before mid after : Option (List ℕ))
+  pub current_join : (d e : Mark) (stream got rest left : List ℕ) (before mid after : Option (List ℕ))
       → IsCurrent rules c stream rest before mid d → IsCurrent rules d (rest ++ got) left mid after e → IsCurrent rules c (stream ++ got) left before after e
   current_join d e stream got rest left before mid after p q = (
     p.0 ++ q.0,
-    run_join rules c d e p.0 q.0 p.1 q.1,
+    leads_join rules c d e p.0 q.0 p.1 q.1,
     exchange_join stream got rest left p.0 q.0 p.2 q.2,
     subst (λ (l : List ℕ). Appends before after l) (sym (texts_join p.0 q.0)) (Appends-trans before mid after _ _ p.3 q.3),
   )
 
-  pub closed_join : (d e : Standing) (stream got rest : List ℕ) (before mid after : Option (List ℕ))
+  pub closed_join : (d e : Mark) (stream got rest : List ℕ) (before mid after : Option (List ℕ))
       → IsCurrent rules c stream rest before mid d → IsClosed rules d (rest ++ got) mid after e → IsClosed rules c (stream ++ got) before after e
   closed_join d e stream got rest before mid after p q =
       (p.0 ++ q.0, q.1, q.2, q.3, three p.0 q.0 q.1 d e p.1 q.4, exchange_join stream got rest q.2 p.0 q.0 p.2 q.5, q.6, text_join before mid after p.0 q.0 q.3 p.3 q.7)
 
-  pub broken_join : (d e : Standing) (stream got rest : List ℕ) (before mid after : Option (List ℕ))
+  pub broken_join : (d e : Mark) (stream got rest : List ℕ) (before mid after : Option (List ℕ))
       → IsCurrent rules c stream rest before mid d → IsBroken rules d (rest ++ got) mid after e → IsBroken rules c (stream ++ got) before after e
   broken_join d e stream got rest before mid after p q =
       (p.0 ++ q.0, q.1, q.2, q.3, q.4, three p.0 q.0 q.1 d e p.1 q.5, exchange_join stream got rest q.2 p.0 q.0 p.2 q.6, q.7, q.8, text_join before mid after p.0 q.0 q.4 p.3 q.9)
 
   -- ---- one turn of the loop
 
-  pub next_served : (d e : Standing) (n : ℕ) (stream rest pending left out text : List ℕ) (before mid after : Option (List ℕ)) → pending ≡ rest → left ≡ drop n rest → text ≡ out
+  pub next_served : (d e : Mark) (n : ℕ) (stream rest pending left out text : List ℕ) (before mid after : Option (List ℕ)) → pending ≡ rest → left ≡ drop n rest → text ≡ out
       → IsCurrent rules c stream rest before mid d → IsProgress rules d pending (Next n) out e → Appends mid after text → IsCurrent rules c stream left before after e
   next_served d e n stream rest pending left out text before mid after is_rest is_left is_out p q wrote =
       let octets_are = subst (λ (l : List ℕ). l ≡ octets_of q.0 ++ drop n l) is_rest q.3 ∙ ap (λ (l : List ℕ). octets_of q.0 ++ l) (sym is_left) in
@@ -101,12 +105,12 @@ module _ (rules : List Rule) (c : Standing) where
       let all = subst (λ (l : List ℕ). Exchange l (p.0 ++ q.0 ∷ []) left) (append-nil stream) (exchange_join stream [] rest left p.0 (q.0 ∷ []) p.2 wide) in
       let same : text ≡ texts (q.0 ∷ []) = is_out ∙ q.4 ∙ sym (append-nil (turn_text q.0)) in (
         p.0 ++ q.0 ∷ [],
-        run_join rules c d e p.0 (q.0 ∷ []) p.1 q.1,
+        leads_join rules c d e p.0 (q.0 ∷ []) p.1 q.1,
         all,
         subst (λ (l : List ℕ). Appends before after l) (ap (λ (l : List ℕ). texts p.0 ++ l) same ∙ sym (texts_join p.0 (q.0 ∷ []))) (Appends-trans before mid after _ _ p.3 wrote),
       )
 
-  pub next_broken : (d e : Standing) (n : ℕ) (stream rest pending out text : List ℕ) (before mid after : Option (List ℕ)) → pending ≡ rest → text ≡ out
+  pub next_broken : (d e : Mark) (n : ℕ) (stream rest pending out text : List ℕ) (before mid after : Option (List ℕ)) → pending ≡ rest → text ≡ out
       → IsCurrent rules c stream rest before mid d → IsProgress rules d pending (Next n) out e → ((part : List ℕ) × IsProperPrefix part text × Appends mid after part)
       → IsBroken rules c stream before after e
   next_broken d e n stream rest pending out text before mid after is_rest is_out p q wrote = (
@@ -115,15 +119,15 @@ module _ (rules : List Rule) (c : Standing) where
     rest,
     text,
     wrote.0,
-    run_join rules c d e p.0 (q.0 ∷ []) p.1 q.1,
+    leads_join rules c d e p.0 (q.0 ∷ []) p.1 q.1,
     p.2,
     next q.0 _ q.2 (subst (λ (l : List ℕ). l ≡ octets_of q.0 ++ drop n l) is_rest q.3) refl (is_out ∙ q.4),
     wrote.1,
     Appends-trans before mid after _ _ p.3 wrote.2,
   )
 
-  pub last_broken : (d e : Standing) (stream rest pending out text : List ℕ) (us : List Turn) (before mid after : Option (List ℕ)) → pending ≡ rest → text ≡ out
-      → IsCurrent rules c stream rest before mid d → Run rules d us e → Closes pending us out → ((part : List ℕ) × IsProperPrefix part text × Appends mid after part)
+  pub last_broken : (d e : Mark) (stream rest pending out text : List ℕ) (us : List Turn) (before mid after : Option (List ℕ)) → pending ≡ rest → text ≡ out
+      → IsCurrent rules c stream rest before mid d → Leads rules d us e → Closes pending us out → ((part : List ℕ) × IsProperPrefix part text × Appends mid after part)
       → IsBroken rules c stream before after e
   last_broken d e stream rest pending out text us before mid after is_rest is_out p ran q wrote = (
     p.0,
@@ -131,21 +135,21 @@ module _ (rules : List Rule) (c : Standing) where
     rest,
     text,
     wrote.0,
-    run_join rules c d e p.0 us p.1 ran,
+    leads_join rules c d e p.0 us p.1 ran,
     p.2,
     closing (subst (λ (l : List ℕ). Closes rest us l) (sym is_out) (subst (λ (l : List ℕ). Closes l us out) is_rest q)),
     wrote.1,
     Appends-trans before mid after _ _ p.3 wrote.2,
   )
 
-  pub last_closed : (d e : Standing) (stream rest pending out text : List ℕ) (us : List Turn) (before mid after : Option (List ℕ)) → pending ≡ rest → text ≡ out
-      → IsCurrent rules c stream rest before mid d → Run rules d us e → Closes pending us out → Appends mid after text → IsClosed rules c stream before after e
+  pub last_closed : (d e : Mark) (stream rest pending out text : List ℕ) (us : List Turn) (before mid after : Option (List ℕ)) → pending ≡ rest → text ≡ out
+      → IsCurrent rules c stream rest before mid d → Leads rules d us e → Closes pending us out → Appends mid after text → IsClosed rules c stream before after e
   last_closed d e stream rest pending out text us before mid after is_rest is_out p ran q wrote = (
     p.0,
     us,
     rest,
     text,
-    run_join rules c d e p.0 us p.1 ran,
+    leads_join rules c d e p.0 us p.1 ran,
     p.2,
     subst (λ (l : List ℕ). Closes rest us l) (sym is_out) (subst (λ (l : List ℕ). Closes l us out) is_rest q),
     Appends-trans before mid after _ _ p.3 wrote,

@@ -27,7 +27,8 @@ use Rattle.office_wire.specs.declared.response.Response.TheVariants.{Replied}
 use Rattle.office_wire.specs.declared.head.Heading.{Heading}
 use Rattle.office_wire.specs.Framing.{IsAsked}
 use Rattle.office_wire.specs.Requests.{Refuses, call_by, call_of}
-use Rattle.office_wire.specs.Serving.{standing, IsReplied}
+use Rattle.office_wire.specs.Serving.{standing, Mark, IsReplied}
+use Rattle.office_wire.specs.Servfails.{servfail_in, noted, one_more}
 use Rattle.office_wire.specs.ShortResponses.{IsShortResponse, IsPut, servfail}
 use Rattle.office_wire.specs.Exchange.{Standing, Answers, replied, failed, refused, refusing}
 
@@ -100,8 +101,19 @@ pub asked_call : (g : Heading) (h : RequestHead) (body : List ℕ) → IsAsked g
 unfolding call_of
 asked_call g h body is = λ i. call_by (is.caller i) (is.method i) (is.target i) body
 
--- what is put is the text of what is answered
-pub put_answers : (rules : List Rule) (c d : Standing) (read : Result Call RequestFault) (response : Response) (method : Method) (closing whole : Bool) (text : List ℕ) → Answers rules c read response d
-    → IsPut method response closing whole text → IsReplied rules c read method closing text d
-put_answers rules c d read response method closing true text a put = record { response = response; answers = a; text_is = put }
-put_answers rules c d read response method closing false text a put = record { response = servfail; answers = servfail_instead rules c d read response a put.0; text_is = put.1 }
+-- what is put is the text of what is answered, and is noted
+pub put_whole : (rules : List Rule) (c d : Mark) (read : Result Call RequestFault) (response : Response) (method : Method) (closing whole : Bool) (text : List ℕ) → Answers rules c.standing read response d.standing
+    → IsPut method response closing whole text → whole ≡ true → d.note ≡ noted c.note (servfail_in response) → IsReplied rules c read method closing text d
+put_whole rules c d read response method closing true text a put is note = record { response = response; answers = a; text_is = put; note = note }
+put_whole rules c d read response method closing false text a put is note = absurd cc
+
+-- and SERVFAIL where there was no memory for it
+pub put_servfail : (rules : List Rule) (c d : Mark) (read : Result Call RequestFault) (response : Response) (method : Method) (closing whole : Bool) (text : List ℕ) → Answers rules c.standing read response d.standing
+    → IsPut method response closing whole text → whole ≡ false → d.note ≡ one_more c.note faults.NoMemory → IsReplied rules c read method closing text d
+put_servfail rules c d read response method closing true text a put is note = absurd cc
+put_servfail rules c d read response method closing false text a put is note = record {
+  response = servfail;
+  answers = servfail_instead rules c.standing d.standing read response a put.0;
+  text_is = put.1;
+  note = note;
+}

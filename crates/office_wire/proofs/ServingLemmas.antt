@@ -10,8 +10,8 @@ use Rattle.office_wire.specs.declared.method.Method.{Method}
 use Rattle.office_wire.specs.declared.refusal.Refusal.TheVariants.{CutShort}
 use Rattle.office_wire.specs.declared.response.Response.TheVariants.{Refused}
 use Rattle.office_wire.specs.Texts.{text_of}
-use Rattle.office_wire.specs.Exchange.{Turn, Standing, Run, Waits, nothing, IsMethodAt, Ends, closed, quiet, cut, is_line_end}
-use Rattle.office_wire.specs.Serving.{IsCurrent, IsClosed, IsBroken, IsAnswered, IsCut, IsRead}
+use Rattle.office_wire.specs.Exchange.{Turn, Waits, nothing, IsMethodAt, Ends, closed, quiet, cut, is_line_end}
+use Rattle.office_wire.specs.Serving.{Mark, Leads, IsCurrent, IsClosed, IsBroken, IsAnswered, IsCut, IsRead}
 use Rattle.std.proofs.KnownBytes.{Appends-nil, Appends-trans, Consumes-trans, Consumes-kept, Consumes-whole}
 use Rattle.office_wire.proofs.KnownLemmas.{on_stream}
 use Rattle.office_wire.proofs.TurnLemmas.{head_some}
@@ -38,15 +38,15 @@ waits_nil rest none = record {
   under_way = nothing none;
 }
 
-module _ (rules : List Rule) (c : Standing) where
+module _ (rules : List Rule) (c : Mark) where
   pub first_current : (rest : List ℕ) (a : Option (List ℕ)) → length rest ≡ 0 → IsCurrent rules c [] rest a a c
-  first_current rest a none = ([], refl, record { octets_are = sym (nil_from_length rest none); are_open = tt }, Appends-nil a)
+  first_current rest a none = ([], (refl, refl), record { octets_are = sym (nil_from_length rest none); are_open = tt }, Appends-nil a)
 
   -- turns that were run, and of which P holds
-  abbrev pub Ran : Standing → (List Turn → Type 0) → Type 0
-  Ran d P = (all : List Turn) × Run rules c all d × P all
+  abbrev pub Ran : Mark → (List Turn → Type 0) → Type 0
+  Ran d P = (all : List Turn) × Leads rules c all d × P all
 
-  pub ended : (d : Standing) (read rest : List ℕ) (known left before mid after : Option (List ℕ)) → Consumes known left read → IsAtEnd left → Waits rest
+  pub ended : (d : Mark) (read rest : List ℕ) (known left before mid after : Option (List ℕ)) → Consumes known left read → IsAtEnd left → Waits rest
       → IsCurrent rules c read rest before mid d
       → ((text : List ℕ) × Appends mid after text × (((list_all is_line_end rest ≡ true) × (text ≡ [])) ⊎ ((list_all is_line_end rest ≡ false) × (m : Method) × IsMethodAt rest m × (text ≡ text_of m (Refused CutShort) true))))
       → Ran d (λ all. IfSome known (λ stream. IsAnswered all stream before after))
@@ -58,7 +58,7 @@ module _ (rules : List Rule) (c : Standing) where
             (p.0, [], rest, said.0, sym (append-nil p.0), p.2, ends, Appends-trans before mid after _ _ p.3 said.1),
       )
 
-  pub ended_part : (d : Standing) (read rest : List ℕ) (known left before mid after : Option (List ℕ)) → Consumes known left read → IsAtEnd left → Waits rest
+  pub ended_part : (d : Mark) (read rest : List ℕ) (known left before mid after : Option (List ℕ)) → Consumes known left read → IsAtEnd left → Waits rest
       → IsCurrent rules c read rest before mid d
       → ((list_all is_line_end rest ≡ false) × (m : Method) × IsMethodAt rest m × (part : List ℕ) × IsProperPrefix part (text_of m (Refused CutShort) true) × Appends mid after part)
       → Ran d (λ all. IfSome known (λ stream. IsCut all stream before after))
@@ -69,7 +69,7 @@ module _ (rules : List Rule) (c : Standing) where
         (p.0, [], rest, text_of wrote.1 (Refused CutShort) true, wrote.3, sym (append-nil p.0), p.2, inr (cut wrote.1 waits wrote.2 wrote.0 refl refl), wrote.4, Appends-trans before mid after _ _ p.3 wrote.5),
   )
 
-  pub went_closed : (d e : Standing) (read got old now : List ℕ) (known left left' before mid after : Option (List ℕ)) → Consumes known left read → Consumes left left' got → now ≡ old ++ got
+  pub went_closed : (d e : Mark) (read got old now : List ℕ) (known left left' before mid after : Option (List ℕ)) → Consumes known left read → Consumes left left' got → now ≡ old ++ got
       → IsCurrent rules c read old before mid d → IsClosed rules d now mid after e → Ran e (λ all. IfSome known (λ stream. IsAnswered all stream before after))
   went_closed d e read got old now known left left' before mid after took more is p q =
       let a = closed_join rules c d e read got old before mid after p (subst (λ (l : List ℕ). IsClosed rules d l mid after e) is q) in (
@@ -79,7 +79,7 @@ module _ (rules : List Rule) (c : Standing) where
             (λ rest. (a.0, a.1, a.2 ++ rest, a.3, refl, exchange_more _ _ rest _ a.5, closed (closes_more _ _ rest _ a.6), a.7)),
       )
 
-  pub went_broken : (d e : Standing) (read got old now : List ℕ) (known left left' before mid after : Option (List ℕ)) → Consumes known left read → Consumes left left' got → now ≡ old ++ got
+  pub went_broken : (d e : Mark) (read got old now : List ℕ) (known left left' before mid after : Option (List ℕ)) → Consumes known left read → Consumes left left' got → now ≡ old ++ got
       → IsCurrent rules c read old before mid d → IsBroken rules d now mid after e → Ran e (λ all. IfSome known (λ stream. IsCut all stream before after))
   went_broken d e read got old now known left left' before mid after took more is p q =
       let a = broken_join rules c d e read got old before mid after p (subst (λ (l : List ℕ). IsBroken rules d l mid after e) is q) in (
@@ -90,11 +90,11 @@ module _ (rules : List Rule) (c : Standing) where
       )
 
   -- all that was read and is answered, of at least so many octets
-  abbrev pub IsAnsweredRead : ℕ → Option (List ℕ) → Option (List ℕ) → List ℕ → Option (List ℕ) → Option (List ℕ) → Standing → Type 0
+  abbrev pub IsAnsweredRead : ℕ → Option (List ℕ) → Option (List ℕ) → List ℕ → Option (List ℕ) → Option (List ℕ) → Mark → Type 0
   IsAnsweredRead least known left rest before after d =
       (read : List ℕ) × (least ≤ length read) × Consumes known left read × IsCurrent rules c read rest before after d
 
-  pub went_on : (d e : Standing) (least n : ℕ) (got old now rest : List ℕ) (known left left' before mid after : Option (List ℕ)) → Consumes left left' got → now ≡ old ++ got → length got ≡ n → 0 < n
+  pub went_on : (d e : Mark) (least n : ℕ) (got old now rest : List ℕ) (known left left' before mid after : Option (List ℕ)) → Consumes left left' got → now ≡ old ++ got → length got ≡ n → 0 < n
       → IsAnsweredRead least known left old before mid d → IsCurrent rules d now rest mid after e → IsAnsweredRead (least + 1) known left' rest before after e
   went_on d e least n got old now rest known left left' before mid after more is len some p q = (
     p.0 ++ got,
@@ -103,13 +103,13 @@ module _ (rules : List Rule) (c : Standing) where
     current_join rules c d e p.0 got old rest before mid after p.3 (subst (λ (l : List ℕ). IsCurrent rules d l rest mid after e) is q),
   )
 
-  pub stayed : (d : Standing) (least least' : ℕ) (rest : List ℕ) (known left before after : Option (List ℕ)) → Waits rest → least' ≤ least → IsAnsweredRead least known left rest before after d
+  pub stayed : (d : Mark) (least least' : ℕ) (rest : List ℕ) (known left before after : Option (List ℕ)) → Waits rest → least' ≤ least → IsAnsweredRead least known left rest before after d
       → Ran d (λ all. IsRead least' all known left before after)
   stayed d least least' rest known left before after waits less p =
       (p.3.0, p.3.1, (p.0, rest, omega (arith, p.1), p.2, waits, p.3.2, p.3.3))
 
   -- the same where a read failed
-  pub stayed_kept : (d : Standing) (least : ℕ) (rest : List ℕ) (known left left' before after : Option (List ℕ)) → Waits rest → Keeps left left' → IsAnsweredRead least known left rest before after d
+  pub stayed_kept : (d : Mark) (least : ℕ) (rest : List ℕ) (known left left' before after : Option (List ℕ)) → Waits rest → Keeps left left' → IsAnsweredRead least known left rest before after d
       → Ran d (λ all. IsRead 0 all known left' before after)
   stayed_kept d least rest known left left' before after waits kept p =
       (p.3.0, p.3.1, (p.0, rest, omega arith, Consumes-kept known left left' p.0 p.2 kept, waits, p.3.2, p.3.3))

@@ -27,8 +27,9 @@ slice_split pending len n =
     ∙ ap (λ (j : ℕ). take j (drop len pending) ++ drop (len + n) pending) (sym k)
 
 -- what is known of a request that was answered so
-pub record IsReady (rules : List Rule) (c : Standing) (pending out : List ℕ) (g : Heading) (n : ℕ) (d : Standing) : Type 0 where
+pub record IsReady (rules : List Rule) (c : Standing) (pending out : List ℕ) (g : Heading) (n : ℕ) (response : Response) (d : Standing) : Type 0 where
   pub turn : Turn
+  pub said : turn.response ≡ response
   pub is : IsTurn turn
   pub run : Run rules c (turn ∷ []) d
   pub closing : closes turn.head ≡ g.closes
@@ -38,12 +39,13 @@ pub record IsReady (rules : List Rule) (c : Standing) (pending out : List ℕ) (
 pub ready : (rules : List Rule) (c d : Standing) (pending out : List ℕ) (h : RequestHead) (g : Heading) (n : ℕ) (response : Response)
     → IsHeading g h → IsHead h → ask_of h ≡ Body n → pending ≡ print_request h ++ drop g.len pending → g.len + n ≤ length pending
     → Answers rules c (call_of h (slice_range pending g.len (g.len + n))) response d → out ≡ text_of g.method response g.closes
-    → IsReady rules c pending out g n d
+    → IsReady rules c pending out g n response d
 unfolding octets_of turn_text
 ready rules c d pending out h g n response is head asks front within answers text =
     let body = slice_range pending g.len (g.len + n) in
     record {
       turn = record { head = h; body = body; response = response };
+      said = refl;
       is = record { head = head; body = asks ∙ ap (λ (k : ℕ). let a : Ask = Body k in a) (sym (slice_len pending g.len n within)) };
       run = (d, answers, refl);
       closing = sym is.closes;

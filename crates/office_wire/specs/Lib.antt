@@ -9,5 +9,6 @@ pub mod Texts
 pub mod Exchange
 pub mod ShortResponses
 pub mod Framing
+pub mod Servfails
 pub mod Promises
 pub mod Serving

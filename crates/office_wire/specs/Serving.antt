@@ -18,7 +18,9 @@ use Rattle.office_wire.specs.declared.serve_fault.ServeFault.{ServeFault}
 use Rattle.office_wire.specs.declared.serve_fault.ServeFault.TheVariants.{ReadFailed, WriteFailed, StreamTooLong, NoMemory}
 use Rattle.office_wire.specs.Texts.{text_of}
 use Rattle.office_wire.specs.Framing.{WaitsUpTo}
+use Rattle.office_wire.specs.declared.servfails.Servfails.{Servfails}
 use Rattle.office_wire.specs.Exchange.{Turn, octets_of, turn_text, texts, IsOpenTurn, Standing, Answers, Run, Exchange, Waits, IsMethodAt, Closes, Ends, Says, is_line_end}
+use Rattle.office_wire.specs.Servfails.{noted, servfails, servfail_in}
 
 -- how a table stands
 abbrev pub standing : State → ℕ → Standing
@@ -60,20 +62,35 @@ CountsServed (Err ReadFailed) reads reads_now writes writes_now = (reads_now ≡
 CountsServed (Err WriteFailed) reads reads_now writes writes_now = (reads_now ≡ reads) × (writes_now ≡ writes + 1)
 CountsServed result reads reads_now writes writes_now = (reads_now ≡ reads) × (writes_now ≡ writes)
 
+-- ---- on the way
+
+-- how a table stands, and which of the turns so far are noted as answered SERVFAIL
+pub record Mark : Type 0 where
+  pub standing : Standing
+  pub note : Servfails
+
+abbrev pub mark : State → ℕ → Servfails → Mark
+mark s failures note = record { standing = standing s failures; note = note }
+
+-- these turns take a table from one standing to another, and are noted behind those before
+abbrev pub Leads : List Rule → Mark → List Turn → Mark → Type 0
+Leads rules c turns d = Run rules c.standing turns d.standing × (d.note ≡ noted c.note (servfails turns))
+
 -- ---- one request
 
 -- this was answered to what was read of a request, in this text, and how the table stands behind it
-pub record IsReplied (rules : List Rule) (c : Standing) (read : Result Call RequestFault) (method : Method) (closing : Bool) (text : List ℕ) (d : Standing) : Type 0 where
+pub record IsReplied (rules : List Rule) (c : Mark) (read : Result Call RequestFault) (method : Method) (closing : Bool) (text : List ℕ) (d : Mark) : Type 0 where
   pub response : Response
-  pub answers : Answers rules c read response d
+  pub answers : Answers rules c.standing read response d.standing
   pub text_is : text ≡ text_of method response closing
+  pub note : d.note ≡ noted c.note (servfail_in response)
 
 -- this was answered to what the octets begin with, in this text, and how the table stands behind it
-abbrev pub IsProgress : List Rule → Standing → List ℕ → Progress → List ℕ → Standing → Type 0
+abbrev pub IsProgress : List Rule → Mark → List ℕ → Progress → List ℕ → Mark → Type 0
 IsProgress rules c pending (Waiting n) text d = d ≡ c
 IsProgress rules c pending (Next n) text d =
-    (t : Turn) × Run rules c (t ∷ []) d × IsOpenTurn t × (pending ≡ octets_of t ++ drop n pending) × (text ≡ turn_text t)
-IsProgress rules c pending Last text d = (last : List Turn) × Run rules c last d × Closes pending last text
+    (t : Turn) × Leads rules c (t ∷ []) d × IsOpenTurn t × (pending ≡ octets_of t ++ drop n pending) × (text ≡ turn_text t)
+IsProgress rules c pending Last text d = (last : List Turn) × Leads rules c last d × Closes pending last text
 
 -- what that says of the octets alone
 abbrev pub Stands : List ℕ → Progress → Type 0
@@ -90,24 +107,24 @@ IsIdle (Ok true) rest = ⊤
 IsIdle (Err e) rest = ⊤
 
 -- the octets were answered so far, up to rest
-abbrev pub IsCurrent : List Rule → Standing → List ℕ → List ℕ → Option (List ℕ) → Option (List ℕ) → Standing → Type 0
+abbrev pub IsCurrent : List Rule → Mark → List ℕ → List ℕ → Option (List ℕ) → Option (List ℕ) → Mark → Type 0
 IsCurrent rules c stream rest before after d =
-    (turns : List Turn) × Run rules c turns d × Exchange stream turns rest × Appends before after (texts turns)
+    (turns : List Turn) × Leads rules c turns d × Exchange stream turns rest × Appends before after (texts turns)
 
 -- they were answered up to the last response
-abbrev pub IsClosed : List Rule → Standing → List ℕ → Option (List ℕ) → Option (List ℕ) → Standing → Type 0
+abbrev pub IsClosed : List Rule → Mark → List ℕ → Option (List ℕ) → Option (List ℕ) → Mark → Type 0
 IsClosed rules c stream before after d =
-    (turns last : List Turn) × (rest text : List ℕ) × Run rules c (turns ++ last) d × Exchange stream turns rest × Closes rest last text
+    (turns last : List Turn) × (rest text : List ℕ) × Leads rules c (turns ++ last) d × Exchange stream turns rest × Closes rest last text
     × Appends before after (texts turns ++ text)
 
 -- they were answered, and the last response that was written went out in part
-abbrev pub IsBroken : List Rule → Standing → List ℕ → Option (List ℕ) → Option (List ℕ) → Standing → Type 0
+abbrev pub IsBroken : List Rule → Mark → List ℕ → Option (List ℕ) → Option (List ℕ) → Mark → Type 0
 IsBroken rules c stream before after d =
-    (turns last : List Turn) × (rest text part : List ℕ) × Run rules c (turns ++ last) d × Exchange stream turns rest × Says rest last text
+    (turns last : List Turn) × (rest text part : List ℕ) × Leads rules c (turns ++ last) d × Exchange stream turns rest × Says rest last text
     × IsProperPrefix part text × Appends before after (texts turns ++ part)
 
 -- what had come was served so
-abbrev pub IsServed : List Rule → Standing → List ℕ → Result Bool DeviceFailed → List ℕ → Option (List ℕ) → Option (List ℕ) → Standing → Type 0
+abbrev pub IsServed : List Rule → Mark → List ℕ → Result Bool DeviceFailed → List ℕ → Option (List ℕ) → Option (List ℕ) → Mark → Type 0
 IsServed rules c stream (Ok false) rest before after d = IsCurrent rules c stream rest before after d
 IsServed rules c stream (Ok true) rest before after d = IsClosed rules c stream before after d
 IsServed rules c stream (Err e) rest before after d = IsBroken rules c stream before after d

@@ -6,7 +6,7 @@ ghost use Rattle.office_core.specs.States.{State};
 ghost use Rattle.office_wire.specs.Exchange.{Answers};
 ghost use Rattle.office_wire.specs.Framing.{IsAsked};
 ghost use Rattle.office_wire.specs.Requests.{call_of};
-ghost use Rattle.office_wire.specs.Serving.{standing, IsReplied, IsProgress, Stands, IsIdle, IsServed};
+ghost use Rattle.office_wire.specs.Serving.{standing, mark, IsReplied, IsProgress, Stands, IsIdle, IsServed};
 
 use crate::framing::{Framing, framing_of};
 use crate::head::Heading;
@@ -17,10 +17,11 @@ use crate::request_buffer::RequestBuffer;
 use crate::response::Response;
 use crate::response_buffer::ResponseBuffer;
 use crate::route::Routes;
+use crate::servfails::Servfails;
 use dns_master::{DeviceFailed, Sink, write_all};
 use grant_policy::Policy;
 use httparse::spans::HeaderSpan;
-use office_core::{ZoneTable, step};
+use office_core::{TableFault, ZoneTable, step};
 use std::alloc::Global;
 
 /// How far the octets that were received are answered.
@@ -56,20 +57,25 @@ impl<'a> Service<'a> {
         }
     }
 
-    /// Puts what is answered to a request; where there is no memory for a long response, SERVFAIL.
+    /// Puts what is answered to a request; where there is no memory for a long response, SERVFAIL, which is noted.
     fn reply<T: ZoneTable>(
         &self,
         table: &mut T,
         heading: &Heading<'_>,
         body: &[u8],
         out: &mut ResponseBuffer,
+        servfails: &mut Servfails,
     )
         requires { IsUtf8 heading.now.target.now }
-        ensures answered { T.is_honest table.new → (s : State) → T.holds table.old s → (h : RequestHead) → IsAsked heading.now h → (t : State) × T.holds table.new t × IsReplied self.now.policy.now (standing s (T.failures table.old)) (call_of h body.now) heading.now.method heading.now.closes out.new (standing t (T.failures table.new)) }
+        ensures answered { T.is_honest table.new → (s : State) → T.holds table.old s → (h : RequestHead) → IsAsked heading.now h → (t : State) × T.holds table.new t × IsReplied self.now.policy.now (mark s (T.failures table.old) servfails.old) (call_of h body.now) heading.now.method heading.now.closes out.new (mark t (T.failures table.new) servfails.new) }
         ensures honest { T.is_honest table.new → T.is_honest table.old }
     {
         let response = self.respond(table, heading, body);
-        let _whole = out.put(heading.method, &response, heading.closes);
+        if out.put(heading.method, &response, heading.closes) {
+            servfails.note(&response);
+        } else {
+            servfails.add(TableFault::NoMemory);
+        }
     }
 
     /// Answers the request that the octets begin with, where it is complete.
@@ -79,10 +85,11 @@ impl<'a> Service<'a> {
         spans: &mut [HeaderSpan],
         table: &mut T,
         out: &mut ResponseBuffer,
+        servfails: &mut Servfails,
     ) -> Progress
         requires { length spans.old ≡ 5462 }
         ensures stands { Stands pending.now result }
-        ensures answered { T.is_honest table.new → (s : State) → T.holds table.old s → (t : State) × T.holds table.new t × IsProgress self.now.policy.now (standing s (T.failures table.old)) pending.now result out.new (standing t (T.failures table.new)) }
+        ensures answered { T.is_honest table.new → (s : State) → T.holds table.old s → (t : State) × T.holds table.new t × IsProgress self.now.policy.now (mark s (T.failures table.old) servfails.old) pending.now result out.new (mark t (T.failures table.new) servfails.new) }
         ensures honest { T.is_honest table.new → T.is_honest table.old }
     {
         match framing_of(pending, spans) {
@@ -97,7 +104,7 @@ impl<'a> Service<'a> {
             }
             Framing::Ready(heading, n) => {
                 let end = heading.len + n;
-                self.reply(table, &heading, &pending[heading.len..end], out);
+                self.reply(table, &heading, &pending[heading.len..end], out, servfails);
                 if heading.closes {
                     Progress::Last
                 } else {
@@ -116,10 +123,11 @@ impl<'a> Service<'a> {
         writer: &mut W,
         table: &mut T,
         out: &mut ResponseBuffer,
+        servfails: &mut Servfails,
     ) -> Result<bool, DeviceFailed>
         requires { length spans.old ≡ 5462 }
         ensures idle { IsIdle result buffer.new }
-        ensures served { T.is_honest table.new → (s : State) → T.holds table.old s → (t : State) × T.holds table.new t × IsServed self.now.policy.now (standing s (T.failures table.old)) buffer.old result buffer.new (W.contents writer.old) (W.contents writer.new) (standing t (T.failures table.new)) }
+        ensures served { T.is_honest table.new → (s : State) → T.holds table.old s → (t : State) × T.holds table.new t × IsServed self.now.policy.now (mark s (T.failures table.old) servfails.old) buffer.old result buffer.new (W.contents writer.old) (W.contents writer.new) (mark t (T.failures table.new) servfails.new) }
         ensures honest { T.is_honest table.new → T.is_honest table.old }
         ensures same { OnOk result (W.failures writer.new ≡ W.failures writer.old) }
         ensures rose { OnErr result (W.failures writer.new ≡ W.failures writer.old + 1) }
@@ -128,7 +136,7 @@ impl<'a> Service<'a> {
             return Ok(false);
         }
         'turns: loop {
-            match self.answer(buffer.as_slice(), spans, table, out) {
+            match self.answer(buffer.as_slice(), spans, table, out, servfails) {
                 Progress::Waiting(n) => {
                     buffer.await_octets(n);
                     return Ok(false);

@@ -18,6 +18,7 @@ mod response;
 mod response_buffer;
 mod route;
 mod serve_fault;
+mod servfails;
 mod serving;
 mod status;
 
@@ -27,4 +28,5 @@ pub use laws::{
 };
 pub use refusal::Refusal;
 pub use serve_fault::ServeFault;
-pub use serving::serve;
+pub use servfails::Servfails;
+pub use serving::{Served, serve, serve_noting};

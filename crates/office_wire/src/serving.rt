@@ -5,7 +5,8 @@ ghost use Rattle.std.specs.List.{list_all};
 ghost use Rattle.office_core.specs.States.{State};
 ghost use Rattle.office_wire.specs.Exchange.{Turn, Run, Waits, is_line_end};
 ghost use Rattle.office_wire.specs.Promises.{ArePromised};
-ghost use Rattle.office_wire.specs.Serving.{standing, IsDone, CountsServed, Finishes};
+ghost use Rattle.office_wire.specs.Serving.{standing, mark, Leads, IsDone, CountsServed, Finishes};
+ghost use Rattle.office_wire.specs.Servfails.{AreNoted, servfails};
 
 use crate::exchange::Service;
 use crate::framing::method_at;
@@ -16,6 +17,7 @@ use crate::response::Response;
 use crate::response_buffer::ResponseBuffer;
 use crate::route::Routes;
 use crate::serve_fault::ServeFault;
+use crate::servfails::Servfails;
 use dns_master::{DeviceFailed, Sink, Source, write_all};
 use grant_policy::Policy;
 use httparse::spans::{EMPTY_HEADER_SPAN, HeaderSpan};
@@ -50,7 +52,7 @@ fn finish<W: Sink>(
     write_all(writer, out.as_slice())
 }
 
-/// Answers each request of a stream, in the rooms that were made for it.
+/// Answers each request of a stream, in the rooms that were made for it, and notes those that are answered SERVFAIL.
 fn serve_in<R: Source, W: Sink, T: ZoneTable>(
     service: &Service<'_>,
     buffer: &mut RequestBuffer,
@@ -59,10 +61,11 @@ fn serve_in<R: Source, W: Sink, T: ZoneTable>(
     reader: &mut R,
     writer: &mut W,
     table: &mut T,
+    servfails: &mut Servfails,
 ) -> Result<(), ServeFault>
     requires empty { length buffer.old ≡ 0 }
     requires spans { length spans.old ≡ 5462 }
-    ensures run { T.is_honest table.new → (s : State) → T.holds table.old s → (turns : List Turn) × (t : State) × T.holds table.new t × Run service.now.policy.now (standing s (T.failures table.old)) turns (standing t (T.failures table.new)) × IsDone turns result (R.remaining reader.old) (R.remaining reader.new) (W.contents writer.old) (W.contents writer.new) }
+    ensures run { T.is_honest table.new → (s : State) → T.holds table.old s → (turns : List Turn) × (t : State) × T.holds table.new t × Leads service.now.policy.now (mark s (T.failures table.old) servfails.old) turns (mark t (T.failures table.new) servfails.new) × IsDone turns result (R.remaining reader.old) (R.remaining reader.new) (W.contents writer.old) (W.contents writer.new) }
     ensures honest { T.is_honest table.new → T.is_honest table.old }
     ensures devices { CountsServed result (R.failures reader.old) (R.failures reader.new) (W.failures writer.old) (W.failures writer.new) }
 {
@@ -77,13 +80,80 @@ fn serve_in<R: Source, W: Sink, T: ZoneTable>(
                 Ok(()) => return Ok(()),
             }
         }
-        match service.answer_all(buffer, spans, writer, table, out) {
+        match service.answer_all(buffer, spans, writer, table, out, servfails) {
             Err(_) => return Err(ServeFault::WriteFailed),
             Ok(true) => return Ok(()),
             Ok(false) => {}
         }
     }
     Err(ServeFault::StreamTooLong)
+}
+
+/// Takes memory for a stream, and then answers each of its requests.
+fn serve_into<R: Source, W: Sink, T: ZoneTable>(
+    alloc: Global,
+    reader: &mut R,
+    writer: &mut W,
+    table: &mut T,
+    policy: &Policy,
+    servfails: &mut Servfails,
+) -> Result<(), ServeFault>
+    ensures run { T.is_honest table.new → (s : State) → T.holds table.old s → (turns : List Turn) × (t : State) × T.holds table.new t × Leads policy.now (mark s (T.failures table.old) servfails.old) turns (mark t (T.failures table.new) servfails.new) × IsDone turns result (R.remaining reader.old) (R.remaining reader.new) (W.contents writer.old) (W.contents writer.new) }
+    ensures honest { T.is_honest table.new → T.is_honest table.old }
+    ensures devices { CountsServed result (R.failures reader.old) (R.failures reader.new) (W.failures writer.old) (W.failures writer.new) }
+{
+    let Ok(routes) = Routes::new(alloc) else {
+        return Err(ServeFault::NoMemory);
+    };
+    let Ok(mut buffer) = RequestBuffer::new(alloc) else {
+        return Err(ServeFault::NoMemory);
+    };
+    let Ok(mut out) = ResponseBuffer::new(alloc) else {
+        return Err(ServeFault::NoMemory);
+    };
+    let service = Service {
+        alloc,
+        policy,
+        routes,
+    };
+    let mut spans = [EMPTY_HEADER_SPAN; SPANS];
+    serve_in(
+        &service,
+        &mut buffer,
+        &mut spans,
+        &mut out,
+        reader,
+        writer,
+        table,
+        servfails,
+    )
+}
+
+/// How serving a stream ended, and which of its requests were answered SERVFAIL.
+#[derive(Clone, Copy, Debug, PartialEq, Eq)]
+pub struct Served {
+    /// Why it ended before the stream did, and before the last response; `Ok` if it did not.
+    pub ended: Result<(), ServeFault>,
+    /// The requests that were answered SERVFAIL.
+    pub servfails: Servfails,
+}
+
+/// Serves a stream as `serve` does, and tells how many requests were answered SERVFAIL, and why the last of them was.
+pub fn serve_noting<R: Source, W: Sink, T: ZoneTable>(
+    alloc: Global,
+    reader: &mut R,
+    writer: &mut W,
+    table: &mut T,
+    policy: &Policy,
+) -> Served
+    // What is noted is noted of the turns of the stream.
+    ensures run { T.is_honest table.new → (s : State) → T.holds table.old s → (turns : List Turn) × (t : State) × T.holds table.new t × Run policy.now (standing s (T.failures table.old)) turns (standing t (T.failures table.new)) × IsDone turns result.ended (R.remaining reader.old) (R.remaining reader.new) (W.contents writer.old) (W.contents writer.new) × ArePromised policy.now s turns t × AreNoted (servfails turns) result.servfails }
+    ensures honest { T.is_honest table.new → T.is_honest table.old }
+    ensures devices { CountsServed result.ended (R.failures reader.old) (R.failures reader.new) (W.failures writer.old) (W.failures writer.new) }
+{
+    let mut servfails = Servfails::none();
+    let ended = serve_into(alloc, reader, writer, table, policy, &mut servfails);
+    Served { ended, servfails }
 }
 
 /// Answers each request of a stream (RFC 9112), in order, by the policy and over the table, to the end of the stream or to the
@@ -112,28 +182,5 @@ pub fn serve<R: Source, W: Sink, T: ZoneTable>(
     // A fault of a device is reported only if the device failed in this call, and it failed once. `Ok` means that neither failed.
     ensures devices { CountsServed result (R.failures reader.old) (R.failures reader.new) (W.failures writer.old) (W.failures writer.new) }
 {
-    let Ok(routes) = Routes::new(alloc) else {
-        return Err(ServeFault::NoMemory);
-    };
-    let Ok(mut buffer) = RequestBuffer::new(alloc) else {
-        return Err(ServeFault::NoMemory);
-    };
-    let Ok(mut out) = ResponseBuffer::new(alloc) else {
-        return Err(ServeFault::NoMemory);
-    };
-    let service = Service {
-        alloc,
-        policy,
-        routes,
-    };
-    let mut spans = [EMPTY_HEADER_SPAN; SPANS];
-    serve_in(
-        &service,
-        &mut buffer,
-        &mut spans,
-        &mut out,
-        reader,
-        writer,
-        table,
-    )
+    serve_noting(alloc, reader, writer, table, policy).ended
 }

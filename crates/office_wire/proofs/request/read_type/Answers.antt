@@ -1,5 +1,4 @@
-use Rattle.std.proofs.Common.{◌∙◌, ap, sym, List, ℕ}
-use Rattle.office_json.specs.Reading.{type_named}
+use Rattle.std.proofs.Common.{◌∙◌, ap, sym}
 use Rattle.office_json.proofs.TypeLemmas.{type_found, type_none}
 use Rattle.office_wire.specs.declared.refusal.Refusal.TheVariants.{BadPart}
 use Rattle.office_wire.specs.Requests.{type_in, or_refused}

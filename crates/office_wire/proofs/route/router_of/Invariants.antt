@@ -1,5 +1,5 @@
 use Rattle.std.proofs.Common.{◌≡◌, map, drop}
-use Rattle.office_wire.specs.Routes.{RouteRow, with_rows, router_by}
+use Rattle.office_wire.specs.Routes.{with_rows, router_by}
 use Rattle.office_wire.proofs.route.router_of.Given as goal
 
 abbrev pub invariant-loop-number : goal.invariant-loop-number

@@ -1,9 +1,9 @@
-use Rattle.std.proofs.Common.{◌∙◌, ◌≡◌, ℕ, List, Option, sym, ap, Some}
+use Rattle.std.proofs.Common.{◌∙◌, ℕ, List, Option, sym, ap, Some}
 use Rattle.std.specs.Prelude.{option_and_then}
 use Rattle.matchit.specs.Router.{RouteOf}
 use Rattle.office_wire.specs.declared.route.Route.{Route}
 use Rattle.office_wire.specs.Routes.{RouteRow, routes, row_at}
-use Rattle.office_wire.proofs.RouteLemmas.{row_there, row_beyond}
+use Rattle.office_wire.proofs.RouteLemmas.{row_there}
 use Rattle.office_wire.proofs.route.row_in.Goals as goal
 
 pub returns-in-Some : goal.returns-in-Some

@@ -1,6 +1,6 @@
 use Rattle.std.proofs.Common.{◌∙◌, ℕ, List, [], refl, sym, subst, arith, rules}
 use Rattle.office_wire.specs.Exchange.{Waits}
-use Rattle.office_wire.specs.Serving.{standing, IsCurrent}
+use Rattle.office_wire.specs.Serving.{mark, IsCurrent}
 use Rattle.std.proofs.KnownBytes.{Consumes-nil}
 use Rattle.office_wire.proofs.ServingLemmas.{none_came, consumed_none, ended, ended_part, went_closed, went_broken, went_on, waits_nil, first_current, stayed, stayed_kept}
 use Rattle.office_wire.proofs.serving.serve_in.Goals as goal
@@ -11,7 +11,7 @@ reads-init g c = record {
   waits = waits_nil _ c.requires.empty;
   room = omega (arith, c.requires.empty);
   honest = λ honest. honest;
-  served = λ honest s held. (s, held, ([], omega arith, Consumes-nil _, first_current c.args.service.now.policy.now (standing s (g.T.ZoneTable.failures c.args.table.now)) _ _ c.requires.empty));
+  served = λ honest s held. (s, held, ([], omega arith, Consumes-nil _, first_current c.args.service.now.policy.now (mark s (g.T.ZoneTable.failures c.args.table.now) c.args.servfails.now) _ _ c.requires.empty));
   reads = refl;
   writes = refl;
 }
@@ -22,7 +22,7 @@ fill-requires g c = c.reads.invariant.room
 pub returns-in-Err-clause-run : goal.returns-in-Err-clause-run
 returns-in-Err-clause-run g c = λ honest s held.
     let p = c.reads.invariant.served honest s held in
-    let r = stayed_kept c.args.service.now.policy.now (standing s (g.T.ZoneTable.failures c.args.table.now)) _ c.reads.counter c.reads.buffer _ _ _ _ _ c.reads.invariant.waits c.in-Err.ensures.kept.1 p.2 in
+    let r = stayed_kept c.args.service.now.policy.now (mark s (g.T.ZoneTable.failures c.args.table.now) c.args.servfails.now) _ c.reads.counter c.reads.buffer _ _ _ _ _ c.reads.invariant.waits c.in-Err.ensures.kept.1 p.2 in
     (r.0, p.0, p.1, r.1, r.2)
 
 pub returns-in-Err-clause-honest : goal.returns-in-Err-clause-honest
@@ -44,8 +44,8 @@ returns-in-Ok-finish-clause-run g c = λ honest s held.
     let old = none_came c.fill.new.self c.reads.buffer f.0 c.in-Ok.got f.1 f.2 none in
     let took = consumed_none _ _ _ p.2.0 f.0 c.in-Ok.got p.2.2 f.3 f.2 none in
     let rest = c.as_slice.ensures.value ∙ old in
-    let before = standing s (g.T.ZoneTable.failures c.args.table.now) in
-    let now = standing p.0 (g.T.ZoneTable.failures c.reads.table) in
+    let before = mark s (g.T.ZoneTable.failures c.args.table.now) c.args.servfails.now in
+    let now = mark p.0 (g.T.ZoneTable.failures c.reads.table) c.reads.servfails in
     let r = ended c.args.service.now.policy.now before now p.2.0 c.as_slice.result.now _ _ _ _ _ took (f.4 none) (subst (λ (l : List ℕ). Waits l) (sym rest) c.reads.invariant.waits)
     (subst (λ (l : List ℕ). IsCurrent c.args.service.now.policy.now before p.2.0 l (g.W.Sink.contents c.args.writer.now) (g.W.Sink.contents c.reads.writer) now) (sym rest) p.2.3) c.in-Ok-finish.ensures.finishes in
     (r.0, p.0, p.1, r.1, r.2)
@@ -61,8 +61,8 @@ returns-in-Err-finish-clause-run g c = λ honest s held.
     let old = none_came c.fill.new.self c.reads.buffer f.0 c.in-Ok.got f.1 f.2 none in
     let took = consumed_none _ _ _ p.2.0 f.0 c.in-Ok.got p.2.2 f.3 f.2 none in
     let rest = c.as_slice.ensures.value ∙ old in
-    let before = standing s (g.T.ZoneTable.failures c.args.table.now) in
-    let now = standing p.0 (g.T.ZoneTable.failures c.reads.table) in
+    let before = mark s (g.T.ZoneTable.failures c.args.table.now) c.args.servfails.now in
+    let now = mark p.0 (g.T.ZoneTable.failures c.reads.table) c.reads.servfails in
     let r = ended_part c.args.service.now.policy.now before now p.2.0 c.as_slice.result.now _ _ _ _ _ took (f.4 none) (subst (λ (l : List ℕ). Waits l) (sym rest) c.reads.invariant.waits)
     (subst (λ (l : List ℕ). IsCurrent c.args.service.now.policy.now before p.2.0 l (g.W.Sink.contents c.args.writer.now) (g.W.Sink.contents c.reads.writer) now) (sym rest) p.2.3) c.in-Err-finish.ensures.finishes in
     (r.0, p.0, p.1, r.1, r.2)
@@ -78,9 +78,9 @@ returns-in-Err-answer_all-clause-run g c = λ honest s held.
     let p = c.reads.invariant.served (c.in-Err-answer_all.ensures.honest honest) s held in
     let f = c.in-Ok.ensures.got in
     let a = c.in-Err-answer_all.ensures.served honest p.0 p.1 in
-    let before = standing s (g.T.ZoneTable.failures c.args.table.now) in
-    let mid = standing p.0 (g.T.ZoneTable.failures c.reads.table) in
-    let now = standing a.0 (g.T.ZoneTable.failures c.answer_all.new.table) in
+    let before = mark s (g.T.ZoneTable.failures c.args.table.now) c.args.servfails.now in
+    let mid = mark p.0 (g.T.ZoneTable.failures c.reads.table) c.reads.servfails in
+    let now = mark a.0 (g.T.ZoneTable.failures c.answer_all.new.table) c.answer_all.new.servfails in
     let r = went_broken c.args.service.now.policy.now before mid now p.2.0 f.0 c.reads.buffer c.fill.new.self _ _ _ _ _ _ p.2.2 f.3 f.1 p.2.3 a.2 in
     (r.0, a.0, a.1, r.1, r.2)
 
@@ -95,9 +95,9 @@ returns-in-Ok-true-clause-run g c = λ honest s held.
     let p = c.reads.invariant.served (c.in-Ok-true.ensures.honest honest) s held in
     let f = c.in-Ok.ensures.got in
     let a = c.in-Ok-true.ensures.served honest p.0 p.1 in
-    let before = standing s (g.T.ZoneTable.failures c.args.table.now) in
-    let mid = standing p.0 (g.T.ZoneTable.failures c.reads.table) in
-    let now = standing a.0 (g.T.ZoneTable.failures c.answer_all.new.table) in
+    let before = mark s (g.T.ZoneTable.failures c.args.table.now) c.args.servfails.now in
+    let mid = mark p.0 (g.T.ZoneTable.failures c.reads.table) c.reads.servfails in
+    let now = mark a.0 (g.T.ZoneTable.failures c.answer_all.new.table) c.answer_all.new.servfails in
     let r = went_closed c.args.service.now.policy.now before mid now p.2.0 f.0 c.reads.buffer c.fill.new.self _ _ _ _ _ _ p.2.2 f.3 f.1 p.2.3 (rw c.in-Ok-true.field-0-test at a.2) in
     (r.0, a.0, a.1, r.1, r.2)
 
@@ -116,9 +116,9 @@ reads-preserved g c =
           let p = c.reads.invariant.served (c.in-Ok-false.ensures.honest honest) s held in
           let f = c.in-Ok.ensures.got in
           let a = c.in-Ok-false.ensures.served honest p.0 p.1 in
-          let before = standing s (g.T.ZoneTable.failures c.args.table.now) in
-          let mid = standing p.0 (g.T.ZoneTable.failures c.reads.table) in
-          let now = standing a.0 (g.T.ZoneTable.failures c.answer_all.new.table) in (
+          let before = mark s (g.T.ZoneTable.failures c.args.table.now) c.args.servfails.now in
+          let mid = mark p.0 (g.T.ZoneTable.failures c.reads.table) c.reads.servfails in
+          let now = mark a.0 (g.T.ZoneTable.failures c.answer_all.new.table) c.answer_all.new.servfails in (
             a.0,
             a.1,
             went_on c.args.service.now.policy.now before mid now c.reads.counter c.in-Ok.got f.0 c.reads.buffer c.fill.new.self c.answer_all.new.buffer _ _ _ _ _ _ f.3 f.1 f.2
@@ -131,7 +131,7 @@ reads-preserved g c =
 pub returns-clause-run : goal.returns-clause-run
 returns-clause-run g c = λ honest s held.
     let p = c.reads.invariant.served honest s held in
-    let r = stayed c.args.service.now.policy.now (standing s (g.T.ZoneTable.failures c.args.table.now)) _ c.reads.counter _ c.reads.buffer _ _ _ _ c.reads.invariant.waits (let past = c.reads-test.false in omega arith) p.2 in
+    let r = stayed c.args.service.now.policy.now (mark s (g.T.ZoneTable.failures c.args.table.now) c.args.servfails.now) _ c.reads.counter _ c.reads.buffer _ _ _ _ c.reads.invariant.waits (let past = c.reads-test.false in omega arith) p.2 in
     (r.0, p.0, p.1, r.1, r.2)
 
 pub returns-clause-honest : goal.returns-clause-honest

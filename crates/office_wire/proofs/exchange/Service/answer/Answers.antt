@@ -4,15 +4,16 @@ use Rattle.office_wire.specs.declared.method.Method.{Method}
 use Rattle.office_wire.specs.declared.response.Response.TheVariants.{Refused}
 use Rattle.office_wire.specs.Texts.{text_of}
 use Rattle.office_wire.specs.Serving.{standing}
+use Rattle.office_wire.proofs.ServfailLemmas.{one_noted}
 use Rattle.office_wire.proofs.TurnLemmas.{ready, head_some}
 use Rattle.office_wire.proofs.exchange.Service.answer.Goals as goal
 
 pub returns-in-Bad-clause-answered : goal.returns-in-Bad-clause-answered
-returns-in-Bad-clause-answered g c = λ honest s held. (s, held, ([], refl, bad_head c.in-Bad.ensures refl c.put_short.ensures))
+returns-in-Bad-clause-answered g c = λ honest s held. (s, held, ([], (refl, refl), bad_head c.in-Bad.ensures refl c.put_short.ensures))
 
 pub returns-in-Refused-clause-answered : goal.returns-in-Refused-clause-answered
 returns-in-Refused-clause-answered g c = λ honest s held. let f = c.in-Refused.ensures in
-    (s, held, ([], refl, bad_length f.0 f.1 c.in-Refused.refusal f.2 f.4 f.5 refl (c.put_short-in-Refused.ensures ∙ ap (λ (m : Method). text_of m (Refused c.in-Refused.refusal) true) f.3)))
+    (s, held, ([], (refl, refl), bad_length f.0 f.1 c.in-Refused.refusal f.2 f.4 f.5 refl (c.put_short-in-Refused.ensures ∙ ap (λ (m : Method). text_of m (Refused c.in-Refused.refusal) true) f.3)))
 
 pub returns-then-heading-clause-answered : goal.returns-then-heading-clause-answered
 returns-then-heading-clause-answered g c = λ honest s held.
@@ -21,7 +22,7 @@ returns-then-heading-clause-answered g c = λ honest s held.
     let before = standing s (g.T.ZoneTable.failures c.args.table.now) in
     let now = standing a.0 (g.T.ZoneTable.failures c.reply.new.table) in
     let t = ready c.args.self.now.policy.now before now c.args.pending.now c.reply.new.out f.0 c.in-Ready.heading c.in-Ready.n a.2.response f.1 f.2 f.3 f.4 f.5 a.2.answers a.2.text_is in
-    (a.0, a.1, (t.turn ∷ [], t.run, whole t.turn _ t.is (t.closing ∙ c.if-heading.true) t.octets refl t.text))
+    (a.0, a.1, (t.turn ∷ [], (t.run, a.2.note ∙ one_noted c.args.servfails.now t.turn a.2.response t.said), whole t.turn _ t.is (t.closing ∙ c.if-heading.true) t.octets refl t.text))
 
 pub returns-else-heading-clause-answered : goal.returns-else-heading-clause-answered
 returns-else-heading-clause-answered g c = λ honest s held.
@@ -30,7 +31,7 @@ returns-else-heading-clause-answered g c = λ honest s held.
     let before = standing s (g.T.ZoneTable.failures c.args.table.now) in
     let now = standing a.0 (g.T.ZoneTable.failures c.reply.new.table) in
     let t = ready c.args.self.now.policy.now before now c.args.pending.now c.reply.new.out f.0 c.in-Ready.heading c.in-Ready.n a.2.response f.1 f.2 f.3 f.4 f.5 a.2.answers a.2.text_is in
-    (a.0, a.1, (t.turn, t.run, record { turn = t.is; stays = t.closing ∙ c.if-heading.false }, t.octets, t.text))
+    (a.0, a.1, (t.turn, (t.run, a.2.note ∙ one_noted c.args.servfails.now t.turn a.2.response t.said), record { turn = t.is; stays = t.closing ∙ c.if-heading.false }, t.octets, t.text))
 
 pub returns-else-heading-clause-stands : goal.returns-else-heading-clause-stands
 returns-else-heading-clause-stands g c =

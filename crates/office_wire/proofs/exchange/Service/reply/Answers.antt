@@ -1,13 +1,26 @@
-use Rattle.office_wire.specs.Serving.{standing}
+use Rattle.office_wire.specs.Serving.{mark}
 use Rattle.office_wire.specs.Requests.{call_of}
-use Rattle.office_wire.proofs.ResponseLemmas.{put_answers}
+use Rattle.office_wire.proofs.ResponseLemmas.{put_whole, put_servfail}
 use Rattle.office_wire.proofs.exchange.Service.reply.Goals as goal
+
+pub returns-then-put-clause-answered : goal.returns-then-put-clause-answered
+returns-then-put-clause-answered g c = λ honest s held h asked.
+    let a = c.respond-response.ensures.answers honest s held h asked in
+    let before = mark s (g.T.ZoneTable.failures c.args.table.now) c.args.servfails.now in
+    let now = mark a.0 (g.T.ZoneTable.failures c.respond-response.new.table) c.note.new.self in (
+      a.0,
+      a.1,
+      put_whole c.args.self.now.policy.now before now (call_of h c.args.body.now) c.respond-response.result c.args.heading.now.method c.args.heading.now.closes c.put.result c.put.new.self a.2
+          c.put.ensures c.if-put.true c.note.ensures,
+    )
 
 pub returns-clause-answered : goal.returns-clause-answered
 returns-clause-answered g c = λ honest s held h asked.
-    let a = c.respond-response.ensures.answers honest s held h asked in (
+    let a = c.respond-response.ensures.answers honest s held h asked in
+    let before = mark s (g.T.ZoneTable.failures c.args.table.now) c.args.servfails.now in
+    let now = mark a.0 (g.T.ZoneTable.failures c.respond-response.new.table) c.add.new.self in (
       a.0,
       a.1,
-      put_answers c.args.self.now.policy.now (standing s (g.T.ZoneTable.failures c.args.table.now)) (standing a.0 (g.T.ZoneTable.failures c.respond-response.new.table)) (call_of h c.args.body.now)
-          c.respond-response.result c.args.heading.now.method c.args.heading.now.closes c.put-whole.result c.put-whole.new.self a.2 c.put-whole.ensures,
+      put_servfail c.args.self.now.policy.now before now (call_of h c.args.body.now) c.respond-response.result c.args.heading.now.method c.args.heading.now.closes c.put.result c.put.new.self a.2
+          c.put.ensures c.if-put.false c.add.ensures,
     )
