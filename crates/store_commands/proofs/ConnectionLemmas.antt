@@ -1,7 +1,7 @@
 -- Connections that were served, one after the other.
 use Rattle.std.specs.Io.KnownBytes.{Appends}
-use Rattle.std.proofs.KnownBytes.{Appends-trans}
-use Rattle.std.proofs.Common.{◌≡◌, ◌<◌, ◌≤◌, ◌+◌, inl, inr, ◌∙◌, ℕ, List, [], ◌∷◌, ◌++◌, length, Option, Result, Ok, Err, sym, ap, subst, append-nil, length-append, arith}
+use Rattle.std.proofs.KnownBytes.{Appends-nil, Appends-trans}
+use Rattle.std.proofs.Common.{◌≡◌, ◌<◌, ◌≤◌, ◌+◌, inl, inr, ◌∙◌, ℕ, List, [], ◌∷◌, ◌++◌, length, Option, Result, Ok, Err, refl, sym, ap, subst, append-nil, append_assoc, length-append, arith}
 use Rattle.std.proofs.lemmas.Grind.{flat_map-append}
 use Rattle.grant_policy.specs.declared.rule.Rule.{Rule}
 use Rattle.office_core.specs.States.{AreZones, AreReceipts}
@@ -16,7 +16,16 @@ use Rattle.text_commands.specs.Device.{AppendsFront}
 use Rattle.text_commands.specs.Replies.{IsTold, told}
 use Rattle.text_commands.proofs.JobLemmas.{front_behind}
 use Rattle.office_wire.specs.declared.serve_fault.ServeFault.{ServeFault}
-use Rattle.store_commands.specs.Serve.{joined, ended_line, ended_lines, AreServed, AreTold, IsSoMany}
+use Rattle.dns_master.specs.declared.device.DeviceFailed.{DeviceFailed}
+use Rattle.office_rows.specs.declared.store_fault.StoreFault.{StoreFault}
+use Rattle.office_wire.specs.declared.servfails.Servfails.{Servfails}
+use Rattle.office_wire.specs.Servfails.{servfails, AreNoted}
+use Rattle.text_commands.specs.Replies.{IsSent}
+use Rattle.store_commands.specs.Causes.{trace_by, trace_of}
+use Rattle.store_commands.specs.Serve.{joined, ended_line, ended_lines, AreServed, AreTold, AreTraces, AreTraced, IsTraced, IsSoMany}
+
+rises : (before after : ℕ) → before < after → after ≡ before → ⊥
+rises before after more same = omega (arith, more, same)
 
 -- one more behind the others
 pub served_more : (rules : List Rule) (c m d : Standing) (connections : List (List Turn)) (turns : List Turn) → Run rules c (joined connections) m → Run rules m turns d
@@ -69,6 +78,55 @@ module _ (old mid new : Option (List ℕ)) (ends : List (Option ServeFault)) whe
       let same : line ≡ ReadFailed = wrote.0.1 in
       let front = subst (λ l. AppendsFront mid new (told l)) same wrote.0.2 in
       (inr (omega (arith, count, more), front_behind old mid new (ended_lines ends) (told ReadFailed) lines front), omega (arith, fine, wrote.1))
+
+-- ---- the trace
+
+sent_counted : (old new : Option (List ℕ)) (text : List ℕ) (result : Result (Unit {0}) DeviceFailed) (before after : ℕ) → IsSent old new text result before after → before ≤ after
+sent_counted old new text (Ok done) before after sent = let fine = sent.1 in omega (arith, fine)
+sent_counted old new text (Err failed) before after sent = let more = sent.1 in omega (arith, more)
+
+-- what tells of one connection
+pub traced_once : (turns : List Turn) (note : Servfails) (store : Option StoreFault) (old new : Option (List ℕ)) (result : Result (Unit {0}) DeviceFailed) (before after : ℕ)
+    → AreNoted (servfails turns) note → IsSent old new (trace_by note.last note.count store) result before after → IsTraced turns store old new before after
+traced_once turns note store old new (Ok done) before after noted sent = record {
+  counted = sent_counted old new (trace_by note.last note.count store) (Ok done) before after sent;
+  trace = λ same. subst (Appends old new) (λ i. trace_by (noted.last i) (noted.count i) store) sent.0;
+}
+traced_once turns note store old new (Err failed) before after noted sent = record {
+  counted = sent_counted old new (trace_by note.last note.count store) (Err failed) before after sent;
+  trace = λ same. absurd (rises before after sent.1 same);
+}
+
+pub counted_once : (text : List ℕ) (old new : Option (List ℕ)) (result : Result (Unit {0}) DeviceFailed) (before after : ℕ) → IsSent old new text result before after → before ≤ after
+counted_once text old new result before after sent = sent_counted old new text result before after sent
+
+traces_more : (connections : List (List Turn)) (turns : List Turn) (store : Option StoreFault) (text : List ℕ) → AreTraces connections text
+    → AreTraces (connections ++ turns ∷ []) (text ++ trace_of (servfails turns) store)
+traces_more [] turns store text none =
+    (store, [], ap (λ (l : List ℕ). l ++ trace_of (servfails turns) store) none ∙ sym (append-nil (trace_of (servfails turns) store)), refl)
+traces_more (us ∷ connections) turns store text p = (
+  p.0,
+  p.1 ++ trace_of (servfails turns) store,
+  ap (λ (l : List ℕ). l ++ trace_of (servfails turns) store) p.2 ∙ append_assoc (trace_of (servfails us) p.0) p.1 (trace_of (servfails turns) store),
+  traces_more connections turns store p.1 p.3,
+)
+
+pub traced_none : (a : Option (List ℕ)) (n : ℕ) → AreTraced [] a a n n
+traced_none a n = record { counted = omega arith; traces = λ same. ([], refl, Appends-nil a) }
+
+-- and of one more
+pub traced_more : (connections : List (List Turn)) (turns : List Turn) (store : Option StoreFault) (old mid new : Option (List ℕ)) (before between after : ℕ)
+    → AreTraced connections old mid before between → IsTraced turns store mid new between after → AreTraced (connections ++ turns ∷ []) old new before after
+traced_more connections turns store old mid new before between after p q =
+    let first = p.counted in
+    let second = q.counted in
+    record {
+      counted = omega (arith, first, second);
+      traces = λ same.
+          let x = p.traces (omega (arith, first, second, same)) in
+          let y = q.trace (omega (arith, first, second, same)) in
+          (x.0 ++ trace_of (servfails turns) store, traces_more connections turns store x.0 x.1, Appends-trans old mid new x.0 (trace_of (servfails turns) store) x.2 y);
+    }
 
 -- ---- what was run is what is promised
 pub are_served : (rules : List Rule) (c d : Standing) (connections : List (List Turn)) → AreZones c.state → AreReceipts c.state → Run rules c (joined connections) d

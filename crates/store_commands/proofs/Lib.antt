@@ -1,2 +1,4 @@
+pub mod SendLemmas
 pub mod ConnectionLemmas
 pub mod StoreLemmas
+pub mod PlaceLemmas

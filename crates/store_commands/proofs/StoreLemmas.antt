@@ -1,5 +1,9 @@
 -- What is told of a store that refuses something.
-use Rattle.std.proofs.Common.{◌≡◌, ℕ, List, [], Option, None, Result, Ok, Err, IfOk, IfErr, refl, sym, ap, ◌∙◌}
+use Rattle.std.proofs.Common.{◌≡◌, inl, inr, ℕ, Bool, List, [], Option, None, Result, Ok, Err, refl, sym, ap, subst, ◌∙◌}
+use Rattle.sqlite.specs.State.{State as Shown}
+use Rattle.dns_names.specs.Reading.{absolute_name}
+use Rattle.dns_master.specs.ZoneText.{zone_text}
+use Rattle.command_line.specs.declared.job.Existing.{Existing}
 use Rattle.dns_data.specs.declared.record.Record.{Record}
 use Rattle.zone_core.specs.declared.refusals.ZoneFault.{ZoneFault}
 use Rattle.zone_core.specs.declared.refusals.ZoneFault.TheVariants as zones
@@ -9,11 +13,12 @@ use Rattle.office_rows.specs.declared.store_fault.StoreFault.TheVariants as stor
 use Rattle.text_commands.specs.declared.refusal.Refusal.{Refusal}
 use Rattle.text_commands.specs.declared.line_fault.LineFault.{LineFault}
 use Rattle.text_commands.specs.declared.line_fault.LineFault.TheVariants.{Refused, ReadFailed, NoMemory}
-use Rattle.text_commands.specs.LineFaults.{◌>>=◌, Gives, Makes, GivesOf, of_zone, of_store}
+use Rattle.text_commands.specs.Canon.{zone_read}
+use Rattle.text_commands.specs.LineFaults.{◌>>=◌, Gives, Makes, GivesOf, of_names, of_zone, of_store}
 use Rattle.text_commands.proofs.StepLemmas.{refused_before, given_before, reached_before}
 use Rattle.store_commands.specs.Stores.{IsStoreLine}
-use Rattle.store_commands.specs.Import.{imported_line, PutsZones}
-use Rattle.store_commands.specs.Export.{FindsRecords}
+use Rattle.store_commands.specs.Import.{imported_line, PutsZones, import_text, IsImported}
+use Rattle.store_commands.specs.Export.{FindsRecords, export_text, IsExported}
 use Rattle.store_commands.specs.Migrate.{Migrates}
 
 zone_line : (fault : ZoneFault) → IsStoreLine (of_zone fault)
@@ -59,11 +64,24 @@ module _ (left : Option (List ℕ)) (make : List ℕ → Result ZoneOf Refusal) 
   put_told view zone line read fine e =
       ((read.0, read.1, given_before (make read.0) (λ z. Ok (imported_line z)) zone read.2 ∙ ap (λ (l : List ℕ). let made : Result (List ℕ) Refusal = Ok l in made) (sym e)), fine)
 
-  pub stored_gives : {X : Type 0} (view : X → List ℕ) (zone : ZoneOf) (result : Result X LineFault) → Makes left make (Ok zone) → after ≡ before
-      → IfOk result (λ line. view line ≡ imported_line zone) → IfErr result IsStoreLine
-      → (put : ZoneOf → Result (List ℕ) Refusal) × PutsZones put × GivesOf view left (λ input. make input >>= put) result before after
-  stored_gives view zone (Ok line) read fine told named = ((λ z. Ok (imported_line z)), (λ z. refl), put_told view zone line read fine told)
-  stored_gives view zone (Err fault) read fine told named = (put_by fault, puts_by fault named, put_refused view zone fault read fine named)
+-- what a store makes of zones, where a zone was imported or not
+pub imported_gives : {C : Type 0} (shows : C → Shown) (left : Option (List ℕ)) (origin : List ℕ) (finds : Bool → Type 0) (refuses : StoreFault → Type 0) (connects : C → Type 0) (existing : Existing)
+    (made : Result (List ℕ) LineFault) (before after : ℕ) → IsImported shows left origin finds refuses connects existing made before after
+    → (put : ZoneOf → Result (List ℕ) Refusal) × PutsZones put × GivesOf {X = List ℕ} (λ line. line) left (import_text origin put) made before after
+imported_gives shows left origin finds refuses connects existing (Ok line) before after is = (
+  (λ z. Ok (imported_line z)),
+  (λ z. refl),
+  put_told left (zone_read origin) before after (λ (l : List ℕ). l) is.0 line is.1 is.2 is.4,
+)
+imported_gives shows left origin finds refuses connects existing (Err fault) before after (inl unread) =
+    let put = λ (z : ZoneOf). let told : Result (List ℕ) Refusal = Ok (imported_line z) in told in
+    (put, (λ z. refl), read_refused left (zone_read origin) before after (λ (l : List ℕ). l) (λ (z : ZoneOf). z) put fault unread)
+imported_gives shows left origin finds refuses connects existing (Err fault) before after (inr is) =
+    let named : IsStoreLine fault = elim is.3 [
+      | inl none ↦ subst IsStoreLine (sym none) tt
+      | inr by ↦ subst IsStoreLine (sym by.1) (line_of_store by.0)
+    ] in
+    (put_by fault, puts_by fault named, put_refused left (zone_read origin) before after (λ (l : List ℕ). l) is.0 fault is.1 is.2 named)
 
 -- ---- a store that is asked for something, and tells a fault
 
@@ -98,6 +116,22 @@ pub told_at_once : {X : Type 0} (view : X → List ℕ) (made : Result (List ℕ
 told_at_once view made (Refused refusal) given = (([], tt, given), refl)
 told_at_once view made NoMemory given = refl
 told_at_once view made ReadFailed given = absurd given
+
+-- what a store holds, where records of it were had or not
+pub exported_gives : {C X : Type 0} (shows : C → Shown) (view : X → List Record) (word : List ℕ) (finds : Bool → Type 0) (refuses : StoreFault → Type 0) (connects : C → Type 0)
+    (made : Result (List (List ℕ) × X) LineFault) → IsExported shows view word finds refuses connects made
+    → (held : Result (List Record) Refusal) × FindsRecords held × Gives (λ found. zone_text found.0 (view found.1)) made (export_text word held)
+exported_gives shows view word finds refuses connects (Ok found) is =
+    (Ok (view found.1), tt, given_before (of_names (absolute_name word)) (λ origin. Ok (zone_text origin (view found.1))) found.0 is.0)
+exported_gives {C} {X} shows view word finds refuses connects (Err fault) (inl refused) =
+    let none : List Record = [] in
+    (Ok none, tt, word_refused (λ (found : List (List ℕ) × X). zone_text found.0 (view found.1)) (λ (name : List (List ℕ)). name) (of_names (absolute_name word)) _ fault refused)
+exported_gives {C} {X} shows view word finds refuses connects (Err fault) (inr is) =
+    let named = subst IsStoreLine (sym is.2.1) (line_of_store is.2.0) in (
+      found_by fault,
+      finds_by fault named,
+      found_refused (λ (found : List (List ℕ) × X). zone_text found.0 (view found.1)) (of_names (absolute_name word)) zone_text is.0 fault is.1 named,
+    )
 
 abbrev pub made_by : LineFault → List ℕ → Result (List ℕ) Refusal
 made_by (Refused refusal) line = Err refusal

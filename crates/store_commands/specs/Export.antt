@@ -1,11 +1,14 @@
 -- What is printed of a zone of a store.
-use Rattle.std.specs.Prelude.{ℕ, List, Result, Ok, Err}
+use Rattle.std.specs.Prelude.{◌≡◌, ◌⊎◌, ℕ, Bool, List, Result, Ok, Err}
 use Rattle.dns_names.specs.Reading.{absolute_name}
 use Rattle.dns_data.specs.declared.record.Record.{Record}
 use Rattle.dns_master.specs.ZoneText.{zone_text}
 use Rattle.text_commands.specs.declared.refusal.Refusal.{Refusal}
-use Rattle.text_commands.specs.LineFaults.{◌>>=◌, of_names}
-use Rattle.store_commands.specs.Stores.{IsOfStore}
+use Rattle.sqlite.specs.State.{State as Shown}
+use Rattle.office_rows.specs.declared.store_fault.StoreFault.{StoreFault}
+use Rattle.text_commands.specs.declared.line_fault.LineFault.{LineFault}
+use Rattle.text_commands.specs.LineFaults.{◌>>=◌, of_names, of_store, Gives}
+use Rattle.store_commands.specs.Stores.{IsOfStore, IsHeld}
 
 -- what a store holds of an origin: records, or a refusal of the store
 abbrev pub FindsRecords : Result (List Record) Refusal → Type 0
@@ -15,3 +18,12 @@ FindsRecords (Err refusal) = IsOfStore refusal
 -- what is printed: a refusal of the origin, and else the file of what the store holds
 abbrev pub export_text : List ℕ → Result (List Record) Refusal → Result (List ℕ) Refusal
 export_text word held = of_names (absolute_name word) >>= λ origin. held >>= λ records. Ok (zone_text origin records)
+
+-- What connections show, what a place tells of the path, and the origin with the records that were had: the origin's word is one, and these are the records that
+-- the store of the path holds of it; or the word was refused; or the store refused them.
+abbrev pub IsExported : {C X : Type 0} → (C → Shown) → (X → List Record) → List ℕ → (Bool → Type 0) → (StoreFault → Type 0) → (C → Type 0) → Result (List (List ℕ) × X) LineFault → Type 0
+IsExported shows view word finds refuses connects (Ok found) =
+    (of_names (absolute_name word) ≡ Ok found.0) × IsHeld shows finds refuses connects view found.0 (Ok found.1)
+IsExported shows view word finds refuses connects (Err fault) =
+    Gives {X = List (List ℕ)} (λ origin. origin) (Err fault) (of_names (absolute_name word))
+    ⊎ ((origin : List (List ℕ)) × (of_names (absolute_name word) ≡ Ok origin) × ((refusal : StoreFault) × (fault ≡ of_store refusal) × IsHeld shows finds refuses connects view origin (Err refusal)))

@@ -1,17 +1,17 @@
 -- What is told where a zone is put into a store.
-use Rattle.std.specs.Prelude.{◌≡◌, ℕ, List, ◌∷◌, [], ◌++◌, length, codes, decimal, Result, Ok, Err}
+use Rattle.std.specs.Prelude.{◌≡◌, ◌⊎◌, ℕ, Bool, List, ◌∷◌, [], ◌++◌, length, codes, decimal, Option, Result, Ok, Err}
 use Rattle.dns_names.specs.Spelling.{name_text}
+use Rattle.sqlite.specs.State.{State as Shown}
 use Rattle.zone_core.specs.Sets.{listing}
 use Rattle.zone_core.specs.Zones.{ZoneOf, serial_of}
-use Rattle.office_core.specs.States.{State}
 use Rattle.office_rows.specs.declared.store_fault.StoreFault.{StoreFault}
-use Rattle.office_store.specs.Zones.{if_free, if_later, with_imported, with_replaced}
 use Rattle.command_line.specs.declared.job.Existing.{Existing}
-use Rattle.command_line.specs.declared.job.Existing.TheVariants.{Kept, Replaced}
 use Rattle.text_commands.specs.declared.refusal.Refusal.{Refusal}
-use Rattle.text_commands.specs.LineFaults.{◌>>=◌}
+use Rattle.text_commands.specs.declared.line_fault.LineFault.{LineFault}
+use Rattle.text_commands.specs.declared.line_fault.LineFault.TheVariants.{NoMemory}
+use Rattle.text_commands.specs.LineFaults.{◌>>=◌, Makes, GivesOf, of_store}
 use Rattle.text_commands.specs.Canon.{zone_read}
-use Rattle.store_commands.specs.Stores.{IsOfStore}
+use Rattle.store_commands.specs.Stores.{IsOfStore, IsStored}
 
 -- its origin, its serial, and how many records it has
 abbrev pub imported_line : ZoneOf → List ℕ
@@ -32,14 +32,14 @@ PutsZones put = (zone : ZoneOf) → PutsZone zone (put zone)
 abbrev pub import_text : List ℕ → (ZoneOf → Result (List ℕ) Refusal) → List ℕ → Result (List ℕ) Refusal
 import_text origin put input = zone_read origin input >>= put
 
--- ---- the table
+-- ---- the store
 
--- what a table answers to a zone that is put beside the others, or in the place of the one of its origin: this zone, or its refusal
-abbrev pub put_into : Existing → State → ZoneOf → Result ZoneOf StoreFault
-put_into Kept s zone = if_free (s.zones zone.origin) zone
-put_into Replaced s zone = if_later (s.zones zone.origin) zone
-
--- and the state behind that
-abbrev pub with_put : Existing → State → ZoneOf → State
-with_put Kept s zone = with_imported s (put_into Kept s zone)
-with_put Replaced s zone = with_replaced s (put_into Replaced s zone)
+-- What connections show, what was left to read, the origin's word, what a place tells of the path, the answer, and the reader's failures before and after: the
+-- zone that was read was put into the store of the path, and this is its line; or no zone was read; or memory ran out for the line; or
+-- the store refused the zone that was read.
+abbrev pub IsImported : {C : Type 0} → (C → Shown) → Option (List ℕ) → List ℕ → (Bool → Type 0) → (StoreFault → Type 0) → (C → Type 0) → Existing → Result (List ℕ) LineFault → ℕ → ℕ → Type 0
+IsImported shows left origin finds refuses connects existing (Ok line) before after =
+    (zone : ZoneOf) × Makes left (zone_read origin) (Ok zone) × (after ≡ before) × IsStored shows finds refuses connects existing zone (Ok tt) × (line ≡ imported_line zone)
+IsImported shows left origin finds refuses connects existing (Err fault) before after =
+    GivesOf {X = ZoneOf} (λ zone. zone) left (zone_read origin) (Err fault) before after
+    ⊎ ((zone : ZoneOf) × Makes left (zone_read origin) (Ok zone) × (after ≡ before) × ((fault ≡ NoMemory) ⊎ ((refusal : StoreFault) × (fault ≡ of_store refusal) × IsStored shows finds refuses connects existing zone (Err refusal))))

@@ -9,6 +9,9 @@ use Rattle.office_wire.specs.declared.serve_fault.ServeFault.{ServeFault}
 use Rattle.office_wire.specs.Exchange.{Turn, Standing, Run}
 use Rattle.office_wire.specs.Promises.{ArePromised}
 use Rattle.office_wire.specs.Refusals.{fault_number}
+use Rattle.office_wire.specs.Servfails.{servfails}
+use Rattle.office_rows.specs.declared.store_fault.StoreFault.{StoreFault}
+use Rattle.store_commands.specs.Causes.{trace_of}
 use Rattle.command_line.specs.declared.job.Service.{Service}
 use Rattle.text_commands.specs.declared.refusal.Refusal.{Refusal}
 use Rattle.text_commands.specs.LineFaults.{◌>>=◌, limited, of_policies}
@@ -41,6 +44,23 @@ ended_lines ends = flat_map ended_line ends
 -- all turns of connections, one connection after the other
 abbrev pub joined : List (List Turn) → List Turn
 joined connections = flat_map (λ turns. turns) connections
+
+-- what tells of the requests of connections that were answered SERVFAIL, one connection after the other
+abbrev pub AreTraces : List (List Turn) → List ℕ → Type 0
+AreTraces [] text = text ≡ []
+AreTraces (turns ∷ connections) text =
+    (store : Option StoreFault) × (rest : List ℕ) × (text ≡ trace_of (servfails turns) store ++ rest) × AreTraces connections rest
+
+-- The turns of connections, what the writer of traces held before and after, and its failures before and after. What could not be written
+-- is let go, and then nothing is said.
+pub record AreTraced (connections : List (List Turn)) (old new : Option (List ℕ)) (before after : ℕ) : Type 0 where
+  pub counted : before ≤ after
+  pub traces : after ≡ before → (text : List ℕ) × AreTraces connections text × Appends old new text
+
+-- the same of one connection, with what is known of the store behind it
+pub record IsTraced (turns : List Turn) (store : Option StoreFault) (old new : Option (List ℕ)) (before after : ℕ) : Type 0 where
+  pub counted : before ≤ after
+  pub trace : after ≡ before → Appends old new (trace_of (servfails turns) store)
 
 -- These turns of connections, one after the other, take a table from one standing to another, and what the office promises of calls holds
 -- of all of them together.

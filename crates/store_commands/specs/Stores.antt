@@ -1,8 +1,29 @@
--- What the store of a path may refuse. Which store a path names is outside of what is said.
+-- The store of a path: what a place tells of the path, and what is opened, made, read, written and migrated there.
+use Rattle.std.specs.Prelude.{◌≡◌, ◌≢◌, ◌⊎◌, ℕ, Bool, false, List, Result, Ok, Err}
+use Rattle.dns_data.specs.declared.record.Record.{Record}
+use Rattle.sqlite.specs.State.{State as Shown, HasCleanDisk}
+use Rattle.zone_core.specs.Zones.{ZoneOf}
+use Rattle.office_core.specs.States.{State}
+use Rattle.office_sql.specs.Holds.{Keeps}
+use Rattle.office_sql.specs.Tables.{no_schema}
+use Rattle.office_rows.specs.Batches.{nothing_held}
+use Rattle.office_rows.specs.Contents.{ContentOf}
+use Rattle.office_rows.specs.StoreFaults.{IsFailure, IsOfRows, Gives}
+use Rattle.office_rows.specs.declared.store_fault.StoreFault.{StoreFault}
+use Rattle.office_rows.specs.declared.store_fault.StoreFault.TheVariants.{NoZone, WrongVersion, BadRow}
+use Rattle.office_store.specs.Holds.{HoldsState, HasVersion, IsOfVersion, LeavesStates}
+use Rattle.office_store.specs.Migration.{HoldsOld, IsMigrated}
+use Rattle.office_store.specs.Queries.{Asked, AsksOnly, Only}
+use Rattle.office_store.specs.Turns.{Turns}
+use Rattle.office_store.specs.Zones.{exported}
+use Rattle.command_line.specs.declared.job.Existing.{Existing}
+use Rattle.command_line.specs.declared.job.Existing.TheVariants.{Kept, Replaced}
+use Rattle.std.specs.Prelude.{pos}
 use Rattle.text_commands.specs.declared.refusal.Refusal.{Refusal}
 use Rattle.text_commands.specs.declared.refusal.Refusal.TheVariants.{Zone, Store}
 use Rattle.text_commands.specs.declared.line_fault.LineFault.{LineFault}
 use Rattle.text_commands.specs.declared.line_fault.LineFault.TheVariants.{Refused, ReadFailed, NoMemory}
+use Rattle.store_commands.specs.Puts.{put_into, with_put}
 
 -- a refusal of a store: its own, or of records that it builds a zone of
 abbrev pub IsOfStore : Refusal → Type 0
@@ -15,3 +36,112 @@ abbrev pub IsStoreLine : LineFault → Type 0
 IsStoreLine (Refused refusal) = IsOfStore refusal
 IsStoreLine NoMemory = Unit {0}
 IsStoreLine ReadFailed = ⊥
+
+-- ---- what a connection shows
+
+-- It was connected to showing found, and shows the state that was there, and no other.
+pub record IsAdopted (found now : Shown) : Type 0 where
+  pub holds : HasCleanDisk now → (s : State) × HoldsState now s × LeavesStates now s s
+  pub asked : Asked found now
+  pub only : HasCleanDisk now → Only found now
+
+-- Why it is no store: of a state only that the store failed or memory ran out; else the tables are not those of this version, or their
+-- rows are no state.
+pub record IsNoStore (found left : Shown) (fault : StoreFault) : Type 0 where
+  pub asked : Asked found left
+  pub named : (fault ≡ WrongVersion) ⊎ IsOfRows fault
+  pub good : HasCleanDisk left → (s : State) → HoldsState found s → IsFailure fault
+  pub wrong : HasCleanDisk left → fault ≡ WrongVersion → ¬ HasVersion found
+  pub bad : HasCleanDisk left → fault ≡ BadRow → HasVersion found
+
+-- There were no tables, and they were made, with nothing in them.
+pub record IsMade (found now : Shown) : Type 0 where
+  pub bare : ¬ (found.now.schema ≢ no_schema)
+  pub holds : HoldsState now nothing_held
+  pub left : LeavesStates now nothing_held nothing_held
+  pub honest : HasCleanDisk now → HasCleanDisk found
+
+-- There were none, and they could not be made.
+pub record IsUnmade (found : Shown) (fault : StoreFault) : Type 0 where
+  pub bare : ¬ (found.now.schema ≢ no_schema)
+  pub failed : IsFailure fault
+
+-- What was held is held migrated.
+abbrev pub IsMigratedTo : Shown → Shown → ℕ → Type 0
+IsMigratedTo found after zones = HasCleanDisk after → IsMigrated found after zones
+
+-- Why it was not migrated: of rows of version 1 only that the store failed or memory ran out; else the tables are not those of version
+-- 1, or their rows are none that a program of that version wrote. It shows what it showed.
+pub record IsUnmigrated (found after : Shown) (fault : StoreFault) : Type 0 where
+  pub keeps : Keeps found after
+  pub named : (fault ≡ WrongVersion) ⊎ IsOfRows fault
+  pub good : HasCleanDisk after → (content : ContentOf) → HoldsOld found content → IsFailure fault
+  pub wrong : HasCleanDisk after → fault ≡ WrongVersion → ¬ IsOfVersion (pos 1) found
+  pub bad : HasCleanDisk after → fault ≡ BadRow → IsOfVersion (pos 1) found
+
+-- ---- what is done there, by what connections show
+
+-- there is no store
+abbrev pub IsUnadopted : {C : Type 0} → (C → Shown) → C → StoreFault → Type 0
+IsUnadopted {C} shows found fault = (left : C) × IsNoStore (shows found) (shows left) fault
+
+-- The zone is put into the store, or the table's own refusal comes.
+abbrev pub IsPut : {C : Type 0} → (C → Shown) → Existing → ZoneOf → C → Result (Unit {0}) StoreFault → Type 0
+IsPut {C} shows existing zone now result =
+    (after : C) × Turns (shows now) (shows after) result (λ s. with_put existing s zone)
+    × (HasCleanDisk (shows after) → (s : State) → HoldsState (shows now) s → Gives (λ _. zone) result (put_into existing s zone))
+
+-- The records of an origin are read from the store, which stays as it is.
+abbrev pub IsRead : {C X : Type 0} → (C → Shown) → (X → List Record) → List (List ℕ) → C → Result X StoreFault → Type 0
+IsRead {C} shows view origin now result =
+    (after : C) × AsksOnly (shows now) (shows after) result
+    × (HasCleanDisk (shows after) → (s : State) → HoldsState (shows now) s → Gives view result (exported (s.zones origin)))
+
+-- ---- the store of a path, by what a place tells of the path: whether there is a file, why it refuses it, and what it connects to
+
+-- there is no file, or the place refuses it
+abbrev pub IsUnfound : (Bool → Type 0) → (StoreFault → Type 0) → StoreFault → Type 0
+IsUnfound finds refuses fault = (finds false × (fault ≡ NoZone)) ⊎ refuses fault
+
+-- a store that is there
+abbrev pub IsOpened : {C : Type 0} → (C → Shown) → (C → Type 0) → C → Type 0
+IsOpened {C} shows connects now = (found : C) × connects found × IsAdopted (shows found) (shows now)
+
+abbrev pub IsUnopened : {C : Type 0} → (C → Shown) → (Bool → Type 0) → (StoreFault → Type 0) → (C → Type 0) → StoreFault → Type 0
+IsUnopened {C} shows finds refuses connects fault = IsUnfound finds refuses fault ⊎ ((found : C) × connects found × IsUnadopted shows found fault)
+
+-- one that is made where there is none
+abbrev pub IsOpenedOrMade : {C : Type 0} → (C → Shown) → (C → Type 0) → C → Type 0
+IsOpenedOrMade {C} shows connects now = (found : C) × connects found × (IsAdopted (shows found) (shows now) ⊎ IsMade (shows found) (shows now))
+
+abbrev pub IsUnopenedOrMade : {C : Type 0} → (C → Shown) → (StoreFault → Type 0) → (C → Type 0) → StoreFault → Type 0
+IsUnopenedOrMade {C} shows refuses connects fault =
+    refuses fault ⊎ ((found : C) × connects found × (IsUnadopted shows found fault ⊎ IsUnmade (shows found) fault))
+
+-- one for a zone: where a zone is to be replaced it is there
+abbrev pub IsReached : {C : Type 0} → (C → Shown) → (C → Type 0) → Existing → C → Type 0
+IsReached shows connects Kept now = IsOpenedOrMade shows connects now
+IsReached shows connects Replaced now = IsOpened shows connects now
+
+abbrev pub IsUnreached : {C : Type 0} → (C → Shown) → (Bool → Type 0) → (StoreFault → Type 0) → (C → Type 0) → Existing → StoreFault → Type 0
+IsUnreached shows finds refuses connects Kept fault = IsUnopenedOrMade shows refuses connects fault
+IsUnreached shows finds refuses connects Replaced fault = IsUnopened shows finds refuses connects fault
+
+-- a zone is put into the store of the path, once that is reached
+abbrev pub IsStored : {C : Type 0} → (C → Shown) → (Bool → Type 0) → (StoreFault → Type 0) → (C → Type 0) → Existing → ZoneOf → Result (Unit {0}) StoreFault → Type 0
+IsStored {C} shows finds refuses connects existing zone (Ok done) =
+    (now : C) × IsReached shows connects existing now × IsPut shows existing zone now (Ok done)
+IsStored {C} shows finds refuses connects existing zone (Err fault) =
+    IsUnreached shows finds refuses connects existing fault ⊎ ((now : C) × IsReached shows connects existing now × IsPut shows existing zone now (Err fault))
+
+-- the records of an origin are read from the store of the path, once that is opened
+abbrev pub IsHeld : {C X : Type 0} → (C → Shown) → (Bool → Type 0) → (StoreFault → Type 0) → (C → Type 0) → (X → List Record) → List (List ℕ) → Result X StoreFault → Type 0
+IsHeld {C} shows finds refuses connects view origin (Ok x) = (now : C) × IsOpened shows connects now × IsRead shows view origin now (Ok x)
+IsHeld {C} shows finds refuses connects view origin (Err fault) =
+    IsUnopened shows finds refuses connects fault ⊎ ((now : C) × IsOpened shows connects now × IsRead shows view origin now (Err fault))
+
+-- the store of the path is migrated from version 1, and so many of its zones were changed
+abbrev pub IsMigratedStore : {C : Type 0} → (C → Shown) → (Bool → Type 0) → (StoreFault → Type 0) → (C → Type 0) → Result ℕ StoreFault → Type 0
+IsMigratedStore {C} shows finds refuses connects (Ok zones) = (found after : C) × connects found × IsMigratedTo (shows found) (shows after) zones
+IsMigratedStore {C} shows finds refuses connects (Err fault) =
+    IsUnfound finds refuses fault ⊎ ((found after : C) × connects found × IsUnmigrated (shows found) (shows after) fault)

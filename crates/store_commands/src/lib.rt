@@ -1,16 +1,23 @@
 //! The commands that need a store: to put a zone into it, to print one, to migrate it, and to serve callers.
 #![tactic(auto)]
 
-mod import;
-mod migrate;
+mod cause;
+mod migration;
 mod patience;
+mod place;
 mod serving;
 mod std_streams;
 mod store_file;
+mod trace;
+mod zones;
 
+pub use cause::{Cause, Diagnosis, Undiagnosed};
+pub use migration::migrate;
+pub use place::{Machine, Place};
 pub use serving::{Connections, serve_connections};
 pub use std_streams::{do_export, do_import, do_migrate, do_serve};
 pub use text_commands::{
     Apply, Canon, Explain, JobFault, LineFault, NO_MEMORY_LINE, PolicyFile, Refusal, RefusalLine,
     Task, do_task, text_is_divided, zones_are_read_again,
 };
+pub use zones::{export, import};

@@ -1,22 +1,26 @@
 //! Serving callers over TCP, one connection after the other.
 
-ghost use Rattle.std.specs.Prelude.{◌≡◌, ◌<◌, List, Option, length};
+ghost use Rattle.std.specs.Prelude.{◌≡◌, ◌<◌, ◌≤◌, List, Option, length};
 ghost use Rattle.office_core.specs.States.{State};
 ghost use Rattle.office_wire.specs.Exchange.{Turn, Run};
 ghost use Rattle.office_wire.specs.Serving.{standing};
+ghost use Rattle.office_wire.specs.Servfails.{AreNoted, servfails};
 ghost use Rattle.office_wire.specs.declared.serve_fault.ServeFault.{ServeFault as FaultOf};
 ghost use Rattle.text_commands.specs.LineFaults.{GivesOf};
 ghost use Rattle.text_commands.specs.Replies.{IsSent};
-ghost use Rattle.store_commands.specs.Serve.{policy_read, connection_line, ended_line, most_of, AreServed, IsSoMany, AreTold};
+ghost use Rattle.store_commands.specs.Serve.{policy_read, connection_line, ended_line, most_of, AreServed, AreTraced, IsTraced, IsSoMany, AreTold};
 
+use crate::cause::{Diagnosis, Undiagnosed};
 use crate::patience::{PatientStream, patience_of};
+use crate::place::Machine;
 use crate::store_file::open_store;
+use crate::trace::{tell_servfails, write_texts};
 use command_line::Service;
 use dns_master::{Counted, DeviceFailed, Sink, Source};
 use grant_policy::{Policy, read_policy};
 use itoa::Buffer;
 use office_core::ZoneTable;
-use office_wire::ServeFault;
+use office_wire::{ServeFault, Served};
 use std::alloc::{AllocError, Global};
 use std::marker::Brand;
 use std::net::{SocketAddr, TcpListener, TcpStream};
@@ -53,7 +57,7 @@ fn listener_at(rt: &HostRuntime, listen: &str) -> Result<TcpListener, LineFault>
     }
 }
 
-/// Serves the requests of a connection.
+/// Serves the requests of a connection, and tells which of them were answered SERVFAIL.
 fn serve_stream<T: ZoneTable, C: Clock, A: Ledger, B: Ledger>(
     alloc: Global,
     stream: &PatientStream<'_, C>,
@@ -61,19 +65,19 @@ fn serve_stream<T: ZoneTable, C: Clock, A: Ledger, B: Ledger>(
     policy: &Policy,
     reads: Blank,
     writes: Blank,
-) -> Result<(), ServeFault>
+) -> Served
     requires reads_name { reads.name ≡ A.name }
     requires reads_parts { reads.parts ≡ A.parts }
     requires reads_some { 0 < reads.parts }
     requires writes_name { writes.name ≡ B.name }
     requires writes_parts { writes.parts ≡ B.parts }
     requires writes_some { 0 < writes.parts }
-    ensures run { T.is_honest table.new → (s : State) → T.holds table.old s → (turns : List Turn) × (t : State) × T.holds table.new t × Run policy.now (standing s (T.failures table.old)) turns (standing t (T.failures table.new)) }
+    ensures run { T.is_honest table.new → (s : State) → T.holds table.old s → (turns : List Turn) × (t : State) × T.holds table.new t × Run policy.now (standing s (T.failures table.old)) turns (standing t (T.failures table.new)) × AreNoted (servfails turns) result.servfails }
     ensures honest { T.is_honest table.new → T.is_honest table.old }
 {
     let mut source: Counted<&PatientStream<'_, C>, A> = Counted::new(stream, reads);
     let mut sink: Counted<&PatientStream<'_, C>, B> = Counted::new(stream, writes);
-    office_wire::serve(alloc, &mut source, &mut sink, table, policy)
+    office_wire::serve_noting(alloc, &mut source, &mut sink, table, policy)
 }
 
 /// What is said on standard error where others than programs of this machine can connect.
@@ -109,22 +113,31 @@ fn tell_ended<W: Sink>(writer: &mut W, fault: ServeFault) -> Result<(), DeviceFa
     ensures { IsSent (W.contents writer.old) (W.contents writer.new) (connection_line fault) result (W.failures writer.old) (W.failures writer.new) }
 {
     let mut digits = Buffer::new();
-    write_text(writer, b"connection ")?;
-    write_text(writer, digits.format(fault.number()).as_bytes())?;
-    write_text(writer, b"\n")
+    write_texts(
+        writer,
+        &[
+            b"connection ",
+            digits.format(fault.number()).as_bytes(),
+            b"\n",
+        ],
+    )
 }
 
-/// Serves a connection. A line tells the fault that ended it, if one did.
-fn serve_connection<T: ZoneTable, C: Clock, W: Sink>(
+/// Serves a connection. A line tells the fault that ended it, if one did; and a line of the trace tells which of its requests were
+/// answered SERVFAIL, if some were. A line of the trace that cannot be written is let go.
+fn serve_connection<T: ZoneTable, D: Diagnosis<T>, C: Clock, W: Sink, E: Sink>(
     alloc: Global,
     stream: &PatientStream<'_, C>,
     table: &mut T,
     policy: &Policy,
+    diagnosis: &D,
     writer: &mut W,
+    trace: &mut E,
 ) -> Result<(), DeviceFailed>
-    ensures run { T.is_honest table.new → (s : State) → T.holds table.old s → (turns : List Turn) × (t : State) × T.holds table.new t × Run policy.now (standing s (T.failures table.old)) turns (standing t (T.failures table.new)) }
+    ensures run { T.is_honest table.new → (s : State) → T.holds table.old s → (turns : List Turn) × (t : State) × T.holds table.new t × Run policy.now (standing s (T.failures table.old)) turns (standing t (T.failures table.new)) × IsTraced turns (D.fault diagnosis.now table.new) (E.contents trace.old) (E.contents trace.new) (E.failures trace.old) (E.failures trace.new) }
     ensures honest { T.is_honest table.new → T.is_honest table.old }
     ensures told { (end : Option FaultOf) × IsSent (W.contents writer.old) (W.contents writer.new) (ended_line end) result (W.failures writer.old) (W.failures writer.new) }
+    ensures traced { E.failures trace.old ≤ E.failures trace.new }
 {
     let served = serve_stream::<_, _, Brand, Brand>(
         alloc,
@@ -134,58 +147,68 @@ fn serve_connection<T: ZoneTable, C: Clock, W: Sink>(
         Blank::new(1),
         Blank::new(1),
     );
-    match served {
+    let _ = tell_servfails(trace, served.servfails, diagnosis.store_fault(table));
+    match served.ended {
         Ok(()) => Ok(()),
         Err(fault) => tell_ended(writer, fault),
     }
 }
 
-/// Where connections come from, and for how long to wait for their peers.
+/// Where connections come from, for how long to wait for their peers, and what tells why a table failed them.
 #[derive(Drop)]
-pub struct Connections<'a, C: Clock> {
+pub struct Connections<'a, C: Clock, D> {
     /// Where peers connect.
     pub listener: &'a TcpListener,
     /// What tells the time.
     pub clock: &'a C,
     /// For how long a peer is waited for that sends no request or takes no response, where there is a limit.
     pub patience: Option<Duration>,
+    /// What tells why the store of the table failed.
+    pub diagnosis: &'a D,
 }
 
-impl<C: Clock> Connections<'_, C> {
+impl<C: Clock, D> Connections<'_, C, D> {
     /// Serves one connection that was accepted.
-    fn serve_one<T: ZoneTable, W: Sink>(
+    fn serve_one<T: ZoneTable, W: Sink, E: Sink>(
         &self,
         alloc: Global,
         stream: &TcpStream,
         table: &mut T,
         policy: &Policy,
         writer: &mut W,
+        trace: &mut E,
     ) -> Result<(), DeviceFailed>
-        ensures run { T.is_honest table.new → (s : State) → T.holds table.old s → (turns : List Turn) × (t : State) × T.holds table.new t × Run policy.now (standing s (T.failures table.old)) turns (standing t (T.failures table.new)) }
+    where
+        D: Diagnosis<T>,
+        ensures run { T.is_honest table.new → (s : State) → T.holds table.old s → (turns : List Turn) × (t : State) × T.holds table.new t × Run policy.now (standing s (T.failures table.old)) turns (standing t (T.failures table.new)) × IsTraced turns (D.fault self.now.diagnosis.now table.new) (E.contents trace.old) (E.contents trace.new) (E.failures trace.old) (E.failures trace.new) }
         ensures honest { T.is_honest table.new → T.is_honest table.old }
         ensures told { (end : Option FaultOf) × IsSent (W.contents writer.old) (W.contents writer.new) (ended_line end) result (W.failures writer.old) (W.failures writer.new) }
+        ensures traced { E.failures trace.old ≤ E.failures trace.new }
     {
         // a short response goes out at once
         let _ = stream.set_nodelay(true);
         let stream = PatientStream::new(stream, self.clock, self.patience);
-        serve_connection(alloc, &stream, table, policy, writer)
+        serve_connection(alloc, &stream, table, policy, self.diagnosis, writer, trace)
     }
 }
 
 /// Serves connections one after the other, so many of them. A line tells each that ended by a fault. `ReadFailed` is told where a
-/// connection cannot be had, and `WriteFailed` comes where a line cannot be written.
-pub fn serve_connections<T: ZoneTable, C: Clock, W: Sink>(
+/// connection cannot be had, and `WriteFailed` comes where a line cannot be written. A line of the trace tells of each connection in
+/// which requests were answered SERVFAIL: how many, and why the last of them was.
+pub fn serve_connections<T: ZoneTable, D: Diagnosis<T>, C: Clock, W: Sink, E: Sink>(
     alloc: Global,
-    connections: &Connections<'_, C>,
+    connections: &Connections<'_, C, D>,
     table: &mut T,
     policy: &Policy,
     most: u64,
     writer: &mut W,
+    trace: &mut E,
 ) -> Result<(), JobFault>
     // Whatever connections come: where the store has kept its word, there are turns of all of them, one connection after the other,
     // that take the table from how it stood to how it stands; each is answered by the policy and the state that it found, and what the
-    // office promises of calls holds of all of them together, whichever connection each came by.
-    ensures served { T.is_honest table.new → (s : State) → T.holds table.old s → (turns : List (List Turn)) × (t : State) × T.holds table.new t × AreServed policy.now (standing s (T.failures table.old)) turns (standing t (T.failures table.new)) × IsSoMany most result (length turns) }
+    // office promises of calls holds of all of them together, whichever connection each came by. The trace tells of those of these
+    // turns that were answered SERVFAIL.
+    ensures served { T.is_honest table.new → (s : State) → T.holds table.old s → (turns : List (List Turn)) × (t : State) × T.holds table.new t × AreServed policy.now (standing s (T.failures table.old)) turns (standing t (T.failures table.new)) × IsSoMany most result (length turns) × AreTraced turns (E.contents trace.old) (E.contents trace.new) (E.failures trace.old) (E.failures trace.new) }
     // How each connection ended that did so by a fault is told, and why it ended before so many were served.
     ensures told { (ends : List (Option FaultOf)) × AreTold most ends (W.contents writer.old) (W.contents writer.new) result (W.failures writer.old) (W.failures writer.new) }
     // A store that has kept its word had kept it before.
@@ -193,7 +216,9 @@ pub fn serve_connections<T: ZoneTable, C: Clock, W: Sink>(
 {
     'accepted: for _ in 0..most {
         match connections.listener.accept() {
-            Ok((stream, _)) => connections.serve_one(alloc, &stream, table, policy, writer)?,
+            Ok((stream, _)) => {
+                connections.serve_one(alloc, &stream, table, policy, writer, trace)?
+            }
             Err(_) => return tell(alloc, writer, LineFault::ReadFailed),
         }
     }
@@ -201,14 +226,16 @@ pub fn serve_connections<T: ZoneTable, C: Clock, W: Sink>(
 }
 
 /// Serves connections from a table: it listens, tells where, and serves as many as the words say.
-fn serve_table<T: ZoneTable, W: Sink>(
+fn serve_table<T: ZoneTable, D: Diagnosis<T>, W: Sink, E: Sink>(
     rt: &HostRuntime,
     service: Service<'_>,
     policy: &Policy,
     table: &mut T,
+    diagnosis: &D,
     writer: &mut W,
+    trace: &mut E,
 ) -> Result<(), JobFault>
-    ensures served { T.is_honest table.new → (s : State) → T.holds table.old s → (turns : List (List Turn)) × (t : State) × T.holds table.new t × AreServed policy.now (standing s (T.failures table.old)) turns (standing t (T.failures table.new)) × IsSoMany (most_of service.entry) result (length turns) }
+    ensures served { T.is_honest table.new → (s : State) → T.holds table.old s → (turns : List (List Turn)) × (t : State) × T.holds table.new t × AreServed policy.now (standing s (T.failures table.old)) turns (standing t (T.failures table.new)) × IsSoMany (most_of service.entry) result (length turns) × AreTraced turns (E.contents trace.old) (E.contents trace.new) (E.failures trace.old) (E.failures trace.new) }
     ensures honest { T.is_honest table.new → T.is_honest table.old }
 {
     let alloc = rt.alloc();
@@ -221,32 +248,36 @@ fn serve_table<T: ZoneTable, W: Sink>(
         listener: &listener,
         clock: rt,
         patience: patience_of(service.patience),
+        diagnosis,
     };
     let most = service.connections.unwrap_or(u64::MAX);
-    serve_connections(alloc, &connections, table, policy, most, writer)
+    serve_connections(alloc, &connections, table, policy, most, writer, trace)
 }
 
 /// Serves connections from a table that was opened for it.
-fn serve_opened<T: ZoneTable + Drop, W: Sink>(
+fn serve_opened<T: ZoneTable + Drop, W: Sink, E: Sink>(
     rt: &HostRuntime,
     service: Service<'_>,
     policy: &Policy,
     table: T,
     writer: &mut W,
+    trace: &mut E,
 ) -> Result<(), JobFault> {
     let mut table = table;
-    serve_table(rt, service, policy, &mut table, writer)
+    serve_table(rt, service, policy, &mut table, &Undiagnosed, writer, trace)
 }
 
 /// The job `serve`: reads the policy, opens the store, listens, and serves connections one after the other, so many of them as the
 /// words say. A line tells where it listens, and one tells each connection that ended by a fault; or a line tells the refusal that
-/// comes first: of the policy, of the store, or `ReadFailed` where there can be no listener or a connection cannot be had.
-pub fn serve<W: Sink, A: Ledger, B: Ledger>(
+/// comes first: of the policy, of the store, or `ReadFailed` where there can be no listener or a connection cannot be had. A line of
+/// the trace tells of each connection in which requests were answered SERVFAIL.
+pub fn serve<W: Sink, E: Sink, A: Ledger, B: Ledger>(
     rt: &HostRuntime,
     service: Service<'_>,
     reads: Blank,
     store: Blank,
     writer: &mut W,
+    trace: &mut E,
 ) -> Result<(), JobFault>
     requires reads_name { reads.name ≡ A.name }
     requires reads_parts { reads.parts ≡ A.parts }
@@ -259,8 +290,8 @@ pub fn serve<W: Sink, A: Ledger, B: Ledger>(
         Ok(policy) => policy,
         Err(fault) => return tell(rt.alloc(), writer, fault),
     };
-    match open_store::<B>(rt, service.store, store) {
-        Ok(table) => serve_opened(rt, service, &policy, table, writer),
-        Err(fault) => tell(rt.alloc(), writer, fault),
+    match open_store::<_, B, _>(rt.alloc(), &Machine(rt), service.store, store) {
+        Ok(table) => serve_opened(rt, service, &policy, table, writer, trace),
+        Err(fault) => tell(rt.alloc(), writer, LineFault::from(fault)),
     }
 }

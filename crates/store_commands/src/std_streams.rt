@@ -2,9 +2,10 @@
 
 ghost use Rattle.std.specs.Prelude.{◌≡◌, ◌<◌};
 
-use crate::import::{export, import};
-use crate::migrate::migrate;
+use crate::migration::migrate;
+use crate::place::Machine;
 use crate::serving::serve;
+use crate::zones::{export, import};
 use command_line::{Existing, Service, StoredZone};
 use dns_master::Counted;
 use std::io::{Read, Write};
@@ -31,11 +32,17 @@ fn import_in<R: Read + Drop, W: Write + Drop, A: Ledger, B: Ledger, C: Ledger>(
     requires store_parts { store.parts ≡ C.parts }
     requires store_some { 0 < store.parts }
 {
-    let (zone, existing) = what;
     let (reader, writer) = streams;
     let mut source: Counted<R, A> = Counted::new(reader, reads);
     let mut sink: Counted<W, B> = Counted::new(writer, writes);
-    let outcome = import::<_, _, C>(rt, zone, existing, store, &mut source, &mut sink);
+    let outcome = import::<_, _, _, C, _>(
+        rt.alloc(),
+        &Machine(rt),
+        what,
+        store,
+        &mut source,
+        &mut sink,
+    );
     (sink.into_inner(), outcome)
 }
 
@@ -65,7 +72,7 @@ fn export_in<W: Write + Drop, B: Ledger, C: Ledger>(
     requires store_some { 0 < store.parts }
 {
     let mut sink: Counted<W, B> = Counted::new(writer, writes);
-    let outcome = export::<_, C>(rt, zone, store, &mut sink);
+    let outcome = export::<_, _, C, _>(rt.alloc(), &Machine(rt), zone, store, &mut sink);
     (sink.into_inner(), outcome)
 }
 
@@ -91,7 +98,7 @@ fn migrate_in<W: Write + Drop, B: Ledger>(
 {
     let (store, writer) = what;
     let mut sink: Counted<W, B> = Counted::new(writer, writes);
-    let outcome = migrate(rt, store, &mut sink);
+    let outcome = migrate(rt.alloc(), &Machine(rt), store, &mut sink);
     (sink.into_inner(), outcome)
 }
 
@@ -104,13 +111,14 @@ pub fn do_migrate<W: Write + Drop>(
     migrate_in::<_, Brand>(rt, (store, writer), Blank::new(1))
 }
 
-/// Serves callers, tells of it to a writer of std, and hands the writer back.
-fn serve_in<W: Write + Drop, A: Ledger, B: Ledger, C: Ledger>(
+/// Serves callers, tells of it to a writer of std, with a trace on another one, and hands the writer back.
+fn serve_in<W: Write + Drop, E: Write + Drop, A: Ledger, B: Ledger, C: Ledger, D: Ledger>(
     rt: &HostRuntime,
     service: Service<'_>,
-    writer: W,
+    streams: (W, E),
     reads: Blank,
     writes: Blank,
+    traces: Blank,
     store: Blank,
 ) -> (W, Result<(), JobFault>)
     requires reads_name { reads.name ≡ A.name }
@@ -119,21 +127,28 @@ fn serve_in<W: Write + Drop, A: Ledger, B: Ledger, C: Ledger>(
     requires writes_name { writes.name ≡ B.name }
     requires writes_parts { writes.parts ≡ B.parts }
     requires writes_some { 0 < writes.parts }
-    requires store_name { store.name ≡ C.name }
-    requires store_parts { store.parts ≡ C.parts }
+    requires traces_name { traces.name ≡ C.name }
+    requires traces_parts { traces.parts ≡ C.parts }
+    requires traces_some { 0 < traces.parts }
+    requires store_name { store.name ≡ D.name }
+    requires store_parts { store.parts ≡ D.parts }
     requires store_some { 0 < store.parts }
 {
+    let (writer, errors) = streams;
     let mut sink: Counted<W, B> = Counted::new(writer, writes);
-    let outcome = serve::<_, A, C>(rt, service, reads, store, &mut sink);
+    let mut trace: Counted<E, C> = Counted::new(errors, traces);
+    let outcome = serve::<_, _, A, D>(rt, service, reads, store, &mut sink, &mut trace);
     (sink.into_inner(), outcome)
 }
 
-/// Does the job `serve`, with a writer of std, and hands it back.
+/// Does the job `serve`, with a writer of std, and hands it back. Its trace goes to standard error.
 pub fn do_serve<W: Write + Drop>(
     rt: &HostRuntime,
     service: Service<'_>,
     writer: W,
 ) -> (W, Result<(), JobFault>) {
-    let (reads, writes, store) = (Blank::new(1), Blank::new(1), Blank::new(1));
-    serve_in::<_, Brand, Brand, Brand>(rt, service, writer, reads, writes, store)
+    let streams = (writer, rt.stderr());
+    let (reads, writes) = (Blank::new(1), Blank::new(1));
+    let (traces, store) = (Blank::new(1), Blank::new(1));
+    serve_in::<_, _, Brand, Brand, Brand, Brand>(rt, service, streams, reads, writes, traces, store)
 }

@@ -1,162 +1,127 @@
-//! The store of a path, which is one SQLite file.
+//! The store of a path.
 
-ghost use Rattle.std.specs.Prelude.{◌≡◌, ◌<◌, false, IfOk, IfErr};
-ghost use Rattle.store_commands.specs.Stores.{IsStoreLine};
+ghost use Rattle.std.specs.Prelude.{◌≡◌, ◌<◌, ◌⊎◌, false, IfOk, IfErr};
+ghost use Rattle.sqlite.specs.Held.{Held, state};
+ghost use Rattle.store_commands.specs.Stores.{IsAdopted, IsUnadopted, IsMade, IsUnmade, IsUnfound, IsOpened, IsUnopened, IsOpenedOrMade, IsUnopenedOrMade, IsMigratedTo, IsUnmigrated, IsMigratedStore};
 
-use office_sql::connect_at;
-use office_store::{Refused, SqlTable, StoreFault, Unopened};
-use sqlite::{Alter, Connection, Error, ErrorCode, File, FileStore, Unknown};
+use crate::place::Place;
+use office_store::{SqlTable, StoreFault};
+use sqlite::{Alter, Connection};
 use std::alloc::Global;
-use std::fs;
 use std::marker::Brand;
 use std::sync::ledger::{Blank, Ledger};
-use text_commands::LineFault;
 
-/// The table of a store in a file.
-pub type FileTable<L> = SqlTable<FileStore<File>, L>;
-
-/// The file could not be looked for.
-const CANNOT_OPEN: StoreFault = StoreFault::Store(Error::SqliteFailure(ErrorCode::CannotOpen));
-
-/// A refusal of a store, as a line.
-pub fn store_line(fault: StoreFault) -> LineFault
-    ensures { IsStoreLine result }
-{
-    LineFault::from(fault)
-}
-
-/// Why a file is not opened, as a line.
-fn unopened_line<S: Alter + Drop>(unopened: Unopened<S>) -> LineFault
-    ensures { IsStoreLine result }
-{
-    store_line(unopened.fault)
-}
-
-/// Why a connection has no table, as a line.
-fn refused_line<S: Alter + Drop>(refused: Refused<S>) -> LineFault
-    ensures { IsStoreLine result }
-{
-    store_line(refused.fault)
-}
-
-/// A connection to the file of a path, which is made where it is not there.
-fn connected(rt: &HostRuntime, path: &str) -> Result<Connection<FileStore<File>>, LineFault>
+/// A connection to the file of a path, if there is one: where there is none, that is `NoZone`.
+fn found<S: Alter + Drop, P: Place<S>>(place: &P, path: &str) -> Result<Connection<S>, StoreFault>
+    ensures connected { IfOk result (P.connects place.now path.now) }
     ensures alone { IfOk result (λ conn. conn.in_transaction ≡ false) }
-    ensures named { IfErr result IsStoreLine }
+    ensures refused { IfErr result (IsUnfound (P.finds place.now path.now) (P.refuses place.now path.now)) }
 {
-    match connect_at(rt, path, Unknown) {
-        Ok(conn) => Ok(conn),
-        Err(error) => Err(store_line(StoreFault::from(error))),
+    if place.has_file(path)? {
+        place.connect(path)
+    } else {
+        Err(StoreFault::NoZone)
     }
 }
 
-/// Whether there is a file at a path: where there is none, that is `NoZone`.
-fn found(rt: &HostRuntime, path: &str) -> Result<(), LineFault>
-    ensures { IfErr result IsStoreLine }
+/// The table that a connection has.
+fn adopted<S: Alter + Drop, L: Ledger>(
+    alloc: Global,
+    conn: Connection<S>,
+    blank: Blank,
+) -> Result<SqlTable<S, L>, StoreFault>
+    requires alone { conn.in_transaction ≡ false }
+    requires name { blank.name ≡ L.name }
+    requires parts { blank.parts ≡ L.parts }
+    requires some { 0 < blank.parts }
+    ensures opened { IfOk result (λ table. IsAdopted (state S.Store conn) (state S.Store table.conn)) }
+    ensures refused { IfErr result (IsUnadopted (state S.Store) conn) }
 {
-    match fs::exists(rt, path) {
-        Ok(true) => Ok(()),
-        Ok(false) => Err(store_line(StoreFault::NoZone)),
-        Err(_) => Err(store_line(CANNOT_OPEN)),
+    match SqlTable::adopt(alloc, conn, blank) {
+        Ok(table) => Ok(table),
+        Err(refused) => Err(refused.fault),
     }
 }
 
 /// The table of the store of a path. Where there is no file none is made: that is `NoZone`. `WrongVersion` comes where the file has
 /// not the tables of this version, `BadRow` where their rows are no state, and `Store` where the file is no database or cannot be
 /// read.
-pub fn open_store<L: Ledger>(
-    rt: &HostRuntime,
+pub fn open_store<S: Alter + Drop, L: Ledger, P: Place<S>>(
+    alloc: Global,
+    place: &P,
     path: &str,
     blank: Blank,
-) -> Result<FileTable<L>, LineFault>
+) -> Result<SqlTable<S, L>, StoreFault>
     requires name { blank.name ≡ L.name }
     requires parts { blank.parts ≡ L.parts }
     requires some { 0 < blank.parts }
-    ensures { IfErr result IsStoreLine }
+    ensures opened { IfOk result (λ table. IsOpened (state S.Store) (P.connects place.now path.now) table.conn) }
+    ensures refused { IfErr result (IsUnopened (state S.Store) (P.finds place.now path.now) (P.refuses place.now path.now) (P.connects place.now path.now)) }
 {
-    found(rt, path)?;
-    match SqlTable::open(rt, path, Unknown, blank) {
-        Ok(table) => Ok(table),
-        Err(unopened) => Err(unopened_line(unopened)),
+    adopted(alloc, found(place, path)?, blank)
+}
+
+/// The table of a connection, which is made where there is none.
+fn made_or_adopted<S: Alter + Drop, L: Ledger>(
+    alloc: Global,
+    conn: Connection<S>,
+    blank: Blank,
+) -> Result<SqlTable<S, L>, StoreFault>
+    requires alone { conn.in_transaction ≡ false }
+    requires name { blank.name ≡ L.name }
+    requires parts { blank.parts ≡ L.parts }
+    requires some { 0 < blank.parts }
+    ensures opened { IfOk result (λ table. IsAdopted (state S.Store conn) (state S.Store table.conn) ⊎ IsMade (state S.Store conn) (state S.Store table.conn)) }
+    ensures refused { IfErr result (λ fault. IsUnadopted (state S.Store) conn fault ⊎ IsUnmade (state S.Store conn) fault) }
+{
+    let refused = match SqlTable::create(conn, blank) {
+        Ok(table) => return Ok(table),
+        Err(refused) => refused,
+    };
+    if refused.fault == StoreFault::WrongVersion {
+        adopted(alloc, refused.conn, refused.blank)
+    } else {
+        Err(refused.fault)
     }
 }
 
+/// The table of the store of a path, which is made where there is no file, or one without tables. The refusals are those of
+/// `open_store`, but for `NoZone`.
+pub fn open_or_make_store<S: Alter + Drop, L: Ledger, P: Place<S>>(
+    alloc: Global,
+    place: &P,
+    path: &str,
+    blank: Blank,
+) -> Result<SqlTable<S, L>, StoreFault>
+    requires name { blank.name ≡ L.name }
+    requires parts { blank.parts ≡ L.parts }
+    requires some { 0 < blank.parts }
+    ensures opened { IfOk result (λ table. IsOpenedOrMade (state S.Store) (P.connects place.now path.now) table.conn) }
+    ensures refused { IfErr result (IsUnopenedOrMade (state S.Store) (P.refuses place.now path.now) (P.connects place.now path.now)) }
+{
+    made_or_adopted(alloc, place.connect(path)?, blank)
+}
+
 /// Takes the tables of a connection from version 1 to version 2.
-fn migrate_tables<S: Alter + Drop>(alloc: Global, conn: Connection<S>) -> Result<usize, LineFault>
+fn migrate_tables<S: Alter + Drop>(alloc: Global, conn: Connection<S>) -> Result<usize, StoreFault>
     requires { conn.in_transaction ≡ false }
-    ensures { IfErr result IsStoreLine }
+    ensures migrated { IfOk result (λ zones. (after : Held S) × IsMigratedTo (state S.Store conn) (state S.Store after) zones) }
+    ensures refused { IfErr result (λ fault. (after : Held S) × IsUnmigrated (state S.Store conn) (state S.Store after) fault) }
 {
     let mut conn = conn;
-    match SqlTable::<S, Brand>::migrate(alloc, &mut conn) {
-        Ok(zones) => Ok(zones),
-        Err(fault) => Err(store_line(fault)),
-    }
+    SqlTable::<S, Brand>::migrate(alloc, &mut conn)
 }
 
 /// Takes the store of a path from version 1 of the tables to version 2, and tells how many zones that changed. Where there is no file
 /// none is made: that is `NoZone`. `WrongVersion` comes where the file has not the tables of version 1, `BadRow` where their rows are
 /// none that a program of that version wrote, and `Store` where the file is no database or cannot be read or written. Then the file
 /// is as it was.
-pub fn migrate_store(rt: &HostRuntime, path: &str) -> Result<usize, LineFault>
-    ensures { IfErr result IsStoreLine }
-{
-    found(rt, path)?;
-    migrate_tables(rt.alloc(), connected(rt, path)?)
-}
-
-/// The table that a connection has, where none could be made for this reason.
-fn adopted<S: Alter + Drop, L: Ledger>(
+pub fn migrate_store<S: Alter + Drop, P: Place<S>>(
     alloc: Global,
-    refused: Refused<S>,
-) -> Result<SqlTable<S, L>, LineFault>
-    requires alone { refused.conn.in_transaction ≡ false }
-    requires name { refused.blank.name ≡ L.name }
-    requires parts { refused.blank.parts ≡ L.parts }
-    requires some { 0 < refused.blank.parts }
-    ensures { IfErr result IsStoreLine }
-{
-    match refused {
-        Refused {
-            fault: StoreFault::WrongVersion,
-            conn,
-            blank,
-        } => match SqlTable::adopt(alloc, conn, blank) {
-            Ok(table) => Ok(table),
-            Err(refused) => Err(refused_line(refused)),
-        },
-        refused => Err(refused_line(refused)),
-    }
-}
-
-/// The table that a connection has, which is made where it has none.
-fn made_or_adopted<S: Alter + Drop, L: Ledger>(
-    alloc: Global,
-    conn: Connection<S>,
-    blank: Blank,
-) -> Result<SqlTable<S, L>, LineFault>
-    requires alone { conn.in_transaction ≡ false }
-    requires name { blank.name ≡ L.name }
-    requires parts { blank.parts ≡ L.parts }
-    requires some { 0 < blank.parts }
-    ensures { IfErr result IsStoreLine }
-{
-    match SqlTable::create(conn, blank) {
-        Ok(table) => Ok(table),
-        Err(refused) => adopted(alloc, refused),
-    }
-}
-
-/// The table of the store of a path, which is made where there is no file, or one without tables. The refusals are those of
-/// `open_store`, but for `NoZone`.
-pub fn open_or_make_store<L: Ledger>(
-    rt: &HostRuntime,
+    place: &P,
     path: &str,
-    blank: Blank,
-) -> Result<FileTable<L>, LineFault>
-    requires name { blank.name ≡ L.name }
-    requires parts { blank.parts ≡ L.parts }
-    requires some { 0 < blank.parts }
-    ensures { IfErr result IsStoreLine }
+) -> Result<usize, StoreFault>
+    ensures { IsMigratedStore (state S.Store) (P.finds place.now path.now) (P.refuses place.now path.now) (P.connects place.now path.now) result }
 {
-    made_or_adopted(rt.alloc(), connected(rt, path)?, blank)
+    migrate_tables(alloc, found(place, path)?)
 }

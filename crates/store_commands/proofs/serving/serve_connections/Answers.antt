@@ -3,13 +3,13 @@ use Rattle.std.proofs.Common.{◌≡◌, ◌<◌, ◌≤◌, ◌∙◌, [], ◌�
 use Rattle.std.proofs.lemmas.Result.{err_from_is_err_and}
 use Rattle.office_wire.specs.Serving.{standing}
 use Rattle.text_commands.specs.declared.line_fault.LineFault.TheVariants.{ReadFailed}
-use Rattle.store_commands.proofs.ConnectionLemmas.{served_more, one_more, one_ended, told_many, are_served, told_more, told_in_part, told_last}
+use Rattle.store_commands.proofs.ConnectionLemmas.{served_more, one_more, one_ended, told_many, are_served, traced_none, traced_more, told_more, told_in_part, told_last}
 use Rattle.store_commands.proofs.serving.serve_connections.Goals as goal
 
 pub accepted-init : goal.accepted-init
 accepted-init g c = record {
   honest = λ honest. honest;
-  served = λ honest s held. ([], s, held, refl, refl);
+  served = λ honest s held. ([], s, held, refl, refl, traced_none _ _);
   told = ([], refl, Appends-nil _);
   fine = refl;
 }
@@ -23,7 +23,7 @@ accepted-preserved g c = record {
       let before = standing s (g.T.ZoneTable.failures c.args.table.now) in
       let mid = standing p.1 (g.T.ZoneTable.failures c.accepted.table) in
       let now = standing a.1 (g.T.ZoneTable.failures c.serve_one.new.table) in
-      (p.0 ++ a.0 ∷ [], a.1, a.2, served_more c.args.policy.now before mid now p.0 a.0 p.3 a.3, one_more p.0 a.0 c.accepted.counter p.4);
+      (p.0 ++ a.0 ∷ [], a.1, a.2, served_more c.args.policy.now before mid now p.0 a.0 p.3 a.3, one_more p.0 a.0 c.accepted.counter p.4, traced_more p.0 a.0 _ _ _ _ _ _ _ p.5 a.4);
   told =
       let p = c.accepted.invariant.told in
       let a = c.in_ok-serve_one-in-Ok.ensures.told in
@@ -43,7 +43,7 @@ returns-in_err-serve_one-in-Ok-clause-served g c = λ honest s held.
     let count = one_more p.0 a.0 c.accepted.counter p.4 in
     let less : length turns ≤ c.args.most = let in_range = c.accepted-test.true in omega arith in
     let e = err_from_is_err_and c.from_residual.result c.from_residual.ensures.1 in
-    (turns, a.1, a.2, are_served c.args.policy.now before now turns (g.met.T.ZoneTable.zones c.args.table.now s held) (g.met.T.ZoneTable.receipts c.args.table.now s held) all, rw e.1 less)
+    (turns, a.1, a.2, are_served c.args.policy.now before now turns (g.met.T.ZoneTable.zones c.args.table.now s held) (g.met.T.ZoneTable.receipts c.args.table.now s held) all, rw e.1 less, traced_more p.0 a.0 _ _ _ _ _ _ _ p.5 a.4)
 
 pub returns-in_err-serve_one-in-Ok-clause-told : goal.returns-in_err-serve_one-in-Ok-clause-told
 returns-in_err-serve_one-in-Ok-clause-told g c =
@@ -77,6 +77,7 @@ returns-in-Err-clause-served g c = λ honest s held.
       are_served c.args.policy.now before now p.0 (g.met.T.ZoneTable.zones c.args.table.now s held) (g.met.T.ZoneTable.receipts c.args.table.now s held) p.3,
       told_many c.args.most (length p.0) c.tell.result (g.W.Sink.contents c.accepted.writer) (g.W.Sink.contents c.tell.new.writer) ReadFailed
           (g.W.FaultCount.failures c.accepted.writer) (g.W.FaultCount.failures c.tell.new.writer) c.tell.ensures less,
+      p.5,
     )
 
 pub returns-clause-served : goal.returns-clause-served
@@ -89,4 +90,5 @@ returns-clause-served g c = λ honest s held.
       p.2,
       are_served c.args.policy.now before now p.0 (g.met.T.ZoneTable.zones c.args.table.now s held) (g.met.T.ZoneTable.receipts c.args.table.now s held) p.3,
       (let past = c.accepted-test.false in let ended = c.accepted.auto.counter-end in let count = p.4 in omega arith),
+      p.5,
     )

@@ -4,14 +4,15 @@ use Rattle.office_wire.specs.declared.serve_fault.ServeFault.{ServeFault}
 use Rattle.office_core.specs.States.{State}
 use Rattle.office_wire.specs.Exchange.{Turn, Run}
 use Rattle.office_wire.specs.Serving.{standing}
-use Rattle.store_commands.specs.Serve.{ended_lines, joined}
+use Rattle.store_commands.specs.Serve.{ended_lines, joined, AreTraced}
 use Rattle.store_commands.proofs.serving.serve_connections.Given as goal
 
 abbrev pub invariant-accepted : goal.invariant-accepted
 invariant-accepted g l = record {
   honest : g.T.ZoneTable.is_honest l.table → g.T.ZoneTable.is_honest l.fn.table;
   served : g.T.ZoneTable.is_honest l.table → (s : State) → g.T.ZoneTable.holds l.fn.table s → (turns : List (List Turn)) × (t : State) × g.T.ZoneTable.holds l.table t
-      × Run l.policy (standing s (g.T.ZoneTable.failures l.fn.table)) (joined turns) (standing t (g.T.ZoneTable.failures l.table)) × (length turns ≡ l.counter);
+      × Run l.policy (standing s (g.T.ZoneTable.failures l.fn.table)) (joined turns) (standing t (g.T.ZoneTable.failures l.table)) × (length turns ≡ l.counter)
+      × AreTraced turns (g.E.Sink.contents l.fn.trace) (g.E.Sink.contents l.trace) (g.E.FaultCount.failures l.fn.trace) (g.E.FaultCount.failures l.trace);
   told : (ends : List (Option ServeFault)) × (length ends ≡ l.counter) × Appends (g.W.Sink.contents l.fn.writer) (g.W.Sink.contents l.writer) (ended_lines ends);
   fine : g.W.FaultCount.failures l.writer ≡ g.W.FaultCount.failures l.fn.writer;
 }

@@ -7,4 +7,7 @@ abbrev pub ghosts-serve_in-B-Ledger : goal.ghosts-serve_in-B-Ledger
 ghosts-serve_in-B-Ledger g a = record { name = a.writes.name; parts = a.writes.parts }
 
 abbrev pub ghosts-serve_in-C-Ledger : goal.ghosts-serve_in-C-Ledger
-ghosts-serve_in-C-Ledger g a = record { name = a.store.name; parts = a.store.parts }
+ghosts-serve_in-C-Ledger g a = record { name = a.traces.name; parts = a.traces.parts }
+
+abbrev pub ghosts-serve_in-D-Ledger : goal.ghosts-serve_in-D-Ledger
+ghosts-serve_in-D-Ledger g a = record { name = a.store.name; parts = a.store.parts }

@@ -1,0 +1,8 @@
+use Rattle.sqlite.specs.Held.{state}
+use Rattle.store_commands.proofs.PlaceLemmas.{migrated_store}
+use Rattle.store_commands.proofs.store_file.migrate_store.Goals as goal
+
+pub returns : goal.returns
+returns g c =
+    let e = c.migrate_tables.ensures in
+    migrated_store (state g.S.Store) (g.P.Place.finds c.args.place.now c.args.path.now) (g.P.Place.refuses c.args.place.now c.args.path.now) (g.P.Place.connects c.args.place.now c.args.path.now) _ c.migrate_tables.result c.in_ok-found.ensures.connected e.migrated e.refused
