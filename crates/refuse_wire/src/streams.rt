@@ -4,11 +4,12 @@ ghost use Rattle.std.specs.Prelude.{◌≡◌, ◌<◌, ℕ, List, [], Option, S
 ghost use Rattle.office_core.specs.States.{State};
 ghost use Rattle.office_wire.specs.Exchange.{Turn, Run};
 ghost use Rattle.office_wire.specs.Serving.{standing, IsDone, CountsServed};
+ghost use Rattle.office_wire.specs.Servfails.{AreNoted, servfails};
 
 use dns_master::{Counted, Pieces, Sink, Source};
 use grant_policy::Policy;
 use office_core::ZoneTable;
-use office_wire::ServeFault;
+use office_wire::{ServeFault, Served};
 use std::alloc::Global;
 use std::sync::ledger::{Blank, Ledger};
 
@@ -37,6 +38,20 @@ pub fn serve_counted<R: Source, W: Sink, T: ZoneTable>(
 {
     let ended = office_wire::serve(alloc, reader, writer, table, policy);
     ended
+}
+
+/// `serve_noting`, by what it notes.
+pub fn serve_noting<R: Source, W: Sink, T: ZoneTable>(
+    alloc: Global,
+    reader: &mut R,
+    writer: &mut W,
+    table: &mut T,
+    policy: &Policy,
+) -> Served
+    ensures { T.is_honest table.new → (s : State) → T.holds table.old s → (turns : List Turn) × (t : State) × T.holds table.new t × Run policy.now (standing s (T.failures table.old)) turns (standing t (T.failures table.new)) × AreNoted (servfails turns) result.servfails }
+{
+    let served = office_wire::serve_noting(alloc, reader, writer, table, policy);
+    served
 }
 
 /// `serve`, of octets in memory, to a text in memory.

@@ -6,7 +6,9 @@ use crate::office::{POLICY, ZONE, listening};
 use dns_master::{Counted, read_file};
 use dns_names::Name;
 use grant_policy::{Policy, read_policy};
-use office_core::MemTable;
+use office_core::{FailTable, MemTable, TableCall, ZoneTable};
+use office_store::StoreFault;
+use sqlite::{Error, ErrorCode};
 use std::alloc::Global;
 use std::io::{Read, Write};
 use std::marker::Brand;
@@ -14,7 +16,7 @@ use std::net::{Shutdown, TcpListener, TcpStream};
 use std::sync::ledger::{Blank, Ledger};
 use std::test::Fail;
 use std::time::Duration;
-use store_commands::{Connections, serve_connections};
+use store_commands::{Connections, Diagnosis, Undiagnosed, serve_connections};
 use zone_core::Zone;
 
 /// What two callers send, each over a connection of its own, and what they are answered: an update and the same again, and then
@@ -69,34 +71,78 @@ fn answered(alloc: Global, caller: TcpStream) -> Result<Vec<u8>, Fail> {
     Ok(answer)
 }
 
-/// Serves so many connections, and answers what the office tells of them.
-fn served_in<L: Ledger>(
+/// What the office told, and its trace.
+#[derive(Drop)]
+struct Told {
+    told: Vec<u8>,
+    trace: Vec<u8>,
+}
+
+/// Serves so many connections from a table, and answers what the office told.
+fn served_in<T: ZoneTable, D: Diagnosis<T>, A: Ledger, B: Ledger>(
     rt: &HostRuntime,
     listener: &TcpListener,
     connections: u64,
+    table: &mut T,
+    diagnosis: &D,
     writes: Blank,
-) -> Result<Vec<u8>, Fail>
-    requires name { writes.name ≡ L.name }
-    requires parts { writes.parts ≡ L.parts }
-    requires some { 0 < writes.parts }
+    traces: Blank,
+) -> Result<Told, Fail>
+    requires writes_name { writes.name ≡ A.name }
+    requires writes_parts { writes.parts ≡ A.parts }
+    requires writes_some { 0 < writes.parts }
+    requires traces_name { traces.name ≡ B.name }
+    requires traces_parts { traces.parts ≡ B.parts }
+    requires traces_some { 0 < traces.parts }
 {
     let alloc = rt.alloc();
-    let (policy, mut table) = (policy(alloc)?, table(alloc)?);
-    let mut sink: Counted<Vec<u8>, L> = Counted::new(Vec::new(alloc), writes);
+    let policy = policy(alloc)?;
+    let mut sink: Counted<Vec<u8>, A> = Counted::new(Vec::new(alloc), writes);
+    let mut trace: Counted<Vec<u8>, B> = Counted::new(Vec::new(alloc), traces);
     let from = Connections {
         listener,
         clock: rt,
         patience: Some(Duration::from_millis(PATIENCE)),
+        diagnosis,
     };
-    if serve_connections(alloc, &from, &mut table, &policy, connections, &mut sink).is_err() {
+    let served = serve_connections(
+        alloc,
+        &from,
+        table,
+        &policy,
+        connections,
+        &mut sink,
+        &mut trace,
+    );
+    if served.is_err() {
         return Err(Fail::new("a connection is not served"));
     }
-    Ok(sink.into_inner())
+    Ok(Told {
+        told: sink.into_inner(),
+        trace: trace.into_inner(),
+    })
 }
 
-/// The same, with a ledger of its own.
+/// The same, with ledgers of its own.
+fn served_from<T: ZoneTable, D: Diagnosis<T>>(
+    rt: &HostRuntime,
+    listener: &TcpListener,
+    connections: u64,
+    table: &mut T,
+    diagnosis: &D,
+) -> Result<Told, Fail> {
+    let (writes, traces) = (Blank::new(1), Blank::new(1));
+    served_in::<_, _, Brand, Brand>(rt, listener, connections, table, diagnosis, writes, traces)
+}
+
+/// Serves so many connections from a table that does not fail, and answers what the office told, which is nothing in its trace.
 fn served(rt: &HostRuntime, listener: &TcpListener, connections: u64) -> Result<Vec<u8>, Fail> {
-    served_in::<Brand>(rt, listener, connections, Blank::new(1))
+    let mut table = table(rt.alloc())?;
+    let told = served_from(rt, listener, connections, &mut table, &Undiagnosed)?;
+    if !told.trace.is_empty() {
+        return Err(Fail::new("no request failed"));
+    }
+    Ok(told.told)
 }
 
 /// The callers, each with what it sent.
@@ -176,5 +222,82 @@ fn silent_callers_are_let_go(rt: HostRuntime) -> Result<(), Fail> {
         got.as_slice() == CALLS[0].1.as_bytes(),
         "the next is served"
     );
+    Ok(())
+}
+
+/// A diagnosis that is always the same.
+#[derive(Clone, Copy)]
+struct Always(StoreFault);
+
+impl<T> Diagnosis<T> for Always {
+    ghost use Rattle.std.specs.Prelude.{Some};
+
+    ghost fault = { λ d _. Some d.0 };
+
+    fn store_fault(&self, _table: &T) -> Option<StoreFault> {
+        Some(self.0)
+    }
+}
+
+/// A table whose reads of a part of the names fail.
+fn failing<L: Ledger>(alloc: Global, blank: Blank) -> Result<FailTable<L>, Fail>
+    requires name { blank.name ≡ L.name }
+    requires parts { blank.parts ≡ L.parts }
+    requires some { 0 < blank.parts }
+{
+    let mut calls = Vec::new(alloc);
+    calls.push(TableCall::Subtree)?;
+    Ok(FailTable::new(table(alloc)?, calls, blank))
+}
+
+/// Callers whose stores fail, each with what it sends, why the store fails, and the line of the trace.
+static FAILURES: [(&str, StoreFault, &str); 3] = [
+    (
+        "GET /zones/example.org./records/www.example.org. HTTP/1.1\r\nX-Office-Caller: admin\r\n\r\n",
+        StoreFault::Store(Error::SqliteFailure(ErrorCode::DiskFull)),
+        "zoneoffice: 1 request of a connection was answered SERVFAIL; the last because the disk is full\n",
+    ),
+    (
+        "GET /zones/example.org./records/www.example.org. HTTP/1.1\r\nX-Office-Caller: admin\r\n\r\nGET /zones/example.org./records HTTP/1.1\r\nX-Office-Caller: admin\r\n\r\nGET /zones/example.org./records/www.example.org. HTTP/1.1\r\nX-Office-Caller: admin\r\n\r\n",
+        StoreFault::Store(Error::SqliteFailure(ErrorCode::DatabaseBusy)),
+        "zoneoffice: 2 requests of a connection were answered SERVFAIL; the last because the store is locked by another program\n",
+    ),
+    (
+        "GET /zones/example.org./records HTTP/1.1\r\nX-Office-Caller: admin\r\n\r\n",
+        StoreFault::Store(Error::SqliteFailure(ErrorCode::DiskFull)),
+        "",
+    ),
+];
+
+/// What a caller brings into the trace, over a store that fails for a reason.
+fn traced_in<L: Ledger>(
+    rt: &HostRuntime,
+    text: &str,
+    fault: StoreFault,
+    blank: Blank,
+) -> Result<Vec<u8>, Fail>
+    requires name { blank.name ≡ L.name }
+    requires parts { blank.parts ≡ L.parts }
+    requires some { 0 < blank.parts }
+{
+    let listener = listening(rt)?;
+    let caller = sent(rt, &listener, text)?;
+    let mut table: FailTable<L> = failing(rt.alloc(), blank)?;
+    let told = served_from(rt, &listener, 1, &mut table, &Always(fault))?;
+    drop(caller);
+    Ok(told.trace)
+}
+
+/// The same, with a ledger of its own.
+fn traced(rt: &HostRuntime, text: &str, fault: StoreFault) -> Result<Vec<u8>, Fail> {
+    traced_in::<Brand>(rt, text, fault, Blank::new(1))
+}
+
+#[test]
+fn requests_that_fail_leave_a_trace(rt: HostRuntime) -> Result<(), Fail> {
+    for (text, fault, want) in &FAILURES {
+        let got = traced(&rt, text, *fault)?;
+        assert!(rt; got.as_slice() == want.as_bytes(), "{want}");
+    }
     Ok(())
 }
