@@ -2,7 +2,8 @@
 use Rattle.std.proofs.Common.{◌≡◌, inl, inr, ℕ, Bool, List, [], Option, None, Result, Ok, Err, refl, sym, ap, subst, ◌∙◌}
 use Rattle.sqlite.specs.State.{State as Shown}
 use Rattle.dns_names.specs.Reading.{absolute_name}
-use Rattle.dns_master.specs.ZoneText.{zone_text}
+use Rattle.command_line.specs.declared.job.ZoneForm.{ZoneForm}
+use Rattle.text_commands.specs.Canon.{zone_text_in}
 use Rattle.command_line.specs.declared.job.Existing.{Existing}
 use Rattle.dns_data.specs.declared.record.Record.{Record}
 use Rattle.zone_core.specs.declared.refusals.ZoneFault.{ZoneFault}
@@ -118,19 +119,19 @@ told_at_once view made NoMemory given = refl
 told_at_once view made ReadFailed given = absurd given
 
 -- what a store holds, where records of it were had or not
-pub exported_gives : {C X : Type 0} (shows : C → Shown) (view : X → List Record) (word : List ℕ) (finds : Bool → Type 0) (refuses : StoreFault → Type 0) (connects : C → Type 0)
+pub exported_gives : {C X : Type 0} (form : ZoneForm) (shows : C → Shown) (view : X → List Record) (word : List ℕ) (finds : Bool → Type 0) (refuses : StoreFault → Type 0) (connects : C → Type 0)
     (made : Result (List (List ℕ) × X) LineFault) → IsExported shows view word finds refuses connects made
-    → (held : Result (List Record) Refusal) × FindsRecords held × Gives (λ found. zone_text found.0 (view found.1)) made (export_text word held)
-exported_gives shows view word finds refuses connects (Ok found) is =
-    (Ok (view found.1), tt, given_before (of_names (absolute_name word)) (λ origin. Ok (zone_text origin (view found.1))) found.0 is.0)
-exported_gives {C} {X} shows view word finds refuses connects (Err fault) (inl refused) =
+    → (held : Result (List Record) Refusal) × FindsRecords held × Gives (λ found. zone_text_in form found.0 (view found.1)) made (export_text form word held)
+exported_gives form shows view word finds refuses connects (Ok found) is =
+    (Ok (view found.1), tt, given_before (of_names (absolute_name word)) (λ origin. Ok (zone_text_in form origin (view found.1))) found.0 is.0)
+exported_gives {C} {X} form shows view word finds refuses connects (Err fault) (inl refused) =
     let none : List Record = [] in
-    (Ok none, tt, word_refused (λ (found : List (List ℕ) × X). zone_text found.0 (view found.1)) (λ (name : List (List ℕ)). name) (of_names (absolute_name word)) _ fault refused)
-exported_gives {C} {X} shows view word finds refuses connects (Err fault) (inr is) =
+    (Ok none, tt, word_refused (λ (found : List (List ℕ) × X). zone_text_in form found.0 (view found.1)) (λ (name : List (List ℕ)). name) (of_names (absolute_name word)) _ fault refused)
+exported_gives {C} {X} form shows view word finds refuses connects (Err fault) (inr is) =
     let named = subst IsStoreLine (sym is.2.1) (line_of_store is.2.0) in (
       found_by fault,
       finds_by fault named,
-      found_refused (λ (found : List (List ℕ) × X). zone_text found.0 (view found.1)) (of_names (absolute_name word)) zone_text is.0 fault is.1 named,
+      found_refused (λ (found : List (List ℕ) × X). zone_text_in form found.0 (view found.1)) (of_names (absolute_name word)) (zone_text_in form) is.0 fault is.1 named,
     )
 
 abbrev pub made_by : LineFault → List ℕ → Result (List ℕ) Refusal

@@ -2,7 +2,8 @@
 use Rattle.std.specs.Prelude.{◌≡◌, ◌⊎◌, ℕ, Bool, List, Result, Ok, Err}
 use Rattle.dns_names.specs.Reading.{absolute_name}
 use Rattle.dns_data.specs.declared.record.Record.{Record}
-use Rattle.dns_master.specs.ZoneText.{zone_text}
+use Rattle.command_line.specs.declared.job.ZoneForm.{ZoneForm}
+use Rattle.text_commands.specs.Canon.{zone_text_in}
 use Rattle.text_commands.specs.declared.refusal.Refusal.{Refusal}
 use Rattle.sqlite.specs.State.{State as Shown}
 use Rattle.office_rows.specs.declared.store_fault.StoreFault.{StoreFault}
@@ -15,9 +16,9 @@ abbrev pub FindsRecords : Result (List Record) Refusal → Type 0
 FindsRecords (Ok records) = Unit {0}
 FindsRecords (Err refusal) = IsOfStore refusal
 
--- what is printed: a refusal of the origin, and else the file of what the store holds
-abbrev pub export_text : List ℕ → Result (List Record) Refusal → Result (List ℕ) Refusal
-export_text word held = of_names (absolute_name word) >>= λ origin. held >>= λ records. Ok (zone_text origin records)
+-- what is printed: a refusal of the origin, and else the text of what the store holds, in a form
+abbrev pub export_text : ZoneForm → List ℕ → Result (List Record) Refusal → Result (List ℕ) Refusal
+export_text form word held = of_names (absolute_name word) >>= λ origin. held >>= λ records. Ok (zone_text_in form origin records)
 
 -- What connections show, what a place tells of the path, and the origin with the records that were had: the origin's word is one, and these are the records that
 -- the store of the path holds of it; or the word was refused; or the store refused them.

@@ -6,7 +6,7 @@ use crate::migration::migrate;
 use crate::place::Machine;
 use crate::serving::serve;
 use crate::zones::{export, import};
-use command_line::{Existing, Service, StoredZone};
+use command_line::{Existing, Service, StoredZone, ZoneForm};
 use dns_master::Counted;
 use std::io::{Read, Write};
 use std::marker::Brand;
@@ -59,7 +59,7 @@ pub fn do_import<R: Read + Drop, W: Write + Drop>(
 /// Prints a zone of a store to a writer of std, and hands the writer back.
 fn export_in<W: Write + Drop, B: Ledger, C: Ledger>(
     rt: &HostRuntime,
-    zone: StoredZone<'_>,
+    what: (StoredZone<'_>, ZoneForm),
     writer: W,
     writes: Blank,
     store: Blank,
@@ -72,18 +72,19 @@ fn export_in<W: Write + Drop, B: Ledger, C: Ledger>(
     requires store_some { 0 < store.parts }
 {
     let mut sink: Counted<W, B> = Counted::new(writer, writes);
-    let outcome = export::<_, _, C, _>(rt.alloc(), &Machine(rt), zone, store, &mut sink);
+    let (zone, form) = what;
+    let outcome = export::<_, _, C, _>(rt.alloc(), &Machine(rt), zone, form, store, &mut sink);
     (sink.into_inner(), outcome)
 }
 
 /// Does the job `export`, with a writer of std, and hands it back.
 pub fn do_export<W: Write + Drop>(
     rt: &HostRuntime,
-    zone: StoredZone<'_>,
+    what: (StoredZone<'_>, ZoneForm),
     writer: W,
 ) -> (W, Result<(), JobFault>) {
     let (writes, store) = (Blank::new(1), Blank::new(1));
-    export_in::<_, Brand, Brand>(rt, zone, writer, writes, store)
+    export_in::<_, Brand, Brand>(rt, what, writer, writes, store)
 }
 
 /// Migrates a store, and hands the writer of std back that was told how it went.

@@ -4,7 +4,7 @@ ghost use Rattle.std.specs.Prelude.{◌≡◌, ◌<◌, ℕ, List, Result, None,
 ghost use Rattle.std.specs.Result.{result_map_both};
 ghost use Rattle.sqlite.specs.Held.{state};
 ghost use Rattle.dns_data.specs.declared.record.Record.{Record as RecordOf};
-ghost use Rattle.dns_master.specs.ZoneText.{zone_text};
+ghost use Rattle.text_commands.specs.Canon.{zone_text_in};
 ghost use Rattle.zone_core.specs.Zones.{ZoneOf};
 ghost use Rattle.text_commands.specs.declared.refusal.Refusal.{Refusal as RefusalOf};
 ghost use Rattle.text_commands.specs.declared.line_fault.LineFault.{LineFault as LineFaultOf};
@@ -17,16 +17,18 @@ ghost use Rattle.store_commands.specs.Reports.{IsReported, IsShown};
 
 use crate::place::Place;
 use crate::store_file::{open_or_make_store, open_store};
-use command_line::{Existing, StoredZone};
+use command_line::{Existing, StoredZone, ZoneForm};
 use dns_data::Record;
-use dns_master::{Sink, Source, print_zone};
+use dns_master::{Sink, Source};
 use dns_names::Name;
 use office_store::{SqlTable, StoreFault};
 use sqlite::Alter;
 use std::alloc::{AllocError, Global};
 use std::fmt::{self, Display, Formatter, Write};
 use std::sync::ledger::{Blank, Ledger};
-use text_commands::{JobFault, LineFault, ended, read_name, read_zone, tell, write_text};
+use text_commands::{
+    JobFault, LineFault, ended, print_zone_in, read_name, read_zone, tell, write_text,
+};
 use zone_core::Zone;
 
 /// The line that tells of a zone that it was imported: its origin, its serial, and the number of its records.
@@ -209,25 +211,27 @@ fn exported<S: Alter + Drop, L: Ledger, P: Place<S>>(
     Ok((origin, records))
 }
 
-/// Prints records of an origin as a master file. Where memory runs out, a line tells it behind what went out.
-fn print<W: Sink>(
+/// Prints records of an origin as a master file, in a form. Where memory runs out, a line tells it behind what went out.
+fn print<'a, W: Sink>(
     alloc: Global,
-    origin: &Name,
-    records: &[Record],
+    form: ZoneForm,
+    origin: &'a Name,
+    records: &'a [Record],
     writer: &mut W,
 ) -> Result<(), JobFault>
-    ensures { IsPrinted (W.contents writer.old) (W.contents writer.new) (zone_text origin.now records.now) result (W.failures writer.old) (W.failures writer.new) }
+    ensures { IsPrinted (W.contents writer.old) (W.contents writer.new) (zone_text_in form origin.now records.now) result (W.failures writer.old) (W.failures writer.new) }
 {
-    let printed = print_zone(alloc, origin, records, writer);
+    let printed = print_zone_in(alloc, form, origin, records, writer);
     ended(writer, printed)
 }
 
-/// Prints a zone of the store of a path as `canon` does. Otherwise a line tells the refusal that comes first: of the origin, of
+/// Prints a zone of the store of a path as `canon` does, in a form. Otherwise a line tells the refusal that comes first: of the origin, of
 /// the store, or `NoZone`.
 pub fn export<W: Sink, S: Alter + Drop, L: Ledger, P: Place<S>>(
     alloc: Global,
     place: &P,
     stored: StoredZone<'_>,
+    form: ZoneForm,
     blank: Blank,
     writer: &mut W,
 ) -> Result<(), JobFault>
@@ -235,12 +239,12 @@ pub fn export<W: Sink, S: Alter + Drop, L: Ledger, P: Place<S>>(
     requires parts { blank.parts ≡ L.parts }
     requires some { 0 < blank.parts }
     // A refusal of the origin is told before one of the store; and else what is printed is the file of the records that are held.
-    ensures told { (held : Result (List RecordOf) RefusalOf) × FindsRecords held × Answered None (λ _. export_text stored.entry.origin.now held) (W.contents writer.old) (W.contents writer.new) result 0 0 (W.failures writer.old) (W.failures writer.new) }
+    ensures told { (held : Result (List RecordOf) RefusalOf) × FindsRecords held × Answered None (λ _. export_text form stored.entry.origin.now held) (W.contents writer.old) (W.contents writer.new) result 0 0 (W.failures writer.old) (W.failures writer.new) }
     // They are those that the store of this path holds; and a refusal is that of the place, of what is there, or of the table.
-    ensures held { (made : Result (List (List ℕ) × List RecordOf) LineFaultOf) × IsExported (state S.Store) (λ records. records) stored.entry.origin.now (P.finds place.now stored.entry.store.now) (P.refuses place.now stored.entry.store.now) (P.connects place.now stored.entry.store.now) made × IsShown (result_map_both (λ found. zone_text found.0 found.1) (λ fault. fault) made) (W.contents writer.old) (W.contents writer.new) result (W.failures writer.old) (W.failures writer.new) }
+    ensures held { (made : Result (List (List ℕ) × List RecordOf) LineFaultOf) × IsExported (state S.Store) (λ records. records) stored.entry.origin.now (P.finds place.now stored.entry.store.now) (P.refuses place.now stored.entry.store.now) (P.connects place.now stored.entry.store.now) made × IsShown (result_map_both (λ found. zone_text_in form found.0 found.1) (λ fault. fault) made) (W.contents writer.old) (W.contents writer.new) result (W.failures writer.old) (W.failures writer.new) }
 {
     match exported::<S, L, P>(alloc, place, stored, blank) {
-        Ok((origin, records)) => print(alloc, &origin, &records, writer),
+        Ok((origin, records)) => print(alloc, form, &origin, &records, writer),
         Err(fault) => tell(alloc, writer, fault),
     }
 }

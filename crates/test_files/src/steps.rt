@@ -1,6 +1,6 @@
 //! What is done to a store and a policy in files, one step after the other.
 
-use command_line::{Existing, Service, StoredZone};
+use command_line::{Existing, Service, StoredZone, ZoneForm};
 use sqlite::Connection;
 use std::path::PathBuf;
 use std::test::Fail;
@@ -14,6 +14,8 @@ pub enum Step<'a> {
     Import(Existing, &'a str, &'a str),
     /// `export` of the zone of this origin.
     Export(&'a str),
+    /// `export --relative` of the zone of this origin.
+    Relative(&'a str),
     /// `migrate`.
     Migrate,
     /// `serve` at this address, for no connection.
@@ -78,7 +80,11 @@ impl Files {
             }
             Step::Export(origin) => {
                 let zone = StoredZone { store, origin };
-                Ok(do_export(rt, zone, Vec::new(rt.alloc())).0)
+                Ok(exported(rt, zone, ZoneForm::Whole))
+            }
+            Step::Relative(origin) => {
+                let zone = StoredZone { store, origin };
+                Ok(exported(rt, zone, ZoneForm::Relative))
             }
             Step::Migrate => Ok(do_migrate(rt, store, Vec::new(rt.alloc())).0),
             Step::Serve(listen) => Ok(served(rt, store, self.policy.as_str(), listen)),
@@ -128,6 +134,11 @@ fn remove(rt: &HostRuntime, path: &str) -> Result<(), Fail> {
 fn imported(rt: &HostRuntime, zone: StoredZone<'_>, existing: Existing, file: &str) -> Vec<u8> {
     let streams = (file.as_bytes(), Vec::new(rt.alloc()));
     do_import(rt, (zone, existing), streams).0
+}
+
+/// What `export` prints in a form.
+fn exported(rt: &HostRuntime, zone: StoredZone<'_>, form: ZoneForm) -> Vec<u8> {
+    do_export(rt, (zone, form), Vec::new(rt.alloc())).0
 }
 
 /// What `serve` tells of a service for no connection.

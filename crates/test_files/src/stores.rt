@@ -30,11 +30,21 @@ ns1.example.org. 3600 IN A 192.0.2.1
 www.example.org. 300 IN A 192.0.2.5
 ";
 
+/// That version relative to its origin.
+const NEXT_RELATIVE: &str = "\
+$ORIGIN example.org.
+$TTL 3600
+@ SOA ns1.example.org. admin.example.org. 8 3600 600 86400 60
+@ NS ns1.example.org.
+ns1 A 192.0.2.1
+www 300 A 192.0.2.5
+";
+
 /// What is told where the zone of the examples is imported.
 const IMPORTED: &str = "imported example.org. serial 7 records 4\n";
 
 /// Imports into a store that is not there at first, one after the other, and what is exported then.
-static IMPORTS: [Row; 9] = [
+static IMPORTS: [Row; 10] = [
     (
         Step::Import(Existing::Kept, "example.org", ZONE),
         "refused 5\n",
@@ -71,6 +81,11 @@ static IMPORTS: [Row; 9] = [
         "later",
     ),
     (Step::Export("example.org."), NEXT_EXPORTED, "the later one"),
+    (
+        Step::Relative("example.org."),
+        NEXT_RELATIVE,
+        "relative to its origin",
+    ),
     (Step::Export("example.net."), "refused 72\n", "another zone"),
 ];
 

@@ -92,7 +92,7 @@ fn do_job(rt: &HostRuntime, job: Job<'_>) -> ExitCode {
                 do_import(rt, (zone, existing), (rt.stdin(), rt.stdout())).1,
             )
         }
-        Job::Export { zone } => ended(rt, do_export(rt, zone, rt.stdout()).1),
+        Job::Export { zone, form } => ended(rt, do_export(rt, (zone, form), rt.stdout()).1),
         Job::Migrate { store } => ended(rt, do_migrate(rt, store, rt.stdout()).1),
         Job::Rights { policy, asked } => {
             do_with(rt, asked, PolicyFile::open(rt, policy), rt.stdout()).1

@@ -1,6 +1,6 @@
 use Rattle.std.proofs.Common.{rules, ◌≡◌, ℕ, List, [], None, Ok, Err, Vec, Global, refl}
 use Rattle.dns_data.specs.declared.record.Record.{Record}
-use Rattle.dns_master.specs.ZoneText.{zone_text}
+use Rattle.text_commands.specs.Canon.{zone_text_in}
 use Rattle.text_commands.proofs.JobLemmas.{answered_printed, answered_told}
 use Rattle.store_commands.specs.Export.{export_text}
 use Rattle.store_commands.proofs.StoreLemmas.{told_at_once, exported_gives}
@@ -8,9 +8,9 @@ use Rattle.store_commands.proofs.zones.export.Goals as goal
 
 pub returns-in-Ok-clause-told : goal.returns-in-Ok-clause-told
 returns-in-Ok-clause-told g c =
-    let x = exported_gives _ (λ (records : Vec Record Global). records.items) c.args.stored.origin.now (g.P.Place.finds c.args.place.now c.args.stored.store.now) (g.P.Place.refuses c.args.place.now c.args.stored.store.now) (g.P.Place.connects c.args.place.now c.args.stored.store.now) (Ok (c.in-Ok.origin, c.in-Ok.records)) c.in-Ok.ensures in
+    let x = exported_gives c.args.form _ (λ (records : Vec Record Global). records.items) c.args.stored.origin.now (g.P.Place.finds c.args.place.now c.args.stored.store.now) (g.P.Place.refuses c.args.place.now c.args.stored.store.now) (g.P.Place.connects c.args.place.now c.args.stored.store.now) (Ok (c.in-Ok.origin, c.in-Ok.records)) c.in-Ok.ensures in
     let same : c.deref.result.now ≡ c.in-Ok.records.items = search rules in
-    (x.0, x.1, answered_printed None (λ input. export_text c.args.stored.origin.now x.0) _ _ 0 0 _ _ (zone_text c.in-Ok.origin c.in-Ok.records.items) c.print.result ([], tt, x.2) refl (rw same at c.print.ensures))
+    (x.0, x.1, answered_printed None (λ input. export_text c.args.form c.args.stored.origin.now x.0) _ _ 0 0 _ _ (zone_text_in c.args.form c.in-Ok.origin c.in-Ok.records.items) c.print.result ([], tt, x.2) refl (rw same at c.print.ensures))
 
 pub returns-in-Ok-clause-held : goal.returns-in-Ok-clause-held
 returns-in-Ok-clause-held g c =
@@ -19,8 +19,8 @@ returns-in-Ok-clause-held g c =
 
 pub returns-in-Err-clause-told : goal.returns-in-Err-clause-told
 returns-in-Err-clause-told g c =
-    let x = exported_gives _ (λ (records : Vec Record Global). records.items) c.args.stored.origin.now (g.P.Place.finds c.args.place.now c.args.stored.store.now) (g.P.Place.refuses c.args.place.now c.args.stored.store.now) (g.P.Place.connects c.args.place.now c.args.stored.store.now) (Err c.in-Err.fault) c.in-Err.ensures in
-    let made = export_text c.args.stored.origin.now x.0 in
+    let x = exported_gives c.args.form _ (λ (records : Vec Record Global). records.items) c.args.stored.origin.now (g.P.Place.finds c.args.place.now c.args.stored.store.now) (g.P.Place.refuses c.args.place.now c.args.stored.store.now) (g.P.Place.connects c.args.place.now c.args.stored.store.now) (Err c.in-Err.fault) c.in-Err.ensures in
+    let made = export_text c.args.form c.args.stored.origin.now x.0 in
     let view = λ (l : List ℕ). l in
     (x.0, x.1, answered_told None (λ input. made) _ _ 0 0 _ _ view c.in-Err.fault c.tell.result (told_at_once view made c.in-Err.fault x.2) c.tell.ensures)
 
