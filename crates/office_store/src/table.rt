@@ -34,13 +34,15 @@ use std::sync::ledger::{Blank, Book, Ledger, Share};
 use zone_core::{Change, Zone};
 
 /// Zones with their changes, and receipts, in the tables of a database. It counts the failures of its store by a ledger, and caches
-/// the zone that was read last, which follows the commits, until a call fails or a whole zone is written.
+/// the zone that was read last, which follows the commits, until a call fails or a whole zone is written. It remembers why its last
+/// call of the machine failed that did.
 #[derive(Drop)]
 pub struct SqlTable<S: Alter + Drop, L: Ledger> {
     conn: Connection<S>,
     book: Book<L>,
     share: Share<L>,
     cache: Option<CachedZone>,
+    fault: Option<StoreFault>,
     ghost counts: { 0 < share.parts },
     ghost fits: { FitsCache (state S.Store conn) (cached_in cache) },
 }
@@ -89,6 +91,7 @@ impl<S: Alter + Drop, L: Ledger> SqlTable<S, L> {
             book,
             share,
             cache: None,
+            fault: None,
         }
     }
 
@@ -193,6 +196,13 @@ impl<S: Alter + Drop, L: Ledger> SqlTable<S, L> {
         ensures ended { conn.new.in_transaction ≡ false }
     {
         migrate(alloc, conn)
+    }
+
+    /// Why the last call of the machine failed that did, if one did.
+    pub fn store_fault(&self) -> Option<StoreFault>
+        ensures { result ≡ self.now.fault }
+    {
+        self.fault
     }
 
     /// The connection, without the count of failures.
@@ -318,6 +328,7 @@ impl<S: Alter + Drop, L: Ledger> ZoneTable for SqlTable<S, L> {
             Ok(zone) => Ok(zone),
             Err(fault) => {
                 self.cache = None;
+                self.fault = Some(fault);
                 Err(refused(&mut self.book, &mut self.share, fault))
             }
         }
@@ -333,6 +344,7 @@ impl<S: Alter + Drop, L: Ledger> ZoneTable for SqlTable<S, L> {
             Ok(part) => Ok(part),
             Err(fault) => {
                 self.cache = None;
+                self.fault = Some(fault);
                 Err(refused(&mut self.book, &mut self.share, fault))
             }
         }
@@ -348,6 +360,7 @@ impl<S: Alter + Drop, L: Ledger> ZoneTable for SqlTable<S, L> {
             Ok(records) => Ok(records),
             Err(fault) => {
                 self.cache = None;
+                self.fault = Some(fault);
                 Err(refused(&mut self.book, &mut self.share, fault))
             }
         }
@@ -363,6 +376,7 @@ impl<S: Alter + Drop, L: Ledger> ZoneTable for SqlTable<S, L> {
             Ok(receipt) => Ok(receipt),
             Err(fault) => {
                 self.cache = None;
+                self.fault = Some(fault);
                 Err(refused(&mut self.book, &mut self.share, fault))
             }
         }
@@ -373,6 +387,7 @@ impl<S: Alter + Drop, L: Ledger> ZoneTable for SqlTable<S, L> {
             Ok(changes) => Ok(changes),
             Err(fault) => {
                 self.cache = None;
+                self.fault = Some(fault);
                 Err(refused(&mut self.book, &mut self.share, fault))
             }
         }
@@ -381,7 +396,10 @@ impl<S: Alter + Drop, L: Ledger> ZoneTable for SqlTable<S, L> {
     fn commit(&mut self, alloc: Global, addition: Addition) -> Result<(), TableFault> {
         match commit_cached(alloc, &mut self.conn, &mut self.cache, addition) {
             Ok(()) => Ok(()),
-            Err(fault) => Err(refused(&mut self.book, &mut self.share, fault)),
+            Err(fault) => {
+                self.fault = Some(fault);
+                Err(refused(&mut self.book, &mut self.share, fault))
+            }
         }
     }
 

@@ -5,8 +5,9 @@ ghost use Rattle.office_rows.specs.declared.store_fault.StoreFault.{StoreFault a
 ghost use Rattle.store_commands.specs.Causes.{cause_words, cause_of, of_code, of_store};
 
 use office_core::TableFault;
-use office_store::StoreFault;
-use sqlite::{Error, ErrorCode};
+use office_store::{SqlTable, StoreFault};
+use sqlite::{Alter, Error, ErrorCode};
+use std::sync::ledger::Ledger;
 
 /// Why a request was answered SERVFAIL.
 #[derive(Clone, Copy, Debug, PartialEq, Eq)]
@@ -106,5 +107,17 @@ impl<T> Diagnosis<T> for Undiagnosed {
 
     fn store_fault(&self, _table: &T) -> Option<StoreFault> {
         None
+    }
+}
+
+/// The diagnosis of the table in SQLite: the table remembers it.
+#[derive(Clone, Copy)]
+pub struct Remembered;
+
+impl<S: Alter + Drop, L: Ledger> Diagnosis<SqlTable<S, L>> for Remembered {
+    ghost fault = { λ _ t. t.fault };
+
+    fn store_fault(&self, table: &SqlTable<S, L>) -> Option<StoreFault> {
+        table.store_fault()
     }
 }

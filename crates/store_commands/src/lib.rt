@@ -11,7 +11,7 @@ mod store_file;
 mod trace;
 mod zones;
 
-pub use cause::{Cause, Diagnosis, Undiagnosed};
+pub use cause::{Cause, Diagnosis, Remembered, Undiagnosed};
 pub use migration::migrate;
 pub use place::{Machine, Place};
 pub use serving::{Connections, serve_connections};

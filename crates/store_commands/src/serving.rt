@@ -10,7 +10,7 @@ ghost use Rattle.text_commands.specs.LineFaults.{GivesOf};
 ghost use Rattle.text_commands.specs.Replies.{IsSent};
 ghost use Rattle.store_commands.specs.Serve.{policy_read, connection_line, ended_line, most_of, AreServed, AreTraced, IsTraced, IsSoMany, AreTold};
 
-use crate::cause::{Diagnosis, Undiagnosed};
+use crate::cause::{Diagnosis, Remembered};
 use crate::patience::{PatientStream, patience_of};
 use crate::place::Machine;
 use crate::store_file::open_store;
@@ -255,16 +255,17 @@ fn serve_table<T: ZoneTable, D: Diagnosis<T>, W: Sink, E: Sink>(
 }
 
 /// Serves connections from a table that was opened for it.
-fn serve_opened<T: ZoneTable + Drop, W: Sink, E: Sink>(
+fn serve_opened<T: ZoneTable + Drop, D: Diagnosis<T>, W: Sink, E: Sink>(
     rt: &HostRuntime,
     service: Service<'_>,
     policy: &Policy,
     table: T,
+    diagnosis: &D,
     writer: &mut W,
     trace: &mut E,
 ) -> Result<(), JobFault> {
     let mut table = table;
-    serve_table(rt, service, policy, &mut table, &Undiagnosed, writer, trace)
+    serve_table(rt, service, policy, &mut table, diagnosis, writer, trace)
 }
 
 /// The job `serve`: reads the policy, opens the store, listens, and serves connections one after the other, so many of them as the
@@ -291,7 +292,7 @@ pub fn serve<W: Sink, E: Sink, A: Ledger, B: Ledger>(
         Err(fault) => return tell(rt.alloc(), writer, fault),
     };
     match open_store::<_, B, _>(rt.alloc(), &Machine(rt), service.store, store) {
-        Ok(table) => serve_opened(rt, service, &policy, table, writer, trace),
+        Ok(table) => serve_opened(rt, service, &policy, table, &Remembered, writer, trace),
         Err(fault) => tell(rt.alloc(), writer, LineFault::from(fault)),
     }
 }
