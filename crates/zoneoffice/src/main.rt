@@ -57,23 +57,31 @@ fn do_with<T: Task, R: Read + Drop, W: Write + Drop>(
     (writer, ended(rt, done))
 }
 
-/// The exit status of a check: 0 where it found nothing, and else 1.
-fn check_status(done: Result<Findings, JobFault>) -> ExitCode
+/// The exit status of a check: 0 where it found nothing, and else 1, behind the words that say why it was not done.
+fn check_status(rt: &HostRuntime, done: Result<Findings, JobFault>) -> ExitCode
     ensures { exit_status result ≡ check_status_of done }
 {
     match done {
         Ok(Findings::Absent) => ExitCode::SUCCESS,
-        _ => ExitCode::FAILURE,
+        Ok(Findings::Present) => ExitCode::FAILURE,
+        Err(fault) => {
+            complain(rt, fault);
+            ExitCode::FAILURE
+        }
     }
 }
 
 /// Checks the policy that a reader gives, with a writer, which is handed back.
-fn check_with<R: Read + Drop, W: Write + Drop>(alloc: Global, reader: R, writer: W) -> (W, ExitCode)
+fn check_with<R: Read + Drop, W: Write + Drop>(
+    rt: &HostRuntime,
+    reader: R,
+    writer: W,
+) -> (W, ExitCode)
     // Each rule that never decides is told, and the status is 0 exactly where there is none.
     ensures { EndsCheck (R.remaining reader) (W.contents writer) (W.contents result.0) (exit_status result.1) }
 {
-    let (writer, done) = do_check(alloc, reader, writer);
-    (writer, check_status(done))
+    let (writer, done) = do_check(rt.alloc(), reader, writer);
+    (writer, check_status(rt, done))
 }
 
 /// Does a job.
@@ -98,7 +106,7 @@ fn do_job(rt: &HostRuntime, job: Job<'_>) -> ExitCode {
             do_with(rt, asked, PolicyFile::open(rt, policy), rt.stdout()).1
         }
         Job::CheckPolicy { policy } => {
-            check_with(alloc, PolicyFile::open(rt, policy), rt.stdout()).1
+            check_with(rt, PolicyFile::open(rt, policy), rt.stdout()).1
         }
         Job::Explain { number, form } => {
             let task = Explain { number, form };
