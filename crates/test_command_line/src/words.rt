@@ -1,4 +1,6 @@
-use command_line::{Existing, Job, QuestionWords, Service, TextForm, WordsFault, read_words};
+use command_line::{
+    Existing, Job, QuestionWords, Service, TextForm, WordsFault, ZoneForm, read_words,
+};
 use std::alloc::{AllocError, Global};
 use test_rows::{Answers, Row};
 
@@ -39,7 +41,7 @@ fn push(text: &str, answer: &mut Vec<u8>) -> Result<(), AllocError> {
 fn job_text(alloc: Global, job: &Job<'_>) -> Result<String, AllocError> {
     match job {
         Job::Apply => String::from_str(alloc, "apply"),
-        Job::Canon { origin } => format!(in alloc; "canon ({origin})"),
+        Job::Canon { origin, form } => { format!(in alloc; "canon ({origin}){}", form_text(*form)) }
         Job::Import { zone, existing } => {
             let existing = match existing {
                 Existing::Kept => "kept",
@@ -47,12 +49,22 @@ fn job_text(alloc: Global, job: &Job<'_>) -> Result<String, AllocError> {
             };
             format!(in alloc; "import ({}) ({}) {existing}", zone.store, zone.origin)
         }
-        Job::Export { zone } => format!(in alloc; "export ({}) ({})", zone.store, zone.origin),
+        Job::Export { zone, form } => {
+            let form = form_text(*form);
+            format!(in alloc; "export ({}) ({}){form}", zone.store, zone.origin)
+        }
         Job::Migrate { store } => format!(in alloc; "migrate ({store})"),
         Job::Rights { policy, asked } => question_text(alloc, policy, asked),
         Job::Serve { service } => service_text(alloc, service),
         Job::CheckPolicy { policy } => format!(in alloc; "check policy ({policy})"),
         Job::Explain { number, form } => explain_text(alloc, *number, *form),
+    }
+}
+
+fn form_text(form: ZoneForm) -> &'static str {
+    match form {
+        ZoneForm::Whole => "",
+        ZoneForm::Relative => " relative",
     }
 }
 
