@@ -6,9 +6,7 @@ use crate::office::{POLICY, ZONE, listening};
 use dns_master::{Counted, read_file};
 use dns_names::Name;
 use grant_policy::{Policy, read_policy};
-use office_core::{FailTable, MemTable, TableCall, ZoneTable};
-use office_store::StoreFault;
-use sqlite::{Error, ErrorCode};
+use office_core::{MemTable, ZoneTable};
 use std::alloc::Global;
 use std::io::{Read, Write};
 use std::marker::Brand;
@@ -222,82 +220,5 @@ fn silent_callers_are_let_go(rt: HostRuntime) -> Result<(), Fail> {
         got.as_slice() == CALLS[0].1.as_bytes(),
         "the next is served"
     );
-    Ok(())
-}
-
-/// A diagnosis that is always the same.
-#[derive(Clone, Copy)]
-struct Always(StoreFault);
-
-impl<T> Diagnosis<T> for Always {
-    ghost use Rattle.std.specs.Prelude.{Some};
-
-    ghost fault = { λ d _. Some d.0 };
-
-    fn store_fault(&self, _table: &T) -> Option<StoreFault> {
-        Some(self.0)
-    }
-}
-
-/// A table whose reads of a part of the names fail.
-fn failing<L: Ledger>(alloc: Global, blank: Blank) -> Result<FailTable<L>, Fail>
-    requires name { blank.name ≡ L.name }
-    requires parts { blank.parts ≡ L.parts }
-    requires some { 0 < blank.parts }
-{
-    let mut calls = Vec::new(alloc);
-    calls.push(TableCall::Subtree)?;
-    Ok(FailTable::new(table(alloc)?, calls, blank))
-}
-
-/// Callers whose stores fail, each with what it sends, why the store fails, and the line of the trace.
-static FAILURES: [(&str, StoreFault, &str); 3] = [
-    (
-        "GET /zones/example.org./records/www.example.org. HTTP/1.1\r\nX-Office-Caller: admin\r\n\r\n",
-        StoreFault::Store(Error::SqliteFailure(ErrorCode::DiskFull)),
-        "zoneoffice: 1 request of a connection was answered SERVFAIL; the last because the disk is full\n",
-    ),
-    (
-        "GET /zones/example.org./records/www.example.org. HTTP/1.1\r\nX-Office-Caller: admin\r\n\r\nGET /zones/example.org./records HTTP/1.1\r\nX-Office-Caller: admin\r\n\r\nGET /zones/example.org./records/www.example.org. HTTP/1.1\r\nX-Office-Caller: admin\r\n\r\n",
-        StoreFault::Store(Error::SqliteFailure(ErrorCode::DatabaseBusy)),
-        "zoneoffice: 2 requests of a connection were answered SERVFAIL; the last because the store is locked by another program\n",
-    ),
-    (
-        "GET /zones/example.org./records HTTP/1.1\r\nX-Office-Caller: admin\r\n\r\n",
-        StoreFault::Store(Error::SqliteFailure(ErrorCode::DiskFull)),
-        "",
-    ),
-];
-
-/// What a caller brings into the trace, over a store that fails for a reason.
-fn traced_in<L: Ledger>(
-    rt: &HostRuntime,
-    text: &str,
-    fault: StoreFault,
-    blank: Blank,
-) -> Result<Vec<u8>, Fail>
-    requires name { blank.name ≡ L.name }
-    requires parts { blank.parts ≡ L.parts }
-    requires some { 0 < blank.parts }
-{
-    let listener = listening(rt)?;
-    let caller = sent(rt, &listener, text)?;
-    let mut table: FailTable<L> = failing(rt.alloc(), blank)?;
-    let told = served_from(rt, &listener, 1, &mut table, &Always(fault))?;
-    drop(caller);
-    Ok(told.trace)
-}
-
-/// The same, with a ledger of its own.
-fn traced(rt: &HostRuntime, text: &str, fault: StoreFault) -> Result<Vec<u8>, Fail> {
-    traced_in::<Brand>(rt, text, fault, Blank::new(1))
-}
-
-#[test]
-fn requests_that_fail_leave_a_trace(rt: HostRuntime) -> Result<(), Fail> {
-    for (text, fault, want) in &FAILURES {
-        let got = traced(&rt, text, *fault)?;
-        assert!(rt; got.as_slice() == want.as_bytes(), "{want}");
-    }
     Ok(())
 }
