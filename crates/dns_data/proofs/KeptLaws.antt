@@ -1,17 +1,21 @@
--- The types that are kept are all types: what holds of all kept types holds of each, and each is found by its number and by
--- its name.
-use Rattle.std.proofs.Common.{◌≡◌, ◌↔◌, ℕ, zero, suc, Bool, true, false, cond, List, [], ◌∷◌, Some, refl, sym, ap, subst, ◌∙◌, arith}
-use Rattle.std.specs.Prelude.{◌==◌, bytes_eq}
-use Rattle.std.specs.List.{AllByRecursion, Contains, find, list_all, list_any}
+-- The types that are kept are all types: what holds of all kept types holds of each, and each is found by its number, by its
+-- name and by its place.
+use Rattle.std.proofs.Common.{◌≡◌, ◌↔◌, ◌<◌, ◌+◌, ℕ, zero, suc, Bool, true, false, cond, List, [], ◌∷◌, Some, length, map, get_or, refl, sym, ap, subst, ◌∙◌, arith}
+use Rattle.std.specs.Prelude.{◌==◌, bytes_eq, nat_lt}
+use Rattle.std.specs.List.{AllByRecursion, Contains, find, list_all, list_any, range_with_len}
 use Rattle.std.specs.Str.{str_to_ascii_lowercase}
-use Rattle.std.proofs.lemmas.Bool.{and_parts, or_parts}
+use Rattle.std.proofs.lemmas.Bool.{and_parts, or_parts, ltb-true}
+use Rattle.std.proofs.lemmas.List.{get_or-map}
+use Rattle.std.proofs.lemmas.List.FromFn.{get_or-range_with_len}
 use Rattle.std.proofs.lemmas.List.Elements.{All-from_recursion, All-contains}
 use Rattle.std.proofs.lemmas.List.Folds.{list_any_at}
 use Rattle.std.proofs.lemmas.Slice.Eq.{bytes_eq-Decides}
 use Rattle.dns_data.specs.declared.record_type.RecordType.{RecordType}
 use Rattle.dns_data.specs.declared.record_type.RecordType.TheVariants.{A}
-use Rattle.dns_data.specs.Types.{type_text, type_number, kept_types, type_named, IsCalled}
+use Rattle.dns_data.specs.contracts.record_type.RecordType.{the_type}
+use Rattle.dns_data.specs.Types.{type_text, type_number, kept_types, place_of, type_named, IsCalled}
 use Rattle.dns_data.proofs.WordLemmas.{found_passes}
+use denote.Enum.Declared.{tag_of}
 
 pub same_Some : {T : Type 0} (a b : T) → Some a ≡ Some b → a ≡ b
 same_Some a b e = cc
@@ -71,6 +75,34 @@ none_passes p none = each_type (λ t. p t ≡ false) (failing p kept_types none)
 -- a test that a type passes is one that some kept type passes
 pub some_type : (p : RecordType → Bool) (t : RecordType) → p t ≡ true → list_any p kept_types ≡ true
 some_type p t e = let c = each_kept t in list_any_at p kept_types c.0 t c.1 (ap p c.2 ∙ e)
+
+-- ---- by place
+
+-- a type is the kept one at its place
+pub type_at_place : (t : RecordType) → get_or kept_types (place_of t) A ≡ t
+type_at_place A = refl
+type_at_place t = refl
+
+pub place_is_low : (t : RecordType) → place_of t < length kept_types
+place_is_low t = ltb-true (place_of t) (length kept_types) (each_passes (λ u. nat_lt (place_of u) (length kept_types)) refl t)
+
+-- the kept type at a place has that place
+pub place_of_type : (n : ℕ) → n < length kept_types → place_of (get_or kept_types n A) ≡ n
+place_of_type n low =
+    let places : map place_of kept_types ≡ range_with_len 0 (length kept_types) = refl in
+    let plain : 0 + n ≡ n = omega arith in
+    sym (get_or-map place_of kept_types n A 0 low)
+    ∙ ap (λ (xs : List ℕ). get_or xs n 0) places
+    ∙ get_or-range_with_len 0 (length kept_types) n 0 low
+    ∙ plain
+
+-- no two types have one place
+pub one_place : (t u : RecordType) → place_of t ≡ place_of u → t ≡ u
+one_place t u e = sym (type_at_place t) ∙ ap (λ (n : ℕ). get_or kept_types n A) e ∙ type_at_place u
+
+pub tag_is_place : (t : RecordType) → tag_of the_type t ≡ place_of t
+tag_is_place A = refl
+tag_is_place t = refl
 
 -- ---- the type that a text names
 

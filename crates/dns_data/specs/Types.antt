@@ -1,6 +1,6 @@
 -- The record types that are kept: what each is called, its number, and the fields of its data.
-use Rattle.std.specs.Prelude.{◌≡◌, ℕ, List, [], ◌∷◌, Option, codes}
-use Rattle.std.specs.List.{find}
+use Rattle.std.specs.Prelude.{◌≡◌, ℕ, List, [], ◌∷◌, Option, codes, nat_lt}
+use Rattle.std.specs.List.{count_by, find}
 use Rattle.std.specs.Str.{str_to_ascii_lowercase, str_eq_ignore_ascii_case}
 use Rattle.dns_data.specs.declared.record_type.RecordType.{RecordType}
 use Rattle.dns_data.specs.declared.record_type.RecordType.TheVariants.{A, Ns, Cname, Soa, Ptr, Mx, Txt, Aaaa, Srv, Ds}
@@ -41,6 +41,10 @@ type_text record_type = (row_of record_type).text
 
 abbrev pub type_number : RecordType → ℕ
 type_number record_type = (row_of record_type).number
+
+-- the place of a type among those that are kept: how many of them have a lesser number
+abbrev pub place_of : RecordType → ℕ
+place_of record_type = count_by (λ t. nat_lt (type_number t) (type_number record_type)) kept_types
 
 abbrev pub fields_of : RecordType → Fields
 fields_of record_type = (row_of record_type).fields

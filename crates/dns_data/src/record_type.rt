@@ -1,6 +1,6 @@
 //! The record types that are kept.
 
-ghost use Rattle.std.specs.Prelude.{◌≡◌, ◌↔◌, ◌==◌, Ok, Some, IfErr};
+ghost use Rattle.std.specs.Prelude.{◌≡◌, ◌↔◌, ◌==◌, ◌<◌, length, Ok, Some, IfErr};
 ghost use Rattle.std.specs.List.{find};
 ghost use Rattle.std.specs.Result.{result_ok};
 ghost use Rattle.std.specs.Str.{str_eq_ignore_ascii_case};
@@ -23,7 +23,7 @@ pub enum RecordType {
 }
 
 impl RecordType {
-    ghost use Rattle.dns_data.specs.Types.{type_text, type_number, type_named, IsCalled};
+    ghost use Rattle.dns_data.specs.Types.{type_text, type_number, type_named, kept_types, place_of, IsCalled};
     ghost use Rattle.dns_data.specs.RecordOrder.{rank_of};
 
     /// The types that are kept, by number.
@@ -99,6 +99,14 @@ impl RecordType {
         ensures { result ≡ type_number self }
     {
         self.row().1
+    }
+
+    /// The place of the type in `ALL`, from 0.
+    pub const fn place(self) -> usize
+        ensures value { result ≡ place_of self }
+        ensures below { result < length kept_types }
+    {
+        self as usize
     }
 
     /// The place of the type among the records of one owner: 0 for SOA, and the number for the others.

@@ -13,3 +13,10 @@ pub mod IdLemmas
 pub mod ReadLemmas
 pub mod PolicyLaws
 pub mod DocumentLaws
+pub mod FreeNameLemmas
+pub mod PointLemmas
+pub mod RepresentativeLemmas
+pub mod CallerLemmas
+pub mod TakeLemmas
+pub mod IdleLemmas
+pub mod ClaimLemmas

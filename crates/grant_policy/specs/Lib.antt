@@ -11,3 +11,9 @@ pub mod Found
 pub mod Faults
 pub mod Documents
 pub mod Reading
+pub mod Idle
+pub mod Representatives
+pub mod FreeNames
+pub mod Taking
+pub mod Points
+pub mod Claims

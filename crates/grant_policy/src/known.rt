@@ -1,9 +1,10 @@
 //! Decisions that are known.
 
-ghost use Rattle.std.specs.Prelude.{◌≡◌, ◌<◌, List, Bool, Option, Some, None, length, if◌then◌else◌};
+ghost use Rattle.std.specs.Prelude.{◌≡◌, List, Bool, Option, Some, None, length, if◌then◌else◌};
 ghost use Rattle.dns_data.specs.declared.record_type.RecordType.{RecordType as RecordTypeOf};
+ghost use Rattle.dns_data.specs.Types.{kept_types};
 ghost use Rattle.grant_policy.specs.Rules.{same_type};
-ghost use Rattle.grant_policy.specs.Known.{index_of, known};
+ghost use Rattle.grant_policy.specs.Known.{known};
 
 use dns_data::RecordType;
 use std::marker::Model;
@@ -22,15 +23,7 @@ impl Model for Known {
 
     ghost view = { λ k. k.granted };
 
-    ghost invariant = { λ k. length k.granted ≡ 10 };
-}
-
-/// The place of a type in the order of the types.
-fn index_of(record_type: RecordType) -> usize
-    ensures value { result ≡ index_of record_type }
-    ensures below { result < 10 }
-{
-    record_type as usize
+    ghost invariant = { λ k. length k.granted ≡ length kept_types };
 }
 
 impl Known {
@@ -47,13 +40,13 @@ impl Known {
     pub(crate) fn of(&self, record_type: RecordType) -> Option<bool>
         ensures { result ≡ known self.now record_type }
     {
-        self.granted[index_of(record_type)]
+        self.granted[record_type.place()]
     }
 
     /// Keeps whether a type is granted.
     pub(crate) fn keep(&mut self, record_type: RecordType, granted: bool)
         ensures { (other : RecordTypeOf) → known self.new other ≡ (if same_type other record_type then Some granted else known self.old other) }
     {
-        self.granted[index_of(record_type)] = Some(granted);
+        self.granted[record_type.place()] = Some(granted);
     }
 }

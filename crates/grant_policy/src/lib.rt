@@ -1,27 +1,36 @@
 //! The policy: an ordered list of rules, each of which grants or denies some callers to do something with records at some
-//! names, and the decision by the first rule that matches what is asked.
+//! names, and the decision by the first rule that matches what is asked. And what is true of a policy whatever is asked: which of
+//! its rules never decide. Names are infinitely many, but each is covered by the same rules as one of a short list of names, and
+//! each caller that no rule names is like any other.
 #![tactic(auto)]
 
 mod action;
 mod boundaries;
 mod callers;
+mod claims;
 mod deciding;
 mod decision;
 mod document;
 mod effect;
+mod free_names;
 mod grants;
 mod identifier;
+mod idle;
 mod ids;
 mod index_row;
 mod known;
 mod laws;
 mod look_ups;
+mod points;
 mod policy;
 mod policy_fault;
+mod representatives;
 mod rule;
 mod scope;
 mod selection;
+mod shared_callers;
 mod table;
+mod taking;
 mod word;
 
 pub use action::Action;
@@ -32,6 +41,7 @@ pub use document::read_policy;
 pub use effect::Effect;
 pub use grants::Grants;
 pub use identifier::{Identifier, IdentifierFault};
+pub use idle::{IdleRule, idle_rules};
 pub use laws::{
     a_rule_at_the_end_changes_no_decision_of_a_rule, a_rule_is_named_where_it_decided,
     closing_denies_where_no_rule_matches, each_question_has_one_decision,

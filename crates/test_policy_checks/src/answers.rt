@@ -1,6 +1,5 @@
 use crate::fault::Fault;
-use grant_policy::{Policy, Rule, read_policy};
-use policy_checks::idle_rules;
+use grant_policy::{Policy, Rule, idle_rules, read_policy};
 use std::alloc::{AllocError, Global};
 use test_rows::{Answers, Row};
 

@@ -5,8 +5,7 @@ use dns_names::Name;
 use item_lines::items_text;
 use std::alloc::{AllocError, Global};
 use test_rows::{Answers, Row};
-use zone_core::{Update, Zone, apply};
-use zone_diff::operations_between;
+use zone_core::{Update, Zone, apply, operations_between};
 
 /// Answers to rows, and the zone that the last `from` read.
 #[derive(Drop)]

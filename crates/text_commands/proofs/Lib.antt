@@ -8,3 +8,5 @@ pub mod SendLemmas
 pub mod StepLemmas
 pub mod ExplainLemmas
 pub mod CheckLemmas
+pub mod RefusalNumberLemmas
+pub mod RefusalTableLemmas

@@ -6,8 +6,8 @@ use Rattle.std.specs.Io.KnownBytes.{Appends}
 use Rattle.grant_policy.specs.declared.rule.Rule.{Rule}
 use Rattle.grant_policy.specs.Documents.{document_of}
 use Rattle.grant_policy.specs.Reading.{policy_of}
-use Rattle.policy_checks.specs.declared.idle.IdleRule.{IdleRule}
-use Rattle.policy_checks.specs.Idle.{IsIdle, AreTakers}
+use Rattle.grant_policy.specs.declared.idle.IdleRule.{IdleRule}
+use Rattle.grant_policy.specs.Idle.{IsIdle, AreTakers}
 use Rattle.text_commands.specs.declared.check.Findings.{Findings}
 use Rattle.text_commands.specs.declared.check.Findings.TheVariants.{Absent, Present}
 use Rattle.text_commands.specs.declared.check.Report.{Report}

@@ -2,9 +2,9 @@
 use Rattle.std.specs.Prelude.{ℕ, List, Option, Some, None, Result, Ok}
 use Rattle.command_line.specs.declared.job.TextForm.{TextForm}
 use Rattle.command_line.specs.declared.job.TextForm.TheVariants.{Plain, Json}
-use Rattle.refusal_words.specs.Tables.{RowOf, rows}
-use Rattle.refusal_words.specs.Numbers.{explained}
-use Rattle.refusal_words.specs.Texts.{text_of, json_of}
+use Rattle.text_commands.specs.RefusalTables.{RowOf, rows}
+use Rattle.text_commands.specs.RefusalNumbers.{explained}
+use Rattle.text_commands.specs.RefusalTexts.{text_of, json_of}
 use Rattle.text_commands.specs.declared.refusal.Refusal.{Refusal}
 use Rattle.text_commands.specs.declared.refusal.Refusal.TheVariants.{UnknownNumber}
 use Rattle.text_commands.specs.LineFaults.{◌>>=◌, or_refused}

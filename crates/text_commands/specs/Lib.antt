@@ -9,3 +9,7 @@ pub mod PartViews
 pub mod Rights
 pub mod Explain
 pub mod Check
+pub mod RefusalTables
+pub mod RefusalNumbers
+pub mod RefusalTexts
+pub mod RefusalLaws

@@ -7,8 +7,7 @@ ghost use Rattle.text_commands.specs.Check.{rules_in, rules_read, id_text, idle_
 use crate::device::{read_input, tell, write_text};
 use crate::line_fault::{JobFault, LineFault};
 use dns_master::{Counted, Sink, Source};
-use grant_policy::{Policy, Rule, read_policy};
-use policy_checks::{IdleRule, idle_rules};
+use grant_policy::{IdleRule, Policy, Rule, idle_rules, read_policy};
 use std::alloc::{AllocError, Global};
 use std::io::{Read, Write};
 use std::marker::Brand;

@@ -1,17 +1,19 @@
 //! The number of a refusal, in words.
 
 ghost use Rattle.std.specs.Prelude.{◌≡◌, IfOk, map, option_map, string_bytes};
-ghost use Rattle.refusal_words.specs.Numbers.{row_of};
+ghost use Rattle.text_commands.specs.RefusalNumbers.{row_of};
 ghost use Rattle.text_commands.specs.LineFaults.{Gives};
 ghost use Rattle.text_commands.specs.Explain.{rows_asked, rows_text, explain_made, explain_text};
 
 use crate::device::{tell, write_text};
 use crate::line_fault::{JobFault, LineFault};
 use crate::refusal::Refusal;
+use crate::refusal_number::{all_rows, explained};
+use crate::refusal_row::Row;
+use crate::refusal_text::{json_text, plain_text};
 use crate::task::Task;
 use command_line::TextForm;
 use dns_master::{Sink, Source};
-use refusal_words::{Row, all_rows, explained, json_text, plain_text};
 use std::alloc::{AllocError, Global};
 
 /// The rows of a number that the program prints, and all where none is given.

@@ -3,6 +3,7 @@
 ghost use Rattle.std.specs.Prelude.{◌≡◌, ◌↔◌, List, ℕ, Some};
 ghost use Rattle.text_commands.specs.Canon.{ZonesAreReadAgain};
 ghost use Rattle.text_commands.specs.Parts.{Parts, IsDivided, divided};
+ghost use Rattle.text_commands.specs.RefusalLaws.{RowsAreOfTheirNumber, NumbersAreApart, TextsArePlain};
 
 /// A text is parted at its first line that is a divider, and at no other place.
 pub fn text_is_divided()
@@ -13,4 +14,19 @@ pub fn text_is_divided()
 /// is not too long for a master file.
 pub fn zones_are_read_again()
     ensures { ZonesAreReadAgain }
+{}
+
+/// The rows of a refusal's number are those of its parts.
+pub fn rows_are_of_their_number()
+    ensures { RowsAreOfTheirNumber }
+{}
+
+/// Each number, and each code, has one row.
+pub fn numbers_are_apart()
+    ensures { NumbersAreApart }
+{}
+
+/// No text of the table of refusals needs an escape in JSON.
+pub fn texts_are_plain()
+    ensures { TextsArePlain }
 {}

@@ -1,5 +1,6 @@
-//! The commands that need no store, `canon`, `apply`, `rights`, `check policy` and `explain`: each writes its answer to an input, or one line that
-//! tells why there is none. And what every command shares: its refusals, how they are told, and how inputs are read and texts written.
+//! The commands that need no store, `canon`, `apply`, `rights`, `check policy` and `explain`: each writes its answer to an input, or
+//! one line that says why there is none. And what every command shares: its refusals, the one table of all refusals in words, and
+//! how inputs are read and texts written.
 #![tactic(auto)]
 
 mod apply;
@@ -12,6 +13,10 @@ mod line_fault;
 mod parts;
 mod policy_file;
 mod refusal;
+mod refusal_number;
+mod refusal_row;
+mod refusal_table;
+mod refusal_text;
 mod rights;
 mod task;
 
@@ -20,8 +25,14 @@ pub use canon::{Canon, print_zone_in, read_name, read_zone};
 pub use check::{Findings, do_check};
 pub use device::{ended, read_input, tell, write_text};
 pub use explain::Explain;
-pub use laws::{text_is_divided, zones_are_read_again};
+pub use laws::{
+    numbers_are_apart, rows_are_of_their_number, text_is_divided, texts_are_plain,
+    zones_are_read_again,
+};
 pub use line_fault::{JobFault, LineFault, NO_MEMORY_LINE};
 pub use policy_file::PolicyFile;
 pub use refusal::{Refusal, RefusalLine};
+pub use refusal_number::{all_rows, explained};
+pub use refusal_row::{Kind, Place, Row};
+pub use refusal_text::{json_text, plain_text};
 pub use task::{Task, do_task};

@@ -46,3 +46,8 @@ pub mod OwnLemmas
 pub mod OriginLemmas
 pub mod ListedLemmas
 pub mod VisibilityLemmas
+pub mod DiffListLemmas
+pub mod DiffAddLemmas
+pub mod DiffLeadLemmas
+pub mod DiffSoaLemmas
+pub mod DiffPromiseLemmas

@@ -20,3 +20,5 @@ pub mod Accounts
 pub mod Met
 pub mod Versions
 pub mod Delegations
+pub mod Differences
+pub mod DifferencePromises

@@ -1,10 +1,11 @@
 //! Zones (RFC 1035 section 5.2) and updates of them (RFC 2136): what a zone is, whether the prerequisites of an update hold
-//! in it, and what operations change.
+//! in it, what operations change, and which operations lead from one zone to another.
 #![tactic(auto)]
 
 mod build;
 mod change;
 mod delegation;
+mod difference;
 mod effect;
 mod invariants;
 mod kind;
@@ -15,6 +16,7 @@ mod rcode;
 mod refusals;
 mod report;
 mod rows;
+mod same;
 mod serial;
 mod serial_advance;
 mod sorting;
@@ -24,6 +26,7 @@ mod zone;
 
 pub use change::Change;
 pub use delegation::{ChildServer, DelegationRequest, delegation_update};
+pub use difference::operations_between;
 pub use kind::{OperationKind, PrerequisiteKind};
 pub use laws::{
     changes_are_indistinguishable, changes_make_the_zone_after, equal_sets_are_one,

@@ -4,4 +4,4 @@ use Rattle.grant_policy.proofs.known.Known.keep.Goals as goal
 
 pub returns : goal.returns
 returns c = λ other.
-    rw (← c.self.view_is, c.index_of.ensures.value) (kept_known c.self.inside.granted c.args.record_type other (Some c.args.granted) (omega (arith, c.index_of.ensures.below, c.index_of.ensures.value, c.self.invariant)))
+    rw (← c.self.view_is, c.place.ensures.value) (kept_known c.self.inside.granted c.args.record_type other (Some c.args.granted) (omega (arith, c.place.ensures.below, c.place.ensures.value, c.self.invariant)))

@@ -1,0 +1,6 @@
+use Rattle.grant_policy.proofs.PointLemmas.{AreBits}
+use Rattle.grant_policy.proofs.points.Points.of.Given as goal
+
+-- the pairs of lower numbers
+abbrev pub invariant-loop-number : goal.invariant-loop-number
+invariant-loop-number l = AreBits l.rule l.number l.bits

@@ -1,5 +1,0 @@
-use Rattle.std.proofs.Common.{List, ℕ, [], ◌∷◌, ◌++◌, ap, ◌∙◌}
-use Rattle.policy_checks.proofs.names.add_copy.Goals as goal
-
-pub returns : goal.returns
-returns c = c.in_ok-push.ensures.items ∙ ap (λ (n : List (List ℕ)). c.args.names.now.items ++ n ∷ []) c.in_ok-copy.ensures

@@ -1,6 +1,0 @@
-use Rattle.policy_checks.proofs.PointLemmas.{AreBits}
-use Rattle.policy_checks.proofs.points.Points.of.Given as goal
-
--- the pairs of lower numbers
-abbrev pub invariant-loop-number : goal.invariant-loop-number
-invariant-loop-number l = AreBits l.rule l.number l.bits

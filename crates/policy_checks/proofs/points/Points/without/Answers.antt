@@ -1,5 +1,0 @@
-use Rattle.policy_checks.proofs.PointLemmas.{without_points}
-use Rattle.policy_checks.proofs.points.Points.without.Goals as goal
-
-pub returns : goal.returns
-returns c = without_points c.args.self.bits c.args.other.bits c.args.other.few

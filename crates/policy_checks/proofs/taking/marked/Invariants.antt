@@ -1,7 +1,0 @@
-use Rattle.std.proofs.Common.{◌≡◌, true, false, get_or}
-use Rattle.policy_checks.specs.Rows.{AreBelow}
-use Rattle.policy_checks.proofs.taking.marked.Given as goal
-
--- the places so far that are marked
-abbrev pub invariant-loop-place : goal.invariant-loop-place
-invariant-loop-place l = AreBelow (λ j. get_or l.found j false ≡ true) l.place l.places.items

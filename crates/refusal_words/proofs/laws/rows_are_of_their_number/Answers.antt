@@ -1,5 +1,0 @@
-use Rattle.refusal_words.proofs.TableLemmas.{of_their_number}
-use Rattle.refusal_words.proofs.laws.rows_are_of_their_number.Goals as goal
-
-pub returns : goal.returns
-returns c = of_their_number

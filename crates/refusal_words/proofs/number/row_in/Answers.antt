@@ -1,7 +1,0 @@
-use Rattle.std.proofs.Common.{◌∙◌, ap, option_map}
-use Rattle.refusal_words.specs.Numbers.{row_of}
-use Rattle.refusal_words.proofs.NumberLemmas.{found_row}
-use Rattle.refusal_words.proofs.number.row_in.Goals as goal
-
-pub returns : goal.returns
-returns c = ap (option_map row_of) c.first_in.ensures ∙ found_row c.args.all.now c.args.place c.args.part.now

@@ -1,4 +1,0 @@
-pub mod Tables
-pub mod Numbers
-pub mod Texts
-pub mod Laws

@@ -1,5 +1,0 @@
-pub mod ListLemmas
-pub mod AddLemmas
-pub mod LeadLemmas
-pub mod SoaLemmas
-pub mod PromiseLemmas
