@@ -13,7 +13,9 @@ use Rattle.dns_data.specs.declared.rdata.Data.{Data as Rdata}
 use Rattle.dns_data.specs.declared.record.Record.{Record}
 use Rattle.dns_data.specs.declared.record_type.RecordType.{RecordType}
 use Rattle.dns_data.specs.Rdata.{type_of}
+use Rattle.dns_data.specs.Types.{type_named}
 use Rattle.dns_data.proofs.FieldLaws.{ipv4_only, ipv6_only}
+use Rattle.dns_data.proofs.KeptLaws.{named_called}
 use Rattle.grant_policy.specs.Identifiers.{IsIdentifier}
 use Rattle.grant_policy.specs.Reading.{identifier_of}
 use Rattle.zone_core.specs.declared.kind.PrerequisiteKind.{PrerequisiteKind}
@@ -33,9 +35,8 @@ use Rattle.office_json.specs.Fields.{update_fields, needed_fields, prerequisite_
 use Rattle.office_json.specs.Faults.{◌>>=◌, or_bad, of_names, of_datas, of_updates, of_delegations}
 use Rattle.office_json.specs.Bodies.{json_of, at, has_only, HasOnly, IsText, IsArray, IsArrayOrAbsent, AreItems, IsNameField, IsTypeField, IsTtlField, IsDataField, IsIdField, IsSetBody, IsDatumBody, IsRecordBody, TestsBody, ChangesBody, IsPrerequisiteBody, IsOperationBody, IsUpdateValue, IsUpdateBody, ServerOf, RequestOf, has_colon, SpellsAddress, IsAddressBody, IsServerBody, IsDelegationValue, IsDelegationBody}
 use Rattle.office_json.specs.Delegating.{delegated}
-use Rattle.office_json.specs.Reading.{or_no_json, members_in, known_only, all_there, fields_in, text_in, items_in, items_or_none, id_in, name_in, type_named, type_in, ttl_of, ttl_in, data_of_text, data_in, set_in, datum_in, record_in, test_in, change_in, prerequisite_named, operation_named, word_in, prerequisite_kind_in, operation_kind_in, prerequisite_in, operation_in, each, few, body_with, lists_in, update_in, update_of_body, ipv4_in, ipv6_in, address_of, address_in, server_in, RequestBody, request_in, delegation_of_body}
+use Rattle.office_json.specs.Reading.{or_no_json, members_in, known_only, all_there, fields_in, text_in, items_in, items_or_none, id_in, name_in, type_in, ttl_of, ttl_in, data_of_text, data_in, set_in, datum_in, record_in, test_in, change_in, prerequisite_named, operation_named, word_in, prerequisite_kind_in, operation_kind_in, prerequisite_in, operation_in, each, few, body_with, lists_in, update_in, update_of_body, ipv4_in, ipv6_in, address_of, address_in, server_in, RequestBody, request_in, delegation_of_body}
 use Rattle.office_json.proofs.KindLemmas.{prerequisite_is, operation_is}
-use Rattle.office_json.proofs.TypeLemmas.{type_named_is}
 use Rattle.office_json.proofs.DataLemmas.{said_only}
 use Rattle.office_json.proofs.ListLemmas.{as_many, each_only}
 
@@ -84,7 +85,7 @@ name_only f name d h =
     step (text_in f d) (λ text. of_names (absolute_name text)) h.0 (text_only f h.0 d h.1) ∙ ap of_names (absolute_only name h.0 h.2 h.3)
 
 type_only : (t : RecordType) (d : Data) → IsTypeField t d → type_in d ≡ Ok t
-type_only t d h = step (text_in field.Type d) (λ text. or_bad (type_named text)) h.0 (text_only field.Type h.0 d h.1) ∙ ap or_bad ((type_named_is h.0 t).1 h.2)
+type_only t d h = step (text_in field.Type d) (λ text. or_bad (type_named text)) h.0 (text_only field.Type h.0 d h.1) ∙ ap or_bad ((named_called h.0 t).1 h.2)
 
 ttl_fits : (ttl : ℕ) → ttl ≤ 2147483647 → ttl_of ttl ≡ Some ttl
 ttl_fits ttl h = rw (le-leb ttl 2147483647 h) refl

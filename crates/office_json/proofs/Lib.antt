@@ -7,5 +7,4 @@ pub mod FormLaws
 pub mod KindLemmas
 pub mod ListLemmas
 pub mod ShortLemmas
-pub mod TypeLemmas
 pub mod ValueLemmas

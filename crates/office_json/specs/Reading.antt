@@ -3,7 +3,6 @@
 use Rattle.std.specs.Prelude.{◌≡◌, ℕ, List, [], ◌∷◌, map, Bool, ◌||◌, ◌&&◌, ◌==◌, nat_lt, nat_le, if◌then◌else◌, Option, Some, None, option_and_then, is_some, Result, Ok, Err, bytes_eq}
 use Rattle.std.specs.List.{find, list_all}
 use Rattle.std.specs.Result.{result_ok}
-use Rattle.std.specs.Str.{str_eq_ignore_ascii_case}
 use Rattle.std.specs.declared.net.ip_addr.IpAddr.{IpAddr}
 use Rattle.std.specs.declared.net.ip_addr.IpAddr.TheVariants.{V4, V6}
 use Rattle.serde_json.specs.Data.{Data, Items, no_items, item, Members}
@@ -14,7 +13,7 @@ use Rattle.dns_data.specs.declared.rdata.Data.{Data as Rdata}
 use Rattle.dns_data.specs.declared.record.Record.{Record}
 use Rattle.dns_data.specs.declared.record_type.RecordType.{RecordType}
 use Rattle.dns_data.specs.Items.{ItemText}
-use Rattle.dns_data.specs.Types.{type_text, kept_types}
+use Rattle.dns_data.specs.Types.{type_named}
 use Rattle.dns_data.specs.Reading.{data_of, ipv4_of, ipv6_of}
 use Rattle.dns_master.specs.Tokens.{TokenText, tokens_of}
 use Rattle.grant_policy.specs.Reading.{identifier_of}
@@ -89,11 +88,7 @@ id_in d = text_in field.Id d >>= λ text. or_bad (identifier_of text)
 abbrev pub name_in : Field → Data → Result (List (List ℕ)) BodyFault
 name_in f d = text_in f d >>= λ text. of_names (absolute_name text)
 
--- the kept type that is called so, in either letter case
-abbrev pub type_named : List ℕ → Option RecordType
-type_named text = find (λ t. str_eq_ignore_ascii_case (type_text t) text) kept_types
-
--- a type
+-- a kept type, by its name in either letter case
 abbrev pub type_in : Data → Result RecordType BodyFault
 type_in d = text_in field.Type d >>= λ text. or_bad (type_named text)
 

@@ -6,6 +6,7 @@ use Rattle.dns_names.specs.declared.name_fault.NameFault.{NameFault}
 use Rattle.dns_names.specs.declared.name_fault.NameFault.TheVariants as names
 use Rattle.dns_names.specs.Reading.{absolute_name}
 use Rattle.dns_data.specs.declared.record_type.RecordType.{RecordType}
+use Rattle.dns_data.specs.Types.{type_named}
 use Rattle.grant_policy.specs.declared.action.Action.{Action}
 use Rattle.grant_policy.specs.Words.{action_of}
 use Rattle.grant_policy.specs.Reading.{identifier_of}
@@ -16,7 +17,7 @@ use Rattle.office_json.specs.declared.body.UpdateBody.{UpdateBody}
 use Rattle.office_json.specs.declared.body_fault.BodyFault.{BodyFault}
 use Rattle.office_json.specs.declared.body_fault.BodyFault.TheVariants as bodies
 use Rattle.office_json.specs.Faults.{fault_number}
-use Rattle.office_json.specs.Reading.{type_named, update_of_body, delegation_of_body}
+use Rattle.office_json.specs.Reading.{update_of_body, delegation_of_body}
 use Rattle.office_wire.specs.declared.method.Method.{Method}
 use Rattle.office_wire.specs.declared.refusal.Refusal.{Refusal}
 use Rattle.office_wire.specs.declared.refusal.Refusal.TheVariants.{NoCaller, NoRoute, BadPart}

@@ -1,18 +1,18 @@
 use Rattle.std.proofs.Common.{◌∙◌, sym, ap, List, ℕ, Result}
+use Rattle.std.specs.Result.{result_ok}
+use Rattle.dns_data.specs.Types.{type_named}
 use Rattle.office_json.specs.declared.body_fault.BodyFault.{BodyFault}
 use Rattle.office_json.specs.Faults.{or_bad, ◌>>=◌}
-use Rattle.office_json.specs.Reading.{type_named}
-use Rattle.office_json.proofs.TypeLemmas.{type_found, type_none}
 use Rattle.office_json.proofs.field_values.read_type.Goals as goal
 
 pub returns-in-Ok-clause-exact : goal.returns-in-Ok-clause-exact
 returns-in-Ok-clause-exact c =
     ap (λ (r : Result (List ℕ) BodyFault). r >>= λ text. or_bad (type_named text)) c.in_ok-text.ensures.exact
     ∙ ap (λ (text : List ℕ). or_bad (type_named text)) (sym c.as_bytes.ensures.value)
-    ∙ ap or_bad (type_found c.as_bytes.result.now c.read.result c.in-Ok.record_type c.read.ensures.found c.in-Ok.is)
+    ∙ ap or_bad (sym c.read.ensures.exact ∙ ap result_ok c.in-Ok.is)
 
 pub returns-in-Err-clause-exact : goal.returns-in-Err-clause-exact
 returns-in-Err-clause-exact c =
     ap (λ (r : Result (List ℕ) BodyFault). r >>= λ text. or_bad (type_named text)) c.in_ok-text.ensures.exact
     ∙ ap (λ (text : List ℕ). or_bad (type_named text)) (sym c.as_bytes.ensures.value)
-    ∙ ap or_bad (type_none c.as_bytes.result.now c.read.result c.in-Err.field-0 c.read.ensures.found c.in-Err.is)
+    ∙ ap or_bad (sym c.read.ensures.exact ∙ ap result_ok c.in-Err.is)
