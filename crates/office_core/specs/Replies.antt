@@ -4,6 +4,7 @@ use Rattle.dns_data.specs.declared.record.Record.{Record}
 use Rattle.grant_policy.specs.Decisions.{Verdict, granted, denied}
 use Rattle.zone_core.specs.declared.rcode.Rcode.{Rcode}
 use Rattle.zone_core.specs.declared.rcode.Rcode.TheVariants as codes
+use Rattle.zone_core.specs.Rcodes.{rcode_of}
 use Rattle.zone_core.specs.Delegations.{DelegationOf, report_of}
 use Rattle.office_core.specs.declared.reply.UpdateReply.{UpdateReply}
 use Rattle.office_core.specs.declared.reply.UpdateReply.TheVariants as updates
@@ -20,7 +21,7 @@ update_rcode updates.NoError = codes.NoError
 update_rcode updates.NotAuth = codes.NotAuth
 update_rcode (updates.NotZone place) = codes.NotZone
 update_rcode (updates.Refused place by) = codes.Refused
-update_rcode (updates.Failed failed) = failed.code
+update_rcode (updates.Failed failed) = rcode_of failed.code
 
 -- ---- what the machine replies
 

@@ -80,7 +80,7 @@ impl UpdateReply {
             UpdateReply::NotAuth => Rcode::NotAuth,
             UpdateReply::NotZone(_) => Rcode::NotZone,
             UpdateReply::Refused { .. } => Rcode::Refused,
-            UpdateReply::Failed(failed) => failed.code,
+            UpdateReply::Failed(failed) => failed.code.rcode(),
         }
     }
 

@@ -12,7 +12,7 @@ use Rattle.zone_core.specs.declared.report.Glue.{Glue}
 use Rattle.zone_core.specs.declared.report.Glue.TheVariants.{Outside, Listed, Unlisted}
 use Rattle.zone_core.specs.declared.report.DelegatedServer.{DelegatedServer}
 use Rattle.zone_core.specs.declared.report.Delegation.{Delegation}
-use Rattle.zone_core.specs.Rcodes.{rcode_number, rcode_text}
+use Rattle.zone_core.specs.Rcodes.{rcode_number, rcode_text, rcode_of}
 use Rattle.office_core.specs.declared.reply.UpdateReply.{UpdateReply}
 use Rattle.office_core.specs.declared.reply.UpdateReply.TheVariants as updates
 use Rattle.office_core.specs.declared.reply.Right.{Right}
@@ -89,7 +89,7 @@ update_body updates.NoError = code_body rcodes.NoError
 update_body updates.NotAuth = code_body rcodes.NotAuth
 update_body (updates.NotZone place) = place_body rcodes.NotZone place.item place.list
 update_body (updates.Refused place by) = refused_body (rule_of by) place.item place.list
-update_body (updates.Failed failed) = place_body failed.code failed.item Prerequisites
+update_body (updates.Failed failed) = place_body (rcode_of failed.code) failed.item Prerequisites
 
 -- ---- rights
 

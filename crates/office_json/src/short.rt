@@ -162,7 +162,12 @@ pub(crate) fn push_update_reply(out: &mut Vec<u8>, reply: &UpdateReply) -> Resul
         UpdateReply::NotZone(place) => push_place(out, Rcode::NotZone, place.item, place.list),
         UpdateReply::Refused { place, by } => { push_refused(out, by, place.item, place.list) }
         UpdateReply::Failed(failed) => {
-            push_place(out, failed.code, failed.item, ItemList::Prerequisites)
+            push_place(
+                out,
+                failed.code.rcode(),
+                failed.item,
+                ItemList::Prerequisites,
+            )
         }
     }
 }

@@ -17,17 +17,19 @@ use Rattle.dns_master.specs.Pieces.{ends_item}
 use Rattle.dns_master.proofs.CleanLaws.{runs, Clean, number_clean}
 use Rattle.dns_master.proofs.LineLaws.{CleanLine}
 use Rattle.grant_policy.specs.Identifiers.{IsIdentifier, is_identifier_octet}
+use Rattle.zone_core.specs.declared.prerequisite_code.PrerequisiteCode.{PrerequisiteCode}
+use Rattle.zone_core.specs.declared.prerequisite_code.PrerequisiteCode.TheVariants as prerequisites
 use Rattle.zone_core.specs.declared.rcode.Rcode.{Rcode}
 use Rattle.zone_core.specs.declared.rcode.Rcode.TheVariants as rcodes
 use Rattle.zone_core.specs.declared.update.ItemList.{ItemList}
 use Rattle.zone_core.specs.declared.update.ItemList.TheVariants as lists
 use Rattle.zone_core.specs.declared.update.Place.{Place}
-use Rattle.zone_core.specs.Rcodes.{rcode_text}
+use Rattle.zone_core.specs.Rcodes.{rcode_text, rcode_of}
 use Rattle.office_core.specs.declared.reply.UpdateReply.{UpdateReply}
 use Rattle.office_core.specs.declared.reply.UpdateReply.TheVariants.{NoError, NotAuth, NotZone, Refused, Failed}
 use Rattle.office_rows.specs.declared.row_fault.RowFault.{RowFault}
 use Rattle.office_rows.specs.declared.row_fault.RowFault.TheVariants.{BadRow}
-use Rattle.office_rows.specs.ReplyWords.{list_word, place_items, failed_word, denier_item, reply_items, reply_words, Wording, Current, Former, is_by_default, items_in, words_in, AreWordsOf, IsReply}
+use Rattle.office_rows.specs.ReplyWords.{list_word, place_items, denier_item, reply_items, reply_words, Wording, Current, Former, is_by_default, items_in, words_in, AreWordsOf, IsReply}
 use Rattle.office_rows.specs.RowFaults.{◌>>=◌}
 use Rattle.office_rows.specs.RowReading.{or_bad, identifier_in, code_named, list_named, number_named, reply_with, reply_at, denier_in, denied_by, reply_of, reply_in}
 use Rattle.office_rows.proofs.RowSteps.{done, ok_is}
@@ -68,13 +70,11 @@ number_read n h =
 
 -- ---- replies by their words
 
-abbrev at_item : Option ItemList → Rcode → List ℕ → Result UpdateReply RowFault
-at_item list code item = or_bad (number_named item) >>= λ n. Ok (reply_with code list n)
-
-item_read : (code : Rcode) (list : List ℕ) (n : ℕ) → n < 2 ^ 64 → reply_at (rcode_text code) list (decimal n) ≡ Ok (reply_with code (list_named list) n)
+item_read : (code : Rcode) (list : ItemList) (n : ℕ) → n < 2 ^ 64 → reply_at (rcode_text code) (list_word list) (decimal n) ≡ reply_with code list n
 item_read code list n h =
-    ap (λ o. or_bad o >>= λ c. at_item (list_named list) c (decimal n)) (code_read code)
-    ∙ ap (λ o. or_bad o >>= λ m. done (reply_with code (list_named list) m)) (number_read n h)
+    ap (λ o. or_bad o >>= λ c. or_bad (list_named (list_word list)) >>= λ l. or_bad (number_named (decimal n)) >>= λ m. reply_with c l m) (code_read code)
+    ∙ ap (λ o. or_bad o >>= λ l. or_bad (number_named (decimal n)) >>= λ m. reply_with code l m) (list_read list)
+    ∙ ap (λ o. or_bad o >>= λ m. reply_with code list m) (number_read n h)
 
 -- who denied an item is read
 denier_read : (by : Option (List ℕ)) → IfSome by IsIdentifier → denier_in (denier_item by) ≡ Ok by
@@ -91,38 +91,25 @@ denier_read (Some rule) is = by_word (bytes_eq rule (codes "closing")) refl
 denied_read : (place : Place) (by : Option (List ℕ)) → place.item < 2 ^ 64 → IfSome by IsIdentifier → reply_of (reply_items (Refused place by)) ≡ Ok (Refused place by)
 denied_read place by h is =
     ap (λ r. r >>= λ d. reply_at (rcode_text rcodes.Refused) (list_word place.list) (decimal place.item) >>= λ reply. denied_by reply d) (denier_read by is)
-    ∙ ap (λ r. r >>= λ reply. denied_by reply by) (item_read rcodes.Refused (list_word place.list) place.item h)
-    ∙ ap (λ o. denied_by (reply_with rcodes.Refused o place.item) by) (list_read place.list)
+    ∙ ap (λ r. r >>= λ reply. denied_by reply by) (item_read rcodes.Refused place.list place.item h)
 
-failed_read : (code : Rcode) (n : ℕ) → reply_with code (list_named (failed_word code)) n ≡ Failed (record { code = code; item = n })
-failed_read rcodes.NoError n = refl
-failed_read rcodes.FormErr n = refl
-failed_read rcodes.ServFail n = refl
-failed_read rcodes.NxDomain n = refl
-failed_read rcodes.NotImp n = refl
-failed_read rcodes.Refused n = refl
-failed_read rcodes.YxDomain n = refl
-failed_read rcodes.YxRrset n = refl
-failed_read rcodes.NxRrset n = refl
-failed_read rcodes.NotAuth n = refl
-failed_read rcodes.NotZone n = refl
+failed_read : (code : PrerequisiteCode) (n : ℕ) → reply_with (rcode_of code) lists.Prerequisites n ≡ Ok (Failed (record { code = code; item = n }))
+failed_read prerequisites.NxDomain n = refl
+failed_read prerequisites.YxDomain n = refl
+failed_read prerequisites.YxRrset n = refl
+failed_read prerequisites.NxRrset n = refl
 
 -- the words of a reply say it, in either wording
 words_read : (reply : UpdateReply) → IsReply reply → reply_of (reply_items reply) ≡ Ok reply
 words_read NoError is = refl
 words_read NotAuth is = refl
-words_read (NotZone place) is =
-    item_read rcodes.NotZone (list_word place.list) place.item is
-    ∙ ap (λ o. done (reply_with rcodes.NotZone o place.item)) (list_read place.list)
+words_read (NotZone place) is = item_read rcodes.NotZone place.list place.item is
 words_read (Refused place by) is = denied_read place by is.0 is.1
 words_read (Failed failure) is =
-    item_read failure.code (failed_word failure.code) failure.item is
-    ∙ ap done (failed_read failure.code failure.item)
+    item_read (rcode_of failure.code) lists.Prerequisites failure.item is ∙ failed_read failure.code failure.item
 
 worded_read : (wording : Wording) (reply : UpdateReply) → IsReply reply → reply_of (items_in wording reply) ≡ Ok reply
-worded_read Former (Refused place None) is =
-    item_read rcodes.Refused (list_word place.list) place.item is.0
-    ∙ ap (λ o. done (reply_with rcodes.Refused o place.item)) (list_read place.list)
+worded_read Former (Refused place None) is = item_read rcodes.Refused place.list place.item is.0
 worded_read wording reply is = words_read reply is
 
 -- ---- words are items of a line
@@ -143,19 +130,6 @@ code_clean rcodes.NotZone = refl
 list_clean : (list : ItemList) → Clean (plain (list_word list))
 list_clean lists.Prerequisites = refl
 list_clean lists.Operations = refl
-
-failed_clean : (code : Rcode) → Clean (plain (failed_word code))
-failed_clean rcodes.NoError = refl
-failed_clean rcodes.FormErr = refl
-failed_clean rcodes.ServFail = refl
-failed_clean rcodes.NxDomain = refl
-failed_clean rcodes.NotImp = refl
-failed_clean rcodes.Refused = refl
-failed_clean rcodes.YxDomain = refl
-failed_clean rcodes.YxRrset = refl
-failed_clean rcodes.NxRrset = refl
-failed_clean rcodes.NotAuth = refl
-failed_clean rcodes.NotZone = refl
 
 place_clean : (place : Place) → place.item < 2 ^ 64 → AllByRecursion Clean (place_items place)
 place_clean place h = (list_clean place.list, (number_clean place.item h, tt))
@@ -215,7 +189,7 @@ words_clean (NotZone place) is = record { some = omega arith; clean = (code_clea
 words_clean (Refused place by) is =
     record { some = omega arith; clean = (code_clean rcodes.Refused, (list_clean place.list, (number_clean place.item is.0, (denier_clean by is.1, tt)))) }
 words_clean (Failed failure) is =
-    record { some = omega arith; clean = (code_clean failure.code, (failed_clean failure.code, (number_clean failure.item is, tt))) }
+    record { some = omega arith; clean = (code_clean (rcode_of failure.code), (list_clean lists.Prerequisites, (number_clean failure.item is, tt))) }
 
 worded_clean : (wording : Wording) (reply : UpdateReply) → IsReply reply → CleanLine (items_in wording reply)
 worded_clean Former (Refused place None) is = record { some = omega arith; clean = (code_clean rcodes.Refused, place_clean place is.0) }

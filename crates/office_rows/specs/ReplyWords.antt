@@ -2,12 +2,11 @@
 use Rattle.std.specs.Prelude.{◌≡◌, ℕ, ◌^◌, ◌<◌, List, [], ◌∷◌, ◌++◌, Bool, true, false, if◌then◌else◌, Option, None, Some, IfSome, bytes_eq, decimal, codes}
 use Rattle.dns_data.specs.Items.{ItemText, plain, in_quotes, items_text}
 use Rattle.grant_policy.specs.Identifiers.{IsIdentifier}
-use Rattle.zone_core.specs.declared.rcode.Rcode.{Rcode}
 use Rattle.zone_core.specs.declared.rcode.Rcode.TheVariants as rcodes
 use Rattle.zone_core.specs.declared.update.ItemList.{ItemList}
 use Rattle.zone_core.specs.declared.update.ItemList.TheVariants.{Prerequisites, Operations}
 use Rattle.zone_core.specs.declared.update.Place.{Place}
-use Rattle.zone_core.specs.Rcodes.{rcode_text}
+use Rattle.zone_core.specs.Rcodes.{rcode_text, rcode_of}
 use Rattle.office_core.specs.declared.reply.UpdateReply.{UpdateReply}
 use Rattle.office_core.specs.declared.reply.UpdateReply.TheVariants.{NoError, NotAuth, NotZone, Refused, Failed}
 
@@ -19,13 +18,6 @@ list_word Operations = codes "operations"
 -- an item: its list, and its number from 0 in decimal digits
 abbrev pub place_items : Place → List ItemText
 place_items place = plain (list_word place.list) ∷ plain (decimal place.item) ∷ []
-
--- The list of a prerequisite that failed. With the code of another reply at an item, which no prerequisite has (RFC 2136
--- section 3.2), it has a word that tells the two apart.
-abbrev pub failed_word : Rcode → List ℕ
-failed_word rcodes.NotZone = codes "failed"
-failed_word rcodes.Refused = codes "failed"
-failed_word code = codes "prerequisites"
 
 -- Who denies an item: a rule, by its identifier, or the closing default, by its word. No rule of a policy is called by this word;
 -- such an identifier would be in quotes.
@@ -39,7 +31,7 @@ reply_items NoError = plain (rcode_text rcodes.NoError) ∷ []
 reply_items NotAuth = plain (rcode_text rcodes.NotAuth) ∷ []
 reply_items (NotZone place) = plain (rcode_text rcodes.NotZone) ∷ place_items place
 reply_items (Refused place by) = plain (rcode_text rcodes.Refused) ∷ (place_items place ++ denier_item by ∷ [])
-reply_items (Failed failed) = plain (rcode_text failed.code) ∷ plain (failed_word failed.code) ∷ plain (decimal failed.item) ∷ []
+reply_items (Failed failed) = plain (rcode_text (rcode_of failed.code)) ∷ plain (list_word Prerequisites) ∷ plain (decimal failed.item) ∷ []
 
 -- the words, with one space between them
 abbrev pub reply_words : UpdateReply → List ℕ

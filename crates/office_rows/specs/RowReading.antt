@@ -17,6 +17,7 @@ use Rattle.dns_data.specs.Types.{kept_types, type_number}
 use Rattle.dns_master.specs.declared.master_fault.MasterFault.{MasterFault}
 use Rattle.dns_master.specs.Tokens.{TokenText, tokens_of}
 use Rattle.grant_policy.specs.Identifiers.{is_identifier_octet}
+use Rattle.zone_core.specs.declared.prerequisite_code.PrerequisiteCode.TheVariants as prerequisites
 use Rattle.zone_core.specs.declared.rcode.Rcode.{Rcode}
 use Rattle.zone_core.specs.declared.rcode.Rcode.TheVariants as rcodes
 use Rattle.zone_core.specs.declared.update.ItemList.{ItemList}
@@ -140,15 +141,21 @@ reply_alone rcodes.NoError = Ok NoError
 reply_alone rcodes.NotAuth = Ok NotAuth
 reply_alone code = Err BadRow
 
--- a reply with a code, a list, if a word was one, and the number of an item
-abbrev pub reply_with : Rcode → Option ItemList → ℕ → UpdateReply
-reply_with rcodes.NotZone (Some list) n = NotZone (place_in list n)
-reply_with rcodes.Refused (Some list) n = Refused (place_in list n) None
-reply_with code list n = Failed (failed n code)
+-- A reply with a code, at an item of a list: a name is outside the zone, the item is denied by the closing default, or it is a
+-- prerequisite that does not hold (RFC 2136 sections 2.4 and 3)
+abbrev pub reply_with : Rcode → ItemList → ℕ → Result UpdateReply RowFault
+reply_with rcodes.NotZone list n = Ok (NotZone (place_in list n))
+reply_with rcodes.Refused list n = Ok (Refused (place_in list n) None)
+reply_with rcodes.NxDomain lists.Prerequisites n = Ok (Failed (failed n prerequisites.NxDomain))
+reply_with rcodes.YxDomain lists.Prerequisites n = Ok (Failed (failed n prerequisites.YxDomain))
+reply_with rcodes.YxRrset lists.Prerequisites n = Ok (Failed (failed n prerequisites.YxRrset))
+reply_with rcodes.NxRrset lists.Prerequisites n = Ok (Failed (failed n prerequisites.NxRrset))
+reply_with code list n = Err BadRow
 
 -- a reply of a code, a list and the number of an item
 abbrev pub reply_at : List ℕ → List ℕ → List ℕ → Result UpdateReply RowFault
-reply_at code list item = or_bad (code_named code) >>= λ c. or_bad (number_named item) >>= λ n. Ok (reply_with c (list_named list) n)
+reply_at code list item =
+    or_bad (code_named code) >>= λ c. or_bad (list_named list) >>= λ l. or_bad (number_named item) >>= λ n. reply_with c l n
 
 -- who denied an item: the closing default, by its word, which is not in quotes, or a rule
 abbrev pub denier_in : ItemText → Result (Option (List ℕ)) RowFault

@@ -1,23 +1,21 @@
 //! Replies to updates, as lines of words.
 
 ghost use Rattle.std.specs.Prelude.{◌≡◌, ◌↔◌, ◌<◌, ◌^◌, ◌∷◌, ◌++◌, [], map, true, nat_le, if◌then◌else◌, Some, None, Ok, IfOk, decimal, string_bytes, codes};
-ghost use Rattle.std.specs.List.{list_all};
-ghost use Rattle.std.specs.Char.{is_ascii_digit};
 ghost use Rattle.std.specs.Str.Parse.{digits_value};
 ghost use Rattle.dns_data.specs.Items.{item_of, item_text};
 ghost use Rattle.dns_data.specs.Numbers.{is_number};
 ghost use Rattle.office_core.specs.declared.reply.UpdateReply.{UpdateReply as ReplyOf};
-ghost use Rattle.office_rows.specs.ReplyWords.{list_word, failed_word, denier_item, reply_words, is_by_default, AreWordsOf, IsReply};
+ghost use Rattle.office_rows.specs.ReplyWords.{list_word, denier_item, reply_words, is_by_default, AreWordsOf, IsReply};
 ghost use Rattle.office_rows.specs.RowFaults.{Reads};
 ghost use Rattle.office_rows.specs.RowReading.{code_named, list_named, number_named, reply_alone, reply_with, reply_at, denier_in, denied_by, reply_of, reply_in};
 
 use crate::columns::{fields_of, identifier_in, identifier_text};
 use crate::row_fault::RowFault;
-use dns_data::Item;
+use dns_data::{Item, is_number};
 use grant_policy::Identifier;
 use office_core::UpdateReply;
 use std::alloc::{AllocError, Global};
-use zone_core::{Failed, ItemList, Place, Rcode};
+use zone_core::{Failed, ItemList, Place, PrerequisiteCode, Rcode};
 
 /// The codes that there are (RFC 2136 section 2.2).
 const CODES: [Rcode; 11] = [
@@ -53,17 +51,6 @@ const fn list_word(list: ItemList) -> &'static str
     }
 }
 
-/// The list of a prerequisite that failed with a code. With that of another reply at an item, which no prerequisite has, it is
-/// `failed`, so that the two are told apart.
-const fn failed_word(code: Rcode) -> &'static str
-    ensures { result.now ≡ failed_word code }
-{
-    match code {
-        Rcode::NotZone | Rcode::Refused => "failed",
-        _ => "prerequisites",
-    }
-}
-
 /// A reply in words, with one space between them: the name of its code; then, as far as it has them, the list, the item's number
 /// from 0, and the identifier of the rule that denied it or `closing`. The only error is out of memory.
 pub fn reply_words(alloc: Global, reply: &UpdateReply) -> Result<String, AllocError>
@@ -77,7 +64,9 @@ pub fn reply_words(alloc: Global, reply: &UpdateReply) -> Result<String, AllocEr
             let words = words_at(alloc, code, list_word(place.list), place.item)?;
             with_denier(words, by)
         }
-        UpdateReply::Failed(failed) => words_at(alloc, code, failed_word(failed.code), failed.item),
+        UpdateReply::Failed(failed) => {
+            words_at(alloc, code, list_word(ItemList::Prerequisites), failed.item)
+        }
     }
 }
 
@@ -202,20 +191,6 @@ fn list_named(word: &[u8]) -> Option<ItemList>
         .find(|list| list_word(*list).as_bytes() == word)
 }
 
-/// Whether a word is one decimal digit or more.
-fn is_number(word: &[u8]) -> bool
-    ensures { result ≡ is_number word.now }
-{
-    !word.is_empty() && all_digits(word)
-}
-
-/// Whether a word has nothing but decimal digits.
-fn all_digits(word: &[u8]) -> bool
-    ensures { result ≡ list_all is_ascii_digit word.now }
-{
-    word.iter().all(|octet| octet.is_ascii_digit())
-}
-
 /// The number that decimal digits write, unless it is above `most`.
 fn digits_up_to(digits: &[u8], most: usize) -> Option<usize>
     requires { is_number digits.now ≡ true }
@@ -251,18 +226,25 @@ fn reply_alone(code: Rcode) -> Result<UpdateReply, RowFault>
     }
 }
 
-/// The reply of a code, a list, if the word was one, and the number of an item.
-fn reply_with(code: Rcode, list: Option<ItemList>, item: usize) -> UpdateReply
+/// The reply of a code at an item of a list.
+fn reply_with(code: Rcode, list: ItemList, item: usize) -> Result<UpdateReply, RowFault>
     ensures { result ≡ reply_with code list item }
 {
-    match (code, list) {
-        (Rcode::NotZone, Some(list)) => UpdateReply::NotZone(Place { list, item }),
-        (Rcode::Refused, Some(list)) => UpdateReply::Refused {
-            place: Place { list, item },
-            by: None,
-        },
-        _ => UpdateReply::Failed(Failed { code, item }),
-    }
+    let code = match (code, list) {
+        (Rcode::NotZone, list) => return Ok(UpdateReply::NotZone(Place { list, item })),
+        (Rcode::Refused, list) => {
+            return Ok(UpdateReply::Refused {
+                place: Place { list, item },
+                by: None,
+            });
+        }
+        (Rcode::NxDomain, ItemList::Prerequisites) => PrerequisiteCode::NxDomain,
+        (Rcode::YxDomain, ItemList::Prerequisites) => PrerequisiteCode::YxDomain,
+        (Rcode::YxRrset, ItemList::Prerequisites) => PrerequisiteCode::YxRrset,
+        (Rcode::NxRrset, ItemList::Prerequisites) => PrerequisiteCode::NxRrset,
+        _ => return Err(RowFault::BadRow),
+    };
+    Ok(UpdateReply::Failed(Failed { code, item }))
 }
 
 /// The reply of a code, a list and the number of an item.
@@ -270,8 +252,9 @@ fn reply_at(code: &[u8], list: &[u8], item: &[u8]) -> Result<UpdateReply, RowFau
     ensures { result ≡ reply_at code.now list.now item.now }
 {
     let code = code_named(code).ok_or(RowFault::BadRow)?;
+    let list = list_named(list).ok_or(RowFault::BadRow)?;
     let item = number_named(item).ok_or(RowFault::BadRow)?;
-    Ok(reply_with(code, list_named(list), item))
+    reply_with(code, list, item)
 }
 
 /// Who denied an item: the closing default, by its word, which is not in quotes, or a rule.

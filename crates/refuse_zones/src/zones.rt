@@ -19,8 +19,8 @@ use dns_data::{Record, RecordType, data_order, same_record};
 use dns_names::Name;
 use std::alloc::{AllocError, Global};
 use zone_core::{
-    DelegationFault, DelegationRequest, Failed, Operation, Outcome, Prerequisite, Rcode, Update,
-    Zone, ZoneFault,
+    DelegationFault, DelegationRequest, Failed, Operation, Outcome, Prerequisite, PrerequisiteCode,
+    Update, Zone, ZoneFault,
 };
 
 /// `Zone::build`.

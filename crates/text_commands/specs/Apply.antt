@@ -8,6 +8,7 @@ use Rattle.zone_core.specs.declared.refusals.ZoneFault.TheVariants.{NoSoa}
 use Rattle.zone_core.specs.declared.rcode.Rcode.TheVariants.{NotZone}
 use Rattle.zone_core.specs.declared.update.Place.{Place}
 use Rattle.zone_core.specs.declared.verdict.Failed.{Failed}
+use Rattle.zone_core.specs.Rcodes.{rcode_of}
 use Rattle.zone_core.specs.Sets.{listing}
 use Rattle.zone_core.specs.Zones.{ZoneOf, built, soa_in}
 use Rattle.zone_core.specs.Updates.{UpdateOf, first_outside}
@@ -66,7 +67,7 @@ not_zone place = Unmet NotZone place.item
 
 -- a prerequisite that does not hold (RFC 2136 section 3.2)
 abbrev pub not_met : Failed → Refusal
-not_met failed = Unmet failed.code failed.item
+not_met failed = Unmet (rcode_of failed.code) failed.item
 
 -- the first item that refuses an update of a zone: names outside before prerequisites
 abbrev pub first_unmet : ZoneOf → UpdateOf → Option Refusal

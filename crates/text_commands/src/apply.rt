@@ -114,7 +114,7 @@ fn first_unmet(zone: &Zone, update: &Update) -> Option<Refusal>
     match holds(zone, update) {
         Ok(()) => None,
         Err(failed) => Some(Refusal::Unmet {
-            code: failed.code,
+            code: failed.code.rcode(),
             item: failed.item,
         }),
     }

@@ -12,8 +12,8 @@ use Rattle.dns_data.specs.declared.rdata.Data.{Data}
 use Rattle.dns_data.specs.Rdata.{type_of, IsRdata}
 use Rattle.dns_data.specs.RecordOrder.{data_order}
 use Rattle.dns_data.proofs.RecordOrderLemmas.{one_rank, data_answers}
-use Rattle.zone_core.specs.declared.rcode.Rcode.{Rcode}
-use Rattle.zone_core.specs.declared.rcode.Rcode.TheVariants.{NxDomain, YxDomain, NxRrset, YxRrset}
+use Rattle.zone_core.specs.declared.prerequisite_code.PrerequisiteCode.{PrerequisiteCode}
+use Rattle.zone_core.specs.declared.prerequisite_code.PrerequisiteCode.TheVariants.{NxDomain, YxDomain, NxRrset, YxRrset}
 use Rattle.zone_core.specs.declared.verdict.Failed.{Failed}
 use Rattle.zone_core.specs.declared.update.Prerequisite.{Prerequisite}
 use Rattle.zone_core.specs.declared.update.Prerequisite.TheVariants.{RrsetExists, RrsetEquals, RrsetAbsent, NameUsed, NameUnused}
@@ -145,12 +145,12 @@ same_is a b is also =
 -- ---- the first that fails
 
 -- no item has a code exactly where each has none
-module _ (code : Prerequisite → Option Rcode) where
+module _ (code : Prerequisite → Option PrerequisiteCode) where
   pub each_none : (i : ℕ) (ps : List Prerequisite) → first_failed code i ps ≡ None → AllByRecursion (λ p. code p ≡ None) ps
   each_none i [] e = tt
   each_none i (p ∷ ps) e = by_code (each_none (suc i) ps) (code p) refl e
     where
-      by_code : (first_failed code (suc i) ps ≡ None → AllByRecursion (λ q. code q ≡ None) ps) → (o : Option Rcode) → code p ≡ o → option_or (option_map (failed i) o) (first_failed code (suc i) ps) ≡ None
+      by_code : (first_failed code (suc i) ps ≡ None → AllByRecursion (λ q. code q ≡ None) ps) → (o : Option PrerequisiteCode) → code p ≡ o → option_or (option_map (failed i) o) (first_failed code (suc i) ps) ≡ None
           → (code p ≡ None) × AllByRecursion (λ q. code q ≡ None) ps
       by_code more None is f = (is, more f)
       by_code more (Some c) is f = absurd cc
@@ -170,11 +170,11 @@ all_both P Q R f (x ∷ xs) all also = (f x all.0 also.0, all_both P Q R f xs al
 -- ---- what each asks
 
 -- a choice that has no code
-chosen_first : (b : Bool) (c : Rcode) → (if b then None else Some c) ≡ None → b ≡ true
+chosen_first : (b : Bool) (c : PrerequisiteCode) → (if b then None else Some c) ≡ None → b ≡ true
 chosen_first true c e = refl
 chosen_first false c e = absurd cc
 
-chosen_second : (b : Bool) (c : Rcode) → (if b then Some c else None) ≡ None → b ≡ false
+chosen_second : (b : Bool) (c : PrerequisiteCode) → (if b then Some c else None) ≡ None → b ≡ false
 chosen_second true c e = absurd cc
 chosen_second false c e = refl
 

@@ -8,8 +8,8 @@ use Rattle.dns_names.specs.Order.{same_name}
 use Rattle.dns_data.specs.declared.record.Record.{Record}
 use Rattle.dns_data.specs.declared.record_type.RecordType.{RecordType}
 use Rattle.dns_data.specs.Rdata.{type_of}
-use Rattle.zone_core.specs.declared.rcode.Rcode.{Rcode}
-use Rattle.zone_core.specs.declared.rcode.Rcode.TheVariants.{NxDomain, YxDomain, NxRrset, YxRrset}
+use Rattle.zone_core.specs.declared.prerequisite_code.PrerequisiteCode.{PrerequisiteCode}
+use Rattle.zone_core.specs.declared.prerequisite_code.PrerequisiteCode.TheVariants.{NxDomain, YxDomain, NxRrset, YxRrset}
 use Rattle.zone_core.specs.declared.update.Prerequisite.{Prerequisite}
 use Rattle.zone_core.specs.declared.update.Prerequisite.TheVariants.{RrsetExists, RrsetEquals, RrsetAbsent, NameUsed, NameUnused}
 use Rattle.zone_core.specs.declared.update.Operation.{Operation}
@@ -54,7 +54,7 @@ module _ (a b : Records) where
   set_fails_alike all (NameUsed name) same = refl
   set_fails_alike all (NameUnused name) same = refl
 
-  first_alike : (code other : Prerequisite → Option Rcode) (i : ℕ) (ps : List Prerequisite) → AllByRecursion (λ p. code p ≡ other p) ps → first_failed code i ps ≡ first_failed other i ps
+  first_alike : (code other : Prerequisite → Option PrerequisiteCode) (i : ℕ) (ps : List Prerequisite) → AllByRecursion (λ p. code p ≡ other p) ps → first_failed code i ps ≡ first_failed other i ps
   first_alike code other i [] all = refl
   first_alike code other i (p ∷ ps) all = λ j. option_or (option_map (failed i) (all.0 j)) (first_alike code other (suc i) ps all.1 j)
 

@@ -5,8 +5,8 @@ use Rattle.std.specs.List.{AllByRecursion, flat_map}
 use Rattle.std.specs.Option.{option_or, option_map}
 use Rattle.dns_data.specs.declared.record.Record.{Record}
 use Rattle.dns_data.specs.Rdata.{type_of}
-use Rattle.zone_core.specs.declared.rcode.Rcode.{Rcode}
-use Rattle.zone_core.specs.declared.rcode.Rcode.TheVariants.{NxDomain, YxDomain, NxRrset, YxRrset}
+use Rattle.zone_core.specs.declared.prerequisite_code.PrerequisiteCode.{PrerequisiteCode}
+use Rattle.zone_core.specs.declared.prerequisite_code.PrerequisiteCode.TheVariants.{NxDomain, YxDomain, NxRrset, YxRrset}
 use Rattle.zone_core.specs.declared.verdict.Failed.{Failed}
 use Rattle.zone_core.specs.declared.update.Prerequisite.{Prerequisite}
 use Rattle.zone_core.specs.declared.update.Prerequisite.TheVariants.{RrsetExists, RrsetEquals, RrsetAbsent, NameUsed, NameUnused}
@@ -23,12 +23,12 @@ at_each P [] i x all at = absurd cc
 at_each P (y ∷ ys) zero x all at = let same : y ≡ x = cc in subst P same all.0
 at_each P (y ∷ ys) (suc i) x all at = at_each P ys i x all.1 at
 
-some_code : (o : Option Rcode) (c : Rcode) → o ≡ Some c → o ≡ None → ⊥
+some_code : (o : Option PrerequisiteCode) (c : PrerequisiteCode) → o ≡ Some c → o ≡ None → ⊥
 some_code o c e f = let both : Some c ≡ None = sym e ∙ f in cc
 
 -- ---- the first that has a code
 
-module _ (code : Prerequisite → Option Rcode) where
+module _ (code : Prerequisite → Option PrerequisiteCode) where
   -- an item of a list has the code that is told, and none before it has one
   record IsFirst (i : ℕ) (ps : List Prerequisite) (f : Failed) : Type 0 where
     number : ℕ
@@ -47,7 +47,7 @@ module _ (code : Prerequisite → Option Rcode) where
       later is n before zero q at less = let same : p ≡ q = cc in subst (λ x. code x ≡ None) same is
       later is n before (suc j) q at less = before j q at (omega (arith, less))
 
-      by_code : (o : Option Rcode) → code p ≡ o → option_or (option_map (failed i) o) (first_failed code (suc i) ps) ≡ Some f
+      by_code : (o : Option PrerequisiteCode) → code p ≡ o → option_or (option_map (failed i) o) (first_failed code (suc i) ps) ≡ Some f
           → (first_failed code (suc i) ps ≡ Some f → IsFirst (suc i) ps f) → IsFirst i (p ∷ ps) f
       by_code (Some c) is g rest =
           let same : failed i c ≡ f = cc in
@@ -84,11 +84,11 @@ module _ (code : Prerequisite → Option Rcode) where
 
 -- ---- the kinds of tests
 
-first_code : (b : Bool) (c d : Rcode) → (if b then None else Some c) ≡ Some d → d ≡ c
+first_code : (b : Bool) (c d : PrerequisiteCode) → (if b then None else Some c) ≡ Some d → d ≡ c
 first_code true c d e = absurd cc
 first_code false c d e = cc
 
-second_code : (b : Bool) (c d : Rcode) → (if b then Some c else None) ≡ Some d → d ≡ c
+second_code : (b : Bool) (c d : PrerequisiteCode) → (if b then Some c else None) ≡ Some d → d ≡ c
 second_code true c d e = cc
 second_code false c d e = absurd cc
 
@@ -114,14 +114,14 @@ module _ (set : Records) (all : List Prerequisite) where
   whole (NameUsed name) is = absurd is
   whole (NameUnused name) is = absurd is
 
-  itself_code : (p : Prerequisite) (c : Rcode) → fails set p ≡ Some c → (¬ IsOfWholeSet p) × (c ≡ unmet_code p)
+  itself_code : (p : Prerequisite) (c : PrerequisiteCode) → fails set p ≡ Some c → (¬ IsOfWholeSet p) × (c ≡ unmet_code p)
   itself_code (RrsetExists name t) c e = (λ w. w, first_code (has set (at name t)) NxRrset c e)
   itself_code (RrsetEquals name rdata) c e = absurd cc
   itself_code (RrsetAbsent name t) c e = (λ w. w, second_code (has set (at name t)) YxRrset c e)
   itself_code (NameUsed name) c e = (λ w. w, first_code (has set (at_name name)) NxDomain c e)
   itself_code (NameUnused name) c e = (λ w. w, second_code (has set (at_name name)) YxDomain c e)
 
-  whole_code : (p : Prerequisite) (c : Rcode) → set_fails set all p ≡ Some c → IsOfWholeSet p × (c ≡ unmet_code p)
+  whole_code : (p : Prerequisite) (c : PrerequisiteCode) → set_fails set all p ≡ Some c → IsOfWholeSet p × (c ≡ unmet_code p)
   whole_code (RrsetExists name t) c e = absurd cc
   whole_code (RrsetEquals name rdata) c e = (tt, first_code (are_data (part set (at name (type_of rdata))) (flat_map (given_for name (type_of rdata)) all)) NxRrset c e)
   whole_code (RrsetAbsent name t) c e = absurd cc
@@ -194,13 +194,13 @@ module _ (rows : List Record) (order : InOrder rows) (kept : AreKept (set_of row
     | inr alone ↦ ap (λ o. option_or o sets) (test_found alone)
   ])
     where
-      test_code : ¬ IsOfWholeSet u.prerequisite → (o : Option Rcode) → fails set u.prerequisite ≡ o → fails set u.prerequisite ≡ Some f.code
+      test_code : ¬ IsOfWholeSet u.prerequisite → (o : Option PrerequisiteCode) → fails set u.prerequisite ≡ o → fails set u.prerequisite ≡ Some f.code
       test_code alone None e = absurd (u.unmet (met u.prerequisite e (by_itself set all u.prerequisite alone)))
-      test_code alone (Some c) e = e ∙ ap (λ (d : Rcode). Some d) ((itself_code set all u.prerequisite c e).1 ∙ sym u.code)
+      test_code alone (Some c) e = e ∙ ap (λ (d : PrerequisiteCode). Some d) ((itself_code set all u.prerequisite c e).1 ∙ sym u.code)
 
-      set_code : IsOfWholeSet u.prerequisite → (o : Option Rcode) → set_fails set all u.prerequisite ≡ o → set_fails set all u.prerequisite ≡ Some f.code
+      set_code : IsOfWholeSet u.prerequisite → (o : Option PrerequisiteCode) → set_fails set all u.prerequisite ≡ o → set_fails set all u.prerequisite ≡ Some f.code
       set_code given None e = absurd (u.unmet (met u.prerequisite (whole set all u.prerequisite given) e))
-      set_code given (Some c) e = e ∙ ap (λ (d : Rcode). Some d) ((whole_code set all u.prerequisite c e).1 ∙ sym u.code)
+      set_code given (Some c) e = e ∙ ap (λ (d : PrerequisiteCode). Some d) ((whole_code set all u.prerequisite c e).1 ∙ sym u.code)
 
       test_found : ¬ IsOfWholeSet u.prerequisite → tests ≡ Some f
       test_found alone =

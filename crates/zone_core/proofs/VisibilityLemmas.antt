@@ -10,8 +10,8 @@ use Rattle.dns_data.specs.declared.record_type.RecordType.{RecordType}
 use Rattle.dns_data.specs.declared.record_type.RecordType.TheVariants as types
 use Rattle.dns_data.specs.Rdata.{type_of}
 use Rattle.dns_data.proofs.RecordOrderLemmas.{one_rank}
-use Rattle.zone_core.specs.declared.rcode.Rcode.{Rcode}
-use Rattle.zone_core.specs.declared.rcode.Rcode.TheVariants.{NxDomain, YxDomain, NxRrset, YxRrset}
+use Rattle.zone_core.specs.declared.prerequisite_code.PrerequisiteCode.{PrerequisiteCode}
+use Rattle.zone_core.specs.declared.prerequisite_code.PrerequisiteCode.TheVariants.{NxDomain, YxDomain, NxRrset, YxRrset}
 use Rattle.zone_core.specs.declared.update.Prerequisite.{Prerequisite}
 use Rattle.zone_core.specs.declared.update.Prerequisite.TheVariants.{RrsetExists, RrsetEquals, RrsetAbsent, NameUsed, NameUnused}
 use Rattle.zone_core.specs.declared.update.Operation.{Operation}
@@ -100,7 +100,7 @@ module _ (Seen : List (List ℕ) → Type 0) (origin : List (List ℕ)) (a b : R
   set_fails_alike all (NameUsed name) tests = refl
   set_fails_alike all (NameUnused name) tests = refl
 
-  first_alike : (code other : Prerequisite → Option Rcode) → ((p : Prerequisite) → TestsSeen Seen origin p → code p ≡ other p) → (i : ℕ) (ps : List Prerequisite) → AllByRecursion (TestsSeen Seen origin) ps → first_failed code i ps ≡ first_failed other i ps
+  first_alike : (code other : Prerequisite → Option PrerequisiteCode) → ((p : Prerequisite) → TestsSeen Seen origin p → code p ≡ other p) → (i : ℕ) (ps : List Prerequisite) → AllByRecursion (TestsSeen Seen origin) ps → first_failed code i ps ≡ first_failed other i ps
   first_alike code other same i [] all = refl
   first_alike code other same i (p ∷ ps) all = λ j. option_or (option_map (failed i) (same p all.0 j)) (first_alike code other same (suc i) ps all.1 j)
 

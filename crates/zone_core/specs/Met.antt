@@ -4,8 +4,8 @@ use Rattle.std.specs.List.{AllByRecursion, Contains}
 use Rattle.dns_data.specs.declared.record.Record.{Record}
 use Rattle.dns_data.specs.declared.rdata.Data.{Data}
 use Rattle.dns_data.specs.Rdata.{type_of}
-use Rattle.zone_core.specs.declared.rcode.Rcode.{Rcode}
-use Rattle.zone_core.specs.declared.rcode.Rcode.TheVariants.{NxDomain, YxDomain, NxRrset, YxRrset}
+use Rattle.zone_core.specs.declared.prerequisite_code.PrerequisiteCode.{PrerequisiteCode}
+use Rattle.zone_core.specs.declared.prerequisite_code.PrerequisiteCode.TheVariants.{NxDomain, YxDomain, NxRrset, YxRrset}
 use Rattle.zone_core.specs.declared.update.Prerequisite.{Prerequisite}
 use Rattle.zone_core.specs.declared.update.Prerequisite.TheVariants.{RrsetExists, RrsetEquals, RrsetAbsent, NameUsed, NameUnused}
 use Rattle.zone_core.specs.declared.verdict.Failed.{Failed}
@@ -46,7 +46,7 @@ abbrev pub IsTestedBefore : Prerequisite → ℕ → Prerequisite → ℕ → Ty
 IsTestedBefore p i q j = (¬ IsOfWholeSet p × IsOfWholeSet q) ⊎ ((IsOfWholeSet p ↔ IsOfWholeSet q) × (i < j))
 
 -- the code of a prerequisite that is not met (RFC 2136 sections 2.4.1 to 2.4.5)
-abbrev pub unmet_code : Prerequisite → Rcode
+abbrev pub unmet_code : Prerequisite → PrerequisiteCode
 unmet_code (RrsetExists name record_type) = NxRrset
 unmet_code (RrsetEquals name rdata) = NxRrset
 unmet_code (RrsetAbsent name record_type) = YxRrset

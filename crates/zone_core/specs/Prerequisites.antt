@@ -8,15 +8,15 @@ use Rattle.dns_data.specs.declared.rdata.Data.{Data}
 use Rattle.dns_data.specs.declared.record_type.RecordType.{RecordType}
 use Rattle.dns_data.specs.Rdata.{type_of}
 use Rattle.dns_data.specs.RecordOrder.{data_order}
-use Rattle.zone_core.specs.declared.rcode.Rcode.{Rcode}
-use Rattle.zone_core.specs.declared.rcode.Rcode.TheVariants.{NxDomain, YxDomain, NxRrset, YxRrset}
+use Rattle.zone_core.specs.declared.prerequisite_code.PrerequisiteCode.{PrerequisiteCode}
+use Rattle.zone_core.specs.declared.prerequisite_code.PrerequisiteCode.TheVariants.{NxDomain, YxDomain, NxRrset, YxRrset}
 use Rattle.zone_core.specs.declared.update.Prerequisite.{Prerequisite}
 use Rattle.zone_core.specs.declared.update.Prerequisite.TheVariants.{RrsetExists, RrsetEquals, RrsetAbsent, NameUsed, NameUnused}
 use Rattle.zone_core.specs.declared.verdict.Failed.{Failed}
 use Rattle.zone_core.specs.Sets.{Records, rank_of, listing, part, has, at_name, at}
 
 -- the code with which a test by itself fails (RFC 2136 sections 2.4.1, 2.4.3, 2.4.4 and 2.4.5)
-abbrev pub fails : Records → Prerequisite → Option Rcode
+abbrev pub fails : Records → Prerequisite → Option PrerequisiteCode
 fails set (RrsetExists name record_type) = if has set (at name record_type) then None else Some NxRrset
 fails set (RrsetEquals name rdata) = None
 fails set (RrsetAbsent name record_type) = if has set (at name record_type) then Some YxRrset else None
@@ -48,7 +48,7 @@ are_data set given = all_among (data_in set) given && all_among given (data_in s
 
 -- The code with which a set that is given whole fails: the data of the set are all those that the tests give for it. All
 -- tests of one set fail or hold together.
-abbrev pub set_fails : Records → List Prerequisite → Prerequisite → Option Rcode
+abbrev pub set_fails : Records → List Prerequisite → Prerequisite → Option PrerequisiteCode
 set_fails set all (RrsetEquals name rdata) =
     if are_data (part set (at name (type_of rdata))) (flat_map (given_for name (type_of rdata)) all) then None else Some NxRrset
 set_fails set all p = None
@@ -56,11 +56,11 @@ set_fails set all p = None
 -- ---- the verdict
 
 -- an item that fails with a code
-abbrev pub failed : ℕ → Rcode → Failed
+abbrev pub failed : ℕ → PrerequisiteCode → Failed
 failed i code = record { code = code; item = i }
 
 -- the first of the items from this number on that has a code
-abbrev pub first_failed : (Prerequisite → Option Rcode) → ℕ → List Prerequisite → Option Failed
+abbrev pub first_failed : (Prerequisite → Option PrerequisiteCode) → ℕ → List Prerequisite → Option Failed
 first_failed code i [] = None
 first_failed code i (p ∷ ps) = option_or (option_map (failed i) (code p)) (first_failed code (suc i) ps)
 

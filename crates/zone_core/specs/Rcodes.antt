@@ -1,6 +1,8 @@
 -- The codes of replies (RFC 2136 section 2.2, RFC 1035 section 4.1.1).
 use Rattle.std.specs.Prelude.{ℕ, List, codes}
 use Rattle.zone_core.specs.declared.rcode.Rcode.{Rcode}
+use Rattle.zone_core.specs.declared.prerequisite_code.PrerequisiteCode.{PrerequisiteCode}
+use Rattle.zone_core.specs.declared.prerequisite_code.PrerequisiteCode.TheVariants as prerequisites
 use Rattle.zone_core.specs.declared.rcode.Rcode.TheVariants.{NoError, FormErr, ServFail, NxDomain, NotImp, Refused, YxDomain, YxRrset, NxRrset, NotAuth, NotZone}
 
 -- the number of a code in messages (RFC 2136 section 2.2)
@@ -30,3 +32,10 @@ rcode_text YxRrset = codes "YXRRSET"
 rcode_text NxRrset = codes "NXRRSET"
 rcode_text NotAuth = codes "NOTAUTH"
 rcode_text NotZone = codes "NOTZONE"
+
+-- the code of the reply where a prerequisite does not hold (RFC 2136 section 2.4)
+abbrev pub rcode_of : PrerequisiteCode → Rcode
+rcode_of prerequisites.NxDomain = NxDomain
+rcode_of prerequisites.YxDomain = YxDomain
+rcode_of prerequisites.YxRrset = YxRrset
+rcode_of prerequisites.NxRrset = NxRrset

@@ -12,6 +12,7 @@ mod kind;
 mod laws;
 mod merge;
 mod outcome;
+mod prerequisite_code;
 mod rcode;
 mod refusals;
 mod report;
@@ -37,6 +38,7 @@ pub use laws::{
     verdicts_read_their_names, zones_are_built_of_their_records,
 };
 pub use outcome::{Outcome, apply, apply_owned};
+pub use prerequisite_code::PrerequisiteCode;
 pub use rcode::Rcode;
 pub use refusals::{DelegationFault, UpdateFault, ZoneFault};
 pub use report::{DelegatedServer, Delegation, Glue, cuts, delegation_report};

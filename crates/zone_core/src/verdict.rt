@@ -7,18 +7,18 @@ ghost use Rattle.zone_core.specs.Sets.{set_of, part, at, InOrder};
 ghost use Rattle.zone_core.specs.Met.{AreMet};
 ghost use Rattle.zone_core.specs.Prerequisites.{fails, set_fails, same_data, given_for, are_data, first_failed, verdict, failure};
 
-use crate::rcode::Rcode;
+use crate::prerequisite_code::PrerequisiteCode;
 use crate::rows::{has_name, has_set, of_set, same_data};
 use crate::update::{Prerequisite, Update};
 use crate::zone::Zone;
 use dns_data::{Data, Record, RecordType};
 use dns_names::Name;
 
-/// A prerequisite that does not hold: the code of the reply, and the item's number among the prerequisites, from 0.
+/// A prerequisite that does not hold: its code, and the item's number among the prerequisites, from 0.
 #[derive(Clone, Copy, PartialEq, Eq)]
 pub struct Failed {
-    /// The code of the reply.
-    pub code: Rcode,
+    /// The code with which it fails.
+    pub code: PrerequisiteCode,
     /// The number of the item among the prerequisites, from 0.
     pub item: usize,
 }
@@ -63,18 +63,22 @@ fn first_failed(records: &[Record], prerequisites: &[Prerequisite]) -> Option<Fa
 }
 
 /// The code with which a test by itself fails.
-fn fails(records: &[Record], prerequisite: &Prerequisite) -> Option<Rcode>
+fn fails(records: &[Record], prerequisite: &Prerequisite) -> Option<PrerequisiteCode>
     requires { InOrder records.now }
     ensures { result ≡ fails (set_of records.now) prerequisite.now }
 {
     match prerequisite {
         Prerequisite::RrsetExists { name, record_type } if !has_set(records, name, *record_type) =>
-            { Some(Rcode::NxRrset) }
+            { Some(PrerequisiteCode::NxRrset) }
         Prerequisite::RrsetAbsent { name, record_type } if has_set(records, name, *record_type) => {
-            Some(Rcode::YxRrset)
+            Some(PrerequisiteCode::YxRrset)
         }
-        Prerequisite::NameUsed(name) if !has_name(records, name) => Some(Rcode::NxDomain),
-        Prerequisite::NameUnused(name) if has_name(records, name) => Some(Rcode::YxDomain),
+        Prerequisite::NameUsed(name) if !has_name(records, name) => Some(
+            PrerequisiteCode::NxDomain,
+        ),
+        Prerequisite::NameUnused(name) if has_name(records, name) => Some(
+            PrerequisiteCode::YxDomain,
+        ),
         _ => None,
     }
 }
@@ -93,13 +97,19 @@ fn first_set_failed(records: &[Record], prerequisites: &[Prerequisite]) -> Optio
 }
 
 /// The code with which a set that is given whole fails.
-fn set_fails(records: &[Record], all: &[Prerequisite], prerequisite: &Prerequisite) -> Option<Rcode>
+fn set_fails(
+    records: &[Record],
+    all: &[Prerequisite],
+    prerequisite: &Prerequisite,
+) -> Option<PrerequisiteCode>
     requires { InOrder records.now }
     ensures { result ≡ set_fails (set_of records.now) all.now prerequisite.now }
 {
     match prerequisite {
         Prerequisite::RrsetEquals { name, rdata }
-            if !is_given_whole(records, name, rdata.record_type(), all) => { Some(Rcode::NxRrset) }
+            if !is_given_whole(records, name, rdata.record_type(), all) => {
+            Some(PrerequisiteCode::NxRrset)
+        }
         _ => None,
     }
 }

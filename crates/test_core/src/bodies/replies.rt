@@ -8,7 +8,7 @@ use office_json::{BodyFault, form_error_text, read_update, refusal_text};
 use std::alloc::Global;
 use test_rows::Row;
 use zone_core::{
-    Change, DelegatedServer, Delegation, Failed, Glue, ItemList, Operation, Place, Rcode,
+    Change, DelegatedServer, Delegation, Failed, Glue, ItemList, Operation, Place, PrerequisiteCode,
 };
 
 /// The reply of a row, or none where its verb is that of no reply.
@@ -79,12 +79,12 @@ fn update_reply(alloc: Global, text: &str) -> Result<UpdateReply, BodyFault> {
 }
 
 /// The code of a prerequisite that does not hold.
-fn failure(code: &str) -> Result<Rcode, BodyFault> {
+fn failure(code: &str) -> Result<PrerequisiteCode, BodyFault> {
     match code {
-        "NXDOMAIN" => Ok(Rcode::NxDomain),
-        "NXRRSET" => Ok(Rcode::NxRrset),
-        "YXDOMAIN" => Ok(Rcode::YxDomain),
-        "YXRRSET" => Ok(Rcode::YxRrset),
+        "NXDOMAIN" => Ok(PrerequisiteCode::NxDomain),
+        "NXRRSET" => Ok(PrerequisiteCode::NxRrset),
+        "YXDOMAIN" => Ok(PrerequisiteCode::YxDomain),
+        "YXRRSET" => Ok(PrerequisiteCode::YxRrset),
         _ => Err(BodyFault::BadField),
     }
 }

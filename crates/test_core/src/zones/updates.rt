@@ -36,7 +36,7 @@ pub fn push_verdict(
     match holds(zone, &update(alloc, items)?) {
         Ok(()) => push("all hold", answer),
         Err(failed) => {
-            let code = failed.code.text();
+            let code = failed.code.rcode().text();
             push(
                 format!(in alloc; "{code} at {}", failed.item)?.as_str(),
                 answer,
