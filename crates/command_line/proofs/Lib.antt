@@ -1,4 +1,4 @@
 pub mod CommandLemmas
 pub mod NumberWordLemmas
 pub mod PlainLemmas
-pub mod ToldLemmas
+pub mod MisuseLemmas

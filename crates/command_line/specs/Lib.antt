@@ -1,4 +1,4 @@
 pub mod Commands
 pub mod Words
 pub mod PlainForms
-pub mod Told
+pub mod Misuse

@@ -5,7 +5,7 @@ ghost use Rattle.clap.specs.Words.{app_of, fault_of, first_of, found_of, kind_of
 ghost use Rattle.command_line.specs.Commands.{office, argument_name};
 ghost use Rattle.command_line.specs.Words.{asks, JobOf, canon_of, zone_asked, stored_of, import_of, export_of, migrate_of, rights_of, serve_of, checked_of, check_of, explain_of, number_if, existing_of, zone_form_of, form_of, job_by, job_named, job_met, job_of};
 ghost use Rattle.command_line.specs.PlainForms.{IsPlain};
-ghost use Rattle.command_line.specs.Told.{IsToldAs, IsToldOf, is_help};
+ghost use Rattle.command_line.specs.Misuse.{IsReportedAs, IsReported, is_help};
 
 use crate::argument::Argument;
 use crate::command::Command;
@@ -221,8 +221,8 @@ fn asks_for_help(kind: ErrorKind) -> bool
 }
 
 /// What clap's error says.
-fn told(alloc: Global, error: Error) -> WordsFault
-    ensures kind { IsToldAs (kind_of error) result }
+fn reported(alloc: Global, error: Error) -> WordsFault
+    ensures kind { IsReportedAs (kind_of error) result }
     ensures memory { kind_of error ≡ ErrorKind.OutOfMemory → result ≡ WordsFault.NoMemory }
 {
     let kind = error.kind();
@@ -252,8 +252,8 @@ pub fn read_words<'a>(alloc: Global, words: &'a [&'a str]) -> Result<Job<'a>, Wo
     // Words that ask for a job are read, unless memory runs out.
     ensures passes { IfErr result (λ e. takes office (map (λ s. s.now) words.entry.now) ≡ true
         → is_some (job_of (map (λ s. s.now) words.entry.now)) ≡ true → e ≡ WordsFault.NoMemory) }
-    // Help is told where they ask for it, and misuse where there is a mistake in them.
-    ensures told { IfErr result (IsToldOf (map (λ s. s.now) words.entry.now)) }
+    // Help is reported where they ask for it, and misuse where there is a mistake in them.
+    ensures reported { IfErr result (IsReported (map (λ s. s.now) words.entry.now)) }
     // The plain form of a job asks for it.
     ensures plain { IfOk result (λ j. (x : JobOf) → IsPlain (map (λ s. s.now) words.entry.now) x → asks j ≡ x) }
 {
@@ -262,13 +262,13 @@ pub fn read_words<'a>(alloc: Global, words: &'a [&'a str]) -> Result<Job<'a>, Wo
     };
     let matches = match command.try_get_matches_from_mut(words) {
         Ok(matches) => matches,
-        Err(error) => return Err(told(alloc, error)),
+        Err(error) => return Err(reported(alloc, error)),
     };
     if let Some(job) = job_in(&matches) {
         return Ok(job);
     }
     match command.error(ErrorKind::InvalidValue, "the words name no job") {
-        Ok(error) => Err(told(alloc, error)),
+        Ok(error) => Err(reported(alloc, error)),
         Err(_) => Err(WordsFault::NoMemory),
     }
 }

@@ -11,16 +11,16 @@ abbrev pub kept_types : List RecordType
 kept_types = A ∷ Ns ∷ Cname ∷ Soa ∷ Ptr ∷ Mx ∷ Txt ∷ Aaaa ∷ Srv ∷ Ds ∷ []
 
 -- what a type is called, its number, and the fields of its data
-pub record Row : Type 0 where
+pub record TypeRow : Type 0 where
   pub text : List ℕ
   pub number : ℕ
   pub fields : Fields
 
-abbrev pub row : List ℕ → ℕ → Fields → Row
+abbrev pub row : List ℕ → ℕ → Fields → TypeRow
 row text number fields = record { text = text; number = number; fields = fields }
 
 -- The table of types (RFC 1035 sections 3.2.2, 3.3 and 3.4, RFC 2782, RFC 3596 section 2, RFC 4034 section 5)
-abbrev pub row_of : RecordType → Row
+abbrev pub row_of : RecordType → TypeRow
 row_of A = row (codes "A") 1 (Ipv4 ▸ End)
 row_of Ns = row (codes "NS") 2 (Name ▸ End)
 row_of Cname = row (codes "CNAME") 5 (Name ▸ End)

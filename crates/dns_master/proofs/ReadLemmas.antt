@@ -4,7 +4,7 @@ use Rattle.std.proofs.lemmas.List.{append-nil, map-append}
 use Rattle.dns_master.specs.declared.shape.ShapeFault.{ShapeFault}
 use Rattle.dns_master.specs.declared.shape.ShapeFault.TheVariants as faults
 use Rattle.dns_data.specs.declared.item.Item.{Item}
-use Rattle.dns_master.specs.declared.reader.Place.{Place}
+use Rattle.dns_master.specs.declared.reader.Position.{Position}
 use Rattle.dns_master.proofs.EntryLemmas.{from_end}
 use Rattle.dns_data.specs.Items.{ItemText, item_of}
 use Rattle.dns_master.specs.Entries.{◌>>=◌, Found, Entry, Split, with_entry, add, end_of, from, white_first, entries}
@@ -15,7 +15,7 @@ abbrev pub prepend : List Found → Split → Split
 prepend founds s = record { first = founds ++ s.first; others = s.others }
 
 -- these items of the first entry are read, up to this place
-pub record Begun (text : List ℕ) (items : List Item) (lefts : List ℕ) (place : Place) : Type 0 where
+pub record Begun (text : List ℕ) (items : List Item) (lefts : List ℕ) (place : Position) : Type 0 where
   pub founds : List Found
   pub texts : map text_of founds ≡ map item_of items
   pub places : map left_of founds ≡ lefts
@@ -25,7 +25,7 @@ none_before : (r : Result Split ShapeFault) → r ≡ (r >>= λ s. Ok (prepend [
 none_before (Ok s) = refl
 none_before (Err e) = refl
 
-pub begun_none : (text : List ℕ) (place : Place) → place.rest.now ≡ text → place.depth ≡ 0 → place.outermost ≡ 0 → Begun text [] [] place
+pub begun_none : (text : List ℕ) (place : Position) → place.rest.now ≡ text → place.depth ≡ 0 → place.outermost ≡ 0 → Begun text [] [] place
 begun_none text place e d u = record {
   founds = [];
   texts = refl;
@@ -37,7 +37,7 @@ one_more : (founds : List Found) (f : Found) (r : Result Split ShapeFault) → (
 one_more founds f (Ok s) = ap (λ (fs : List Found). Ok (record { first = fs; others = s.others })) (sym (append_assoc founds (f ∷ []) s.first))
 one_more founds f (Err e) = refl
 
-pub begun_more : (text : List ℕ) (items : List Item) (lefts : List ℕ) (place : Place) (item : Item) (after : Place) (left : ℕ) → left ≡ (found item after).left
+pub begun_more : (text : List ℕ) (items : List Item) (lefts : List ℕ) (place : Position) (item : Item) (after : Position) (left : ℕ) → left ≡ (found item after).left
     → Begun text items lefts place → NextPart place (Some item) after → Begun text (items ++ item ∷ []) (lefts ++ left ∷ []) after
 begun_more text items lefts place item after left at b next = record {
   founds = b.founds ++ found item after ∷ [];
@@ -52,7 +52,7 @@ whole_entry : (white next_white : Bool) (founds : List Found) (r : Result Split 
 whole_entry white next_white founds (Ok s) = ap (λ (fs : List Found). Ok (with_entry white fs (with_entry next_white s.first s.others))) (append-nil founds)
 whole_entry white next_white founds (Err e) = refl
 
-pub entry_ends : (text : List ℕ) (items : List Item) (lefts : List ℕ) (place after : Place) → Begun text items lefts place → NextPart place None after → EntryRead text items lefts after.rest.now
+pub entry_ends : (text : List ℕ) (items : List Item) (lefts : List ℕ) (place after : Position) → Begun text items lefts place → NextPart place None after → EntryRead text items lefts after.rest.now
 entry_ends text items lefts place after b next = record {
   founds = b.founds;
   texts = b.texts;
@@ -67,7 +67,7 @@ pub refuses_on : {A B : Type 0} (e : ShapeFault) (r : Result A ShapeFault) (tota
 refuses_on faults.NoMemory r total h on = tt
 refuses_on fault r total h on = on fault h
 
-pub entry_fails : (text : List ℕ) (items : List Item) (lefts : List ℕ) (place : Place) (e : ShapeFault) → Begun text items lefts place → RefusesAt e (from_place place) → RefusesAt e (entries text)
+pub entry_fails : (text : List ℕ) (items : List Item) (lefts : List ℕ) (place : Position) (e : ShapeFault) → Begun text items lefts place → RefusesAt e (from_place place) → RefusesAt e (entries text)
 entry_fails text items lefts place e b h =
     refuses_on e (from_place place) (entries text) h
     (λ f is.

@@ -3,7 +3,7 @@ use Rattle.std.proofs.Common.{◌≡◌, ℕ, suc, ◌+◌, Bool, true, false, L
 use Rattle.std.proofs.lemmas.List.{append-nil, map-append}
 use Rattle.dns_master.specs.declared.shape.ShapeFault.{ShapeFault}
 use Rattle.dns_data.specs.declared.item.Item.{Item}
-use Rattle.dns_master.specs.declared.reader.Place.{Place}
+use Rattle.dns_master.specs.declared.reader.Position.{Position}
 use Rattle.dns_master.specs.Entries.{◌>>=◌, Found, Entry, Split, with_entry, add, end_of, from, white_first, entries}
 use Rattle.dns_master.specs.Reader.{RefusesAt, from_place, found, NextPart}
 use Rattle.dns_master.specs.Tokens.{TokenText, token_at, tokens_from, placed_tokens}
@@ -16,7 +16,7 @@ is_filled [] = false
 is_filled (f ∷ fs) = true
 
 -- what is read up to a place: whole entries, and the items of one
-pub record SoFar (text : List ℕ) (tokens : List TokenText) (entry : ℕ) (filled : Bool) (place : Place) : Type 0 where
+pub record SoFar (text : List ℕ) (tokens : List TokenText) (entry : ℕ) (filled : Bool) (place : Position) : Type 0 where
   pub done : List Entry
   pub items : List Found
   pub white : Bool
@@ -25,7 +25,7 @@ pub record SoFar (text : List ℕ) (tokens : List TokenText) (entry : ℕ) (fill
   pub fills : filled ≡ is_filled items
   pub read : entries text ≡ (from_place place >>= λ s. Ok (done ++ with_entry white (items ++ s.first) s.others))
 
-pub begins : (text : List ℕ) (place : Place) → place.rest.now ≡ text → place.depth ≡ 0 → place.outermost ≡ 0 → SoFar text [] 0 false place
+pub begins : (text : List ℕ) (place : Position) → place.rest.now ≡ text → place.depth ≡ 0 → place.outermost ≡ 0 → SoFar text [] 0 false place
 begins text place e d u = record {
   done = [];
   items = [];
@@ -47,7 +47,7 @@ filled_more : (items : List Found) (f : Found) → true ≡ is_filled (items ++ 
 filled_more [] f = refl
 filled_more (g ∷ items) f = refl
 
-pub one_item : (text : List ℕ) (tokens : List TokenText) (entry : ℕ) (filled : Bool) (place : Place) (item : Item) (after : Place) (token : TokenText) → token ≡ token_at text entry (found item after)
+pub one_item : (text : List ℕ) (tokens : List TokenText) (entry : ℕ) (filled : Bool) (place : Position) (item : Item) (after : Position) (token : TokenText) → token ≡ token_at text entry (found item after)
     → SoFar text tokens entry filled place → NextPart place (Some item) after → SoFar text (tokens ++ token ∷ []) entry true after
 one_item text tokens entry filled place item after token is h next =
     let f = found item after in
@@ -66,7 +66,7 @@ one_item text tokens entry filled place item after token is h next =
 
 -- ---- an entry's end
 
-after_place : (after : Place) → after.depth ≡ 0 → from 0 0 after.rest.now ≡ from_place after
+after_place : (after : Position) → after.depth ≡ 0 → from 0 0 after.rest.now ≡ from_place after
 after_place after d = sym (ap (λ (n : ℕ). from n after.outermost after.rest.now) d ∙ zero_outer after.outermost after.rest.now)
 
 blank_read : (done : List Entry) (white next : Bool) (r : Result Split ShapeFault) →
@@ -95,7 +95,7 @@ closed text tokens entry done (f ∷ fs) white views count =
     let same : 0 + length done ≡ entry = omega (arith, count) in
     tokens_more text 0 done (record { white = white; items = f ∷ fs }) ∙ ap (λ (n : ℕ). tokens_from text 0 done ++ map (token_at text n) (f ∷ fs)) same ∙ sym views
 
-module _ (text : List ℕ) (tokens : List TokenText) (entry : ℕ) (place after : Place) where
+module _ (text : List ℕ) (tokens : List TokenText) (entry : ℕ) (place after : Position) where
   past : {B : Type 0} (k : Split → Result B ShapeFault) → NextPart place None after → (from_place place >>= k) ≡ ((from 0 0 after.rest.now >>= λ s. Ok (end_of (white_first after.rest.now) s)) >>= k)
   past k next = ap (λ (r : Result Split ShapeFault). r >>= k) next.1
 
@@ -149,7 +149,7 @@ module _ (text : List ℕ) (tokens : List TokenText) (entry : ℕ) (place after 
       ap (λ (r : Result (List Entry) ShapeFault). r >>= λ es. Ok (tokens_from text 0 es)) read
       ∙ ap (λ (ts : List TokenText). Ok ts) (closed text tokens entry h.done h.items h.white h.views h.count)
 
-pub tokens_fail : (text : List ℕ) (tokens : List TokenText) (entry : ℕ) (filled : Bool) (place : Place) (e : ShapeFault) → SoFar text tokens entry filled place → RefusesAt e (from_place place) → RefusesAt e (placed_tokens text)
+pub tokens_fail : (text : List ℕ) (tokens : List TokenText) (entry : ℕ) (filled : Bool) (place : Position) (e : ShapeFault) → SoFar text tokens entry filled place → RefusesAt e (from_place place) → RefusesAt e (placed_tokens text)
 tokens_fail text tokens entry filled place e h r =
     refuses_on e (from_place place) (placed_tokens text) r
     (λ f is. ap (λ (es : Result (List Entry) ShapeFault). es >>= λ all. Ok (tokens_from text 0 all))

@@ -5,7 +5,7 @@ use Rattle.dns_data.specs.declared.item.Item.{Item}
 use Rattle.dns_data.specs.Items.{ItemText, item_of}
 use Rattle.dns_master.specs.declared.shape.ShapeFault.{ShapeFault}
 use Rattle.dns_master.specs.declared.shape.ShapeFault.TheVariants.{NoMemory}
-use Rattle.dns_master.specs.declared.reader.Place.{Place}
+use Rattle.dns_master.specs.declared.reader.Position.{Position}
 use Rattle.dns_master.specs.Entries.{◌>>=◌, Found, Entry, Split, with_entry, add, end_of, from, white_first, entries}
 
 -- what a call refused with is the refusal of the definition; out of memory says nothing of the definition
@@ -21,37 +21,37 @@ GivesAt view (Err e) read = RefusesAt e read
 -- ---- items
 
 -- what is read from a place on
-abbrev pub from_place : Place → Result Split ShapeFault
+abbrev pub from_place : Position → Result Split ShapeFault
 from_place p = from p.depth p.outermost p.rest.now
 
 -- the item that was found before a place
-abbrev pub found : Item → Place → Found
+abbrev pub found : Item → Position → Found
 found item after = record { item = item_of item; left = (if item.quoted then suc (length item.raw.now + length after.rest.now) else length item.raw.now + length after.rest.now) }
 
 -- the next item of the entry is this, or none is left of it, and the text goes on at that place
-abbrev pub NextPart : Place → Option Item → Place → Type 0
+abbrev pub NextPart : Position → Option Item → Position → Type 0
 NextPart place None after = (after.depth ≡ 0) × (from_place place ≡ (from 0 0 after.rest.now >>= λ s. Ok (end_of (white_first after.rest.now) s)))
 NextPart place (Some item) after = from_place place ≡ (from_place after >>= λ s. Ok (add (found item after) s))
 
 -- the first item that is left of an entry, or its end, and the place behind it
-abbrev pub NextItem : Place → Result (Option Item × Place) ShapeFault → Type 0
+abbrev pub NextItem : Position → Result (Option Item × Position) ShapeFault → Type 0
 NextItem place (Ok x) = NextPart place x.0 x.1
 NextItem place (Err e) = RefusesAt e (from_place place)
 
 -- the text gets shorter, unless it is empty, and no deeper than it is long
-abbrev pub Shorter : Place → Option Item → Place → Type 0
+abbrev pub Shorter : Position → Option Item → Position → Type 0
 Shorter place None after = 0 < length place.rest.now → length after.rest.now < length place.rest.now
 Shorter place (Some item) after = length after.rest.now < length place.rest.now
 
 -- what is left behind a call, which a loop goes on with
-pub record Shrunk (place : Place) (item : Option Item) (after : Place) : Type 0 where
+pub record Shrunk (place : Position) (item : Option Item) (after : Position) : Type 0 where
   pub shorter : Shorter place item after
   pub no_longer : length after.rest.now ≤ length place.rest.now
   pub room : after.depth + length after.rest.now ≤ place.depth + length place.rest.now
   pub within : IfSome item (λ i. length i.raw.now + length after.rest.now < 2 ^ 64 - 1)
 
 -- the same of an answer
-abbrev pub Shrinks : Place → Result (Option Item × Place) ShapeFault → Type 0
+abbrev pub Shrinks : Position → Result (Option Item × Position) ShapeFault → Type 0
 Shrinks place (Ok x) = Shrunk place x.0 x.1
 Shrinks place (Err e) = Unit {0}
 

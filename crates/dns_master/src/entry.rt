@@ -3,7 +3,7 @@
 ghost use Rattle.std.specs.Prelude.{◌≡◌, ◌+◌, ◌<◌, ◌≤◌, length};
 ghost use Rattle.dns_master.specs.Reader.{ReadsEntry, Checks, ShorterRest};
 
-use crate::reader::{Place, next_item};
+use crate::reader::{Position, next_item};
 use crate::shape::ShapeFault;
 use dns_data::Item;
 
@@ -19,7 +19,7 @@ pub(crate) fn read_entry<'a>(
 {
     items.clear();
     lefts.clear();
-    let mut place = Place::new(text, 0, 0);
+    let mut place = Position::new(text, 0, 0);
     'reading: loop {
         let (found, after) = next_item(place)?;
         let Some(item) = found else {

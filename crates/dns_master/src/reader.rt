@@ -12,22 +12,22 @@ use dns_data::Item;
 
 /// A place in a text: what is left of it, and the parentheses that are open there.
 #[derive(Clone, Copy)]
-pub(crate) struct Place<'a> {
+pub(crate) struct Position<'a> {
     pub rest: &'a [u8],
     pub depth: usize,
     /// How many octets are left from the outermost open parenthesis on.
     pub outermost: usize,
 }
 
-impl<'a> Place<'a> {
+impl<'a> Position<'a> {
     /// The place from which this is left, at this depth of parentheses.
     #[inline(always)]
-    pub(crate) fn new(rest: &'a [u8], depth: usize, outermost: usize) -> Place<'a>
+    pub(crate) fn new(rest: &'a [u8], depth: usize, outermost: usize) -> Position<'a>
         ensures rest { result.rest.now ≡ rest.entry.now }
         ensures depth { result.depth ≡ depth }
         ensures outermost { result.outermost ≡ outermost }
     {
-        Place {
+        Position {
             rest,
             depth,
             outermost,
@@ -72,7 +72,9 @@ fn plain_item(text: &[u8]) -> (Item<'_>, &[u8])
 }
 
 /// The next item of the entry and the place behind it, or `None` where the entry ends, and then the place behind its end.
-pub(crate) fn next_item<'a>(place: Place<'a>) -> Result<(Option<Item<'a>>, Place<'a>), ShapeFault>
+pub(crate) fn next_item<'a>(
+    place: Position<'a>,
+) -> Result<(Option<Item<'a>>, Position<'a>), ShapeFault>
     requires { place.depth + length place.rest.now < 2 ^ 64 }
     ensures exact { NextItem place.entry result }
     ensures shrinks { Shrinks place.entry result }
@@ -82,7 +84,7 @@ pub(crate) fn next_item<'a>(place: Place<'a>) -> Result<(Option<Item<'a>>, Place
     let mut outermost = place.outermost;
     while let Some((octet, after)) = first_octet(rest) {
         match octet {
-            b'\n' if depth == 0 => return Ok((None, Place::new(after, depth, outermost))),
+            b'\n' if depth == 0 => return Ok((None, Position::new(after, depth, outermost))),
             b'\n' | b' ' | b'\t' | b'\r' => rest = after,
             b';' => rest = at_line_end(after),
             b'(' if depth == 0 => {
@@ -101,16 +103,16 @@ pub(crate) fn next_item<'a>(place: Place<'a>) -> Result<(Option<Item<'a>>, Place
             }
             b'"' => {
                 let (item, behind) = quoted_item(after)?;
-                return Ok((Some(item), Place::new(behind, depth, outermost)));
+                return Ok((Some(item), Position::new(behind, depth, outermost)));
             }
             _ => {
                 let (item, behind) = plain_item(rest);
-                return Ok((Some(item), Place::new(behind, depth, outermost)));
+                return Ok((Some(item), Position::new(behind, depth, outermost)));
             }
         }
     }
     if depth > 0 {
         return Err(ShapeFault::ParenOpen(outermost));
     }
-    Ok((None, Place::new(rest, depth, outermost)))
+    Ok((None, Position::new(rest, depth, outermost)))
 }

@@ -10,7 +10,7 @@ ghost use Rattle.dns_master.specs.Tokens.{TokenText, AreTokens, token_at, token_
 
 use crate::line::{Mark, line_at};
 use crate::master_fault::MasterFault;
-use crate::reader::{Place, next_item};
+use crate::reader::{Position, next_item};
 use crate::shape::ShapeFault;
 use dns_data::Item;
 use std::alloc::Global;
@@ -31,7 +31,7 @@ pub struct Token<'a> {
 fn token_before<'a>(
     text: &'a [u8],
     item: Item<'a>,
-    after: Place<'a>,
+    after: Position<'a>,
     mark: Mark,
     entry: usize,
 ) -> Token<'a>
@@ -55,7 +55,7 @@ fn placed_tokens<'a>(alloc: Global, text: &'a [u8]) -> Result<Vec<Token<'a>>, Sh
     ensures { GivesAt (λ v. map token_of v.items) result (placed_tokens text.now) }
 {
     let mut tokens = Vec::new(alloc);
-    let mut place = Place::new(text, 0, 0);
+    let mut place = Position::new(text, 0, 0);
     let mut mark = Mark { at: 0, line: 1 };
     let mut entry: usize = 0;
     let mut filled = false;

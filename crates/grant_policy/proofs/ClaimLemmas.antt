@@ -21,7 +21,7 @@ use Rattle.grant_policy.specs.Rules.{Matches}
 use Rattle.grant_policy.proofs.DecisionLaws.{same_Some}
 use Rattle.grant_policy.specs.declared.claims.Claim.{Claim}
 use Rattle.grant_policy.specs.declared.claims.Entry.{Entry}
-use Rattle.grant_policy.specs.declared.claims.Row.{Row}
+use Rattle.grant_policy.specs.declared.claims.Coverage.{Coverage}
 use Rattle.grant_policy.specs.Idle.{Takes, AreTakers}
 use Rattle.grant_policy.specs.Representatives.{AreAlike, Represent}
 use Rattle.grant_policy.specs.Points.{has_point, names_point}
@@ -373,32 +373,32 @@ own_to entries i in' =
     list_any_at (λ (e : Entry). eqb e.number i) entries found.1.0 found.0 found.1.1
     (subst (λ (e : Entry). eqb e.number i ≡ true) (sym found.1.2) (eq-eqb found.0.number i found.2))
 
-pub more_rows : (c : Claim) (i : ℕ) (rows : List Row) (n : ℕ) (row : Row) (j : ℕ) → n < length rows → row ≡ get_or rows n row → TakesIn c i (take (n + 1) rows) j → TakesIn c i (take n rows) j ⊎ (Contains (map (λ (e : Entry). e.number) row.entries.items) i × Hits c row.entries.items (length row.entries.items) j)
+pub more_rows : (c : Claim) (i : ℕ) (rows : List Coverage) (n : ℕ) (row : Coverage) (j : ℕ) → n < length rows → row ≡ get_or rows n row → TakesIn c i (take (n + 1) rows) j → TakesIn c i (take n rows) j ⊎ (Contains (map (λ (e : Entry). e.number) row.entries.items) i × Hits c row.entries.items (length row.entries.items) j)
 more_rows c i rows n row j lt is t =
-    let e : take (n + 1) rows ≡ take n rows ++ row ∷ [] = take_more rows n row lt ∙ ap (λ (r : Row). take n rows ++ r ∷ []) (sym is) in
+    let e : take (n + 1) rows ≡ take n rows ++ row ∷ [] = take_more rows n row lt ∙ ap (λ (r : Coverage). take n rows ++ r ∷ []) (sym is) in
     ⊎_elim
     (λ (old : Contains (take n rows) t.row). inl (record { row = t.row; among = old; own = t.own; hits = t.hits }))
     (λ (new : row ≡ t.row). inr (
-      subst (λ (r : Row). Contains (map (λ (x : Entry). x.number) r.entries.items) i) (sym new) t.own,
-      subst (λ (r : Row). Hits c r.entries.items (length r.entries.items) j) (sym new) t.hits,
+      subst (λ (r : Coverage). Contains (map (λ (x : Entry). x.number) r.entries.items) i) (sym new) t.own,
+      subst (λ (r : Coverage). Hits c r.entries.items (length r.entries.items) j) (sym new) t.hits,
     ))
-    (Contains-push_cases (take n rows) row t.row (subst (λ (l : List Row). Contains l t.row) e t.among))
+    (Contains-push_cases (take n rows) row t.row (subst (λ (l : List Coverage). Contains l t.row) e t.among))
 
-pub rows_kept : (c : Claim) (i : ℕ) (rows : List Row) (n : ℕ) (row : Row) (j : ℕ) → n < length rows → row ≡ get_or rows n row → TakesIn c i (take n rows) j → TakesIn c i (take (n + 1) rows) j
+pub rows_kept : (c : Claim) (i : ℕ) (rows : List Coverage) (n : ℕ) (row : Coverage) (j : ℕ) → n < length rows → row ≡ get_or rows n row → TakesIn c i (take n rows) j → TakesIn c i (take (n + 1) rows) j
 rows_kept c i rows n row j lt is t =
-    let e : take (n + 1) rows ≡ take n rows ++ row ∷ [] = take_more rows n row lt ∙ ap (λ (r : Row). take n rows ++ r ∷ []) (sym is) in
-    record { row = t.row; among = subst (λ (l : List Row). Contains l t.row) (sym e) (Contains-append_left (take n rows) (row ∷ []) t.row t.among); own = t.own; hits = t.hits }
+    let e : take (n + 1) rows ≡ take n rows ++ row ∷ [] = take_more rows n row lt ∙ ap (λ (r : Coverage). take n rows ++ r ∷ []) (sym is) in
+    record { row = t.row; among = subst (λ (l : List Coverage). Contains l t.row) (sym e) (Contains-append_left (take n rows) (row ∷ []) t.row t.among); own = t.own; hits = t.hits }
 
-pub row_new : (c : Claim) (i : ℕ) (rows : List Row) (n : ℕ) (row : Row) (j : ℕ) → n < length rows → row ≡ get_or rows n row → Contains (map (λ (e : Entry). e.number) row.entries.items) i → Hits c row.entries.items (length row.entries.items) j → TakesIn c i (take (n + 1) rows) j
+pub row_new : (c : Claim) (i : ℕ) (rows : List Coverage) (n : ℕ) (row : Coverage) (j : ℕ) → n < length rows → row ≡ get_or rows n row → Contains (map (λ (e : Entry). e.number) row.entries.items) i → Hits c row.entries.items (length row.entries.items) j → TakesIn c i (take (n + 1) rows) j
 row_new c i rows n row j lt is own hits =
-    let e : take (n + 1) rows ≡ take n rows ++ row ∷ [] = take_more rows n row lt ∙ ap (λ (r : Row). take n rows ++ r ∷ []) (sym is) in
-    record { row = row; among = subst (λ (l : List Row). Contains l row) (sym e) (Contains-push (take n rows) row); own = own; hits = hits }
+    let e : take (n + 1) rows ≡ take n rows ++ row ∷ [] = take_more rows n row lt ∙ ap (λ (r : Coverage). take n rows ++ r ∷ []) (sym is) in
+    record { row = row; among = subst (λ (l : List Coverage). Contains l row) (sym e) (Contains-push (take n rows) row); own = own; hits = hits }
 
 -- which places are marked after the first n rows
-abbrev pub MarksIn : List Bool → Claim → ℕ → List Row → ℕ → ℕ → Type 0
+abbrev pub MarksIn : List Bool → Claim → ℕ → List Coverage → ℕ → ℕ → Type 0
 MarksIn found c i rows n m = (j : ℕ) → j < m → (get_or found j false ≡ true) ↔ TakesIn c i (take n rows) j
 
-pub row_yes : (old new : List Bool) (c : Claim) (i : ℕ) (rows : List Row) (n m : ℕ) (row : Row) → n < length rows → row ≡ get_or rows n row → m ≡ length old → list_any (λ e. eqb e.number i) row.entries.items ≡ true
+pub row_yes : (old new : List Bool) (c : Claim) (i : ℕ) (rows : List Coverage) (n m : ℕ) (row : Coverage) → n < length rows → row ≡ get_or rows n row → m ≡ length old → list_any (λ e. eqb e.number i) row.entries.items ≡ true
     → ((j : ℕ) → j < length old → (get_or new j false ≡ true) ↔ ((get_or old j false ≡ true) ⊎ Hits c row.entries.items (length row.entries.items) j))
     → MarksIn old c i rows n m → MarksIn new c i rows (n + 1) m
 row_yes old new c i rows n m row lt is long own marked marks j below = (
@@ -412,7 +412,7 @@ row_yes old new c i rows n m row lt is long own marked marks j below = (
       (more_rows c i rows n row j lt is t)),
 )
 
-pub row_no : (found : List Bool) (c : Claim) (i : ℕ) (rows : List Row) (n m : ℕ) (row : Row) → n < length rows → row ≡ get_or rows n row → list_any (λ e. eqb e.number i) row.entries.items ≡ false → MarksIn found c i rows n m → MarksIn found c i rows (n + 1) m
+pub row_no : (found : List Bool) (c : Claim) (i : ℕ) (rows : List Coverage) (n m : ℕ) (row : Coverage) → n < length rows → row ≡ get_or rows n row → list_any (λ e. eqb e.number i) row.entries.items ≡ false → MarksIn found c i rows n m → MarksIn found c i rows (n + 1) m
 row_no found c i rows n m row lt is none marks j below = (
   λ yes'. rows_kept c i rows n row j lt is ((marks j below).0 yes'),
   λ t. (marks j below).1 (⊎_elim
@@ -423,7 +423,7 @@ row_no found c i rows n m row lt is none marks j below = (
 
 -- ---- the rules that take questions
 
-module _ (rules : List Rule) (few : length rules ≤ 1024) (rows : List Row) (all : All (IsRow rules) rows) (represent : Represent rules (map (λ (r : Row). r.name.now) rows)) (are : All (λ (r : Rule). AreCallers r.callers) rules) (i : ℕ) (c : Claim) (at : slice_get rules i ≡ Some c.rule.now) (pairs : HasPairs c) where
+module _ (rules : List Rule) (few : length rules ≤ 1024) (rows : List Coverage) (all : All (IsRow rules) rows) (represent : Represent rules (map (λ (r : Coverage). r.name.now) rows)) (are : All (λ (r : Rule). AreCallers r.callers) rules) (i : ℕ) (c : Claim) (at : slice_get rules i ≡ Some c.rule.now) (pairs : HasPairs c) where
   callers_at : (k : ℕ) (r : Rule) → slice_get rules k ≡ Some r → AreCallers r.callers
   callers_at k r there = All-contains (λ (x : Rule). AreCallers x.callers) rules r are (at_place rules k r there)
 
@@ -433,7 +433,7 @@ module _ (rules : List Rule) (few : length rules ≤ 1024) (rows : List Row) (al
       let name = row.name.now in
       let entries = row.entries.items in
       let is = All-contains (IsRow rules) rows row all takes.among in
-      let named = All-contains IsName (map (λ (r : Row). r.name.now) rows) name represent.valid (in_map (λ (r : Row). r.name.now) rows row takes.among) in
+      let named = All-contains IsName (map (λ (r : Coverage). r.name.now) rows) name represent.valid (in_map (λ (r : Coverage). r.name.now) rows row takes.among) in
       let covered = covering rules name i c.rule.now at ((is.numbers.each i).0 takes.own).1 in
       let h = takes.hits in
       let e = h.entry in
@@ -465,7 +465,7 @@ module _ (rules : List Rule) (few : length rules ≤ 1024) (rows : List Row) (al
       let t = asked.record_type in
       let a = asked.action in
       let like = represent.each asked.name takes.can.name in
-      let found = from_map (λ (r : Row). r.name.now) rows like.0 like.1 in
+      let found = from_map (λ (r : Coverage). r.name.now) rows like.0 like.1 in
       let row = found.0 in
       let name = row.name.now in
       let entries = row.entries.items in
@@ -520,10 +520,10 @@ module _ (rules : List Rule) (few : length rules ≤ 1024) (rows : List Row) (al
   }
     where
       whole : (j : ℕ) → TakesIn c i (take (length rows) rows) j → TakesIn c i rows j
-      whole j t = subst (λ (l : List Row). TakesIn c i l j) (take_all (length rows) rows (omega arith)) t
+      whole j t = subst (λ (l : List Coverage). TakesIn c i l j) (take_all (length rows) rows (omega arith)) t
 
       part : (j : ℕ) → TakesIn c i rows j → TakesIn c i (take (length rows) rows) j
-      part j t = subst (λ (l : List Row). TakesIn c i l j) (sym (take_all (length rows) rows (omega arith))) t
+      part j t = subst (λ (l : List Coverage). TakesIn c i l j) (sym (take_all (length rows) rows (omega arith))) t
 
 -- ---- rules among their takers
 

@@ -15,7 +15,7 @@ use Rattle.grant_policy.specs.declared.rule.Rule.{Rule}
 use Rattle.dns_data.specs.Types.{kept_types}
 use Rattle.grant_policy.specs.Words.{all_actions}
 use Rattle.grant_policy.specs.Rules.{Question, Matches, matches}
-use Rattle.grant_policy.specs.Decisions.{Verdict, granted, denied, effect_by, decided, decision, NoneMatches, IsFirstMatch, IsDecision, IsDecidedBy, told, is_granted, has_right, has_right_to, HasRight}
+use Rattle.grant_policy.specs.Decisions.{Verdict, granted, denied, effect_by, decided, decision, NoneMatches, IsFirstMatch, IsDecision, IsDecidedBy, decider, is_granted, has_right, has_right_to, HasRight}
 use Rattle.grant_policy.proofs.RuleLemmas.{matches-Decides}
 
 pub same_Some : {T : Type 0} (a b : T) → Some a ≡ Some b → a ≡ b
@@ -130,18 +130,18 @@ decision_stays p (first ∷ rules) rule some =
     (λ (no' : matches p first ≡ false). rw no' (decision_stays p rules rule (rw no' at some)))
     (cases_Bool (matches p first))
 
--- ---- how a decision is told
+-- ---- by whom it is decided
 
 open_at : (rules : List Rule) (i : ℕ) (rule : Rule) → AllByRecursion (λ r. r.id ≢ codes "closing") rules → slice_get rules i ≡ Some rule → rule.id ≢ codes "closing"
 open_at [] i rule all at = absurd cc
 open_at (r ∷ rules) zero rule all at = let e : r ≡ rule = same_Some r rule at in subst (λ (s : Rule). s.id ≢ codes "closing") e all.0
 open_at (r ∷ rules) (suc i) rule all at = open_at rules i rule all.1 at
 
-told_by : (effect : Effect) (id : List ℕ) → told (effect_by effect id) ≡ id
-told_by Grant id = refl
-told_by Deny id = refl
+decider_by : (effect : Effect) (id : List ℕ) → decider (effect_by effect id) ≡ id
+decider_by Grant id = refl
+decider_by Deny id = refl
 
-pub told_closing : (p : Question) (rules : List Rule) (v : Verdict) → IsDecision p rules v → AllByRecursion (λ r. r.id ≢ codes "closing") rules → (told v ≡ codes "closing") ↔ NoneMatches p rules
-told_closing p rules v (inl (i, rule, f, e)) all =
-    (λ c. absurd (open_at rules i rule all f.at (sym (told_by rule.effect rule.id) ∙ ap told (sym e) ∙ c)), λ none. absurd (none i rule f.at f.matching))
-told_closing p rules v (inr (none, e)) all = (λ c. none, λ n. ap told e)
+pub decider_closing : (p : Question) (rules : List Rule) (v : Verdict) → IsDecision p rules v → AllByRecursion (λ r. r.id ≢ codes "closing") rules → (decider v ≡ codes "closing") ↔ NoneMatches p rules
+decider_closing p rules v (inl (i, rule, f, e)) all =
+    (λ c. absurd (open_at rules i rule all f.at (sym (decider_by rule.effect rule.id) ∙ ap decider (sym e) ∙ c)), λ none. absurd (none i rule f.at f.matching))
+decider_closing p rules v (inr (none, e)) all = (λ c. none, λ n. ap decider e)

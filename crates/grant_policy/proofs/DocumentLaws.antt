@@ -19,8 +19,8 @@ use Rattle.grant_policy.specs.declared.scope.Scope.{Scope}
 use Rattle.grant_policy.specs.declared.scope.Scope.TheVariants as scope
 use Rattle.grant_policy.specs.declared.policy_fault.PolicyFault.{PolicyFault}
 use Rattle.grant_policy.specs.declared.policy_fault.PolicyFault.TheVariants.{UnknownKey, MissingKey, BadValue}
-use Rattle.grant_policy.specs.declared.policy_fault.Place.{Place}
-use Rattle.grant_policy.specs.declared.policy_fault.Place.TheVariants as place
+use Rattle.grant_policy.specs.declared.policy_fault.PolicyPlace.{PolicyPlace}
+use Rattle.grant_policy.specs.declared.policy_fault.PolicyPlace.TheVariants as place
 use Rattle.grant_policy.specs.declared.policy_fault.RuleKey.{RuleKey}
 use Rattle.grant_policy.specs.declared.policy_fault.RuleKey.TheVariants as key
 use Rattle.grant_policy.specs.declared.rule.Rule.{Rule}
@@ -40,14 +40,14 @@ only-Decides : (known : List (List ℕ)) (ms : Members) → Decides (has_only kn
 only-Decides known no_members = (λ _. tt, λ _. refl)
 only-Decides known (member k d ms) = Decides-and _ _ (list_any-Decides bytes_eq bytes_eq-Decides k known) (only-Decides known ms)
 
-known_ok : (known : List (List ℕ)) (at : Place) (ms : Members) (u : Unit {0}) → known_keys known at ms ≡ Ok u → HasOnly known ms
+known_ok : (known : List (List ℕ)) (at : PolicyPlace) (ms : Members) (u : Unit {0}) → known_keys known at ms ≡ Ok u → HasOnly known ms
 known_ok known at ms u e =
     ⊎_elim
     (λ (yes' : has_only known ms ≡ true). (only-Decides known ms).0 yes')
     (λ (no' : has_only known ms ≡ false). absurd (not_Err (UnknownKey at) u (sym (ap (λ b. cond b (Ok tt) (Err (UnknownKey at))) no') ∙ e)))
     (cases_Bool (has_only known ms))
 
-known_only : (known : List (List ℕ)) (at : Place) (ms : Members) → HasOnly known ms → known_keys known at ms ≡ Ok tt
+known_only : (known : List (List ℕ)) (at : PolicyPlace) (ms : Members) → HasOnly known ms → known_keys known at ms ≡ Ok tt
 known_only known at ms has = ap (λ b. cond b (Ok tt) (Err (UnknownKey at))) ((only-Decides known ms).1 has)
 
 -- ---- words

@@ -15,7 +15,7 @@ use Rattle.std.proofs.lemmas.List.Sums.{sum_by-cons, sum_by-take-drop}
 use Rattle.std.proofs.lemmas.Map.Lookups.{exact_bytes}
 use Rattle.std.proofs.lemmas.Cmp.{tied_itself}
 use Rattle.std.proofs.lemmas.Slice.Eq.{bytes_eq-Decides}
-use Rattle.grant_policy.specs.Index.{IsIndex, IsRow, Names, Place, RowOf, is_at, place_cmp, place_of, place_total, rows_from}
+use Rattle.grant_policy.specs.Index.{IsIndex, IsRow, Names, IndexKey, RowOf, is_at, place_cmp, place_of, place_total, rows_from}
 use Rattle.grant_policy.specs.declared.rule.Rule.{Rule}
 
 pub length_rows : (n : ℕ) (rules : List Rule) → length (rows_from n rules) ≡ length rules
@@ -44,11 +44,11 @@ pub row_of : (rules : List Rule) (i : ℕ) (d : Rule) → i < length rules → C
 row_of rules i d lt = (i, omega (arith, length_rows 0 rules), row_at 0 rules i _ d lt ∙ ap (λ (m : ℕ). record { place = place_of (get_or rules i d); number = m }) (omega arith))
 
 -- whether a row is at a place
-abbrev pub is_row_at : Place → RowOf → Bool
+abbrev pub is_row_at : IndexKey → RowOf → Bool
 is_row_at place row = option_eq bytes_eq row.place.caller place.caller && bytes_eq row.place.key place.key
 
 -- as many rows as rules are at a place
-pub count_rows : (place : Place) (n : ℕ) (rules : List Rule) → count_by (is_row_at place) (rows_from n rules) ≡ count_by (is_at place.caller place.key) rules
+pub count_rows : (place : IndexKey) (n : ℕ) (rules : List Rule) → count_by (is_row_at place) (rows_from n rules) ≡ count_by (is_at place.caller place.key) rules
 count_rows place n [] = refl
 count_rows place n (rule ∷ rules) =
     sum_by-cons (λ row. cond (is_row_at place row) 1 0) (record { place = place_of rule; number = n }) (rows_from (n + 1) rules)
@@ -72,7 +72,7 @@ then_second Less b e = cc
 then_second Equal b e = e
 then_second Greater b e = cc
 
-pub place_exact : (x y : Place) → place_cmp x y ≡ Equal → x ≡ y
+pub place_exact : (x y : IndexKey) → place_cmp x y ≡ Equal → x ≡ y
 place_exact x y e =
     let callers = option_exact x.caller y.caller (then_first (option_cmp (slice_cmp nat_cmp) x.caller y.caller) _ e) in
     let keys = exact_bytes x.key y.key (then_second (option_cmp (slice_cmp nat_cmp) x.caller y.caller) _ e) in
@@ -108,7 +108,7 @@ le_of_lt Equal holds fails = cc
 le_of_lt Greater holds fails = cc
 
 -- what stands at a place passes its test
-at_itself : (place : Place) (row : RowOf) → row.place ≡ place → is_row_at place row ≡ true
+at_itself : (place : IndexKey) (row : RowOf) → row.place ≡ place → is_row_at place row ≡ true
 at_itself place row e = rw e (both place.caller (bytes_eq place.key place.key) ((bytes_eq-Decides place.key place.key).1 refl))
   where
     both : (c : Option (List ℕ)) (b : Bool) → b ≡ true → (option_eq bytes_eq c c && b) ≡ true
@@ -123,7 +123,7 @@ count_all p (x ∷ xs) all =
     ∙ ap (λ b. cond b 1 0 + count_by p xs) (all 0 x (omega arith))
     ∙ omega (arith, count_all p xs (λ k d lt. all (suc k) d (omega arith)))
 
-module _ (index : List RowOf) (target : Place) (sorted : IsSortedBy (λ a b. is_lt (place_cmp a.place b.place)) index) where
+module _ (index : List RowOf) (target : IndexKey) (sorted : IsSortedBy (λ a b. is_lt (place_cmp a.place b.place)) index) where
   abbrev pub before : RowOf → Bool
   before row = is_lt (place_cmp row.place target)
 
@@ -171,12 +171,12 @@ module _ (index : List RowOf) (target : Place) (sorted : IsSortedBy (λ a b. is_
           ⊎_elim (λ (fine : k < to). fine) (λ (high : to ≤ k). absurd (not_both _ (ap is_le same) (hi.1 k d high lt))) (cases_lt k to),
         )
 
-pub record Searched (rules : List Rule) (target : Place) (found : List RowOf) : Type 0 where
+pub record Searched (rules : List Rule) (target : IndexKey) (found : List RowOf) : Type 0 where
   pub rows : All (IsRow rules) found
   pub all : (i : ℕ) (d : Rule) → i < length rules → place_of (get_or rules i d) ≡ target → Names found i
   pub few : length found ≤ count_by (is_at target.caller target.key) rules
 
-pub searched : (rules : List Rule) (index : List RowOf) (h : IsIndex rules index) (target : Place) (from to : ℕ) → IsPartitionPoint (λ row. before index target h.sorted row ≡ true) (λ row. before index target h.sorted row ≡ false) index from → IsPartitionPoint (λ row. upto index target h.sorted row ≡ true) (λ row. upto index target h.sorted row ≡ false) index to → from ≤ length index → to ≤ length index → Searched rules target (take (to - from) (drop from index))
+pub searched : (rules : List Rule) (index : List RowOf) (h : IsIndex rules index) (target : IndexKey) (from to : ℕ) → IsPartitionPoint (λ row. before index target h.sorted row ≡ true) (λ row. before index target h.sorted row ≡ false) index from → IsPartitionPoint (λ row. upto index target h.sorted row ≡ true) (λ row. upto index target h.sorted row ≡ false) index to → from ≤ length index → to ≤ length index → Searched rules target (take (to - from) (drop from index))
 searched rules index h target from to lo hi from_in to_in =
     let some : RowOf = record { place = target; number = 0 } in
     let are : All (IsRow rules) index = All-permutation (IsRow rules) (rows_from 0 rules) index h.moved (rows_are rules) in
@@ -197,7 +197,7 @@ searched rules index h target from to lo hi from_in to_in =
       few = omega (arith, found_few index target h.sorted from to lo hi from_in to_in some, sum_by-IsPermutation (λ row. cond (is_row_at target row) 1 0) (rows_from 0 rules) index h.moved, count_rows target 0 rules);
     }
 
-pub in_order_at : (rules : List Rule) (index : List RowOf) (h : IsIndex rules index) (target : Place) (from to : ℕ) → IsPartitionPoint (λ row. before index target h.sorted row ≡ true) (λ row. before index target h.sorted row ≡ false) index from → IsPartitionPoint (λ row. upto index target h.sorted row ≡ true) (λ row. upto index target h.sorted row ≡ false) index to → from ≤ length index → to ≤ length index → from ≤ to
+pub in_order_at : (rules : List Rule) (index : List RowOf) (h : IsIndex rules index) (target : IndexKey) (from to : ℕ) → IsPartitionPoint (λ row. before index target h.sorted row ≡ true) (λ row. before index target h.sorted row ≡ false) index from → IsPartitionPoint (λ row. upto index target h.sorted row ≡ true) (λ row. upto index target h.sorted row ≡ false) index to → from ≤ length index → to ≤ length index → from ≤ to
 in_order_at rules index h target from to lo hi from_in to_in = in_order index target h.sorted from to lo hi from_in to_in (record { place = target; number = 0 })
 
 -- the rows of one rule more

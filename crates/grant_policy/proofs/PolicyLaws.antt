@@ -15,7 +15,7 @@ use Rattle.grant_policy.specs.Reading.{is_among, free_id, free_rules, few, built
 use Rattle.grant_policy.proofs.IdLemmas.{among_push}
 use Rattle.std.specs.Option.{ok_or}
 use Rattle.toml.specs.Data.{Data, string, integer, float, boolean, datetime, array, table, Items, no_items, item, as_str}
-use Rattle.grant_policy.specs.declared.policy_fault.Place.{Place}
+use Rattle.grant_policy.specs.declared.policy_fault.PolicyPlace.{PolicyPlace}
 
 -- what is true of each value that a definition reads is true of what a call answers
 pub found_of : {X : Type 0} (P : X → Type 0) (r read : Result X PolicyFault) → Reads (λ x. x) r read → ((x : X) → read ≡ Ok x → P x) → IfOk r P
@@ -168,19 +168,19 @@ text_ok (datetime t) text e = absurd cc
 text_ok (array ds) text e = absurd cc
 text_ok (table ms) text e = absurd cc
 
-pub word_ok : {X : Type 0} (word : List ℕ → Option X) (at : Place) (d : Data) (x : X) → word_in word at d ≡ Ok x → (text : List ℕ) × (d ≡ string text) × (word text ≡ Some x)
+pub word_ok : {X : Type 0} (word : List ℕ → Option X) (at : PolicyPlace) (d : Data) (x : X) → word_in word at d ≡ Ok x → (text : List ℕ) × (d ≡ string text) × (word text ≡ Some x)
 word_ok word at d x e =
     let text = bind_ok (text_in at d) (λ text. ok_or (word text) (BadValue at)) x e in
     (text.0, text_ok d text.0 (ok_or_ok (as_str d) (BadValue at) text.0 text.1), ok_or_ok (word text.0) (BadValue at) x text.2)
 
-pub word_only : {X : Type 0} (word : List ℕ → Option X) (at : Place) (text : List ℕ) (x : X) → word text ≡ Some x → word_in word at (string text) ≡ Ok x
+pub word_only : {X : Type 0} (word : List ℕ → Option X) (at : PolicyPlace) (text : List ℕ) (x : X) → word text ≡ Some x → word_in word at (string text) ≡ Ok x
 word_only word at text x e = ap (λ (o : Option _). ok_or o (BadValue at)) e
 
 -- a word and what it is spelled by
 abbrev pub Spelled : {X : Type 0} → (List ℕ → Option X) → (X → List ℕ → Type 0) → Type 0
 Spelled {X} word Spells = (text : List ℕ) (x : X) → (word text ≡ Some x) ↔ Spells x text
 
-module _ {X : Type 0} (word : List ℕ → Option X) (Spells : X → List ℕ → Type 0) (is : Spelled word Spells) (at : Place) where
+module _ {X : Type 0} (word : List ℕ → Option X) (Spells : X → List ℕ → Type 0) (is : Spelled word Spells) (at : PolicyPlace) where
   words_found : (items : Items) (xs : List X) → words_of word at items ≡ Ok xs → SpellsItems Spells xs items
   words_found no_items [] e = refl
   words_found no_items (x ∷ xs) e = absurd (let f : [] ≡ x ∷ xs = same_Ok [] (x ∷ xs) e in cc)

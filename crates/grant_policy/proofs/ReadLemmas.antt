@@ -7,11 +7,11 @@ use Rattle.toml.specs.Data.{Data, string, integer, float, boolean, datetime, arr
 use Rattle.toml.specs.View.{view, items_view, members_view}
 use Rattle.grant_policy.specs.declared.policy_fault.PolicyFault.{PolicyFault}
 use Rattle.grant_policy.specs.declared.policy_fault.PolicyFault.TheVariants.{NotToml, UnknownKey, MissingKey, BadValue, IdRepeated, IdReserved, TooManyRules, Name, NoMemory}
-use Rattle.grant_policy.specs.declared.policy_fault.Place.{Place}
+use Rattle.grant_policy.specs.declared.policy_fault.PolicyPlace.{PolicyPlace}
 use Rattle.grant_policy.specs.Faults.{Refuses, ◌>>=◌}
 use Rattle.grant_policy.specs.Reading.{word_in, words_of, selection_in, rule_of, rules_of, IsNamedIn, AreNamedIn, has_only, tables_of, rule_tables, SameIds, is_among, free_id, free_rules}
 use Rattle.grant_policy.specs.Documents.{document_of}
-use Rattle.grant_policy.specs.declared.policy_fault.Place.TheVariants.{Rules}
+use Rattle.grant_policy.specs.declared.policy_fault.PolicyPlace.TheVariants.{Rules}
 use Rattle.toml.specs.Parse.{parse_document}
 use Rattle.std.specs.Option.{ok_or}
 use Rattle.std.specs.Str.{IsUtf8, is_utf8}
@@ -51,7 +51,7 @@ front_all done = ap (λ (l : List _). Ok l) (append-nil done)
 
 -- ---- words
 
-module _ {X : Type 0} (word : List ℕ → Option X) (at : Place) (items : List Value) where
+module _ {X : Type 0} (word : List ℕ → Option X) (at : PolicyPlace) (items : List Value) where
   abbrev pub words_from : ℕ → Result (List X) PolicyFault
   words_from i = words_of word at (items_view (drop i items))
 
@@ -72,7 +72,7 @@ pub not_zero : (n : ℕ) → (n == 0) ≡ false → 0 < n
 not_zero zero e = absurd cc
 not_zero (suc n) e = omega arith
 
-module _ {X : Type 0} (word : List ℕ → Option X) (at : Place) where
+module _ {X : Type 0} (word : List ℕ → Option X) (at : PolicyPlace) where
   pub selection_text : (d : Data) (text : List ℕ) → as_str d ≡ Some text → selection_in word at d ≡ (if bytes_eq text (codes "*") then Ok None else Err (BadValue at))
   selection_text (string text) other e = let same : text ≡ other = cc in ap (λ (t : List ℕ). if bytes_eq t (codes "*") then Ok None else Err (BadValue at)) same
   selection_text (integer z) text e = absurd cc

@@ -9,7 +9,7 @@ use Rattle.grant_policy.specs.declared.rule.Rule.{Rule}
 use Rattle.grant_policy.specs.Scopes.{covers}
 use Rattle.grant_policy.specs.declared.claims.Claim.{Claim}
 use Rattle.grant_policy.specs.declared.claims.Entry.{Entry}
-use Rattle.grant_policy.specs.declared.claims.Row.{Row}
+use Rattle.grant_policy.specs.declared.claims.Coverage.{Coverage}
 use Rattle.grant_policy.specs.Points.{has_point, names_point}
 use Rattle.grant_policy.specs.Taking.{AreCallers, shared_of, includes, speaks}
 
@@ -54,7 +54,7 @@ pub record AreEntries (rules : List Rule) (name : List (List ℕ)) (n : ℕ) (en
   pub each : All (IsEntry rules name) entries
 
 -- a row has the entries of all rules at its name
-abbrev pub IsRow : List Rule → Row → Type 0
+abbrev pub IsRow : List Rule → Coverage → Type 0
 IsRow rules row = AreEntries rules row.name.now (length rules) row.entries.items
 
 -- ---- taking
@@ -79,8 +79,8 @@ pub record Hits (c : Claim) (entries : List Entry) (n j : ℕ) : Type 0 where
   pub takes : TakesBehind c (take place entries) entry
 
 -- the same in one of the rows that have the rule
-pub record TakesIn (c : Claim) (i : ℕ) (rows : List Row) (j : ℕ) : Type 0 where
-  pub row : Row
+pub record TakesIn (c : Claim) (i : ℕ) (rows : List Coverage) (j : ℕ) : Type 0 where
+  pub row : Coverage
   pub among : Contains rows row
   pub own : Contains (map (λ e. e.number) row.entries.items) i
   pub hits : Hits c row.entries.items (length row.entries.items) j

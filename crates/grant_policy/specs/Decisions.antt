@@ -55,17 +55,17 @@ pub record IsDecidedBy (does : Effect) (called : List ℕ) (asked : Question) (r
   pub effect : rule.effect ≡ does
   pub id : rule.id ≡ called
 
--- ---- how a decision is told
+-- ---- by whom it is decided
 
 abbrev pub verdict_of : Decision → Verdict
 verdict_of (code.Granted id) = granted id.now
 verdict_of (code.Denied id) = denied (option_map (λ i. i.now) id)
 
 -- the rule by its id, and no rule as `closing`
-abbrev pub told : Verdict → List ℕ
-told (granted id) = id
-told (denied None) = codes "closing"
-told (denied (Some id)) = id
+abbrev pub decider : Verdict → List ℕ
+decider (granted id) = id
+decider (denied None) = codes "closing"
+decider (denied (Some id)) = id
 
 abbrev pub is_granted : Verdict → Bool
 is_granted (granted id) = true

@@ -13,16 +13,16 @@ use Rattle.grant_policy.specs.declared.callers.Callers.TheVariants.{Every, One}
 use Rattle.grant_policy.specs.declared.rule.Rule.{Rule}
 
 -- whose rules, where none is every caller's, and at the name of which key
-pub record Place : Type 0 where
+pub record IndexKey : Type 0 where
   pub caller : Option (List ℕ)
   pub key : List ℕ
 
 -- a row of the index
 pub record RowOf : Type 0 where
-  pub place : Place
+  pub place : IndexKey
   pub number : ℕ
 
-abbrev pub place_cmp : Place → Place → Ordering
+abbrev pub place_cmp : IndexKey → IndexKey → Ordering
 place_cmp = then_cmp (on (λ p. p.caller) (option_cmp (slice_cmp nat_cmp))) (on (λ p. p.key) (slice_cmp nat_cmp))
 
 pub place_total : IsTotalOrder place_cmp
@@ -32,7 +32,7 @@ abbrev pub one_of : Callers → Option (List ℕ)
 one_of Every = None
 one_of (One identifier) = Some identifier
 
-abbrev pub place_of : Rule → Place
+abbrev pub place_of : Rule → IndexKey
 place_of rule = record { caller = one_of rule.callers; key = key_of rule.at }
 
 -- a row for each rule, in order, where n rules stand before

@@ -18,8 +18,8 @@ use Rattle.grant_policy.specs.declared.callers.Callers.{Callers}
 use Rattle.grant_policy.specs.declared.callers.Callers.TheVariants.{Every, One}
 use Rattle.grant_policy.specs.declared.policy_fault.PolicyFault.{PolicyFault}
 use Rattle.grant_policy.specs.declared.policy_fault.PolicyFault.TheVariants.{NotToml, UnknownKey, MissingKey, BadValue, IdRepeated, IdReserved, TooManyRules}
-use Rattle.grant_policy.specs.declared.policy_fault.Place.{Place}
-use Rattle.grant_policy.specs.declared.policy_fault.Place.TheVariants as place
+use Rattle.grant_policy.specs.declared.policy_fault.PolicyPlace.{PolicyPlace}
+use Rattle.grant_policy.specs.declared.policy_fault.PolicyPlace.TheVariants as place
 use Rattle.grant_policy.specs.declared.policy_fault.RuleKey.{RuleKey}
 use Rattle.grant_policy.specs.declared.policy_fault.RuleKey.TheVariants as key
 use Rattle.grant_policy.specs.declared.rule.Rule.{Rule}
@@ -58,11 +58,11 @@ abbrev pub needed : ℕ → Members → RuleKey → Result Data PolicyFault
 needed number ms k = ok_or (get_member (key_text k) ms) (MissingKey (place.Key number k))
 
 -- a text
-abbrev pub text_in : Place → Data → Result (List ℕ) PolicyFault
+abbrev pub text_in : PolicyPlace → Data → Result (List ℕ) PolicyFault
 text_in at d = ok_or (as_str d) (BadValue at)
 
 -- a text that is a word
-abbrev pub word_in : {X : Type 0} → (List ℕ → Option X) → Place → Data → Result X PolicyFault
+abbrev pub word_in : {X : Type 0} → (List ℕ → Option X) → PolicyPlace → Data → Result X PolicyFault
 word_in word at d = text_in at d >>= λ text. ok_or (word text) (BadValue at)
 
 abbrev pub is_identifier : List ℕ → Bool
@@ -100,7 +100,7 @@ AreNamedIn (rule ∷ rules) [] = Unit {0}
 AreNamedIn (rule ∷ rules) (ms ∷ mss) = IsNamedIn rule.at ms × AreNamedIn rules mss
 
 -- words, one or more
-abbrev pub words_of : {X : Type 0} → (List ℕ → Option X) → Place → Items → Result (List X) PolicyFault
+abbrev pub words_of : {X : Type 0} → (List ℕ → Option X) → PolicyPlace → Items → Result (List X) PolicyFault
 words_of word at no_items = Ok []
 words_of word at (item d ds) = do
   first ← word_in word at d
@@ -108,7 +108,7 @@ words_of word at (item d ds) = do
   Ok (first ∷ others)
 
 -- `*`, or an array of one word or more
-abbrev pub selection_in : {X : Type 0} → (List ℕ → Option X) → Place → Data → Result (Option (List X)) PolicyFault
+abbrev pub selection_in : {X : Type 0} → (List ℕ → Option X) → PolicyPlace → Data → Result (Option (List X)) PolicyFault
 selection_in word at (string text) = if bytes_eq text (codes "*") then Ok None else Err (BadValue at)
 selection_in word at (array no_items) = Err (BadValue at)
 selection_in word at (array (item d ds)) = words_of word at (item d ds) >>= λ words. Ok (Some words)
@@ -120,7 +120,7 @@ abbrev pub has_only : List (List ℕ) → Members → Bool
 has_only known no_members = true
 has_only known (member k d ms) = list_any (λ word. bytes_eq word k) known && has_only known ms
 
-abbrev pub known_keys : List (List ℕ) → Place → Members → Result (Unit {0}) PolicyFault
+abbrev pub known_keys : List (List ℕ) → PolicyPlace → Members → Result (Unit {0}) PolicyFault
 known_keys known at ms = if has_only known ms then Ok tt else Err (UnknownKey at)
 
 -- the seven values of a rule

@@ -34,7 +34,7 @@ pub(crate) struct Entry<'a> {
 
 /// A name, and the rules that cover it, in order.
 #[derive(Drop)]
-pub(crate) struct Row<'a> {
+pub(crate) struct Coverage<'a> {
     pub(crate) name: &'a Name,
     pub(crate) entries: Vec<Entry<'a>>,
 }
@@ -112,7 +112,7 @@ pub(crate) fn rows_of<'a>(
     alloc: Global,
     claims: &[Claim<'a>],
     names: &'a [Name],
-) -> Result<Vec<Row<'a>>, AllocError>
+) -> Result<Vec<Coverage<'a>>, AllocError>
     requires { All IsClaim claims.now }
     ensures names { IfOk result (λ rows. map (λ r. r.name.now) rows.items ≡ names.now) }
     ensures rows { IfOk result (λ rows. All (IsRow (rules_of claims.now)) rows.items) }
@@ -120,7 +120,7 @@ pub(crate) fn rows_of<'a>(
     let mut rows = Vec::new(alloc);
     for name in names {
         let entries = entries_at(alloc, claims, name)?;
-        rows.push(Row { name, entries })?;
+        rows.push(Coverage { name, entries })?;
     }
     Ok(rows)
 }

@@ -6,7 +6,7 @@ ghost use Rattle.std.specs.Option.{option_copied};
 ghost use Rattle.dns_names.specs.Keys.{IsKeyOfOne};
 ghost use Rattle.grant_policy.specs.declared.rule.Rule.{Rule as RuleOf};
 ghost use Rattle.grant_policy.specs.Rules.{matches};
-ghost use Rattle.grant_policy.specs.Decisions.{IsDecision, NoneMatches, HasRight, told, decision, verdict_of, concerns, is_granted as is_grant, has_right, has_right_to as has_right_to_type};
+ghost use Rattle.grant_policy.specs.Decisions.{IsDecision, NoneMatches, HasRight, decider, decision, verdict_of, concerns, is_granted as is_grant, has_right, has_right_to as has_right_to_type};
 ghost use Rattle.grant_policy.specs.Index.{is_at, place_of};
 ghost use Rattle.grant_policy.specs.Found.{IsFound, question_of, bound_of, is_before};
 
@@ -122,8 +122,8 @@ pub fn decide<'a>(
     ensures found { IsDecision (record { caller = caller.now; name = name.now; record_type = record_type; action = action }) policy.now (verdict_of result) }
     // Which decision it is.
     ensures first { verdict_of result ≡ decision (record { caller = caller.now; name = name.now; record_type = record_type; action = action }) policy.now }
-    // The closing default is told exactly where no rule matches.
-    ensures closing { told (verdict_of result) ≡ codes "closing" ↔ NoneMatches (record { caller = caller.now; name = name.now; record_type = record_type; action = action }) policy.now }
+    // The closing default is named exactly where no rule matches.
+    ensures closing { decider (verdict_of result) ≡ codes "closing" ↔ NoneMatches (record { caller = caller.now; name = name.now; record_type = record_type; action = action }) policy.now }
     // No more look-ups than two for each name from the name to the root, and one for each rule of the caller or of every
     // caller whose name is one of them.
     ensures cost { look_ups.new.count ≤ look_ups.old.count + 2 * (length name.now + 1) + count_by (concerns caller.now name.now) policy.now }

@@ -17,7 +17,7 @@ pub enum Decision<'a> {
 pub const CLOSING: &str = "closing";
 
 impl<'a> Decision<'a> {
-    ghost use Rattle.grant_policy.specs.Decisions.{verdict_of, told, is_granted};
+    ghost use Rattle.grant_policy.specs.Decisions.{verdict_of, decider, is_granted};
 
     /// Whether it is a grant.
     pub fn is_granted(self) -> bool
@@ -31,7 +31,7 @@ impl<'a> Decision<'a> {
 
     /// The identifier of the rule that decided, or `closing` where none did.
     pub fn rule(self) -> &'a [u8]
-        ensures { result.now ≡ told (verdict_of self.entry) }
+        ensures { result.now ≡ decider (verdict_of self.entry) }
     {
         match self {
             Decision::Granted(id) => id.as_bytes(),

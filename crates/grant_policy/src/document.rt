@@ -16,7 +16,7 @@ ghost use Rattle.std.specs.BTreeMap.{keys};
 use crate::identifier::Identifier;
 use crate::ids::Ids;
 use crate::policy::Policy;
-use crate::policy_fault::{Place, PolicyFault, RuleKey};
+use crate::policy_fault::{PolicyFault, PolicyPlace, RuleKey};
 use crate::rule::Rule;
 use crate::selection::{Actions, Types};
 use crate::word::Word;
@@ -26,14 +26,14 @@ use std::str;
 use toml::{Table, Value};
 
 /// The text of a value.
-fn text_of(value: &Value, place: Place) -> Result<&str, PolicyFault>
+fn text_of(value: &Value, place: PolicyPlace) -> Result<&str, PolicyFault>
     ensures { Reads (λ text. text.now) result (text_in place (view value.now)) }
 {
     value.as_str().ok_or(PolicyFault::BadValue(place))
 }
 
 /// The word of a value.
-fn word_of<T: Word>(alloc: Global, value: &Value, place: Place) -> Result<T, PolicyFault>
+fn word_of<T: Word>(alloc: Global, value: &Value, place: PolicyPlace) -> Result<T, PolicyFault>
     ensures { Reads (λ word. word) result (word_in T.word_of place (view value.now)) }
 {
     let text = text_of(value, place)?;
@@ -48,7 +48,7 @@ fn rule_name(alloc: Global, number: usize, value: &Value) -> Result<Name, Policy
     ensures exact { Reads (λ name. name) result (name_in number (view value.now)) }
     ensures found { IfOk result (λ name. IsNamed name (view value.now)) }
 {
-    let text = text_of(value, Place::Key(number, RuleKey::At))?;
+    let text = text_of(value, PolicyPlace::Key(number, RuleKey::At))?;
     match Name::read_absolute(alloc, text.as_bytes()) {
         Ok(name) => Ok(name),
         Err(fault) => Err(PolicyFault::of_name(number, fault)),
@@ -73,7 +73,7 @@ fn value_at(number: usize, table: &Table, key: RuleKey) -> Result<&Value, Policy
 {
     match table.get(key.text()) {
         Some(value) => Ok(value),
-        None => Err(PolicyFault::MissingKey(Place::Key(number, key))),
+        None => Err(PolicyFault::MissingKey(PolicyPlace::Key(number, key))),
     }
 }
 
@@ -93,7 +93,11 @@ fn rule_values(number: usize, table: &Table) -> Result<Values<'_>, PolicyFault>
 }
 
 /// The words of an array, one after the other.
-fn array_words<T: Word>(alloc: Global, items: &[Value], place: Place) -> Result<Vec<T>, PolicyFault>
+fn array_words<T: Word>(
+    alloc: Global,
+    items: &[Value],
+    place: PolicyPlace,
+) -> Result<Vec<T>, PolicyFault>
     ensures { Reads (λ words. words.items) result (words_of T.word_of place (items_view items.now)) }
 {
     let mut words = Vec::new(alloc);
@@ -107,7 +111,7 @@ fn array_words<T: Word>(alloc: Global, items: &[Value], place: Place) -> Result<
 fn selection<T: Word>(
     alloc: Global,
     value: &Value,
-    place: Place,
+    place: PolicyPlace,
 ) -> Result<Option<Vec<T>>, PolicyFault>
     ensures { Reads (λ selection. option_map (λ words. words.items) selection) result (selection_in T.word_of place (view value.now)) }
 {
@@ -123,9 +127,9 @@ fn selection<T: Word>(
 
 /// The types of a rule.
 fn rule_types(alloc: Global, number: usize, value: &Value) -> Result<Types, PolicyFault>
-    ensures { Reads (λ types. types) result (selection_in type_of (Place.Key number RuleKey.Types) (view value.now)) }
+    ensures { Reads (λ types. types) result (selection_in type_of (PolicyPlace.Key number RuleKey.Types) (view value.now)) }
 {
-    match selection(alloc, value, Place::Key(number, RuleKey::Types))? {
+    match selection(alloc, value, PolicyPlace::Key(number, RuleKey::Types))? {
         Some(listed) => Ok(Types::of(listed)),
         None => Ok(Types::every()),
     }
@@ -133,9 +137,9 @@ fn rule_types(alloc: Global, number: usize, value: &Value) -> Result<Types, Poli
 
 /// The actions of a rule.
 fn rule_actions(alloc: Global, number: usize, value: &Value) -> Result<Actions, PolicyFault>
-    ensures { Reads (λ actions. actions) result (selection_in action_of (Place.Key number RuleKey.Actions) (view value.now)) }
+    ensures { Reads (λ actions. actions) result (selection_in action_of (PolicyPlace.Key number RuleKey.Actions) (view value.now)) }
 {
-    match selection(alloc, value, Place::Key(number, RuleKey::Actions))? {
+    match selection(alloc, value, PolicyPlace::Key(number, RuleKey::Actions))? {
         Some(listed) => Ok(Actions::of(listed)),
         None => Ok(Actions::every()),
     }
@@ -152,13 +156,25 @@ fn rule_from(
     ensures added { IfOk result (λ rule. (before : List (List ℕ)) → SameIds ids.old before → SameIds ids.new (before ++ rule.id ∷ [])) }
     ensures named { IfOk result (λ rule. IsNamed rule.at (view values.now.at.now)) }
 {
-    let id: Identifier = word_of(alloc, values.id, Place::Key(number, RuleKey::Id))?;
+    let id: Identifier = word_of(alloc, values.id, PolicyPlace::Key(number, RuleKey::Id))?;
     ids.add(alloc, number, &id)?;
     Ok(Rule {
         id,
-        effect: word_of(alloc, values.effect, Place::Key(number, RuleKey::Effect))?,
-        callers: word_of(alloc, values.caller, Place::Key(number, RuleKey::Caller))?,
-        scope: word_of(alloc, values.scope, Place::Key(number, RuleKey::Scope))?,
+        effect: word_of(
+            alloc,
+            values.effect,
+            PolicyPlace::Key(number, RuleKey::Effect),
+        )?,
+        callers: word_of(
+            alloc,
+            values.caller,
+            PolicyPlace::Key(number, RuleKey::Caller),
+        )?,
+        scope: word_of(
+            alloc,
+            values.scope,
+            PolicyPlace::Key(number, RuleKey::Scope),
+        )?,
         at: rule_name(alloc, number, values.at)?,
         types: rule_types(alloc, number, values.types)?,
         actions: rule_actions(alloc, number, values.actions)?,
@@ -212,7 +228,7 @@ fn read_rule(
     ensures named { IfOk result (λ rule. IsNamedIn rule.at (table_view table.now)) }
 {
     if !has_rule_keys_only(table) {
-        return Err(PolicyFault::UnknownKey(Place::Rule(number)));
+        return Err(PolicyFault::UnknownKey(PolicyPlace::Rule(number)));
     }
     let values = rule_values(number, table)?;
     rule_from(alloc, number, &values, ids)
@@ -235,13 +251,13 @@ fn read_rules(alloc: Global, tables: &[&Table]) -> Result<Vec<Rule>, PolicyFault
 
 /// The tables of an array that has nothing else.
 fn array_tables(alloc: Global, items: &[Value]) -> Result<Vec<&Table>, PolicyFault>
-    ensures { Reads (λ tables. map (λ table. table_view table.now) tables.items) result (ok_or (tables_of (items_view items.now)) (PolicyFault.BadValue Place.Rules)) }
+    ensures { Reads (λ tables. map (λ table. table_view table.now) tables.items) result (ok_or (tables_of (items_view items.now)) (PolicyFault.BadValue PolicyPlace.Rules)) }
 {
     let mut tables = Vec::new(alloc);
     for item in items {
         match item.as_table() {
             Some(table) => tables.push(table)?,
-            None => return Err(PolicyFault::BadValue(Place::Rules)),
+            None => return Err(PolicyFault::BadValue(PolicyPlace::Rules)),
         }
     }
     Ok(tables)
@@ -263,7 +279,7 @@ fn value_tables(alloc: Global, value: &Value) -> Result<Vec<&Table>, PolicyFault
 {
     match value.as_array() {
         Some(items) => array_tables(alloc, items),
-        None => Err(PolicyFault::BadValue(Place::Rules)),
+        None => Err(PolicyFault::BadValue(PolicyPlace::Rules)),
     }
 }
 
@@ -274,7 +290,7 @@ fn document_rules(alloc: Global, top: &Table) -> Result<Vec<Rule>, PolicyFault>
     ensures are { IfOk result (λ rules. AreRules rules.items) }
 {
     if !has_top_keys_only(top) {
-        return Err(PolicyFault::UnknownKey(Place::Document));
+        return Err(PolicyFault::UnknownKey(PolicyPlace::Document));
     }
     let tables = document_tables(alloc, top)?;
     if tables.len() > Policy::RULES_MAX {

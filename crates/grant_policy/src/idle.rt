@@ -7,7 +7,7 @@ ghost use Rattle.grant_policy.specs.Idle.{IsIdle, AreTakers};
 ghost use Rattle.grant_policy.specs.Representatives.{Represent};
 ghost use Rattle.grant_policy.specs.Claims.{IsClaim, IsRow, rules_of};
 
-use crate::claims::{Claim, Row, claims_of, rows_of};
+use crate::claims::{Claim, Coverage, claims_of, rows_of};
 use crate::policy::Policy;
 use crate::representatives::representatives;
 use crate::rule::Rule;
@@ -53,7 +53,7 @@ fn idle_among(alloc: Global, rules: &[Rule]) -> Result<Vec<IdleRule>, AllocError
 fn idle_of(
     alloc: Global,
     claims: &[Claim<'_>],
-    rows: &[Row<'_>],
+    rows: &[Coverage<'_>],
 ) -> Result<Vec<IdleRule>, AllocError>
     requires few { length claims.now ≤ 1024 }
     requires claims { All IsClaim claims.now }

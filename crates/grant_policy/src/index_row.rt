@@ -17,21 +17,21 @@ use std::marker::Model;
 
 /// The number of a rule, behind its caller, where `None` is every caller, and the key of its name.
 #[derive(Drop)]
-pub(crate) struct Row {
+pub(crate) struct IndexRow {
     caller: Option<Identifier>,
     key: Vec<u8>,
     number: usize,
 }
 
-impl Model for Row {
+impl Model for IndexRow {
     ghost Value = { RowOf };
 
     ghost view = { λ r. record { place = record { caller = r.caller; key = r.key.items }; number = r.number } };
 }
 
-impl Row {
+impl IndexRow {
     /// The row of a rule. The only error is out of memory.
-    pub(crate) fn of(alloc: Global, rule: &Rule, number: usize) -> Result<Row, AllocError>
+    pub(crate) fn of(alloc: Global, rule: &Rule, number: usize) -> Result<IndexRow, AllocError>
         ensures row { IfOk result (λ row. row ≡ record { place = place_of rule.now; number = number }) }
         ensures key { IfOk result (λ row. IsKeyOfOne rule.now.at) }
     {
@@ -39,7 +39,7 @@ impl Row {
             Callers::Every => None,
             Callers::One(identifier) => Some(identifier.try_copy(alloc)?),
         };
-        Ok(Row {
+        Ok(IndexRow {
             caller,
             key: Vec::from_slice(alloc, rule.at.key())?,
             number,
@@ -74,7 +74,7 @@ impl Row {
     }
 
     /// How it lies to another row.
-    pub(crate) fn cmp_row(&self, other: &Row) -> Ordering
+    pub(crate) fn cmp_row(&self, other: &IndexRow) -> Ordering
         ensures { result ≡ place_cmp self.now.place other.now.place }
     {
         self.cmp_place(other.caller(), &other.key)

@@ -49,7 +49,7 @@ pub use laws::{
 };
 pub use look_ups::LookUps;
 pub use policy::Policy;
-pub use policy_fault::{Place, PolicyFault, RuleKey};
+pub use policy_fault::{PolicyFault, PolicyPlace, RuleKey};
 pub use rule::Rule;
 pub use scope::{Scope, covers};
 pub use selection::{Actions, Types};

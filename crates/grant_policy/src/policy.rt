@@ -10,7 +10,7 @@ ghost use Rattle.grant_policy.specs.Reading.{free_rules, built};
 ghost use Rattle.grant_policy.specs.Index.{IsIndex, IsRow, Names, is_at, place_of};
 
 use crate::ids::Ids;
-use crate::index_row::Row;
+use crate::index_row::IndexRow;
 use crate::look_ups::LookUps;
 use crate::policy_fault::PolicyFault;
 use crate::rule::Rule;
@@ -22,7 +22,7 @@ use std::marker::Model;
 #[derive(Drop)]
 pub struct Policy {
     rules: Vec<Rule>,
-    index: Vec<Row>,
+    index: Vec<IndexRow>,
 }
 
 impl Model for Policy {
@@ -44,7 +44,7 @@ impl Policy {
     {
         let mut index = Vec::new(alloc);
         for (number, rule) in rules.iter().enumerate() {
-            index.push(Row::of(alloc, rule, number)?)?;
+            index.push(IndexRow::of(alloc, rule, number)?)?;
         }
         index.sort_by(|a, b| a.cmp_row(b))?;
         Ok(Policy { rules, index })
@@ -110,7 +110,7 @@ impl RuleTable for Policy {
 
     ghost count = { λ u. u.count };
 
-    fn search(&self, caller: Option<&[u8]>, key: &[u8], look_ups: &mut LookUps) -> &[Row] {
+    fn search(&self, caller: Option<&[u8]>, key: &[u8], look_ups: &mut LookUps) -> &[IndexRow] {
         look_ups.add_one();
         let from = self
             .index

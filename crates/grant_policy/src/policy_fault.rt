@@ -52,7 +52,7 @@ impl RuleKey {
 
 /// Where in the document of a policy something is wrong.
 #[derive(Clone, Copy, Debug, PartialEq, Eq)]
-pub enum Place {
+pub enum PolicyPlace {
     /// At the top of the document.
     Document,
     /// At its key `rule`.
@@ -63,13 +63,13 @@ pub enum Place {
     Key(usize, RuleKey),
 }
 
-impl Display for Place {
+impl Display for PolicyPlace {
     fn fmt<W: Write>(&self, f: &mut Formatter<W>) -> fmt::Result {
         match self {
-            Place::Document => write!(f, "the top of the policy"),
-            Place::Rules => write!(f, "`rule`"),
-            Place::Rule(number) => write!(f, "rule {number}"),
-            Place::Key(number, key) => write!(f, "`{}` of rule {number}", key.text()),
+            PolicyPlace::Document => write!(f, "the top of the policy"),
+            PolicyPlace::Rules => write!(f, "`rule`"),
+            PolicyPlace::Rule(number) => write!(f, "rule {number}"),
+            PolicyPlace::Key(number, key) => write!(f, "`{}` of rule {number}", key.text()),
         }
     }
 }
@@ -82,13 +82,13 @@ pub enum PolicyFault {
     NotToml,
     /// A table has a key that none of its kind has.
     #[error("{0} has a key that is not known")]
-    UnknownKey(Place),
+    UnknownKey(PolicyPlace),
     /// A rule lacks a key.
     #[error("{0} is missing")]
-    MissingKey(Place),
+    MissingKey(PolicyPlace),
     /// A value is not one of those that its key may have.
     #[error("{0} has a value that is not allowed")]
-    BadValue(Place),
+    BadValue(PolicyPlace),
     /// The rule of this number has the id of one before it.
     #[error("rule {0} has the id of a rule before it")]
     IdRepeated(usize),

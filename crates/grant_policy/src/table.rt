@@ -7,7 +7,7 @@ ghost use Rattle.dns_names.specs.Keys.{IsKeyOfOne};
 ghost use Rattle.grant_policy.specs.declared.rule.Rule.{Rule as RuleOf};
 ghost use Rattle.grant_policy.specs.Index.{IsRow, Names, is_at, place_of};
 
-use crate::index_row::Row;
+use crate::index_row::IndexRow;
 use crate::rule::Rule;
 
 /// An ordered list of rules that is read by two calls alone, each of which is one look-up. What is generic over it can't make
@@ -21,7 +21,7 @@ pub(crate) trait RuleTable {
     ghost count: { Self.LookUps → ℕ };
 
     /// The rows of the rules of a caller, or with `None` of every caller, at the name of a key.
-    fn search(&self, caller: Option<&[u8]>, key: &[u8], look_ups: &mut Self::LookUps) -> &[Row]
+    fn search(&self, caller: Option<&[u8]>, key: &[u8], look_ups: &mut Self::LookUps) -> &[IndexRow]
         // Each row names a rule at its place.
         ensures rows { All (IsRow (rules self.now)) result.now }
         // Each rule at that place has a row.

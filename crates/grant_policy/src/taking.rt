@@ -10,7 +10,7 @@ ghost use Rattle.grant_policy.specs.declared.claims.Entry.{Entry as EntryOf};
 ghost use Rattle.grant_policy.specs.Points.{has_point};
 ghost use Rattle.grant_policy.specs.Claims.{AreBelow, IsClaim, IsRow, Hits, TakesBehind, is_decided, rules_of};
 
-use crate::claims::{Claim, Entry, Row};
+use crate::claims::{Claim, Coverage, Entry};
 use crate::points::Points;
 use crate::shared_callers::{include_all, shared};
 use std::alloc::{AllocError, Global};
@@ -19,7 +19,7 @@ use std::alloc::{AllocError, Global};
 pub(crate) fn takers(
     alloc: Global,
     claims: &[Claim<'_>],
-    rows: &[Row<'_>],
+    rows: &[Coverage<'_>],
     number: usize,
 ) -> Result<Vec<usize>, AllocError>
     requires few { length claims.now ≤ 1024 }

@@ -6,9 +6,9 @@ use Rattle.office_core.specs.declared.reply.Reply.{Reply}
 use Rattle.office_core.specs.Replies.{ReplyOf, reply_of}
 use Rattle.office_core.specs.States.{State, AreZones, AreReceipts}
 use Rattle.office_core.specs.Runs.{HasUpdate, HaveUpdates, one_kept, kept, given, IsRun}
-use Rattle.office_core.specs.Isolation.{told_to, AreToldAlone}
+use Rattle.office_core.specs.Isolation.{replies_to, AreAnsweredAlone}
 use Rattle.office_core.specs.Promises.{CallsAreRight}
-use Rattle.office_core.specs.Told.{AnswersAreRight}
+use Rattle.office_core.specs.RightAnswers.{AnswersAreRight}
 use Rattle.office_core.proofs.CallLemmas.{calls_are_right}
 use Rattle.office_core.proofs.AnswerLemmas.{answers_are_right}
 use Rattle.office_core.proofs.IsolationLemmas.{callers_are_alone, blind_callers_are_alone, policies_keep_alone}
@@ -23,13 +23,13 @@ kept_have [] rs all = tt
 kept_have (call ∷ calls) [] all = tt
 kept_have (call ∷ calls) (r ∷ rs) all = one_has call (reply_of r) (kept calls rs) all.0 (kept_have calls rs all.1)
 
-pub run_alone : (holds : State → Type 0) (rules : List Rule) (s : State) (calls : List Call) (rs : List Reply) → AreZones s → HaveUpdates calls → IsRun holds rules s calls rs → AreToldAlone rules s (kept calls rs) (given calls rs)
+pub run_alone : (holds : State → Type 0) (rules : List Rule) (s : State) (calls : List Call) (rs : List Reply) → AreZones s → HaveUpdates calls → IsRun holds rules s calls rs → AreAnsweredAlone rules s (kept calls rs) (given calls rs)
 run_alone holds rules s calls rs zones has run =
     let have = kept_have calls rs has in
     record {
-      by_rights = λ caller blind away. ap (told_to caller) run.as_machine ∙ callers_are_alone rules caller s (kept calls rs) zones have blind away;
-      by_visibility = λ caller blind invisible. ap (told_to caller) run.as_machine ∙ blind_callers_are_alone rules caller s (kept calls rs) zones have blind invisible;
-      by_policy = λ caller blind others. ap (told_to caller) run.as_machine ∙ policies_keep_alone rules caller s (kept calls rs) zones have blind others;
+      by_rights = λ caller blind away. ap (replies_to caller) run.as_machine ∙ callers_are_alone rules caller s (kept calls rs) zones have blind away;
+      by_visibility = λ caller blind invisible. ap (replies_to caller) run.as_machine ∙ blind_callers_are_alone rules caller s (kept calls rs) zones have blind invisible;
+      by_policy = λ caller blind others. ap (replies_to caller) run.as_machine ∙ policies_keep_alone rules caller s (kept calls rs) zones have blind others;
     }
 
 pub run_right : (rules : List Rule) (s : State) (calls : List Call) (rs : List Reply) → AreZones s → AreReceipts s → HaveUpdates calls → CallsAreRight rules s (kept calls rs)

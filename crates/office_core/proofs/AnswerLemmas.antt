@@ -22,7 +22,7 @@ use Rattle.office_core.specs.States.{Held, State, AreZones, AreReceipts, zone_he
 use Rattle.office_core.specs.Machine.{Turn, receipt}
 use Rattle.office_core.specs.Runs.{Answer, HasUpdate, HaveUpdates, turn, answers}
 use Rattle.office_core.specs.Promises.{IsMade, UpdateIsRight, TurnIsRight, IsOfZone, TellsList}
-use Rattle.office_core.specs.Told.{IsDue, IsMadeWhole, LeavesZones, NewIsRight, IsReceiptOf, RepeatIsRight, TellsReport, ReplyIsRight, AnswerIsRight, state_before, IsMadeUnder, AllAnswersAreRight}
+use Rattle.office_core.specs.RightAnswers.{IsDue, IsMadeWhole, LeavesZones, NewIsRight, IsReceiptOf, RepeatIsRight, TellsReport, ReplyIsRight, AnswerIsRight, state_before, IsMadeUnder, AllAnswersAreRight}
 use Rattle.office_core.proofs.PromiseLemmas.{same_Some, some_none, step_is_right, keeps_receipts}
 use Rattle.office_core.proofs.CallLemmas.{keeps_zones, calls_are_right}
 
@@ -134,10 +134,10 @@ module _ (rules : List Rule) (caller id : List ℕ) (origin : List (List ℕ)) (
   asked = requests.Update origin id update
 
   -- what is told of an update by a receipt
-  abbrev ToldBy : Receipt → ReplyOf → Type 0
-  ToldBy kept reply = (IsReceiptOf origin update kept × (reply ≡ to_update kept.reply)) ⊎ (¬ IsReceiptOf origin update kept × (reply ≡ id_reused))
+  abbrev AnsweredBy : Receipt → ReplyOf → Type 0
+  AnsweredBy kept reply = (IsReceiptOf origin update kept × (reply ≡ to_update kept.reply)) ⊎ (¬ IsReceiptOf origin update kept × (reply ≡ id_reused))
 
-  told_same : (kept : Receipt) (a b : ReplyOf) → ToldBy kept a → ToldBy kept b → b ≡ a
+  told_same : (kept : Receipt) (a b : ReplyOf) → AnsweredBy kept a → AnsweredBy kept b → b ≡ a
   told_same kept a b (inl one) (inl two) = two.1 ∙ sym one.1
   told_same kept a b (inl one) (inr two) = absurd (two.0 one.0)
   told_same kept a b (inr one) (inl two) = absurd (one.0 two.0)
@@ -145,7 +145,7 @@ module _ (rules : List Rule) (caller id : List ℕ) (origin : List (List ℕ)) (
 
   -- a receipt that is there after the reply, and tells it
   abbrev Keeps : ReplyOf → State → Type 0
-  Keeps reply after = (kept : Receipt) × (after.receipts caller id ≡ Some kept) × ToldBy kept reply
+  Keeps reply after = (kept : Receipt) × (after.receipts caller id ≡ Some kept) × AnsweredBy kept reply
 
   keeps : (s : State) (reply : ReplyOf) (after : State) → ReplyIsRight rules s caller asked reply after → Keeps reply after
   keeps s reply after right = by_receipt (s.receipts caller id) refl

@@ -19,7 +19,7 @@ use Rattle.office_core.specs.Replies.{ReplyOf}
 use Rattle.office_core.specs.States.{State, Held}
 use Rattle.office_core.specs.Machine.{step, refusal, made_now, made}
 use Rattle.office_core.specs.Runs.{Answer, turn, answers, HasUpdate, HaveUpdates}
-use Rattle.office_core.specs.Isolation.{asked_by, told_to, IsOwn, origin_of, OthersStayAway, OthersStayInvisible, OthersMayNot, CallersAreAlone, BlindCallersAreAlone, PoliciesKeepAlone}
+use Rattle.office_core.specs.Isolation.{asked_by, replies_to, IsOwn, origin_of, OthersStayAway, OthersStayInvisible, OthersMayNot, CallersAreAlone, BlindCallersAreAlone, PoliciesKeepAlone}
 use Rattle.office_core.proofs.OwnNameLemmas.{permitted_away}
 use Rattle.office_core.proofs.SameLemmas.{Same, Turns, not_refused, step_alike, step_away, same_self}
 
@@ -35,10 +35,10 @@ module _ (rules : List Rule) (caller : List ℕ) where
       let rest = filter (λ (a : Answer). bytes_eq a.caller caller) (answers rules (turn rules s call).after calls) in
       map (λ (a : Answer). a.reply) (cond own (record { caller = call.caller; reply = (turn rules s call).reply } ∷ rest) rest)
 
-  told_own : (s : State) (call : Call) (calls : List Call) → is_own call ≡ true → told_to caller (answers rules s (call ∷ calls)) ≡ (turn rules s call).reply ∷ told_to caller (answers rules (turn rules s call).after calls)
+  told_own : (s : State) (call : Call) (calls : List Call) → is_own call ≡ true → replies_to caller (answers rules s (call ∷ calls)) ≡ (turn rules s call).reply ∷ replies_to caller (answers rules (turn rules s call).after calls)
   told_own s call calls e = ap (λ own. told_before own s call calls) e
 
-  told_others : (s : State) (call : Call) (calls : List Call) → is_own call ≡ false → told_to caller (answers rules s (call ∷ calls)) ≡ told_to caller (answers rules (turn rules s call).after calls)
+  told_others : (s : State) (call : Call) (calls : List Call) → is_own call ≡ false → replies_to caller (answers rules s (call ∷ calls)) ≡ replies_to caller (answers rules (turn rules s call).after calls)
   told_others s call calls e = ap (λ own. told_before own s call calls) e
 
   asked_own : (call : Call) (calls : List Call) → is_own call ≡ true → asked_by caller (call ∷ calls) ≡ call ∷ asked_by caller calls
@@ -54,22 +54,22 @@ module _ (rules : List Rule) (caller : List ℕ) where
   step_own s t call same is own =
       subst (λ (c : List ℕ). Turns rules caller (step rules s c call.request) (step rules t c call.request)) (sym own) (step_alike rules caller s t same call.request is)
 
-  runs_alike : (s t : State) (calls : List Call) → Same rules caller s t → HaveUpdates calls → OthersStayInvisible rules caller s calls → told_to caller (answers rules s calls) ≡ told_to caller (answers rules t (asked_by caller calls))
+  runs_alike : (s t : State) (calls : List Call) → Same rules caller s t → HaveUpdates calls → OthersStayInvisible rules caller s calls → replies_to caller (answers rules s calls) ≡ replies_to caller (answers rules t (asked_by caller calls))
   runs_alike s t [] same are invisible = refl
   runs_alike s t (call ∷ calls) same are invisible =
-      by_cases (is_own call) (told_to caller (answers rules s (call ∷ calls)) ≡ told_to caller (answers rules t (asked_by caller (call ∷ calls))))
+      by_cases (is_own call) (replies_to caller (answers rules s (call ∷ calls)) ≡ replies_to caller (answers rules t (asked_by caller (call ∷ calls))))
       (λ e.
       let turns : Turns rules caller (turn rules s call) (turn rules t call) =
       step_own s t call same are.0 ((bytes_eq-Decides call.caller caller).0 e) in
       told_own s call calls e
       ∙ (λ i. turns.reply i ∷ runs_alike (turn rules s call).after (turn rules t call).after calls turns.after are.1 invisible.1 i)
       ∙ sym (told_own t call (asked_by caller calls) e)
-      ∙ ap (λ cs. told_to caller (answers rules t cs)) (sym (asked_own call calls e)))
+      ∙ ap (λ cs. replies_to caller (answers rules t cs)) (sym (asked_own call calls e)))
       (λ e.
       let differs = others_call call e in
       told_others s call calls e
       ∙ runs_alike (turn rules s call).after t calls (step_away rules caller s t same call.caller differs call.request are.0 (invisible.0 differs)) are.1 invisible.1
-      ∙ ap (λ cs. told_to caller (answers rules t cs)) (sym (asked_others call calls e)))
+      ∙ ap (λ cs. replies_to caller (answers rules t cs)) (sym (asked_others call calls e)))
 
 -- ---- the others
 

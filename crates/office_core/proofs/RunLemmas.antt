@@ -12,7 +12,7 @@ use Rattle.office_core.specs.declared.reply.Reply.TheVariants.{Servfail}
 use Rattle.office_core.specs.Replies.{ReplyOf, reply_of}
 use Rattle.office_core.specs.States.{State}
 use Rattle.office_core.specs.Steps.{Steps, CountsReply}
-use Rattle.office_core.specs.Runs.{Answer, turn, answers, state_after, one_kept, one_given, kept, given, IsRun, failures_told}
+use Rattle.office_core.specs.Runs.{Answer, turn, answers, state_after, one_kept, one_given, kept, given, IsRun, counted_failures}
 
 same_Some : {T : Type 0} (a b : T) → Some a ≡ Some b → a ≡ b
 same_Some a b e = cc
@@ -85,7 +85,7 @@ module _ (rules : List Rule) where
 -- ---- failures
 
 -- a step tells a failure where the table counted one
-one_told : (before after : ℕ) (r : Reply) → CountsReply before after r → after ≡ before + failures_told r
+one_told : (before after : ℕ) (r : Reply) → CountsReply before after r → after ≡ before + counted_failures r
 one_told before after (Servfail (BeforeCommit Store)) e = e
 one_told before after (Servfail (BeforeCommit NoMemory)) e = omega (arith, e)
 one_told before after (Servfail (Commit Store)) e = e
@@ -93,8 +93,8 @@ one_told before after (Servfail (Commit NoMemory)) e = omega (arith, e)
 one_told before after r e = omega (arith, e)
 
 -- and so do all steps with one more
-pub counts_next : (first before after : ℕ) (rs all : List Reply) (r : Reply) → before ≡ first + sum_by failures_told rs → all ≡ rs ++ r ∷ [] → CountsReply before after r → after ≡ first + sum_by failures_told all
+pub counts_next : (first before after : ℕ) (rs all : List Reply) (r : Reply) → before ≡ first + sum_by counted_failures rs → all ≡ rs ++ r ∷ [] → CountsReply before after r → after ≡ first + sum_by counted_failures all
 counts_next first before after rs all r told more one =
-    let last : after ≡ before + failures_told r = one_told before after r one in
-    let sum : sum_by failures_told all ≡ sum_by failures_told rs + (0 + failures_told r) = ap (sum_by failures_told) more ∙ sum_by-append failures_told rs (r ∷ []) in
+    let last : after ≡ before + counted_failures r = one_told before after r one in
+    let sum : sum_by counted_failures all ≡ sum_by counted_failures rs + (0 + counted_failures r) = ap (sum_by counted_failures) more ∙ sum_by-append counted_failures rs (r ∷ []) in
     omega (arith, told, last, sum)

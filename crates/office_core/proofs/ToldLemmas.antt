@@ -16,7 +16,7 @@ use Rattle.zone_core.specs.Changes.{ChangeOf, is_empty}
 use Rattle.office_core.specs.Permissions.{question}
 use Rattle.office_core.specs.Replies.{NumberedOf}
 use Rattle.office_core.specs.Machine.{may_list, listed, seen_of, seen, numbered, changes_from}
-use Rattle.office_core.specs.Promises.{SoMany, IsNth, MayList, SeesSome, AreShown, IsToldAs, ChangesAreExact}
+use Rattle.office_core.specs.Promises.{SoMany, IsNth, MayList, SeesSome, AreShown, IsAnsweredAs, ChangesAreExact}
 use Rattle.office_core.proofs.FootprintLaws.{In, contained, contains}
 use Rattle.office_core.proofs.ListLemmas.{in_filter, if_granted}
 
@@ -168,7 +168,7 @@ module _ (rules : List Rule) (caller : List ℕ) where
   seen_at : (cs : List ChangeOf) (k : ℕ) → slice_get (seen rules caller cs) k ≡ option_map (seen_of rules caller) (slice_get (filter sees cs) k)
   seen_at cs k = ap (λ (l : List ChangeOf). slice_get l k) (seen_is cs) ∙ slice_get-map (seen_of rules caller) (filter sees cs) k
 
-  told : (cs : List ChangeOf) (n : NumberedOf) → In n (numbered 1 (seen rules caller cs)) → IsToldAs rules caller cs n
+  told : (cs : List ChangeOf) (n : NumberedOf) → In n (numbered 1 (seen rules caller cs)) → IsAnsweredAs rules caller cs n
   told cs n i =
       let at = in_numbered 1 (seen rules caller cs) n i in
       let found = some_mapped (seen_of rules caller) (slice_get (filter sees cs) at.0) at.1 (sym (seen_at cs at.0) ∙ at.2) in
@@ -181,7 +181,7 @@ module _ (rules : List Rule) (caller : List ℕ) where
         added = subst (AreShown rules caller found.0.added) (ap (λ q. q.added) found.2 ∙ sym at.5) (shown found.0.added);
       }
 
-  is_told : (cs : List ChangeOf) (n : NumberedOf) → IsToldAs rules caller cs n → In n (numbered 1 (seen rules caller cs))
+  is_told : (cs : List ChangeOf) (n : NumberedOf) → IsAnsweredAs rules caller cs n → In n (numbered 1 (seen rules caller cs))
   is_told cs n t =
       let found = (is_nth (SeesSome rules caller) sees sees_some cs t.earlier t.change).1 t.place in
       numbered_in 1 (seen rules caller cs) n t.earlier (seen_of rules caller t.change) (seen_at cs t.earlier ∙ ap (option_map (seen_of rules caller)) found)

@@ -25,12 +25,12 @@ abbrev pub asked_by : List ℕ → List Call → List Call
 asked_by caller calls = filter (λ call. bytes_eq call.caller caller) calls
 
 -- the replies to it
-abbrev pub told_to : List ℕ → List Answer → List ReplyOf
-told_to caller all = map (λ a. a.reply) (filter (λ a. bytes_eq a.caller caller) all)
+abbrev pub replies_to : List ℕ → List Answer → List ReplyOf
+replies_to caller all = map (λ a. a.reply) (filter (λ a. bytes_eq a.caller caller) all)
 
 -- its replies among all calls are those to its calls alone
-abbrev pub IsToldAlone : List Rule → List ℕ → State → List Call → Type 0
-IsToldAlone rules caller s calls = told_to caller (answers rules s calls) ≡ told_to caller (answers rules s (asked_by caller calls))
+abbrev pub IsAnsweredAlone : List Rule → List ℕ → State → List Call → Type 0
+IsAnsweredAlone rules caller s calls = replies_to caller (answers rules s calls) ≡ replies_to caller (answers rules s (asked_by caller calls))
 
 -- ---- what it may do
 
@@ -92,25 +92,25 @@ OthersMayNot rules caller =
 -- What calls were answered tells each caller what it would be told alone: one that has no right on an SOA where others stay away
 -- from its names; one that sees no SOA where others stay invisible at its names, or where the policy lets none of them change anything
 -- there.
-pub record AreToldAlone (rules : List Rule) (s : State) (calls : List Call) (given : List Answer) : Type 0 where
-  pub by_rights : (caller : List ℕ) → HasNoSoaRight rules caller s → OthersStayAway rules caller s calls → told_to caller given ≡ told_to caller (answers rules s (asked_by caller calls))
-  pub by_visibility : (caller : List ℕ) → SeesNoSoa rules caller s → OthersStayInvisible rules caller s calls → told_to caller given ≡ told_to caller (answers rules s (asked_by caller calls))
-  pub by_policy : (caller : List ℕ) → SeesNoSoa rules caller s → OthersMayNot rules caller → told_to caller given ≡ told_to caller (answers rules s (asked_by caller calls))
+pub record AreAnsweredAlone (rules : List Rule) (s : State) (calls : List Call) (given : List Answer) : Type 0 where
+  pub by_rights : (caller : List ℕ) → HasNoSoaRight rules caller s → OthersStayAway rules caller s calls → replies_to caller given ≡ replies_to caller (answers rules s (asked_by caller calls))
+  pub by_visibility : (caller : List ℕ) → SeesNoSoa rules caller s → OthersStayInvisible rules caller s calls → replies_to caller given ≡ replies_to caller (answers rules s (asked_by caller calls))
+  pub by_policy : (caller : List ℕ) → SeesNoSoa rules caller s → OthersMayNot rules caller → replies_to caller given ≡ replies_to caller (answers rules s (asked_by caller calls))
 
 -- A caller that has no right on an SOA is told what it would be told alone, where others stay away from its names.
 abbrev pub CallersAreAlone : Type 0
 CallersAreAlone =
     (rules : List Rule) (caller : List ℕ) (s : State) (calls : List Call)
-    → AreZones s → HaveUpdates calls → HasNoSoaRight rules caller s → OthersStayAway rules caller s calls → IsToldAlone rules caller s calls
+    → AreZones s → HaveUpdates calls → HasNoSoaRight rules caller s → OthersStayAway rules caller s calls → IsAnsweredAlone rules caller s calls
 
 -- It is enough that it sees no SOA, and others do no harm by adding an SOA at an origin.
 abbrev pub BlindCallersAreAlone : Type 0
 BlindCallersAreAlone =
     (rules : List Rule) (caller : List ℕ) (s : State) (calls : List Call)
-    → AreZones s → HaveUpdates calls → SeesNoSoa rules caller s → OthersStayInvisible rules caller s calls → IsToldAlone rules caller s calls
+    → AreZones s → HaveUpdates calls → SeesNoSoa rules caller s → OthersStayInvisible rules caller s calls → IsAnsweredAlone rules caller s calls
 
 -- By the policy alone, whatever is requested.
 abbrev pub PoliciesKeepAlone : Type 0
 PoliciesKeepAlone =
     (rules : List Rule) (caller : List ℕ) (s : State) (calls : List Call)
-    → AreZones s → HaveUpdates calls → SeesNoSoa rules caller s → OthersMayNot rules caller → IsToldAlone rules caller s calls
+    → AreZones s → HaveUpdates calls → SeesNoSoa rules caller s → OthersMayNot rules caller → IsAnsweredAlone rules caller s calls

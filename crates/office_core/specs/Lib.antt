@@ -11,4 +11,4 @@ pub mod Runs
 pub mod Isolation
 pub mod Memory
 pub mod Promises
-pub mod Told
+pub mod RightAnswers

@@ -6,7 +6,7 @@ use Rattle.dns_data.specs.declared.record_type.RecordType.{RecordType}
 use Rattle.grant_policy.specs.declared.action.Action.{Action}
 use Rattle.grant_policy.specs.declared.rule.Rule.{Rule}
 use Rattle.grant_policy.specs.Rules.{Question}
-use Rattle.grant_policy.specs.Decisions.{Verdict, granted, denied, decision, told, concerns}
+use Rattle.grant_policy.specs.Decisions.{Verdict, granted, denied, decision, decider, concerns}
 use Rattle.zone_core.specs.declared.update.Place.{Place}
 use Rattle.zone_core.specs.Updates.{UpdateOf, tested_name, acted_name}
 use Rattle.office_core.specs.declared.permission.Denial.{Denial}
@@ -37,7 +37,7 @@ denial_of denial = record { place = denial.place; by = option_map (λ id. id.now
 
 -- by what it is named: the rule, or `closing`
 abbrev pub rule_of : DenialOf → List ℕ
-rule_of denial = told (denied denial.by)
+rule_of denial = decider (denied denial.by)
 
 -- a denial is that of a point which is denied so, and all points before it are granted
 pub record IsFirstDenial (rules : List Rule) (caller : List ℕ) (points : List Point) (denial : DenialOf) : Type 0 where

@@ -144,7 +144,7 @@ AreShown rules caller rs shown = (k : ℕ) (r : Record) → (slice_get shown k �
 
 -- A change as a caller is told it: it sees something of it; its number is its place, from 1 on, among those of which it does; and
 -- of each side it has what it may list.
-pub record IsToldAs (rules : List Rule) (caller : List ℕ) (cs : List ChangeOf) (n : NumberedOf) : Type 0 where
+pub record IsAnsweredAs (rules : List Rule) (caller : List ℕ) (cs : List ChangeOf) (n : NumberedOf) : Type 0 where
   pub change : ChangeOf
   pub earlier : ℕ
   pub place : IsNth (SeesSome rules caller) cs earlier change
@@ -155,7 +155,7 @@ pub record IsToldAs (rules : List Rule) (caller : List ℕ) (cs : List ChangeOf)
 -- A caller gets these changes from a number on: exactly those with at least that number, in the order of their numbers.
 pub record AreToldFrom (rules : List Rule) (caller : List ℕ) (from : ℕ) (cs : List ChangeOf) (ns : List NumberedOf) : Type 0 where
   pub order : AllPairs (λ a b. a.number < b.number) ns
-  pub exactly : (n : NumberedOf) → Contains ns n ↔ ((from ≤ n.number) × IsToldAs rules caller cs n)
+  pub exactly : (n : NumberedOf) → Contains ns n ↔ ((from ≤ n.number) × IsAnsweredAs rules caller cs n)
 
 -- what is told of changes is told so
 abbrev pub ChangesAreExact : Type 0

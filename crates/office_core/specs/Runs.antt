@@ -73,7 +73,7 @@ pub record IsRun (holds : State → Type 0) (rules : List Rule) (s : State) (cal
   pub held : holds (state_after rules s (kept calls rs))
 
 -- how many failures of the table a reply tells
-abbrev pub failures_told : Reply → ℕ
-failures_told (Servfail (BeforeCommit Store)) = 1
-failures_told (Servfail (Commit Store)) = 1
-failures_told reply = 0
+abbrev pub counted_failures : Reply → ℕ
+counted_failures (Servfail (BeforeCommit Store)) = 1
+counted_failures (Servfail (Commit Store)) = 1
+counted_failures reply = 0

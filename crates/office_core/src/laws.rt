@@ -3,7 +3,7 @@
 ghost use Rattle.office_core.specs.Footprints.{FootprintsAreAsked, FootprintsAreInOrder};
 ghost use Rattle.office_core.specs.Isolation.{CallersAreAlone, BlindCallersAreAlone, PoliciesKeepAlone};
 ghost use Rattle.office_core.specs.Promises.{ListsAreExact, ChangesAreExact, AllCallsAreRight};
-ghost use Rattle.office_core.specs.Told.{AllAnswersAreRight};
+ghost use Rattle.office_core.specs.RightAnswers.{AllAnswersAreRight};
 
 /// The footprint of an update has exactly the points that its items ask for, each once and in order: those of prerequisites
 /// before those of operations, items by their numbers, and the points of an item by type number.

@@ -2,10 +2,10 @@
 
 ghost use Rattle.std.specs.Prelude.{◌≡◌, ◌+◌, IfOk, OnErr, sum_by};
 ghost use Rattle.office_core.specs.States.{State};
-ghost use Rattle.office_core.specs.Runs.{IsRun, HasUpdate, HaveUpdates, kept, given, failures_told};
+ghost use Rattle.office_core.specs.Runs.{IsRun, HasUpdate, HaveUpdates, kept, given, counted_failures};
 ghost use Rattle.office_core.specs.Promises.{CallsAreRight};
-ghost use Rattle.office_core.specs.Told.{AnswersAreRight};
-ghost use Rattle.office_core.specs.Isolation.{AreToldAlone};
+ghost use Rattle.office_core.specs.RightAnswers.{AnswersAreRight};
+ghost use Rattle.office_core.specs.Isolation.{AreAnsweredAlone};
 
 use crate::reply::Reply;
 use crate::request::{Call, Request};
@@ -27,14 +27,14 @@ pub fn run<T: ZoneTable>(
     ensures run { T.is_honest table.new → (s : State) → T.holds table.old s → IfOk result (λ replies. IsRun (T.holds table.new) policy.now s calls.now replies.items) }
     // What is promised of calls holds of them: what is made of them is permitted, made whole and in order, and nothing else is.
     ensures promises { T.is_honest table.new → (s : State) → T.holds table.old s → IfOk result (λ replies. CallsAreRight policy.now s (kept calls.now replies.items)) }
-    // What calls are told is right: each reply, by what is held before its call and after it.
-    ensures told { T.is_honest table.new → (s : State) → T.holds table.old s → IfOk result (λ replies. AnswersAreRight policy.now s (kept calls.now replies.items) (given calls.now replies.items)) }
-    // Each caller is told what it would be told alone, as far as the law of isolation goes.
-    ensures alone { T.is_honest table.new → (s : State) → T.holds table.old s → IfOk result (λ replies. AreToldAlone policy.now s (kept calls.now replies.items) (given calls.now replies.items)) }
+    // The answers to calls are right: each reply, by what is held before its call and after it.
+    ensures answers { T.is_honest table.new → (s : State) → T.holds table.old s → IfOk result (λ replies. AnswersAreRight policy.now s (kept calls.now replies.items) (given calls.now replies.items)) }
+    // Each caller gets the replies that it would get alone, as far as the law of isolation goes.
+    ensures alone { T.is_honest table.new → (s : State) → T.holds table.old s → IfOk result (λ replies. AreAnsweredAlone policy.now s (kept calls.now replies.items) (given calls.now replies.items)) }
     // A store that has kept its word had kept it before.
     ensures honest { T.is_honest table.new → T.is_honest table.old }
-    // As many failures of the table are told as the table counted.
-    ensures counts { IfOk result (λ replies. T.failures table.new ≡ T.failures table.old + sum_by failures_told replies.items) }
+    // As many failures of the table are reported as the table counted.
+    ensures counts { IfOk result (λ replies. T.failures table.new ≡ T.failures table.old + sum_by counted_failures replies.items) }
     // Where there is no list of replies the table is as it was.
     ensures refused { OnErr result ((s : State) → T.holds table.old s → T.holds table.new s) }
     ensures uncounted { OnErr result (T.failures table.new ≡ T.failures table.old) }
@@ -52,7 +52,7 @@ fn replies_to<T: ZoneTable>(
 ) -> Result<Vec<Reply>, AllocError>
     ensures run { T.is_honest table.new → (s : State) → T.holds table.old s → IfOk result (λ replies. IsRun (T.holds table.new) policy.now s calls.now replies.items) }
     ensures honest { T.is_honest table.new → T.is_honest table.old }
-    ensures counts { IfOk result (λ replies. T.failures table.new ≡ T.failures table.old + sum_by failures_told replies.items) }
+    ensures counts { IfOk result (λ replies. T.failures table.new ≡ T.failures table.old + sum_by counted_failures replies.items) }
     ensures refused { OnErr result ((s : State) → T.holds table.old s → T.holds table.new s) }
     ensures uncounted { OnErr result (T.failures table.new ≡ T.failures table.old) }
 {

@@ -7,8 +7,8 @@ use Rattle.office_core.specs.declared.reply.Reply.TheVariants.{Servfail}
 use Rattle.office_core.specs.Replies.{ReplyOf}
 use Rattle.office_core.specs.States.{State}
 use Rattle.office_core.specs.Runs.{Answer, turn, answers, state_after, HasUpdate, HaveUpdates, one_kept, one_given}
-use Rattle.office_core.specs.Isolation.{told_to}
-use Rattle.office_core.specs.Told.{AnswersAreRight}
+use Rattle.office_core.specs.Isolation.{replies_to}
+use Rattle.office_core.specs.RightAnswers.{AnswersAreRight}
 use Rattle.office_core.proofs.AnswerLemmas.{answers_are_right}
 use Rattle.office_core.proofs.CallLemmas.{calls_are_right}
 use Rattle.office_core.proofs.IsolationLemmas.{callers_are_alone, blind_callers_are_alone, policies_keep_alone}
@@ -103,8 +103,8 @@ exchanges_run rules c d turns zones receipts run =
       right = calls_are_right rules c.state cs zones receipts of.have;
       answered = subst (λ (ys : List Answer). AnswersAreRight rules c.state cs ys) (sym of.given) (answers_are_right rules c.state cs zones receipts of.have);
       alone = record {
-        by_rights = λ caller blind away. ap (told_to caller) of.given ∙ callers_are_alone rules caller c.state cs zones of.have blind away;
-        by_visibility = λ caller blind quiet. ap (told_to caller) of.given ∙ blind_callers_are_alone rules caller c.state cs zones of.have blind quiet;
-        by_policy = λ caller blind others. ap (told_to caller) of.given ∙ policies_keep_alone rules caller c.state cs zones of.have blind others;
+        by_rights = λ caller blind away. ap (replies_to caller) of.given ∙ callers_are_alone rules caller c.state cs zones of.have blind away;
+        by_visibility = λ caller blind quiet. ap (replies_to caller) of.given ∙ blind_callers_are_alone rules caller c.state cs zones of.have blind quiet;
+        by_policy = λ caller blind others. ap (replies_to caller) of.given ∙ policies_keep_alone rules caller c.state cs zones of.have blind others;
       };
     }

@@ -7,8 +7,8 @@ use Rattle.office_core.specs.Replies.{reply_of}
 use Rattle.office_core.specs.Runs.{Answer, answers, state_after, one_kept, one_given}
 use Rattle.office_core.specs.States.{State, AreZones, AreReceipts}
 use Rattle.office_core.specs.Promises.{CallsAreRight}
-use Rattle.office_core.specs.Told.{AnswersAreRight}
-use Rattle.office_core.specs.Isolation.{AreToldAlone}
+use Rattle.office_core.specs.RightAnswers.{AnswersAreRight}
+use Rattle.office_core.specs.Isolation.{AreAnsweredAlone}
 use Rattle.office_wire.specs.declared.request_fault.RequestFault.{RequestFault}
 use Rattle.office_wire.specs.declared.response.Response.{Response}
 use Rattle.office_wire.specs.declared.response.Response.TheVariants.{Replied}
@@ -41,7 +41,7 @@ pub record ArePromised (rules : List Rule) (s : State) (turns : List Turn) (t : 
   pub after : t ≡ state_after rules s (calls turns)
   pub right : CallsAreRight rules s (calls turns)
   pub answered : AnswersAreRight rules s (calls turns) (given turns)
-  pub alone : AreToldAlone rules s (calls turns) (given turns)
+  pub alone : AreAnsweredAlone rules s (calls turns) (given turns)
 
 -- exchanges are runs of the machine
 abbrev pub ExchangesAreRuns : Type 0

@@ -5,7 +5,7 @@ ghost use Rattle.text_commands.specs.Apply.{apply_text};
 ghost use Rattle.text_commands.specs.Canon.{canon_text};
 ghost use Rattle.text_commands.specs.Check.{Checked};
 ghost use Rattle.text_commands.specs.Explain.{explain_text};
-ghost use Rattle.text_commands.specs.Refusals.{told_refusal};
+ghost use Rattle.text_commands.specs.Refusals.{refused_line};
 ghost use Rattle.text_commands.specs.Replies.{Answered};
 ghost use Rattle.text_commands.specs.Rights.{rights_text};
 
@@ -72,7 +72,7 @@ pub fn explain(alloc: Global, asked: Explain<'_>, input: Vec<u8>) -> (Vec<u8>, R
 
 /// `Display` of a `RefusalLine`.
 pub fn refusal_text(alloc: Global, refusal: Refusal) -> Result<String, AllocError>
-    ensures { IfOk result (λ text. string_bytes text ≡ told_refusal refusal) }
+    ensures { IfOk result (λ text. string_bytes text ≡ refused_line refusal) }
 {
     format!(in alloc; "{}", RefusalLine(refusal))
 }

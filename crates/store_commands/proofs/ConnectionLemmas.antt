@@ -13,7 +13,7 @@ use Rattle.text_commands.specs.declared.line_fault.LineFault.TheVariants.{Refuse
 use Rattle.text_commands.specs.declared.line_fault.JobFault.{JobFault}
 use Rattle.text_commands.specs.declared.line_fault.JobFault.TheVariants.{Told, WriteFailed}
 use Rattle.text_commands.specs.Device.{AppendsFront}
-use Rattle.text_commands.specs.Replies.{IsTold, told}
+use Rattle.text_commands.specs.Replies.{IsTold, line_of}
 use Rattle.text_commands.proofs.JobLemmas.{front_behind}
 use Rattle.office_wire.specs.declared.serve_fault.ServeFault.{ServeFault}
 use Rattle.dns_master.specs.declared.device.DeviceFailed.{DeviceFailed}
@@ -44,8 +44,8 @@ one_ended ends end n count = let all = length-append ends (end ∷ []) in omega 
 -- a fault is told, so that no more need have been served
 pub told_many : (most n : ℕ) (result : Result (Unit {0}) JobFault) (old new : Option (List ℕ)) (fault : LineFault) (before after : ℕ)
     → IsTold old new fault result before after → n ≤ most → IsSoMany most result n
-told_many most n (Ok u) old new fault before after told less = absurd told
-told_many most n (Err e) old new fault before after told less = less
+told_many most n (Ok u) old new fault before after lines less = absurd lines
+told_many most n (Err e) old new fault before after lines less = less
 
 -- ---- what is told
 
@@ -70,14 +70,14 @@ module _ (old mid new : Option (List ℕ)) (ends : List (Option ServeFault)) whe
       → IsTold mid new ReadFailed result failed after → AreTold most ends old new result before after
   told_last most n (Ok done) before failed after count more lines fine wrote = absurd wrote
   told_last most n (Err (Told ReadFailed)) before failed after count more lines fine wrote =
-      (omega (arith, count, more), Appends-trans old mid new (ended_lines ends) (told ReadFailed) lines wrote.1, wrote.2 ∙ fine)
+      (omega (arith, count, more), Appends-trans old mid new (ended_lines ends) (line_of ReadFailed) lines wrote.1, wrote.2 ∙ fine)
   told_last most n (Err (Told (Refused refusal))) before failed after count more lines fine wrote = absurd (cc wrote.0)
   told_last most n (Err (Told NoMemory)) before failed after count more lines fine wrote = absurd (cc wrote.0)
   told_last most n (Err WriteFailed) before failed after count more lines fine wrote =
       let line = wrote.0.0 in
       let same : line ≡ ReadFailed = wrote.0.1 in
-      let front = subst (λ l. AppendsFront mid new (told l)) same wrote.0.2 in
-      (inr (omega (arith, count, more), front_behind old mid new (ended_lines ends) (told ReadFailed) lines front), omega (arith, fine, wrote.1))
+      let front = subst (λ l. AppendsFront mid new (line_of l)) same wrote.0.2 in
+      (inr (omega (arith, count, more), front_behind old mid new (ended_lines ends) (line_of ReadFailed) lines front), omega (arith, fine, wrote.1))
 
 -- ---- the trace
 

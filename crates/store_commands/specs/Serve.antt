@@ -19,7 +19,7 @@ use Rattle.text_commands.specs.declared.line_fault.LineFault.TheVariants.{ReadFa
 use Rattle.text_commands.specs.declared.line_fault.JobFault.{JobFault}
 use Rattle.text_commands.specs.declared.line_fault.JobFault.TheVariants.{Told, WriteFailed}
 use Rattle.text_commands.specs.Device.{AppendsFront}
-use Rattle.text_commands.specs.Replies.{told}
+use Rattle.text_commands.specs.Replies.{line_of}
 
 -- what is read of a policy's text: its rules, or a refusal
 abbrev pub policy_read : List ℕ → Result (List Rule) Refusal
@@ -73,10 +73,10 @@ pub record AreServed (rules : List Rule) (c : Standing) (connections : List (Lis
 -- told, or where a line cannot be written.
 abbrev pub AreTold : ℕ → List (Option ServeFault) → Option (List ℕ) → Option (List ℕ) → Result (Unit {0}) JobFault → ℕ → ℕ → Type 0
 AreTold most ends old new (Ok done) before after = (length ends ≡ most) × Appends old new (ended_lines ends) × (after ≡ before)
-AreTold most ends old new (Err (Told ReadFailed)) before after = (length ends < most) × Appends old new (ended_lines ends ++ told ReadFailed) × (after ≡ before)
+AreTold most ends old new (Err (Told ReadFailed)) before after = (length ends < most) × Appends old new (ended_lines ends ++ line_of ReadFailed) × (after ≡ before)
 AreTold most ends old new (Err (Told fault)) before after = ⊥
 AreTold most ends old new (Err WriteFailed) before after =
-    (((length ends ≤ most) × AppendsFront old new (ended_lines ends)) ⊎ ((length ends < most) × AppendsFront old new (ended_lines ends ++ told ReadFailed))) × (before < after)
+    (((length ends ≤ most) × AppendsFront old new (ended_lines ends)) ⊎ ((length ends < most) × AppendsFront old new (ended_lines ends ++ line_of ReadFailed))) × (before < after)
 
 -- So many connections were served: as many as were asked for, unless one could not be had or a line not be written.
 abbrev pub IsSoMany : ℕ → Result (Unit {0}) JobFault → ℕ → Type 0

@@ -13,7 +13,7 @@ mod zones;
 
 pub use cause::{Cause, Diagnosis, Remembered, Undiagnosed};
 pub use migration::migrate;
-pub use place::{Machine, Place};
+pub use place::{Machine, StoreFiles};
 pub use serving::{Connections, serve_connections};
 pub use std_streams::{do_export, do_import, do_migrate, do_serve};
 pub use text_commands::{

@@ -9,7 +9,7 @@ ghost use Rattle.store_commands.specs.Migrate.{migrated_line, Migrates, migratio
 ghost use Rattle.store_commands.specs.Reports.{IsReported};
 ghost use Rattle.store_commands.specs.Stores.{IsMigratedStore};
 
-use crate::place::Place;
+use crate::place::StoreFiles;
 use crate::store_file::migrate_store;
 use crate::trace::write_texts;
 use dns_master::{DeviceFailed, Sink};
@@ -31,7 +31,7 @@ fn tell_migrated<W: Sink>(writer: &mut W, zones: usize) -> Result<(), DeviceFail
 
 /// Takes the store of a path from version 1 of the tables to version 2, and a line tells how many zones that changed. Otherwise a
 /// line tells the refusal: `NoZone` where there is no file, and those of the migration.
-pub fn migrate<W: Sink, S: Alter + Drop, P: Place<S>>(
+pub fn migrate<W: Sink, S: Alter + Drop, P: StoreFiles<S>>(
     alloc: Global,
     place: &P,
     store: &str,

@@ -10,7 +10,7 @@ use sqlite::{Alter, Connection, Error, ErrorCode, File, FileStore, Unknown};
 use std::fs;
 
 /// What looks for the file of a store, and connects to it.
-pub trait Place<S: Alter + Drop> {
+pub trait StoreFiles<S: Alter + Drop> {
     // It tells of a path whether there is a file.
     ghost finds: { Self → List ℕ → Bool → Type 0 };
 
@@ -36,7 +36,7 @@ pub trait Place<S: Alter + Drop> {
 #[derive(Clone, Copy)]
 pub struct Machine<'a>(pub &'a HostRuntime);
 
-impl Place<FileStore<File>> for Machine<'_> {
+impl StoreFiles<FileStore<File>> for Machine<'_> {
     ghost finds = { λ _ _ _. ⊤ };
 
     ghost refuses = { λ _ _ _. ⊤ };

@@ -4,7 +4,7 @@ ghost use Rattle.std.specs.Prelude.{◌≡◌, ◌<◌, ◌⊎◌, false, IfOk, 
 ghost use Rattle.sqlite.specs.Held.{Held, state};
 ghost use Rattle.store_commands.specs.Stores.{IsAdopted, IsUnadopted, IsMade, IsUnmade, IsUnfound, IsOpened, IsUnopened, IsOpenedOrMade, IsUnopenedOrMade, IsMigratedTo, IsUnmigrated, IsMigratedStore};
 
-use crate::place::Place;
+use crate::place::StoreFiles;
 use office_store::{SqlTable, StoreFault};
 use sqlite::{Alter, Connection};
 use std::alloc::Global;
@@ -12,7 +12,10 @@ use std::marker::Brand;
 use std::sync::ledger::{Blank, Ledger};
 
 /// A connection to the file of a path, if there is one: where there is none, that is `NoZone`.
-fn found<S: Alter + Drop, P: Place<S>>(place: &P, path: &str) -> Result<Connection<S>, StoreFault>
+fn found<S: Alter + Drop, P: StoreFiles<S>>(
+    place: &P,
+    path: &str,
+) -> Result<Connection<S>, StoreFault>
     ensures connected { IfOk result (P.connects place.now path.now) }
     ensures alone { IfOk result (λ conn. conn.in_transaction ≡ false) }
     ensures refused { IfErr result (IsUnfound (P.finds place.now path.now) (P.refuses place.now path.now)) }
@@ -46,7 +49,7 @@ fn adopted<S: Alter + Drop, L: Ledger>(
 /// The table of the store of a path. Where there is no file none is made: that is `NoZone`. `WrongVersion` comes where the file has
 /// not the tables of this version, `BadRow` where their rows are no state, and `Store` where the file is no database or cannot be
 /// read.
-pub fn open_store<S: Alter + Drop, L: Ledger, P: Place<S>>(
+pub fn open_store<S: Alter + Drop, L: Ledger, P: StoreFiles<S>>(
     alloc: Global,
     place: &P,
     path: &str,
@@ -87,7 +90,7 @@ fn made_or_adopted<S: Alter + Drop, L: Ledger>(
 
 /// The table of the store of a path, which is made where there is no file, or one without tables. The refusals are those of
 /// `open_store`, but for `NoZone`.
-pub fn open_or_make_store<S: Alter + Drop, L: Ledger, P: Place<S>>(
+pub fn open_or_make_store<S: Alter + Drop, L: Ledger, P: StoreFiles<S>>(
     alloc: Global,
     place: &P,
     path: &str,
@@ -116,7 +119,7 @@ fn migrate_tables<S: Alter + Drop>(alloc: Global, conn: Connection<S>) -> Result
 /// none is made: that is `NoZone`. `WrongVersion` comes where the file has not the tables of version 1, `BadRow` where their rows are
 /// none that a program of that version wrote, and `Store` where the file is no database or cannot be read or written. Then the file
 /// is as it was.
-pub fn migrate_store<S: Alter + Drop, P: Place<S>>(
+pub fn migrate_store<S: Alter + Drop, P: StoreFiles<S>>(
     alloc: Global,
     place: &P,
     path: &str,

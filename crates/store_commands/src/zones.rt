@@ -15,7 +15,7 @@ ghost use Rattle.store_commands.specs.Stores.{IsReached, IsUnreached, IsPut, IsS
 ghost use Rattle.store_commands.specs.Export.{FindsRecords, export_text, IsExported};
 ghost use Rattle.store_commands.specs.Reports.{IsReported, IsShown};
 
-use crate::place::Place;
+use crate::place::StoreFiles;
 use crate::store_file::{open_or_make_store, open_store};
 use command_line::{Existing, StoredZone, ZoneForm};
 use dns_data::Record;
@@ -76,7 +76,7 @@ fn put<S: Alter + Drop, L: Ledger>(
 }
 
 /// The table of the store of a path for a zone: it is made, where no zone is to be replaced and there is none.
-fn reached<S: Alter + Drop, L: Ledger, P: Place<S>>(
+fn reached<S: Alter + Drop, L: Ledger, P: StoreFiles<S>>(
     alloc: Global,
     place: &P,
     path: &str,
@@ -96,7 +96,7 @@ fn reached<S: Alter + Drop, L: Ledger, P: Place<S>>(
 }
 
 /// Puts a zone into the store of a path.
-fn put_into_store<S: Alter + Drop, L: Ledger, P: Place<S>>(
+fn put_into_store<S: Alter + Drop, L: Ledger, P: StoreFiles<S>>(
     alloc: Global,
     place: &P,
     path: &str,
@@ -114,7 +114,7 @@ fn put_into_store<S: Alter + Drop, L: Ledger, P: Place<S>>(
 }
 
 /// Reads a zone, puts it into the store of a path, and answers the line that tells of it.
-fn imported<R: Source, S: Alter + Drop, L: Ledger, P: Place<S>>(
+fn imported<R: Source, S: Alter + Drop, L: Ledger, P: StoreFiles<S>>(
     alloc: Global,
     place: &P,
     stored: StoredZone<'_>,
@@ -137,7 +137,7 @@ fn imported<R: Source, S: Alter + Drop, L: Ledger, P: Place<S>>(
 /// Reads a master file, builds its zone, and puts it into the store of a path, which is made where there is none and nothing is to
 /// be replaced. A line tells the zone's origin, its serial and how many records it has; or one tells the refusal that comes first: of
 /// the origin, of the file, of its records as a zone, of the store, and then `ZoneExists`, or `NoZone` and `SerialNotGreater`.
-pub fn import<R: Source, W: Sink, S: Alter + Drop, L: Ledger, P: Place<S>>(
+pub fn import<R: Source, W: Sink, S: Alter + Drop, L: Ledger, P: StoreFiles<S>>(
     alloc: Global,
     place: &P,
     what: (StoredZone<'_>, Existing),
@@ -178,7 +178,7 @@ fn records_in<S: Alter + Drop, L: Ledger>(
 }
 
 /// The records of a zone of the store of a path.
-fn stored_records<S: Alter + Drop, L: Ledger, P: Place<S>>(
+fn stored_records<S: Alter + Drop, L: Ledger, P: StoreFiles<S>>(
     alloc: Global,
     place: &P,
     path: &str,
@@ -195,7 +195,7 @@ fn stored_records<S: Alter + Drop, L: Ledger, P: Place<S>>(
 }
 
 /// The origin and the records of a zone of the store of a path.
-fn exported<S: Alter + Drop, L: Ledger, P: Place<S>>(
+fn exported<S: Alter + Drop, L: Ledger, P: StoreFiles<S>>(
     alloc: Global,
     place: &P,
     stored: StoredZone<'_>,
@@ -227,7 +227,7 @@ fn print<'a, W: Sink>(
 
 /// Prints a zone of the store of a path as `canon` does, in a form. Otherwise a line tells the refusal that comes first: of the origin, of
 /// the store, or `NoZone`.
-pub fn export<W: Sink, S: Alter + Drop, L: Ledger, P: Place<S>>(
+pub fn export<W: Sink, S: Alter + Drop, L: Ledger, P: StoreFiles<S>>(
     alloc: Global,
     place: &P,
     stored: StoredZone<'_>,

@@ -9,8 +9,8 @@ use Rattle.text_commands.specs.declared.line_fault.JobFault.{JobFault}
 use Rattle.text_commands.specs.declared.line_fault.JobFault.TheVariants.{Told, WriteFailed}
 use Rattle.text_commands.specs.Device.{AppendsFront}
 use Rattle.text_commands.specs.LineFaults.{GivesOf}
-use Rattle.text_commands.specs.Refusals.{told_refusal}
-use Rattle.text_commands.specs.Replies.{told, MayTell, IsTold}
+use Rattle.text_commands.specs.Refusals.{refused_line}
+use Rattle.text_commands.specs.Replies.{line_of, MayTell, IsTold}
 use Rattle.text_commands.specs.Check.{rules_read, ReportsOn, Reports, Checked}
 
 -- a policy that is refused or not read has no report
@@ -26,15 +26,15 @@ module _ (left old new : Option (List ℕ)) (reads reads_after writes writes_aft
   pub checked_front : (findings : Findings) (text : List ℕ) → ReportsOn left findings text → reads_after ≡ reads → AppendsFront old new text × (writes < writes_after) → Checked left old new (Err WriteFailed) reads reads_after writes writes_after
   checked_front findings text reports fine sent = ((text, inl ((findings, reports), fine), sent.0), sent.1)
 
-  own_line : (fault : LineFault) → Reports left (Err fault) reads reads_after → Appends old new (told fault) → writes_after ≡ writes → Checked left old new (Err (Told fault)) reads reads_after writes writes_after
+  own_line : (fault : LineFault) → Reports left (Err fault) reads reads_after → Appends old new (line_of fault) → writes_after ≡ writes → Checked left old new (Err (Told fault)) reads reads_after writes writes_after
   own_line (Refused refusal) given line fine = (given.0, line, given.1, fine)
   own_line ReadFailed given line fine = (line, given.0, given.1, fine)
   own_line NoMemory given line fine = (line, given, fine)
 
-  own_front : (fault : LineFault) → Reports left (Err fault) reads reads_after → AppendsFront old new (told fault) → writes < writes_after → Checked left old new (Err WriteFailed) reads reads_after writes writes_after
-  own_front (Refused refusal) given front failed = ((told_refusal refusal, inr (inl ((refusal, given.0, refl), given.1)), front), failed)
-  own_front ReadFailed given front failed = ((told ReadFailed, inr (inr (inl (refl, given.0, given.1))), front), failed)
-  own_front NoMemory given front failed = ((told NoMemory, inr (inr (inr (refl, given))), front), failed)
+  own_front : (fault : LineFault) → Reports left (Err fault) reads reads_after → AppendsFront old new (line_of fault) → writes < writes_after → Checked left old new (Err WriteFailed) reads reads_after writes writes_after
+  own_front (Refused refusal) given front failed = ((refused_line refusal, inr (inl ((refusal, given.0, refl), given.1)), front), failed)
+  own_front ReadFailed given front failed = ((line_of ReadFailed, inr (inr (inl (refl, given.0, given.1))), front), failed)
+  own_front NoMemory given front failed = ((line_of NoMemory, inr (inr (inr (refl, given))), front), failed)
 
   told_as : (fault line : LineFault) → MayTell fault line → Reports left (Err fault) reads reads_after → Reports left (Err line) reads reads_after
   told_as (Refused refusal) line (inl same) given = subst (λ l. Reports left (Err l) reads reads_after) (sym same) given

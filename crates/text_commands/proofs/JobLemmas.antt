@@ -13,7 +13,7 @@ use Rattle.text_commands.specs.declared.line_fault.JobFault.{JobFault}
 use Rattle.text_commands.specs.declared.line_fault.JobFault.TheVariants.{Told, WriteFailed}
 use Rattle.text_commands.specs.Device.{AppendsFront}
 use Rattle.text_commands.specs.LineFaults.{◌>>=◌, Makes, GivesOf}
-use Rattle.text_commands.specs.Replies.{told, MayTell, IsTold, IsPrinted, IsReply, Answered}
+use Rattle.text_commands.specs.Replies.{line_of, MayTell, IsTold, IsPrinted, IsReply, Answered}
 use Rattle.text_commands.proofs.StepLemmas.{refused_before, given_before, reached_before}
 
 -- ---- printing
@@ -28,12 +28,12 @@ module _ (a b c : Option (List ℕ)) (text : List ℕ) (first second third : ℕ
   told_behind : (n : ℕ) (result : Result (Unit {0}) JobFault) → n ≤ length text → Appends a b (take n text) → second ≡ first → IsTold b c NoMemory result second third → IsPrinted a c text result first third
   told_behind n (Ok done) small front fine wrote = absurd wrote
   told_behind n (Err (Told NoMemory)) small front fine wrote =
-      ((take n text ++ told NoMemory, (n, small, refl), Appends-trans a b c (take n text) (told NoMemory) front wrote.1), omega (arith, fine, wrote.2))
+      ((take n text ++ line_of NoMemory, (n, small, refl), Appends-trans a b c (take n text) (line_of NoMemory) front wrote.1), omega (arith, fine, wrote.2))
   told_behind n (Err (Told (Refused refusal))) small front fine wrote = absurd (cc (wrote.0))
   told_behind n (Err (Told ReadFailed)) small front fine wrote = absurd (cc (wrote.0))
   told_behind n (Err WriteFailed) small front fine sent =
       let same = sent.0.1 in
-      ((take n text ++ told NoMemory, inr (n, small, refl), front_behind a b c (take n text) (told NoMemory) front (subst (λ l. AppendsFront b c (told l)) same sent.0.2)), omega (arith, fine, sent.1))
+      ((take n text ++ line_of NoMemory, inr (n, small, refl), front_behind a b c (take n text) (line_of NoMemory) front (subst (λ l. AppendsFront b c (line_of l)) same sent.0.2)), omega (arith, fine, sent.1))
 
   -- memory ran out while the text was written, and that was told
   pub printed_short : (fault : MasterFault) (result : Result (Unit {0}) JobFault) → ¬ (fault ≡ master.WriteFailed) → TextWritten a b text (Err fault) first second → IsTold b c NoMemory result second third → IsPrinted a c text result first third
@@ -65,15 +65,15 @@ module _ (left : Option (List ℕ)) (answer : List ℕ → Result (List ℕ) Ref
       ((sent, reply, wrote.0.2), wrote.1)
 
   -- a fault was told by the line of its own, or by that of out of memory
-  own_line : {X : Type 0} (view : X → List ℕ) (fault : LineFault) → GivesOf view left answer (Err fault) reads reads_after → Appends old new (told fault) → writes_after ≡ writes → Answered left answer old new (Err (Told fault)) reads reads_after writes writes_after
+  own_line : {X : Type 0} (view : X → List ℕ) (fault : LineFault) → GivesOf view left answer (Err fault) reads reads_after → Appends old new (line_of fault) → writes_after ≡ writes → Answered left answer old new (Err (Told fault)) reads reads_after writes writes_after
   own_line view (Refused refusal) given line fine = (given.0, line, given.1, fine)
   own_line view ReadFailed given line fine = (line, given.0, given.1, fine)
-  own_line view NoMemory given line fine = ((told NoMemory, inl refl, line), given, fine)
+  own_line view NoMemory given line fine = ((line_of NoMemory, inl refl, line), given, fine)
 
-  own_front : {X : Type 0} (view : X → List ℕ) (fault : LineFault) → GivesOf view left answer (Err fault) reads reads_after → AppendsFront old new (told fault) → writes < writes_after → Answered left answer old new (Err WriteFailed) reads reads_after writes writes_after
-  own_front view (Refused refusal) given front failed = ((told (Refused refusal), inl ((Err refusal, given.0, refl), given.1), front), failed)
-  own_front view ReadFailed given front failed = ((told ReadFailed, inr (inl (refl, given.0, given.1)), front), failed)
-  own_front view NoMemory given front failed = ((told NoMemory, inr (inr (inl refl, given)), front), failed)
+  own_front : {X : Type 0} (view : X → List ℕ) (fault : LineFault) → GivesOf view left answer (Err fault) reads reads_after → AppendsFront old new (line_of fault) → writes < writes_after → Answered left answer old new (Err WriteFailed) reads reads_after writes writes_after
+  own_front view (Refused refusal) given front failed = ((line_of (Refused refusal), inl ((Err refusal, given.0, refl), given.1), front), failed)
+  own_front view ReadFailed given front failed = ((line_of ReadFailed, inr (inl (refl, given.0, given.1)), front), failed)
+  own_front view NoMemory given front failed = ((line_of NoMemory, inr (inr (inl refl, given)), front), failed)
 
   -- which fault was told in the place of another
   told_as : {X : Type 0} (view : X → List ℕ) (fault line : LineFault) → MayTell fault line → GivesOf view left answer (Err fault) reads reads_after → GivesOf view left answer (Err line) reads reads_after

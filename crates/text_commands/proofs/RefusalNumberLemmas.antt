@@ -2,10 +2,10 @@
 use Rattle.std.proofs.Common.{◌≡◌, ◌∙◌, ap, ℕ, ◌+◌, List, [], ◌∷◌, ◌++◌, drop, map, Option, Some, None, refl, sym, append_assoc, Bool, true, false, cond, option_map}
 use Rattle.std.specs.Prelude.{◌&&◌, bytes_eq, find, option_and_then}
 use Rattle.std.specs.Borrow.{Bor}
-use Rattle.text_commands.specs.declared.refusal_row.Place.{Place}
+use Rattle.text_commands.specs.declared.refusal_row.NumberPlace.{NumberPlace}
 use Rattle.text_commands.specs.RefusalTables.{RowOf}
 use Rattle.text_commands.specs.RefusalNumbers.{behind, may_be, row_in, row_of, rows_from}
-use Rattle.text_commands.specs.declared.refusal_row.Row.{Row}
+use Rattle.text_commands.specs.declared.refusal_row.RefusalRow.{RefusalRow}
 
 -- rows that were found, before those of the other parts
 abbrev pub with_front : List RowOf → Option (List RowOf) → Option (List RowOf)
@@ -23,7 +23,7 @@ front_more : (found : List RowOf) (row : RowOf) (more : Option (List RowOf))
 front_more found row None = refl
 front_more found row (Some rows) = ap (λ (l : List RowOf). Some l) (sym (append_assoc found (row ∷ []) rows))
 
-module _ (all : List RowOf) (parts : List (Bor (List ℕ))) (found : List RowOf) (at : Place) (i : ℕ) (part : Bor (List ℕ)) where
+module _ (all : List RowOf) (parts : List (Bor (List ℕ))) (found : List RowOf) (at : NumberPlace) (i : ℕ) (part : Bor (List ℕ)) where
   abbrev after_row : Option RowOf → Option (List RowOf)
   after_row o = with_front found (option_and_then (λ row. option_map (λ rows. row ∷ rows) (rows_from all (behind row.kind) (parts_from parts (i + 1)))) o)
 
@@ -40,7 +40,7 @@ module _ (all : List RowOf) (parts : List (Bor (List ℕ))) (found : List RowOf)
 
 -- ---- a row that is found
 
-pub found_row : (all : List Row) (at : Place) (part : List ℕ)
+pub found_row : (all : List RefusalRow) (at : NumberPlace) (part : List ℕ)
     → option_map row_of (find (λ row. may_be row.kind at && bytes_eq row.number.now part) all) ≡ row_in (map row_of all) at part
 found_row [] at part = refl
 found_row (row ∷ all) at part = by_test (may_be row.kind at && bytes_eq row.number.now part) (found_row all at part)

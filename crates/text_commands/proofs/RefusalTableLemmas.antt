@@ -5,8 +5,8 @@ use Rattle.std.specs.List.{join_with_byte}
 use Rattle.std.proofs.lemmas.Bool.{and_parts}
 use Rattle.std.proofs.lemmas.Slice.Eq.{bytes_eq-Decides}
 use Rattle.std.proofs.lemmas.List.Splits.{join_with_byte-slice_split}
-use Rattle.text_commands.specs.declared.refusal_row.Place.{Place}
-use Rattle.text_commands.specs.declared.refusal_row.Place.TheVariants as place
+use Rattle.text_commands.specs.declared.refusal_row.NumberPlace.{NumberPlace}
+use Rattle.text_commands.specs.declared.refusal_row.NumberPlace.TheVariants as place
 use Rattle.text_commands.specs.RefusalTables.{RowOf, rows, input_rows, name_rows, data_rows, file_rows, zone_rows, policy_rows, store_rows, request_rows, command_rows, code_rows}
 use Rattle.text_commands.specs.RefusalNumbers.{behind, ends, explained, may_be, parts_of, row_in, rows_from}
 use Rattle.text_commands.specs.RefusalLaws.{NumbersAreApart, RowsAreOfTheirNumber, TextsArePlain, numbers}
@@ -29,7 +29,7 @@ found_passes {T} test (s ∷ all) t e = first_passes (test s) refl (found_passes
     first_passes true p later e = let q : s ≡ t = cc in subst (λ (u : T). test u ≡ true) q p
     first_passes false p later e = later e
 
-none_left : (at : Place) (found : List RowOf) → ends at ≡ Some found → numbers found ≡ []
+none_left : (at : NumberPlace) (found : List RowOf) → ends at ≡ Some found → numbers found ≡ []
 none_left place.End found e = let q : [] ≡ found = cc in ap numbers (sym q)
 none_left place.Start found e = absurd cc
 none_left place.Entry found e = absurd cc
@@ -42,11 +42,11 @@ one_more row part parts found (Some rest) is others e =
     let q : (row ∷ rest) ≡ found = cc in
     ap numbers (sym q) ∙ ap₂ (λ n ns. n ∷ ns) is (others rest refl)
 
-rows_are : (all : List RowOf) (at : Place) (parts : List (List ℕ)) (found : List RowOf) → rows_from all at parts ≡ Some found → numbers found ≡ parts
+rows_are : (all : List RowOf) (at : NumberPlace) (parts : List (List ℕ)) (found : List RowOf) → rows_from all at parts ≡ Some found → numbers found ≡ parts
 rows_are all at [] found e = none_left at found e
 rows_are all at (part ∷ parts) found e = from_row (λ behind_it rest. rows_are all behind_it parts rest) (row_in all at part) refl e
   where
-    from_row : ((behind_it : Place) (rest : List RowOf) → rows_from all behind_it parts ≡ Some rest → numbers rest ≡ parts)
+    from_row : ((behind_it : NumberPlace) (rest : List RowOf) → rows_from all behind_it parts ≡ Some rest → numbers rest ≡ parts)
         → (o : Option RowOf) → row_in all at part ≡ o
         → option_and_then (λ row. option_map (λ more. row ∷ more) (rows_from all (behind row.kind) parts)) o ≡ Some found → numbers found ≡ part ∷ parts
     from_row others None is f = absurd cc

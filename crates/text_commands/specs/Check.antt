@@ -18,8 +18,8 @@ use Rattle.text_commands.specs.declared.line_fault.JobFault.{JobFault}
 use Rattle.text_commands.specs.declared.line_fault.JobFault.TheVariants.{Told, WriteFailed}
 use Rattle.text_commands.specs.Device.{AppendsFront}
 use Rattle.text_commands.specs.LineFaults.{◌>>=◌, limited, of_policies, Makes, ReachesInput}
-use Rattle.text_commands.specs.Refusals.{told_refusal}
-use Rattle.text_commands.specs.Replies.{told}
+use Rattle.text_commands.specs.Refusals.{refused_line}
+use Rattle.text_commands.specs.Replies.{line_of}
 
 -- the rules of the policy of a text, and of an input
 abbrev pub rules_in : List ℕ → Result (List Rule) Refusal
@@ -80,9 +80,9 @@ Reports left (Err ReadFailed) before after = (before < after) × ReachesInput ru
 abbrev pub IsCheckReply : Option (List ℕ) → ℕ → ℕ → List ℕ → Type 0
 IsCheckReply left reads reads_after text =
     (((findings : Findings) × ReportsOn left findings text) × (reads_after ≡ reads))
-    ⊎ ((((refusal : Refusal) × Makes left rules_read (Err refusal) × (text ≡ told_refusal refusal)) × (reads_after ≡ reads))
-    ⊎ (((text ≡ told ReadFailed) × (reads < reads_after) × ReachesInput rules_read)
-    ⊎ ((text ≡ told NoMemory) × (reads_after ≡ reads))))
+    ⊎ ((((refusal : Refusal) × Makes left rules_read (Err refusal) × (text ≡ refused_line refusal)) × (reads_after ≡ reads))
+    ⊎ (((text ≡ line_of ReadFailed) × (reads < reads_after) × ReachesInput rules_read)
+    ⊎ ((text ≡ line_of NoMemory) × (reads_after ≡ reads))))
 
 -- What was left to read, what the writer held before and after, how the check went, the reader's failures before and after, and the
 -- writer's failures before and after. A failed write leaves a prefix of what was to be written; else it is all written.
@@ -90,10 +90,10 @@ abbrev pub Checked : Option (List ℕ) → Option (List ℕ) → Option (List �
 Checked left old new (Ok findings) reads reads_after writes writes_after =
     ((text : List ℕ) × ReportsOn left findings text × Appends old new text) × (reads_after ≡ reads) × (writes_after ≡ writes)
 Checked left old new (Err (Told (Refused refusal))) reads reads_after writes writes_after =
-    Makes left rules_read (Err refusal) × Appends old new (told_refusal refusal) × (reads_after ≡ reads) × (writes_after ≡ writes)
+    Makes left rules_read (Err refusal) × Appends old new (refused_line refusal) × (reads_after ≡ reads) × (writes_after ≡ writes)
 Checked left old new (Err (Told ReadFailed)) reads reads_after writes writes_after =
-    Appends old new (told ReadFailed) × (reads < reads_after) × ReachesInput rules_read × (writes_after ≡ writes)
+    Appends old new (line_of ReadFailed) × (reads < reads_after) × ReachesInput rules_read × (writes_after ≡ writes)
 Checked left old new (Err (Told NoMemory)) reads reads_after writes writes_after =
-    Appends old new (told NoMemory) × (reads_after ≡ reads) × (writes_after ≡ writes)
+    Appends old new (line_of NoMemory) × (reads_after ≡ reads) × (writes_after ≡ writes)
 Checked left old new (Err WriteFailed) reads reads_after writes writes_after =
     ((text : List ℕ) × IsCheckReply left reads reads_after text × AppendsFront old new text) × (writes < writes_after)

@@ -76,5 +76,5 @@ refusal_text (Unmet code item) = rcode_text code ++ codes " item " ++ decimal it
 refusal_text refusal = dotted (refusal_numbers refusal) ++ place_text (refusal_place refusal)
 
 -- the line that tells a refusal
-abbrev pub told_refusal : Refusal → List ℕ
-told_refusal refusal = codes "refused " ++ refusal_text refusal ++ 10 ∷ []
+abbrev pub refused_line : Refusal → List ℕ
+refused_line refusal = codes "refused " ++ refusal_text refusal ++ 10 ∷ []

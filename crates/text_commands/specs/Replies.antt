@@ -8,14 +8,14 @@ use Rattle.text_commands.specs.declared.line_fault.LineFault.TheVariants.{Refuse
 use Rattle.text_commands.specs.declared.line_fault.JobFault.{JobFault}
 use Rattle.text_commands.specs.declared.line_fault.JobFault.TheVariants.{Told, WriteFailed}
 use Rattle.text_commands.specs.Device.{AppendsFront}
-use Rattle.text_commands.specs.Refusals.{told_refusal}
+use Rattle.text_commands.specs.Refusals.{refused_line}
 use Rattle.text_commands.specs.LineFaults.{Makes, ReachesInput}
 
 -- the line that tells a fault
-abbrev pub told : LineFault → List ℕ
-told (Refused refusal) = told_refusal refusal
-told ReadFailed = codes "refused 93" ++ 10 ∷ []
-told NoMemory = codes "refused 99" ++ 10 ∷ []
+abbrev pub line_of : LineFault → List ℕ
+line_of (Refused refusal) = refused_line refusal
+line_of ReadFailed = codes "refused 93" ++ 10 ∷ []
+line_of NoMemory = codes "refused 99" ++ 10 ∷ []
 
 -- ---- one text
 
@@ -33,12 +33,12 @@ MayTell fault line = line ≡ fault
 -- What the writer held before and after, the fault, the answer, and the writer's failures before and after.
 abbrev pub IsTold : Option (List ℕ) → Option (List ℕ) → LineFault → Result (Unit {0}) JobFault → ℕ → ℕ → Type 0
 IsTold old new fault (Ok done) before after = ⊥
-IsTold old new fault (Err (Told line)) before after = MayTell fault line × Appends old new (told line) × (after ≡ before)
-IsTold old new fault (Err WriteFailed) before after = ((line : LineFault) × MayTell fault line × AppendsFront old new (told line)) × (before < after)
+IsTold old new fault (Err (Told line)) before after = MayTell fault line × Appends old new (line_of line) × (after ≡ before)
+IsTold old new fault (Err WriteFailed) before after = ((line : LineFault) × MayTell fault line × AppendsFront old new (line_of line)) × (before < after)
 
 -- a prefix of a text, and then the line of out of memory
 abbrev pub IsCutShort : List ℕ → List ℕ → Type 0
-IsCutShort text cut = (n : ℕ) × (n ≤ length text) × (cut ≡ take n text ++ told NoMemory)
+IsCutShort text cut = (n : ℕ) × (n ≤ length text) × (cut ≡ take n text ++ line_of NoMemory)
 
 -- What the writer held before and after, the text, the answer, and the writer's failures before and after: a text that takes
 -- memory while it is written.
@@ -54,17 +54,17 @@ IsPrinted old new text (Err fault) before after = ⊥
 -- what a definition answers, or the line of its refusal
 abbrev pub reply : Result (List ℕ) Refusal → List ℕ
 reply (Ok text) = text
-reply (Err refusal) = told_refusal refusal
+reply (Err refusal) = refused_line refusal
 
 -- the line of out of memory, before which a prefix of the answer may stand
 abbrev pub IsShortReply : Option (List ℕ) → (List ℕ → Result (List ℕ) Refusal) → List ℕ → Type 0
-IsShortReply left answer text = (text ≡ told NoMemory) ⊎ ((whole : List ℕ) × Makes left answer (Ok whole) × IsCutShort whole text)
+IsShortReply left answer text = (text ≡ line_of NoMemory) ⊎ ((whole : List ℕ) × Makes left answer (Ok whole) × IsCutShort whole text)
 
 -- a text that is to be written where this was left to read, and the reader's failures are these before and after
 abbrev pub IsReply : Option (List ℕ) → (List ℕ → Result (List ℕ) Refusal) → ℕ → ℕ → List ℕ → Type 0
 IsReply left answer reads reads_after text =
     (((made : Result (List ℕ) Refusal) × Makes left answer made × (text ≡ reply made)) × (reads_after ≡ reads))
-    ⊎ (((text ≡ told ReadFailed) × (reads < reads_after) × ReachesInput answer)
+    ⊎ (((text ≡ line_of ReadFailed) × (reads < reads_after) × ReachesInput answer)
     ⊎ (IsShortReply left answer text × (reads_after ≡ reads)))
 
 -- What was left to read, what is answered to it, what the writer held before and after, how the job went, the reader's failures
@@ -74,9 +74,9 @@ abbrev pub Answered : Option (List ℕ) → (List ℕ → Result (List ℕ) Refu
 Answered left answer old new (Ok done) reads reads_after writes writes_after =
     ((text : List ℕ) × Makes left answer (Ok text) × Appends old new text) × (reads_after ≡ reads) × (writes_after ≡ writes)
 Answered left answer old new (Err (Told (Refused refusal))) reads reads_after writes writes_after =
-    Makes left answer (Err refusal) × Appends old new (told_refusal refusal) × (reads_after ≡ reads) × (writes_after ≡ writes)
+    Makes left answer (Err refusal) × Appends old new (refused_line refusal) × (reads_after ≡ reads) × (writes_after ≡ writes)
 Answered left answer old new (Err (Told ReadFailed)) reads reads_after writes writes_after =
-    Appends old new (told ReadFailed) × (reads < reads_after) × ReachesInput answer × (writes_after ≡ writes)
+    Appends old new (line_of ReadFailed) × (reads < reads_after) × ReachesInput answer × (writes_after ≡ writes)
 Answered left answer old new (Err (Told NoMemory)) reads reads_after writes writes_after =
     ((text : List ℕ) × IsShortReply left answer text × Appends old new text) × (reads_after ≡ reads) × (writes_after ≡ writes)
 Answered left answer old new (Err WriteFailed) reads reads_after writes writes_after =

@@ -3,7 +3,7 @@ use Rattle.std.specs.Prelude.{ℕ, List, [], ◌∷◌, ◌++◌, codes, Result,
 use Rattle.dns_names.specs.Reading.{absolute_name}
 use Rattle.grant_policy.specs.Words.{action_of}
 use Rattle.grant_policy.specs.Rules.{Question}
-use Rattle.grant_policy.specs.Decisions.{Verdict, granted, denied, decision, told}
+use Rattle.grant_policy.specs.Decisions.{Verdict, granted, denied, decision, decider}
 use Rattle.grant_policy.specs.Documents.{document_of}
 use Rattle.grant_policy.specs.Reading.{identifier_of, type_of, policy_of}
 use Rattle.text_commands.specs.declared.refusal.Refusal.{Refusal}
@@ -30,7 +30,7 @@ verdict_word (granted id) = codes "granted "
 verdict_word (denied id) = codes "denied "
 
 abbrev pub verdict_line : Verdict → List ℕ
-verdict_line verdict = verdict_word verdict ++ told verdict ++ 10 ∷ []
+verdict_line verdict = verdict_word verdict ++ decider verdict ++ 10 ∷ []
 
 -- what the policy of a text decides
 abbrev pub decided_by : Question → List ℕ → Result (List ℕ) Refusal

@@ -3,7 +3,7 @@
 ghost use Rattle.std.specs.Prelude.{◌≡◌, ℕ, List, Option, string_bytes, IfOk};
 ghost use Rattle.dns_master.specs.Device.{TextWritten};
 ghost use Rattle.text_commands.specs.LineFaults.{GivesOf, limited};
-ghost use Rattle.text_commands.specs.Refusals.{told_refusal};
+ghost use Rattle.text_commands.specs.Refusals.{refused_line};
 ghost use Rattle.text_commands.specs.Replies.{IsSent, IsTold, IsPrinted};
 
 use crate::line_fault::{JobFault, LineFault, NO_MEMORY_LINE, READ_FAILED_LINE};
@@ -44,7 +44,7 @@ pub fn write_text<W: Sink>(writer: &mut W, text: &[u8]) -> Result<(), DeviceFail
 
 /// The line that tells a refusal. The only error is out of memory.
 fn refusal_text(alloc: Global, refusal: Refusal) -> Result<String, AllocError>
-    ensures { IfOk result (λ text. string_bytes text ≡ told_refusal refusal) }
+    ensures { IfOk result (λ text. string_bytes text ≡ refused_line refusal) }
 {
     format!(in alloc; "{}", RefusalLine(refusal))
 }

@@ -9,7 +9,7 @@ use crate::device::{tell, write_text};
 use crate::line_fault::{JobFault, LineFault};
 use crate::refusal::Refusal;
 use crate::refusal_number::{all_rows, explained};
-use crate::refusal_row::Row;
+use crate::refusal_row::RefusalRow;
 use crate::refusal_text::{json_text, plain_text};
 use crate::task::Task;
 use command_line::TextForm;
@@ -17,7 +17,7 @@ use dns_master::{Sink, Source};
 use std::alloc::{AllocError, Global};
 
 /// The rows of a number that the program prints, and all where none is given.
-fn rows_asked(alloc: Global, number: Option<&str>) -> Result<Vec<Row>, LineFault>
+fn rows_asked(alloc: Global, number: Option<&str>) -> Result<Vec<RefusalRow>, LineFault>
     ensures { Gives (λ rows. map row_of rows.items) result (rows_asked (option_map (λ n. n.now) number.entry)) }
 {
     let Some(number) = number else {
@@ -30,7 +30,7 @@ fn rows_asked(alloc: Global, number: Option<&str>) -> Result<Vec<Row>, LineFault
 }
 
 /// The text of rows. The only error is out of memory.
-fn rows_text(alloc: Global, rows: &[Row], form: TextForm) -> Result<String, AllocError>
+fn rows_text(alloc: Global, rows: &[RefusalRow], form: TextForm) -> Result<String, AllocError>
     ensures { IfOk result (λ text. string_bytes text ≡ rows_text form (map row_of rows.now)) }
 {
     match form {

@@ -33,6 +33,6 @@ pub use line_fault::{JobFault, LineFault, NO_MEMORY_LINE};
 pub use policy_file::PolicyFile;
 pub use refusal::{Refusal, RefusalLine};
 pub use refusal_number::{all_rows, explained};
-pub use refusal_row::{Kind, Place, Row};
+pub use refusal_row::{Kind, NumberPlace, RefusalRow};
 pub use refusal_text::{json_text, plain_text};
 pub use task::{Task, do_task};

@@ -1,7 +1,7 @@
 //! Why a job has no answer, and how that is told.
 
 ghost use Rattle.std.specs.Prelude.{◌≡◌, Some};
-ghost use Rattle.text_commands.specs.Refusals.{data_numbers, master_numbers, policy_numbers, refusal_number, refusal_numbers, dotted, refusal_place, told_refusal};
+ghost use Rattle.text_commands.specs.Refusals.{data_numbers, master_numbers, policy_numbers, refusal_number, refusal_numbers, dotted, refusal_place, refused_line};
 
 use dns_data::DataFault;
 use dns_master::MasterFault;
@@ -166,7 +166,7 @@ impl Display for Numbers {
 pub struct RefusalLine(pub Refusal);
 
 impl Display for RefusalLine {
-    ghost output = { λ l. Some (told_refusal l.0) };
+    ghost output = { λ l. Some (refused_line l.0) };
 
     fn fmt<W: Write>(&self, f: &mut Formatter<W>) -> fmt::Result {
         if let Refusal::Unmet { code, item } = self.0 {

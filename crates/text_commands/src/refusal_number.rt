@@ -4,24 +4,24 @@ ghost use Rattle.std.specs.Prelude.{◌≡◌, ◌++◌, ◌&&◌, IfOk, bytes_e
 ghost use Rattle.text_commands.specs.RefusalTables.{input_rows, rows};
 ghost use Rattle.text_commands.specs.RefusalNumbers.{may_be, row_of, parts_of, row_in, rows_from, explained};
 
-use crate::refusal_row::{Place, Row};
+use crate::refusal_row::{NumberPlace, RefusalRow};
 use crate::refusal_table::{
     Line, codes, commands, data, files, names, policies, requests, stores, zones,
 };
 use std::alloc::{AllocError, Global};
 
 /// Appends the rows of a table.
-fn push_rows(all: &mut Vec<Row>, table: &[Line]) -> Result<(), AllocError>
+fn push_rows(all: &mut Vec<RefusalRow>, table: &[Line]) -> Result<(), AllocError>
     ensures { IfOk result (λ _. map row_of all.new.items ≡ map row_of all.old.items ++ map (λ r. record { number = r.0.now; kind = r.1; name = r.2.now; meaning = r.3.now; advice = r.4.now; source = r.5.now }) table.now) }
 {
     for line in table {
-        all.push(Row::of(*line))?;
+        all.push(RefusalRow::of(*line))?;
     }
     Ok(())
 }
 
 /// The rows of what an input has. The only error is out of memory.
-fn input_rows(alloc: Global) -> Result<Vec<Row>, AllocError>
+fn input_rows(alloc: Global) -> Result<Vec<RefusalRow>, AllocError>
     ensures { IfOk result (λ all. map row_of all.items ≡ input_rows) }
 {
     let mut all = Vec::new(alloc);
@@ -34,7 +34,7 @@ fn input_rows(alloc: Global) -> Result<Vec<Row>, AllocError>
 }
 
 /// All rows: by number, and then those that have a code. The only error is out of memory.
-pub fn all_rows(alloc: Global) -> Result<Vec<Row>, AllocError>
+pub fn all_rows(alloc: Global) -> Result<Vec<RefusalRow>, AllocError>
     ensures { IfOk result (λ all. map row_of all.items ≡ rows) }
 {
     let mut all = input_rows(alloc)?;
@@ -46,7 +46,7 @@ pub fn all_rows(alloc: Global) -> Result<Vec<Row>, AllocError>
 }
 
 /// The first row of a number that may be in a place.
-fn first_in(all: &[Row], place: Place, part: &str) -> Option<Row>
+fn first_in(all: &[RefusalRow], place: NumberPlace, part: &str) -> Option<RefusalRow>
     ensures { result ≡ find (λ row. may_be row.kind place && bytes_eq row.number.now part.now) all.now }
 {
     all.iter()
@@ -55,7 +55,7 @@ fn first_in(all: &[Row], place: Place, part: &str) -> Option<Row>
 }
 
 /// The row of a part of a number, in a place.
-fn row_in(all: &[Row], place: Place, part: &str) -> Option<Row>
+fn row_in(all: &[RefusalRow], place: NumberPlace, part: &str) -> Option<RefusalRow>
     ensures { option_map row_of result ≡ row_in (map row_of all.now) place part.now }
 {
     first_in(all, place, part)
@@ -69,11 +69,15 @@ fn parts_of(alloc: Global, number: &str) -> Result<Vec<&str>, AllocError>
 }
 
 /// The rows of a number's parts. The only error is out of memory.
-fn rows_of_parts(alloc: Global, all: &[Row], parts: &[&str]) -> Result<Option<Vec<Row>>, AllocError>
-    ensures { IfOk result (λ found. option_map (λ v. map row_of v.items) found ≡ rows_from (map row_of all.now) Place.Start (map (λ part. part.now) parts.now)) }
+fn rows_of_parts(
+    alloc: Global,
+    all: &[RefusalRow],
+    parts: &[&str],
+) -> Result<Option<Vec<RefusalRow>>, AllocError>
+    ensures { IfOk result (λ found. option_map (λ v. map row_of v.items) found ≡ rows_from (map row_of all.now) NumberPlace.Start (map (λ part. part.now) parts.now)) }
 {
     let mut found = Vec::new(alloc);
-    let mut place = Place::Start;
+    let mut place = NumberPlace::Start;
     for part in parts {
         let Some(row) = row_in(all, place, part) else {
             return Ok(None);
@@ -81,7 +85,7 @@ fn rows_of_parts(alloc: Global, all: &[Row], parts: &[&str]) -> Result<Option<Ve
         found.push(row)?;
         place = row.kind.behind();
     }
-    if place == Place::End {
+    if place == NumberPlace::End {
         Ok(Some(found))
     } else {
         Ok(None)
@@ -90,7 +94,7 @@ fn rows_of_parts(alloc: Global, all: &[Row], parts: &[&str]) -> Result<Option<Ve
 
 /// The rows of a number that the program prints, one for each part of it, and `None` of one that it never prints. The only error is
 /// out of memory.
-pub fn explained(alloc: Global, number: &str) -> Result<Option<Vec<Row>>, AllocError>
+pub fn explained(alloc: Global, number: &str) -> Result<Option<Vec<RefusalRow>>, AllocError>
     ensures { IfOk result (λ found. option_map (λ v. map row_of v.items) found ≡ explained number.now) }
 {
     let all = all_rows(alloc)?;

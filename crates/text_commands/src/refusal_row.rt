@@ -6,7 +6,7 @@ use crate::refusal_table::Line;
 
 /// A place in a printed number, whose parts have dots between them, as `29.19.1`.
 #[derive(Clone, Copy, PartialEq, Eq)]
-pub enum Place {
+pub enum NumberPlace {
     /// Its first part.
     Start,
     /// The part that says what is wrong with an entry.
@@ -42,35 +42,36 @@ impl Kind {
     ghost use Rattle.text_commands.specs.RefusalNumbers.{may_be, behind};
 
     /// Whether a number of this kind may be in a place.
-    pub(crate) const fn may_be(self, place: Place) -> bool
+    pub(crate) const fn may_be(self, place: NumberPlace) -> bool
         ensures { result ≡ may_be self place }
     {
         match place {
-            Place::Start => matches!(
+            NumberPlace::Start => matches!(
                 self,
                 Kind::Whole | Kind::Name | Kind::Type | Kind::Entry | Kind::RuleName
             ),
-            Place::Entry => matches!(self, Kind::Type | Kind::Data | Kind::InnerName),
-            Place::Name => matches!(self, Kind::Name),
-            Place::End => false,
+            NumberPlace::Entry => matches!(self, Kind::Type | Kind::Data | Kind::InnerName),
+            NumberPlace::Name => matches!(self, Kind::Name),
+            NumberPlace::End => false,
         }
     }
 
     /// The place behind a number of this kind.
-    pub(crate) const fn behind(self) -> Place
+    pub(crate) const fn behind(self) -> NumberPlace
         ensures { result ≡ behind self }
     {
         match self {
-            Kind::Entry => Place::Entry,
-            Kind::InnerName | Kind::RuleName => Place::Name,
-            Kind::Whole | Kind::Name | Kind::Type | Kind::Data | Kind::Unprinted => Place::End,
+            Kind::Entry => NumberPlace::Entry,
+            Kind::InnerName | Kind::RuleName => NumberPlace::Name,
+            Kind::Whole | Kind::Name | Kind::Type | Kind::Data | Kind::Unprinted =>
+                NumberPlace::End,
         }
     }
 }
 
 /// A refusal in words.
 #[derive(Clone, Copy)]
-pub struct Row {
+pub struct RefusalRow {
     /// Its number, or its code (RFC 2136 section 2.2).
     pub number: &'static str,
     /// Where its number is printed.
@@ -85,9 +86,9 @@ pub struct Row {
     pub source: &'static str,
 }
 
-impl Row {
+impl RefusalRow {
     /// The row of a line of a table.
-    pub(crate) const fn of(line: Line) -> Row
+    pub(crate) const fn of(line: Line) -> RefusalRow
         ensures number { result.number ≡ line.entry.0 }
         ensures kind { result.kind ≡ line.entry.1 }
         ensures name { result.name ≡ line.entry.2 }
@@ -95,7 +96,7 @@ impl Row {
         ensures advice { result.advice ≡ line.entry.4 }
         ensures source { result.source ≡ line.entry.5 }
     {
-        Row {
+        RefusalRow {
             number: line.0,
             kind: line.1,
             name: line.2,

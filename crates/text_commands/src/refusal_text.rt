@@ -4,13 +4,13 @@ ghost use Rattle.std.specs.Prelude.{◌≡◌, IfOk, Some, map, string_bytes};
 ghost use Rattle.text_commands.specs.RefusalNumbers.{row_of};
 ghost use Rattle.text_commands.specs.RefusalTexts.{row_head, row_text, row_json, text_of, further, json_of};
 
-use crate::refusal_row::Row;
+use crate::refusal_row::RefusalRow;
 use std::alloc::{AllocError, Global};
 use std::fmt::{self, Display, Formatter, Write};
 
 /// A row without its standard.
 #[derive(Clone, Copy)]
-struct RowHead<'a>(&'a Row);
+struct RowHead<'a>(&'a RefusalRow);
 
 impl Display for RowHead<'_> {
     ghost output = { λ row. Some (row_head (row_of row.0.now)) };
@@ -26,7 +26,7 @@ impl Display for RowHead<'_> {
 }
 
 /// A row for a person: its number and its name, what it means, what to do, and the standard that it comes from.
-impl Display for Row {
+impl Display for RefusalRow {
     ghost output = { λ row. Some (row_text (row_of row)) };
 
     fn fmt<W: Write>(&self, f: &mut Formatter<W>) -> fmt::Result {
@@ -40,7 +40,7 @@ impl Display for Row {
 
 /// A row as an object of JSON (RFC 8259). No text of the table has an octet that needs an escape.
 #[derive(Clone, Copy)]
-struct JsonRow<'a>(&'a Row);
+struct JsonRow<'a>(&'a RefusalRow);
 
 impl Display for JsonRow<'_> {
     ghost output = { λ row. Some (row_json (row_of row.0.now)) };
@@ -56,7 +56,7 @@ impl Display for JsonRow<'_> {
 }
 
 /// Rows for a person. The only error is out of memory.
-pub fn plain_text(alloc: Global, rows: &[Row]) -> Result<String, AllocError>
+pub fn plain_text(alloc: Global, rows: &[RefusalRow]) -> Result<String, AllocError>
     ensures { IfOk result (λ text. string_bytes text ≡ text_of (map row_of rows.now)) }
 {
     let mut text = String::new(alloc);
@@ -67,7 +67,7 @@ pub fn plain_text(alloc: Global, rows: &[Row]) -> Result<String, AllocError>
 }
 
 /// The rows behind the first of an array, each behind a comma and on a line of its own. The only error is out of memory.
-fn further_text(alloc: Global, rows: &[Row]) -> Result<String, AllocError>
+fn further_text(alloc: Global, rows: &[RefusalRow]) -> Result<String, AllocError>
     ensures { IfOk result (λ text. string_bytes text ≡ further (map row_of rows.now)) }
 {
     let mut text = String::new(alloc);
@@ -78,7 +78,7 @@ fn further_text(alloc: Global, rows: &[Row]) -> Result<String, AllocError>
 }
 
 /// Rows as an array of JSON, a row a line. The only error is out of memory.
-pub fn json_text(alloc: Global, rows: &[Row]) -> Result<String, AllocError>
+pub fn json_text(alloc: Global, rows: &[RefusalRow]) -> Result<String, AllocError>
     ensures { IfOk result (λ text. string_bytes text ≡ json_of (map row_of rows.now)) }
 {
     let Some((first, more)) = rows.split_first() else {

@@ -3,15 +3,15 @@ use Rattle.std.specs.Prelude.{unwrap_or}
 use Rattle.clap.specs.Words.{is_simple, subcommand_of, takes}
 use Rattle.clap.specs.Faults.{fault_of, is_simple_and_free}
 use Rattle.command_line.specs.Words.{asks, job_met}
-use Rattle.command_line.specs.Told.{is_help}
+use Rattle.command_line.specs.Misuse.{is_help}
 use Rattle.command_line.proofs.CommandLemmas.{office_free, office_simple}
 use Rattle.command_line.proofs.PlainLemmas.{plain_read}
-use Rattle.command_line.proofs.ToldLemmas.{nothing_wrong, told_of}
+use Rattle.command_line.proofs.MisuseLemmas.{nothing_wrong, told_of}
 use Rattle.command_line.proofs.words.read_words.Goals as goal
 
 pub returns-in-Err-clause-passes : goal.returns-in-Err-clause-passes
 returns-in-Err-clause-passes c =
-    λ t _. c.told.ensures.memory (c.in-Err.ensures.passes (ap (λ a. takes a (map (λ s. s.now) c.args.words.now)) c.in-Ok.ensures ∙ t))
+    λ t _. c.reported.ensures.memory (c.in-Err.ensures.passes (ap (λ a. takes a (map (λ s. s.now) c.args.words.now)) c.in-Ok.ensures ∙ t))
 
 pub returns-in-Some-clause-job : goal.returns-in-Some-clause-job
 returns-in-Some-clause-job c =
@@ -30,18 +30,18 @@ returns-in-Some-clause-plain c =
     let rows = (c.in-Ok-try_get_matches_from_mut.ensures.ok.2 (ap is_simple c.in-Ok.ensures ∙ office_simple)).1 ∙ ap (λ a. subcommand_of a words) c.in-Ok.ensures in
     λ x is. ap (λ o. unwrap_or o (asks c.in-Some.job)) ((c.in-Some.ensures ∙ ap job_met rows) ∙ plain_read words x is)
 
-pub returns-in-Err-clause-told : goal.returns-in-Err-clause-told
-returns-in-Err-clause-told c =
-    told_of (map (λ s. s.now) c.args.words.now) _ c.in-Err.error _ c.in-Ok.ensures c.told.ensures.kind c.told.ensures.memory
+pub returns-in-Err-clause-reported : goal.returns-in-Err-clause-reported
+returns-in-Err-clause-reported c =
+    told_of (map (λ s. s.now) c.args.words.now) _ c.in-Err.error _ c.in-Ok.ensures c.reported.ensures.kind c.reported.ensures.memory
     (c.in-Err.ensures.kinds (ap is_simple_and_free c.in-Ok.ensures ∙ office_free))
 
-pub returns-in-Ok-error-clause-told : goal.returns-in-Ok-error-clause-told
-returns-in-Ok-error-clause-told c =
+pub returns-in-Ok-error-clause-reported : goal.returns-in-Ok-error-clause-reported
+returns-in-Ok-error-clause-reported c =
     let words = map (λ s. s.now) c.args.words.now in
     let rows = (c.in-Ok-try_get_matches_from_mut.ensures.ok.2 (ap is_simple c.in-Ok.ensures ∙ office_simple)).1 ∙ ap (λ a. subcommand_of a words) c.in-Ok.ensures in
     let faultless = ap (λ a. fault_of a words) (sym c.in-Ok.ensures)
     ∙ c.in-Ok-try_get_matches_from_mut.ensures.kinds (ap is_simple_and_free c.in-Ok.ensures ∙ office_free) in
-    nothing_wrong words _ _ faultless (sym (c.in_default-job_in.ensures ∙ ap job_met rows)) (ap is_help c.in-Ok-error.ensures.kind) c.told-in-Ok-error.ensures.kind
+    nothing_wrong words _ _ faultless (sym (c.in_default-job_in.ensures ∙ ap job_met rows)) (ap is_help c.in-Ok-error.ensures.kind) c.reported-in-Ok-error.ensures.kind
 
 pub returns-in-Ok-error-clause-passes : goal.returns-in-Ok-error-clause-passes
 returns-in-Ok-error-clause-passes c =

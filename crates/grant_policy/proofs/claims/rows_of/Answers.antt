@@ -2,7 +2,7 @@ use Rattle.std.proofs.Common.{ℕ, List, [], ◌∷◌, ◌++◌, take, sym, ap,
 use Rattle.std.proofs.lemmas.List.{map_push, take_more, length-map}
 use Rattle.std.proofs.lemmas.List.Elements.{All-push}
 use Rattle.grant_policy.specs.declared.claims.Claim.{Claim}
-use Rattle.grant_policy.specs.declared.claims.Row.{Row}
+use Rattle.grant_policy.specs.declared.claims.Coverage.{Coverage}
 use Rattle.grant_policy.specs.Claims.{AreEntries, IsRow, rules_of}
 use Rattle.grant_policy.proofs.claims.rows_of.Goals as goal
 
@@ -13,7 +13,7 @@ loop-name-preserved c =
     let n = c.loop-name.name-index in
     let rows = c.loop-name.rows.items in
     let name = c.name-item.result in
-    let f : Row → List (List ℕ) = λ (r : Row). r.name.now in
+    let f : Coverage → List (List ℕ) = λ (r : Coverage). r.name.now in
     let are = subst (λ (m : ℕ). AreEntries (rules_of claims) name m c.in_ok-entries.entries.items) (sym (length-map claims (λ (x : Claim). x.rule.now))) c.in_ok-entries.ensures in
     rw c.in_ok-push.ensures.items (record {
       names = map_push f rows _ ∙ ap (λ (l : List (List (List ℕ))). l ++ name ∷ []) c.loop-name.invariant.names ∙ ap (λ (x : List (List ℕ)). take n names ++ x ∷ []) c.name-item.is ∙ sym (take_more names n name c.loop-name-test.true);

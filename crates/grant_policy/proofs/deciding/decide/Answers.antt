@@ -2,7 +2,7 @@ use Rattle.std.proofs.Common.{Some, None, sym, ◌∙◌, subst}
 use Rattle.grant_policy.specs.Rules.{Question}
 use Rattle.grant_policy.specs.Decisions.{Verdict, IsDecision}
 use Rattle.grant_policy.proofs.DecideLemmas.{decision_is}
-use Rattle.grant_policy.proofs.DecisionLaws.{decision_found, told_closing}
+use Rattle.grant_policy.proofs.DecisionLaws.{decision_found, decider_closing}
 use Rattle.grant_policy.proofs.deciding.decide.Goals as goal
 
 pub returns-in-Some-clause-first : goal.returns-in-Some-clause-first
@@ -28,9 +28,9 @@ returns-in-None-clause-found c =
 pub returns-in-Some-clause-closing : goal.returns-in-Some-clause-closing
 returns-in-Some-clause-closing c =
     let p : Question = record { caller = c.args.caller.now; name = c.args.name.now; record_type = c.args.record_type; action = c.args.action } in
-    told_closing p c.args.policy.now _ (returns-in-Some-clause-found c) c.reveal_rules.ensures.free
+    decider_closing p c.args.policy.now _ (returns-in-Some-clause-found c) c.reveal_rules.ensures.free
 
 pub returns-in-None-clause-closing : goal.returns-in-None-clause-closing
 returns-in-None-clause-closing c =
     let p : Question = record { caller = c.args.caller.now; name = c.args.name.now; record_type = c.args.record_type; action = c.args.action } in
-    told_closing p c.args.policy.now _ (returns-in-None-clause-found c) c.reveal_rules.ensures.free
+    decider_closing p c.args.policy.now _ (returns-in-None-clause-found c) c.reveal_rules.ensures.free

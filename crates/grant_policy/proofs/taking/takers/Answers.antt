@@ -3,7 +3,7 @@ use Rattle.std.proofs.lemmas.List.{length-map, with_items_is}
 use Rattle.std.proofs.lemmas.List.Elements.{All-get_or, All-map, All-weaker}
 use Rattle.grant_policy.specs.declared.rule.Rule.{Rule}
 use Rattle.grant_policy.specs.declared.claims.Claim.{Claim}
-use Rattle.grant_policy.specs.declared.claims.Row.{Row}
+use Rattle.grant_policy.specs.declared.claims.Coverage.{Coverage}
 use Rattle.grant_policy.specs.Taking.{AreCallers}
 use Rattle.grant_policy.specs.Claims.{IsClaim, IsRow, TakesIn, rules_of}
 use Rattle.grant_policy.proofs.ClaimLemmas.{all_below, rule_at, row_yes, row_no, takers_are}
@@ -16,7 +16,7 @@ mark-requires c =
     let rules = rules_of claims in
     let row = c.row-item.result in
     let n = c.loop-row.row-index in
-    let is = subst (λ (r : Row). IsRow rules r) (sym c.row-item.is) (All-get_or (IsRow rules) c.args.rows.now n row c.loop-row-test.true c.requires.rows) in
+    let is = subst (λ (r : Coverage). IsRow rules r) (sym c.row-item.is) (All-get_or (IsRow rules) c.args.rows.now n row c.loop-row-test.true c.requires.rows) in
     let long = length-map claims (λ (x : Claim). x.rule.now) in
     rw (c.deref-then-is_in.ensures.value, c.deref_mut.ensures.value)
     (λ k d lt. omega (arith, all_below rules row.name.now (length rules) row.entries.items is k d lt, c.loop-row.invariant.long, long))

@@ -2,7 +2,7 @@ use Rattle.std.proofs.Common.{◌≡◌, ◌+◌, ◌≤◌, length, take, vec_l
 use Rattle.std.specs.Prelude.{sum_by}
 use Rattle.std.specs.Vec.{vec_capacity}
 use Rattle.office_core.specs.States.{State}
-use Rattle.office_core.specs.Runs.{IsRun, failures_told}
+use Rattle.office_core.specs.Runs.{IsRun, counted_failures}
 use Rattle.office_core.proofs.runs.replies_to.Given as goal
 
 abbrev pub invariant-loop-call : goal.invariant-loop-call
@@ -10,6 +10,6 @@ invariant-loop-call g l = record {
   len : vec_len l.replies ≡ l.call-index;
   room : length l.calls ≤ vec_capacity l.replies;
   honest : g.T.ZoneTable.is_honest l.table → g.T.ZoneTable.is_honest l.fn.table;
-  counts : g.T.ZoneTable.failures l.table ≡ g.T.ZoneTable.failures l.fn.table + sum_by failures_told l.replies.items;
+  counts : g.T.ZoneTable.failures l.table ≡ g.T.ZoneTable.failures l.fn.table + sum_by counted_failures l.replies.items;
   run : g.T.ZoneTable.is_honest l.table → (s : State) → g.T.ZoneTable.holds l.fn.table s → IsRun (g.T.ZoneTable.holds l.table) l.policy s (take l.call-index l.calls) l.replies.items;
 }

@@ -1,5 +1,5 @@
 use Rattle.std.proofs.Common.{◌≡◌, map}
-use Rattle.text_commands.specs.declared.refusal_row.Place.TheVariants.{Start}
+use Rattle.text_commands.specs.declared.refusal_row.NumberPlace.TheVariants.{Start}
 use Rattle.text_commands.specs.RefusalNumbers.{row_of, rows_from}
 use Rattle.text_commands.proofs.RefusalNumberLemmas.{parts_from, with_front}
 use Rattle.text_commands.proofs.refusal_number.rows_of_parts.Given as goal

@@ -1,13 +1,13 @@
 use Rattle.std.proofs.Common.{rules}
 use Rattle.std.specs.Option.{option_copied}
 use Rattle.std.proofs.lemmas.List.Sorted.{IsPartitionPoint-from_clause}
-use Rattle.grant_policy.specs.Index.{Place}
+use Rattle.grant_policy.specs.Index.{IndexKey}
 use Rattle.grant_policy.proofs.IndexLemmas.{before, upto, before_parted, upto_parted, searched, in_order_at, rest_is}
 use Rattle.grant_policy.proofs.policy.PolicyRuleTable.search.Goals as goal
 
 pub slice_bounds-result-count : goal.slice_bounds-result-count
 slice_bounds-result-count c =
-    let target : Place = record { caller = option_copied c.args.caller; key = c.args.key.now } in
+    let target : IndexKey = record { caller = option_copied c.args.caller; key = c.args.key.now } in
     let index = c.self.inside.index.items in
     let from = c.partition_point-from.result in
     let to = c.partition_point-to.result in
@@ -20,7 +20,7 @@ slice_bounds-result-count c =
 
 pub returns-clause-rows : goal.returns-clause-rows
 returns-clause-rows c =
-    let target : Place = record { caller = option_copied c.args.caller; key = c.args.key.now } in
+    let target : IndexKey = record { caller = option_copied c.args.caller; key = c.args.key.now } in
     let index = c.self.inside.index.items in
     let from = c.partition_point-from.result in
     let to = c.partition_point-to.result in
@@ -33,7 +33,7 @@ returns-clause-rows c =
 
 pub returns-clause-all : goal.returns-clause-all
 returns-clause-all c =
-    let target : Place = record { caller = option_copied c.args.caller; key = c.args.key.now } in
+    let target : IndexKey = record { caller = option_copied c.args.caller; key = c.args.key.now } in
     let index = c.self.inside.index.items in
     let from = c.partition_point-from.result in
     let to = c.partition_point-to.result in
@@ -46,7 +46,7 @@ returns-clause-all c =
 
 pub returns-clause-few : goal.returns-clause-few
 returns-clause-few c =
-    let target : Place = record { caller = option_copied c.args.caller; key = c.args.key.now } in
+    let target : IndexKey = record { caller = option_copied c.args.caller; key = c.args.key.now } in
     let index = c.self.inside.index.items in
     let from = c.partition_point-from.result in
     let to = c.partition_point-to.result in

@@ -19,13 +19,13 @@ abbrev pub is_mistake : ErrorKind → Bool
 is_mistake k = not (is_help k)
 
 -- help where the words ask for it, and misuse where there is a mistake in them, or none and they name no job
-abbrev pub IsToldOf : List Text → WordsFault → Type 0
-IsToldOf words (fault.Help text) = list_any is_help (fault_of office words) ≡ true
-IsToldOf words (fault.Misused text) = (list_any is_mistake (fault_of office words) ≡ true) ⊎ ((fault_of office words ≡ []) × (job_of words ≡ None))
-IsToldOf words fault.NoMemory = ⊤
+abbrev pub IsReported : List Text → WordsFault → Type 0
+IsReported words (fault.Help text) = list_any is_help (fault_of office words) ≡ true
+IsReported words (fault.Misused text) = (list_any is_mistake (fault_of office words) ≡ true) ⊎ ((fault_of office words ≡ []) × (job_of words ≡ None))
+IsReported words fault.NoMemory = ⊤
 
 -- the same of one error
-abbrev pub IsToldAs : ErrorKind → WordsFault → Type 0
-IsToldAs k (fault.Help text) = is_help k ≡ true
-IsToldAs k (fault.Misused text) = is_mistake k ≡ true
-IsToldAs k fault.NoMemory = ⊤
+abbrev pub IsReportedAs : ErrorKind → WordsFault → Type 0
+IsReportedAs k (fault.Help text) = is_help k ≡ true
+IsReportedAs k (fault.Misused text) = is_mistake k ≡ true
+IsReportedAs k fault.NoMemory = ⊤
