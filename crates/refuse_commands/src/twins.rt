@@ -3,10 +3,10 @@
 use dns_data::Data;
 use dns_master::read_file;
 use dns_names::Name;
-use item_lines::{ItemsFault, items_text, read_items};
+use item_lines::{ItemsFault, read_items};
 use std::alloc::{AllocError, Global};
 use text_commands::{Refusal, RefusalLine};
-use zone_core::{Failed, Update, Zone, holds};
+use zone_core::{Failed, Zone, holds};
 
 /// The lengths of the master file of an input and of what stands before its items.
 fn parts(input: &[u8]) -> Option<(usize, usize)> {
@@ -93,31 +93,5 @@ pub fn turned(alloc: Global, decision: &[u8]) -> Result<Vec<u8>, AllocError> {
     };
     let mut text = Vec::from_slice(alloc, word.as_bytes())?;
     text.extend_from_slice(rest)?;
-    Ok(text)
-}
-
-/// The update of the prerequisites, and that of the operations.
-fn halves(alloc: Global, update: &Update) -> Result<(Update, Update), AllocError> {
-    let mut prerequisites = Vec::new(alloc);
-    for prerequisite in update.prerequisites() {
-        prerequisites.push(prerequisite.try_copy(alloc)?)?;
-    }
-    let mut operations = Vec::new(alloc);
-    for operation in update.operations() {
-        operations.push(operation.try_copy(alloc)?)?;
-    }
-    let first = Update::build(prerequisites, Vec::new(alloc));
-    let second = Update::build(Vec::new(alloc), operations);
-    match (first, second) {
-        (Ok(first), Ok(second)) => Ok((first, second)),
-        _ => Err(AllocError),
-    }
-}
-
-/// The lines of the operations of an update, and then those of its prerequisites.
-pub fn operations_first(alloc: Global, update: &Update) -> Result<String, AllocError> {
-    let (prerequisites, operations) = halves(alloc, update)?;
-    let mut text = items_text(alloc, &operations)?;
-    text.push_str(items_text(alloc, &prerequisites)?.as_str())?;
     Ok(text)
 }

@@ -2,19 +2,6 @@
 
 use std::alloc::{AllocError, Global};
 
-/// Octets, or others in the place of these.
-pub fn as_one(
-    alloc: Global,
-    octets: &[u8],
-    these: &[u8],
-    others: &[u8],
-) -> Result<Vec<u8>, AllocError> {
-    if octets == these {
-        return Vec::from_slice(alloc, others);
-    }
-    Vec::from_slice(alloc, octets)
-}
-
 /// A text with a 0 behind the digits of the first length in it.
 pub fn with_other_length(alloc: Global, text: &[u8]) -> Result<Vec<u8>, AllocError> {
     let field = b"Content-Length: ";
