@@ -16,6 +16,7 @@ pub mod DocumentLaws
 pub mod FreeNameLemmas
 pub mod PointLemmas
 pub mod RepresentativeLemmas
+mod ReachLemmas
 pub mod CallerLemmas
 pub mod TakeLemmas
 pub mod IdleLemmas

@@ -71,7 +71,7 @@ within_longer a b (f, e) = omega (arith, ap (length {A = List ℕ}) e, length-ap
 tail_of : {X : Type 0} (x y : X) (xs ys : List X) → x ∷ xs ≡ y ∷ ys → xs ≡ ys
 tail_of x y xs ys e = cc
 
-within_cons : (label : List ℕ) (name top : List (List ℕ)) → IsWithin (label ∷ name) top → (top ≡ label ∷ name) ⊎ IsWithin name top
+pub within_cons : (label : List ℕ) (name top : List (List ℕ)) → IsWithin (label ∷ name) top → (top ≡ label ∷ name) ⊎ IsWithin name top
 within_cons label name top ([], e) = inl (sym e)
 within_cons label name top (x ∷ front, e) = inr (front, tail_of label x name (front ++ top) e)
 

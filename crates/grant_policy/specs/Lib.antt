@@ -6,6 +6,7 @@ pub mod Decisions
 pub mod Boundaries
 pub mod Known
 pub mod Grants
+pub mod Reach
 pub mod Index
 pub mod Found
 pub mod Faults

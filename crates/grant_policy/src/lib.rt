@@ -24,6 +24,7 @@ mod look_ups;
 mod points;
 mod policy;
 mod policy_fault;
+mod reaching;
 mod representatives;
 mod rule;
 mod scope;
@@ -50,6 +51,7 @@ pub use laws::{
 pub use look_ups::LookUps;
 pub use policy::Policy;
 pub use policy_fault::{PolicyFault, PolicyPlace, RuleKey};
+pub use reaching::reach;
 pub use rule::Rule;
 pub use scope::{Scope, covers};
 pub use selection::{Actions, Types};

@@ -1,0 +1,236 @@
+-- Grants are where the reaches of the granting rules are.
+use Rattle.std.proofs.Common.{◌≡◌, ◌⊎◌, ℕ, suc, ◌+◌, ◌<◌, ◌≤◌, List, [], ◌∷◌, ◌++◌, length, drop, get_or, Bool, true, false, cond, ◌&&◌, Option, Some, None, IfSome, inl, inr, ⊎_elim, refl, sym, ap, subst, ◌∙◌, arith, append-nil}
+use Rattle.std.proofs.Math.Seq.{drop-cons}
+use Rattle.std.proofs.lemmas.List.{drop_all}
+use Rattle.std.proofs.lemmas.Bool.{cases_Bool, false≢true, and_parts, and_from}
+use Rattle.dns_names.specs.Labels.{IsWithin, is_within, parent_of}
+use Rattle.dns_data.specs.declared.record_type.RecordType.{RecordType}
+use Rattle.grant_policy.specs.declared.action.Action.{Action}
+use Rattle.grant_policy.specs.declared.effect.Effect.{Effect}
+use Rattle.grant_policy.specs.declared.effect.Effect.TheVariants.{Grant, Deny}
+use Rattle.grant_policy.specs.declared.rule.Rule.{Rule}
+use Rattle.grant_policy.specs.declared.scope.Scope.{Scope}
+use Rattle.grant_policy.specs.declared.scope.Scope.TheVariants.{Name, Subtree, Below}
+use Rattle.grant_policy.specs.Scopes.{Covers, covers}
+use Rattle.grant_policy.specs.Rules.{Question, matches, is_of, has, same_type, same_action}
+use Rattle.grant_policy.specs.Decisions.{decided, decision, effect_by, is_granted}
+use Rattle.grant_policy.specs.Reach.{GrantsWithin, GrantsNowhere, IsReach, IsCommonAncestor, IsWidened, is_grant, grants_to, reach_at, reach_of}
+use Rattle.grant_policy.proofs.ScopeLemmas.{is_within-Decides, covers-Decides}
+use Rattle.grant_policy.proofs.RepresentativeLemmas.{within_self, within_trans, within_cons}
+
+abbrev Labels : Type 0
+Labels = List (List ℕ)
+
+-- ---- names within others
+
+pub within_root : (name : Labels) → IsWithin name []
+within_root name = (name, sym (append-nil name))
+
+root_within : (top : Labels) → IsWithin [] top → top ≡ []
+root_within top ([], e) = sym e
+root_within top (x ∷ front, e) = absurd cc
+
+-- of two names that a third is within one is within the other
+one_within : (name a b : Labels) → IsWithin name a → IsWithin name b → IsWithin a b ⊎ IsWithin b a
+one_within [] a b w v = inr (subst (λ (x : Labels). IsWithin b x) (sym (root_within a w)) (within_root b))
+one_within (label ∷ name) a b w v =
+    ⊎_elim
+    (λ (e : a ≡ label ∷ name). inl (subst (λ (x : Labels). IsWithin x b) (sym e) v))
+    (λ (deeper : IsWithin name a).
+    ⊎_elim (λ (e : b ≡ label ∷ name). inr (subst (λ (x : Labels). IsWithin x a) (sym e) w)) (λ (other : IsWithin name b). one_within name a b deeper other) (within_cons label name b v))
+    (within_cons label name a w)
+
+-- the parent of a name that another is not within
+pub record IsPassed (name other top : Labels) : Type 0 where
+  pub first : IsWithin name top
+  pub last : (above : Labels) → IsWithin name above → IsWithin other above → IsWithin top above
+
+pub passed : (name other top parent : Labels) (label : List ℕ) → top ≡ label ∷ parent → is_within other top ≡ false → IsPassed name other top → IsPassed name other parent
+passed name other top parent label is not_in so_far =
+    record {
+      first = within_trans name top parent so_far.first (label ∷ [], is);
+      last = λ above w v.
+          ⊎_elim
+          (λ (e : above ≡ label ∷ parent). absurd (false≢true (sym not_in ∙ (is_within-Decides other top).1 (subst (λ (x : Labels). IsWithin other x) (e ∙ sym is) v))))
+          (λ (deeper : IsWithin parent above). deeper)
+          (within_cons label parent above (subst (λ (x : Labels). IsWithin x above) is (so_far.last above w v)));
+    }
+
+pub passed_up : (name other top parent : Labels) (within : Bool) → parent_of top ≡ Some parent → within ≡ is_within other top → within ≡ false → IsPassed name other top → IsPassed name other parent
+passed_up name other [] parent within up is out so_far = absurd cc
+passed_up name other (label ∷ rest) parent within up is out so_far =
+    let same : rest ≡ parent = cc in
+    passed name other (label ∷ rest) parent label (ap (λ (x : Labels). label ∷ x) same) (sym is ∙ out) so_far
+
+-- ---- rules that grant
+
+-- a rule grants what is asked
+pub record Grants (asked : Question) (rule : Rule) : Type 0 where
+  pub granting : rule.effect ≡ Grant
+  pub matching : matches asked rule ≡ true
+
+-- some rule does
+abbrev pub SomeGrants : Question → List Rule → Type 0
+SomeGrants asked [] = ⊥
+SomeGrants asked (rule ∷ rules) = Grants asked rule ⊎ SomeGrants asked rules
+
+by_grant : (effect : Effect) (id : List ℕ) → is_granted (effect_by effect id) ≡ true → effect ≡ Grant
+by_grant Grant id e = refl
+by_grant Deny id e = absurd cc
+
+-- what is granted some rule grants
+some_grants : (asked : Question) (rules : List Rule) → is_granted (decision asked rules) ≡ true → SomeGrants asked rules
+some_grants asked [] e = absurd cc
+some_grants asked (rule ∷ rules) e =
+    ⊎_elim
+    (λ (yes' : matches asked rule ≡ true). inl (record { granting = by_grant rule.effect rule.id (sym (ap (λ (b : Bool). is_granted (cond b (decided rule) (decision asked rules))) yes') ∙ e); matching = yes' }))
+    (λ (no' : matches asked rule ≡ false). inr (some_grants asked rules (sym (ap (λ (b : Bool). is_granted (cond b (decided rule) (decision asked rules))) no') ∙ e)))
+    (cases_Bool (matches asked rule))
+
+-- ---- the reach of a rule
+
+-- a name is within a reach
+abbrev pub IsIn : Option Labels → Labels → Type 0
+IsIn None name = ⊥
+IsIn (Some top) name = IsWithin name top
+
+within_scope : (scope : Scope) (at name : Labels) → Covers scope at name → IsWithin name at
+within_scope Name at name e = subst (λ (x : Labels). IsWithin x at) (sym e) (within_self at)
+within_scope Subtree at name w = w
+within_scope Below at name b = b.0
+
+in_reach_at : (at origin name : Labels) → IsWithin name at → IsWithin name origin → IsIn (reach_at at origin) name
+in_reach_at at origin name w v =
+    ⊎_elim
+    (λ (yes' : is_within at origin ≡ true). subst (λ (b : Bool). IsIn (cond b (Some at) (cond (is_within origin at) (Some origin) None)) name) (sym yes') w)
+    (λ (no' : is_within at origin ≡ false).
+    let above : is_within origin at ≡ true =
+    ⊎_elim
+    (λ (below : IsWithin at origin). absurd (false≢true (sym no' ∙ (is_within-Decides at origin).1 below)))
+    (λ (up : IsWithin origin at). (is_within-Decides origin at).1 up)
+    (one_within name at origin w v) in
+    subst (λ (b : Bool). IsIn (cond b (Some at) (cond (is_within origin at) (Some origin) None)) name) (sym no') (subst (λ (b : Bool). IsIn (cond b (Some origin) None) name) (sym above) v))
+    (cases_Bool (is_within at origin))
+
+-- what a rule grants within the origin is in its reach there
+in_reach_of : (asked : Question) (origin : Labels) (rule : Rule) → Grants asked rule → IsWithin asked.name origin → IsIn (reach_of asked.caller asked.action origin rule) asked.name
+in_reach_of asked origin rule grants v =
+    let parts = and_parts (is_of rule.callers asked.caller) (covers rule.scope rule.at asked.name && (has same_type rule.types asked.record_type && has same_action rule.actions asked.action)) grants.matching in
+    let more = and_parts (covers rule.scope rule.at asked.name) (has same_type rule.types asked.record_type && has same_action rule.actions asked.action) parts.1 in
+    let last = and_parts (has same_type rule.types asked.record_type) (has same_action rule.actions asked.action) more.1 in
+    let does : grants_to asked.caller asked.action rule ≡ true =
+    ap (λ (e : Effect). is_grant e && (is_of rule.callers asked.caller && has same_action rule.actions asked.action)) grants.granting
+    ∙ and_from (is_of rule.callers asked.caller) (has same_action rule.actions asked.action) parts.0 last.1 in
+    let w = within_scope rule.scope rule.at asked.name ((covers-Decides rule.scope rule.at asked.name).0 more.0) in
+    subst (λ (b : Bool). IsIn (cond b (reach_at rule.at origin) None) asked.name) (sym does) (in_reach_at rule.at origin asked.name w v)
+
+of_test : (b : Bool) (x : Labels) (r : Option Labels) (top : Labels) → cond b (Some x) r ≡ Some top → (x ≡ top) ⊎ (r ≡ Some top)
+of_test true x r top e = inl cc
+of_test false x r top e = inr e
+
+of_grant : (b : Bool) (r : Option Labels) (top : Labels) → cond b r None ≡ Some top → r ≡ Some top
+of_grant true r top e = e
+of_grant false r top e = absurd cc
+
+reach_at_within : (at origin top : Labels) → reach_at at origin ≡ Some top → IsWithin top origin
+reach_at_within at origin top e =
+    ⊎_elim
+    (λ (yes' : is_within at origin ≡ true).
+    let same : at ≡ top = let it : Some at ≡ Some top = sym (ap (λ (b : Bool). cond b (Some at) (cond (is_within origin at) (Some origin) None)) yes') ∙ e in cc in
+    subst (λ (x : Labels). IsWithin x origin) same ((is_within-Decides at origin).0 yes'))
+    (λ (no' : is_within at origin ≡ false).
+    let rest = of_grant' (is_within origin at) origin top (sym (ap (λ (b : Bool). cond b (Some at) (cond (is_within origin at) (Some origin) None)) no') ∙ e) in
+    subst (λ (x : Labels). IsWithin x origin) rest (within_self origin))
+    (cases_Bool (is_within at origin))
+  where
+    of_grant' : (b : Bool) (x top : Labels) → cond b (Some x) None ≡ Some top → x ≡ top
+    of_grant' true x top e = cc
+    of_grant' false x top e = absurd cc
+
+reach_of_within : (caller : List ℕ) (action : Action) (origin : Labels) (rule : Rule) (top : Labels) → reach_of caller action origin rule ≡ Some top → IsWithin top origin
+reach_of_within caller action origin rule top e = reach_at_within rule.at origin top (of_grant (grants_to caller action rule) (reach_at rule.at origin) top e)
+
+-- ---- the reach of the rules so far
+
+-- what the rules grant within an origin is in the reach so far, or by a rule that is left
+pub record ReachesSoFar (rules : List Rule) (caller : List ℕ) (action : Action) (origin : Labels) (rest : List Rule) (reach : Option Labels) : Type 0 where
+  pub top : IfSome reach (λ top. IsWithin top origin)
+  pub each : (name : Labels) (record_type : RecordType) → IsWithin name origin
+      → SomeGrants (record { caller = caller; name = name; record_type = record_type; action = action }) rules
+      → IsIn reach name ⊎ SomeGrants (record { caller = caller; name = name; record_type = record_type; action = action }) rest
+
+pub none_so_far : (rules : List Rule) (caller : List ℕ) (action : Action) (origin : Labels) → ReachesSoFar rules caller action origin rules None
+none_so_far rules caller action origin = record { top = tt; each = λ name record_type w some. inr some }
+
+next_rule : (rules : List Rule) (i : ℕ) (rule : Rule) → i < length rules → rule ≡ get_or rules i rule → drop i rules ≡ rule ∷ drop (i + 1) rules
+next_rule rules i rule lt is = drop-cons rules i rule lt ∙ ap (λ (r : Rule). r ∷ drop (suc i) rules) (sym is) ∙ ap (λ (n : ℕ). rule ∷ drop n rules) (let e : suc i ≡ i + 1 = omega arith in e)
+
+module _ (rules : List Rule) (caller : List ℕ) (action : Action) (origin : Labels) where
+  -- a rule that reaches nothing
+  pub skipped : (i : ℕ) (rule : Rule) (so_far : Option Labels) → i < length rules → rule ≡ get_or rules i rule → reach_of caller action origin rule ≡ None
+      → ReachesSoFar rules caller action origin (drop i rules) so_far → ReachesSoFar rules caller action origin (drop (i + 1) rules) so_far
+  skipped i rule so_far lt is none before =
+      record {
+        top = before.top;
+        each = λ name record_type w some.
+            let asked : Question = record { caller = caller; name = name; record_type = record_type; action = action } in
+            ⊎_elim
+            (λ (here : IsIn so_far name). inl here)
+            (λ (left : SomeGrants asked (drop i rules)).
+            ⊎_elim
+            (λ (by : Grants asked rule). absurd (subst (λ (r : Option Labels). IsIn r name) none (in_reach_of asked origin rule by w)))
+            (λ (later : SomeGrants asked (drop (i + 1) rules)). inr later)
+            (subst (SomeGrants asked) (next_rule rules i rule lt is) left))
+            (before.each name record_type w some);
+      }
+
+  both_within : (so_far : Option Labels) (name top : Labels) → IsWidened so_far name top → IfSome so_far (λ t. IsWithin t origin) → IsWithin name origin → IsWithin top origin
+  both_within None name top e s w = subst (λ (x : Labels). IsWithin x origin) (sym e) w
+  both_within (Some t) name top e s w = e.last origin s w
+
+  still_in : (so_far : Option Labels) (name top x : Labels) → IsWidened so_far name top → IsIn so_far x → IsWithin x top
+  still_in None name top x e i = absurd i
+  still_in (Some t) name top x e i = within_trans x t top i e.first
+
+  one_in : (so_far : Option Labels) (name top : Labels) → IsWidened so_far name top → IsWithin name top
+  one_in None name top e = subst (λ (x : Labels). IsWithin name x) (sym e) (within_self name)
+  one_in (Some t) name top e = e.second
+
+  -- a rule that reaches a name
+  pub reached : (i : ℕ) (rule : Rule) (so_far : Option Labels) (name top : Labels) → i < length rules → rule ≡ get_or rules i rule → reach_of caller action origin rule ≡ Some name
+      → IsWidened so_far name top → ReachesSoFar rules caller action origin (drop i rules) so_far → ReachesSoFar rules caller action origin (drop (i + 1) rules) (Some top)
+  reached i rule so_far at top lt is some_at wider before =
+      record {
+        top = both_within so_far at top wider before.top (reach_of_within caller action origin rule at some_at);
+        each = λ name record_type w some.
+            let asked : Question = record { caller = caller; name = name; record_type = record_type; action = action } in
+            ⊎_elim
+            (λ (here : IsIn so_far name). inl (still_in so_far at top name wider here))
+            (λ (left : SomeGrants asked (drop i rules)).
+            ⊎_elim
+            (λ (by : Grants asked rule). inl (within_trans name at top (subst (λ (r : Option Labels). IsIn r name) some_at (in_reach_of asked origin rule by w)) (one_in so_far at top wider)))
+            (λ (later : SomeGrants asked (drop (i + 1) rules)). inr later)
+            (subst (SomeGrants asked) (next_rule rules i rule lt is) left))
+            (before.each name record_type w some);
+      }
+
+  in_end : (reach : Option Labels) (n : ℕ) → length rules ≤ n → ReachesSoFar rules caller action origin (drop n rules) reach
+      → (name : Labels) (record_type : RecordType) → IsWithin name origin
+      → is_granted (decision (record { caller = caller; name = name; record_type = record_type; action = action }) rules) ≡ true → IsIn reach name
+  in_end reach n past all name record_type w granted =
+      let asked : Question = record { caller = caller; name = name; record_type = record_type; action = action } in
+      ⊎_elim
+      (λ (here : IsIn reach name). here)
+      (λ (left : SomeGrants asked (drop n rules)). absurd (subst (SomeGrants asked) (drop_all n rules past) left))
+      (all.each name record_type w (some_grants asked rules granted))
+
+  -- behind the last rule
+  pub all_reached : (reach : Option Labels) (n : ℕ) → length rules ≤ n → ReachesSoFar rules caller action origin (drop n rules) reach → IsReach rules caller action origin reach
+  all_reached None n past all =
+      λ name record_type w.
+      let asked : Question = record { caller = caller; name = name; record_type = record_type; action = action } in
+      ⊎_elim
+      (λ (yes' : is_granted (decision asked rules) ≡ true). absurd (in_end None n past all name record_type w yes'))
+      (λ (no' : is_granted (decision asked rules) ≡ false). no')
+      (cases_Bool (is_granted (decision asked rules)))
+  all_reached (Some top) n past all = (all.top, λ name record_type w granted. in_end (Some top) n past all name record_type w granted)

@@ -1,0 +1,57 @@
+-- How far within an origin a policy grants a caller an action.
+use Rattle.std.specs.Prelude.{◌≡◌, ℕ, List, Bool, true, false, ◌&&◌, if◌then◌else◌, Option, Some, None}
+use Rattle.dns_names.specs.Labels.{IsWithin, is_within}
+use Rattle.dns_data.specs.declared.record_type.RecordType.{RecordType}
+use Rattle.grant_policy.specs.declared.action.Action.{Action}
+use Rattle.grant_policy.specs.declared.effect.Effect.{Effect}
+use Rattle.grant_policy.specs.declared.effect.Effect.TheVariants.{Grant, Deny}
+use Rattle.grant_policy.specs.declared.rule.Rule.{Rule}
+use Rattle.grant_policy.specs.Rules.{is_of, has, same_action}
+use Rattle.grant_policy.specs.Decisions.{decision, is_granted}
+
+-- each name within the origin at which the rules grant the caller the action for some type is within the top
+abbrev pub GrantsWithin : List Rule → List ℕ → Action → List (List ℕ) → List (List ℕ) → Type 0
+GrantsWithin rules caller action origin top =
+    (name : List (List ℕ)) (record_type : RecordType) → IsWithin name origin
+    → is_granted (decision (record { caller = caller; name = name; record_type = record_type; action = action }) rules) ≡ true
+    → IsWithin name top
+
+-- at no name within the origin do they grant it for any type
+abbrev pub GrantsNowhere : List Rule → List ℕ → Action → List (List ℕ) → Type 0
+GrantsNowhere rules caller action origin =
+    (name : List (List ℕ)) (record_type : RecordType) → IsWithin name origin
+    → is_granted (decision (record { caller = caller; name = name; record_type = record_type; action = action }) rules) ≡ false
+
+-- a name within the origin to which the grants reach there, or that there are none
+abbrev pub IsReach : List Rule → List ℕ → Action → List (List ℕ) → Option (List (List ℕ)) → Type 0
+IsReach rules caller action origin None = GrantsNowhere rules caller action origin
+IsReach rules caller action origin (Some top) = IsWithin top origin × GrantsWithin rules caller action origin top
+
+-- ---- by the rules
+
+abbrev pub is_grant : Effect → Bool
+is_grant Grant = true
+is_grant Deny = false
+
+-- whether a rule grants a caller an action at some name
+abbrev pub grants_to : List ℕ → Action → Rule → Bool
+grants_to caller action rule = is_grant rule.effect && (is_of rule.callers caller && has same_action rule.actions action)
+
+-- how far a rule at a name reaches within an origin: to that name, to the whole origin, or not at all
+abbrev pub reach_at : List (List ℕ) → List (List ℕ) → Option (List (List ℕ))
+reach_at at origin = if is_within at origin then Some at else (if is_within origin at then Some origin else None)
+
+-- how far a rule does, if it grants
+abbrev pub reach_of : List ℕ → Action → List (List ℕ) → Rule → Option (List (List ℕ))
+reach_of caller action origin rule = if grants_to caller action rule then reach_at rule.at origin else None
+
+-- two names are within a third, which is within each other name that both are within
+pub record IsCommonAncestor (name other top : List (List ℕ)) : Type 0 where
+  pub first : IsWithin name top
+  pub second : IsWithin other top
+  pub last : (above : List (List ℕ)) → IsWithin name above → IsWithin other above → IsWithin top above
+
+-- a reach so far with one more name
+abbrev pub IsWidened : Option (List (List ℕ)) → List (List ℕ) → List (List ℕ) → Type 0
+IsWidened None name top = top ≡ name
+IsWidened (Some so_far) name top = IsCommonAncestor so_far name top
