@@ -1,4 +1,4 @@
 pub mod SendLemmas
 pub mod ConnectionLemmas
 pub mod StoreLemmas
-pub mod PlaceLemmas
+pub mod FilesLemmas

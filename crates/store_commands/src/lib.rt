@@ -2,9 +2,9 @@
 #![tactic(auto)]
 
 mod cause;
+mod files;
 mod migration;
 mod patience;
-mod place;
 mod serving;
 mod std_streams;
 mod store_file;
@@ -12,8 +12,8 @@ mod trace;
 mod zones;
 
 pub use cause::{Cause, Diagnosis, Remembered, Undiagnosed};
+pub use files::{MachineFiles, StoreFiles};
 pub use migration::migrate;
-pub use place::{Machine, StoreFiles};
 pub use serving::{Connections, serve_connections};
 pub use std_streams::{do_export, do_import, do_migrate, do_serve};
 pub use text_commands::{

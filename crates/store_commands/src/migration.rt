@@ -9,7 +9,7 @@ ghost use Rattle.store_commands.specs.Migrate.{migrated_line, Migrates, migratio
 ghost use Rattle.store_commands.specs.Reports.{IsReported};
 ghost use Rattle.store_commands.specs.Stores.{IsMigratedStore};
 
-use crate::place::StoreFiles;
+use crate::files::StoreFiles;
 use crate::store_file::migrate_store;
 use crate::trace::write_texts;
 use dns_master::{DeviceFailed, Sink};

@@ -11,8 +11,8 @@ ghost use Rattle.text_commands.specs.Replies.{IsSent};
 ghost use Rattle.store_commands.specs.Serve.{policy_read, connection_line, ended_line, most_of, AreServed, AreTraced, IsTraced, IsSoMany, AreTold};
 
 use crate::cause::{Diagnosis, Remembered};
+use crate::files::MachineFiles;
 use crate::patience::{PatientStream, patience_of};
-use crate::place::Machine;
 use crate::store_file::open_store;
 use crate::trace::{tell_servfails, write_texts};
 use command_line::Service;
@@ -291,7 +291,7 @@ pub fn serve<W: Sink, E: Sink, A: Ledger, B: Ledger>(
         Ok(policy) => policy,
         Err(fault) => return tell(rt.alloc(), writer, fault),
     };
-    match open_store::<_, B, _>(rt.alloc(), &Machine(rt), service.store, store) {
+    match open_store::<_, B, _>(rt.alloc(), &MachineFiles(rt), service.store, store) {
         Ok(table) => serve_opened(rt, service, &policy, table, &Remembered, writer, trace),
         Err(fault) => tell(rt.alloc(), writer, LineFault::from(fault)),
     }

@@ -2,8 +2,8 @@
 
 ghost use Rattle.std.specs.Prelude.{◌≡◌, ◌<◌};
 
+use crate::files::MachineFiles;
 use crate::migration::migrate;
-use crate::place::Machine;
 use crate::serving::serve;
 use crate::zones::{export, import};
 use command_line::{Existing, Service, StoredZone, ZoneForm};
@@ -37,7 +37,7 @@ fn import_in<R: Read + Drop, W: Write + Drop, A: Ledger, B: Ledger, C: Ledger>(
     let mut sink: Counted<W, B> = Counted::new(writer, writes);
     let outcome = import::<_, _, _, C, _>(
         rt.alloc(),
-        &Machine(rt),
+        &MachineFiles(rt),
         what,
         store,
         &mut source,
@@ -73,7 +73,7 @@ fn export_in<W: Write + Drop, B: Ledger, C: Ledger>(
 {
     let mut sink: Counted<W, B> = Counted::new(writer, writes);
     let (zone, form) = what;
-    let outcome = export::<_, _, C, _>(rt.alloc(), &Machine(rt), zone, form, store, &mut sink);
+    let outcome = export::<_, _, C, _>(rt.alloc(), &MachineFiles(rt), zone, form, store, &mut sink);
     (sink.into_inner(), outcome)
 }
 
@@ -99,7 +99,7 @@ fn migrate_in<W: Write + Drop, B: Ledger>(
 {
     let (store, writer) = what;
     let mut sink: Counted<W, B> = Counted::new(writer, writes);
-    let outcome = migrate(rt.alloc(), &Machine(rt), store, &mut sink);
+    let outcome = migrate(rt.alloc(), &MachineFiles(rt), store, &mut sink);
     (sink.into_inner(), outcome)
 }
 

@@ -4,7 +4,7 @@ ghost use Rattle.std.specs.Prelude.{◌≡◌, ◌<◌, ◌⊎◌, false, IfOk, 
 ghost use Rattle.sqlite.specs.Held.{Held, state};
 ghost use Rattle.store_commands.specs.Stores.{IsAdopted, IsUnadopted, IsMade, IsUnmade, IsUnfound, IsOpened, IsUnopened, IsOpenedOrMade, IsUnopenedOrMade, IsMigratedTo, IsUnmigrated, IsMigratedStore};
 
-use crate::place::StoreFiles;
+use crate::files::StoreFiles;
 use office_store::{SqlTable, StoreFault};
 use sqlite::{Alter, Connection};
 use std::alloc::Global;

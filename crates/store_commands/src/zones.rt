@@ -15,7 +15,7 @@ ghost use Rattle.store_commands.specs.Stores.{IsReached, IsUnreached, IsPut, IsS
 ghost use Rattle.store_commands.specs.Export.{FindsRecords, export_text, IsExported};
 ghost use Rattle.store_commands.specs.Reports.{IsReported, IsShown};
 
-use crate::place::StoreFiles;
+use crate::files::StoreFiles;
 use crate::store_file::{open_or_make_store, open_store};
 use command_line::{Existing, StoredZone, ZoneForm};
 use dns_data::Record;

@@ -2,7 +2,7 @@ use Rattle.std.proofs.Common.{◌≡◌, inl, inr, subst, rules}
 use Rattle.sqlite.specs.Held.{state}
 use Rattle.office_rows.specs.declared.store_fault.StoreFault.TheVariants.{WrongVersion}
 use Rattle.store_commands.specs.Stores.{IsUnadopted}
-use Rattle.store_commands.proofs.PlaceLemmas.{map_err}
+use Rattle.store_commands.proofs.FilesLemmas.{map_err}
 use Rattle.store_commands.proofs.store_file.made_or_adopted.Goals as goal
 
 pub returns-in-Ok-clause-opened : goal.returns-in-Ok-clause-opened

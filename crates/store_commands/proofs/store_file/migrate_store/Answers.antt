@@ -1,5 +1,5 @@
 use Rattle.sqlite.specs.Held.{state}
-use Rattle.store_commands.proofs.PlaceLemmas.{migrated_store}
+use Rattle.store_commands.proofs.FilesLemmas.{migrated_store}
 use Rattle.store_commands.proofs.store_file.migrate_store.Goals as goal
 
 pub returns : goal.returns

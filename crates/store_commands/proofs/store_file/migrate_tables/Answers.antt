@@ -1,5 +1,5 @@
 use Rattle.sqlite.specs.Held.{state}
-use Rattle.store_commands.proofs.PlaceLemmas.{migrated_to, unmigrated}
+use Rattle.store_commands.proofs.FilesLemmas.{migrated_to, unmigrated}
 use Rattle.store_commands.proofs.store_file.migrate_tables.Goals as goal
 
 pub returns-clause-migrated : goal.returns-clause-migrated

@@ -1,5 +1,5 @@
 use Rattle.std.proofs.Common.{inr}
-use Rattle.store_commands.proofs.PlaceLemmas.{map_ok, map_err}
+use Rattle.store_commands.proofs.FilesLemmas.{map_ok, map_err}
 use Rattle.store_commands.proofs.store_file.open_or_make_store.Goals as goal
 
 pub returns-clause-opened : goal.returns-clause-opened

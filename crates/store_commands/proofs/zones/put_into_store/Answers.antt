@@ -1,5 +1,5 @@
 use Rattle.sqlite.specs.Held.{state}
-use Rattle.store_commands.proofs.PlaceLemmas.{stored_by}
+use Rattle.store_commands.proofs.FilesLemmas.{stored_by}
 use Rattle.store_commands.proofs.zones.put_into_store.Goals as goal
 
 pub returns : goal.returns

@@ -2,7 +2,7 @@ use Rattle.std.proofs.Common.{inl, Vec, Global}
 use Rattle.std.proofs.lemmas.Result.{err_from_is_err_and}
 use Rattle.dns_data.specs.declared.record.Record.{Record}
 use Rattle.sqlite.specs.Held.{state}
-use Rattle.store_commands.proofs.PlaceLemmas.{held_by}
+use Rattle.store_commands.proofs.FilesLemmas.{held_by}
 use Rattle.store_commands.proofs.zones.stored_records.Goals as goal
 
 pub returns-in_err-table : goal.returns-in_err-table

@@ -34,9 +34,9 @@ pub trait StoreFiles<S: Alter + Drop> {
 
 /// The files of this machine. No contract can say what they hold.
 #[derive(Clone, Copy)]
-pub struct Machine<'a>(pub &'a HostRuntime);
+pub struct MachineFiles<'a>(pub &'a HostRuntime);
 
-impl StoreFiles<FileStore<File>> for Machine<'_> {
+impl StoreFiles<FileStore<File>> for MachineFiles<'_> {
     ghost finds = { λ _ _ _. ⊤ };
 
     ghost refuses = { λ _ _ _. ⊤ };
