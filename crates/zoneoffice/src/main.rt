@@ -77,7 +77,7 @@ fn check_with<R: Read + Drop, W: Write + Drop>(
     reader: R,
     writer: W,
 ) -> (W, ExitCode)
-    // Each rule that never decides is told, and the status is 0 exactly where there is none.
+    // Each rule that never decides is reported, and the status is 0 exactly where there is none.
     ensures { EndsCheck (R.remaining reader) (W.contents writer) (W.contents result.0) (exit_status result.1) }
 {
     let (writer, done) = do_check(rt.alloc(), reader, writer);
@@ -116,9 +116,9 @@ fn do_job(rt: &HostRuntime, job: Job<'_>) -> ExitCode {
     }
 }
 
-/// Does the job that words ask for, and tells where they ask for none: help on standard output, with status 0 where it could be
-/// printed and else 1, and what is wrong with them on standard error, with status 2.
-fn told(rt: &HostRuntime, words: &[&str]) -> ExitCode {
+/// Does the job that words ask for. Where they ask for none, it prints help on standard output, with status 0 where it could be
+/// printed and else 1, or what is wrong with them on standard error, with status 2.
+fn do_words(rt: &HostRuntime, words: &[&str]) -> ExitCode {
     match read_words(rt.alloc(), words) {
         Ok(job) => do_job(rt, job),
         Err(WordsFault::Help(text)) => match rt.print(text) {
@@ -133,7 +133,7 @@ fn told(rt: &HostRuntime, words: &[&str]) -> ExitCode {
     }
 }
 
-/// Tells that there is no memory for the words.
+/// Prints that there is no memory for the words.
 fn no_memory(rt: &HostRuntime) -> ExitCode {
     let _ = rt.print(NO_MEMORY_LINE);
     ExitCode::FAILURE
@@ -158,7 +158,7 @@ fn given_words(rt: &HostRuntime) -> io::Result<Vec<String>> {
 fn main(rt: HostRuntime) -> ExitCode {
     match given_words(&rt) {
         Ok(words) => match borrowed(rt.alloc(), &words) {
-            Ok(words) => told(&rt, &words),
+            Ok(words) => do_words(&rt, &words),
             Err(_) => no_memory(&rt),
         },
         Err(fault) if fault.kind() == ErrorKind::OutOfMemory => no_memory(&rt),
