@@ -43,7 +43,7 @@ found_in : (rs : List Record) (k : Key) (r : Record) → find key_cmp k (keyed r
 found_in [] k r e = absurd cc
 found_in (x ∷ rs) k r e = choice (is_eq (key_cmp k (key_of x))) x r (find key_cmp k (keyed rs)) e (λ t same. inl same) (λ t later. inr (found_in rs k r later))
 
-in_listing : (set : Records) → AreKept set → (r : Record) → In r (listing set) ↔ IsIn r set
+pub in_listing : (set : Records) → AreKept set → (r : Record) → In r (listing set) ↔ IsIn r set
 in_listing set kept r =
     let rows = listed set kept in
     let found : find key_cmp (key_of r) (keyed (listing set)) ≡ get set (key_of r) = sym (get-set_of (listing set) (key_of r)) ∙ ap (λ (s : Records). get s (key_of r)) rows.set in (

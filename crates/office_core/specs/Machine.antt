@@ -38,6 +38,10 @@ may_list rules caller r = is_granted (decision (question caller r.owner (type_of
 abbrev pub listed : List Rule → List ℕ → List Record → List Record
 listed rules caller rs = filter (may_list rules caller) rs
 
+-- those of the zone of an origin, where there is the zone
+abbrev pub listed_at : List Rule → List ℕ → State → List (List ℕ) → Option (List Record)
+listed_at rules caller s origin = option_map (λ held. listed rules caller (listing held.records)) (s.zones origin)
+
 -- what it may list of a change
 abbrev pub seen_of : List Rule → List ℕ → ChangeOf → ChangeOf
 seen_of rules caller c = record { removed = listed rules caller c.removed; added = listed rules caller c.added }

@@ -6,6 +6,7 @@ ghost use Rattle.std.specs.List.{find, position};
 ghost use Rattle.std.specs.BTreeMap.{is_at};
 ghost use Rattle.std.specs.Cmp.Lexicographic.{slice_cmp};
 ghost use Rattle.std.specs.Ordering.{nat_cmp};
+ghost use Rattle.zone_core.specs.Sets.{InOrder, listing, part, within};
 ghost use Rattle.zone_core.specs.Updates.{IsUpdate};
 ghost use Rattle.zone_core.specs.Zones.{IsZone};
 ghost use Rattle.zone_core.specs.Changes.{change_in};
@@ -155,6 +156,16 @@ fn copied(alloc: Global, records: &[Record]) -> Result<Vec<Record>, AllocError>
     Ok(all)
 }
 
+/// Copies of a zone's records within a name, in record order. The only error is out of memory.
+pub fn copied_within(alloc: Global, zone: &Zone, top: &Name) -> Result<Vec<Record>, AllocError>
+    ensures value { IfOk result (λ rs. rs.items ≡ listing (part zone.now.records (within top.now))) }
+    ensures order { IfOk result (λ rs. InOrder rs.items) }
+{
+    // the proof needs that it is a zone
+    let _ = zone.origin();
+    copied(alloc, zone.records_within(top))
+}
+
 /// Copies of changes. The only error is out of memory.
 fn copied_changes(alloc: Global, changes: &[Change]) -> Result<Vec<Change>, AllocError>
     ensures { IfOk result (λ cs. map change_in cs.items ≡ map change_in changes.now) }
@@ -220,7 +231,7 @@ impl ZoneTable for MemTable {
         let Some(held) = held(&self.zones, origin) else {
             return Ok(None);
         };
-        Ok(Some(copied(alloc, held.zone.records_within(top))?))
+        Ok(Some(copied_within(alloc, &held.zone, top)?))
     }
 
     fn receipt(

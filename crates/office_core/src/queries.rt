@@ -1,14 +1,15 @@
 //! Queries: the requests that change nothing.
 
-ghost use Rattle.std.specs.Prelude.{◌≡◌, ◌++◌, [], ◌∷◌, Some, IfOk, map, nat_le};
+ghost use Rattle.std.specs.Prelude.{◌≡◌, ◌++◌, [], ◌∷◌, Some, IfOk, IfSome, map, nat_le, option_map};
 ghost use Rattle.std.specs.List.{filter};
+ghost use Rattle.zone_core.specs.Sets.{InOrder, listing};
 ghost use Rattle.zone_core.specs.Changes.{change_in};
 ghost use Rattle.grant_policy.specs.Decisions.{decision};
 ghost use Rattle.office_core.specs.Permissions.{question};
 ghost use Rattle.office_core.specs.Replies.{reply_of, right_of, numbered_of, right};
 ghost use Rattle.office_core.specs.States.{State};
 ghost use Rattle.office_core.specs.Tables.{Counts};
-ghost use Rattle.office_core.specs.Machine.{unchanged, of_zone, may_list, listed, list_reply, list_within_reply, file_reply, delegations_reply, changes_reply, if_some, seen, seen_of, numbered};
+ghost use Rattle.office_core.specs.Machine.{unchanged, of_zone, may_list, listed, listed_at, list_reply, list_within_reply, file_reply, delegations_reply, changes_reply, if_some, seen, seen_of, numbered};
 ghost use Rattle.office_core.specs.Steps.{IsAnswer, Takes};
 
 use crate::reply::{NumberedChange, Reply, Right};
@@ -16,7 +17,7 @@ use crate::table::ZoneTable;
 use crate::table_fault::TableFault;
 use dns_data::{Record, RecordType};
 use dns_names::Name;
-use grant_policy::{Action, Decision, Grants, Identifier, LookUps, Policy, decide};
+use grant_policy::{Action, Decision, Grants, Identifier, LookUps, Policy, decide, reach};
 use std::alloc::{AllocError, Global};
 use zone_core::{Change, delegation_report};
 
@@ -75,6 +76,91 @@ fn listed(
     granted(alloc, &mut grants, records)
 }
 
+/// No records, where there is the zone of an origin.
+fn none_of<T: ZoneTable>(
+    alloc: Global,
+    table: &mut T,
+    origin: &Name,
+) -> Result<Option<Vec<Record>>, TableFault>
+    ensures answer { T.is_honest table.new → IfOk result (λ found. (s : State) → T.holds table.old s → option_map (λ rs. rs.items) found ≡ option_map (λ held. []) (s.zones origin.now)) }
+    ensures order { IfOk result (λ found. IfSome found (λ rs. InOrder rs.items)) }
+    ensures same { (s : State) → T.holds table.old s → T.holds table.new s }
+    ensures crash { (s t : State) → T.leaves table.old s t → T.leaves table.new s t }
+    ensures honest { T.is_honest table.new → T.is_honest table.old }
+    ensures counts { Counts (T.failures table.old) (T.failures table.new) result }
+{
+    let Some(_part) = table.part(alloc, origin, &[])? else {
+        return Ok(None);
+    };
+    Ok(Some(Vec::new(alloc)))
+}
+
+/// The records of the zone of an origin, where there is one.
+fn all_of<T: ZoneTable>(
+    alloc: Global,
+    table: &mut T,
+    origin: &Name,
+) -> Result<Option<Vec<Record>>, TableFault>
+    ensures answer { T.is_honest table.new → IfOk result (λ found. (s : State) → T.holds table.old s → option_map (λ rs. rs.items) found ≡ option_map (λ held. listing held.records) (s.zones origin.now)) }
+    ensures order { IfOk result (λ found. IfSome found (λ rs. InOrder rs.items)) }
+    ensures same { (s : State) → T.holds table.old s → T.holds table.new s }
+    ensures crash { (s t : State) → T.leaves table.old s t → T.leaves table.new s t }
+    ensures honest { T.is_honest table.new → T.is_honest table.old }
+    ensures counts { Counts (T.failures table.old) (T.failures table.new) result }
+{
+    let Some(zone) = table.zone(alloc, origin)? else {
+        return Ok(None);
+    };
+    Ok(Some(zone.into_records()))
+}
+
+/// Records of a zone that have among them all that the caller may list, where there is the zone. Only those are read that are
+/// within the name to which the caller's grants reach.
+fn reached<T: ZoneTable>(
+    alloc: Global,
+    table: &mut T,
+    policy: &Policy,
+    caller: &Identifier,
+    origin: &Name,
+) -> Result<Option<Vec<Record>>, TableFault>
+    ensures answer { T.is_honest table.new → IfOk result (λ found. (s : State) → T.holds table.old s → option_map (λ rs. listed policy.now caller.now rs.items) found ≡ listed_at policy.now caller.now s origin.now) }
+    ensures order { IfOk result (λ found. IfSome found (λ rs. InOrder rs.items)) }
+    ensures same { (s : State) → T.holds table.old s → T.holds table.new s }
+    ensures crash { (s t : State) → T.leaves table.old s t → T.leaves table.new s t }
+    ensures honest { T.is_honest table.new → T.is_honest table.old }
+    ensures counts { Counts (T.failures table.old) (T.failures table.new) result }
+{
+    let Some(top) = reach(alloc, policy, caller, Action::List, origin)? else {
+        return none_of(alloc, table, origin);
+    };
+    if origin.is_within(&top) {
+        return all_of(alloc, table, origin);
+    }
+    table.subtree(alloc, origin, &top)
+}
+
+/// The records of a zone that the caller may list, where there is the zone.
+fn listed_of<T: ZoneTable>(
+    alloc: Global,
+    table: &mut T,
+    policy: &Policy,
+    caller: &Identifier,
+    origin: &Name,
+) -> Result<Option<Vec<Record>>, TableFault>
+    ensures answer { T.is_honest table.new → IfOk result (λ found. (s : State) → T.holds table.old s → option_map (λ rs. rs.items) found ≡ listed_at policy.now caller.now s origin.now) }
+    ensures order { IfOk result (λ found. IfSome found (λ rs. InOrder rs.items)) }
+    ensures same { (s : State) → T.holds table.old s → T.holds table.new s }
+    ensures crash { (s t : State) → T.leaves table.old s t → T.leaves table.new s t }
+    ensures honest { T.is_honest table.new → T.is_honest table.old }
+    ensures counts { Counts (T.failures table.old) (T.failures table.new) result }
+{
+    let Some(found) = reached(alloc, table, policy, caller, origin)? else {
+        return Ok(None);
+    };
+    let records = listed(alloc, policy, caller, found)?;
+    Ok(Some(records))
+}
+
 /// The records of a zone that the caller may list.
 pub(crate) fn list<T: ZoneTable>(
     alloc: Global,
@@ -89,10 +175,9 @@ pub(crate) fn list<T: ZoneTable>(
     ensures answers { IfOk result IsAnswer }
     ensures counts { Counts (T.failures table.old) (T.failures table.new) result }
 {
-    let Some(zone) = table.zone(alloc, origin)? else {
+    let Some(records) = listed_of(alloc, table, policy, caller, origin)? else {
         return Ok(Reply::NotAuth);
     };
-    let records = listed(alloc, policy, caller, zone.into_records())?;
     Ok(Reply::Records(records))
 }
 
@@ -135,10 +220,9 @@ pub(crate) fn file<T: ZoneTable>(
     ensures answers { IfOk result IsAnswer }
     ensures counts { Counts (T.failures table.old) (T.failures table.new) result }
 {
-    let Some(zone) = table.zone(alloc, origin)? else {
+    let Some(records) = listed_of(alloc, table, policy, caller, origin)? else {
         return Ok(Reply::NotAuth);
     };
-    let records = listed(alloc, policy, caller, zone.into_records())?;
     let origin = origin.try_copy(alloc)?;
     Ok(Reply::File { origin, records })
 }
@@ -157,10 +241,9 @@ pub(crate) fn delegations<T: ZoneTable>(
     ensures answers { IfOk result IsAnswer }
     ensures counts { Counts (T.failures table.old) (T.failures table.new) result }
 {
-    let Some(zone) = table.zone(alloc, origin)? else {
+    let Some(records) = listed_of(alloc, table, policy, caller, origin)? else {
         return Ok(Reply::NotAuth);
     };
-    let records = listed(alloc, policy, caller, zone.into_records())?;
     Ok(Reply::Delegations(delegation_report(alloc, origin, &records)?))
 }
 

@@ -1,7 +1,8 @@
 //! What the machine asks of a table.
 
-ghost use Rattle.std.specs.Prelude.{◌≡◌, ℕ, ◌+◌, List, Option, map, option_map, IfOk, OnOk, OnErr};
+ghost use Rattle.std.specs.Prelude.{◌≡◌, ℕ, ◌+◌, List, Option, map, option_map, IfOk, IfSome, OnOk, OnErr};
 ghost use Rattle.dns_data.specs.declared.record.Record.{Record};
+ghost use Rattle.zone_core.specs.Sets.{InOrder};
 ghost use Rattle.zone_core.specs.Changes.{change_in};
 ghost use Rattle.office_core.specs.States.{State, AreZones, AreReceipts, zone_at, part_at, subtree_at, changes_at};
 ghost use Rattle.office_core.specs.Tables.{Counts, Fits, addition_in, committed};
@@ -60,6 +61,8 @@ pub trait ZoneTable {
         top: &Name,
     ) -> Result<Option<Vec<Record>>, TableFault>
         ensures answer { is_honest self.new → IfOk result (λ records. (s : State) → holds self.old s → option_map (λ rs. rs.items) records ≡ subtree_at s origin.now top.now) }
+        // They stand in order, whatever the store has done.
+        ensures order { IfOk result (λ records. IfSome records (λ rs. InOrder rs.items)) }
         ensures same { (s : State) → holds self.old s → holds self.new s }
         ensures only { is_honest self.new → OnOk result ((s : State) → holds self.new s → holds self.old s) }
         ensures crash { (s t : State) → leaves self.old s t → leaves self.new s t }

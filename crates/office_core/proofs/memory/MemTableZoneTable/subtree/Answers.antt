@@ -14,4 +14,4 @@ returns-clause-answer c = λ u s h.
     let held = c.in-Some.held.now in
     let found = c.in-Some.ensures ∙ ap (find (is_of origin)) c.deref.ensures.value in
     let told = zone_told c.args.self.now zones (receipt_rows c.self.inside.receipts) s origin (Some held) c.self.view_is h found in
-    ap Some (c.in_ok-copied.ensures ∙ c.records_within.ensures) ∙ ap (option_map (λ (zone : ZoneOf). listing (part zone.records (within c.args.top.now)))) told
+    ap Some (c.in_ok-copied_within.ensures.value) ∙ ap (option_map (λ (zone : ZoneOf). listing (part zone.records (within c.args.top.now)))) told
