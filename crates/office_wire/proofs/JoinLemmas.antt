@@ -2,15 +2,17 @@
 use Rattle.std.proofs.Common.{◌≡◌, ℕ, drop, List, [], ◌∷◌, ◌++◌, ◌∙◌, sym, ap, refl, subst, append_assoc, append-nil, Option}
 use Rattle.std.specs.List.{AllByRecursion}
 use Rattle.std.specs.Io.KnownBytes.{Appends}
+use Rattle.std.proofs.KnownBytes.{Appends-trans}
 use Rattle.httparse.specs.Grammar.{print_request}
 use Rattle.dns_master.specs.Written.{IsProperPrefix}
 use Rattle.grant_policy.specs.declared.rule.Rule.{Rule}
 use Rattle.office_wire.specs.declared.exchange.Progress.TheVariants.{Next}
 use Rattle.office_wire.specs.Exchange.{Turn, octets_of, turn_text, octets, texts, IsOpenTurn, Standing, Run, Exchange, Closes, whole, bad_length, bad_head, Says, next, closing}
 use Rattle.office_wire.specs.Serving.{Mark, Leads, IsProgress, IsCurrent, IsClosed, IsBroken}
+use Rattle.office_wire.specs.Order.{Moment, Writes}
+use Rattle.office_wire.proofs.OrderLemmas.{Writes-nil, Writes-trans}
 use Rattle.office_wire.proofs.ServfailLemmas.{servfails_join}
 use Rattle.office_wire.proofs.HeadLemmas.{never_more}
-use Rattle.std.proofs.KnownBytes.{Appends-trans}
 
 octets_join : (ts us : List Turn) → octets (ts ++ us) ≡ octets ts ++ octets us
 octets_join [] us = refl
@@ -32,11 +34,9 @@ pub leads_join : (rules : List Rule) (c m d : Mark) (ts us : List Turn) → Lead
 leads_join rules c m d ts us p q = (run_join rules c.standing m.standing d.standing ts us p.0 q.0, servfails_join c.note m.note d.note ts us p.1 q.1)
 
 -- what follows one part of a stream was answered too
-exchange_join : (stream got rest final : List ℕ) (ts us : List Turn) → Exchange stream ts rest → Exchange (rest ++ got) us final
-    → Exchange (stream ++ got) (ts ++ us) final
-exchange_join stream got rest final ts us p q = record {
-  octets_are = ap (λ (l : List ℕ). l ++ got) p.octets_are ∙ append_assoc (octets ts) rest got ∙ ap (λ (l : List ℕ). octets ts ++ l) q.octets_are
-      ∙ sym (append_assoc (octets ts) (octets us) final) ∙ ap (λ (l : List ℕ). l ++ final) (sym (octets_join ts us));
+pub exchange_join : (stream rest final : List ℕ) (ts us : List Turn) → Exchange stream ts rest → Exchange rest us final → Exchange stream (ts ++ us) final
+exchange_join stream rest final ts us p q = record {
+  octets_are = p.octets_are ∙ ap (λ (l : List ℕ). octets ts ++ l) q.octets_are ∙ sym (append_assoc (octets ts) (octets us) final) ∙ ap (λ (l : List ℕ). l ++ final) (sym (octets_join ts us));
   are_open = open_join ts us p.are_open q.are_open;
 }
 
@@ -65,53 +65,34 @@ pub says_more : (rest text more : List ℕ) (us : List Turn) → Says rest us te
 says_more rest text more us (next t later is e one said) = next t (later ++ more) is (more_of (octets_of t) later rest more e) one said
 says_more rest text more us (closing is) = closing (closes_more rest text more us is)
 
-text_join : (before mid after : Option (List ℕ)) (ts us : List Turn) (text : List ℕ) → Appends before mid (texts ts) → Appends mid after (texts us ++ text)
+pub said_join : (before mid after : Option (List ℕ)) (ts us : List Turn) (text : List ℕ) → Appends before mid (texts ts) → Appends mid after (texts us ++ text)
     → Appends before after (texts (ts ++ us) ++ text)
-text_join before mid after ts us text p q = subst (λ (l : List ℕ). Appends before after l)
+said_join before mid after ts us text p q = subst (λ (l : List ℕ). Appends before after l)
     (sym (append_assoc (texts ts) (texts us) text) ∙ ap (λ (l : List ℕ). l ++ text) (sym (texts_join ts us))) (Appends-trans before mid after _ _ p q)
 
 module _ (rules : List Rule) (c : Mark) where
-  three : (a b e : List Turn) (m d : Mark) → Leads rules c a m → Leads rules m (b ++ e) d → Leads rules c ((a ++ b) ++ e) d
+  pub three : (a b e : List Turn) (m d : Mark) → Leads rules c a m → Leads rules m (b ++ e) d → Leads rules c ((a ++ b) ++ e) d
   three a b e m d p q = subst (λ (l : List Turn). Leads rules c l d) (sym (append_assoc a b e)) (leads_join rules c m d a (b ++ e) p q)
-
-  -- after what came before, in the same words
-  pub current_join : (d e : Mark) (stream got rest left : List ℕ) (before mid after : Option (List ℕ))
-      → IsCurrent rules c stream rest before mid d → IsCurrent rules d (rest ++ got) left mid after e → IsCurrent rules c (stream ++ got) left before after e
-  current_join d e stream got rest left before mid after p q = (
-    p.0 ++ q.0,
-    leads_join rules c d e p.0 q.0 p.1 q.1,
-    exchange_join stream got rest left p.0 q.0 p.2 q.2,
-    subst (λ (l : List ℕ). Appends before after l) (sym (texts_join p.0 q.0)) (Appends-trans before mid after _ _ p.3 q.3),
-  )
-
-  pub closed_join : (d e : Mark) (stream got rest : List ℕ) (before mid after : Option (List ℕ))
-      → IsCurrent rules c stream rest before mid d → IsClosed rules d (rest ++ got) mid after e → IsClosed rules c (stream ++ got) before after e
-  closed_join d e stream got rest before mid after p q =
-      (p.0 ++ q.0, q.1, q.2, q.3, three p.0 q.0 q.1 d e p.1 q.4, exchange_join stream got rest q.2 p.0 q.0 p.2 q.5, q.6, text_join before mid after p.0 q.0 q.3 p.3 q.7)
-
-  pub broken_join : (d e : Mark) (stream got rest : List ℕ) (before mid after : Option (List ℕ))
-      → IsCurrent rules c stream rest before mid d → IsBroken rules d (rest ++ got) mid after e → IsBroken rules c (stream ++ got) before after e
-  broken_join d e stream got rest before mid after p q =
-      (p.0 ++ q.0, q.1, q.2, q.3, q.4, three p.0 q.0 q.1 d e p.1 q.5, exchange_join stream got rest q.2 p.0 q.0 p.2 q.6, q.7, q.8, text_join before mid after p.0 q.0 q.4 p.3 q.9)
 
   -- ---- one turn of the loop
 
-  pub next_served : (d e : Mark) (n : ℕ) (stream rest pending left out text : List ℕ) (before mid after : Option (List ℕ)) → pending ≡ rest → left ≡ drop n rest → text ≡ out
-      → IsCurrent rules c stream rest before mid d → IsProgress rules d pending (Next n) out e → Appends mid after text → IsCurrent rules c stream left before after e
+  pub none_served : (rest : List ℕ) (a : Moment) → IsCurrent rules c rest rest a a c
+  none_served rest a = ([], (refl, refl), record { octets_are = refl; are_open = tt }, Writes-nil a)
+
+  pub next_served : (d e : Mark) (n : ℕ) (stream rest pending left out text : List ℕ) (before mid after : Moment) → pending ≡ rest → left ≡ drop n rest → text ≡ out
+      → IsCurrent rules c stream rest before mid d → IsProgress rules d pending (Next n) out e → Writes mid after text → IsCurrent rules c stream left before after e
   next_served d e n stream rest pending left out text before mid after is_rest is_left is_out p q wrote =
       let octets_are = subst (λ (l : List ℕ). l ≡ octets_of q.0 ++ drop n l) is_rest q.3 ∙ ap (λ (l : List ℕ). octets_of q.0 ++ l) (sym is_left) in
       let turn = one_turn q.0 rest left q.2 octets_are in
-      let wide = subst (λ (l : List ℕ). Exchange l (q.0 ∷ []) left) (sym (append-nil rest)) turn in
-      let all = subst (λ (l : List ℕ). Exchange l (p.0 ++ q.0 ∷ []) left) (append-nil stream) (exchange_join stream [] rest left p.0 (q.0 ∷ []) p.2 wide) in
       let same : text ≡ texts (q.0 ∷ []) = is_out ∙ q.4 ∙ sym (append-nil (turn_text q.0)) in (
         p.0 ++ q.0 ∷ [],
         leads_join rules c d e p.0 (q.0 ∷ []) p.1 q.1,
-        all,
-        subst (λ (l : List ℕ). Appends before after l) (ap (λ (l : List ℕ). texts p.0 ++ l) same ∙ sym (texts_join p.0 (q.0 ∷ []))) (Appends-trans before mid after _ _ p.3 wrote),
+        exchange_join stream rest left p.0 (q.0 ∷ []) p.2 turn,
+        subst (λ (l : List ℕ). Writes before after l) (ap (λ (l : List ℕ). texts p.0 ++ l) same ∙ sym (texts_join p.0 (q.0 ∷ []))) (Writes-trans before mid after _ _ p.3 wrote),
       )
 
-  pub next_broken : (d e : Mark) (n : ℕ) (stream rest pending out text : List ℕ) (before mid after : Option (List ℕ)) → pending ≡ rest → text ≡ out
-      → IsCurrent rules c stream rest before mid d → IsProgress rules d pending (Next n) out e → ((part : List ℕ) × IsProperPrefix part text × Appends mid after part)
+  pub next_broken : (d e : Mark) (n : ℕ) (stream rest pending out text : List ℕ) (before mid after : Moment) → pending ≡ rest → text ≡ out
+      → IsCurrent rules c stream rest before mid d → IsProgress rules d pending (Next n) out e → ((part : List ℕ) × IsProperPrefix part text × Writes mid after part)
       → IsBroken rules c stream before after e
   next_broken d e n stream rest pending out text before mid after is_rest is_out p q wrote = (
     p.0,
@@ -123,11 +104,11 @@ module _ (rules : List Rule) (c : Mark) where
     p.2,
     next q.0 _ q.2 (subst (λ (l : List ℕ). l ≡ octets_of q.0 ++ drop n l) is_rest q.3) refl (is_out ∙ q.4),
     wrote.1,
-    Appends-trans before mid after _ _ p.3 wrote.2,
+    Writes-trans before mid after _ _ p.3 wrote.2,
   )
 
-  pub last_broken : (d e : Mark) (stream rest pending out text : List ℕ) (us : List Turn) (before mid after : Option (List ℕ)) → pending ≡ rest → text ≡ out
-      → IsCurrent rules c stream rest before mid d → Leads rules d us e → Closes pending us out → ((part : List ℕ) × IsProperPrefix part text × Appends mid after part)
+  pub last_broken : (d e : Mark) (stream rest pending out text : List ℕ) (us : List Turn) (before mid after : Moment) → pending ≡ rest → text ≡ out
+      → IsCurrent rules c stream rest before mid d → Leads rules d us e → Closes pending us out → ((part : List ℕ) × IsProperPrefix part text × Writes mid after part)
       → IsBroken rules c stream before after e
   last_broken d e stream rest pending out text us before mid after is_rest is_out p ran q wrote = (
     p.0,
@@ -139,11 +120,11 @@ module _ (rules : List Rule) (c : Mark) where
     p.2,
     closing (subst (λ (l : List ℕ). Closes rest us l) (sym is_out) (subst (λ (l : List ℕ). Closes l us out) is_rest q)),
     wrote.1,
-    Appends-trans before mid after _ _ p.3 wrote.2,
+    Writes-trans before mid after _ _ p.3 wrote.2,
   )
 
-  pub last_closed : (d e : Mark) (stream rest pending out text : List ℕ) (us : List Turn) (before mid after : Option (List ℕ)) → pending ≡ rest → text ≡ out
-      → IsCurrent rules c stream rest before mid d → Leads rules d us e → Closes pending us out → Appends mid after text → IsClosed rules c stream before after e
+  pub last_closed : (d e : Mark) (stream rest pending out text : List ℕ) (us : List Turn) (before mid after : Moment) → pending ≡ rest → text ≡ out
+      → IsCurrent rules c stream rest before mid d → Leads rules d us e → Closes pending us out → Writes mid after text → IsClosed rules c stream before after e
   last_closed d e stream rest pending out text us before mid after is_rest is_out p ran q wrote = (
     p.0,
     us,
@@ -152,5 +133,5 @@ module _ (rules : List Rule) (c : Mark) where
     leads_join rules c d e p.0 us p.1 ran,
     p.2,
     subst (λ (l : List ℕ). Closes rest us l) (sym is_out) (subst (λ (l : List ℕ). Closes l us out) is_rest q),
-    Appends-trans before mid after _ _ p.3 wrote,
+    Writes-trans before mid after _ _ p.3 wrote,
   )

@@ -2,6 +2,7 @@ pub mod KnownLemmas
 pub mod HeadLemmas
 pub mod TurnLemmas
 pub mod ServfailLemmas
+pub mod OrderLemmas
 pub mod JoinLemmas
 pub mod ServingLemmas
 pub mod UniqueLemmas

@@ -1,5 +1,5 @@
 -- What was read of a stream, and what was answered to it.
-use Rattle.std.proofs.Common.{◌≡◌, ◌<◌, ◌≤◌, ◌+◌, length-append, ℕ, true, false, length, List, [], ◌++◌, ◌∙◌, sym, ap, refl, subst, arith, append-nil, Option, IfSome, ◌⊎◌, inl, inr}
+use Rattle.std.proofs.Common.{◌≡◌, ◌<◌, ◌≤◌, ◌+◌, length-append, ℕ, true, false, length, List, [], ◌++◌, ◌∷◌, ◌∙◌, sym, ap, refl, subst, arith, append-nil, append_assoc, Option, IfSome, ◌⊎◌, inl, inr}
 use Rattle.std.specs.List.{list_all}
 use Rattle.std.specs.Io.KnownBytes.{Appends, Consumes, Keeps, IsAtEnd}
 use Rattle.std.proofs.lemmas.List.{nil_from_length}
@@ -10,12 +10,14 @@ use Rattle.office_wire.specs.declared.method.Method.{Method}
 use Rattle.office_wire.specs.declared.refusal.Refusal.TheVariants.{CutShort}
 use Rattle.office_wire.specs.declared.response.Response.TheVariants.{Refused}
 use Rattle.office_wire.specs.Texts.{text_of}
-use Rattle.office_wire.specs.Exchange.{Turn, Waits, nothing, IsMethodAt, Ends, closed, quiet, cut, is_line_end}
+use Rattle.office_wire.specs.Exchange.{Turn, texts, Exchange, Waits, nothing, IsMethodAt, Ends, closed, quiet, cut, is_line_end}
 use Rattle.office_wire.specs.Serving.{Mark, Leads, IsCurrent, IsClosed, IsBroken, IsAnswered, IsCut, IsRead}
-use Rattle.std.proofs.KnownBytes.{Appends-nil, Appends-trans, Consumes-trans, Consumes-kept, Consumes-whole}
+use Rattle.std.proofs.KnownBytes.{Appends-nil, Appends-trans, Consumes-nil, Consumes-trans, Consumes-kept, Consumes-whole}
 use Rattle.office_wire.proofs.KnownLemmas.{on_stream}
 use Rattle.office_wire.proofs.TurnLemmas.{head_some}
-use Rattle.office_wire.proofs.JoinLemmas.{current_join, closed_join, broken_join, exchange_more, closes_more, says_more}
+use Rattle.office_wire.specs.Order.{read, Moment, Writes, Follows, IsServedInTurn}
+use Rattle.office_wire.proofs.OrderLemmas.{IsInTurn, nothing_yet, read_next, written_next, in_turn}
+use Rattle.office_wire.proofs.JoinLemmas.{leads_join, three, texts_join, exchange_join, said_join, exchange_more, closes_more, says_more}
 
 too_long : (a b k : ℕ) → a ≡ 0 → a ≡ k + b → 0 < k → ⊥
 too_long a b k p q r = omega arith
@@ -23,11 +25,6 @@ too_long a b k p q r = omega arith
 -- a read that gave nothing
 pub none_came : (now old got : List ℕ) (n : ℕ) → now ≡ old ++ got → length got ≡ n → n ≡ 0 → now ≡ old
 none_came now old got n e len none = e ∙ ap (λ (l : List ℕ). old ++ l) (nil_from_length got (len ∙ none)) ∙ append-nil old
-
-pub consumed_none : (known left left' : Option (List ℕ)) (read got : List ℕ) (n : ℕ) → Consumes known left read → Consumes left left' got → length got ≡ n → n ≡ 0
-    → Consumes known left' read
-consumed_none known left left' read got n p q len none =
-    subst (λ (l : List ℕ). Consumes known left' l) (ap (λ (l : List ℕ). read ++ l) (nil_from_length got (len ∙ none)) ∙ append-nil read) (Consumes-trans known left left' read got p q)
 
 pub waits_nil : (rest : List ℕ) → length rest ≡ 0 → Waits rest
 waits_nil rest none = record {
@@ -39,77 +36,132 @@ waits_nil rest none = record {
 }
 
 module _ (rules : List Rule) (c : Mark) where
-  pub first_current : (rest : List ℕ) (a : Option (List ℕ)) → length rest ≡ 0 → IsCurrent rules c [] rest a a c
-  first_current rest a none = ([], (refl, refl), record { octets_are = sym (nil_from_length rest none); are_open = tt }, Appends-nil a)
-
   -- turns that were run, and of which P holds
   abbrev pub Ran : Mark → (List Turn → Type 0) → Type 0
   Ran d P = (all : List Turn) × Leads rules c all d × P all
 
-  pub ended : (d : Mark) (read rest : List ℕ) (known left before mid after : Option (List ℕ)) → Consumes known left read → IsAtEnd left → Waits rest
-      → IsCurrent rules c read rest before mid d
-      → ((text : List ℕ) × Appends mid after text × (((list_all is_line_end rest ≡ true) × (text ≡ [])) ⊎ ((list_all is_line_end rest ≡ false) × (m : Method) × IsMethodAt rest m × (text ≡ text_of m (Refused CutShort) true))))
-      → Ran d (λ all. IfSome known (λ stream. IsAnswered all stream before after))
-  ended d read rest known left before mid after took at_end waits p said =
-      let ends : Ends rest [] said.0 = elim said.2 [ inl both ↦ quiet both.0 refl both.1 | inr both ↦ cut both.1 waits both.2 both.0 refl both.3 ] in (
-        p.0,
-        p.1,
-        Consumes-whole known left read (λ stream. IsAnswered p.0 stream before after) took at_end
-            (p.0, [], rest, said.0, sym (append-nil p.0), p.2, ends, Appends-trans before mid after _ _ p.3 said.1),
-      )
+  -- all that was read and is answered, of at least so many octets, each read in turn
+  abbrev pub IsAnsweredRead : ℕ → Option (List ℕ) → Option (List ℕ) → List ℕ → Moment → Moment → Mark → Type 0
+  IsAnsweredRead least known left rest before after d =
+      (turns : List Turn) × (got : List ℕ) × Leads rules c turns d × Exchange got turns rest × Appends before.contents after.contents (texts turns)
+      × (least ≤ length got) × Consumes known left got × IsInTurn turns got (texts turns) before.events after.events
 
-  pub ended_part : (d : Mark) (read rest : List ℕ) (known left before mid after : Option (List ℕ)) → Consumes known left read → IsAtEnd left → Waits rest
-      → IsCurrent rules c read rest before mid d
-      → ((list_all is_line_end rest ≡ false) × (m : Method) × IsMethodAt rest m × (part : List ℕ) × IsProperPrefix part (text_of m (Refused CutShort) true) × Appends mid after part)
-      → Ran d (λ all. IfSome known (λ stream. IsCut all stream before after))
-  ended_part d read rest known left before mid after took at_end waits p wrote = (
+  pub first_read : (known : Option (List ℕ)) (rest : List ℕ) (a : Moment) → length rest ≡ 0 → IsAnsweredRead 0 known known rest a a c
+  first_read known rest a none =
+      ([], [], (refl, refl), record { octets_are = sym (nil_from_length rest none); are_open = tt }, Appends-nil a.contents, omega arith, Consumes-nil known, nothing_yet a.events)
+
+  -- a read gave octets
+  pub went_read : (d : Mark) (least n : ℕ) (old now got : List ℕ) (known left left' : Option (List ℕ)) (before mid mid' : Moment) → Waits old → now ≡ old ++ got → length got ≡ n
+      → Consumes left left' got → Follows mid.events mid'.events (read got ∷ []) → mid'.contents ≡ mid.contents
+      → IsAnsweredRead least known left old before mid d → IsAnsweredRead (least + n) known left' now before mid' d
+  went_read d least n old now got known left left' before mid mid' waits is len more follows same p = (
+    p.0,
+    p.1 ++ got,
+    p.2,
+    subst (λ (l : List ℕ). Exchange (p.1 ++ got) p.0 l) (sym is) (exchange_more p.1 old got p.0 p.3),
+    subst (λ (o : Option (List ℕ)). Appends before.contents o (texts p.0)) (sym same) p.4,
+    (let whole = length-append p.1 got in omega (arith, p.5)),
+    Consumes-trans known left left' p.1 got p.6 more,
+    read_next p.0 p.1 (texts p.0) old got before.events mid.events mid'.events p.3 waits refl p.7 follows,
+  )
+
+  -- a read failed
+  pub went_nowhere : (d : Mark) (least : ℕ) (rest : List ℕ) (known left left' : Option (List ℕ)) (before mid mid' : Moment) → Waits rest → Keeps left left'
+      → Follows mid.events mid'.events (read [] ∷ []) → mid'.contents ≡ mid.contents
+      → IsAnsweredRead least known left rest before mid d → IsAnsweredRead least known left' rest before mid' d
+  went_nowhere d least rest known left left' before mid mid' waits kept follows same p = (
     p.0,
     p.1,
-    Consumes-whole known left read (λ stream. IsCut p.0 stream before after) took at_end
-        (p.0, [], rest, text_of wrote.1 (Refused CutShort) true, wrote.3, sym (append-nil p.0), p.2, inr (cut wrote.1 waits wrote.2 wrote.0 refl refl), wrote.4, Appends-trans before mid after _ _ p.3 wrote.5),
+    p.2,
+    p.3,
+    subst (λ (o : Option (List ℕ)). Appends before.contents o (texts p.0)) (sym same) p.4,
+    p.5,
+    Consumes-kept known left left' p.1 p.6 kept,
+    subst (λ (l : List ℕ). IsInTurn p.0 l (texts p.0) before.events mid'.events) (append-nil p.1) (read_next p.0 p.1 (texts p.0) rest [] before.events mid.events mid'.events p.3 waits refl p.7 follows),
   )
 
-  pub went_closed : (d e : Mark) (read got old now : List ℕ) (known left left' before mid after : Option (List ℕ)) → Consumes known left read → Consumes left left' got → now ≡ old ++ got
-      → IsCurrent rules c read old before mid d → IsClosed rules d now mid after e → Ran e (λ all. IfSome known (λ stream. IsAnswered all stream before after))
-  went_closed d e read got old now known left left' before mid after took more is p q =
-      let a = closed_join rules c d e read got old before mid after p (subst (λ (l : List ℕ). IsClosed rules d l mid after e) is q) in (
-        a.0 ++ a.1,
-        a.4,
-        on_stream known left' (read ++ got) (λ stream. IsAnswered (a.0 ++ a.1) stream before after) (Consumes-trans known left left' read got took more)
-            (λ rest. (a.0, a.1, a.2 ++ rest, a.3, refl, exchange_more _ _ rest _ a.5, closed (closes_more _ _ rest _ a.6), a.7)),
+  -- the stream ended there
+  pub ended : (d : Mark) (least : ℕ) (rest : List ℕ) (known left : Option (List ℕ)) (before mid after : Moment) → IsAtEnd left → Waits rest
+      → IsAnsweredRead least known left rest before mid d
+      → ((text : List ℕ) × Writes mid after text × (((list_all is_line_end rest ≡ true) × (text ≡ [])) ⊎ ((list_all is_line_end rest ≡ false) × (m : Method) × IsMethodAt rest m × (text ≡ text_of m (Refused CutShort) true))))
+      → Ran d (λ all. IfSome known (λ stream. IsAnswered all stream before.contents after.contents) × IsServedInTurn all before.events after.events)
+  ended d least rest known left before mid after at_end waits p said =
+      let ends : Ends rest [] said.0 = elim said.2 [ inl both ↦ quiet both.0 refl both.1 | inr both ↦ cut both.1 waits both.2 both.0 refl both.3 ] in
+      let order = written_next p.0 [] p.1 (texts p.0) said.0 before.events mid.events after.events p.7 said.1.1 in (
+        p.0,
+        p.2,
+        (
+          Consumes-whole known left p.1 (λ stream. IsAnswered p.0 stream before.contents after.contents) p.6 at_end
+              (p.0, [], rest, said.0, sym (append-nil p.0), p.3, ends, Appends-trans before.contents mid.contents after.contents _ _ p.4 said.1.0),
+          subst (λ (l : List Turn). IsServedInTurn l before.events after.events) (append-nil p.0) (in_turn (p.0 ++ []) _ _ before.events after.events order),
+        ),
       )
 
-  pub went_broken : (d e : Mark) (read got old now : List ℕ) (known left left' before mid after : Option (List ℕ)) → Consumes known left read → Consumes left left' got → now ≡ old ++ got
-      → IsCurrent rules c read old before mid d → IsBroken rules d now mid after e → Ran e (λ all. IfSome known (λ stream. IsCut all stream before after))
-  went_broken d e read got old now known left left' before mid after took more is p q =
-      let a = broken_join rules c d e read got old before mid after p (subst (λ (l : List ℕ). IsBroken rules d l mid after e) is q) in (
-        a.0 ++ a.1,
-        a.5,
-        on_stream known left' (read ++ got) (λ stream. IsCut (a.0 ++ a.1) stream before after) (Consumes-trans known left left' read got took more)
-            (λ rest. (a.0, a.1, a.2 ++ rest, a.3, a.4, refl, exchange_more _ _ rest _ a.6, inl (says_more _ _ rest _ a.7), a.8, a.9)),
+  pub ended_part : (d : Mark) (least : ℕ) (rest : List ℕ) (known left : Option (List ℕ)) (before mid after : Moment) → IsAtEnd left → Waits rest
+      → IsAnsweredRead least known left rest before mid d
+      → ((list_all is_line_end rest ≡ false) × (m : Method) × IsMethodAt rest m × (part : List ℕ) × IsProperPrefix part (text_of m (Refused CutShort) true) × Writes mid after part)
+      → Ran d (λ all. IfSome known (λ stream. IsCut all stream before.contents after.contents) × IsServedInTurn all before.events after.events)
+  ended_part d least rest known left before mid after at_end waits p wrote =
+      let order = written_next p.0 [] p.1 (texts p.0) wrote.3 before.events mid.events after.events p.7 wrote.5.1 in (
+        p.0,
+        p.2,
+        (
+          Consumes-whole known left p.1 (λ stream. IsCut p.0 stream before.contents after.contents) p.6 at_end
+              (p.0, [], rest, text_of wrote.1 (Refused CutShort) true, wrote.3, sym (append-nil p.0), p.3, inr (cut wrote.1 waits wrote.2 wrote.0 refl refl), wrote.4, Appends-trans before.contents mid.contents after.contents _ _ p.4 wrote.5.0),
+          subst (λ (l : List Turn). IsServedInTurn l before.events after.events) (append-nil p.0) (in_turn (p.0 ++ []) _ _ before.events after.events order),
+        ),
       )
 
-  -- all that was read and is answered, of at least so many octets
-  abbrev pub IsAnsweredRead : ℕ → Option (List ℕ) → Option (List ℕ) → List ℕ → Option (List ℕ) → Option (List ℕ) → Mark → Type 0
-  IsAnsweredRead least known left rest before after d =
-      (read : List ℕ) × (least ≤ length read) × Consumes known left read × IsCurrent rules c read rest before after d
+  -- what had come was answered, up to the last response
+  pub went_closed : (d e : Mark) (least : ℕ) (now : List ℕ) (known left : Option (List ℕ)) (before mid after : Moment) → IsAnsweredRead least known left now before mid d
+      → IsClosed rules d now mid after e
+      → Ran e (λ all. IfSome known (λ stream. IsAnswered all stream before.contents after.contents) × IsServedInTurn all before.events after.events)
+  went_closed d e least now known left before mid after p q =
+      let turns = p.0 ++ q.0 in
+      let exchanged = exchange_join p.1 now q.2 p.0 q.0 p.3 q.5 in
+      let order = written_next p.0 (q.0 ++ q.1) p.1 (texts p.0) (texts q.0 ++ q.3) before.events mid.events after.events p.7 q.7.1 in (
+        turns ++ q.1,
+        three rules c p.0 q.0 q.1 d e p.2 q.4,
+        (
+          on_stream known left p.1 (λ stream. IsAnswered (turns ++ q.1) stream before.contents after.contents) p.6
+              (λ rest. (turns, q.1, q.2 ++ rest, q.3, refl, exchange_more _ _ rest _ exchanged, closed (closes_more _ _ rest _ q.6), said_join before.contents mid.contents after.contents p.0 q.0 q.3 p.4 q.7.0)),
+          subst (λ (l : List Turn). IsServedInTurn l before.events after.events) (sym (append_assoc p.0 q.0 q.1)) (in_turn (p.0 ++ (q.0 ++ q.1)) _ _ before.events after.events order),
+        ),
+      )
 
-  pub went_on : (d e : Mark) (least n : ℕ) (got old now rest : List ℕ) (known left left' before mid after : Option (List ℕ)) → Consumes left left' got → now ≡ old ++ got → length got ≡ n → 0 < n
-      → IsAnsweredRead least known left old before mid d → IsCurrent rules d now rest mid after e → IsAnsweredRead (least + 1) known left' rest before after e
-  went_on d e least n got old now rest known left left' before mid after more is len some p q = (
-    p.0 ++ got,
-    (let whole = length-append p.0 got in omega (arith, p.1)),
-    Consumes-trans known left left' p.0 got p.2 more,
-    current_join rules c d e p.0 got old rest before mid after p.3 (subst (λ (l : List ℕ). IsCurrent rules d l rest mid after e) is q),
-  )
+  pub went_broken : (d e : Mark) (least : ℕ) (now : List ℕ) (known left : Option (List ℕ)) (before mid after : Moment) → IsAnsweredRead least known left now before mid d
+      → IsBroken rules d now mid after e
+      → Ran e (λ all. IfSome known (λ stream. IsCut all stream before.contents after.contents) × IsServedInTurn all before.events after.events)
+  went_broken d e least now known left before mid after p q =
+      let turns = p.0 ++ q.0 in
+      let exchanged = exchange_join p.1 now q.2 p.0 q.0 p.3 q.6 in
+      let order = written_next p.0 (q.0 ++ q.1) p.1 (texts p.0) (texts q.0 ++ q.4) before.events mid.events after.events p.7 q.9.1 in (
+        turns ++ q.1,
+        three rules c p.0 q.0 q.1 d e p.2 q.5,
+        (
+          on_stream known left p.1 (λ stream. IsCut (turns ++ q.1) stream before.contents after.contents) p.6
+              (λ rest. (turns, q.1, q.2 ++ rest, q.3, q.4, refl, exchange_more _ _ rest _ exchanged, inl (says_more _ _ rest _ q.7), q.8, said_join before.contents mid.contents after.contents p.0 q.0 q.4 p.4 q.9.0)),
+          subst (λ (l : List Turn). IsServedInTurn l before.events after.events) (sym (append_assoc p.0 q.0 q.1)) (in_turn (p.0 ++ (q.0 ++ q.1)) _ _ before.events after.events order),
+        ),
+      )
 
-  pub stayed : (d : Mark) (least least' : ℕ) (rest : List ℕ) (known left before after : Option (List ℕ)) → Waits rest → least' ≤ least → IsAnsweredRead least known left rest before after d
-      → Ran d (λ all. IsRead least' all known left before after)
+  -- it was answered, and more may come
+  pub went_on : (d e : Mark) (least least' : ℕ) (now rest : List ℕ) (known left left' : Option (List ℕ)) (before mid after : Moment) → least' ≤ least → left' ≡ left
+      → IsAnsweredRead least known left now before mid d → IsCurrent rules d now rest mid after e → IsAnsweredRead least' known left' rest before after e
+  went_on d e least least' now rest known left left' before mid after less same p q =
+      let order = written_next p.0 q.0 p.1 (texts p.0) (texts q.0) before.events mid.events after.events p.7 q.3.1 in (
+        p.0 ++ q.0,
+        p.1,
+        leads_join rules c d e p.0 q.0 p.2 q.1,
+        exchange_join p.1 now rest p.0 q.0 p.3 q.2,
+        subst (λ (l : List ℕ). Appends before.contents after.contents l) (sym (texts_join p.0 q.0)) (Appends-trans before.contents mid.contents after.contents _ _ p.4 q.3.0),
+        omega (arith, less, p.5),
+        subst (λ (o : Option (List ℕ)). Consumes known o p.1) (sym same) p.6,
+        subst (λ (l : List ℕ). IsInTurn (p.0 ++ q.0) p.1 l before.events after.events) (sym (texts_join p.0 q.0)) order,
+      )
+
+  pub stayed : (d : Mark) (least least' : ℕ) (rest : List ℕ) (known left : Option (List ℕ)) (before after : Moment) → Waits rest → least' ≤ least
+      → IsAnsweredRead least known left rest before after d
+      → Ran d (λ all. IsRead least' all known left before.contents after.contents × IsServedInTurn all before.events after.events)
   stayed d least least' rest known left before after waits less p =
-      (p.3.0, p.3.1, (p.0, rest, omega (arith, p.1), p.2, waits, p.3.2, p.3.3))
-
-  -- the same where a read failed
-  pub stayed_kept : (d : Mark) (least : ℕ) (rest : List ℕ) (known left left' before after : Option (List ℕ)) → Waits rest → Keeps left left' → IsAnsweredRead least known left rest before after d
-      → Ran d (λ all. IsRead 0 all known left' before after)
-  stayed_kept d least rest known left left' before after waits kept p =
-      (p.3.0, p.3.1, (p.0, rest, omega arith, Consumes-kept known left left' p.0 p.2 kept, waits, p.3.2, p.3.3))
+      (p.0, p.2, ((p.1, rest, omega (arith, less, p.5), p.6, waits, p.3, p.4), in_turn p.0 p.1 (texts p.0) before.events after.events p.7))

@@ -11,4 +11,5 @@ pub mod ShortResponses
 pub mod Framing
 pub mod Servfails
 pub mod Promises
+pub mod Order
 pub mod Serving

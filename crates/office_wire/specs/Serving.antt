@@ -21,6 +21,7 @@ use Rattle.office_wire.specs.Framing.{WaitsUpTo}
 use Rattle.office_wire.specs.declared.servfails.Servfails.{Servfails}
 use Rattle.office_wire.specs.Exchange.{Turn, octets_of, turn_text, texts, IsOpenTurn, Standing, Answers, Run, Exchange, Waits, IsMethodAt, Closes, Ends, Says, is_line_end}
 use Rattle.office_wire.specs.Servfails.{noted, servfails, servfail_in}
+use Rattle.office_wire.specs.Order.{Moment, Writes}
 
 -- how a table stands
 abbrev pub standing : State → ℕ → Standing
@@ -107,31 +108,31 @@ IsIdle (Ok true) rest = ⊤
 IsIdle (Err e) rest = ⊤
 
 -- the octets were answered so far, up to rest
-abbrev pub IsCurrent : List Rule → Mark → List ℕ → List ℕ → Option (List ℕ) → Option (List ℕ) → Mark → Type 0
+abbrev pub IsCurrent : List Rule → Mark → List ℕ → List ℕ → Moment → Moment → Mark → Type 0
 IsCurrent rules c stream rest before after d =
-    (turns : List Turn) × Leads rules c turns d × Exchange stream turns rest × Appends before after (texts turns)
+    (turns : List Turn) × Leads rules c turns d × Exchange stream turns rest × Writes before after (texts turns)
 
 -- they were answered up to the last response
-abbrev pub IsClosed : List Rule → Mark → List ℕ → Option (List ℕ) → Option (List ℕ) → Mark → Type 0
+abbrev pub IsClosed : List Rule → Mark → List ℕ → Moment → Moment → Mark → Type 0
 IsClosed rules c stream before after d =
     (turns last : List Turn) × (rest text : List ℕ) × Leads rules c (turns ++ last) d × Exchange stream turns rest × Closes rest last text
-    × Appends before after (texts turns ++ text)
+    × Writes before after (texts turns ++ text)
 
 -- they were answered, and the last response that was written went out in part
-abbrev pub IsBroken : List Rule → Mark → List ℕ → Option (List ℕ) → Option (List ℕ) → Mark → Type 0
+abbrev pub IsBroken : List Rule → Mark → List ℕ → Moment → Moment → Mark → Type 0
 IsBroken rules c stream before after d =
     (turns last : List Turn) × (rest text part : List ℕ) × Leads rules c (turns ++ last) d × Exchange stream turns rest × Says rest last text
-    × IsProperPrefix part text × Appends before after (texts turns ++ part)
+    × IsProperPrefix part text × Writes before after (texts turns ++ part)
 
 -- what had come was served so
-abbrev pub IsServed : List Rule → Mark → List ℕ → Result Bool DeviceFailed → List ℕ → Option (List ℕ) → Option (List ℕ) → Mark → Type 0
+abbrev pub IsServed : List Rule → Mark → List ℕ → Result Bool DeviceFailed → List ℕ → Moment → Moment → Mark → Type 0
 IsServed rules c stream (Ok false) rest before after d = IsCurrent rules c stream rest before after d
 IsServed rules c stream (Ok true) rest before after d = IsClosed rules c stream before after d
 IsServed rules c stream (Err e) rest before after d = IsBroken rules c stream before after d
 
 -- how the end of the stream is answered
-abbrev pub Finishes : List ℕ → Result (Unit {0}) DeviceFailed → Option (List ℕ) → Option (List ℕ) → Type 0
+abbrev pub Finishes : List ℕ → Result (Unit {0}) DeviceFailed → Moment → Moment → Type 0
 Finishes rest (Ok u) before after =
-    (text : List ℕ) × Appends before after text × (((list_all is_line_end rest ≡ true) × (text ≡ [])) ⊎ ((list_all is_line_end rest ≡ false) × (m : Method) × IsMethodAt rest m × (text ≡ text_of m (Refused CutShort) true)))
+    (text : List ℕ) × Writes before after text × (((list_all is_line_end rest ≡ true) × (text ≡ [])) ⊎ ((list_all is_line_end rest ≡ false) × (m : Method) × IsMethodAt rest m × (text ≡ text_of m (Refused CutShort) true)))
 Finishes rest (Err e) before after =
-    (list_all is_line_end rest ≡ false) × (m : Method) × IsMethodAt rest m × (part : List ℕ) × IsProperPrefix part (text_of m (Refused CutShort) true) × Appends before after part
+    (list_all is_line_end rest ≡ false) × (m : Method) × IsMethodAt rest m × (part : List ℕ) × IsProperPrefix part (text_of m (Refused CutShort) true) × Writes before after part

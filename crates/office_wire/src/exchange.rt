@@ -6,6 +6,7 @@ ghost use Rattle.office_core.specs.States.{State};
 ghost use Rattle.office_wire.specs.Exchange.{Answers};
 ghost use Rattle.office_wire.specs.Framing.{IsAsked};
 ghost use Rattle.office_wire.specs.Requests.{call_of};
+ghost use Rattle.office_wire.specs.Order.{moment};
 ghost use Rattle.office_wire.specs.Serving.{standing, mark, IsReplied, IsProgress, Stands, IsIdle, IsServed};
 
 use crate::framing::{Framing, framing_of};
@@ -18,7 +19,8 @@ use crate::response::Response;
 use crate::response_buffer::ResponseBuffer;
 use crate::route::Routes;
 use crate::servfails::Servfails;
-use dns_master::{DeviceFailed, Sink, write_all};
+use crate::stream::{Stream, write_all};
+use dns_master::{DeviceFailed, Sink, Source};
 use grant_policy::Policy;
 use httparse::spans::HeaderSpan;
 use office_core::{TableFault, ZoneTable, step};
@@ -116,10 +118,11 @@ impl<'a> Service<'a> {
 
     /// Answers each request that stands whole among the octets that have come, and answers whether the last response was among
     /// the responses.
-    pub(crate) fn answer_all<W: Sink, T: ZoneTable>(
+    pub(crate) fn answer_all<S: Stream<R, W>, R: Source, W: Sink, T: ZoneTable>(
         &self,
         buffer: &mut RequestBuffer,
         spans: &mut [HeaderSpan],
+        reader: &mut R,
         writer: &mut W,
         table: &mut T,
         out: &mut ResponseBuffer,
@@ -127,10 +130,12 @@ impl<'a> Service<'a> {
     ) -> Result<bool, DeviceFailed>
         requires { length spans.old ≡ 5462 }
         ensures idle { IsIdle result buffer.new }
-        ensures served { T.is_honest table.new → (s : State) → T.holds table.old s → (t : State) × T.holds table.new t × IsServed self.now.policy.now (mark s (T.failures table.old) servfails.old) buffer.old result buffer.new (W.contents writer.old) (W.contents writer.new) (mark t (T.failures table.new) servfails.new) }
+        ensures served { T.is_honest table.new → (s : State) → T.holds table.old s → (t : State) × T.holds table.new t × IsServed self.now.policy.now (mark s (T.failures table.old) servfails.old) buffer.old result buffer.new (moment (W.contents writer.old) (S.events reader.old writer.old)) (moment (W.contents writer.new) (S.events reader.new writer.new)) (mark t (T.failures table.new) servfails.new) }
         ensures honest { T.is_honest table.new → T.is_honest table.old }
         ensures same { OnOk result (W.failures writer.new ≡ W.failures writer.old) }
         ensures rose { OnErr result (W.failures writer.new ≡ W.failures writer.old + 1) }
+        ensures unread { R.remaining reader.new ≡ R.remaining reader.old }
+        ensures still { R.failures reader.new ≡ R.failures reader.old }
     {
         if buffer.is_awaiting() {
             return Ok(false);
@@ -142,11 +147,11 @@ impl<'a> Service<'a> {
                     return Ok(false);
                 }
                 Progress::Next(n) => {
-                    write_all(writer, out.as_slice())?;
+                    write_all::<S, _, _>(reader, writer, out.as_slice())?;
                     buffer.consume(n);
                 }
                 Progress::Last => {
-                    write_all(writer, out.as_slice())?;
+                    write_all::<S, _, _>(reader, writer, out.as_slice())?;
                     return Ok(true);
                 }
             }

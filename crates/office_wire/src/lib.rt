@@ -21,6 +21,7 @@ mod serve_fault;
 mod servfails;
 mod serving;
 mod status;
+mod stream;
 
 pub use laws::{
     exchanges_are_runs, framing_is_unique, parts_are_segments, routes_are_their_paths,
@@ -29,4 +30,5 @@ pub use laws::{
 pub use refusal::Refusal;
 pub use serve_fault::ServeFault;
 pub use servfails::Servfails;
-pub use serving::{Served, serve, serve_noting};
+pub use serving::{Served, serve, serve_noting, serve_stream};
+pub use stream::{Apart, Stream};

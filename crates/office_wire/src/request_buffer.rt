@@ -1,12 +1,14 @@
 //! The octets that were received and are not answered yet.
 
-ghost use Rattle.std.specs.Prelude.{◌≡◌, ◌<◌, ◌≤◌, ◌+◌, ◌++◌, ◌-◌, ℕ, List, true, vec_len, take, drop, length, IfOk, OnErr, OnOk};
+ghost use Rattle.std.specs.Prelude.{◌≡◌, ◌<◌, ◌≤◌, ◌+◌, ◌++◌, ◌-◌, ℕ, List, [], ◌∷◌, true, vec_len, take, drop, length, IfOk, OnErr, OnOk};
 ghost use Rattle.std.specs.Io.KnownBytes.{Consumes, IsAtEnd, Keeps};
 ghost use Rattle.std.specs.List.{slice_range};
 ghost use Rattle.office_wire.specs.Exchange.{Waits};
 ghost use Rattle.office_wire.specs.Framing.{WaitsUpTo};
+ghost use Rattle.office_wire.specs.Order.{Follows, read};
 
-use dns_master::{DeviceFailed, Source};
+use crate::stream::Stream;
+use dns_master::{DeviceFailed, Sink, Source};
 use std::alloc::{AllocError, Global};
 use std::marker::Model;
 
@@ -70,16 +72,22 @@ impl RequestBuffer {
     }
 
     /// Reads once behind what is there, and returns how many octets were received: none only at the end.
-    pub(crate) fn fill<R: Source>(&mut self, reader: &mut R) -> Result<usize, DeviceFailed>
+    pub(crate) fn fill<S: Stream<R, W>, R: Source, W: Sink>(
+        &mut self,
+        reader: &mut R,
+        writer: &mut W,
+    ) -> Result<usize, DeviceFailed>
         requires { length self.old < 81920 }
-        ensures got { IfOk result (λ n. (got : List ℕ) × (self.new ≡ self.old ++ got) × (length got ≡ n) × Consumes (R.remaining reader.old) (R.remaining reader.new) got × (n ≡ 0 → IsAtEnd (R.remaining reader.new))) }
-        ensures kept { OnErr result ((self.new ≡ self.old) × Keeps (R.remaining reader.old) (R.remaining reader.new)) }
+        ensures got { IfOk result (λ n. (got : List ℕ) × (self.new ≡ self.old ++ got) × (length got ≡ n) × Consumes (R.remaining reader.old) (R.remaining reader.new) got × (n ≡ 0 → IsAtEnd (R.remaining reader.new)) × Follows (S.events reader.old writer.old) (S.events reader.new writer.new) (read got ∷ [])) }
+        ensures kept { OnErr result ((self.new ≡ self.old) × Keeps (R.remaining reader.old) (R.remaining reader.new) × Follows (S.events reader.old writer.old) (S.events reader.new writer.new) (read [] ∷ [])) }
         ensures fine { OnOk result (R.failures reader.new ≡ R.failures reader.old) }
         ensures failed { OnErr result (R.failures reader.new ≡ R.failures reader.old + 1) }
+        ensures same { W.contents writer.new ≡ W.contents writer.old }
+        ensures still { W.failures writer.new ≡ W.failures writer.old }
     {
         self.end = to_front(&mut self.bytes, self.start, self.end);
         self.start = 0;
-        let got = reader.read_some(&mut self.bytes[self.end..])?;
+        let got = S::read_some(reader, writer, &mut self.bytes[self.end..])?;
         self.end += got;
         Ok(got)
     }

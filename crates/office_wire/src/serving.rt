@@ -7,6 +7,7 @@ ghost use Rattle.office_wire.specs.Exchange.{Turn, Run, Waits, is_line_end};
 ghost use Rattle.office_wire.specs.Promises.{ArePromised};
 ghost use Rattle.office_wire.specs.Serving.{standing, mark, Leads, IsDone, CountsServed, Finishes};
 ghost use Rattle.office_wire.specs.Servfails.{AreNoted, servfails};
+ghost use Rattle.office_wire.specs.Order.{moment, IsServedInTurn};
 
 use crate::exchange::Service;
 use crate::framing::method_at;
@@ -18,7 +19,8 @@ use crate::response_buffer::ResponseBuffer;
 use crate::route::Routes;
 use crate::serve_fault::ServeFault;
 use crate::servfails::Servfails;
-use dns_master::{DeviceFailed, Sink, Source, write_all};
+use crate::stream::{Apart, Stream, write_all};
+use dns_master::{DeviceFailed, Sink, Source};
 use grant_policy::Policy;
 use httparse::spans::{EMPTY_HEADER_SPAN, HeaderSpan};
 use office_core::ZoneTable;
@@ -32,28 +34,31 @@ fn is_quiet(bytes: &[u8]) -> bool
 }
 
 /// Answers the end of a stream at what is left of it.
-fn finish<W: Sink>(
+fn finish<S: Stream<R, W>, R: Source, W: Sink>(
     rest: &[u8],
     spans: &mut [HeaderSpan],
+    reader: &mut R,
     writer: &mut W,
     out: &mut ResponseBuffer,
 ) -> Result<(), DeviceFailed>
     requires spans { length spans.old ≡ 5462 }
     requires waits { Waits rest.now }
-    ensures finishes { Finishes rest.now result (W.contents writer.old) (W.contents writer.new) }
+    ensures finishes { Finishes rest.now result (moment (W.contents writer.old) (S.events reader.old writer.old)) (moment (W.contents writer.new) (S.events reader.new writer.new)) }
     ensures same { OnOk result (W.failures writer.new ≡ W.failures writer.old) }
     ensures rose { OnErr result (W.failures writer.new ≡ W.failures writer.old + 1) }
+    ensures unread { R.remaining reader.new ≡ R.remaining reader.old }
+    ensures still { R.failures reader.new ≡ R.failures reader.old }
 {
     if is_quiet(rest) {
         return Ok(());
     }
     let method = method_at(rest, spans);
     out.put_short(method, &Response::Refused(Refusal::CutShort), true);
-    write_all(writer, out.as_slice())
+    write_all::<S, _, _>(reader, writer, out.as_slice())
 }
 
 /// Answers each request of a stream, in the rooms that were made for it, and notes those that are answered SERVFAIL.
-fn serve_in<R: Source, W: Sink, T: ZoneTable>(
+fn serve_in<S: Stream<R, W>, R: Source, W: Sink, T: ZoneTable>(
     service: &Service<'_>,
     buffer: &mut RequestBuffer,
     spans: &mut [HeaderSpan],
@@ -65,22 +70,24 @@ fn serve_in<R: Source, W: Sink, T: ZoneTable>(
 ) -> Result<(), ServeFault>
     requires empty { length buffer.old ≡ 0 }
     requires spans { length spans.old ≡ 5462 }
-    ensures run { T.is_honest table.new → (s : State) → T.holds table.old s → (turns : List Turn) × (t : State) × T.holds table.new t × Leads service.now.policy.now (mark s (T.failures table.old) servfails.old) turns (mark t (T.failures table.new) servfails.new) × IsDone turns result (R.remaining reader.old) (R.remaining reader.new) (W.contents writer.old) (W.contents writer.new) }
+    ensures run { T.is_honest table.new → (s : State) → T.holds table.old s → (turns : List Turn) × (t : State) × T.holds table.new t × Leads service.now.policy.now (mark s (T.failures table.old) servfails.old) turns (mark t (T.failures table.new) servfails.new) × IsDone turns result (R.remaining reader.old) (R.remaining reader.new) (W.contents writer.old) (W.contents writer.new) × IsServedInTurn turns (S.events reader.old writer.old) (S.events reader.new writer.new) }
     ensures honest { T.is_honest table.new → T.is_honest table.old }
     ensures devices { CountsServed result (R.failures reader.old) (R.failures reader.new) (W.failures writer.old) (W.failures writer.new) }
 {
     'reads: for _ in 0..u64::MAX {
-        let got = match buffer.fill(reader) {
+        let got = match buffer.fill::<S, _, _>(reader, writer) {
             Err(_) => return Err(ServeFault::ReadFailed),
             Ok(got) => got,
         };
         if got == 0 {
-            match finish(buffer.as_slice(), spans, writer, out) {
+            match finish::<S, _, _>(buffer.as_slice(), spans, reader, writer, out) {
                 Err(_) => return Err(ServeFault::WriteFailed),
                 Ok(()) => return Ok(()),
             }
         }
-        match service.answer_all(buffer, spans, writer, table, out, servfails) {
+        match service.answer_all::<S, _, _, _>(
+            buffer, spans, reader, writer, table, out, servfails,
+        ) {
             Err(_) => return Err(ServeFault::WriteFailed),
             Ok(true) => return Ok(()),
             Ok(false) => {}
@@ -90,7 +97,7 @@ fn serve_in<R: Source, W: Sink, T: ZoneTable>(
 }
 
 /// Takes memory for a stream, and then answers each of its requests.
-fn serve_into<R: Source, W: Sink, T: ZoneTable>(
+fn serve_into<S: Stream<R, W>, R: Source, W: Sink, T: ZoneTable>(
     alloc: Global,
     reader: &mut R,
     writer: &mut W,
@@ -98,7 +105,7 @@ fn serve_into<R: Source, W: Sink, T: ZoneTable>(
     policy: &Policy,
     servfails: &mut Servfails,
 ) -> Result<(), ServeFault>
-    ensures run { T.is_honest table.new → (s : State) → T.holds table.old s → (turns : List Turn) × (t : State) × T.holds table.new t × Leads policy.now (mark s (T.failures table.old) servfails.old) turns (mark t (T.failures table.new) servfails.new) × IsDone turns result (R.remaining reader.old) (R.remaining reader.new) (W.contents writer.old) (W.contents writer.new) }
+    ensures run { T.is_honest table.new → (s : State) → T.holds table.old s → (turns : List Turn) × (t : State) × T.holds table.new t × Leads policy.now (mark s (T.failures table.old) servfails.old) turns (mark t (T.failures table.new) servfails.new) × IsDone turns result (R.remaining reader.old) (R.remaining reader.new) (W.contents writer.old) (W.contents writer.new) × IsServedInTurn turns (S.events reader.old writer.old) (S.events reader.new writer.new) }
     ensures honest { T.is_honest table.new → T.is_honest table.old }
     ensures devices { CountsServed result (R.failures reader.old) (R.failures reader.new) (W.failures writer.old) (W.failures writer.new) }
 {
@@ -117,7 +124,7 @@ fn serve_into<R: Source, W: Sink, T: ZoneTable>(
         routes,
     };
     let mut spans = [EMPTY_HEADER_SPAN; SPANS];
-    serve_in(
+    serve_in::<S, _, _, _>(
         &service,
         &mut buffer,
         &mut spans,
@@ -138,6 +145,25 @@ pub struct Served {
     pub servfails: Servfails,
 }
 
+/// Serves a stream as `serve_noting` does, and reads only when all whole requests received before are answered, and their responses
+/// written whole.
+pub fn serve_stream<S: Stream<R, W>, R: Source, W: Sink, T: ZoneTable>(
+    alloc: Global,
+    reader: &mut R,
+    writer: &mut W,
+    table: &mut T,
+    policy: &Policy,
+) -> Served
+    // Each response goes out whole before the next read, so a peer that waits for it before it sends more gets it.
+    ensures run { T.is_honest table.new → (s : State) → T.holds table.old s → (turns : List Turn) × (t : State) × T.holds table.new t × Run policy.now (standing s (T.failures table.old)) turns (standing t (T.failures table.new)) × IsDone turns result.ended (R.remaining reader.old) (R.remaining reader.new) (W.contents writer.old) (W.contents writer.new) × ArePromised policy.now s turns t × AreNoted (servfails turns) result.servfails × IsServedInTurn turns (S.events reader.old writer.old) (S.events reader.new writer.new) }
+    ensures honest { T.is_honest table.new → T.is_honest table.old }
+    ensures devices { CountsServed result.ended (R.failures reader.old) (R.failures reader.new) (W.failures writer.old) (W.failures writer.new) }
+{
+    let mut servfails = Servfails::none();
+    let ended = serve_into::<S, _, _, _>(alloc, reader, writer, table, policy, &mut servfails);
+    Served { ended, servfails }
+}
+
 /// Serves a stream as `serve` does, and tells how many requests were answered SERVFAIL, and why the last of them was.
 pub fn serve_noting<R: Source, W: Sink, T: ZoneTable>(
     alloc: Global,
@@ -151,9 +177,7 @@ pub fn serve_noting<R: Source, W: Sink, T: ZoneTable>(
     ensures honest { T.is_honest table.new → T.is_honest table.old }
     ensures devices { CountsServed result.ended (R.failures reader.old) (R.failures reader.new) (W.failures writer.old) (W.failures writer.new) }
 {
-    let mut servfails = Servfails::none();
-    let ended = serve_into(alloc, reader, writer, table, policy, &mut servfails);
-    Served { ended, servfails }
+    serve_stream::<Apart, _, _, _>(alloc, reader, writer, table, policy)
 }
 
 /// Answers each request of a stream (RFC 9112), in order, by the policy and over the table, to the end of the stream or to the

@@ -1,6 +1,7 @@
 use Rattle.std.proofs.Common.{◌≡◌, ◌<◌, length}
 use Rattle.office_core.specs.States.{State}
 use Rattle.office_wire.specs.Exchange.{Waits}
+use Rattle.office_wire.specs.Order.{moment}
 use Rattle.office_wire.specs.Serving.{mark}
 use Rattle.office_wire.proofs.ServingLemmas.{IsAnsweredRead}
 use Rattle.office_wire.proofs.serving.serve_in.Given as goal
@@ -13,7 +14,8 @@ invariant-reads g l = record {
   honest : g.T.ZoneTable.is_honest l.table → g.T.ZoneTable.is_honest l.fn.table;
   served : g.T.ZoneTable.is_honest l.table → (s : State) → g.T.ZoneTable.holds l.fn.table s → (t : State) × g.T.ZoneTable.holds l.table t
       × IsAnsweredRead l.service.policy.now (mark s (g.T.ZoneTable.failures l.fn.table) l.fn.servfails) l.counter (g.R.Source.remaining l.fn.reader) (g.R.Source.remaining l.reader) l.buffer
-      (g.W.Sink.contents l.fn.writer) (g.W.Sink.contents l.writer) (mark t (g.T.ZoneTable.failures l.table) l.servfails);
+      (moment (g.W.Sink.contents l.fn.writer) (g.S.Stream.events l.fn.reader l.fn.writer)) (moment (g.W.Sink.contents l.writer) (g.S.Stream.events l.reader l.writer))
+      (mark t (g.T.ZoneTable.failures l.table) l.servfails);
   reads : g.R.FaultCount.failures l.reader ≡ g.R.FaultCount.failures l.fn.reader;
   writes : g.W.FaultCount.failures l.writer ≡ g.W.FaultCount.failures l.fn.writer;
 }

@@ -1,13 +1,34 @@
-use Rattle.std.proofs.Common.{rules, ◌≤◌, ◌∙◌, length, arith, length-drop, subst, List, ℕ, ap}
+use Rattle.std.proofs.Common.{rules, ◌≤◌, ◌∙◌, length, arith, length-drop, subst, List, ℕ, ap, refl}
 use Rattle.std.proofs.lemmas.Result.{err_from_is_err_and}
-use Rattle.office_wire.proofs.JoinLemmas.{next_served, next_broken, last_broken, last_closed}
+use Rattle.office_wire.specs.Order.{moment}
+use Rattle.office_wire.specs.Serving.{mark}
+use Rattle.office_wire.proofs.JoinLemmas.{none_served, next_served, next_broken, last_broken, last_closed}
 use Rattle.office_wire.proofs.exchange.Service.answer_all.Goals as goal
+
+pub returns-then-is_awaiting-clause-served : goal.returns-then-is_awaiting-clause-served
+returns-then-is_awaiting-clause-served g c = λ honest s held.
+    let now = mark s (g.T.ZoneTable.failures c.args.table.now) c.args.servfails.now in
+    let here = moment (g.W.Sink.contents c.args.writer.now) (g.S.Stream.events c.args.reader.now c.args.writer.now) in
+    (s, held, none_served c.args.self.now.policy.now now c.args.buffer.now here)
+
+pub turns-init : goal.turns-init
+turns-init g c = record {
+  spans = c.requires;
+  honest = λ honest. honest;
+  served = λ honest s held.
+      let now = mark s (g.T.ZoneTable.failures c.args.table.now) c.args.servfails.now in
+      let here = moment (g.W.Sink.contents c.args.writer.now) (g.S.Stream.events c.args.reader.now c.args.writer.now) in
+      (s, held, none_served c.args.self.now.policy.now now c.args.buffer.now here);
+  unread = refl;
+  still = refl;
+  same = refl;
+}
 
 pub returns-in_err-write_all-in-Next-clause-served : goal.returns-in_err-write_all-in-Next-clause-served
 returns-in_err-write_all-in-Next-clause-served g c = λ honest s held.
     let p = c.turns.invariant.served (c.in-Next.ensures.honest honest) s held in
     let a = c.in-Next.ensures.answered honest p.0 p.1 in
-    (a.0, a.1, rw (err_from_is_err_and c.from_residual.result c.from_residual.ensures.1).1 (next_broken _ _ _ _ c.in-Next.n _ _ _ _ _ _ _ _ c.as_slice.ensures.value c.as_slice-in-Next.ensures p.2 a.2 c.in_err-write_all-in-Next.ensures.0))
+    (a.0, a.1, rw (err_from_is_err_and c.from_residual.result c.from_residual.ensures.1).1 (next_broken _ _ _ _ c.in-Next.n _ _ _ _ _ _ _ _ c.as_slice.ensures.value c.as_slice-in-Next.ensures p.2 a.2 c.in_err-write_all-in-Next.ensures.written))
 
 pub consume-requires : goal.consume-requires
 consume-requires g c = subst (λ (l : List ℕ). c.in-Next.n ≤ length l) c.as_slice.ensures.value c.in-Next.ensures.stands.1
@@ -23,13 +44,13 @@ pub returns-in_err-write_all-in-Last-clause-served : goal.returns-in_err-write_a
 returns-in_err-write_all-in-Last-clause-served g c = λ honest s held.
     let p = c.turns.invariant.served (c.in-Last.ensures.honest honest) s held in
     let a = c.in-Last.ensures.answered honest p.0 p.1 in
-    (a.0, a.1, rw (err_from_is_err_and c.from_residual-in_err-write_all-in-Last.result c.from_residual-in_err-write_all-in-Last.ensures.1).1 (last_broken _ _ _ _ _ _ _ _ _ a.2.0 _ _ _ c.as_slice.ensures.value c.as_slice-in-Last.ensures p.2 a.2.1 a.2.2 c.in_err-write_all-in-Last.ensures.0))
+    (a.0, a.1, rw (err_from_is_err_and c.from_residual-in_err-write_all-in-Last.result c.from_residual-in_err-write_all-in-Last.ensures.1).1 (last_broken _ _ _ _ _ _ _ _ _ a.2.0 _ _ _ c.as_slice.ensures.value c.as_slice-in-Last.ensures p.2 a.2.1 a.2.2 c.in_err-write_all-in-Last.ensures.written))
 
 pub returns-in-Last-clause-served : goal.returns-in-Last-clause-served
 returns-in-Last-clause-served g c = λ honest s held.
     let p = c.turns.invariant.served (c.in-Last.ensures.honest honest) s held in
     let a = c.in-Last.ensures.answered honest p.0 p.1 in
-    (a.0, a.1, last_closed _ _ _ _ _ _ _ _ _ a.2.0 _ _ _ c.as_slice.ensures.value c.as_slice-in-Last.ensures p.2 a.2.1 a.2.2 c.in_ok-write_all-in-Last.ensures.0)
+    (a.0, a.1, last_closed _ _ _ _ _ _ _ _ _ a.2.0 _ _ _ c.as_slice.ensures.value c.as_slice-in-Last.ensures p.2 a.2.1 a.2.2 c.in_ok-write_all-in-Last.ensures.written)
 
 pub turns-preserved : goal.turns-preserved
 turns-preserved g c = record {
@@ -38,6 +59,8 @@ turns-preserved g c = record {
   served = λ honest s held.
       let p = c.turns.invariant.served (c.in-Next.ensures.honest honest) s held in
       let a = c.in-Next.ensures.answered honest p.0 p.1 in
-      (a.0, a.1, next_served _ _ _ _ c.in-Next.n _ _ _ _ _ _ _ _ _ c.as_slice.ensures.value c.consume.ensures c.as_slice-in-Next.ensures p.2 a.2 c.in_ok-write_all-in-Next.ensures.0);
-  same = c.in_ok-write_all-in-Next.ensures.1 ∙ c.turns.invariant.same;
+      (a.0, a.1, next_served _ _ _ _ c.in-Next.n _ _ _ _ _ _ _ _ _ c.as_slice.ensures.value c.consume.ensures c.as_slice-in-Next.ensures p.2 a.2 c.in_ok-write_all-in-Next.ensures.written);
+  unread = c.in_ok-write_all-in-Next.ensures.same ∙ c.turns.invariant.unread;
+  still = c.in_ok-write_all-in-Next.ensures.still ∙ c.turns.invariant.still;
+  same = c.in_ok-write_all-in-Next.ensures.fine ∙ c.turns.invariant.same;
 }

@@ -1,5 +1,6 @@
 use Rattle.std.proofs.Common.{length, ◌≡◌}
 use Rattle.office_core.specs.States.{State}
+use Rattle.office_wire.specs.Order.{moment}
 use Rattle.office_wire.specs.Serving.{mark, IsCurrent}
 use Rattle.office_wire.proofs.exchange.Service.answer_all.Given as goal
 
@@ -8,7 +9,9 @@ invariant-turns g l = record {
   spans : length l.spans ≡ 5462;
   honest : g.T.ZoneTable.is_honest l.table → g.T.ZoneTable.is_honest l.fn.table;
   served : g.T.ZoneTable.is_honest l.table → (s : State) → g.T.ZoneTable.holds l.fn.table s → (t : State) × g.T.ZoneTable.holds l.table t
-      × IsCurrent l.self.policy.now (mark s (g.T.ZoneTable.failures l.fn.table) l.fn.servfails) l.fn.buffer l.buffer (g.W.Sink.contents l.fn.writer) (g.W.Sink.contents l.writer) (mark t (g.T.ZoneTable.failures l.table) l.servfails);
+      × IsCurrent l.self.policy.now (mark s (g.T.ZoneTable.failures l.fn.table) l.fn.servfails) l.fn.buffer l.buffer (moment (g.W.Sink.contents l.fn.writer) (g.S.Stream.events l.fn.reader l.fn.writer)) (moment (g.W.Sink.contents l.writer) (g.S.Stream.events l.reader l.writer)) (mark t (g.T.ZoneTable.failures l.table) l.servfails);
+  unread : g.R.Source.remaining l.reader ≡ g.R.Source.remaining l.fn.reader;
+  still : g.R.FaultCount.failures l.reader ≡ g.R.FaultCount.failures l.fn.reader;
   same : g.W.FaultCount.failures l.writer ≡ g.W.FaultCount.failures l.fn.writer;
 }
 
