@@ -4,12 +4,13 @@ ghost use Rattle.std.specs.Prelude.{◌≡◌, ◌<◌, ℕ, List, [], Option, S
 ghost use Rattle.office_core.specs.States.{State};
 ghost use Rattle.office_wire.specs.Exchange.{Turn, Run};
 ghost use Rattle.office_wire.specs.Serving.{standing, IsDone, CountsServed};
+ghost use Rattle.office_wire.specs.Order.{IsServedInTurn};
 ghost use Rattle.office_wire.specs.Servfails.{AreNoted, servfails};
 
 use dns_master::{Counted, Pieces, Sink, Source};
 use grant_policy::Policy;
 use office_core::ZoneTable;
-use office_wire::{ServeFault, Served};
+use office_wire::{ServeFault, Served, Stream};
 use std::alloc::Global;
 use std::sync::ledger::{Blank, Ledger};
 
@@ -52,6 +53,19 @@ pub fn serve_noting<R: Source, W: Sink, T: ZoneTable>(
 {
     let served = office_wire::serve_noting(alloc, reader, writer, table, policy);
     served
+}
+
+/// `serve_stream`, by the order of what it reads and writes.
+pub fn serve_stream<S: Stream<R, W>, R: Source, W: Sink, T: ZoneTable>(
+    alloc: Global,
+    reader: &mut R,
+    writer: &mut W,
+    table: &mut T,
+    policy: &Policy,
+) -> Served
+    ensures { T.is_honest table.new → (s : State) → T.holds table.old s → (turns : List Turn) × (t : State) × T.holds table.new t × Run policy.now (standing s (T.failures table.old)) turns (standing t (T.failures table.new)) × IsServedInTurn turns (S.events reader.old writer.old) (S.events reader.new writer.new) }
+{
+    office_wire::serve_stream::<S, _, _, _>(alloc, reader, writer, table, policy)
 }
 
 /// `serve`, of octets in memory, to a text in memory.
