@@ -61,7 +61,7 @@ pub trait ZoneTable {
         top: &Name,
     ) -> Result<Option<Vec<Record>>, TableFault>
         ensures answer { is_honest self.new → IfOk result (λ records. (s : State) → holds self.old s → option_map (λ rs. rs.items) records ≡ subtree_at s origin.now top.now) }
-        // They stand in order, whatever the store has done.
+        // They are in record order, whatever the store has done.
         ensures order { IfOk result (λ records. IfSome records (λ rs. InOrder rs.items)) }
         ensures same { (s : State) → holds self.old s → holds self.new s }
         ensures only { is_honest self.new → OnOk result ((s : State) → holds self.new s → holds self.old s) }

@@ -1,5 +1,5 @@
 -- The cached zone, and the state that the connection holds.
-use Rattle.std.proofs.Common.{◌≡◌, ◌⊎◌, ℕ, inl, inr, pos, suc, ◌+◌, ◌<◌, ◌≤◌, List, [], ◌∷◌, ◌++◌, length, get_or, add-one, ◌&&◌, bytes_eq, cond, true, false, map, drop, Option, Some, None, option_map, Result, Ok, Err, IfSome, IsTrue, IsPermutation, refl, sym, ap, subst, ◌∙◌}
+use Rattle.std.proofs.Common.{◌≡◌, ◌⊎◌, ℕ, inl, inr, pos, suc, ◌+◌, ◌<◌, ◌≤◌, List, [], ◌∷◌, ◌++◌, length, get_or, add-one, ◌&&◌, bytes_eq, cond, true, false, map, drop, Option, Some, None, option_map, Result, Ok, Err, IfOk, IfSome, IsTrue, IsPermutation, refl, sym, ap, subst, ◌∙◌}
 use Rattle.std.proofs.Math.Logic.{∥∥₁_map, ∥∥₁_elim}
 use Rattle.std.specs.Coded.{Coded-set, coded_option}
 use Rattle.std.specs.Bool.{Decides}
@@ -17,12 +17,12 @@ use Rattle.dns_data.specs.declared.record.Record.{Record}
 use Rattle.dns_data.specs.contracts.record.RecordPartialEq.TheImpl as of_record
 use Rattle.dns_data.proofs.SameLemmas.{data_decides}
 use Rattle.zone_core.specs.Codes.{zone_code}
-use Rattle.zone_core.specs.Sets.{Records}
+use Rattle.zone_core.specs.Sets.{Records, listing, part, within}
 use Rattle.zone_core.specs.Zones.{ZoneOf}
 use Rattle.zone_core.specs.Changes.{ChangeOf, change_in, changed}
 use Rattle.zone_core.specs.Views.{zone_in}
 use Rattle.zone_core.proofs.SetLemmas.{by_cases}
-use Rattle.office_core.specs.States.{Held, State, zone_held, zone_at}
+use Rattle.office_core.specs.States.{Held, State, zone_held, zone_at, subtree_at}
 use Rattle.office_core.specs.Machine.{keep}
 use Rattle.office_core.specs.Tables.{AdditionOf, held_with, with_change_of, committed}
 use Rattle.office_sql.specs.Rows.{RecordRowOf, RowsOf}
@@ -34,8 +34,9 @@ use Rattle.office_rows.specs.RecordRows.{record_row}
 use Rattle.office_rows.proofs.ListLemmas.{none_moved}
 use Rattle.office_rows.proofs.OriginLaws.{zones_stand_at_origins}
 use Rattle.office_rows.proofs.ZoneReadLemmas.{rows_moved, zone_of_state, zone_stored}
+use Rattle.office_store.specs.declared.cache.CachedZone.{CachedZone}
 use Rattle.office_store.specs.declared.cache.WaitingChange.{WaitingChange}
-use Rattle.office_store.specs.Cache.{FitsCache, IsZoneIn, cached_after, cached_behind, changed_at, records_after, with_change}
+use Rattle.office_store.specs.Cache.{FitsCache, IsSubtreeOf, IsZoneIn, cached_after, cached_behind, changed_at, current_zone, records_after, with_change}
 use Rattle.office_store.specs.Holds.{HoldsState}
 use Rattle.office_store.specs.Queries.{Asked}
 use Rattle.office_store.specs.Turns.{Turns}
@@ -164,6 +165,20 @@ pub told_of_cache : (conn : Shown) (cached : Option ZoneOf) (zone : ZoneOf) (o :
 told_of_cache conn cached zone o fits clean up some own s h =
     let held = (subst (FitsCache conn) some fits).held clean in
     ∥∥₁_elim held (Coded-set (coded_option zone_code) _ _) (λ it. subst (λ n. Some zone ≡ zone_at s n) own (sym (one_zone conn up it.0 s it.1 h zone.origin zone it.2)))
+
+-- and its records within a name are those of the zone
+pub told_of_subtree : (conn : Shown) (cached : Option ZoneOf) (o top : Labels) (rs : List Record) → FitsCache conn cached → HasCleanDisk conn → IsTrue conn.is_open → IsSubtreeOf cached o top rs
+    → (s : State) → HoldsState conn s → Some rs ≡ subtree_at s o top
+told_of_subtree conn cached o top rs fits clean up is s h =
+    ap (λ (l : List Record). Some l) is.records
+    ∙ ap (option_map (λ (zone : ZoneOf). listing (part zone.records (within top)))) (told_of_cache conn cached is.zone o fits clean up is.is_cached is.own s h)
+
+-- the cached zone is taken
+pub taken : {E : Type 0} (r : Result (Option ZoneOf) E) (before : Option ZoneOf) (cached : CachedZone) (o : Labels) → before ≡ Some (current_zone cached) → cached.zone.origin ≡ o
+    → IfOk r (λ found. IfSome found (λ zone. zone ≡ current_zone cached)) → IfOk r (λ found. IfSome found (λ zone. (before ≡ Some zone) × (zone.origin ≡ o)))
+taken (Ok None) before cached o there own is = tt
+taken (Ok (Some zone)) before cached o there own is = (there ∙ ap (λ (z : ZoneOf). Some z) (sym is), ap (λ (z : ZoneOf). z.origin) is ∙ own)
+taken (Err e) before cached o there own is = tt
 
 -- what was found is cached, or nothing is
 pub fits_found : (old new : Shown) (before found after : Option ZoneOf) (o : Labels) → FitsCache old before → Asked old new → IfSome found (λ zone. zone.origin ≡ o)

@@ -2,7 +2,8 @@
 use Rattle.std.specs.Prelude.{◌≡◌, ℕ, List, [], ◌∷◌, map, if◌then◌else◌, Option, Some, None, option_map}
 use Rattle.sqlite.specs.State.{State as Shown, HasCleanDisk}
 use Rattle.dns_names.specs.Order.{same_name}
-use Rattle.zone_core.specs.Sets.{Records}
+use Rattle.dns_data.specs.declared.record.Record.{Record}
+use Rattle.zone_core.specs.Sets.{Records, listing, part, within}
 use Rattle.zone_core.specs.Zones.{ZoneOf}
 use Rattle.zone_core.specs.Changes.{ChangeOf, change_in, changed}
 use Rattle.office_core.specs.States.{State, zone_at}
@@ -28,6 +29,13 @@ current_zone cached = record { origin = cached.zone.origin; records = records_af
 -- the cached zone, if there is one
 abbrev pub cached_in : Option CachedZone → Option ZoneOf
 cached_in cache = option_map current_zone cache
+
+-- records are those within a name of a zone that is cached, which is the one of an origin
+pub record IsSubtreeOf (cached : Option ZoneOf) (origin top : List (List ℕ)) (rs : List Record) : Type 0 where
+  pub zone : ZoneOf
+  pub is_cached : cached ≡ Some zone
+  pub own : zone.origin ≡ origin
+  pub records : rs ≡ listing (part zone.records (within top))
 
 -- ---- when it is one of the state
 

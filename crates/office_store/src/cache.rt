@@ -1,21 +1,23 @@
 //! The zone that was read last. It follows the commits: a change of it waits beside it, and is made when the zone is asked for next.
 
-ghost use Rattle.std.specs.Prelude.{◌≡◌, ◌⊎◌, Some, None, IfOk, IfSome};
+ghost use Rattle.std.specs.Prelude.{◌≡◌, ◌⊎◌, Some, None, IfOk, IfSome, option_map};
 ghost use Rattle.sqlite.specs.Held.{state};
 ghost use Rattle.sqlite.specs.State.{HasCleanDisk};
+ghost use Rattle.zone_core.specs.Sets.{InOrder};
 ghost use Rattle.zone_core.specs.Changes.{change_in};
-ghost use Rattle.office_core.specs.States.{State, zone_at};
+ghost use Rattle.office_core.specs.States.{State, subtree_at, zone_at};
 ghost use Rattle.office_core.specs.Tables.{Fits, addition_in, committed};
 ghost use Rattle.office_store.specs.Queries.{AsksOnly};
 ghost use Rattle.office_store.specs.Holds.{HoldsState};
 ghost use Rattle.office_store.specs.Turns.{Turns};
-ghost use Rattle.office_store.specs.Cache.{FitsCache, cached_after, cached_in, changed_at, current_zone, with_change};
+ghost use Rattle.office_store.specs.Cache.{FitsCache, IsSubtreeOf, cached_after, cached_in, changed_at, current_zone, with_change};
 
 use crate::batch::commit;
 use crate::queries::check_open;
-use crate::reads::zone_at;
+use crate::reads::{subtree_at, zone_at};
+use dns_data::Record;
 use dns_names::Name;
-use office_core::{Addition, Receipt};
+use office_core::{Addition, Receipt, copied_within};
 use office_rows::StoreFault;
 use sqlite::{Alter, Connection};
 use std::alloc::{AllocError, Global};
@@ -110,6 +112,26 @@ impl CachedZone {
     }
 }
 
+/// Takes the cached zone, if it is the one of an origin, with the waiting changes made. The zone of another origin stays cached.
+/// The only error is out of memory.
+fn taken_at(
+    alloc: Global,
+    cache: &mut Option<CachedZone>,
+    origin: &Name,
+) -> Result<Option<Zone>, AllocError>
+    ensures found { IfOk result (λ found. IfSome found (λ zone. (cached_in cache.old ≡ Some zone) × (zone.origin ≡ origin.now))) }
+    ensures kept { (cached_in cache.new ≡ cached_in cache.old) ⊎ (cached_in cache.new ≡ None) }
+{
+    let Some(cached) = cache.take() else {
+        return Ok(None);
+    };
+    if cached.zone.origin() != origin {
+        *cache = Some(cached);
+        return Ok(None);
+    }
+    cached.into_zone(alloc)
+}
+
 /// A copy of the cached zone, if it is the one of an origin, with the waiting changes made. The only error is out of memory.
 fn cached_at(
     alloc: Global,
@@ -119,18 +141,32 @@ fn cached_at(
     ensures found { IfOk result (λ found. IfSome found (λ zone. (cached_in cache.new ≡ Some zone) × (zone.origin ≡ origin.now))) }
     ensures kept { (cached_in cache.new ≡ cached_in cache.old) ⊎ (cached_in cache.new ≡ None) }
 {
-    let Some(cached) = cache.take() else {
-        return Ok(None);
-    };
-    if cached.zone.origin() != origin {
-        return Ok(None);
-    }
-    let Some(zone) = cached.into_zone(alloc)? else {
+    let Some(zone) = taken_at(alloc, cache, origin)? else {
         return Ok(None);
     };
     let copy = zone.try_copy(alloc)?;
     *cache = Some(CachedZone::of(alloc, zone));
     Ok(Some(copy))
+}
+
+/// Copies of the cached zone's records within a name, if it is the zone of an origin, with the waiting changes made. The only
+/// error is out of memory.
+fn cached_within(
+    alloc: Global,
+    cache: &mut Option<CachedZone>,
+    origin: &Name,
+    top: &Name,
+) -> Result<Option<Vec<Record>>, AllocError>
+    ensures found { IfOk result (λ found. IfSome found (λ rs. IsSubtreeOf (cached_in cache.new) origin.now top.now rs.items)) }
+    ensures order { IfOk result (λ found. IfSome found (λ rs. InOrder rs.items)) }
+    ensures kept { (cached_in cache.new ≡ cached_in cache.old) ⊎ (cached_in cache.new ≡ None) }
+{
+    let Some(zone) = taken_at(alloc, cache, origin)? else {
+        return Ok(None);
+    };
+    let records = copied_within(alloc, &zone, top)?;
+    *cache = Some(CachedZone::of(alloc, zone));
+    Ok(Some(records))
 }
 
 /// What is cached of a zone that was found: a copy of it, as far as there is memory.
@@ -162,9 +198,32 @@ pub(crate) fn cached_zone<S: Alter>(
         check_open(conn)?;
         return Ok(Some(zone));
     }
+    *cache = None;
     let found = zone_at(alloc, conn, origin)?;
     *cache = cached_of(alloc, &found);
     Ok(found)
+}
+
+/// The records of a zone within a name, in record order, where there is the zone: those of the cached zone, or else those of the
+/// rows, which are not cached.
+pub(crate) fn cached_subtree<S: Alter>(
+    alloc: Global,
+    conn: &mut Connection<S>,
+    cache: &mut Option<CachedZone>,
+    origin: &Name,
+    top: &Name,
+) -> Result<Option<Vec<Record>>, StoreFault>
+    requires fits { FitsCache (state S.Store conn.old) (cached_in cache.old) }
+    ensures answer { HasCleanDisk (state S.Store conn.new) → IfOk result (λ records. (s : State) → HoldsState (state S.Store conn.old) s → option_map (λ rs. rs.items) records ≡ subtree_at s origin.now top.now) }
+    ensures order { IfOk result (λ records. IfSome records (λ rs. InOrder rs.items)) }
+    ensures asks { AsksOnly (state S.Store conn.old) (state S.Store conn.new) result }
+    ensures fits { FitsCache (state S.Store conn.new) (cached_in cache.new) }
+{
+    if let Some(records) = cached_within(alloc, cache, origin, top)? {
+        check_open(conn)?;
+        return Ok(Some(records));
+    }
+    subtree_at(alloc, conn, origin, top)
 }
 
 /// What is cached behind an addition: a change of the cached zone waits, and any other leaves it.

@@ -1,6 +1,7 @@
 //! Parts of the state that a connection holds.
 
 ghost use Rattle.std.specs.Prelude.{◌≡◌, false, map, option_map, IfOk, IfErr, IfSome, OnOk};
+ghost use Rattle.zone_core.specs.Sets.{InOrder};
 ghost use Rattle.zone_core.specs.Changes.{change_in};
 ghost use Rattle.sqlite.specs.Held.{state};
 ghost use Rattle.sqlite.specs.State.{HasCleanDisk};
@@ -66,6 +67,7 @@ pub(crate) fn subtree_at<S: Alter>(
     top: &Name,
 ) -> Result<Option<Vec<Record>>, StoreFault>
     ensures answer { HasCleanDisk (state S.Store conn.new) → IfOk result (λ records. (s : State) → HoldsState (state S.Store conn.old) s → option_map (λ rs. rs.items) records ≡ subtree_at s origin.now top.now) }
+    ensures order { IfOk result (λ records. IfSome records (λ rs. InOrder rs.items)) }
     ensures asks { AsksOnly (state S.Store conn.old) (state S.Store conn.new) result }
 {
     let Some(rows) = subtree_rows(alloc, conn, origin, top)? else {

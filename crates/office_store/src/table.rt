@@ -18,10 +18,10 @@ ghost use Rattle.office_store.specs.Queries.{Asked, AsksOnly, Only};
 ghost use Rattle.office_store.specs.Turns.{Turns};
 ghost use Rattle.office_store.specs.Zones.{exported, if_free, if_later, imported, replaced, with_imported, with_replaced};
 
-use crate::cache::{CachedZone, cached_zone, commit_cached};
+use crate::cache::{CachedZone, cached_subtree, cached_zone, commit_cached};
 use crate::migration::migrate;
 use crate::opening::{Refused, check_state, make};
-use crate::reads::{changes_at, part_at, receipt_at, subtree_at};
+use crate::reads::{changes_at, part_at, receipt_at};
 use crate::zones::{export, import, put_zone, replace, take_place};
 use dns_data::Record;
 use dns_names::Name;
@@ -356,7 +356,7 @@ impl<S: Alter + Drop, L: Ledger> ZoneTable for SqlTable<S, L> {
         origin: &Name,
         top: &Name,
     ) -> Result<Option<Vec<Record>>, TableFault> {
-        match subtree_at(alloc, &mut self.conn, origin, top) {
+        match cached_subtree(alloc, &mut self.conn, &mut self.cache, origin, top) {
             Ok(records) => Ok(records),
             Err(fault) => {
                 self.cache = None;

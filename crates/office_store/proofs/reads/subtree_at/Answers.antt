@@ -3,6 +3,7 @@ use Rattle.zone_core.specs.Sets.{listing, part, within}
 use Rattle.office_core.specs.States.{zone_held, zone_at}
 use Rattle.dns_names.specs.Spelling.{name_text}
 use Rattle.office_rows.specs.PartRows.{rows_within}
+use Rattle.office_store.proofs.MigratedZoneLemmas.{order_from}
 use Rattle.office_store.proofs.reads.subtree_at.Goals as goal
 
 pub returns-in_default-clause-answer : goal.returns-in_default-clause-answer
@@ -20,3 +21,6 @@ returns-clause-answer g c =
     let told : Ok (listing (part zone.records (within top))) ≡ Ok c.in_ok-records.records.items = c.in_ok-records.ensures.held (pos 2) f.0 s o top zone f.1 there rows in
     let same : listing (part zone.records (within top)) ≡ c.in_ok-records.records.items = cc in
     sym (ap (option_map (λ z. listing (part z.records (within top)))) there ∙ ap (λ rs. Some rs) same)
+
+pub returns-clause-order : goal.returns-clause-order
+returns-clause-order g c = order_from c.in_ok-records.records.items c.in_ok-records.ensures.found.3
