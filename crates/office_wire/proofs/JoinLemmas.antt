@@ -74,10 +74,11 @@ module _ (rules : List Rule) (c : Mark) where
   pub three : (a b e : List Turn) (m d : Mark) → Leads rules c a m → Leads rules m (b ++ e) d → Leads rules c ((a ++ b) ++ e) d
   three a b e m d p q = subst (λ (l : List Turn). Leads rules c l d) (sym (append_assoc a b e)) (leads_join rules c m d a (b ++ e) p q)
 
-  -- ---- one turn of the loop
-
+  -- nothing is answered yet
   pub none_served : (rest : List ℕ) (a : Moment) → IsCurrent rules c rest rest a a c
   none_served rest a = ([], (refl, refl), record { octets_are = refl; are_open = tt }, Writes-nil a)
+
+  -- ---- one turn of the loop
 
   pub next_served : (d e : Mark) (n : ℕ) (stream rest pending left out text : List ℕ) (before mid after : Moment) → pending ≡ rest → left ≡ drop n rest → text ≡ out
       → IsCurrent rules c stream rest before mid d → IsProgress rules d pending (Next n) out e → Writes mid after text → IsCurrent rules c stream left before after e

@@ -143,7 +143,7 @@ one_written a b piece follows = (piece ∷ [], follows, append-nil piece)
 
 -- a prefix of the text was written, and this is left of it
 abbrev pub IsLeft : Moment → Moment → List ℕ → List ℕ → Type 0
-IsLeft old new text rest = (front : List ℕ) × (text ≡ front ++ rest) × Writes old new front
+IsLeft old new text rest = (part : List ℕ) × (text ≡ part ++ rest) × Writes old new part
 
 pub left_whole : (a : Moment) (text : List ℕ) → IsLeft a a text text
 left_whole a text = ([], refl, Writes-nil a)
