@@ -3,7 +3,7 @@
 ghost use Rattle.std.specs.Prelude.{◌≡◌, ◌⊎◌, Some, None, IfOk, IfSome, option_map};
 ghost use Rattle.sqlite.specs.Held.{state};
 ghost use Rattle.sqlite.specs.State.{HasCleanDisk};
-ghost use Rattle.zone_core.specs.Sets.{InOrder};
+ghost use Rattle.zone_core.specs.Sets.{InOrder, listing, part, within};
 ghost use Rattle.zone_core.specs.Changes.{change_in};
 ghost use Rattle.office_core.specs.States.{State, subtree_at, zone_at};
 ghost use Rattle.office_core.specs.Tables.{Fits, addition_in, committed};
@@ -204,12 +204,88 @@ pub(crate) fn cached_zone<S: Alter>(
     Ok(found)
 }
 
-/// The records of a zone within a name, in record order, where there is the zone: those of the cached zone, or else those of the
-/// rows, which are not cached.
+/// Copies of a zone's records within a name, in record order, where there is the zone. The only error is out of memory.
+fn within_zone(
+    alloc: Global,
+    zone: Option<Zone>,
+    top: &Name,
+) -> Result<Option<Vec<Record>>, AllocError>
+    ensures value { IfOk result (λ found. option_map (λ rs. rs.items) found ≡ option_map (λ z. listing (part z.records (within top.now))) zone) }
+    ensures order { IfOk result (λ found. IfSome found (λ rs. InOrder rs.items)) }
+{
+    match zone {
+        None => Ok(None),
+        Some(zone) => Ok(Some(copied_within(alloc, &zone, top)?)),
+    }
+}
+
+/// The records of a zone within a name, in record order, where there is the zone, by all of the zone, which is cached then.
+fn subtree_of_zone<S: Alter>(
+    alloc: Global,
+    conn: &mut Connection<S>,
+    cache: &mut Option<CachedZone>,
+    origin: &Name,
+    top: &Name,
+) -> Result<Option<Vec<Record>>, StoreFault>
+    requires fits { FitsCache (state S.Store conn.old) (cached_in cache.old) }
+    ensures answer { HasCleanDisk (state S.Store conn.new) → IfOk result (λ records. (s : State) → HoldsState (state S.Store conn.old) s → option_map (λ rs. rs.items) records ≡ subtree_at s origin.now top.now) }
+    ensures order { IfOk result (λ records. IfSome records (λ rs. InOrder rs.items)) }
+    ensures asks { AsksOnly (state S.Store conn.old) (state S.Store conn.new) result }
+    ensures fits { FitsCache (state S.Store conn.new) (cached_in cache.new) }
+{
+    let zone = cached_zone(alloc, conn, cache, origin)?;
+    let records = within_zone(alloc, zone, top)?;
+    Ok(records)
+}
+
+/// By what a subtree of a zone that is not cached is read.
+#[derive(Clone, Copy)]
+pub(crate) enum SubtreeRead {
+    /// By its rows, and nothing is cached.
+    Rows,
+    /// By all of the zone, which is cached then.
+    Zone,
+}
+
+/// How many records a subtree has at least behind which the next one is read by its zone.
+const MANY_RECORDS: usize = 256;
+
+/// By what the next subtree is read behind this one: who asks for many records is likely to ask again.
+fn next_read(found: &Option<Vec<Record>>) -> SubtreeRead {
+    match found {
+        Some(records) if records.len() >= MANY_RECORDS => SubtreeRead::Zone,
+        _ => SubtreeRead::Rows,
+    }
+}
+
+/// The records of a zone within a name, in record order, where there is the zone, if the zone is not cached.
+fn read_subtree<S: Alter>(
+    alloc: Global,
+    conn: &mut Connection<S>,
+    cache: &mut Option<CachedZone>,
+    read: SubtreeRead,
+    origin: &Name,
+    top: &Name,
+) -> Result<Option<Vec<Record>>, StoreFault>
+    requires fits { FitsCache (state S.Store conn.old) (cached_in cache.old) }
+    ensures answer { HasCleanDisk (state S.Store conn.new) → IfOk result (λ records. (s : State) → HoldsState (state S.Store conn.old) s → option_map (λ rs. rs.items) records ≡ subtree_at s origin.now top.now) }
+    ensures order { IfOk result (λ records. IfSome records (λ rs. InOrder rs.items)) }
+    ensures asks { AsksOnly (state S.Store conn.old) (state S.Store conn.new) result }
+    ensures fits { FitsCache (state S.Store conn.new) (cached_in cache.new) }
+{
+    match read {
+        SubtreeRead::Rows => subtree_at(alloc, conn, origin, top),
+        SubtreeRead::Zone => subtree_of_zone(alloc, conn, cache, origin, top),
+    }
+}
+
+/// The records of a zone within a name, in record order, where there is the zone: those of the cached zone, or else those that are
+/// read, and then by what the next ones are.
 pub(crate) fn cached_subtree<S: Alter>(
     alloc: Global,
     conn: &mut Connection<S>,
     cache: &mut Option<CachedZone>,
+    read: &mut SubtreeRead,
     origin: &Name,
     top: &Name,
 ) -> Result<Option<Vec<Record>>, StoreFault>
@@ -223,7 +299,9 @@ pub(crate) fn cached_subtree<S: Alter>(
         check_open(conn)?;
         return Ok(Some(records));
     }
-    subtree_at(alloc, conn, origin, top)
+    let found = read_subtree(alloc, conn, cache, *read, origin, top)?;
+    *read = next_read(&found);
+    Ok(found)
 }
 
 /// What is cached behind an addition: a change of the cached zone waits, and any other leaves it.

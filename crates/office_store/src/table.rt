@@ -18,7 +18,7 @@ ghost use Rattle.office_store.specs.Queries.{Asked, AsksOnly, Only};
 ghost use Rattle.office_store.specs.Turns.{Turns};
 ghost use Rattle.office_store.specs.Zones.{exported, if_free, if_later, imported, replaced, with_imported, with_replaced};
 
-use crate::cache::{CachedZone, cached_subtree, cached_zone, commit_cached};
+use crate::cache::{CachedZone, SubtreeRead, cached_subtree, cached_zone, commit_cached};
 use crate::migration::migrate;
 use crate::opening::{Refused, check_state, make};
 use crate::reads::{changes_at, part_at, receipt_at};
@@ -42,6 +42,7 @@ pub struct SqlTable<S: Alter + Drop, L: Ledger> {
     book: Book<L>,
     share: Share<L>,
     cache: Option<CachedZone>,
+    subtree_read: SubtreeRead,
     fault: Option<StoreFault>,
     ghost counts: { 0 < share.parts },
     ghost fits: { FitsCache (state S.Store conn) (cached_in cache) },
@@ -91,6 +92,7 @@ impl<S: Alter + Drop, L: Ledger> SqlTable<S, L> {
             book,
             share,
             cache: None,
+            subtree_read: SubtreeRead::Rows,
             fault: None,
         }
     }
@@ -356,7 +358,14 @@ impl<S: Alter + Drop, L: Ledger> ZoneTable for SqlTable<S, L> {
         origin: &Name,
         top: &Name,
     ) -> Result<Option<Vec<Record>>, TableFault> {
-        match cached_subtree(alloc, &mut self.conn, &mut self.cache, origin, top) {
+        match cached_subtree(
+            alloc,
+            &mut self.conn,
+            &mut self.cache,
+            &mut self.subtree_read,
+            origin,
+            top,
+        ) {
             Ok(records) => Ok(records),
             Err(fault) => {
                 self.cache = None;
