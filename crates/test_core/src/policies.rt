@@ -1,6 +1,8 @@
+mod idle;
 mod row_fault;
 mod rules;
 
+use crate::policies::idle::idle;
 use crate::policies::row_fault::Fault;
 use dns_data::RecordType;
 use dns_names::Name;
@@ -34,6 +36,7 @@ impl Policies {
             "build" => self.keep(alloc, Policy::build(alloc, rules::rules(alloc, &row.body)?)),
             "decide" => decision(alloc, self.policy()?, row),
             "rights" => rights(alloc, self.policy()?, first, rest),
+            "idle" => idle(alloc, self.policy()?),
             "covers" => covering(alloc, first, rest),
             "identifier" => identifier(alloc, &row.text),
             "identifiers" => identifiers(alloc, first, rest),

@@ -1,6 +1,7 @@
 //! Answers to rows, and rows of one zone.
 
 mod delegations;
+mod differences;
 mod lines;
 mod parsed_rows;
 mod refusal;
@@ -8,6 +9,7 @@ mod serials;
 mod updates;
 
 use crate::zones::delegations::{push_count, push_delegation, push_report};
+use crate::zones::differences::push_difference;
 use crate::zones::lines::{push, push_name, push_records};
 use crate::zones::parsed_rows::{name, record_type};
 use crate::zones::refusal::Refusal;
@@ -48,22 +50,40 @@ impl Zones {
         row: &Row<'_>,
         answer: &mut Vec<u8>,
     ) -> Result<(), Refusal> {
-        match (row.verb, &self.zone) {
-            ("zone", _) => {
-                let zone = built(alloc, row)?;
-                let count = zone.records().len();
-                self.zone = Some(zone);
-                push(format!(in alloc; "records: {count}")?.as_str(), answer)
-            }
-            ("tells", Some(zone)) => push_told(alloc, zone, answer),
-            ("at" | "set" | "within", Some(zone)) => push_listed(alloc, zone, row, answer),
-            ("report", Some(zone)) => push_report(alloc, zone, answer),
-            ("holds", Some(zone)) => push_verdict(alloc, zone, &row.body, answer),
-            ("change", Some(zone)) => push_change(alloc, zone, &row.body, answer),
-            ("after", Some(zone)) => push_after(alloc, zone, &row.body, answer),
-            ("serial-after", Some(zone)) => push_serial_after(alloc, zone, &row.body, answer),
-            _ => answer_without_zone(alloc, row, answer),
+        if row.verb == "zone" {
+            return self.keep(alloc, row, answer);
         }
+        match &self.zone {
+            Some(zone) => answer_of_zone(alloc, zone, row, answer),
+            None => answer_without_zone(alloc, row, answer),
+        }
+    }
+
+    /// Keeps the zone of a row, and appends how many records it has.
+    fn keep(&mut self, alloc: Global, row: &Row<'_>, answer: &mut Vec<u8>) -> Result<(), Refusal> {
+        let zone = built(alloc, row)?;
+        let count = zone.records().len();
+        self.zone = Some(zone);
+        push(format!(in alloc; "records: {count}")?.as_str(), answer)
+    }
+}
+
+fn answer_of_zone(
+    alloc: Global,
+    zone: &Zone,
+    row: &Row<'_>,
+    answer: &mut Vec<u8>,
+) -> Result<(), Refusal> {
+    match row.verb {
+        "tells" => push_told(alloc, zone, answer),
+        "at" | "set" | "within" => push_listed(alloc, zone, row, answer),
+        "report" => push_report(alloc, zone, answer),
+        "holds" => push_verdict(alloc, zone, &row.body, answer),
+        "change" => push_change(alloc, zone, &row.body, answer),
+        "after" => push_after(alloc, zone, &row.body, answer),
+        "serial-after" => push_serial_after(alloc, zone, &row.body, answer),
+        "to" => push_difference(alloc, zone, &built(alloc, row)?, answer),
+        _ => answer_without_zone(alloc, row, answer),
     }
 }
 

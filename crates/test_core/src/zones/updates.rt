@@ -76,14 +76,24 @@ pub fn push_after(
     }
 }
 
-/// Appends the serial of the zone after an update.
+/// Appends the serial of the zone after the update of some items.
 pub fn push_serial_after(
     alloc: Global,
     zone: &Zone,
     items: &[u8],
     answer: &mut Vec<u8>,
 ) -> Result<(), Refusal> {
-    match applied(alloc, zone, &update(alloc, items)?)? {
+    push_serial(alloc, zone, &update(alloc, items)?, answer)
+}
+
+/// Appends the serial of the zone after an update.
+pub fn push_serial(
+    alloc: Global,
+    zone: &Zone,
+    update: &Update,
+    answer: &mut Vec<u8>,
+) -> Result<(), Refusal> {
+    match applied(alloc, zone, update)? {
         Some(outcome) => {
             let serial = outcome.zone.serial();
             push(format!(in alloc; "{serial}")?.as_str(), answer)

@@ -1,0 +1,36 @@
+//! Rules that never decide.
+
+use crate::policies::row_fault::Fault;
+use grant_policy::{Policy, idle_rules};
+use std::alloc::{AllocError, Global};
+
+/// The idle rules of a policy, each with those that take its questions behind a colon, by their ids.
+pub fn idle(alloc: Global, policy: &Policy) -> Result<String, Fault> {
+    let mut text = String::new(alloc);
+    for idle in idle_rules(alloc, policy)? {
+        if !text.is_empty() {
+            text.push_str("; ")?;
+        }
+        text.push_str(id(policy, idle.rule))?;
+        text.push_str(":")?;
+        push_takers(policy, &idle.takers, &mut text)?;
+    }
+    if text.is_empty() {
+        text.push_str("none")?;
+    }
+    Ok(text)
+}
+
+fn push_takers(policy: &Policy, takers: &[usize], text: &mut String) -> Result<(), AllocError> {
+    for taker in takers {
+        text.push_str(" ")?;
+        text.push_str(id(policy, *taker))?;
+    }
+    Ok(())
+}
+
+fn id(policy: &Policy, rule: usize) -> &str {
+    policy.rules().get(rule).map_or("no rule", |rule| {
+        str::from_utf8(rule.id.as_bytes()).unwrap_or("octets outside ASCII")
+    })
+}

@@ -1,0 +1,24 @@
+//! What leads from one zone to another.
+
+use crate::zones::lines::push;
+use crate::zones::refusal::Refusal;
+use crate::zones::updates::push_serial;
+use item_lines::items_text;
+use std::alloc::Global;
+use zone_core::{Update, Zone, operations_between};
+
+/// Appends the operations from one zone to another, as item lines, and the serial of the one after them.
+pub fn push_difference(
+    alloc: Global,
+    old: &Zone,
+    new: &Zone,
+    answer: &mut Vec<u8>,
+) -> Result<(), Refusal> {
+    if new.origin() != old.origin() {
+        return push("another origin", answer);
+    }
+    let update = Update::build(Vec::new(alloc), operations_between(alloc, old, new)?)?;
+    push(items_text(alloc, &update)?.as_str(), answer)?;
+    push("serial ", answer)?;
+    push_serial(alloc, old, &update, answer)
+}
