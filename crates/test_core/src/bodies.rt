@@ -25,11 +25,14 @@ fn answer_to(alloc: Global, row: &Row<'_>, answer: &mut Vec<u8>) -> Result<(), B
         "delegation-size" => push_size(alloc, &delegation(alloc, row)?, answer),
         "refusals" => push_refusals(row, answer),
         "no-memory" => Err(BodyFault::NoMemory),
-        _ => match reply_of(alloc, row)? {
-            Some(reply) => Ok(reply_text(&reply, answer)?),
-            None => Ok(answer.extend_from_slice(b"no such verb")?),
-        },
+        _ => push_reply(alloc, row, answer),
     }
+}
+
+/// Appends the body of the reply of a row.
+fn push_reply(alloc: Global, row: &Row<'_>, answer: &mut Vec<u8>) -> Result<(), BodyFault> {
+    let reply = reply_of(alloc, row)?;
+    Ok(reply_text(&reply, answer)?)
 }
 
 fn push_fault(alloc: Global, fault: &BodyFault, answer: &mut Vec<u8>) -> Result<(), AllocError> {
@@ -47,14 +50,17 @@ fn delegation(alloc: Global, row: &Row<'_>) -> Result<UpdateBody, BodyFault> {
 fn push_body(alloc: Global, body: &UpdateBody, answer: &mut Vec<u8>) -> Result<(), BodyFault> {
     answer.extend_from_slice(body.id.as_bytes())?;
     for test in body.update.prerequisites() {
-        answer.push(b'\n')?;
-        answer.extend_from_slice(prerequisite_words(alloc, test)?.as_bytes())?;
+        push_line(prerequisite_words(alloc, test)?.as_str(), answer)?;
     }
     for change in body.update.operations() {
-        answer.push(b'\n')?;
-        answer.extend_from_slice(operation_words(alloc, change)?.as_bytes())?;
+        push_line(operation_words(alloc, change)?.as_str(), answer)?;
     }
     Ok(())
+}
+
+fn push_line(text: &str, answer: &mut Vec<u8>) -> Result<(), AllocError> {
+    answer.push(b'\n')?;
+    answer.extend_from_slice(text.as_bytes())
 }
 
 /// Appends the identifier, and how many items there are.

@@ -11,7 +11,7 @@ use grant_policy::{
     read_policy,
 };
 use std::alloc::{AllocError, Global};
-use test_rows::{Answers, Row};
+use test_rows::{Answers, Row, word};
 
 /// Answers to rows of policies, with the policy that is kept.
 #[derive(Drop)]
@@ -28,44 +28,64 @@ impl Policies {
     fn answer_to(&mut self, alloc: Global, row: &Row<'_>) -> Result<String, Fault> {
         let (first, rest) = row.split();
         match row.verb {
-            "policy" => self.keep(alloc, read_policy(alloc, &row.body)),
-            "many" => self.keep(
-                alloc,
-                read_policy(alloc, &numbered(alloc, &row.body, first)?),
-            ),
-            "build" => self.keep(alloc, Policy::build(alloc, rules::rules(alloc, &row.body)?)),
-            "decide" => decision(alloc, self.policy()?, row),
-            "rights" => rights(alloc, self.policy()?, first, rest),
-            "idle" => idle(alloc, self.policy()?),
+            "policy" | "many" | "build" => self.keep(alloc, row),
+            "decide" | "rights" | "idle" => answer_of(alloc, self.policy()?, row),
             "covers" => covering(alloc, first, rest),
             "identifier" => identifier(alloc, &row.text),
             "identifiers" => identifiers(alloc, first, rest),
-            "effect" => told(
-                alloc,
-                Effect::read(&row.text).map_or("none", |effect| effect.text()),
-            ),
-            "scope" => told(
-                alloc,
-                Scope::read(&row.text).map_or("none", |scope| scope.text()),
-            ),
-            "action" => told(
-                alloc,
-                Action::read(&row.text).map_or("none", |action| action.text()),
-            ),
+            "effect" | "scope" | "action" => told(alloc, word_text(row.verb, &row.text)),
             "no-memory" => Err(Fault::Policy(PolicyFault::NoMemory)),
             _ => told(alloc, "no such verb"),
         }
     }
 
-    /// Keeps a policy, or none where it is refused.
-    fn keep(&mut self, alloc: Global, read: Result<Policy, PolicyFault>) -> Result<String, Fault> {
+    /// Keeps the policy of a row, or none where it is refused.
+    fn keep(&mut self, alloc: Global, row: &Row<'_>) -> Result<String, Fault> {
         self.kept = None;
-        self.kept = Some(read?);
+        self.kept = Some(policy_of(alloc, row)?);
         told(alloc, "read")
     }
 
     fn policy(&self) -> Result<&Policy, Fault> {
         self.kept.as_ref().ok_or(Fault::NoPolicy)
+    }
+}
+
+/// The policy of a row.
+fn policy_of(alloc: Global, row: &Row<'_>) -> Result<Policy, Fault> {
+    match row.verb {
+        "many" => numbered_policy(alloc, row),
+        "build" => built_policy(alloc, row),
+        _ => Ok(read_policy(alloc, &row.body)?),
+    }
+}
+
+fn numbered_policy(alloc: Global, row: &Row<'_>) -> Result<Policy, Fault> {
+    let text = numbered(alloc, &row.body, row.split().0)?;
+    Ok(read_policy(alloc, &text)?)
+}
+
+fn built_policy(alloc: Global, row: &Row<'_>) -> Result<Policy, Fault> {
+    let rules = rules::rules(alloc, &row.body)?;
+    Ok(Policy::build(alloc, rules)?)
+}
+
+/// What a row asks of a policy.
+fn answer_of(alloc: Global, policy: &Policy, row: &Row<'_>) -> Result<String, Fault> {
+    let (first, rest) = row.split();
+    match row.verb {
+        "decide" => decision(alloc, policy, first, rest),
+        "rights" => rights(alloc, policy, first, rest),
+        _ => idle(alloc, policy),
+    }
+}
+
+/// The text of a word that is read as an effect, a scope or an action.
+fn word_text(verb: &str, text: &[u8]) -> &'static str {
+    match verb {
+        "effect" => Effect::read(text).map_or("none", |effect| effect.text()),
+        "scope" => Scope::read(text).map_or("none", |scope| scope.text()),
+        _ => Action::read(text).map_or("none", |action| action.text()),
     }
 }
 
@@ -90,33 +110,62 @@ fn told(alloc: Global, text: &str) -> Result<String, Fault> {
 
 /// A text so many times, where `#` stands for the number of each time, from 0.
 fn numbered(alloc: Global, text: &[u8], times: &[u8]) -> Result<Vec<u8>, AllocError> {
-    let times = str::from_utf8(times)
-        .ok()
-        .and_then(|text| text.parse::<usize>().ok());
     let mut all = Vec::new(alloc);
-    for number in 0..times.unwrap_or(0) {
-        let number = format!(in alloc; "{number}")?;
-        for octet in text {
-            match *octet {
-                b'#' => all.extend_from_slice(number.as_bytes())?,
-                other => all.push(other)?,
-            }
-        }
+    for number in 0..times_of(times).unwrap_or(0) {
+        push_numbered(alloc, text, number, &mut all)?;
     }
     Ok(all)
 }
 
-fn decision(alloc: Global, policy: &Policy, row: &Row<'_>) -> Result<String, Fault> {
-    let words = row.words(alloc)?;
-    let [caller, name, record_type, action] = words.as_slice() else {
-        return Err(Fault::Word);
-    };
+fn times_of(digits: &[u8]) -> Option<usize> {
+    str::from_utf8(digits).ok()?.parse().ok()
+}
+
+fn push_numbered(
+    alloc: Global,
+    text: &[u8],
+    number: usize,
+    all: &mut Vec<u8>,
+) -> Result<(), AllocError> {
+    let number = format!(in alloc; "{number}")?;
+    for octet in text {
+        push_octet(*octet, number.as_bytes(), all)?;
+    }
+    Ok(())
+}
+
+fn push_octet(octet: u8, number: &[u8], all: &mut Vec<u8>) -> Result<(), AllocError> {
+    match octet {
+        b'#' => all.extend_from_slice(number),
+        other => Ok(all.push(other)?),
+    }
+}
+
+/// The decision on what `CALLER NAME TYPE ACTION` asks.
+fn decision(alloc: Global, policy: &Policy, caller: &[u8], rest: &[u8]) -> Result<String, Fault> {
     let caller = Identifier::read(alloc, caller)?;
-    let name = Name::read_absolute(alloc, name)?;
+    let (name, rest) = word(rest);
+    decision_for(
+        alloc,
+        policy,
+        &caller,
+        &Name::read_absolute(alloc, name)?,
+        rest,
+    )
+}
+
+fn decision_for(
+    alloc: Global,
+    policy: &Policy,
+    caller: &Identifier,
+    name: &Name,
+    rest: &[u8],
+) -> Result<String, Fault> {
+    let (record_type, action) = word(rest);
     let record_type = RecordType::read(record_type)?;
     let action = Action::read(action).ok_or(Fault::Word)?;
     let mut look_ups = LookUps::new();
-    let decision = decide(policy, &caller, &name, record_type, action, &mut look_ups);
+    let decision = decide(policy, caller, name, record_type, action, &mut look_ups);
     let verdict = if decision.is_granted() {
         "granted"
     } else {
@@ -128,33 +177,41 @@ fn decision(alloc: Global, policy: &Policy, row: &Row<'_>) -> Result<String, Fau
 
 fn rights(alloc: Global, policy: &Policy, caller: &[u8], name: &[u8]) -> Result<String, Fault> {
     let caller = Identifier::read(alloc, caller)?;
-    let name = Name::read_absolute(alloc, name)?;
-    let has_some = has_any_right(policy, &caller, &name);
+    let has_some = has_any_right(policy, &caller, &Name::read_absolute(alloc, name)?);
     told(alloc, if has_some { "some" } else { "none" })
 }
 
 fn covering(alloc: Global, at: &[u8], name: &[u8]) -> Result<String, Fault> {
     let at = Name::read_absolute(alloc, at)?;
-    let name = Name::read_absolute(alloc, name)?;
-    let itself = covers(Scope::Name, &at, &name);
-    let subtree = covers(Scope::Subtree, &at, &name);
-    let below = covers(Scope::Below, &at, &name);
-    Ok(format!(in alloc; "name {itself}, subtree {subtree}, below {below}")?)
+    Ok(covering_text(alloc, &at, &Name::read_absolute(alloc, name)?)?)
+}
+
+fn covering_text(alloc: Global, at: &Name, name: &Name) -> Result<String, AllocError> {
+    let itself = covers(Scope::Name, at, name);
+    let subtree = covers(Scope::Subtree, at, name);
+    let below = covers(Scope::Below, at, name);
+    format!(in alloc; "name {itself}, subtree {subtree}, below {below}")
 }
 
 /// The text of an identifier, whose copy has to be equal.
 fn identifier(alloc: Global, text: &[u8]) -> Result<String, Fault> {
-    let identifier = Identifier::read(alloc, text)?;
+    copied(alloc, &Identifier::read(alloc, text)?)
+}
+
+fn copied(alloc: Global, identifier: &Identifier) -> Result<String, Fault> {
     let copy = identifier.try_copy(alloc)?;
-    if copy != identifier {
-        return told(alloc, "another than its copy");
+    if copy == *identifier {
+        told(
+            alloc,
+            str::from_utf8(copy.as_bytes()).unwrap_or("octets outside ASCII"),
+        )
+    } else {
+        told(alloc, "another than its copy")
     }
-    let text = str::from_utf8(copy.as_bytes()).unwrap_or("octets outside ASCII");
-    told(alloc, text)
 }
 
 fn identifiers(alloc: Global, one: &[u8], other: &[u8]) -> Result<String, Fault> {
     let one = Identifier::read(alloc, one)?;
-    let other = Identifier::read(alloc, other)?;
-    told(alloc, if one == other { "same" } else { "different" })
+    let is_same = one == Identifier::read(alloc, other)?;
+    told(alloc, if is_same { "same" } else { "different" })
 }

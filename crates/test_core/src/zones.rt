@@ -10,15 +10,15 @@ mod updates;
 
 use crate::zones::delegations::{push_count, push_delegation, push_report};
 use crate::zones::differences::push_difference;
-use crate::zones::lines::{push, push_name, push_records};
-use crate::zones::parsed_rows::{name, record_type};
+use crate::zones::lines::{push, push_name, push_number, push_records};
+use crate::zones::parsed_rows::{file, name, record_type};
 use crate::zones::refusal::Refusal;
 use crate::zones::serials::{push_less, push_sum};
 use crate::zones::updates::{
     push_after, push_change, push_outside, push_same, push_serial_after, push_update, push_verdict,
 };
-use dns_data::record_line;
-use dns_master::read_file;
+use dns_data::{Record, record_line};
+use dns_names::Name;
 use std::alloc::{AllocError, Global};
 use test_rows::{Answers, Row};
 use zone_core::{DelegationFault, Zone, ZoneFault};
@@ -107,7 +107,7 @@ fn answer_without_zone(alloc: Global, row: &Row<'_>, answer: &mut Vec<u8>) -> Re
 /// The zone of a row's origin and record lines.
 fn built(alloc: Global, row: &Row<'_>) -> Result<Zone, Refusal> {
     let origin = name(alloc, &row.text)?;
-    let records = read_file(alloc, &row.body, &origin)?;
+    let records = file(alloc, &row.body, &origin)?;
     Ok(Zone::build(alloc, origin, records)?)
 }
 
@@ -115,16 +115,16 @@ fn built(alloc: Global, row: &Row<'_>) -> Result<Zone, Refusal> {
 fn push_told(alloc: Global, zone: &Zone, answer: &mut Vec<u8>) -> Result<(), Refusal> {
     push("origin ", answer)?;
     push_name(alloc, zone.origin(), answer)?;
-    push(
-        format!(in alloc; "\nserial {}\n", zone.serial())?.as_str(),
-        answer,
-    )?;
+    push("\nserial ", answer)?;
+    push_number(alloc, zone.serial(), answer)?;
+    push("\n", answer)?;
     push(record_line(alloc, zone.soa())?.as_str(), answer)?;
-    let count = zone.try_copy(alloc)?.records().len();
-    push(
-        format!(in alloc; "\nrecords in a copy: {count}")?.as_str(),
-        answer,
-    )
+    push_copied(alloc, zone.try_copy(alloc)?.records().len(), answer)
+}
+
+fn push_copied(alloc: Global, count: usize, answer: &mut Vec<u8>) -> Result<(), Refusal> {
+    let text = format!(in alloc; "\nrecords in a copy: {count}")?;
+    push(text.as_str(), answer)
 }
 
 /// Appends the records of a zone at a name, of a set, or within a name.
@@ -135,11 +135,22 @@ fn push_listed(
     answer: &mut Vec<u8>,
 ) -> Result<(), Refusal> {
     let (first, rest) = row.split();
-    let name = name(alloc, first)?;
-    let records = match row.verb {
-        "at" => zone.records_at(&name),
-        "set" => zone.rrset(&name, record_type(rest)?),
-        _ => zone.records_within(&name),
-    };
-    push_records(alloc, records, answer)
+    push_records(
+        alloc,
+        listed(zone, row.verb, &name(alloc, first)?, rest)?,
+        answer,
+    )
+}
+
+fn listed<'a>(
+    zone: &'a Zone,
+    verb: &str,
+    name: &Name,
+    rest: &[u8],
+) -> Result<&'a [Record], Refusal> {
+    match verb {
+        "at" => Ok(zone.records_at(name)),
+        "set" => Ok(zone.rrset(name, record_type(rest)?)),
+        _ => Ok(zone.records_within(name)),
+    }
 }

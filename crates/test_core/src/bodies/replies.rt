@@ -5,31 +5,40 @@ use dns_names::Name;
 use grant_policy::Identifier;
 use office_core::{NumberedChange, Reply, Right, StepFault, TableFault, UpdateReply};
 use office_json::{BodyFault, form_error_text, read_update, refusal_text};
-use std::alloc::Global;
+use std::alloc::{AllocError, Global};
 use test_rows::Row;
 use zone_core::{
     Change, DelegatedServer, Delegation, Failed, Glue, ItemList, Operation, Place, PrerequisiteCode,
 };
 
-/// The reply of a row, or none where its verb is that of no reply.
-pub fn reply_of(alloc: Global, row: &Row<'_>) -> Result<Option<Reply>, BodyFault> {
-    Ok(Some(match row.verb {
-        "reply" => Reply::Update(update_reply(alloc, text_of(&row.text)?)?),
-        "id-reused" => Reply::IdReused,
-        "servfail" => Reply::Servfail(StepFault::Commit(TableFault::Store)),
-        "not-auth" => Reply::NotAuth,
-        "not-zone" => Reply::NotZone,
-        "granted" => Reply::Right(Right::Granted(Identifier::read(alloc, &row.text)?)),
-        "denied" => Reply::Right(Right::Denied(rule(alloc, text_of(&row.text)?)?)),
-        "records" => Reply::Records(records(alloc, &row.body)?),
-        "file" => Reply::File {
-            origin: Name::read_absolute(alloc, &row.text)?,
-            records: records(alloc, &row.body)?,
-        },
-        "changes" => Reply::Changes(changes(alloc, text_of(&row.body)?)?),
-        "delegations" => Reply::Delegations(delegations(alloc, text_of(&row.body)?)?),
-        _ => return Ok(None),
-    }))
+/// The reply of a row.
+pub fn reply_of(alloc: Global, row: &Row<'_>) -> Result<Reply, BodyFault> {
+    match row.verb {
+        "reply" => Ok(Reply::Update(update_reply(alloc, text_of(&row.text)?)?)),
+        "id-reused" => Ok(Reply::IdReused),
+        "servfail" => Ok(Reply::Servfail(StepFault::Commit(TableFault::Store))),
+        "not-auth" => Ok(Reply::NotAuth),
+        "not-zone" => Ok(Reply::NotZone),
+        "granted" | "denied" => Ok(Reply::Right(right(alloc, row)?)),
+        "records" => Ok(Reply::Records(records(alloc, &row.body)?)),
+        "file" => file(alloc, row),
+        "changes" => Ok(Reply::Changes(changes(alloc, text_of(&row.body)?)?)),
+        "delegations" => Ok(Reply::Delegations(delegations(alloc, text_of(&row.body)?)?)),
+        _ => Err(BodyFault::BadField),
+    }
+}
+
+fn right(alloc: Global, row: &Row<'_>) -> Result<Right, BodyFault> {
+    match row.verb {
+        "granted" => Ok(Right::Granted(Identifier::read(alloc, &row.text)?)),
+        _ => Ok(Right::Denied(rule(alloc, text_of(&row.text)?)?)),
+    }
+}
+
+fn file(alloc: Global, row: &Row<'_>) -> Result<Reply, BodyFault> {
+    let origin = Name::read_absolute(alloc, &row.text)?;
+    let records = records(alloc, &row.body)?;
+    Ok(Reply::File { origin, records })
 }
 
 /// Appends the body of FORMERR with a refusal, and that of another refusal.
@@ -63,19 +72,23 @@ fn update_reply(alloc: Global, text: &str) -> Result<UpdateReply, BodyFault> {
         _ => ItemList::Prerequisites,
     };
     let place = Place { list, item };
-    Ok(match code {
-        "NOERROR" => UpdateReply::NoError,
-        "NOTAUTH" => UpdateReply::NotAuth,
-        "NOTZONE" => UpdateReply::NotZone(place),
-        "REFUSED" => UpdateReply::Refused {
-            place,
-            by: rule(alloc, by)?,
-        },
-        _ => UpdateReply::Failed(Failed {
-            code: failure(code)?,
-            item,
-        }),
-    })
+    match code {
+        "NOERROR" => Ok(UpdateReply::NoError),
+        "NOTAUTH" => Ok(UpdateReply::NotAuth),
+        "NOTZONE" => Ok(UpdateReply::NotZone(place)),
+        "REFUSED" => refused(alloc, place, by),
+        _ => failed(code, item),
+    }
+}
+
+fn refused(alloc: Global, place: Place, by: &str) -> Result<UpdateReply, BodyFault> {
+    let by = rule(alloc, by)?;
+    Ok(UpdateReply::Refused { place, by })
+}
+
+fn failed(code: &str, item: usize) -> Result<UpdateReply, BodyFault> {
+    let code = failure(code)?;
+    Ok(UpdateReply::Failed(Failed { code, item }))
 }
 
 /// The code of a prerequisite that does not hold.
@@ -101,9 +114,17 @@ fn rule(alloc: Global, text: &str) -> Result<Option<Identifier>, BodyFault> {
 fn records(alloc: Global, items: &[u8]) -> Result<Vec<Record>, BodyFault> {
     let items = text_of(items)?;
     let body = format!(in alloc; "{{\"id\":\"a1\",\"operations\":[{items}]}}")?;
-    let read = read_update(alloc, body.as_bytes())?;
+    records_of(alloc, body.as_bytes())
+}
+
+fn records_of(alloc: Global, body: &[u8]) -> Result<Vec<Record>, BodyFault> {
+    Ok(added(alloc, read_update(alloc, body)?.update.operations())?)
+}
+
+/// The records that operations add.
+fn added(alloc: Global, operations: &[Operation]) -> Result<Vec<Record>, AllocError> {
     let mut records = Vec::new(alloc);
-    for change in read.update.operations() {
+    for change in operations {
         if let Operation::Add(record) = change {
             records.push(record.try_copy(alloc)?)?;
         }
@@ -114,29 +135,38 @@ fn records(alloc: Global, items: &[u8]) -> Result<Vec<Record>, BodyFault> {
 fn changes(alloc: Global, lines: &str) -> Result<Vec<NumberedChange>, BodyFault> {
     let mut changes = Vec::new(alloc);
     for line in lines.lines() {
-        let (number, rest) = cut(line, '|');
-        let (removed, added) = cut(rest, '|');
-        changes.push(NumberedChange {
-            number: number.parse::<u64>().or(Err(BodyFault::BadField))?,
-            change: Change {
-                removed: records(alloc, removed.as_bytes())?,
-                added: records(alloc, added.as_bytes())?,
-            },
-        })?;
+        changes.push(numbered_change(alloc, line)?)?;
     }
     Ok(changes)
+}
+
+fn numbered_change(alloc: Global, line: &str) -> Result<NumberedChange, BodyFault> {
+    let (number, sides) = cut(line, '|');
+    let number = number.parse::<u64>().or(Err(BodyFault::BadField))?;
+    let change = change(alloc, sides)?;
+    Ok(NumberedChange { number, change })
+}
+
+fn change(alloc: Global, sides: &str) -> Result<Change, BodyFault> {
+    let (removed, added) = cut(sides, '|');
+    let removed = records(alloc, removed.as_bytes())?;
+    let added = records(alloc, added.as_bytes())?;
+    Ok(Change { removed, added })
 }
 
 fn delegations(alloc: Global, lines: &str) -> Result<Vec<Delegation>, BodyFault> {
     let mut delegations = Vec::new(alloc);
     for line in lines.lines() {
-        let (child, rest) = cut(line, '|');
-        delegations.push(Delegation {
-            child: Name::read_absolute(alloc, child.as_bytes())?,
-            servers: servers(alloc, rest)?,
-        })?;
+        delegations.push(delegation(alloc, line)?)?;
     }
     Ok(delegations)
+}
+
+fn delegation(alloc: Global, line: &str) -> Result<Delegation, BodyFault> {
+    let (child, rest) = cut(line, '|');
+    let child = Name::read_absolute(alloc, child.as_bytes())?;
+    let servers = servers(alloc, rest)?;
+    Ok(Delegation { child, servers })
 }
 
 /// The servers of a delegation, each behind the word for its glue.
@@ -144,14 +174,20 @@ fn servers(alloc: Global, text: &str) -> Result<Vec<DelegatedServer>, BodyFault>
     let mut servers = Vec::new(alloc);
     for server in text.split('|') {
         let (glue, name) = cut(server, ' ');
-        let glue = match glue {
-            "outside" => Glue::Outside,
-            "listed" => Glue::Listed,
-            "unlisted" => Glue::Unlisted,
-            _ => return Ok(servers),
+        let Some(glue) = glue_of(glue) else {
+            return Ok(servers);
         };
         let name = Name::read_absolute(alloc, name.as_bytes())?;
         servers.push(DelegatedServer { name, glue })?;
     }
     Ok(servers)
+}
+
+fn glue_of(word: &str) -> Option<Glue> {
+    match word {
+        "outside" => Some(Glue::Outside),
+        "listed" => Some(Glue::Listed),
+        "unlisted" => Some(Glue::Unlisted),
+        _ => None,
+    }
 }

@@ -5,10 +5,10 @@ use dns_data::RecordType;
 use dns_names::Name;
 use grant_policy::{Action, Identifier, LookUps, Policy};
 use item_lines::read_items;
-use office_core::{denied, operation_asks, prerequisite_asks};
+use office_core::{Denial, denied, operation_asks, prerequisite_asks};
 use std::alloc::Global;
 use test_rows::Row;
-use zone_core::ItemList;
+use zone_core::{ItemList, Update};
 
 /// Appends the points of an item of an update of the zone of this origin, by type number.
 pub fn push_points(
@@ -18,7 +18,10 @@ pub fn push_points(
     answer: &mut Vec<u8>,
 ) -> Result<(), Refusal> {
     let origin = Name::read_absolute(alloc, origin)?;
-    let update = read_items(alloc, item)?;
+    push_all_points(&origin, &read_items(alloc, item)?, answer)
+}
+
+fn push_all_points(origin: &Name, update: &Update, answer: &mut Vec<u8>) -> Result<(), Refusal> {
     for record_type in RecordType::ALL {
         for test in update.prerequisites() {
             push_point(record_type, prerequisite_asks(test, record_type), answer)?;
@@ -26,7 +29,7 @@ pub fn push_points(
         for change in update.operations() {
             push_point(
                 record_type,
-                operation_asks(&origin, change, record_type),
+                operation_asks(origin, change, record_type),
                 answer,
             )?;
         }
@@ -59,13 +62,27 @@ pub fn push_denial(
     answer: &mut Vec<u8>,
 ) -> Result<(), Refusal> {
     let (caller, origin) = row.split();
+    let update = read_items(alloc, &row.body)?;
+    push_first_denial(alloc, policy, (caller, origin), &update, answer)
+}
+
+fn push_first_denial(
+    alloc: Global,
+    policy: &Policy,
+    (caller, origin): (&[u8], &[u8]),
+    update: &Update,
+    answer: &mut Vec<u8>,
+) -> Result<(), Refusal> {
     let caller = Identifier::read(alloc, caller)?;
     let origin = Name::read_absolute(alloc, origin)?;
-    let update = read_items(alloc, &row.body)?;
     let mut look_ups = LookUps::new();
-    let Some(denial) = denied(policy, &caller, &origin, &update, &mut look_ups) else {
-        return Ok(answer.extend_from_slice(b"permitted")?);
-    };
+    match denied(policy, &caller, &origin, update, &mut look_ups) {
+        Some(denial) => push_place(alloc, &denial, answer),
+        None => Ok(answer.extend_from_slice(b"permitted")?),
+    }
+}
+
+fn push_place(alloc: Global, denial: &Denial<'_>, answer: &mut Vec<u8>) -> Result<(), Refusal> {
     let list = match denial.place.list {
         ItemList::Prerequisites => "prerequisite",
         ItemList::Operations => "operation",

@@ -7,24 +7,33 @@ use dns_data::Ttl;
 use std::alloc::Global;
 use test_rows::{Row, word};
 use zone_core::{
-    DelegationRequest, Glue, Update, Zone, cuts, delegation_report, delegation_update,
+    DelegatedServer, DelegationRequest, Glue, Update, Zone, cuts, delegation_report,
+    delegation_update,
 };
 
 /// The update that a row of an origin, a child, a TTL and servers asks for.
 fn delegation(alloc: Global, row: &Row<'_>) -> Result<Update, Refusal> {
     let (origin, rest) = row.split();
-    let (child, ttl) = word(rest);
-    let request = DelegationRequest {
-        ttl: Ttl::read(ttl)?,
-        child: name(alloc, child)?,
-        servers: servers(alloc, &row.body)?,
-    };
+    let request = request(alloc, rest, &row.body)?;
     Ok(delegation_update(alloc, &name(alloc, origin)?, &request)?)
+}
+
+fn request(alloc: Global, text: &[u8], body: &[u8]) -> Result<DelegationRequest, Refusal> {
+    let (child, ttl) = word(text);
+    let ttl = Ttl::read(ttl)?;
+    Ok(DelegationRequest {
+        ttl,
+        child: name(alloc, child)?,
+        servers: servers(alloc, body)?,
+    })
 }
 
 /// Appends the operations of a delegation.
 pub fn push_delegation(alloc: Global, row: &Row<'_>, answer: &mut Vec<u8>) -> Result<(), Refusal> {
-    let update = delegation(alloc, row)?;
+    push_operations(alloc, &delegation(alloc, row)?, answer)
+}
+
+fn push_operations(alloc: Global, update: &Update, answer: &mut Vec<u8>) -> Result<(), Refusal> {
     if !update.prerequisites().is_empty() {
         push("with prerequisites\n", answer)?;
     }
@@ -56,12 +65,21 @@ pub fn push_report(alloc: Global, zone: &Zone, answer: &mut Vec<u8>) -> Result<(
     for delegation in &delegation_report(alloc, zone.origin(), zone.records())? {
         push("\n", answer)?;
         push_name(alloc, &delegation.child, answer)?;
-        for server in &delegation.servers {
-            push(" ", answer)?;
-            push_name(alloc, &server.name, answer)?;
-            push(" ", answer)?;
-            push(glue(server.glue), answer)?;
-        }
+        push_servers(alloc, &delegation.servers, answer)?;
+    }
+    Ok(())
+}
+
+fn push_servers(
+    alloc: Global,
+    servers: &[DelegatedServer],
+    answer: &mut Vec<u8>,
+) -> Result<(), Refusal> {
+    for server in servers {
+        push(" ", answer)?;
+        push_name(alloc, &server.name, answer)?;
+        push(" ", answer)?;
+        push(glue(server.glue), answer)?;
     }
     Ok(())
 }

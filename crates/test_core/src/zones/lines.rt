@@ -1,7 +1,7 @@
 //! Texts of names, records and operations.
 
 use crate::zones::refusal::Refusal;
-use dns_data::{Data, Record, data_text, record_line};
+use dns_data::{Data, Record, RecordType, Soa, data_text, record_line};
 use dns_names::Name;
 use std::alloc::Global;
 use zone_core::Operation;
@@ -14,6 +14,12 @@ pub fn push(text: &str, answer: &mut Vec<u8>) -> Result<(), Refusal> {
 /// Appends a name.
 pub fn push_name(alloc: Global, name: &Name, answer: &mut Vec<u8>) -> Result<(), Refusal> {
     push(name.text(alloc)?.as_str(), answer)
+}
+
+/// Appends a number.
+pub fn push_number(alloc: Global, number: u32, answer: &mut Vec<u8>) -> Result<(), Refusal> {
+    let text = format!(in alloc; "{number}")?;
+    push(text.as_str(), answer)
 }
 
 /// Appends the lines of records.
@@ -29,9 +35,13 @@ pub fn push_records(
         if i > 0 {
             push("\n", answer)?;
         }
-        push(record_line(alloc, record)?.as_str(), answer)?;
+        push_record(alloc, record, answer)?;
     }
     Ok(())
+}
+
+fn push_record(alloc: Global, record: &Record, answer: &mut Vec<u8>) -> Result<(), Refusal> {
+    push(record_line(alloc, record)?.as_str(), answer)
 }
 
 /// Appends lines of records behind a mark, an SOA as its serial, each with a line end.
@@ -43,14 +53,18 @@ pub fn push_marked(
 ) -> Result<(), Refusal> {
     for record in records {
         push(mark, answer)?;
-        let line = match &record.rdata {
-            Data::Soa(soa) => format!(in alloc; "serial {}", soa.fields().serial.0)?,
-            _ => record_line(alloc, record)?,
-        };
-        push(line.as_str(), answer)?;
+        match &record.rdata {
+            Data::Soa(soa) => push_serial(alloc, soa, answer)?,
+            _ => push_record(alloc, record, answer)?,
+        }
         push("\n", answer)?;
     }
     Ok(())
+}
+
+fn push_serial(alloc: Global, soa: &Soa, answer: &mut Vec<u8>) -> Result<(), Refusal> {
+    push("serial ", answer)?;
+    push_number(alloc, soa.fields().serial.0, answer)
 }
 
 /// Appends an operation.
@@ -62,19 +76,27 @@ pub fn push_operation(
     push(operation.kind().text(), answer)?;
     push(" ", answer)?;
     match operation {
-        Operation::Add(record) => push(record_line(alloc, record)?.as_str(), answer),
+        Operation::Add(record) => push_record(alloc, record, answer),
         Operation::DeleteName(name) => push_name(alloc, name, answer),
         Operation::DeleteRrset { name, record_type } => {
-            push_name(alloc, name, answer)?;
-            push(" ", answer)?;
-            push(record_type.text(), answer)
+            push_rrset(alloc, name, *record_type, answer)
         }
         Operation::DeleteRecord { name, rdata } => {
-            push_name(alloc, name, answer)?;
-            push(" ", answer)?;
-            push(rdata.record_type().text(), answer)?;
+            push_rrset(alloc, name, rdata.record_type(), answer)?;
             push(" ", answer)?;
             push(data_text(alloc, rdata)?.as_str(), answer)
         }
     }
+}
+
+/// Appends a name and a type.
+fn push_rrset(
+    alloc: Global,
+    name: &Name,
+    record_type: RecordType,
+    answer: &mut Vec<u8>,
+) -> Result<(), Refusal> {
+    push_name(alloc, name, answer)?;
+    push(" ", answer)?;
+    push(record_type.text(), answer)
 }

@@ -1,10 +1,10 @@
 //! Records, updates and servers that rows write.
 
 use crate::zones::refusal::Refusal;
-use dns_data::{DataFault, Record, RecordType};
+use dns_data::{Data, DataFault, Record, RecordType};
 use dns_master::read_file;
 use dns_names::Name;
-use std::alloc::Global;
+use std::alloc::{AllocError, Global};
 use std::net::IpAddr;
 use std::str;
 use test_rows::word;
@@ -33,12 +33,30 @@ pub fn ends_item(octet: u8) -> bool {
     matches!(octet, b'\n' | b'|')
 }
 
+/// The records of a master file.
+pub fn file(alloc: Global, text: &[u8], origin: &Name) -> Result<Vec<Record>, Refusal> {
+    Ok(read_file(alloc, text, origin)?)
+}
+
 /// The record of a line. Where that has no TTL, it is 0.
 fn record(alloc: Global, line: &[u8]) -> Result<Record, Refusal> {
+    let mut records = records(alloc, &behind_ttl(alloc, line)?)?;
+    Ok(records.pop().ok_or(DataFault::FieldMissing)?)
+}
+
+fn records(alloc: Global, text: &[u8]) -> Result<Vec<Record>, Refusal> {
+    file(alloc, text, &name(alloc, b".")?)
+}
+
+fn behind_ttl(alloc: Global, line: &[u8]) -> Result<Vec<u8>, AllocError> {
     let mut text = Vec::from_slice(alloc, b"$TTL 0\n")?;
     text.extend_from_slice(line)?;
-    let mut records = read_file(alloc, &text, &name(alloc, b".")?)?;
-    Ok(records.pop().ok_or(DataFault::FieldMissing)?)
+    Ok(text)
+}
+
+/// The data of the record of a line.
+fn rdata(alloc: Global, line: &[u8]) -> Result<Data, Refusal> {
+    Ok(record(alloc, line)?.rdata)
 }
 
 /// A prerequisite, from what stands behind its first word.
@@ -48,39 +66,50 @@ fn prerequisite(
     text: &[u8],
 ) -> Result<Prerequisite, Refusal> {
     let (owner, rest) = word(text);
-    Ok(match kind {
-        PrerequisiteKind::NameUsed => Prerequisite::NameUsed(name(alloc, owner)?),
-        PrerequisiteKind::NameUnused => Prerequisite::NameUnused(name(alloc, owner)?),
-        PrerequisiteKind::RrsetExists => Prerequisite::RrsetExists {
-            record_type: record_type(rest)?,
-            name: name(alloc, owner)?,
-        },
-        PrerequisiteKind::RrsetAbsent => Prerequisite::RrsetAbsent {
-            record_type: record_type(rest)?,
-            name: name(alloc, owner)?,
-        },
-        PrerequisiteKind::RrsetEquals => Prerequisite::RrsetEquals {
-            name: name(alloc, owner)?,
-            rdata: record(alloc, text)?.rdata,
-        },
+    let name = name(alloc, owner)?;
+    match kind {
+        PrerequisiteKind::NameUsed => Ok(Prerequisite::NameUsed(name)),
+        PrerequisiteKind::NameUnused => Ok(Prerequisite::NameUnused(name)),
+        PrerequisiteKind::RrsetEquals => rrset_equals(alloc, name, text),
+        PrerequisiteKind::RrsetExists | PrerequisiteKind::RrsetAbsent => {
+            rrset_test(kind, name, rest)
+        }
+    }
+}
+
+fn rrset_equals(alloc: Global, name: Name, line: &[u8]) -> Result<Prerequisite, Refusal> {
+    let rdata = rdata(alloc, line)?;
+    Ok(Prerequisite::RrsetEquals { name, rdata })
+}
+
+fn rrset_test(kind: PrerequisiteKind, name: Name, text: &[u8]) -> Result<Prerequisite, Refusal> {
+    let record_type = record_type(text)?;
+    Ok(if kind == PrerequisiteKind::RrsetExists {
+        Prerequisite::RrsetExists { name, record_type }
+    } else {
+        Prerequisite::RrsetAbsent { name, record_type }
     })
 }
 
 /// An operation, from what stands behind its first word.
 fn operation(alloc: Global, kind: OperationKind, text: &[u8]) -> Result<Operation, Refusal> {
     let (owner, rest) = word(text);
-    Ok(match kind {
-        OperationKind::Add => Operation::Add(record(alloc, text)?),
-        OperationKind::DeleteName => Operation::DeleteName(name(alloc, owner)?),
-        OperationKind::DeleteRrset => Operation::DeleteRrset {
-            record_type: record_type(rest)?,
-            name: name(alloc, owner)?,
-        },
-        OperationKind::DeleteRecord => Operation::DeleteRecord {
-            name: name(alloc, owner)?,
-            rdata: record(alloc, text)?.rdata,
-        },
-    })
+    match kind {
+        OperationKind::Add => Ok(Operation::Add(record(alloc, text)?)),
+        OperationKind::DeleteName => Ok(Operation::DeleteName(name(alloc, owner)?)),
+        OperationKind::DeleteRrset => rrset_deletion(name(alloc, owner)?, rest),
+        OperationKind::DeleteRecord => record_deletion(alloc, name(alloc, owner)?, text),
+    }
+}
+
+fn rrset_deletion(name: Name, text: &[u8]) -> Result<Operation, Refusal> {
+    let record_type = record_type(text)?;
+    Ok(Operation::DeleteRrset { name, record_type })
+}
+
+fn record_deletion(alloc: Global, name: Name, line: &[u8]) -> Result<Operation, Refusal> {
+    let rdata = rdata(alloc, line)?;
+    Ok(Operation::DeleteRecord { name, rdata })
 }
 
 /// The update of items.
@@ -88,16 +117,29 @@ pub fn update(alloc: Global, items: &[u8]) -> Result<Update, Refusal> {
     let mut prerequisites = Vec::new(alloc);
     let mut operations = Vec::new(alloc);
     for item in items.split(|octet| ends_item(*octet)) {
-        let (kind, rest) = word(item);
-        if let Some(kind) = PrerequisiteKind::read(kind) {
-            prerequisites.push(prerequisite(alloc, kind, rest)?)?;
-        } else if let Some(kind) = OperationKind::read(kind) {
-            operations.push(operation(alloc, kind, rest)?)?;
-        } else if !item.is_empty() {
-            return Err(Refusal::from(DataFault::FieldExtra));
-        }
+        push_item(alloc, item, &mut prerequisites, &mut operations)?;
     }
     Ok(Update::build(prerequisites, operations)?)
+}
+
+fn push_item(
+    alloc: Global,
+    item: &[u8],
+    prerequisites: &mut Vec<Prerequisite>,
+    operations: &mut Vec<Operation>,
+) -> Result<(), Refusal> {
+    let (kind, rest) = word(item);
+    if let Some(kind) = PrerequisiteKind::read(kind) {
+        return Ok(prerequisites.push(prerequisite(alloc, kind, rest)?)?);
+    }
+    if let Some(kind) = OperationKind::read(kind) {
+        return Ok(operations.push(operation(alloc, kind, rest)?)?);
+    }
+    if item.is_empty() {
+        Ok(())
+    } else {
+        Err(Refusal::from(DataFault::FieldExtra))
+    }
 }
 
 fn address(text: &[u8]) -> Result<IpAddr, Refusal> {
@@ -120,14 +162,17 @@ pub fn servers(alloc: Global, items: &[u8]) -> Result<Vec<ChildServer>, Refusal>
 
 fn server(alloc: Global, item: &[u8]) -> Result<ChildServer, Refusal> {
     let (first, rest) = word(item);
+    let name = name(alloc, first)?;
+    let addresses = addresses(alloc, rest)?;
+    Ok(ChildServer { name, addresses })
+}
+
+fn addresses(alloc: Global, text: &[u8]) -> Result<Vec<IpAddr>, Refusal> {
     let mut addresses = Vec::new(alloc);
-    for text in rest.split(|octet| *octet == b' ') {
+    for text in text.split(|octet| *octet == b' ') {
         if !text.is_empty() {
             addresses.push(address(text)?)?;
         }
     }
-    Ok(ChildServer {
-        name: name(alloc, first)?,
-        addresses,
-    })
+    Ok(addresses)
 }

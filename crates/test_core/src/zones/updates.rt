@@ -1,10 +1,10 @@
 //! Rows of updates.
 
-use crate::zones::lines::{push, push_marked};
+use crate::zones::lines::{push, push_marked, push_number};
 use crate::zones::parsed_rows::{name, update};
 use crate::zones::refusal::Refusal;
 use std::alloc::{AllocError, Global};
-use zone_core::{ItemList, Outcome, Update, Zone, apply, apply_owned, holds};
+use zone_core::{Failed, ItemList, Outcome, Place, Update, Zone, apply, apply_owned, holds};
 
 /// What an update makes of a zone, if it is within it.
 fn applied(alloc: Global, zone: &Zone, update: &Update) -> Result<Option<Outcome>, AllocError> {
@@ -35,14 +35,14 @@ pub fn push_verdict(
 ) -> Result<(), Refusal> {
     match holds(zone, &update(alloc, items)?) {
         Ok(()) => push("all hold", answer),
-        Err(failed) => {
-            let code = failed.code.rcode().text();
-            push(
-                format!(in alloc; "{code} at {}", failed.item)?.as_str(),
-                answer,
-            )
-        }
+        Err(failed) => push_failed(alloc, failed, answer),
     }
+}
+
+fn push_failed(alloc: Global, failed: Failed, answer: &mut Vec<u8>) -> Result<(), Refusal> {
+    let code = failed.code.rcode().text();
+    let text = format!(in alloc; "{code} at {}", failed.item)?;
+    push(text.as_str(), answer)
 }
 
 /// Appends the records that an update removes, and those that it adds.
@@ -52,9 +52,22 @@ pub fn push_change(
     items: &[u8],
     answer: &mut Vec<u8>,
 ) -> Result<(), Refusal> {
-    let Some(outcome) = applied(alloc, zone, &update(alloc, items)?)? else {
-        return push("outside", answer);
-    };
+    push_change_of(alloc, zone, &update(alloc, items)?, answer)
+}
+
+fn push_change_of(
+    alloc: Global,
+    zone: &Zone,
+    update: &Update,
+    answer: &mut Vec<u8>,
+) -> Result<(), Refusal> {
+    match applied(alloc, zone, update)? {
+        Some(outcome) => push_outcome(alloc, &outcome, answer),
+        None => push("outside", answer),
+    }
+}
+
+fn push_outcome(alloc: Global, outcome: &Outcome, answer: &mut Vec<u8>) -> Result<(), Refusal> {
     push_marked(alloc, "- ", &outcome.removed, answer)?;
     push_marked(alloc, "+ ", &outcome.added, answer)?;
     if answer.is_empty() {
@@ -70,7 +83,16 @@ pub fn push_after(
     items: &[u8],
     answer: &mut Vec<u8>,
 ) -> Result<(), Refusal> {
-    match applied_owned(alloc, zone.try_copy(alloc)?, &update(alloc, items)?)? {
+    push_zone_after(alloc, zone, &update(alloc, items)?, answer)
+}
+
+fn push_zone_after(
+    alloc: Global,
+    zone: &Zone,
+    update: &Update,
+    answer: &mut Vec<u8>,
+) -> Result<(), Refusal> {
+    match applied_owned(alloc, zone.try_copy(alloc)?, update)? {
         Some(outcome) => push_marked(alloc, "", outcome.zone.records(), answer),
         None => push("outside", answer),
     }
@@ -94,27 +116,25 @@ pub fn push_serial(
     answer: &mut Vec<u8>,
 ) -> Result<(), Refusal> {
     match applied(alloc, zone, update)? {
-        Some(outcome) => {
-            let serial = outcome.zone.serial();
-            push(format!(in alloc; "{serial}")?.as_str(), answer)
-        }
+        Some(outcome) => push_number(alloc, outcome.zone.serial(), answer),
         None => push("outside", answer),
     }
 }
 
 /// Appends how many items an update has, which a copy of it has to have too.
 pub fn push_update(alloc: Global, items: &[u8], answer: &mut Vec<u8>) -> Result<(), Refusal> {
-    let update = update(alloc, items)?;
+    push_sizes(alloc, &update(alloc, items)?, answer)
+}
+
+fn push_sizes(alloc: Global, update: &Update, answer: &mut Vec<u8>) -> Result<(), Refusal> {
     let prerequisites = update.prerequisites().len();
     let operations = update.operations().len();
-    push(
-        format!(in alloc; "prerequisites: {prerequisites}, operations: {operations}")?.as_str(),
-        answer,
-    )?;
-    if !update.try_copy(alloc)?.is_same(&update) {
-        push(", and other ones in its copy", answer)?;
+    let text = format!(in alloc; "prerequisites: {prerequisites}, operations: {operations}")?;
+    push(text.as_str(), answer)?;
+    if update.try_copy(alloc)?.is_same(update) {
+        return Ok(());
     }
-    Ok(())
+    push(", and other ones in its copy", answer)
 }
 
 /// Appends the first item outside an origin.
@@ -124,14 +144,20 @@ pub fn push_outside(
     items: &[u8],
     answer: &mut Vec<u8>,
 ) -> Result<(), Refusal> {
-    let Some(place) = update(alloc, items)?.outside(&name(alloc, origin)?) else {
-        return push("none", answer);
-    };
+    let origin = name(alloc, origin)?;
+    match update(alloc, items)?.outside(&origin) {
+        Some(place) => push_place(alloc, place, answer),
+        None => push("none", answer),
+    }
+}
+
+fn push_place(alloc: Global, place: Place, answer: &mut Vec<u8>) -> Result<(), Refusal> {
     let list = match place.list {
         ItemList::Prerequisites => "prerequisite",
         ItemList::Operations => "operation",
     };
-    push(format!(in alloc; "{list} {}", place.item)?.as_str(), answer)
+    let text = format!(in alloc; "{list} {}", place.item)?;
+    push(text.as_str(), answer)
 }
 
 /// Appends whether two updates are the same, which has to be so from both sides.
@@ -141,14 +167,18 @@ pub fn push_same(
     second: &[u8],
     answer: &mut Vec<u8>,
 ) -> Result<(), Refusal> {
-    let (first, second) = (update(alloc, first)?, update(alloc, second)?);
-    let is_same = first.is_same(&second);
+    let first = update(alloc, first)?;
+    push_whether_same(&first, &update(alloc, second)?, answer)
+}
+
+fn push_whether_same(first: &Update, second: &Update, answer: &mut Vec<u8>) -> Result<(), Refusal> {
+    let is_same = first.is_same(second);
     push(if is_same { "the same" } else { "another" }, answer)?;
-    if second.is_same(&first) != is_same {
+    if second.is_same(first) != is_same {
         push(", and not from the other side", answer)?;
     }
-    if !first.is_same(&first) || !second.is_same(&second) {
-        push(", and one is another than itself", answer)?;
+    if first.is_same(first) && second.is_same(second) {
+        return Ok(());
     }
-    Ok(())
+    push(", and one is another than itself", answer)
 }
