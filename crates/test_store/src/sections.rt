@@ -1,6 +1,7 @@
 use sqlite::MemStore;
 use std::alloc::{AllocError, Global};
 use test_exchanges::Office;
+use test_files::{Callers, Files};
 use test_rows::{Answers, Row};
 use test_states::Kept;
 use test_stops::Stops;
@@ -15,22 +16,27 @@ enum Section {
     Stores,
     Stops,
     Exchanges,
+    Files,
+    Callers,
 }
 
 /// Answers to rows of the section that is open.
 #[derive(Drop)]
-pub struct Sections {
+pub struct Sections<'a> {
     section: Section,
     tables: Tables<MemStore>,
     kept: Kept,
     stores: Stores<MemStore>,
     stops: Stops,
     office: Office,
+    files: Files<'a>,
+    callers: Callers<'a>,
 }
 
-impl Sections {
+impl<'a> Sections<'a> {
     /// The section of tables is open.
-    pub fn new(alloc: Global) -> Result<Sections, AllocError> {
+    pub fn new(rt: &'a HostRuntime) -> Result<Sections<'a>, AllocError> {
+        let alloc = rt.alloc();
         Ok(Sections {
             section: Section::Tables,
             tables: Tables::new(alloc)?,
@@ -38,6 +44,8 @@ impl Sections {
             stores: Stores::new(alloc),
             stops: Stops::new(alloc),
             office: Office::new(alloc),
+            files: Files::new(rt),
+            callers: Callers::new(rt),
         })
     }
 
@@ -49,13 +57,15 @@ impl Sections {
             b"stores" => Section::Stores,
             b"stops" => Section::Stops,
             b"exchanges" => Section::Exchanges,
+            b"files" => Section::Files,
+            b"callers" => Section::Callers,
             _ => return answer.extend_from_slice(b"no such section"),
         };
         Ok(())
     }
 }
 
-impl Answers for Sections {
+impl Answers for Sections<'_> {
     fn answer(
         &mut self,
         alloc: Global,
@@ -71,6 +81,8 @@ impl Answers for Sections {
             Section::Stores => self.stores.answer(alloc, row, answer),
             Section::Stops => self.stops.answer(alloc, row, answer),
             Section::Exchanges => self.office.answer(alloc, row, answer),
+            Section::Files => self.files.answer(alloc, row, answer),
+            Section::Callers => self.callers.answer(alloc, row, answer),
         }
     }
 }

@@ -1,0 +1,212 @@
+//! Answers to rows of an office over sockets, in one thread: what callers send lies in the sockets before they are served.
+
+ghost use Rattle.std.specs.Prelude.{◌≡◌, ◌<◌};
+
+use crate::office::{listening, policy, table};
+use anyhow::{Result, bail};
+use dns_master::Counted;
+use grant_policy::Policy;
+use office_core::ZoneTable;
+use std::alloc::{AllocError, Global};
+use std::io::{Read, Write};
+use std::marker::Brand;
+use std::net::{Shutdown, TcpListener, TcpStream};
+use std::sync::ledger::{Blank, Ledger};
+use std::time::Duration;
+use store_commands::{Connections, JobFault, Undiagnosed, serve_connections};
+use test_rows::{Answers, Row};
+
+/// An office, and those who call it.
+#[derive(Drop)]
+pub struct Callers<'a> {
+    rt: &'a HostRuntime,
+    listener: Option<TcpListener>,
+    callers: Vec<TcpStream>,
+}
+
+impl Answers for Callers<'_> {
+    fn answer(
+        &mut self,
+        alloc: Global,
+        row: &Row<'_>,
+        answer: &mut Vec<u8>,
+    ) -> Result<(), AllocError> {
+        match self.answer_to(row, answer) {
+            Ok(()) => Ok(()),
+            Err(fault) => {
+                answer.extend_from_slice(format!(in alloc; "not answered: {fault}")?.as_bytes())
+            }
+        }
+    }
+}
+
+impl<'a> Callers<'a> {
+    /// Nobody listens, and nobody calls.
+    pub fn new(rt: &'a HostRuntime) -> Callers<'a> {
+        Callers {
+            rt,
+            listener: None,
+            callers: Vec::new(rt.alloc()),
+        }
+    }
+
+    fn answer_to(&mut self, row: &Row<'_>, answer: &mut Vec<u8>) -> Result<()> {
+        match row.verb {
+            "listen" => self.listen(),
+            "call" => self.call(&row.body),
+            "begin" => self.begin(&row.body),
+            "leave" => self.leave(number(&row.text)?, &row.body),
+            "answer" => self.serve(number(&row.text)?, answer),
+            _ => bail!("no such verb"),
+        }
+    }
+
+    fn listen(&mut self) -> Result<()> {
+        self.callers.clear();
+        self.listener = Some(listening(self.rt)?);
+        Ok(())
+    }
+
+    fn listener(&self) -> Result<&TcpListener> {
+        match &self.listener {
+            Some(listener) => Ok(listener),
+            None => bail!("nobody listens"),
+        }
+    }
+
+    /// Connects and sends a text, behind which more can come.
+    fn begin(&mut self, text: &[u8]) -> Result<()> {
+        let caller = begun(self.rt, self.listener()?, text)?;
+        self.callers.push(caller)?;
+        Ok(())
+    }
+
+    /// Connects and sends a text, behind which nothing comes.
+    fn call(&mut self, text: &[u8]) -> Result<()> {
+        let caller = sent(self.rt, self.listener()?, text)?;
+        self.callers.push(caller)?;
+        Ok(())
+    }
+
+    /// Sends a text so many times, and is gone.
+    fn leave(&self, times: u64, text: &[u8]) -> Result<()> {
+        let mut all = Vec::new(self.rt.alloc());
+        for _ in 0..times {
+            all.extend_from_slice(text)?;
+        }
+        drop(sent(self.rt, self.listener()?, &all)?);
+        Ok(())
+    }
+
+    /// Serves so many connections, and appends what was told and answered.
+    fn serve(&mut self, connections: u64, answer: &mut Vec<u8>) -> Result<()> {
+        push_served(self.rt, self.listener()?, connections, answer)?;
+        for caller in &mut self.callers {
+            answer.extend_from_slice(b"answered: ")?;
+            caller.read_to_end(answer)?;
+            answer.push(b'\n')?;
+        }
+        self.callers.clear();
+        Ok(())
+    }
+}
+
+fn number(text: &[u8]) -> Result<u64> {
+    Ok(str::from_utf8(text)?.parse()?)
+}
+
+/// A connection to a listener, over which a text was sent.
+fn begun(rt: &HostRuntime, listener: &TcpListener, text: &[u8]) -> Result<TcpStream> {
+    let mut caller = TcpStream::connect(rt, listener.local_addr()?)?;
+    caller.write_all(text)?;
+    Ok(caller)
+}
+
+/// The same, and nothing comes behind it.
+fn sent(rt: &HostRuntime, listener: &TcpListener, text: &[u8]) -> Result<TcpStream> {
+    let caller = begun(rt, listener, text)?;
+    caller.shutdown(Shutdown::Write)?;
+    Ok(caller)
+}
+
+/// Appends what the office tells while it serves so many connections, and its trace.
+fn push_served(
+    rt: &HostRuntime,
+    listener: &TcpListener,
+    connections: u64,
+    answer: &mut Vec<u8>,
+) -> Result<()> {
+    let alloc = rt.alloc();
+    let policy = policy(alloc)?;
+    let mut table = table(alloc)?;
+    let served = served_from(rt, listener, connections, &mut table, &policy);
+    if served.result.is_err() {
+        bail!("a connection is not served");
+    }
+    answer.extend_from_slice(&served.told)?;
+    Ok(answer.extend_from_slice(&served.trace)?)
+}
+
+/// What the office told, its trace, and how its service ended.
+#[derive(Drop)]
+struct Served {
+    told: Vec<u8>,
+    trace: Vec<u8>,
+    result: Result<(), JobFault>,
+}
+
+/// For how many milliseconds callers are waited for.
+const PATIENCE: u64 = 300;
+
+/// Serves so many connections from a table.
+fn served_from<T: ZoneTable>(
+    rt: &HostRuntime,
+    listener: &TcpListener,
+    connections: u64,
+    table: &mut T,
+    policy: &Policy,
+) -> Served {
+    let (writes, traces) = (Blank::new(1), Blank::new(1));
+    served_in::<_, Brand, Brand>(rt, listener, connections, table, policy, writes, traces)
+}
+
+fn served_in<T: ZoneTable, A: Ledger, B: Ledger>(
+    rt: &HostRuntime,
+    listener: &TcpListener,
+    connections: u64,
+    table: &mut T,
+    policy: &Policy,
+    writes: Blank,
+    traces: Blank,
+) -> Served
+    requires writes_name { writes.name ≡ A.name }
+    requires writes_parts { writes.parts ≡ A.parts }
+    requires writes_some { 0 < writes.parts }
+    requires traces_name { traces.name ≡ B.name }
+    requires traces_parts { traces.parts ≡ B.parts }
+    requires traces_some { 0 < traces.parts }
+{
+    let alloc = rt.alloc();
+    let mut sink: Counted<Vec<u8>, A> = Counted::new(Vec::new(alloc), writes);
+    let mut trace: Counted<Vec<u8>, B> = Counted::new(Vec::new(alloc), traces);
+    let from = Connections {
+        listener,
+        clock: rt,
+        patience: Some(Duration::from_millis(PATIENCE)),
+        diagnosis: &Undiagnosed,
+    };
+    let result = serve_connections(
+        alloc,
+        &from,
+        table,
+        policy,
+        connections,
+        &mut sink,
+        &mut trace,
+    );
+    Served {
+        told: sink.into_inner(),
+        trace: trace.into_inner(),
+        result,
+    }
+}
