@@ -23,14 +23,20 @@ const ORIGIN: &[u8] = b"example.org.";
 
 /// The update of the items behind a word.
 fn update_of(alloc: Global, body: &[u8], word: &str) -> Result<Update> {
+    let items = items_behind(alloc, str::from_utf8(body)?, word)?;
+    Ok(read_items(alloc, items.as_bytes())?)
+}
+
+/// The items of the lines that begin with a word, a line each.
+fn items_behind(alloc: Global, lines: &str, word: &str) -> Result<String, AllocError> {
     let mut items = String::new(alloc);
-    for line in str::from_utf8(body)?.lines() {
+    for line in lines.lines() {
         if let Some(item) = line.strip_prefix(word) {
             items.push_str(item)?;
             items.push_str("\n")?;
         }
     }
-    Ok(read_items(alloc, items.as_bytes())?)
+    Ok(items)
 }
 
 /// The records that the items behind a word add.
@@ -51,21 +57,25 @@ fn added(alloc: Global, operations: &[Operation]) -> Result<Vec<Record>> {
 }
 
 fn zone_of(alloc: Global, body: &[u8], word: &str) -> Result<Zone> {
+    let records = records_of(alloc, body, word)?;
     let origin = Name::read_absolute(alloc, ORIGIN)?;
-    Ok(Zone::build(alloc, origin, records_of(alloc, body, word)?)?)
+    Ok(Zone::build(alloc, origin, records)?)
 }
 
 /// The change of the records behind `gone` and `come`, if there is one.
 fn change_of(alloc: Global, body: &[u8]) -> Result<Option<Change>> {
-    let change = Change {
-        removed: records_of(alloc, body, "gone ")?,
-        added: records_of(alloc, body, "come ")?,
-    };
+    let change = changed(alloc, body)?;
     Ok(if change.is_empty() {
         None
     } else {
         Some(change)
     })
+}
+
+fn changed(alloc: Global, body: &[u8]) -> Result<Change> {
+    let removed = records_of(alloc, body, "gone ")?;
+    let added = records_of(alloc, body, "come ")?;
+    Ok(Change { removed, added })
 }
 
 /// Appends what is written for an update of the caller `admin` under the identifier `a1`.
@@ -77,18 +87,28 @@ pub fn push_addition(alloc: Global, row: &Row<'_>, answer: &mut Vec<u8>) -> Resu
 }
 
 fn addition_of(alloc: Global, reply: &str, body: &[u8]) -> Result<Addition> {
+    let change = change_of(alloc, body)?;
+    let receipt = receipt_of(alloc, reply, body)?;
+    let (caller, id) = caller_and_id(alloc)?;
     Ok(Addition {
-        caller: Identifier::read(alloc, b"admin")?,
-        id: Identifier::read(alloc, b"a1")?,
-        change: change_of(alloc, body)?,
-        receipt: receipt_of(alloc, reply, body)?,
+        caller,
+        id,
+        change,
+        receipt,
     })
 }
 
+fn caller_and_id(alloc: Global) -> Result<(Identifier, Identifier)> {
+    let caller = Identifier::read(alloc, b"admin")?;
+    Ok((caller, Identifier::read(alloc, b"a1")?))
+}
+
 fn receipt_of(alloc: Global, reply: &str, body: &[u8]) -> Result<Receipt> {
+    let origin = Name::read_absolute(alloc, ORIGIN)?;
+    let reply = read_reply(alloc, reply)?;
     Ok(Receipt {
-        origin: Name::read_absolute(alloc, ORIGIN)?,
-        reply: read_reply(alloc, reply)?,
+        origin,
+        reply,
         update: update_of(alloc, body, "item ")?,
     })
 }

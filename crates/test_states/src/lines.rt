@@ -45,18 +45,34 @@ pub fn rows_of(alloc: Global, text: &[u8]) -> Result<AllRows> {
     Ok(rows)
 }
 
+fn two(alloc: Global, one: &str, other: &str) -> Result<(String, String), AllocError> {
+    let one = String::from_str(alloc, one)?;
+    Ok((one, String::from_str(alloc, other)?))
+}
+
 fn record_row(alloc: Global, text: &str) -> Result<RecordRow> {
     let (origin, rest) = word(text);
     let (owner, rest) = word(rest);
     let (record_type, rest) = word(rest);
     let (ttl, rest) = word(rest);
-    let (key, rdata) = word(rest);
     let (record_type, ttl) = (record_type.parse()?, ttl.parse()?);
+    let (key, rdata) = word(rest);
+    Ok(record_in(alloc, (origin, owner), (record_type, ttl), (rdata, key))?)
+}
+
+fn record_in(
+    alloc: Global,
+    (origin, owner): (&str, &str),
+    (record_type, ttl): (i64, i64),
+    (rdata, key): (&str, &str),
+) -> Result<RecordRow, AllocError> {
+    let (origin, owner) = two(alloc, origin, owner)?;
+    let rdata = String::from_str(alloc, rdata)?;
     Ok(RecordRow {
-        origin: String::from_str(alloc, origin)?,
-        owner: String::from_str(alloc, owner)?,
+        origin,
+        owner,
         record_type,
-        rdata: String::from_str(alloc, rdata)?,
+        rdata,
         ttl,
         owner_key: Vec::from_slice(alloc, key.as_bytes())?,
     })
@@ -67,33 +83,64 @@ fn change_row(alloc: Global, text: &str) -> Result<ChangeRow> {
     let (number, rest) = word(rest);
     let (side, rest) = word(rest);
     let (owner, rest) = word(rest);
+    change_in(
+        alloc,
+        (origin, owner),
+        (number.parse()?, side.parse()?),
+        rest,
+    )
+}
+
+fn change_in(
+    alloc: Global,
+    (origin, owner): (&str, &str),
+    (number, side): (i64, i64),
+    rest: &str,
+) -> Result<ChangeRow> {
     let (record_type, rest) = word(rest);
     let (ttl, rdata) = word(rest);
-    let (number, side) = (number.parse()?, side.parse()?);
     let (record_type, ttl) = (record_type.parse()?, ttl.parse()?);
+    let (origin, owner) = two(alloc, origin, owner)?;
     Ok(ChangeRow {
-        origin: String::from_str(alloc, origin)?,
+        origin,
         number,
         side,
-        owner: String::from_str(alloc, owner)?,
+        owner,
         record_type,
         rdata: String::from_str(alloc, rdata)?,
         ttl,
     })
 }
 
-fn receipt_row(alloc: Global, text: &str) -> Result<ReceiptRow> {
+fn receipt_row(alloc: Global, text: &str) -> Result<ReceiptRow, AllocError> {
     let (caller, rest) = word(text);
     let (id, rest) = word(rest);
     let (origin, rest) = word(rest);
     let (items, reply) = rest.rsplit_once('|').unwrap_or(("", rest));
-    let items = items.replace(alloc, "|", "\n")?;
+    receipt_in(alloc, (caller, id), (origin, reply), request(alloc, items)?)
+}
+
+/// The lines of items with bars between them.
+fn request(alloc: Global, items: &str) -> Result<String, AllocError> {
+    let mut lines = items.replace(alloc, "|", "\n")?;
+    lines.push_str("\n")?;
+    Ok(lines)
+}
+
+fn receipt_in(
+    alloc: Global,
+    (caller, id): (&str, &str),
+    (origin, reply): (&str, &str),
+    request: String,
+) -> Result<ReceiptRow, AllocError> {
+    let (caller, id) = two(alloc, caller, id)?;
+    let (origin, reply) = two(alloc, origin, reply)?;
     Ok(ReceiptRow {
-        caller: String::from_str(alloc, caller)?,
-        id: String::from_str(alloc, id)?,
-        origin: String::from_str(alloc, origin)?,
-        request: format!(in alloc; "{items}\n")?,
-        reply: String::from_str(alloc, reply)?,
+        caller,
+        id,
+        origin,
+        request,
+        reply,
     })
 }
 

@@ -5,6 +5,7 @@ use anyhow::Result;
 use dns_data::Record;
 use dns_names::Name;
 use office_rows::{RowFault, changes_of, part_of, receipt_of, records_within, zone_of};
+use office_sql::{AllRows, ChangeRow, ReceiptRow, RecordRow};
 use std::alloc::{AllocError, Global};
 use test_rows::Row;
 use zone_core::{Change, Zone};
@@ -47,29 +48,61 @@ fn push_fault(alloc: Global, fault: RowFault, answer: &mut Vec<u8>) -> Result<()
 
 /// Appends what is read of the rows of a body.
 pub fn push_read(alloc: Global, row: &Row<'_>, answer: &mut Vec<u8>) -> Result<()> {
-    let rows = rows_of(alloc, &row.body)?;
+    let AllRows {
+        records,
+        receipts,
+        changes,
+        ..
+    } = rows_of(alloc, &row.body)?;
     match row.verb {
-        "zone" => {
-            let origin = Name::read_absolute(alloc, &row.text)?;
-            push_zone(alloc, zone_of(alloc, &origin, &rows.records), answer)?;
-        }
-        "part" => {
-            let origin = Name::read_absolute(alloc, &row.text)?;
-            push_zone(alloc, part_of(alloc, &origin, &rows.records), answer)?;
-        }
-        "subtree" => match records_within(alloc, &rows.records) {
-            Ok(records) => push_records(alloc, "", &records, answer)?,
-            Err(fault) => push_fault(alloc, fault, answer)?,
-        },
-        "receipt" => match receipt_of(alloc, &rows.receipts) {
-            Ok(Some(_)) => answer.extend_from_slice(b"a receipt\n")?,
-            Ok(None) => answer.extend_from_slice(b"no receipt\n")?,
-            Err(fault) => push_fault(alloc, fault, answer)?,
-        },
-        _ => match changes_of(alloc, rows.changes) {
-            Ok(changes) => push_changes(alloc, &changes, answer)?,
-            Err(fault) => push_fault(alloc, fault, answer)?,
-        },
+        "zone" | "part" => push_zone_at(alloc, row, &records, answer),
+        "subtree" => Ok(push_subtree(alloc, &records, answer)?),
+        "receipt" => Ok(push_receipt(alloc, &receipts, answer)?),
+        _ => Ok(push_read_changes(alloc, changes, answer)?),
     }
-    Ok(())
+}
+
+/// Appends the zone of the origin of a row, or its part.
+fn push_zone_at(
+    alloc: Global,
+    row: &Row<'_>,
+    records: &[RecordRow],
+    answer: &mut Vec<u8>,
+) -> Result<()> {
+    let origin = Name::read_absolute(alloc, &row.text)?;
+    let zone = match row.verb {
+        "zone" => zone_of(alloc, &origin, records),
+        _ => part_of(alloc, &origin, records),
+    };
+    Ok(push_zone(alloc, zone, answer)?)
+}
+
+fn push_subtree(alloc: Global, rows: &[RecordRow], answer: &mut Vec<u8>) -> Result<(), AllocError> {
+    match records_within(alloc, rows) {
+        Ok(records) => push_records(alloc, "", &records, answer),
+        Err(fault) => push_fault(alloc, fault, answer),
+    }
+}
+
+fn push_receipt(
+    alloc: Global,
+    rows: &[ReceiptRow],
+    answer: &mut Vec<u8>,
+) -> Result<(), AllocError> {
+    match receipt_of(alloc, rows) {
+        Ok(Some(_)) => answer.extend_from_slice(b"a receipt\n"),
+        Ok(None) => answer.extend_from_slice(b"no receipt\n"),
+        Err(fault) => push_fault(alloc, fault, answer),
+    }
+}
+
+fn push_read_changes(
+    alloc: Global,
+    rows: Vec<ChangeRow>,
+    answer: &mut Vec<u8>,
+) -> Result<(), AllocError> {
+    match changes_of(alloc, rows) {
+        Ok(changes) => push_changes(alloc, &changes, answer),
+        Err(fault) => push_fault(alloc, fault, answer),
+    }
 }

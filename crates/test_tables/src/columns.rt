@@ -9,26 +9,58 @@ pub fn text_of(octets: &[u8]) -> Result<&str, Refusal> {
     str::from_utf8(octets).or(Err(Refusal::Columns))
 }
 
-fn columns(alloc: Global, text: &str) -> Result<Vec<&str>, AllocError> {
-    text.split('|').collect(alloc)
+/// The text before its first bar, and what stands behind it.
+fn column(text: &str) -> Result<(&str, &str), Refusal> {
+    text.split_once('|').ok_or(Refusal::Columns)
+}
+
+/// A text that is a column, and the last one.
+fn last(text: &str) -> Result<&str, Refusal> {
+    if text.contains('|') {
+        Err(Refusal::Columns)
+    } else {
+        Ok(text)
+    }
 }
 
 fn number(column: &str) -> Result<i64, Refusal> {
     column.parse::<i64>().or(Err(Refusal::Columns))
 }
 
+fn two(alloc: Global, one: &str, other: &str) -> Result<(String, String), AllocError> {
+    let one = String::from_str(alloc, one)?;
+    Ok((one, String::from_str(alloc, other)?))
+}
+
 /// The row of a record.
 pub fn record_of(alloc: Global, text: &str) -> Result<RecordRow, Refusal> {
-    let columns = columns(alloc, text)?;
-    let [origin, owner, record_type, rdata, ttl, key] = columns.as_slice() else {
-        return Err(Refusal::Columns);
-    };
+    let (origin, rest) = column(text)?;
+    let (owner, rest) = column(rest)?;
+    let (record_type, rest) = column(rest)?;
+    let (rdata, rest) = column(rest)?;
+    let (ttl, key) = column(rest)?;
+    record_in(
+        alloc,
+        (origin, owner),
+        (record_type, ttl),
+        (rdata, last(key)?),
+    )
+}
+
+fn record_in(
+    alloc: Global,
+    (origin, owner): (&str, &str),
+    (record_type, ttl): (&str, &str),
+    (rdata, key): (&str, &str),
+) -> Result<RecordRow, Refusal> {
     let (record_type, ttl) = (number(record_type)?, number(ttl)?);
+    let (origin, owner) = two(alloc, origin, owner)?;
+    let rdata = String::from_str(alloc, rdata)?;
     Ok(RecordRow {
-        origin: String::from_str(alloc, origin)?,
-        owner: String::from_str(alloc, owner)?,
+        origin,
+        owner,
         record_type,
-        rdata: String::from_str(alloc, rdata)?,
+        rdata,
         ttl,
         owner_key: Vec::from_slice(alloc, key.as_bytes())?,
     })
@@ -36,17 +68,29 @@ pub fn record_of(alloc: Global, text: &str) -> Result<RecordRow, Refusal> {
 
 /// The row of a change.
 pub fn change_of(alloc: Global, text: &str) -> Result<ChangeRow, Refusal> {
-    let columns = columns(alloc, text)?;
-    let [origin, change, side, owner, record_type, rdata, ttl] = columns.as_slice() else {
-        return Err(Refusal::Columns);
-    };
-    let (change, side) = (number(change)?, number(side)?);
+    let (origin, rest) = column(text)?;
+    let (change, rest) = column(rest)?;
+    let (side, rest) = column(rest)?;
+    let (owner, rest) = column(rest)?;
+    let numbers = (number(change)?, number(side)?);
+    change_in(alloc, (origin, owner), numbers, rest)
+}
+
+fn change_in(
+    alloc: Global,
+    (origin, owner): (&str, &str),
+    (number_of, side): (i64, i64),
+    rest: &str,
+) -> Result<ChangeRow, Refusal> {
+    let (record_type, rest) = column(rest)?;
+    let (rdata, ttl) = column(rest)?;
     let (record_type, ttl) = (number(record_type)?, number(ttl)?);
+    let (origin, owner) = two(alloc, origin, owner)?;
     Ok(ChangeRow {
-        origin: String::from_str(alloc, origin)?,
-        number: change,
+        origin,
+        number: number_of,
         side,
-        owner: String::from_str(alloc, owner)?,
+        owner,
         record_type,
         rdata: String::from_str(alloc, rdata)?,
         ttl,
@@ -55,16 +99,27 @@ pub fn change_of(alloc: Global, text: &str) -> Result<ChangeRow, Refusal> {
 
 /// The row of a receipt.
 pub fn receipt_of(alloc: Global, text: &str) -> Result<ReceiptRow, Refusal> {
-    let columns = columns(alloc, text)?;
-    let [caller, id, origin, request, reply] = columns.as_slice() else {
-        return Err(Refusal::Columns);
-    };
+    let (caller, rest) = column(text)?;
+    let (id, rest) = column(rest)?;
+    let (origin, rest) = column(rest)?;
+    let (request, reply) = column(rest)?;
+    receipt_in(alloc, (caller, id), origin, (request, last(reply)?))
+}
+
+fn receipt_in(
+    alloc: Global,
+    (caller, id): (&str, &str),
+    origin: &str,
+    (request, reply): (&str, &str),
+) -> Result<ReceiptRow, Refusal> {
+    let (caller, id) = two(alloc, caller, id)?;
+    let (request, reply) = two(alloc, request, reply)?;
     Ok(ReceiptRow {
-        caller: String::from_str(alloc, caller)?,
-        id: String::from_str(alloc, id)?,
+        caller,
+        id,
         origin: String::from_str(alloc, origin)?,
-        request: String::from_str(alloc, request)?,
-        reply: String::from_str(alloc, reply)?,
+        request,
+        reply,
     })
 }
 

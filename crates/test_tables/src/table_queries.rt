@@ -5,11 +5,11 @@ ghost use Rattle.std.specs.Prelude.{◌≡◌, false};
 use crate::columns::{change_text, receipt_text, record_text, text_of};
 use crate::refusal::Refusal;
 use office_sql::{
-    RecordRow, all_rows, changes_of, has_zone, last_number, receipts_of, records_at,
-    records_between, records_of, versions,
+    AllRows, ChangeRow, ReceiptRow, RecordRow, all_rows, changes_of, has_zone, last_number,
+    receipts_of, records_at, records_between, records_of, versions,
 };
 use sqlite::{Alter, Connection};
-use std::alloc::Global;
+use std::alloc::{AllocError, Global};
 use test_rows::Row;
 
 /// Appends texts in order, each on a line; `none` where there is none.
@@ -172,25 +172,56 @@ pub fn push_all<S: Alter>(
 ) -> Result<(), Refusal>
     requires { conn.old.in_transaction ≡ false }
 {
-    let all = all_rows(alloc, conn)?;
     let mut texts = Vec::new(alloc);
+    push_texts(alloc, &all_rows(alloc, conn)?, &mut texts)?;
+    push_lines(texts, answer)
+}
+
+/// Appends a text for each row.
+fn push_texts(alloc: Global, all: &AllRows, texts: &mut Vec<String>) -> Result<(), AllocError> {
     for version in &all.versions {
         texts.push(format!(in alloc; "version {version}")?)?;
     }
     for zone in &all.zones {
         texts.push(format!(in alloc; "zone {}", zone.origin)?)?;
     }
-    for row in &all.records {
+    push_record_texts(alloc, &all.records, texts)?;
+    push_receipt_texts(alloc, &all.receipts, texts)?;
+    push_change_texts(alloc, &all.changes, texts)
+}
+
+fn push_record_texts(
+    alloc: Global,
+    rows: &[RecordRow],
+    texts: &mut Vec<String>,
+) -> Result<(), AllocError> {
+    for row in rows {
         let text = record_text(alloc, row)?;
         texts.push(format!(in alloc; "record {text}")?)?;
     }
-    for row in &all.receipts {
+    Ok(())
+}
+
+fn push_receipt_texts(
+    alloc: Global,
+    rows: &[ReceiptRow],
+    texts: &mut Vec<String>,
+) -> Result<(), AllocError> {
+    for row in rows {
         let text = receipt_text(alloc, row)?;
         texts.push(format!(in alloc; "receipt {text}")?)?;
     }
-    for row in &all.changes {
+    Ok(())
+}
+
+fn push_change_texts(
+    alloc: Global,
+    rows: &[ChangeRow],
+    texts: &mut Vec<String>,
+) -> Result<(), AllocError> {
+    for row in rows {
         let text = change_text(alloc, row)?;
         texts.push(format!(in alloc; "change {text}")?)?;
     }
-    push_lines(texts, answer)
+    Ok(())
 }
