@@ -19,13 +19,19 @@ pub fn push_answer(alloc: Global, row: &Row<'_>, answer: &mut Vec<u8>) -> Result
 
 fn answer_to(alloc: Global, row: &Row<'_>, answer: &mut Vec<u8>) -> Result<(), BodyFault> {
     match row.verb {
-        "update" => push_body(alloc, &read_update(alloc, &row.text)?, answer),
-        "update-size" => push_size(alloc, &read_update(alloc, &row.text)?, answer),
-        "delegation" => push_body(alloc, &delegation(alloc, row)?, answer),
-        "delegation-size" => push_size(alloc, &delegation(alloc, row)?, answer),
+        "update" | "delegation" => push_body(alloc, &body_of(alloc, row)?, answer),
+        "update-size" | "delegation-size" => push_size(alloc, &body_of(alloc, row)?, answer),
         "refusals" => push_refusals(row, answer),
         "no-memory" => Err(BodyFault::NoMemory),
         _ => push_reply(alloc, row, answer),
+    }
+}
+
+/// The update or the delegation that a row reads.
+fn body_of(alloc: Global, row: &Row<'_>) -> Result<UpdateBody, BodyFault> {
+    match row.verb {
+        "update" | "update-size" => read_update(alloc, &row.text),
+        _ => delegation(alloc, row),
     }
 }
 

@@ -29,7 +29,7 @@ impl Policies {
         let (first, rest) = row.split();
         match row.verb {
             "policy" | "many" | "build" => self.keep(alloc, row),
-            "decide" | "rights" | "idle" => answer_of(alloc, self.policy()?, row),
+            "decide" | "rights" | "idle" => self.ask(alloc, row),
             "covers" => covering(alloc, first, rest),
             "identifier" => identifier(alloc, &row.text),
             "identifiers" => identifiers(alloc, first, rest),
@@ -46,8 +46,12 @@ impl Policies {
         told(alloc, "read")
     }
 
-    fn policy(&self) -> Result<&Policy, Fault> {
-        self.kept.as_ref().ok_or(Fault::NoPolicy)
+    /// What a row asks of the policy that is kept.
+    fn ask(&self, alloc: Global, row: &Row<'_>) -> Result<String, Fault> {
+        match &self.kept {
+            Some(policy) => answer_of(alloc, policy, row),
+            None => Err(Fault::NoPolicy),
+        }
     }
 }
 

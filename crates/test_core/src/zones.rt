@@ -82,9 +82,19 @@ fn answer_of_zone(
         "change" => push_change(alloc, zone, &row.body, answer),
         "after" => push_after(alloc, zone, &row.body, answer),
         "serial-after" => push_serial_after(alloc, zone, &row.body, answer),
-        "to" => push_difference(alloc, zone, &built(alloc, row)?, answer),
+        "to" => push_difference_to(alloc, zone, row, answer),
         _ => answer_without_zone(alloc, row, answer),
     }
+}
+
+/// Appends what leads from a zone to that of a row.
+fn push_difference_to(
+    alloc: Global,
+    zone: &Zone,
+    row: &Row<'_>,
+    answer: &mut Vec<u8>,
+) -> Result<(), Refusal> {
+    push_difference(alloc, zone, &built(alloc, row)?, answer)
 }
 
 fn answer_without_zone(alloc: Global, row: &Row<'_>, answer: &mut Vec<u8>) -> Result<(), Refusal> {

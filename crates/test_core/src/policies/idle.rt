@@ -30,7 +30,8 @@ fn push_takers(policy: &Policy, takers: &[usize], text: &mut String) -> Result<(
 }
 
 fn id(policy: &Policy, rule: usize) -> &str {
-    policy.rules().get(rule).map_or("no rule", |rule| {
-        str::from_utf8(rule.id.as_bytes()).unwrap_or("octets outside ASCII")
-    })
+    match policy.rules().get(rule) {
+        Some(rule) => str::from_utf8(rule.id.as_bytes()).unwrap_or("octets outside ASCII"),
+        None => "no rule",
+    }
 }
