@@ -1,5 +1,7 @@
-//! Policies, zones, items of updates and JSON bodies, by rows: worked examples, whose wanted values come from the standards, from the
-//! formats, or from hand. `section NAME` says what the rows below are about.
+//! Names, record data, master files, policies, zones, items of updates and JSON bodies, by rows: outside vectors and worked examples,
+//! whose wanted values come from the standards, from the formats, or from hand. `section NAME` says what the rows below are about.
+//!
+//! `names`, `data` and `files`: of these rows the crate `test_dns` tells.
 //!
 //! `policies`: `policy` reads the document of its body and keeps it, and `many N` that of its body N times, where `#` stands for the
 //! number of each time, from 0. `build` keeps the policy of the rules of its body, a line `ID EFFECT CALLER SCOPE AT TYPES ACTIONS`
@@ -41,5 +43,5 @@ mod zones;
 use std::io;
 
 fn main(rt: HostRuntime) -> io::Result<()> {
-    test_rows::run(&rt, &mut sections::Sections::new())
+    test_rows::run(&rt, &mut sections::Sections::new(rt.alloc()))
 }

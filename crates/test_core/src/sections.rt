@@ -3,11 +3,15 @@ use crate::items::Items;
 use crate::policies::Policies;
 use crate::zones::Zones;
 use std::alloc::{AllocError, Global};
+use test_dns::{Records, push_file_answer, push_name_answer};
 use test_rows::{Answers, Row};
 
 /// What rows are about.
 #[derive(Clone, Copy)]
 enum Section {
+    Names,
+    Data,
+    Files,
     Policies,
     Zones,
     Items,
@@ -18,16 +22,18 @@ enum Section {
 #[derive(Drop)]
 pub struct Sections {
     section: Section,
+    records: Records,
     policies: Policies,
     zones: Zones,
     items: Items,
 }
 
 impl Sections {
-    /// The section of policies is open, with no policy and no zone.
-    pub fn new() -> Sections {
+    /// The section of names is open, with no record ranked, no policy and no zone.
+    pub fn new(alloc: Global) -> Sections {
         Sections {
-            section: Section::Policies,
+            section: Section::Names,
+            records: Records::new(alloc),
             policies: Policies::new(),
             zones: Zones { zone: None },
             items: Items::new(),
@@ -37,6 +43,9 @@ impl Sections {
     /// Opens the section of a row.
     fn open(&mut self, row: &Row<'_>, answer: &mut Vec<u8>) -> Result<(), AllocError> {
         self.section = match row.text.as_slice() {
+            b"names" => Section::Names,
+            b"data" => Section::Data,
+            b"files" => Section::Files,
             b"policies" => Section::Policies,
             b"zones" => Section::Zones,
             b"items" => Section::Items,
@@ -58,6 +67,9 @@ impl Answers for Sections {
             return self.open(row, answer);
         }
         match self.section {
+            Section::Names => push_name_answer(alloc, row, answer),
+            Section::Data => self.records.answer(alloc, row, answer),
+            Section::Files => push_file_answer(alloc, row, answer),
             Section::Policies => self.policies.answer(alloc, row, answer),
             Section::Zones => self.zones.answer(alloc, row, answer),
             Section::Items => self.items.answer(alloc, row, answer),

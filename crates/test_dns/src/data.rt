@@ -25,16 +25,16 @@ impl Records {
             "type" => type_answer(alloc, &row.text),
             "numbered" => numbered(alloc, &row.text),
             "ttl" => ttl(alloc, &row.text),
-            "data" => Ok(data_text(alloc, &data(alloc, &row.text, None)?)?),
+            "data" => read_again(alloc, &row.text, None),
             "data-at" => data_at(alloc, &row.text),
-            "count" => count(alloc, &data(alloc, &row.text, None)?),
-            "ipv4" => ipv4(alloc, &row.text),
-            "ipv6" => ipv6(alloc, &row.text),
+            "count" => counted(alloc, &row.text),
+            "ipv4" => text_of(alloc, &ipv4(&row.text)),
+            "ipv6" => text_of(alloc, &ipv6(&row.text)),
             "line" => line(alloc, &row.text),
-            "same" => Ok(String::from_str(alloc, sameness(alloc, &row.body)?)?),
+            "same" => told(alloc, sameness(alloc, &row.body)?),
             "ranked" => rank(alloc, &mut self.ranked, &row.text),
             "no-memory" => Err(DataFault::NoMemory),
-            _ => Ok(String::from_str(alloc, "no such verb")?),
+            _ => told(alloc, "no such verb"),
         }
     }
 }
@@ -52,6 +52,20 @@ impl Answers for Records {
         };
         answer.extend_from_slice(told.as_bytes())
     }
+}
+
+fn told(alloc: Global, text: &str) -> Result<String, DataFault> {
+    Ok(String::from_str(alloc, text)?)
+}
+
+/// The text of data.
+fn text_of(alloc: Global, rdata: &Data) -> Result<String, DataFault> {
+    Ok(data_text(alloc, rdata)?)
+}
+
+/// The text of the data that `TYPE ITEMS` writes.
+fn read_again(alloc: Global, text: &[u8], origin: Option<&Name>) -> Result<String, DataFault> {
+    text_of(alloc, &data(alloc, text, origin)?)
 }
 
 fn type_answer(alloc: Global, text: &[u8]) -> Result<String, DataFault> {
@@ -84,30 +98,41 @@ fn ttl(alloc: Global, text: &[u8]) -> Result<String, DataFault> {
 
 fn data_at(alloc: Global, text: &[u8]) -> Result<String, DataFault> {
     let (origin, rest) = word(text);
-    let origin = Name::read_absolute(alloc, origin)?;
-    Ok(data_text(alloc, &data(alloc, rest, Some(&origin))?)?)
+    read_again(alloc, rest, Some(&Name::read_absolute(alloc, origin)?))
 }
 
-fn count(alloc: Global, rdata: &Data) -> Result<String, DataFault> {
-    Ok(match rdata {
-        Data::Txt(strings) => format!(in alloc; "{} strings", strings.as_slice().len())?,
-        Data::Ds { digest, .. } => format!(in alloc; "{} octets", digest.octets().len())?,
-        _ => String::from_str(alloc, "neither strings nor a digest")?,
-    })
+fn counted(alloc: Global, text: &[u8]) -> Result<String, DataFault> {
+    Ok(count(alloc, &data(alloc, text, None)?)?)
 }
 
-fn ipv4(alloc: Global, text: &[u8]) -> Result<String, DataFault> {
+fn count(alloc: Global, rdata: &Data) -> Result<String, AllocError> {
+    match rdata {
+        Data::Txt(strings) => format!(in alloc; "{} strings", strings.as_slice().len()),
+        Data::Ds { digest, .. } => format!(in alloc; "{} octets", digest.octets().len()),
+        _ => String::from_str(alloc, "neither strings nor a digest"),
+    }
+}
+
+/// The address of numbers with a space between two.
+fn ipv4(text: &[u8]) -> Data {
     let mut octets = [0u8; 4];
-    for (octet, word) in octets.iter_mut().zip(text.split(|octet| *octet == b' ')) {
-        *octet = decimal_octet(word).unwrap_or(0);
+    let mut rest = text;
+    for octet in &mut octets {
+        let (first, behind) = word(rest);
+        *octet = decimal_octet(first).unwrap_or(0);
+        rest = behind;
     }
-    Ok(data_text(alloc, &Data::A(Ipv4Addr::from(octets)))?)
+    Data::A(Ipv4Addr::from(octets))
 }
 
-fn ipv6(alloc: Global, text: &[u8]) -> Result<String, DataFault> {
+/// The address of groups with a space between two.
+fn ipv6(text: &[u8]) -> Data {
     let mut groups = [0u16; 8];
-    for (group, word) in groups.iter_mut().zip(text.split(|octet| *octet == b' ')) {
-        *group = hexadecimal(word).unwrap_or(0);
+    let mut rest = text;
+    for group in &mut groups {
+        let (first, behind) = word(rest);
+        *group = hexadecimal(first).unwrap_or(0);
+        rest = behind;
     }
-    Ok(data_text(alloc, &Data::Aaaa(Ipv6Addr::from(groups)))?)
+    Data::Aaaa(Ipv6Addr::from(groups))
 }

@@ -7,7 +7,11 @@ use std::str;
 use test_rows::Row;
 
 /// Appends the answer to a row of master files.
-pub fn push_answer(alloc: Global, row: &Row<'_>, answer: &mut Vec<u8>) -> Result<(), AllocError> {
+pub fn push_file_answer(
+    alloc: Global,
+    row: &Row<'_>,
+    answer: &mut Vec<u8>,
+) -> Result<(), AllocError> {
     match answer_to(alloc, row, answer) {
         Ok(()) => Ok(()),
         Err(fault) => push_fault(alloc, fault, answer),
@@ -34,18 +38,25 @@ fn push(text: &str, answer: &mut Vec<u8>) -> Result<(), MasterFault> {
 
 /// Appends a refusal: its numbers, the line if it has one, and its words.
 fn push_fault(alloc: Global, fault: MasterFault, answer: &mut Vec<u8>) -> Result<(), AllocError> {
-    let number = fault.number();
-    answer.extend_from_slice(format!(in alloc; "refused {number}")?.as_bytes())?;
-    if let MasterFault::Data { fault, .. } = fault {
-        answer.extend_from_slice(format!(in alloc; ".{}", fault.number())?.as_bytes())?;
-        if let DataFault::Name(fault) = fault {
-            answer.extend_from_slice(format!(in alloc; ".{}", fault.number())?.as_bytes())?;
-        }
+    let numbers = numbers(alloc, fault)?;
+    let text = match fault.line() {
+        Some(line) => format!(in alloc; "refused {numbers} at {line}: {fault}"),
+        None => format!(in alloc; "refused {numbers}: {fault}"),
+    };
+    answer.extend_from_slice(text?.as_bytes())
+}
+
+/// The number of a fault, and those of the faults inside it.
+fn numbers(alloc: Global, outer: MasterFault) -> Result<String, AllocError> {
+    let number = outer.number();
+    let MasterFault::Data { fault, .. } = outer else {
+        return format!(in alloc; "{number}");
+    };
+    let inner = fault.number();
+    match fault {
+        DataFault::Name(fault) => format!(in alloc; "{number}.{inner}.{}", fault.number()),
+        _ => format!(in alloc; "{number}.{inner}"),
     }
-    if let Some(line) = fault.line() {
-        answer.extend_from_slice(format!(in alloc; " at {line}")?.as_bytes())?;
-    }
-    answer.extend_from_slice(format!(in alloc; ": {fault}")?.as_bytes())
 }
 
 fn number(text: &[u8]) -> usize {
@@ -82,14 +93,18 @@ fn push_tokens(
         if i > 0 {
             push(" ", answer)?;
         }
-        let quote = if token.item.quoted { "\"" } else { "" };
-        push(quote, answer)?;
-        answer.extend_from_slice(token.item.raw)?;
-        push(quote, answer)?;
-        let place = format!(in alloc; "@{}:{}:{}", token.start, token.line, token.entry)?;
-        push(place.as_str(), answer)?;
+        push_token(alloc, token, answer)?;
     }
     Ok(())
+}
+
+fn push_token(alloc: Global, token: &Token<'_>, answer: &mut Vec<u8>) -> Result<(), MasterFault> {
+    let quote = if token.item.quoted { "\"" } else { "" };
+    push(quote, answer)?;
+    answer.extend_from_slice(token.item.raw)?;
+    push(quote, answer)?;
+    let place = format!(in alloc; "@{}:{}:{}", token.start, token.line, token.entry)?;
+    push(place.as_str(), answer)
 }
 
 /// Appends how many items there are, and a line for each entry: the line that it begins on, and how many items it has.
@@ -103,14 +118,28 @@ fn push_entries(
         answer,
     )?;
     for (i, token) in tokens.iter().enumerate() {
-        let entry = token.entry;
-        if !tokens[..i].iter().any(|token| token.entry == entry) {
-            let items = tokens.iter().filter(|token| token.entry == entry).count();
-            let line = format!(in alloc; "\nentry {entry}, line {}: {items} items", token.line)?;
-            push(line.as_str(), answer)?;
+        if !has_entry(&tokens[..i], token.entry) {
+            push_entry(alloc, tokens, token, answer)?;
         }
     }
     Ok(())
+}
+
+fn has_entry(tokens: &[Token<'_>], entry: usize) -> bool {
+    tokens.iter().any(|token| token.entry == entry)
+}
+
+/// Appends a line for the entry that begins with a token.
+fn push_entry(
+    alloc: Global,
+    tokens: &[Token<'_>],
+    first: &Token<'_>,
+    answer: &mut Vec<u8>,
+) -> Result<(), MasterFault> {
+    let (entry, line) = (first.entry, first.line);
+    let items = tokens.iter().filter(|token| token.entry == entry).count();
+    let line = format!(in alloc; "\nentry {entry}, line {line}: {items} items")?;
+    push(line.as_str(), answer)
 }
 
 fn push_records(
@@ -139,14 +168,33 @@ fn push_zone(
     answer: &mut Vec<u8>,
 ) -> Result<(), MasterFault> {
     let name = origin(alloc, top)?;
-    let zone = read_file(alloc, text, &name)?;
-    let page = printed(alloc, Sheet::Zone(&name, &zone), most)?;
+    push_zone_of(alloc, most, &name, &read_file(alloc, text, &name)?, answer)
+}
+
+fn push_zone_of(
+    alloc: Global,
+    most: usize,
+    name: &Name,
+    zone: &[Record],
+    answer: &mut Vec<u8>,
+) -> Result<(), MasterFault> {
+    let page = printed(alloc, Sheet::Zone(name, zone), most)?;
     answer.extend_from_slice(&page)?;
-    let again = records(alloc, b".", &page)?;
-    if printed(alloc, Sheet::Zone(&name, &again), most)? != page {
-        push("and otherwise once it is read", answer)?;
+    if is_printed_again(alloc, most, name, &page)? {
+        return Ok(());
     }
-    Ok(())
+    push("and otherwise once it is read", answer)
+}
+
+fn is_printed_again(
+    alloc: Global,
+    most: usize,
+    name: &Name,
+    page: &[u8],
+) -> Result<bool, MasterFault> {
+    let again = records(alloc, b".", page)?;
+    let printed = printed(alloc, Sheet::Zone(name, &again), most)?;
+    Ok(printed.as_slice() == page)
 }
 
 /// Appends the zone that is printed of a file relative to its origin, which has to have the same records once it is read.
@@ -158,13 +206,23 @@ fn push_relative(
     answer: &mut Vec<u8>,
 ) -> Result<(), MasterFault> {
     let name = origin(alloc, top)?;
-    let zone = read_file(alloc, text, &name)?;
-    let page = printed(alloc, Sheet::Relative(&name, &zone), most)?;
+    push_relative_of(alloc, most, &name, &read_file(alloc, text, &name)?, answer)
+}
+
+fn push_relative_of(
+    alloc: Global,
+    most: usize,
+    name: &Name,
+    zone: &[Record],
+    answer: &mut Vec<u8>,
+) -> Result<(), MasterFault> {
+    let page = printed(alloc, Sheet::Relative(name, zone), most)?;
     answer.extend_from_slice(&page)?;
-    if records(alloc, b".", &page)? != zone {
-        push("and other records once it is read", answer)?;
+    let again = records(alloc, b".", &page)?;
+    if again.as_slice() == zone {
+        return Ok(());
     }
-    Ok(())
+    push("and other records once it is read", answer)
 }
 
 /// Appends the lines that are printed of a file.
@@ -175,7 +233,15 @@ fn push_lines(
     text: &[u8],
     answer: &mut Vec<u8>,
 ) -> Result<(), MasterFault> {
-    let lines = records(alloc, top, text)?;
-    let page = printed(alloc, Sheet::Lines(&lines), most)?;
+    push_lines_of(alloc, most, &records(alloc, top, text)?, answer)
+}
+
+fn push_lines_of(
+    alloc: Global,
+    most: usize,
+    records: &[Record],
+    answer: &mut Vec<u8>,
+) -> Result<(), MasterFault> {
+    let page = printed(alloc, Sheet::Lines(records), most)?;
     Ok(answer.extend_from_slice(&page)?)
 }

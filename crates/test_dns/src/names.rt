@@ -1,10 +1,14 @@
-use dns_names::{Name, NameFault, Symbol, first_symbol};
+use dns_names::{KeyRange, Name, NameFault, Symbol, first_symbol};
 use std::alloc::{AllocError, Global};
 use std::cmp::Ordering;
 use test_rows::Row;
 
 /// Appends the answer to a row of names.
-pub fn push_answer(alloc: Global, row: &Row<'_>, answer: &mut Vec<u8>) -> Result<(), AllocError> {
+pub fn push_name_answer(
+    alloc: Global,
+    row: &Row<'_>,
+    answer: &mut Vec<u8>,
+) -> Result<(), AllocError> {
     match answer_to(alloc, row, answer) {
         Ok(()) => Ok(()),
         Err(fault) => push_fault(alloc, &fault, answer),
@@ -14,13 +18,10 @@ pub fn push_answer(alloc: Global, row: &Row<'_>, answer: &mut Vec<u8>) -> Result
 fn answer_to(alloc: Global, row: &Row<'_>, answer: &mut Vec<u8>) -> Result<(), NameFault> {
     let (first, rest) = row.split();
     match row.verb {
-        "absolute" => push_name(alloc, &Name::read_absolute(alloc, &row.text)?, answer),
+        "absolute" | "labels" | "parents" | "key" => push_told(alloc, row, answer),
         "relative" => push_relative(alloc, first, rest, answer),
         "print-relative" => push_printed(alloc, first, rest, answer),
-        "labels" => push_labels(&Name::read_absolute(alloc, first)?, answer),
-        "parents" => push_parents(alloc, Name::read_absolute(alloc, first)?, answer),
-        "key" => push_key(alloc, &Name::read_absolute(alloc, first)?, answer),
-        "ancestor-key" => push_ancestor_key(&Name::read_absolute(alloc, rest)?, first, answer),
+        "ancestor-key" => push_ancestor_key(alloc, first, rest, answer),
         "within" => push_place(alloc, first, rest, answer),
         "range" => push_range(alloc, first, rest, answer),
         "order" => push_order(alloc, Order::Canonical, &row.body, answer),
@@ -28,6 +29,30 @@ fn answer_to(alloc: Global, row: &Row<'_>, answer: &mut Vec<u8>) -> Result<(), N
         "symbol" => push_symbol(alloc, &row.text, answer),
         "no-memory" => Err(NameFault::NoMemory),
         _ => push("no such verb", answer),
+    }
+}
+
+/// Appends what a row asks of its name.
+fn push_told(alloc: Global, row: &Row<'_>, answer: &mut Vec<u8>) -> Result<(), NameFault> {
+    push_of_name(
+        alloc,
+        row.verb,
+        &Name::read_absolute(alloc, &row.text)?,
+        answer,
+    )
+}
+
+fn push_of_name(
+    alloc: Global,
+    verb: &str,
+    name: &Name,
+    answer: &mut Vec<u8>,
+) -> Result<(), NameFault> {
+    match verb {
+        "labels" => push_labels(name, answer),
+        "parents" => push_parents(alloc, name, answer),
+        "key" => push_key(alloc, name, answer),
+        _ => push_name(alloc, name, answer),
     }
 }
 
@@ -43,11 +68,24 @@ fn push_fault(alloc: Global, fault: &NameFault, answer: &mut Vec<u8>) -> Result<
 /// Appends the text of the name, which has to be the same name again.
 fn push_name(alloc: Global, name: &Name, answer: &mut Vec<u8>) -> Result<(), NameFault> {
     let text = name.text(alloc)?;
-    push(text.as_str(), answer)?;
-    if Name::read_absolute(alloc, text.as_bytes())? != *name {
-        push(", which is another name", answer)?;
+    push_text(alloc, text.as_str(), name, answer)
+}
+
+fn push_text(
+    alloc: Global,
+    text: &str,
+    name: &Name,
+    answer: &mut Vec<u8>,
+) -> Result<(), NameFault> {
+    push(text, answer)?;
+    push_whether_same(&Name::read_absolute(alloc, text.as_bytes())?, name, answer)
+}
+
+fn push_whether_same(again: &Name, name: &Name, answer: &mut Vec<u8>) -> Result<(), NameFault> {
+    if again == name {
+        return Ok(());
     }
-    Ok(())
+    push(", which is another name", answer)
 }
 
 fn push_relative(
@@ -68,13 +106,22 @@ fn push_printed(
     answer: &mut Vec<u8>,
 ) -> Result<(), NameFault> {
     let origin = Name::read_absolute(alloc, origin)?;
-    let name = Name::read_absolute(alloc, text)?;
-    let text = name.relative_text(alloc, &origin)?;
+    push_printed_at(alloc, &origin, &Name::read_absolute(alloc, text)?, answer)
+}
+
+fn push_printed_at(
+    alloc: Global,
+    origin: &Name,
+    name: &Name,
+    answer: &mut Vec<u8>,
+) -> Result<(), NameFault> {
+    let text = name.relative_text(alloc, origin)?;
     push(text.as_str(), answer)?;
-    if Name::read_relative(alloc, text.as_bytes(), &origin)? != name {
-        push(", which is another name", answer)?;
-    }
-    Ok(())
+    push_whether_same(
+        &Name::read_relative(alloc, text.as_bytes(), origin)?,
+        name,
+        answer,
+    )
 }
 
 fn push_labels(name: &Name, answer: &mut Vec<u8>) -> Result<(), NameFault> {
@@ -86,19 +133,26 @@ fn push_labels(name: &Name, answer: &mut Vec<u8>) -> Result<(), NameFault> {
     Ok(())
 }
 
-fn push_parents(alloc: Global, name: Name, answer: &mut Vec<u8>) -> Result<(), NameFault> {
-    let labels = name.labels().count();
-    let mut rest = Some(name);
-    for _ in 0..=labels {
-        if let Some(name) = rest {
-            push(name.text(alloc)?.as_str(), answer)?;
-            push(" ", answer)?;
-            rest = name.parent(alloc)?;
-        } else {
-            rest = None;
-        }
+fn push_parents(alloc: Global, name: &Name, answer: &mut Vec<u8>) -> Result<(), NameFault> {
+    let mut above = push_and_step(alloc, name, answer)?;
+    for _ in name.labels() {
+        above = match above {
+            Some(name) => push_and_step(alloc, &name, answer)?,
+            None => None,
+        };
     }
-    push(if rest.is_none() { "none" } else { "more" }, answer)
+    push(if above.is_none() { "none" } else { "more" }, answer)
+}
+
+/// Appends the text of a name, and tells its parent.
+fn push_and_step(
+    alloc: Global,
+    name: &Name,
+    answer: &mut Vec<u8>,
+) -> Result<Option<Name>, NameFault> {
+    push(name.text(alloc)?.as_str(), answer)?;
+    push(" ", answer)?;
+    Ok(name.parent(alloc)?)
 }
 
 fn push_key(alloc: Global, name: &Name, answer: &mut Vec<u8>) -> Result<(), NameFault> {
@@ -109,10 +163,24 @@ fn push_key(alloc: Global, name: &Name, answer: &mut Vec<u8>) -> Result<(), Name
     Ok(())
 }
 
-fn push_ancestor_key(name: &Name, labels: &[u8], answer: &mut Vec<u8>) -> Result<(), NameFault> {
-    let labels = str::from_utf8(labels)
-        .ok()
-        .and_then(|text| text.parse::<usize>().ok());
+fn push_ancestor_key(
+    alloc: Global,
+    labels: &[u8],
+    name: &[u8],
+    answer: &mut Vec<u8>,
+) -> Result<(), NameFault> {
+    push_ancestor_key_of(&Name::read_absolute(alloc, name)?, number(labels), answer)
+}
+
+fn number(digits: &[u8]) -> Option<usize> {
+    str::from_utf8(digits).ok()?.parse().ok()
+}
+
+fn push_ancestor_key_of(
+    name: &Name,
+    labels: Option<usize>,
+    answer: &mut Vec<u8>,
+) -> Result<(), NameFault> {
     match labels.and_then(|labels| name.ancestor_key(labels)) {
         Some(key) => Ok(answer.extend_from_slice(key)?),
         None => push("none", answer),
@@ -125,17 +193,18 @@ fn push_place(
     top: &[u8],
     answer: &mut Vec<u8>,
 ) -> Result<(), NameFault> {
-    let (name, top) = (
-        Name::read_absolute(alloc, name)?,
-        Name::read_absolute(alloc, top)?,
-    );
-    let place = match (name.is_within(&top), name.is_below(&top)) {
+    let name = Name::read_absolute(alloc, name)?;
+    push(place(&name, &Name::read_absolute(alloc, top)?), answer)
+}
+
+/// Where a name stands to another.
+fn place(name: &Name, top: &Name) -> &'static str {
+    match (name.is_within(top), name.is_below(top)) {
         (true, true) => "below",
         (true, false) => "within, not below",
         (false, false) => "outside",
         (false, true) => "below, not within",
-    };
-    push(place, answer)
+    }
 }
 
 fn push_range(
@@ -144,25 +213,37 @@ fn push_range(
     name: &[u8],
     answer: &mut Vec<u8>,
 ) -> Result<(), NameFault> {
-    let (top, name) = (
-        Name::read_absolute(alloc, top)?,
-        Name::read_absolute(alloc, name)?,
-    );
+    let top = Name::read_absolute(alloc, top)?;
+    push_range_of(alloc, &top, &Name::read_absolute(alloc, name)?, answer)
+}
+
+fn push_range_of(
+    alloc: Global,
+    top: &Name,
+    name: &Name,
+    answer: &mut Vec<u8>,
+) -> Result<(), NameFault> {
     let range = top.key_range(alloc)?;
+    push_bounds(&range, answer)?;
+    let is_in = is_in(&range, name);
+    push(if is_in { ": in" } else { ": not in" }, answer)
+}
+
+fn push_bounds(range: &KeyRange<'_>, answer: &mut Vec<u8>) -> Result<(), NameFault> {
     answer.extend_from_slice(range.first)?;
     push(" to ", answer)?;
+    match &range.end {
+        Some(end) => Ok(answer.extend_from_slice(end)?),
+        None => push("the last", answer),
+    }
+}
+
+fn is_in(range: &KeyRange<'_>, name: &Name) -> bool {
     let is_before_end = match &range.end {
-        Some(end) => {
-            answer.extend_from_slice(end)?;
-            name.key() < end.as_slice()
-        }
-        None => {
-            push("the last", answer)?;
-            true
-        }
+        Some(end) => name.key() < end.as_slice(),
+        None => true,
     };
-    let is_in = range.first <= name.key() && is_before_end;
-    push(if is_in { ": in" } else { ": not in" }, answer)
+    range.first <= name.key() && is_before_end
 }
 
 /// By which order names are compared.
@@ -188,30 +269,45 @@ fn push_order(
     body: &[u8],
     answer: &mut Vec<u8>,
 ) -> Result<(), NameFault> {
+    let names = names(alloc, body)?;
+    for one in &names {
+        push_comparisons(order, one, &names, answer)?;
+        push_name(alloc, one, answer)?;
+        push("\n", answer)?;
+    }
+    Ok(())
+}
+
+/// The names of a body, each on a line.
+fn names(alloc: Global, body: &[u8]) -> Result<Vec<Name>, NameFault> {
     let mut names = Vec::new(alloc);
     for line in body.split(|octet| *octet == b'\n') {
         if !line.is_empty() {
             names.push(Name::read_absolute(alloc, line)?)?;
         }
     }
-    for one in &names {
-        for other in &names {
-            let is_same = one == other;
-            push(
-                match order.cmp(one, other) {
-                    Ordering::Less => "<",
-                    Ordering::Equal if is_same => "=",
-                    Ordering::Equal => "~",
-                    Ordering::Greater => ">",
-                },
-                answer,
-            )?;
-        }
-        push(" ", answer)?;
-        push_name(alloc, one, answer)?;
-        push("\n", answer)?;
+    Ok(names)
+}
+
+fn push_comparisons(
+    order: Order,
+    one: &Name,
+    names: &[Name],
+    answer: &mut Vec<u8>,
+) -> Result<(), NameFault> {
+    for other in names {
+        push(sign(order, one, other), answer)?;
     }
-    Ok(())
+    push(" ", answer)
+}
+
+fn sign(order: Order, one: &Name, other: &Name) -> &'static str {
+    match order.cmp(one, other) {
+        Ordering::Less => "<",
+        Ordering::Equal if one == other => "=",
+        Ordering::Equal => "~",
+        Ordering::Greater => ">",
+    }
 }
 
 fn push_symbol(alloc: Global, text: &[u8], answer: &mut Vec<u8>) -> Result<(), NameFault> {
@@ -219,11 +315,10 @@ fn push_symbol(alloc: Global, text: &[u8], answer: &mut Vec<u8>) -> Result<(), N
         return push("no text", answer);
     }
     let (symbol, rest) = first_symbol(text)?;
-    let told = match symbol {
-        Symbol::Dot => String::from_str(alloc, "dot")?,
-        Symbol::Octet(octet) => format!(in alloc; "octet {octet}")?,
-    };
-    push(told.as_str(), answer)?;
+    match symbol {
+        Symbol::Dot => push("dot", answer)?,
+        Symbol::Octet(octet) => push(format!(in alloc; "octet {octet}")?.as_str(), answer)?,
+    }
     push(", before (", answer)?;
     answer.extend_from_slice(rest)?;
     push(")", answer)

@@ -37,12 +37,11 @@ fn printed_on<L: Ledger>(
 {
     let pieces = Pieces::new(Vec::new(alloc), most, 0);
     let mut page: Counted<Pieces, L> = Counted::new(pieces, blank);
-    match sheet {
-        Sheet::Zone(origin, records) => print_zone(alloc, origin, records, &mut page)?,
-        Sheet::Relative(origin, records) => {
-            print_relative_zone(alloc, origin, records, &mut page)?
-        }
-        Sheet::Lines(records) => print_records(alloc, records, &mut page)?,
-    }
+    let result = match sheet {
+        Sheet::Zone(origin, records) => print_zone(alloc, origin, records, &mut page),
+        Sheet::Relative(origin, records) => print_relative_zone(alloc, origin, records, &mut page),
+        Sheet::Lines(records) => print_records(alloc, records, &mut page),
+    };
+    result?;
     Ok(page.into_inner().octets)
 }

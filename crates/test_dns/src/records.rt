@@ -1,50 +1,72 @@
 use crate::items::record;
 use dns_data::{DataFault, Record, Ttl, record_line, record_order, same_record};
-use std::alloc::Global;
+use std::alloc::{AllocError, Global};
 
 /// The line of a record, which an equal one in memory of its own has to be the same as.
 pub fn line(alloc: Global, text: &[u8]) -> Result<String, DataFault> {
-    let record = record(alloc, text)?;
-    let copy = record.try_copy(alloc)?;
-    let mut line = record_line(alloc, &record)?;
-    if !same_record(&record, &copy) || copy.ttl != record.ttl {
+    Ok(line_of(alloc, &record(alloc, text)?)?)
+}
+
+fn line_of(alloc: Global, record: &Record) -> Result<String, AllocError> {
+    let is_same = is_its_copy(alloc, record)?;
+    let mut line = record_line(alloc, record)?;
+    if !is_same {
         line.push_str(", and its copy is another")?;
     }
     Ok(line)
 }
 
+/// Whether a copy of a record is the same, with the same TTL.
+fn is_its_copy(alloc: Global, record: &Record) -> Result<bool, AllocError> {
+    let copy = record.try_copy(alloc)?;
+    Ok(same_record(record, &copy) && copy.ttl == record.ttl)
+}
+
 /// Whether the two records of a body are the same.
 pub fn sameness(alloc: Global, body: &[u8]) -> Result<&'static str, DataFault> {
+    Ok(sameness_of(&records(alloc, body)?))
+}
+
+fn sameness_of(records: &[Record]) -> &'static str {
+    match records {
+        [first, second] if same_record(first, second) => "same",
+        [_, _] => "different",
+        _ => "no two records",
+    }
+}
+
+/// The records of a body, each on a line.
+fn records(alloc: Global, body: &[u8]) -> Result<Vec<Record>, DataFault> {
     let mut records = Vec::new(alloc);
     for text in body.split(|octet| *octet == b'\n') {
         if !text.is_empty() {
             records.push(record(alloc, text)?)?;
         }
     }
-    Ok(match records.as_slice() {
-        [first, second] if same_record(first, second) => "same",
-        [_, _] => "different",
-        _ => "no two records",
-    })
+    Ok(records)
 }
 
-/// Tells how many of the records that are ranked so far the record stands behind and before, and ranks it too.
+/// Ranks a record too, and tells how many of those that were ranked before it stands behind and before.
 pub fn rank(alloc: Global, ranked: &mut Vec<Record>, text: &[u8]) -> Result<String, DataFault> {
-    let record = record(alloc, text)?;
-    let behind = ranked
-        .iter()
-        .filter(|other| are_in_order(other, &record))
-        .count();
-    let before = ranked
-        .iter()
-        .filter(|other| are_in_order(&record, other))
-        .count();
-    let mut told = format!(in alloc; "behind {behind}, before {before}")?;
-    if !ties_with_itself(alloc, &record)? {
-        told.push_str(", and not beside itself")?;
+    ranked.push(record(alloc, text)?)?;
+    match ranked.as_slice() {
+        [earlier @ .., record] => rank_behind(alloc, earlier, record),
+        [] => Ok(String::new(alloc)),
     }
-    ranked.push(record)?;
-    Ok(told)
+}
+
+fn rank_behind(alloc: Global, earlier: &[Record], record: &Record) -> Result<String, DataFault> {
+    let ties = ties_with_itself(alloc, record)?;
+    let behind = earlier
+        .iter()
+        .filter(|other| are_in_order(other, record))
+        .count();
+    let before = earlier
+        .iter()
+        .filter(|other| are_in_order(record, other))
+        .count();
+    let end = if ties { "" } else { ", and not beside itself" };
+    Ok(format!(in alloc; "behind {behind}, before {before}{end}")?)
 }
 
 /// Whether the first stands before the second, and the second behind the first.

@@ -1,5 +1,5 @@
-//! Names, record data and master files, by rows: outside vectors and worked examples, whose wanted values come from the standards
-//! or from hand. `section NAME` says what the rows below are about.
+//! Rows of names, record data and master files: outside vectors and worked examples, whose wanted values come from the standards or
+//! from hand.
 //!
 //! `names`: `absolute TEXT` and `relative ORIGIN TEXT` read a name and print its text, or the number and the words of the refusal;
 //! `labels`, `parents` and `key NAME` print what they are called; `ancestor-key N NAME` prints the key of the ancestor with N
@@ -26,10 +26,7 @@ mod items;
 mod names;
 mod page;
 mod records;
-mod sections;
 
-use std::io;
-
-fn main(rt: HostRuntime) -> io::Result<()> {
-    test_rows::run(&rt, &mut sections::Sections::new(rt.alloc()))
-}
+pub use data::Records;
+pub use files::push_file_answer;
+pub use names::push_name_answer;
