@@ -195,7 +195,7 @@ lines_read line lines some h =
       one_entry (white_first text) s.found.first s.found.others line lines white some.some s.first s.others,
     )
 
--- also where there are none
+-- also of no lines
 pub all_lines_read : (lines : List (List ItemText)) → AllByRecursion CleanLine lines → (es : List Entry) × (entries (flat_map line_text lines) ≡ Ok es) × AreLines es lines
 all_lines_read [] h = ([], ap (λ (r : Result Split ShapeFault). r >>= λ s. Ok (with_entry false s.first s.others)) (from_end 0 0), tt)
 all_lines_read (line ∷ lines) h = lines_read line lines h.0 h.1

@@ -74,7 +74,7 @@ name_text (label ∷ labels) = flat_map label_text (label ∷ labels)
 abbrev pub dotted_label : List ℕ → List ℕ
 dotted_label label = 46 ∷ label_octets label
 
--- labels with a dot between them, and `@` where there are none
+-- labels with a dot between them, and `@` for no labels
 abbrev pub dotted_text : List (List ℕ) → List ℕ
 dotted_text [] = 64 ∷ []
 dotted_text (label ∷ labels) = label_octets label ++ flat_map dotted_label labels

@@ -31,7 +31,7 @@ fn write_dotted<W: fmt::Write>(f: &mut fmt::Formatter<W>, labels: Labels<'_>) ->
     Ok(())
 }
 
-/// Writes labels with a dot between them, and `@` where there are none.
+/// Writes labels with a dot between them, and `@` for no labels.
 fn write_before<W: fmt::Write>(f: &mut fmt::Formatter<W>, before: Labels<'_>) -> fmt::Result
     ensures { WritesOnOk W.write_str_gives f.old result (dotted_text before.entry) f.new }
 {

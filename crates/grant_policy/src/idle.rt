@@ -20,7 +20,7 @@ pub struct IdleRule {
     /// Its place among the rules of the policy, from 0.
     pub rule: usize,
     /// The places of the rules that decide what it matches, in order: each rule before it that decides some question that it
-    /// matches. There are none where it matches no question at all.
+    /// matches. The list is empty if it matches no question at all.
     pub takers: Vec<usize>,
 }
 

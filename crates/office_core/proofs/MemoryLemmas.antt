@@ -317,7 +317,7 @@ receipt_told m zones receipts s caller id o is h found =
 
 -- ---- receipts
 
--- without receipts there are none that are not of updates
+-- an empty list of receipts has only receipts of updates
 pub no_receipts : (m : MemoryOf) → EachIsZone m.zones → m.receipts ≡ [] → IsMemory m
 no_receipts m all none = record {
   zones = all;

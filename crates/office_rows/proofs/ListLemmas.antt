@@ -165,7 +165,7 @@ module _ {X : Type 0} (R : X → X → Type 0) (back : (a b : X) → R a b → R
 
 -- ---- places
 
--- a place, or the length where there is none
+-- a place, or the length for no place
 pub count_is : {X : Type 0} (p : X → Bool) (xs : List X) (place : Option ℕ) → place ≡ position p xs → unwrap_or place (length xs) ≡ position_or_len p xs
 count_is p xs place e = ap (λ o. unwrap_or o (length xs)) e ∙ by_test (nat_lt (position_or_len p xs) (length xs)) refl
   where

@@ -14,7 +14,7 @@ use thiserror::Error;
 #[derive(Clone, Copy, Debug, PartialEq, Eq, Error)]
 pub enum RowFault {
     /// It is no row of a record, a receipt or a change: a column is no canonical text, or has a value that it cannot have.
-    #[error("a row of the store is none that zoneoffice writes")]
+    #[error("a row of the store is not one that zoneoffice writes")]
     BadRow,
     /// Memory ran out. This says nothing of the row.
     #[error("out of memory")]

@@ -142,7 +142,7 @@ fn new<D: Disk + Drop>(
     }
 }
 
-/// A connection to the database in files: a new one, with pages of 1,024 octets, where there is none yet. A refusal comes with what
+/// A connection to the database in files, which is made with pages of 1,024 octets if they are not there yet. A refusal comes with what
 /// is left of the files.
 ///
 /// It is named as `Connection::open_files` names it: files that are no database, a disk that fails or is full, and out of memory.

@@ -17,7 +17,7 @@ use Rattle.office_store.specs.MigrationSteps.{last_number}
 abbrev Labels : Type 0
 Labels = List (List ℕ)
 
--- the number of the last, and this where there is none
+-- the number of the last, and this for an empty list
 abbrev last_from : ℕ → List ChangedRecord → ℕ
 last_from n cs = fold (λ (m : ℕ) (c : ChangedRecord). c.number) n cs
 

@@ -97,7 +97,7 @@ rows_more origin k keys all rows more at same =
           ]);
     }
 
--- at no key there is none
+-- no key has one
 rows_none : (origin : List ℕ) (all : List RecordRowOf) → AreRowsAt origin [] all []
 rows_none origin all = record {
   inside = tt;

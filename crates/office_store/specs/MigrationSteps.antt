@@ -45,7 +45,7 @@ zones_in_turn (origin ∷ origins) records changes =
     zone_rows_in origin (take (records_first origin records) records) (take (changes_first origin changes) changes)
     ∷ zones_in_turn origins (drop (records_first origin records) records) (drop (changes_first origin changes) changes)
 
--- the number of the last of what changes have, and 0 where there is none
+-- the number of the last of what changes have, and 0 for no changes
 abbrev pub last_number : List ChangedRecord → ℕ
 last_number changes = fold (λ (n : ℕ) c. c.number) 0 changes
 

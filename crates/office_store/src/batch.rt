@@ -22,7 +22,7 @@ use office_sql::{Batch, last_number, write};
 use sqlite::{Alter, Connection, Error as StoreError, ErrorCode};
 use std::alloc::Global;
 
-/// The number behind that of the last change, and 1 where there is none. Behind 9,223,372,036,854,775,807 there is no number.
+/// The number behind that of the last change, and 1 for the first. Behind 9,223,372,036,854,775,807 there is no number.
 fn number_behind(last: Option<i64>) -> Result<i64, StoreFault>
     ensures next { IfOk result (λ number. (count : ℕ) → last ≡ last_of count → number ≡ pos (suc count)) }
     ensures named { IfErr result IsFailure }

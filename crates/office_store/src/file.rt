@@ -26,7 +26,7 @@ pub struct Unopened<S: Alter + Drop> {
 }
 
 impl<S: Start, L: Ledger> SqlTable<FileStore<FileFrom<S>>, L> {
-    /// The table in the file of a path, which is made, without tables, where there is none; `start` says what the file held. The
+    /// The table in the file of a path, which is made, without tables, if it is missing; `start` says what the file held. The
     /// count of failures begins at none.
     ///
     /// `WrongVersion` comes where the tables are missing or others, or `meta` has not the one row of this version; else `BadRow`

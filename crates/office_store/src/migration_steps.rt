@@ -41,7 +41,7 @@ fn with_rows(
     Ok(rows)
 }
 
-/// The number of the last of what the changes of a zone have, and 0 where there is none.
+/// The number of the last of what the changes of a zone have, and 0 for no changes.
 fn last_number(changes: &[ChangedRecord]) -> u64
     ensures { result ≡ last_number changes.now }
 {
@@ -52,7 +52,7 @@ fn last_number(changes: &[ChangedRecord]) -> u64
     number
 }
 
-/// The number of the next change of a zone. After 9,223,372,036,854,775,807 there is none: no memory holds so many changes.
+/// The number of the next change of a zone. After 9,223,372,036,854,775,807 there is no number: no memory holds so many changes.
 fn next_number(changes: &[ChangedRecord]) -> Result<i64, AllocError>
     ensures { IfOk result (λ number. number ≡ pos (suc (last_number changes.now))) }
 {

@@ -292,7 +292,7 @@ impl<S: Alter + Drop, L: Ledger> SqlTable<S, L> {
         }
     }
 
-    /// The records of the zone of an origin, in record order. `NoZone` comes exactly where there is none, `Store` where the store
+    /// The records of the zone of an origin, in record order. `NoZone` comes exactly where the zone is missing, `Store` where the store
     /// fails, and `NoMemory` where memory runs out.
     pub fn export_records(
         &mut self,

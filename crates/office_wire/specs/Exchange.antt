@@ -115,7 +115,7 @@ abbrev pub AsksMore : Ask → ℕ → Type 0
 AsksMore (Body n) k = k < n
 AsksMore (Refused r) k = ⊥
 
--- Octets can still become a request: there are none; they are fewer than a head may have, and with more of them they are a head, or the
+-- Octets can still become a request: they are empty; they are fewer than a head may have, and with more of them they are a head, or the
 -- target is still being read; or a head stands there whole, and of the body that it states some octets are missing.
 pub data IsUnderWay (bytes : List ℕ) : Type 0 where
   nothing : length bytes ≡ 0 → IsUnderWay bytes

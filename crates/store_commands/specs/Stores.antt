@@ -39,7 +39,7 @@ IsStoreLine ReadFailed = ⊥
 
 -- ---- what a connection shows
 
--- It was connected to showing found, and shows the state that was there, and no other.
+-- It was connected to showing found, and shows exactly the state that was there.
 pub record IsAdopted (found now : Shown) : Type 0 where
   pub holds : HasCleanDisk now → (s : State) × HoldsState now s × LeavesStates now s s
   pub asked : Asked found now
@@ -71,7 +71,7 @@ abbrev pub IsMigratedTo : Shown → Shown → ℕ → Type 0
 IsMigratedTo found after zones = HasCleanDisk after → IsMigrated found after zones
 
 -- Why it was not migrated: of rows of version 1 only that the store failed or memory ran out; else the tables are not those of version
--- 1, or their rows are none that a program of that version wrote. It shows what it showed.
+-- 1, or their rows are not as a program of that version wrote them. It shows what it showed.
 pub record IsUnmigrated (found after : Shown) (fault : StoreFault) : Type 0 where
   pub keeps : Keeps found after
   pub named : (fault ≡ WrongVersion) ⊎ IsOfRows fault
@@ -110,7 +110,7 @@ IsOpened {C} shows connects now = (found : C) × connects found × IsAdopted (sh
 abbrev pub IsUnopened : {C : Type 0} → (C → Shown) → (Bool → Type 0) → (StoreFault → Type 0) → (C → Type 0) → StoreFault → Type 0
 IsUnopened {C} shows finds refuses connects fault = IsUnfound finds refuses fault ⊎ ((found : C) × connects found × IsUnadopted shows found fault)
 
--- one that is made where there is none
+-- one that is made if the path has no store
 abbrev pub IsOpenedOrMade : {C : Type 0} → (C → Shown) → (C → Type 0) → C → Type 0
 IsOpenedOrMade {C} shows connects now = (found : C) × connects found × (IsAdopted (shows found) (shows now) ⊎ IsMade (shows found) (shows now))
 

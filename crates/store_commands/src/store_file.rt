@@ -11,7 +11,7 @@ use std::alloc::Global;
 use std::marker::Brand;
 use std::sync::ledger::{Blank, Ledger};
 
-/// A connection to the file of a path, if there is one: where there is none, that is `NoZone`.
+/// A connection to the file of a path, if there is one; no file is `NoZone`.
 fn found<S: Alter + Drop, P: StoreFiles<S>>(
     place: &P,
     path: &str,
@@ -64,7 +64,7 @@ pub fn open_store<S: Alter + Drop, L: Ledger, P: StoreFiles<S>>(
     adopted(alloc, found(place, path)?, blank)
 }
 
-/// The table of a connection, which is made where there is none.
+/// The table of a connection, which is made in an empty database.
 fn made_or_adopted<S: Alter + Drop, L: Ledger>(
     alloc: Global,
     conn: Connection<S>,

@@ -75,7 +75,7 @@ fn put<S: Alter + Drop, L: Ledger>(
     }
 }
 
-/// The table of the store of a path for a zone: it is made, where no zone is to be replaced and there is none.
+/// The table of the store of a path for a zone: it is made if it is missing, unless a zone is to be replaced.
 fn reached<S: Alter + Drop, L: Ledger, P: StoreFiles<S>>(
     alloc: Global,
     place: &P,
@@ -134,7 +134,7 @@ fn imported<R: Source, S: Alter + Drop, L: Ledger, P: StoreFiles<S>>(
     Ok(text)
 }
 
-/// Reads a master file, builds its zone, and puts it into the store of a path, which is made where there is none and nothing is to
+/// Reads a master file, builds its zone, and puts it into the store of a path, which is made if it is missing and nothing is to
 /// be replaced. A line tells the zone's origin, its serial and how many records it has; or one tells the refusal that comes first: of
 /// the origin, of the file, of its records as a zone, of the store, and then `ZoneExists`, or `NoZone` and `SerialNotGreater`.
 pub fn import<R: Source, W: Sink, S: Alter + Drop, L: Ledger, P: StoreFiles<S>>(

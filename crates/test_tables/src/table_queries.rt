@@ -12,7 +12,7 @@ use sqlite::{Alter, Connection};
 use std::alloc::{AllocError, Global};
 use test_rows::Row;
 
-/// Appends texts in order, each on a line; `none` where there is none.
+/// Appends texts in order, each on a line; `none` for an empty list.
 fn push_lines(mut texts: Vec<String>, answer: &mut Vec<u8>) -> Result<(), Refusal> {
     if texts.is_empty() {
         answer.extend_from_slice(b"none\n")?;

@@ -1,5 +1,5 @@
 //! The commands that need no store, `canon`, `apply`, `rights`, `check policy` and `explain`: each writes its answer to an input, or
-//! one line that says why there is none. And what every command shares: its refusals, the one table of all refusals in words, and
+//! one line that says why it has no answer. And what every command shares: its refusals, the one table of all refusals in words, and
 //! how inputs are read and texts written.
 #![tactic(auto)]
 

@@ -26,7 +26,7 @@ pub enum Refusal {
     #[error("a caller is 1 to 64 of the octets a to z, A to Z, 0 to 9, -, _ and .")]
     NoCaller,
     /// A word of the command line is no action.
-    #[error("this is none of the actions list, check, add, delete and delegate")]
+    #[error("the action is not one of list, check, add, delete and delegate")]
     NoAction,
     /// The input has more than 4,194,304 octets.
     #[error("the input has more than 4194304 octets")]
@@ -84,7 +84,7 @@ impl Refusal {
         }
     }
 
-    /// The line of the input that it is in, from 1, and 0 where it is of the input as a whole; `None` where there is none.
+    /// The line of the input that it is in, from 1, and 0 where it is of the input as a whole; `None` for a refusal without a line.
     fn place(self) -> Option<usize>
         ensures { result ≡ refusal_place self }
     {

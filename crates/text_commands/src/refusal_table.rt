@@ -662,7 +662,7 @@ pub(crate) static CODES: [(&str, Kind, &str, &str, &str, &str); 9] = [
         "NXDOMAIN",
         Kind::Whole,
         "name not used",
-        "A prerequisite wants records at a name, and there are none.",
+        "A prerequisite wants records at a name that has no records.",
         "Read what is there now, and send another update under a new identifier.",
         "RFC 2136 section 2.2",
     ),

@@ -20,7 +20,7 @@ use Rattle.zone_core.proofs.SetLemmas.{key_is}
 
 -- ---- what stands before a record
 
--- a place, or the length where there is none
+-- a place, or the length for no place
 pub count_is : (p : Record → Bool) (xs : List Record) (place : Option ℕ) → place ≡ position p xs → unwrap_or place (length xs) ≡ position_or_len p xs
 count_is p xs place e = ap (λ o. unwrap_or o (length xs)) e ∙ by_test (nat_lt (position_or_len p xs) (length xs)) refl
   where

@@ -22,7 +22,7 @@ written octets = from_be_bytes w64 (front 8 octets)
 abbrev pub prefix_behind : ℕ → List (List ℕ) → KeyPrefix
 prefix_behind shared name = record { high = written (drop shared (key_of name)); low = written (drop 8 (drop shared (key_of name))) }
 
--- the prefix where there is none
+-- the prefix of no record
 abbrev pub no_prefix : KeyPrefix
 no_prefix = record { high = 0; low = 0 }
 

@@ -81,7 +81,7 @@ module _ (Seen : List (List ℕ) → Type 0) where
       (origin : List (List ℕ)) (a b c d : Records) → AreKept a → AreKept b → Indistinguishable Seen origin a b → Indistinguishable Seen origin c d
       → (f : Record → Bool) → PassesSeen Seen origin f → filter f (listing (minus a c)) ≡ filter f (listing (minus b d))
 
-  -- of which there are none between indistinguishable sets
+  -- between indistinguishable sets no change is seen
   abbrev pub InvisibleChangesShowNothing : Type 0
   InvisibleChangesShowNothing =
       (origin : List (List ℕ)) (a b : Records) → AreKept a → Indistinguishable Seen origin a b

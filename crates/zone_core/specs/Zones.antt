@@ -148,7 +148,7 @@ first_of (r ∷ rs) = Some r
 abbrev pub soa_at : List (List ℕ) → Records → Option Record
 soa_at name set = first_of (listing (part set (at name types.Soa)))
 
--- the serial of the SOA at a name, and 0 where there is none
+-- the serial of the SOA at a name, and 0 for a name without SOA
 abbrev pub serial_at : List (List ℕ) → Records → ℕ
 serial_at name set = option_map_or serial_in (soa_at name set) 0
 

@@ -29,7 +29,7 @@ pub fn operations_between(
     requires { new.now.origin ≡ old.now.origin }
     // They make the zone that is wanted.
     ensures made { IfOk result (λ ops. Lead old.now.origin old.now.records new.now.records ops.items) }
-    // There are none exactly where the two differ in nothing but a serial that is not greater.
+    // The list is empty exactly where the two differ in nothing but a serial that is not greater.
     ensures none { IfOk result (λ ops. (ops.items ≡ []) ↔ HaveNoNews old.now.origin old.now.records new.now.records) }
     // Each is for a record in which the two differ.
     ensures needed { IfOk result (λ ops. AllByRecursion (IsNeeded old.now.records (target old.now.origin old.now.records new.now.records)) ops.items) }

@@ -77,7 +77,7 @@ fn check_with<R: Read + Drop, W: Write + Drop>(
     reader: R,
     writer: W,
 ) -> (W, ExitCode)
-    // Each rule that never decides is reported, and the status is 0 exactly where there is none.
+    // Each rule that never decides is reported, and the status is 0 exactly where every rule decides some question.
     ensures { EndsCheck (R.remaining reader) (W.contents writer) (W.contents result.0) (exit_status result.1) }
 {
     let (writer, done) = do_check(rt.alloc(), reader, writer);
