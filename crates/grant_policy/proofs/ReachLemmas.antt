@@ -1,5 +1,7 @@
 -- Grants are where the reaches of the granting rules are.
-use Rattle.std.proofs.Common.{◌≡◌, ◌⊎◌, ℕ, suc, ◌+◌, ◌<◌, ◌≤◌, List, [], ◌∷◌, ◌++◌, length, drop, get_or, Bool, true, false, cond, ◌&&◌, Option, Some, None, IfSome, inl, inr, ⊎_elim, refl, sym, ap, subst, ◌∙◌, arith, append-nil}
+use Rattle.std.proofs.Common.{◌≡◌, ◌⊎◌, ℕ, suc, ◌+◌, ◌<◌, ◌≤◌, List, [], ◌∷◌, ◌++◌, length, drop, get_or, Bool, true, false, cond, ◌&&◌, Option, Some, None, IfSome, inl, inr, ⊎_elim, refl, sym, ap, subst, ◌∙◌, arith, append-nil, length-append}
+use Rattle.std.specs.List.{All}
+use Rattle.std.proofs.lemmas.List.Elements.{All-nil, All-cons, All-head, All-tail, All-drop}
 use Rattle.std.proofs.Math.Seq.{drop-cons}
 use Rattle.std.proofs.lemmas.List.{drop_all}
 use Rattle.std.proofs.lemmas.Bool.{cases_Bool, false≢true, and_parts, and_from}
@@ -14,7 +16,7 @@ use Rattle.grant_policy.specs.declared.scope.Scope.TheVariants.{Name, Subtree, B
 use Rattle.grant_policy.specs.Scopes.{Covers, covers}
 use Rattle.grant_policy.specs.Rules.{Question, matches, is_of, has, same_type, same_action}
 use Rattle.grant_policy.specs.Decisions.{decided, decision, effect_by, is_granted}
-use Rattle.grant_policy.specs.Reach.{GrantsWithin, GrantsNowhere, IsReach, IsCommonAncestor, IsWidened, is_grant, grants_to, reach_at, reach_of}
+use Rattle.grant_policy.specs.Reach.{AreWithin, GrantsWithin, GrantsNowhere, IsReach, IsCommonAncestor, IsWidened, is_grant, grants_to, reach_at, reach_of}
 use Rattle.grant_policy.proofs.ScopeLemmas.{is_within-Decides, covers-Decides}
 use Rattle.grant_policy.proofs.RepresentativeLemmas.{within_self, within_trans, within_cons}
 
@@ -158,14 +160,41 @@ pub record ReachesSoFar (rules : List Rule) (caller : List ℕ) (action : Action
   pub each : (name : Labels) (record_type : RecordType) → IsWithin name origin
       → SomeGrants (record { caller = caller; name = name; record_type = record_type; action = action }) rules
       → IsIn reach name ⊎ SomeGrants (record { caller = caller; name = name; record_type = record_type; action = action }) rest
+  -- a name that the reach so far and those of the rules that are left are within, all are within; and only such a one
+  pub both : (above : Labels) → AreWithin rest caller action origin above → IfSome reach (λ top. IsWithin top above) → AreWithin rules caller action origin above
+  pub last : (above : Labels) → AreWithin rules caller action origin above → IfSome reach (λ top. IsWithin top above)
+
+-- whether a reach is within a name
+abbrev IsBefore : Labels → Option Labels → Type 0
+IsBefore above reach = IfSome reach (λ name. IsWithin name above)
+
+-- none is within a longer name
+not_longer : (name : Labels) (label : List ℕ) → ¬ IsWithin name (label ∷ name)
+not_longer name label (front, e) = omega (arith, ap (λ (x : Labels). length x) e, length-append front (label ∷ name))
+
+-- what is within each name is none
+reach_none : (reach : Option Labels) → ((above : Labels) → IsBefore above reach) → reach ≡ None
+reach_none None all = refl
+reach_none (Some name) all = absurd (not_longer name [] (all ([] ∷ name)))
 
 pub none_so_far : (rules : List Rule) (caller : List ℕ) (action : Action) (origin : Labels) → ReachesSoFar rules caller action origin rules None
-none_so_far rules caller action origin = record { top = tt; each = λ name record_type w some. inr some }
+none_so_far rules caller action origin = record { top = tt; each = λ name record_type w some. inr some; both = λ above rest so_far. rest; last = λ above all. tt }
 
 next_rule : (rules : List Rule) (i : ℕ) (rule : Rule) → i < length rules → rule ≡ get_or rules i rule → drop i rules ≡ rule ∷ drop (i + 1) rules
 next_rule rules i rule lt is = drop-cons rules i rule lt ∙ ap (λ (r : Rule). r ∷ drop (suc i) rules) (sym is) ∙ ap (λ (n : ℕ). rule ∷ drop n rules) (let e : suc i ≡ i + 1 = omega arith in e)
 
 module _ (rules : List Rule) (caller : List ℕ) (action : Action) (origin : Labels) where
+  -- the reach of a rule is within a name
+  abbrev Keeps : Labels → Rule → Type 0
+  Keeps above rule = IsBefore above (reach_of caller action origin rule)
+
+  -- with the next rule, those that are left
+  and_next : (i : ℕ) (rule : Rule) (above : Labels) → i < length rules → rule ≡ get_or rules i rule → Keeps above rule → All (Keeps above) (drop (i + 1) rules) → All (Keeps above) (drop i rules)
+  and_next i rule above lt is here rest = subst (All (Keeps above)) (sym (next_rule rules i rule lt is)) (All-cons (Keeps above) rule (drop (i + 1) rules) here rest)
+
+  of_next : (i : ℕ) (rule : Rule) (above : Labels) → i < length rules → rule ≡ get_or rules i rule → All (Keeps above) rules → Keeps above rule
+  of_next i rule above lt is all = All-head (Keeps above) rule (drop (i + 1) rules) (subst (All (Keeps above)) (next_rule rules i rule lt is) (All-drop (Keeps above) i rules all))
+
   -- a rule that reaches nothing
   pub skipped : (i : ℕ) (rule : Rule) (so_far : Option Labels) → i < length rules → rule ≡ get_or rules i rule → reach_of caller action origin rule ≡ None
       → ReachesSoFar rules caller action origin (drop i rules) so_far → ReachesSoFar rules caller action origin (drop (i + 1) rules) so_far
@@ -182,6 +211,8 @@ module _ (rules : List Rule) (caller : List ℕ) (action : Action) (origin : Lab
             (λ (later : SomeGrants asked (drop (i + 1) rules)). inr later)
             (subst (SomeGrants asked) (next_rule rules i rule lt is) left))
             (before.each name record_type w some);
+        both = λ above rest top. before.both above (and_next i rule above lt is (subst (IsBefore above) (sym none) tt) rest) top;
+        last = before.last;
       }
 
   both_within : (so_far : Option Labels) (name top : Labels) → IsWidened so_far name top → IfSome so_far (λ t. IsWithin t origin) → IsWithin name origin → IsWithin top origin
@@ -195,6 +226,14 @@ module _ (rules : List Rule) (caller : List ℕ) (action : Action) (origin : Lab
   one_in : (so_far : Option Labels) (name top : Labels) → IsWidened so_far name top → IsWithin name top
   one_in None name top e = subst (λ (x : Labels). IsWithin name x) (sym e) (within_self name)
   one_in (Some t) name top e = e.second
+
+  so_far_before : (so_far : Option Labels) (name top above : Labels) → IsWidened so_far name top → IsWithin top above → IsBefore above so_far
+  so_far_before None name top above e w = tt
+  so_far_before (Some t) name top above e w = within_trans t top above e.first w
+
+  before_both : (so_far : Option Labels) (name top above : Labels) → IsWidened so_far name top → IsBefore above so_far → IsWithin name above → IsWithin top above
+  before_both None name top above e s w = subst (λ (x : Labels). IsWithin x above) (sym e) w
+  before_both (Some t) name top above e s w = e.last above s w
 
   -- a rule that reaches a name
   pub reached : (i : ℕ) (rule : Rule) (so_far : Option Labels) (name top : Labels) → i < length rules → rule ≡ get_or rules i rule → reach_of caller action origin rule ≡ Some name
@@ -212,6 +251,12 @@ module _ (rules : List Rule) (caller : List ℕ) (action : Action) (origin : Lab
             (λ (later : SomeGrants asked (drop (i + 1) rules)). inr later)
             (subst (SomeGrants asked) (next_rule rules i rule lt is) left))
             (before.each name record_type w some);
+        both = λ above rest w.
+            before.both above
+            (and_next i rule above lt is (subst (IsBefore above) (sym some_at) (within_trans at top above (one_in so_far at top wider) w)) rest)
+            (so_far_before so_far at top above wider w);
+        last = λ above all.
+            before_both so_far at top above wider (before.last above all) (subst (IsBefore above) some_at (of_next i rule above lt is all));
       }
 
   in_end : (reach : Option Labels) (n : ℕ) → length rules ≤ n → ReachesSoFar rules caller action origin (drop n rules) reach
@@ -224,13 +269,34 @@ module _ (rules : List Rule) (caller : List ℕ) (action : Action) (origin : Lab
       (λ (left : SomeGrants asked (drop n rules)). absurd (subst (SomeGrants asked) (drop_all n rules past) left))
       (all.each name record_type w (some_grants asked rules granted))
 
+  -- the rules behind the last
+  past_all : (n : ℕ) (above : Labels) → length rules ≤ n → All (Keeps above) (drop n rules)
+  past_all n above past = subst (All (Keeps above)) (sym (drop_all n rules past)) (All-nil (Keeps above))
+
+  -- rules whose reaches are within each name reach nothing
+  reach_nothing : (rs : List Rule) → ((above : Labels) → All (Keeps above) rs) → All (λ rule. reach_of caller action origin rule ≡ None) rs
+  reach_nothing [] all = All-nil (λ rule. reach_of caller action origin rule ≡ None)
+  reach_nothing (rule ∷ rs) all =
+      All-cons (λ rule. reach_of caller action origin rule ≡ None) rule rs
+      (reach_none (reach_of caller action origin rule) (λ above. All-head (Keeps above) rule rs (all above)))
+      (reach_nothing rs (λ above. All-tail (Keeps above) rule rs (all above)))
+
   -- behind the last rule
   pub all_reached : (reach : Option Labels) (n : ℕ) → length rules ≤ n → ReachesSoFar rules caller action origin (drop n rules) reach → IsReach rules caller action origin reach
   all_reached None n past all =
-      λ name record_type w.
-      let asked : Question = record { caller = caller; name = name; record_type = record_type; action = action } in
-      ⊎_elim
-      (λ (yes' : is_granted (decision asked rules) ≡ true). absurd (in_end None n past all name record_type w yes'))
-      (λ (no' : is_granted (decision asked rules) ≡ false). no')
-      (cases_Bool (is_granted (decision asked rules)))
-  all_reached (Some top) n past all = (all.top, λ name record_type w granted. in_end (Some top) n past all name record_type w granted)
+      record {
+        granted = λ name record_type w.
+            let asked : Question = record { caller = caller; name = name; record_type = record_type; action = action } in
+            ⊎_elim
+            (λ (yes' : is_granted (decision asked rules) ≡ true). absurd (in_end None n past all name record_type w yes'))
+            (λ (no' : is_granted (decision asked rules) ≡ false). no')
+            (cases_Bool (is_granted (decision asked rules)));
+        each = reach_nothing rules (λ above. all.both above (past_all n above past) tt);
+      }
+  all_reached (Some top) n past all =
+      record {
+        inside = all.top;
+        granted = λ name record_type w granted. in_end (Some top) n past all name record_type w granted;
+        each = all.both top (past_all n top past) (within_self top);
+        last = all.last;
+      }

@@ -1,5 +1,6 @@
 -- How far within an origin a policy grants a caller an action.
-use Rattle.std.specs.Prelude.{◌≡◌, ℕ, List, Bool, true, false, ◌&&◌, if◌then◌else◌, Option, Some, None}
+use Rattle.std.specs.Prelude.{◌≡◌, ℕ, List, Bool, true, false, ◌&&◌, if◌then◌else◌, Option, Some, None, IfSome}
+use Rattle.std.specs.List.{All}
 use Rattle.dns_names.specs.Labels.{IsWithin, is_within}
 use Rattle.dns_data.specs.declared.record_type.RecordType.{RecordType}
 use Rattle.grant_policy.specs.declared.action.Action.{Action}
@@ -21,11 +22,6 @@ abbrev pub GrantsNowhere : List Rule → List ℕ → Action → List (List ℕ)
 GrantsNowhere rules caller action origin =
     (name : List (List ℕ)) (record_type : RecordType) → IsWithin name origin
     → is_granted (decision (record { caller = caller; name = name; record_type = record_type; action = action }) rules) ≡ false
-
--- a name within the origin to which the grants reach there, or that there are none
-abbrev pub IsReach : List Rule → List ℕ → Action → List (List ℕ) → Option (List (List ℕ)) → Type 0
-IsReach rules caller action origin None = GrantsNowhere rules caller action origin
-IsReach rules caller action origin (Some top) = IsWithin top origin × GrantsWithin rules caller action origin top
 
 -- ---- by the rules
 
@@ -55,3 +51,27 @@ pub record IsCommonAncestor (name other top : List (List ℕ)) : Type 0 where
 abbrev pub IsWidened : Option (List (List ℕ)) → List (List ℕ) → List (List ℕ) → Type 0
 IsWidened None name top = top ≡ name
 IsWidened (Some so_far) name top = IsCommonAncestor so_far name top
+
+-- ---- by all of them
+
+-- each name to which a rule reaches within the origin is within a name
+abbrev pub AreWithin : List Rule → List ℕ → Action → List (List ℕ) → List (List ℕ) → Type 0
+AreWithin rules caller action origin above = All (λ rule. IfSome (reach_of caller action origin rule) (λ name. IsWithin name above)) rules
+
+-- Rules reach to a name within the origin: what they grant there is within it. It is the last name that the names to which each of
+-- them reaches are within; and so some rule does reach to a name.
+pub record ReachTo (rules : List Rule) (caller : List ℕ) (action : Action) (origin top : List (List ℕ)) : Type 0 where
+  pub inside : IsWithin top origin
+  pub granted : GrantsWithin rules caller action origin top
+  pub each : AreWithin rules caller action origin top
+  pub last : (above : List (List ℕ)) → AreWithin rules caller action origin above → IsWithin top above
+
+-- no rule reaches to a name within the origin, and nothing is granted there
+pub record ReachNowhere (rules : List Rule) (caller : List ℕ) (action : Action) (origin : List (List ℕ)) : Type 0 where
+  pub granted : GrantsNowhere rules caller action origin
+  pub each : All (λ rule. reach_of caller action origin rule ≡ None) rules
+
+-- the name to which rules reach, or that no rule reaches to any
+abbrev pub IsReach : List Rule → List ℕ → Action → List (List ℕ) → Option (List (List ℕ)) → Type 0
+IsReach rules caller action origin None = ReachNowhere rules caller action origin
+IsReach rules caller action origin (Some top) = ReachTo rules caller action origin top

@@ -67,9 +67,9 @@ fn widened(alloc: Global, so_far: Option<Name>, name: &Name) -> Result<Name, All
     }
 }
 
-/// A name within an origin such that the policy grants the caller the action within the origin only at names within that name, or
-/// `None` where it grants it nowhere within the origin. It is the last name that those of the caller's granting rules are within.
-/// The only error is out of memory.
+/// How far within an origin the policy grants the caller the action: each rule that grants it reaches to its own name, if that is
+/// within the origin, or to the origin, if that is within its name. This is the last name that all of these are within, so what is
+/// granted within the origin is granted within it; `None` if no rule reaches to any. The only error is out of memory.
 pub fn reach(
     alloc: Global,
     policy: &Policy,

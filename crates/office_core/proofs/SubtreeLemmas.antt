@@ -105,8 +105,5 @@ pub none_in_order : (rs : List Record) → rs ≡ [] → InOrder rs
 unfolding IsStrictlySortedBy
 none_in_order rs e = subst InOrder (sym e) tt
 
-pub part_in_order : (zone : ZoneOf) (top : List (List ℕ)) (rs : List Record) → IsZone zone → rs ≡ listing (part zone.records (within top)) → InOrder rs
-part_in_order zone top rs is e = subst InOrder (sym e) (changed.listed (part zone.records (within top)) (changed.kept_in_part zone.records (within top) is.kept)).order
-
 pub listed_in_order : (rules : List Rule) (caller : List ℕ) (rs found : List Record) → InOrder rs → found ≡ listed rules caller rs → InOrder found
 listed_in_order rules caller rs found order e = subst InOrder (sym e) (InOrder-filter (may_list rules caller) rs order)

@@ -23,7 +23,7 @@ pub use laws::{
     answers_are_right, callers_are_alone, calls_are_right, changes_are_exact,
     footprints_are_asked_in_order, lists_are_exact,
 };
-pub use memory::{MemTable, copied_within};
+pub use memory::MemTable;
 pub use permission::{Denial, denied};
 pub use receipt::{Addition, Receipt};
 pub use reply::{NumberedChange, Reply, Right, UpdateReply};

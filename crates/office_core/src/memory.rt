@@ -145,27 +145,6 @@ fn keep(
     Ok(())
 }
 
-/// Copies of records. The only error is out of memory.
-fn copied(alloc: Global, records: &[Record]) -> Result<Vec<Record>, AllocError>
-    ensures { IfOk result (λ rs. rs.items ≡ records.now) }
-{
-    let mut all = Vec::with_capacity(alloc, records.len())?;
-    for record in records {
-        all.push(record.try_copy(alloc)?)?;
-    }
-    Ok(all)
-}
-
-/// Copies of a zone's records within a name, in record order. The only error is out of memory.
-pub fn copied_within(alloc: Global, zone: &Zone, top: &Name) -> Result<Vec<Record>, AllocError>
-    ensures value { IfOk result (λ rs. rs.items ≡ listing (part zone.now.records (within top.now))) }
-    ensures order { IfOk result (λ rs. InOrder rs.items) }
-{
-    // the proof needs that it is a zone
-    let _ = zone.origin();
-    copied(alloc, zone.records_within(top))
-}
-
 /// Copies of changes. The only error is out of memory.
 fn copied_changes(alloc: Global, changes: &[Change]) -> Result<Vec<Change>, AllocError>
     ensures { IfOk result (λ cs. map change_in cs.items ≡ map change_in changes.now) }
@@ -231,7 +210,7 @@ impl ZoneTable for MemTable {
         let Some(held) = held(&self.zones, origin) else {
             return Ok(None);
         };
-        Ok(Some(copied_within(alloc, &held.zone, top)?))
+        Ok(Some(held.zone.copied_within(alloc, top)?))
     }
 
     fn receipt(

@@ -17,7 +17,7 @@ use crate::queries::check_open;
 use crate::reads::{subtree_at, zone_at};
 use dns_data::Record;
 use dns_names::Name;
-use office_core::{Addition, Receipt, copied_within};
+use office_core::{Addition, Receipt};
 use office_rows::StoreFault;
 use sqlite::{Alter, Connection};
 use std::alloc::{AllocError, Global};
@@ -164,7 +164,7 @@ fn cached_within(
     let Some(zone) = taken_at(alloc, cache, origin)? else {
         return Ok(None);
     };
-    let records = copied_within(alloc, &zone, top)?;
+    let records = zone.copied_within(alloc, top)?;
     *cache = Some(CachedZone::of(alloc, zone));
     Ok(Some(records))
 }
@@ -215,7 +215,7 @@ fn within_zone(
 {
     match zone {
         None => Ok(None),
-        Some(zone) => Ok(Some(copied_within(alloc, &zone, top)?)),
+        Some(zone) => Ok(Some(zone.copied_within(alloc, top)?)),
     }
 }
 

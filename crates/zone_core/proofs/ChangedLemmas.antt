@@ -214,6 +214,10 @@ listed set kept =
 pub kept_in_part : (set : Records) (p : Key → Bool) → AreKept set → AreKept (part set p)
 kept_in_part set p kept k r e = kept k r (found_of_part set p k r e).1
 
+-- the records of a part of a zone are in order
+pub part_in_order : (zone : ZoneOf) (p : Key → Bool) (rs : List Record) → IsZone zone → rs ≡ listing (part zone.records p) → InOrder rs
+part_in_order zone p rs is e = subst InOrder (sym e) (listed (part zone.records p) (kept_in_part zone.records p is.kept)).order
+
 -- ---- the laws
 
 pub changes_make : ChangesMake

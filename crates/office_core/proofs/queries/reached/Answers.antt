@@ -14,7 +14,7 @@ returns-in_default-clause-answer g c =
     λ honest. on_ok c.none_of.result
     (λ found tells s holds.
     fused (λ rs. rs.items) (λ rs. listed rules caller rs) found
-    ∙ by_none rules caller origin s (option_map (λ rs. rs.items) found) (g.met.T.ZoneTable.zones c.args.table.now s holds) nowhere (tells s holds))
+    ∙ by_none rules caller origin s (option_map (λ rs. rs.items) found) (g.met.T.ZoneTable.zones c.args.table.now s holds) nowhere.granted (tells s holds))
     (c.none_of.ensures.answer honest)
 
 pub returns-clause-answer : goal.returns-clause-answer
@@ -26,5 +26,5 @@ returns-clause-answer g c =
     λ honest. on_ok c.subtree.result
     (λ found tells s holds.
     fused (λ rs. rs.items) (λ rs. listed rules caller rs) found
-    ∙ by_subtree rules caller origin s c.in-Some.top (option_map (λ rs. rs.items) found) (g.met.T.ZoneTable.zones c.args.table.now s holds) reaches.1 (tells s holds))
+    ∙ by_subtree rules caller origin s c.in-Some.top (option_map (λ rs. rs.items) found) (g.met.T.ZoneTable.zones c.args.table.now s holds) reaches.granted (tells s holds))
     (c.subtree.ensures.answer honest)
