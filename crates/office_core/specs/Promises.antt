@@ -153,13 +153,13 @@ pub record IsAnsweredAs (rules : List Rule) (caller : List ℕ) (cs : List Chang
   pub added : AreShown rules caller change.added n.added
 
 -- A caller gets these changes from a number on: exactly those with at least that number, in the order of their numbers.
-pub record AreToldFrom (rules : List Rule) (caller : List ℕ) (from : ℕ) (cs : List ChangeOf) (ns : List NumberedOf) : Type 0 where
+pub record AreAnsweredFrom (rules : List Rule) (caller : List ℕ) (from : ℕ) (cs : List ChangeOf) (ns : List NumberedOf) : Type 0 where
   pub order : AllPairs (λ a b. a.number < b.number) ns
   pub exactly : (n : NumberedOf) → Contains ns n ↔ ((from ≤ n.number) × IsAnsweredAs rules caller cs n)
 
--- what is told of changes is told so
+-- changes are answered so
 abbrev pub ChangesAreExact : Type 0
-ChangesAreExact = (rules : List Rule) (caller : List ℕ) (from : ℕ) (cs : List ChangeOf) → AreToldFrom rules caller from cs (changes_from rules caller from cs)
+ChangesAreExact = (rules : List Rule) (caller : List ℕ) (from : ℕ) (cs : List ChangeOf) → AreAnsweredFrom rules caller from cs (changes_from rules caller from cs)
 
 -- ---- what is read
 
@@ -178,7 +178,7 @@ TellsWithin rules caller origin top set reply =
 
 -- a reply tells what the caller sees of changes, from a number on
 abbrev pub TellsChanges : List Rule → List ℕ → ℕ → List ChangeOf → ReplyOf → Type 0
-TellsChanges rules caller from cs reply = (ns : List NumberedOf) × AreToldFrom rules caller from cs ns × (reply ≡ changes ns)
+TellsChanges rules caller from cs reply = (ns : List NumberedOf) × AreAnsweredFrom rules caller from cs ns × (reply ≡ changes ns)
 
 -- a reply tells what the policy decides
 abbrev pub TellsDecision : List Rule → Question → ReplyOf → Type 0
