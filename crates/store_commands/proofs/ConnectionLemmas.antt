@@ -22,7 +22,7 @@ use Rattle.office_wire.specs.declared.servfails.Servfails.{Servfails}
 use Rattle.office_wire.specs.Servfails.{servfails, AreNoted}
 use Rattle.text_commands.specs.Replies.{IsSent}
 use Rattle.store_commands.specs.Causes.{trace_by, trace_of}
-use Rattle.store_commands.specs.Serve.{joined, ended_line, ended_lines, AreServed, AreTold, AreTraces, AreTraced, IsTraced, IsSoMany}
+use Rattle.store_commands.specs.Serve.{joined, ended_line, ended_lines, AreServed, AreReported, AreTraces, AreTraced, IsTraced, IsSoMany}
 
 rises : (before after : ℕ) → before < after → after ≡ before → ⊥
 rises before after more same = omega (arith, more, same)
@@ -41,13 +41,13 @@ one_more connections turns n count = let all = length-append connections (turns 
 pub one_ended : (ends : List (Option ServeFault)) (end : Option ServeFault) (n : ℕ) → length ends ≡ n → length (ends ++ end ∷ []) ≡ n + 1
 one_ended ends end n count = let all = length-append ends (end ∷ []) in omega arith
 
--- a fault is told, so that no more need have been served
+-- a fault is written, so that no more need have been served
 pub told_many : (most n : ℕ) (result : Result (Unit {0}) JobFault) (old new : Option (List ℕ)) (fault : LineFault) (before after : ℕ)
     → IsTold old new fault result before after → n ≤ most → IsSoMany most result n
 told_many most n (Ok u) old new fault before after lines less = absurd lines
 told_many most n (Err e) old new fault before after lines less = less
 
--- ---- what is told
+-- ---- what is written
 
 lines_more : (ends : List (Option ServeFault)) (end : Option ServeFault) → ended_lines (ends ++ end ∷ []) ≡ ended_lines ends ++ ended_line end
 lines_more ends end = flat_map-append ended_line ends (end ∷ []) ∙ ap (λ (l : List ℕ). ended_lines ends ++ l) (append-nil (ended_line end))
@@ -59,15 +59,15 @@ module _ (old mid new : Option (List ℕ)) (ends : List (Option ServeFault)) whe
 
   -- the writer failed in that line
   pub told_in_part : (most n : ℕ) (end : Option ServeFault) (before failed after : ℕ) → length ends ≡ n → n < most → Appends old mid (ended_lines ends) → failed ≡ before
-      → AppendsFront mid new (ended_line end) × (failed < after) → AreTold most (ends ++ end ∷ []) old new (Err WriteFailed) before after
+      → AppendsFront mid new (ended_line end) × (failed < after) → AreReported most (ends ++ end ∷ []) old new (Err WriteFailed) before after
   told_in_part most n end before failed after count more lines fine sent =
       let all = length-append ends (end ∷ []) in
       let front = subst (AppendsFront old new) (sym (lines_more ends end)) (front_behind old mid new (ended_lines ends) (ended_line end) lines sent.0) in
       (inl (omega (arith, all, count, more), front), omega (arith, fine, sent.1))
 
-  -- no further connection can be had, and that is told
+  -- no further connection can be had, and that is written
   pub told_last : (most n : ℕ) (result : Result (Unit {0}) JobFault) (before failed after : ℕ) → length ends ≡ n → n < most → Appends old mid (ended_lines ends) → failed ≡ before
-      → IsTold mid new ReadFailed result failed after → AreTold most ends old new result before after
+      → IsTold mid new ReadFailed result failed after → AreReported most ends old new result before after
   told_last most n (Ok done) before failed after count more lines fine wrote = absurd wrote
   told_last most n (Err (Told ReadFailed)) before failed after count more lines fine wrote =
       (omega (arith, count, more), Appends-trans old mid new (ended_lines ends) (line_of ReadFailed) lines wrote.1, wrote.2 ∙ fine)

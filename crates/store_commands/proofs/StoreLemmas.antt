@@ -1,4 +1,4 @@
--- What is told of a store that refuses something.
+-- What is written of a store that refuses something.
 use Rattle.std.proofs.Common.{◌≡◌, inl, inr, ℕ, Bool, List, [], Option, None, Result, Ok, Err, refl, sym, ap, subst, ◌∙◌}
 use Rattle.sqlite.specs.State.{State as Shown}
 use Rattle.dns_names.specs.Reading.{absolute_name}
@@ -33,7 +33,7 @@ line_of_store fault = tt
 
 -- ---- a zone that is put into a store
 
--- what a store made of each zone, where it told this fault
+-- what a store made of each zone, where it reported this fault
 abbrev pub put_by : LineFault → ZoneOf → Result (List ℕ) Refusal
 put_by (Refused refusal) zone = Err refusal
 put_by fault zone = Ok (imported_line zone)
@@ -86,7 +86,7 @@ imported_gives shows left origin finds refuses connects existing (Err fault) bef
 
 -- ---- a store that is asked for something, and tells a fault
 
--- what it made, where it told this fault
+-- what it made, where it reported this fault
 abbrev pub found_by : LineFault → Result (List Record) Refusal
 found_by (Refused refusal) = Err refusal
 found_by fault = Ok []
@@ -111,7 +111,7 @@ found_refused {A} view first text a (Refused refusal) e is =
 found_refused view first text a NoMemory e is = tt
 found_refused view first text a ReadFailed e is = absurd is
 
--- what is made is told at once, where nothing is read
+-- what is made is written at once, where nothing is read
 pub told_at_once : {X : Type 0} (view : X → List ℕ) (made : Result (List ℕ) Refusal) (fault : LineFault) → Gives view (Err fault) made
     → GivesOf view None (λ input. made) (Err fault) 0 0
 told_at_once view made (Refused refusal) given = (([], tt, given), refl)

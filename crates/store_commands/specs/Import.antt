@@ -1,4 +1,4 @@
--- What is told where a zone is put into a store.
+-- What is written where a zone is put into a store.
 use Rattle.std.specs.Prelude.{◌≡◌, ◌⊎◌, ℕ, Bool, List, ◌∷◌, [], ◌++◌, length, codes, decimal, Option, Result, Ok, Err}
 use Rattle.dns_names.specs.Spelling.{name_text}
 use Rattle.sqlite.specs.State.{State as Shown}
@@ -27,14 +27,14 @@ PutsZone zone (Err refusal) = IsOfStore refusal
 abbrev pub PutsZones : (ZoneOf → Result (List ℕ) Refusal) → Type 0
 PutsZones put = (zone : ZoneOf) → PutsZone zone (put zone)
 
--- what is told of an input that is a master file: a refusal of the origin, of the file or of its records as a zone, and else what the store
+-- what is written of an input that is a master file: a refusal of the origin, of the file or of its records as a zone, and else what the store
 -- makes of the zone
 abbrev pub import_text : List ℕ → (ZoneOf → Result (List ℕ) Refusal) → List ℕ → Result (List ℕ) Refusal
 import_text origin put input = zone_read origin input >>= put
 
 -- ---- the store
 
--- What connections show, what was left to read, the origin's word, what a place tells of the path, the answer, and the reader's failures before and after: the
+-- What connections show, what was left to read, the origin's word, what the files tell of the path, the answer, and the reader's failures before and after: the
 -- zone that was read was put into the store of the path, and this is its line; or no zone was read; or memory ran out for the line; or
 -- the store refused the zone that was read.
 abbrev pub IsImported : {C : Type 0} → (C → Shown) → Option (List ℕ) → List ℕ → (Bool → Type 0) → (StoreFault → Type 0) → (C → Type 0) → Existing → Result (List ℕ) LineFault → ℕ → ℕ → Type 0

@@ -1,4 +1,4 @@
--- What is told of a store that was migrated.
+-- What is written of a store that was migrated.
 use Rattle.std.specs.Prelude.{◌≡◌, ℕ, List, ◌∷◌, [], ◌++◌, codes, decimal, Result, Ok, Err}
 use Rattle.text_commands.specs.declared.refusal.Refusal.{Refusal}
 use Rattle.office_rows.specs.declared.store_fault.StoreFault.{StoreFault}

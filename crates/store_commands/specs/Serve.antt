@@ -1,4 +1,4 @@
--- Serving connections, one after the other, and what is told of one that ended by a fault.
+-- Serving connections, one after the other, and what is written of one that ended by a fault.
 use Rattle.std.specs.Prelude.{◌≡◌, ◌⊎◌, ℕ, ◌<◌, ◌≤◌, List, ◌∷◌, [], ◌++◌, length, codes, decimal, Option, Some, None, Result, Ok, Err, unwrap_or}
 use Rattle.std.specs.Io.KnownBytes.{Appends}
 use Rattle.std.specs.List.{flat_map}
@@ -33,7 +33,7 @@ most_of service = unwrap_or service.connections 18446744073709551615
 abbrev pub connection_line : ServeFault → List ℕ
 connection_line fault = codes "connection " ++ decimal (fault_number fault) ++ 10 ∷ []
 
--- what is told of a connection: nothing, unless a fault ended it
+-- what is written of a connection: nothing, unless a fault ended it
 abbrev pub ended_line : Option ServeFault → List ℕ
 ended_line None = []
 ended_line (Some fault) = connection_line fault
@@ -71,11 +71,11 @@ pub record AreServed (rules : List Rule) (c : Standing) (connections : List (Lis
 -- How many connections were asked for, how each ended that was served, what the writer held before and after, the answer, and the
 -- writer's failures before and after. A line tells each fault that ended one. Fewer are served only where one cannot be had, which is
 -- told, or where a line cannot be written.
-abbrev pub AreTold : ℕ → List (Option ServeFault) → Option (List ℕ) → Option (List ℕ) → Result (Unit {0}) JobFault → ℕ → ℕ → Type 0
-AreTold most ends old new (Ok done) before after = (length ends ≡ most) × Appends old new (ended_lines ends) × (after ≡ before)
-AreTold most ends old new (Err (Told ReadFailed)) before after = (length ends < most) × Appends old new (ended_lines ends ++ line_of ReadFailed) × (after ≡ before)
-AreTold most ends old new (Err (Told fault)) before after = ⊥
-AreTold most ends old new (Err WriteFailed) before after =
+abbrev pub AreReported : ℕ → List (Option ServeFault) → Option (List ℕ) → Option (List ℕ) → Result (Unit {0}) JobFault → ℕ → ℕ → Type 0
+AreReported most ends old new (Ok done) before after = (length ends ≡ most) × Appends old new (ended_lines ends) × (after ≡ before)
+AreReported most ends old new (Err (Told ReadFailed)) before after = (length ends < most) × Appends old new (ended_lines ends ++ line_of ReadFailed) × (after ≡ before)
+AreReported most ends old new (Err (Told fault)) before after = ⊥
+AreReported most ends old new (Err WriteFailed) before after =
     (((length ends ≤ most) × AppendsFront old new (ended_lines ends)) ⊎ ((length ends < most) × AppendsFront old new (ended_lines ends ++ line_of ReadFailed))) × (before < after)
 
 -- So many connections were served: as many as were asked for, unless one could not be had or a line not be written.

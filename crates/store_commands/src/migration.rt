@@ -33,15 +33,15 @@ fn tell_migrated<W: Sink>(writer: &mut W, zones: usize) -> Result<(), DeviceFail
 /// line tells the refusal: `NoZone` where there is no file, and those of the migration.
 pub fn migrate<W: Sink, S: Alter + Drop, P: StoreFiles<S>>(
     alloc: Global,
-    place: &P,
+    files: &P,
     store: &str,
     writer: &mut W,
 ) -> Result<(), JobFault>
-    ensures told { (made : Result (List ℕ) Refusal) × Migrates made × Answered None (λ _. made) (W.contents writer.old) (W.contents writer.new) result 0 0 (W.failures writer.old) (W.failures writer.new) }
-    // It is the store of this path; and a refusal is that of the place, or of what is there.
-    ensures migrated { (made : Result ℕ StoreFault) × IsMigratedStore (state S.Store) (P.finds place.now store.now) (P.refuses place.now store.now) (P.connects place.now store.now) made × IsReported (migration_told made) (W.contents writer.old) (W.contents writer.new) result (W.failures writer.old) (W.failures writer.new) }
+    ensures written { (made : Result (List ℕ) Refusal) × Migrates made × Answered None (λ _. made) (W.contents writer.old) (W.contents writer.new) result 0 0 (W.failures writer.old) (W.failures writer.new) }
+    // It is the store of this path; and a refusal is that of the files, or of what they hold.
+    ensures migrated { (made : Result ℕ StoreFault) × IsMigratedStore (state S.Store) (P.finds files.now store.now) (P.refuses files.now store.now) (P.connects files.now store.now) made × IsReported (migration_told made) (W.contents writer.old) (W.contents writer.new) result (W.failures writer.old) (W.failures writer.new) }
 {
-    match migrate_store(alloc, place, store) {
+    match migrate_store(alloc, files, store) {
         Ok(zones) => {
             tell_migrated(writer, zones)?;
             Ok(())

@@ -8,7 +8,7 @@ ghost use Rattle.office_wire.specs.Servfails.{AreNoted, servfails};
 ghost use Rattle.office_wire.specs.declared.serve_fault.ServeFault.{ServeFault as FaultOf};
 ghost use Rattle.text_commands.specs.LineFaults.{GivesOf};
 ghost use Rattle.text_commands.specs.Replies.{IsSent};
-ghost use Rattle.store_commands.specs.Serve.{policy_read, connection_line, ended_line, most_of, AreServed, AreTraced, IsTraced, IsSoMany, AreTold};
+ghost use Rattle.store_commands.specs.Serve.{policy_read, connection_line, ended_line, most_of, AreServed, AreTraced, IsTraced, IsSoMany, AreReported};
 
 use crate::cause::{Diagnosis, Remembered};
 use crate::files::MachineFiles;
@@ -136,7 +136,7 @@ fn serve_connection<T: ZoneTable, D: Diagnosis<T>, C: Clock, W: Sink, E: Sink>(
 ) -> Result<(), DeviceFailed>
     ensures run { T.is_honest table.new → (s : State) → T.holds table.old s → (turns : List Turn) × (t : State) × T.holds table.new t × Run policy.now (standing s (T.failures table.old)) turns (standing t (T.failures table.new)) × IsTraced turns (D.fault diagnosis.now table.new) (E.contents trace.old) (E.contents trace.new) (E.failures trace.old) (E.failures trace.new) }
     ensures honest { T.is_honest table.new → T.is_honest table.old }
-    ensures told { (end : Option FaultOf) × IsSent (W.contents writer.old) (W.contents writer.new) (ended_line end) result (W.failures writer.old) (W.failures writer.new) }
+    ensures written { (end : Option FaultOf) × IsSent (W.contents writer.old) (W.contents writer.new) (ended_line end) result (W.failures writer.old) (W.failures writer.new) }
     ensures traced { E.failures trace.old ≤ E.failures trace.new }
 {
     let served = serve_stream::<_, _, Brand, Brand>(
@@ -182,7 +182,7 @@ impl<C: Clock, D> Connections<'_, C, D> {
         D: Diagnosis<T>,
         ensures run { T.is_honest table.new → (s : State) → T.holds table.old s → (turns : List Turn) × (t : State) × T.holds table.new t × Run policy.now (standing s (T.failures table.old)) turns (standing t (T.failures table.new)) × IsTraced turns (D.fault self.now.diagnosis.now table.new) (E.contents trace.old) (E.contents trace.new) (E.failures trace.old) (E.failures trace.new) }
         ensures honest { T.is_honest table.new → T.is_honest table.old }
-        ensures told { (end : Option FaultOf) × IsSent (W.contents writer.old) (W.contents writer.new) (ended_line end) result (W.failures writer.old) (W.failures writer.new) }
+        ensures written { (end : Option FaultOf) × IsSent (W.contents writer.old) (W.contents writer.new) (ended_line end) result (W.failures writer.old) (W.failures writer.new) }
         ensures traced { E.failures trace.old ≤ E.failures trace.new }
     {
         // a short response goes out at once
@@ -192,7 +192,7 @@ impl<C: Clock, D> Connections<'_, C, D> {
     }
 }
 
-/// Serves connections one after the other, so many of them. A line tells each that ended by a fault. `ReadFailed` is told where a
+/// Serves connections one after the other, so many of them. A line tells each that ended by a fault. `ReadFailed` is written where a
 /// connection cannot be had, and `WriteFailed` comes where a line cannot be written. A line of the trace tells of each connection in
 /// which requests were answered SERVFAIL: how many, and why the last of them was.
 pub fn serve_connections<T: ZoneTable, D: Diagnosis<T>, C: Clock, W: Sink, E: Sink>(
@@ -209,8 +209,8 @@ pub fn serve_connections<T: ZoneTable, D: Diagnosis<T>, C: Clock, W: Sink, E: Si
     // office promises of calls holds of all of them together, whichever connection each came by. The trace tells of those of these
     // turns that were answered SERVFAIL.
     ensures served { T.is_honest table.new → (s : State) → T.holds table.old s → (turns : List (List Turn)) × (t : State) × T.holds table.new t × AreServed policy.now (standing s (T.failures table.old)) turns (standing t (T.failures table.new)) × IsSoMany most result (length turns) × AreTraced turns (E.contents trace.old) (E.contents trace.new) (E.failures trace.old) (E.failures trace.new) }
-    // How each connection ended that did so by a fault is told, and why it ended before so many were served.
-    ensures told { (ends : List (Option FaultOf)) × AreTold most ends (W.contents writer.old) (W.contents writer.new) result (W.failures writer.old) (W.failures writer.new) }
+    // A line is written for each connection that a fault ended, and one where fewer were served than asked for.
+    ensures written { (ends : List (Option FaultOf)) × AreReported most ends (W.contents writer.old) (W.contents writer.new) result (W.failures writer.old) (W.failures writer.new) }
     // A store that has kept its word had kept it before.
     ensures honest { T.is_honest table.new → T.is_honest table.old }
 {

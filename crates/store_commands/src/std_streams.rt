@@ -13,7 +13,7 @@ use std::marker::Brand;
 use std::sync::ledger::{Blank, Ledger};
 use text_commands::JobFault;
 
-/// Puts a zone, whose master file a reader of std gives, into a store, and hands the writer back that was told how it went.
+/// Puts a zone, whose master file a reader of std gives, into a store, and hands back the writer, to which the outcome was written.
 fn import_in<R: Read + Drop, W: Write + Drop, A: Ledger, B: Ledger, C: Ledger>(
     rt: &HostRuntime,
     what: (StoredZone<'_>, Existing),
@@ -87,7 +87,7 @@ pub fn do_export<W: Write + Drop>(
     export_in::<_, Brand, Brand>(rt, what, writer, writes, store)
 }
 
-/// Migrates a store, and hands the writer of std back that was told how it went.
+/// Migrates a store, and hands back the writer of std, to which the outcome was written.
 fn migrate_in<W: Write + Drop, B: Ledger>(
     rt: &HostRuntime,
     what: (&str, W),

@@ -13,15 +13,15 @@ use std::sync::ledger::{Blank, Ledger};
 
 /// A connection to the file of a path, if there is one; no file is `NoZone`.
 fn found<S: Alter + Drop, P: StoreFiles<S>>(
-    place: &P,
+    files: &P,
     path: &str,
 ) -> Result<Connection<S>, StoreFault>
-    ensures connected { IfOk result (P.connects place.now path.now) }
+    ensures connected { IfOk result (P.connects files.now path.now) }
     ensures alone { IfOk result (λ conn. conn.in_transaction ≡ false) }
-    ensures refused { IfErr result (IsUnfound (P.finds place.now path.now) (P.refuses place.now path.now)) }
+    ensures refused { IfErr result (IsUnfound (P.finds files.now path.now) (P.refuses files.now path.now)) }
 {
-    if place.has_file(path)? {
-        place.connect(path)
+    if files.has_file(path)? {
+        files.connect(path)
     } else {
         Err(StoreFault::NoZone)
     }
@@ -51,17 +51,17 @@ fn adopted<S: Alter + Drop, L: Ledger>(
 /// read.
 pub fn open_store<S: Alter + Drop, L: Ledger, P: StoreFiles<S>>(
     alloc: Global,
-    place: &P,
+    files: &P,
     path: &str,
     blank: Blank,
 ) -> Result<SqlTable<S, L>, StoreFault>
     requires name { blank.name ≡ L.name }
     requires parts { blank.parts ≡ L.parts }
     requires some { 0 < blank.parts }
-    ensures opened { IfOk result (λ table. IsOpened (state S.Store) (P.connects place.now path.now) table.conn) }
-    ensures refused { IfErr result (IsUnopened (state S.Store) (P.finds place.now path.now) (P.refuses place.now path.now) (P.connects place.now path.now)) }
+    ensures opened { IfOk result (λ table. IsOpened (state S.Store) (P.connects files.now path.now) table.conn) }
+    ensures refused { IfErr result (IsUnopened (state S.Store) (P.finds files.now path.now) (P.refuses files.now path.now) (P.connects files.now path.now)) }
 {
-    adopted(alloc, found(place, path)?, blank)
+    adopted(alloc, found(files, path)?, blank)
 }
 
 /// The table of a connection, which is made in an empty database.
@@ -92,17 +92,17 @@ fn made_or_adopted<S: Alter + Drop, L: Ledger>(
 /// `open_store`, but for `NoZone`.
 pub fn open_or_make_store<S: Alter + Drop, L: Ledger, P: StoreFiles<S>>(
     alloc: Global,
-    place: &P,
+    files: &P,
     path: &str,
     blank: Blank,
 ) -> Result<SqlTable<S, L>, StoreFault>
     requires name { blank.name ≡ L.name }
     requires parts { blank.parts ≡ L.parts }
     requires some { 0 < blank.parts }
-    ensures opened { IfOk result (λ table. IsOpenedOrMade (state S.Store) (P.connects place.now path.now) table.conn) }
-    ensures refused { IfErr result (IsUnopenedOrMade (state S.Store) (P.refuses place.now path.now) (P.connects place.now path.now)) }
+    ensures opened { IfOk result (λ table. IsOpenedOrMade (state S.Store) (P.connects files.now path.now) table.conn) }
+    ensures refused { IfErr result (IsUnopenedOrMade (state S.Store) (P.refuses files.now path.now) (P.connects files.now path.now)) }
 {
-    made_or_adopted(alloc, place.connect(path)?, blank)
+    made_or_adopted(alloc, files.connect(path)?, blank)
 }
 
 /// Takes the tables of a connection from version 1 to version 2.
@@ -121,10 +121,10 @@ fn migrate_tables<S: Alter + Drop>(alloc: Global, conn: Connection<S>) -> Result
 /// is as it was.
 pub fn migrate_store<S: Alter + Drop, P: StoreFiles<S>>(
     alloc: Global,
-    place: &P,
+    files: &P,
     path: &str,
 ) -> Result<usize, StoreFault>
-    ensures { IsMigratedStore (state S.Store) (P.finds place.now path.now) (P.refuses place.now path.now) (P.connects place.now path.now) result }
+    ensures { IsMigratedStore (state S.Store) (P.finds files.now path.now) (P.refuses files.now path.now) (P.connects files.now path.now) result }
 {
-    migrate_tables(alloc, found(place, path)?)
+    migrate_tables(alloc, found(files, path)?)
 }

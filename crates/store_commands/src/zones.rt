@@ -78,7 +78,7 @@ fn put<S: Alter + Drop, L: Ledger>(
 /// The table of the store of a path for a zone: it is made if it is missing, unless a zone is to be replaced.
 fn reached<S: Alter + Drop, L: Ledger, P: StoreFiles<S>>(
     alloc: Global,
-    place: &P,
+    files: &P,
     path: &str,
     existing: Existing,
     blank: Blank,
@@ -86,19 +86,19 @@ fn reached<S: Alter + Drop, L: Ledger, P: StoreFiles<S>>(
     requires name { blank.name ≡ L.name }
     requires parts { blank.parts ≡ L.parts }
     requires some { 0 < blank.parts }
-    ensures reached { IfOk result (λ table. IsReached (state S.Store) (P.connects place.now path.now) existing table.conn) }
-    ensures refused { IfErr result (IsUnreached (state S.Store) (P.finds place.now path.now) (P.refuses place.now path.now) (P.connects place.now path.now) existing) }
+    ensures reached { IfOk result (λ table. IsReached (state S.Store) (P.connects files.now path.now) existing table.conn) }
+    ensures refused { IfErr result (IsUnreached (state S.Store) (P.finds files.now path.now) (P.refuses files.now path.now) (P.connects files.now path.now) existing) }
 {
     match existing {
-        Existing::Kept => open_or_make_store(alloc, place, path, blank),
-        Existing::Replaced => open_store(alloc, place, path, blank),
+        Existing::Kept => open_or_make_store(alloc, files, path, blank),
+        Existing::Replaced => open_store(alloc, files, path, blank),
     }
 }
 
 /// Puts a zone into the store of a path.
 fn put_into_store<S: Alter + Drop, L: Ledger, P: StoreFiles<S>>(
     alloc: Global,
-    place: &P,
+    files: &P,
     path: &str,
     zone: &Zone,
     existing: Existing,
@@ -107,16 +107,16 @@ fn put_into_store<S: Alter + Drop, L: Ledger, P: StoreFiles<S>>(
     requires name { blank.name ≡ L.name }
     requires parts { blank.parts ≡ L.parts }
     requires some { 0 < blank.parts }
-    ensures { IsStored (state S.Store) (P.finds place.now path.now) (P.refuses place.now path.now) (P.connects place.now path.now) existing zone.now result }
+    ensures { IsStored (state S.Store) (P.finds files.now path.now) (P.refuses files.now path.now) (P.connects files.now path.now) existing zone.now result }
 {
-    let table: SqlTable<S, L> = reached(alloc, place, path, existing, blank)?;
+    let table: SqlTable<S, L> = reached(alloc, files, path, existing, blank)?;
     put(alloc, table, zone, existing)
 }
 
 /// Reads a zone, puts it into the store of a path, and answers the line that tells of it.
 fn imported<R: Source, S: Alter + Drop, L: Ledger, P: StoreFiles<S>>(
     alloc: Global,
-    place: &P,
+    files: &P,
     stored: StoredZone<'_>,
     existing: Existing,
     blank: Blank,
@@ -125,12 +125,12 @@ fn imported<R: Source, S: Alter + Drop, L: Ledger, P: StoreFiles<S>>(
     requires name { blank.name ≡ L.name }
     requires parts { blank.parts ≡ L.parts }
     requires some { 0 < blank.parts }
-    ensures { IsImported (state S.Store) (R.remaining reader.old) stored.entry.origin.now (P.finds place.now stored.entry.store.now) (P.refuses place.now stored.entry.store.now) (P.connects place.now stored.entry.store.now) existing (result_map_both (λ text. string_bytes text) (λ fault. fault) result) (R.failures reader.old) (R.failures reader.new) }
+    ensures { IsImported (state S.Store) (R.remaining reader.old) stored.entry.origin.now (P.finds files.now stored.entry.store.now) (P.refuses files.now stored.entry.store.now) (P.connects files.now stored.entry.store.now) existing (result_map_both (λ text. string_bytes text) (λ fault. fault) result) (R.failures reader.old) (R.failures reader.new) }
 {
     let zone = read_zone(alloc, stored.origin, reader)?;
     // the line is made before the zone is put, so that memory cannot run out after it
     let text = imported_text(alloc, &zone)?;
-    put_into_store::<S, L, P>(alloc, place, stored.store, &zone, existing, blank)?;
+    put_into_store::<S, L, P>(alloc, files, stored.store, &zone, existing, blank)?;
     Ok(text)
 }
 
@@ -139,7 +139,7 @@ fn imported<R: Source, S: Alter + Drop, L: Ledger, P: StoreFiles<S>>(
 /// the origin, of the file, of its records as a zone, of the store, and then `ZoneExists`, or `NoZone` and `SerialNotGreater`.
 pub fn import<R: Source, W: Sink, S: Alter + Drop, L: Ledger, P: StoreFiles<S>>(
     alloc: Global,
-    place: &P,
+    files: &P,
     what: (StoredZone<'_>, Existing),
     blank: Blank,
     reader: &mut R,
@@ -148,15 +148,15 @@ pub fn import<R: Source, W: Sink, S: Alter + Drop, L: Ledger, P: StoreFiles<S>>(
     requires name { blank.name ≡ L.name }
     requires parts { blank.parts ≡ L.parts }
     requires some { 0 < blank.parts }
-    // A refusal of the origin, of the file or of its records is told before one of the store; and where a zone was put, the line is
+    // A refusal of the origin, of the file or of its records comes before one of the store; and where a zone was put, the line is
     // that of the zone that was read.
-    ensures told { (put : ZoneOf → Result (List ℕ) RefusalOf) × PutsZones put × Answered (R.remaining reader.old) (import_text what.entry.0.origin.now put) (W.contents writer.old) (W.contents writer.new) result (R.failures reader.old) (R.failures reader.new) (W.failures writer.old) (W.failures writer.new) }
-    // It is put into the store of this path, whole, by the state that was there; and a refusal is that of the place, of what is there, or
+    ensures written { (put : ZoneOf → Result (List ℕ) RefusalOf) × PutsZones put × Answered (R.remaining reader.old) (import_text what.entry.0.origin.now put) (W.contents writer.old) (W.contents writer.new) result (R.failures reader.old) (R.failures reader.new) (W.failures writer.old) (W.failures writer.new) }
+    // It is put into the store of this path, whole, by the state that was there; and a refusal is that of the files, of what they hold, or
     // of the table.
-    ensures stored { (made : Result (List ℕ) LineFaultOf) × IsImported (state S.Store) (R.remaining reader.old) what.entry.0.origin.now (P.finds place.now what.entry.0.store.now) (P.refuses place.now what.entry.0.store.now) (P.connects place.now what.entry.0.store.now) what.entry.1 made (R.failures reader.old) (R.failures reader.new) × IsReported made (W.contents writer.old) (W.contents writer.new) result (W.failures writer.old) (W.failures writer.new) }
+    ensures stored { (made : Result (List ℕ) LineFaultOf) × IsImported (state S.Store) (R.remaining reader.old) what.entry.0.origin.now (P.finds files.now what.entry.0.store.now) (P.refuses files.now what.entry.0.store.now) (P.connects files.now what.entry.0.store.now) what.entry.1 made (R.failures reader.old) (R.failures reader.new) × IsReported made (W.contents writer.old) (W.contents writer.new) result (W.failures writer.old) (W.failures writer.new) }
 {
     let (stored, existing) = what;
-    match imported::<R, S, L, P>(alloc, place, stored, existing, blank, reader) {
+    match imported::<R, S, L, P>(alloc, files, stored, existing, blank, reader) {
         Ok(text) => {
             write_text(writer, text.as_bytes())?;
             Ok(())
@@ -180,7 +180,7 @@ fn records_in<S: Alter + Drop, L: Ledger>(
 /// The records of a zone of the store of a path.
 fn stored_records<S: Alter + Drop, L: Ledger, P: StoreFiles<S>>(
     alloc: Global,
-    place: &P,
+    files: &P,
     path: &str,
     origin: &Name,
     blank: Blank,
@@ -188,26 +188,26 @@ fn stored_records<S: Alter + Drop, L: Ledger, P: StoreFiles<S>>(
     requires name { blank.name ≡ L.name }
     requires parts { blank.parts ≡ L.parts }
     requires some { 0 < blank.parts }
-    ensures { IsHeld (state S.Store) (P.finds place.now path.now) (P.refuses place.now path.now) (P.connects place.now path.now) (λ records. records.items) origin.now result }
+    ensures { IsHeld (state S.Store) (P.finds files.now path.now) (P.refuses files.now path.now) (P.connects files.now path.now) (λ records. records.items) origin.now result }
 {
-    let table: SqlTable<S, L> = open_store(alloc, place, path, blank)?;
+    let table: SqlTable<S, L> = open_store(alloc, files, path, blank)?;
     records_in(alloc, table, origin)
 }
 
 /// The origin and the records of a zone of the store of a path.
 fn exported<S: Alter + Drop, L: Ledger, P: StoreFiles<S>>(
     alloc: Global,
-    place: &P,
+    files: &P,
     stored: StoredZone<'_>,
     blank: Blank,
 ) -> Result<(Name, Vec<Record>), LineFault>
     requires name { blank.name ≡ L.name }
     requires parts { blank.parts ≡ L.parts }
     requires some { 0 < blank.parts }
-    ensures { IsExported (state S.Store) (λ records. records.items) stored.entry.origin.now (P.finds place.now stored.entry.store.now) (P.refuses place.now stored.entry.store.now) (P.connects place.now stored.entry.store.now) result }
+    ensures { IsExported (state S.Store) (λ records. records.items) stored.entry.origin.now (P.finds files.now stored.entry.store.now) (P.refuses files.now stored.entry.store.now) (P.connects files.now stored.entry.store.now) result }
 {
     let origin = read_name(alloc, stored.origin)?;
-    let records = stored_records::<S, L, P>(alloc, place, stored.store, &origin, blank)?;
+    let records = stored_records::<S, L, P>(alloc, files, stored.store, &origin, blank)?;
     Ok((origin, records))
 }
 
@@ -229,7 +229,7 @@ fn print<'a, W: Sink>(
 /// the store, or `NoZone`.
 pub fn export<W: Sink, S: Alter + Drop, L: Ledger, P: StoreFiles<S>>(
     alloc: Global,
-    place: &P,
+    files: &P,
     stored: StoredZone<'_>,
     form: ZoneForm,
     blank: Blank,
@@ -238,12 +238,12 @@ pub fn export<W: Sink, S: Alter + Drop, L: Ledger, P: StoreFiles<S>>(
     requires name { blank.name ≡ L.name }
     requires parts { blank.parts ≡ L.parts }
     requires some { 0 < blank.parts }
-    // A refusal of the origin is told before one of the store; and else what is printed is the file of the records that are held.
-    ensures told { (held : Result (List RecordOf) RefusalOf) × FindsRecords held × Answered None (λ _. export_text form stored.entry.origin.now held) (W.contents writer.old) (W.contents writer.new) result 0 0 (W.failures writer.old) (W.failures writer.new) }
-    // They are those that the store of this path holds; and a refusal is that of the place, of what is there, or of the table.
-    ensures held { (made : Result (List (List ℕ) × List RecordOf) LineFaultOf) × IsExported (state S.Store) (λ records. records) stored.entry.origin.now (P.finds place.now stored.entry.store.now) (P.refuses place.now stored.entry.store.now) (P.connects place.now stored.entry.store.now) made × IsShown (result_map_both (λ found. zone_text_in form found.0 found.1) (λ fault. fault) made) (W.contents writer.old) (W.contents writer.new) result (W.failures writer.old) (W.failures writer.new) }
+    // A refusal of the origin comes before one of the store; and else what is printed is the file of the records that are held.
+    ensures written { (held : Result (List RecordOf) RefusalOf) × FindsRecords held × Answered None (λ _. export_text form stored.entry.origin.now held) (W.contents writer.old) (W.contents writer.new) result 0 0 (W.failures writer.old) (W.failures writer.new) }
+    // They are those that the store of this path holds; and a refusal is that of the files, of what they hold, or of the table.
+    ensures held { (made : Result (List (List ℕ) × List RecordOf) LineFaultOf) × IsExported (state S.Store) (λ records. records) stored.entry.origin.now (P.finds files.now stored.entry.store.now) (P.refuses files.now stored.entry.store.now) (P.connects files.now stored.entry.store.now) made × IsShown (result_map_both (λ found. zone_text_in form found.0 found.1) (λ fault. fault) made) (W.contents writer.old) (W.contents writer.new) result (W.failures writer.old) (W.failures writer.new) }
 {
-    match exported::<S, L, P>(alloc, place, stored, blank) {
+    match exported::<S, L, P>(alloc, files, stored, blank) {
         Ok((origin, records)) => print(alloc, form, &origin, &records, writer),
         Err(fault) => tell(alloc, writer, fault),
     }

@@ -6,8 +6,8 @@ use Rattle.store_commands.specs.Migrate.{migrated_line}
 use Rattle.store_commands.proofs.StoreLemmas.{line_of_store, made_by, migrates_by, migration_refused, told_at_once}
 use Rattle.store_commands.proofs.migration.migrate.Goals as goal
 
-pub returns-in_err-tell_migrated-in-Ok-clause-told : goal.returns-in_err-tell_migrated-in-Ok-clause-told
-returns-in_err-tell_migrated-in-Ok-clause-told g c =
+pub returns-in_err-tell_migrated-in-Ok-clause-written : goal.returns-in_err-tell_migrated-in-Ok-clause-written
+returns-in_err-tell_migrated-in-Ok-clause-written g c =
     let p = err_from_is_err_and c.from_residual.result c.from_residual.ensures.1 in
     let line = migrated_line c.in-Ok.zones in
     (Ok line, (c.in-Ok.zones, refl), rw (p.1, p.2) (answered_front None (λ input. Ok line) _ _ 0 0 _ _ line ([], tt, refl) refl c.in_err-tell_migrated-in-Ok.ensures))
@@ -17,16 +17,16 @@ returns-in_err-tell_migrated-in-Ok-clause-migrated g c =
     let p = err_from_is_err_and c.from_residual.result c.from_residual.ensures.1 in
     (Ok c.in-Ok.zones, c.in-Ok.ensures, rw (p.1, p.2) c.in_err-tell_migrated-in-Ok.ensures)
 
-pub returns-in_ok-tell_migrated-in-Ok-clause-told : goal.returns-in_ok-tell_migrated-in-Ok-clause-told
-returns-in_ok-tell_migrated-in-Ok-clause-told g c =
+pub returns-in_ok-tell_migrated-in-Ok-clause-written : goal.returns-in_ok-tell_migrated-in-Ok-clause-written
+returns-in_ok-tell_migrated-in-Ok-clause-written g c =
     let line = migrated_line c.in-Ok.zones in
     (Ok line, (c.in-Ok.zones, refl), answered_sent None (λ input. Ok line) _ _ 0 0 _ _ line ([], tt, refl) refl c.in_ok-tell_migrated-in-Ok.ensures)
 
 pub returns-in_ok-tell_migrated-in-Ok-clause-migrated : goal.returns-in_ok-tell_migrated-in-Ok-clause-migrated
 returns-in_ok-tell_migrated-in-Ok-clause-migrated g c = (Ok c.in-Ok.zones, c.in-Ok.ensures, c.in_ok-tell_migrated-in-Ok.ensures)
 
-pub returns-in-Err-clause-told : goal.returns-in-Err-clause-told
-returns-in-Err-clause-told g c =
+pub returns-in-Err-clause-written : goal.returns-in-Err-clause-written
+returns-in-Err-clause-written g c =
     let line = migrated_line 0 in
     let fault = of_store c.in-Err.fault in
     let named = line_of_store c.in-Err.fault in

@@ -10,7 +10,7 @@ pub accepted-init : goal.accepted-init
 accepted-init g c = record {
   honest = λ honest. honest;
   served = λ honest s held. ([], s, held, refl, refl, traced_none _ _);
-  told = ([], refl, Appends-nil _);
+  written = ([], refl, Appends-nil _);
   fine = refl;
 }
 
@@ -24,11 +24,11 @@ accepted-preserved g c = record {
       let mid = standing p.1 (g.T.ZoneTable.failures c.accepted.table) in
       let now = standing a.1 (g.T.ZoneTable.failures c.serve_one.new.table) in
       (p.0 ++ a.0 ∷ [], a.1, a.2, served_more c.args.policy.now before mid now p.0 a.0 p.3 a.3, one_more p.0 a.0 c.accepted.counter p.4, traced_more p.0 a.0 _ _ _ _ _ _ _ p.5 a.4);
-  told =
-      let p = c.accepted.invariant.told in
-      let a = c.in_ok-serve_one-in-Ok.ensures.told in
+  written =
+      let p = c.accepted.invariant.written in
+      let a = c.in_ok-serve_one-in-Ok.ensures.written in
       (p.0 ++ a.0 ∷ [], one_ended p.0 a.0 c.accepted.counter p.1, told_more _ _ _ p.0 a.0 p.2 a.1.0);
-  fine = c.in_ok-serve_one-in-Ok.ensures.told.1.1 ∙ c.accepted.invariant.fine;
+  fine = c.in_ok-serve_one-in-Ok.ensures.written.1.1 ∙ c.accepted.invariant.fine;
 }
 
 pub returns-in_err-serve_one-in-Ok-clause-served : goal.returns-in_err-serve_one-in-Ok-clause-served
@@ -45,23 +45,23 @@ returns-in_err-serve_one-in-Ok-clause-served g c = λ honest s held.
     let e = err_from_is_err_and c.from_residual.result c.from_residual.ensures.1 in
     (turns, a.1, a.2, are_served c.args.policy.now before now turns (g.met.T.ZoneTable.zones c.args.table.now s held) (g.met.T.ZoneTable.receipts c.args.table.now s held) all, rw e.1 less, traced_more p.0 a.0 _ _ _ _ _ _ _ p.5 a.4)
 
-pub returns-in_err-serve_one-in-Ok-clause-told : goal.returns-in_err-serve_one-in-Ok-clause-told
-returns-in_err-serve_one-in-Ok-clause-told g c =
-    let p = c.accepted.invariant.told in
-    let a = c.in_err-serve_one-in-Ok.ensures.told in
+pub returns-in_err-serve_one-in-Ok-clause-written : goal.returns-in_err-serve_one-in-Ok-clause-written
+returns-in_err-serve_one-in-Ok-clause-written g c =
+    let p = c.accepted.invariant.written in
+    let a = c.in_err-serve_one-in-Ok.ensures.written in
     let e = err_from_is_err_and c.from_residual.result c.from_residual.ensures.1 in
     let more : c.accepted.counter < c.args.most = let in_range = c.accepted-test.true in omega arith in
     (p.0 ++ a.0 ∷ [], rw (e.1, e.2) (told_in_part _ _ _ p.0 c.args.most c.accepted.counter a.0 _ _ _ p.1 more p.2 c.accepted.invariant.fine a.1))
 
-pub returns-in-Err-clause-told : goal.returns-in-Err-clause-told
-returns-in-Err-clause-told g c =
-    let p = c.accepted.invariant.told in
+pub returns-in-Err-clause-written : goal.returns-in-Err-clause-written
+returns-in-Err-clause-written g c =
+    let p = c.accepted.invariant.written in
     let more : c.accepted.counter < c.args.most = let in_range = c.accepted-test.true in omega arith in
     (p.0, told_last _ _ _ p.0 c.args.most c.accepted.counter c.tell.result _ _ _ p.1 more p.2 c.accepted.invariant.fine c.tell.ensures)
 
-pub returns-clause-told : goal.returns-clause-told
-returns-clause-told g c =
-    let p = c.accepted.invariant.told in
+pub returns-clause-written : goal.returns-clause-written
+returns-clause-written g c =
+    let p = c.accepted.invariant.written in
     let all : length p.0 ≡ c.args.most = let past = c.accepted-test.false in let ended = c.accepted.auto.counter-end in let count = p.1 in omega arith in
     (p.0, (all, p.2, c.accepted.invariant.fine))
 

@@ -13,6 +13,6 @@ invariant-accepted g l = record {
   served : g.T.ZoneTable.is_honest l.table → (s : State) → g.T.ZoneTable.holds l.fn.table s → (turns : List (List Turn)) × (t : State) × g.T.ZoneTable.holds l.table t
       × Run l.policy (standing s (g.T.ZoneTable.failures l.fn.table)) (joined turns) (standing t (g.T.ZoneTable.failures l.table)) × (length turns ≡ l.counter)
       × AreTraced turns (g.E.Sink.contents l.fn.trace) (g.E.Sink.contents l.trace) (g.E.FaultCount.failures l.fn.trace) (g.E.FaultCount.failures l.trace);
-  told : (ends : List (Option ServeFault)) × (length ends ≡ l.counter) × Appends (g.W.Sink.contents l.fn.writer) (g.W.Sink.contents l.writer) (ended_lines ends);
+  written : (ends : List (Option ServeFault)) × (length ends ≡ l.counter) × Appends (g.W.Sink.contents l.fn.writer) (g.W.Sink.contents l.writer) (ended_lines ends);
   fine : g.W.FaultCount.failures l.writer ≡ g.W.FaultCount.failures l.fn.writer;
 }

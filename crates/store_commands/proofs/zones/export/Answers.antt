@@ -6,9 +6,9 @@ use Rattle.store_commands.specs.Export.{export_text}
 use Rattle.store_commands.proofs.StoreLemmas.{told_at_once, exported_gives}
 use Rattle.store_commands.proofs.zones.export.Goals as goal
 
-pub returns-in-Ok-clause-told : goal.returns-in-Ok-clause-told
-returns-in-Ok-clause-told g c =
-    let x = exported_gives c.args.form _ (λ (records : Vec Record Global). records.items) c.args.stored.origin.now (g.P.StoreFiles.finds c.args.place.now c.args.stored.store.now) (g.P.StoreFiles.refuses c.args.place.now c.args.stored.store.now) (g.P.StoreFiles.connects c.args.place.now c.args.stored.store.now) (Ok (c.in-Ok.origin, c.in-Ok.records)) c.in-Ok.ensures in
+pub returns-in-Ok-clause-written : goal.returns-in-Ok-clause-written
+returns-in-Ok-clause-written g c =
+    let x = exported_gives c.args.form _ (λ (records : Vec Record Global). records.items) c.args.stored.origin.now (g.P.StoreFiles.finds c.args.files.now c.args.stored.store.now) (g.P.StoreFiles.refuses c.args.files.now c.args.stored.store.now) (g.P.StoreFiles.connects c.args.files.now c.args.stored.store.now) (Ok (c.in-Ok.origin, c.in-Ok.records)) c.in-Ok.ensures in
     let same : c.deref.result.now ≡ c.in-Ok.records.items = search rules in
     (x.0, x.1, answered_printed None (λ input. export_text c.args.form c.args.stored.origin.now x.0) _ _ 0 0 _ _ (zone_text_in c.args.form c.in-Ok.origin c.in-Ok.records.items) c.print.result ([], tt, x.2) refl (rw same at c.print.ensures))
 
@@ -17,9 +17,9 @@ returns-in-Ok-clause-held g c =
     let same : c.deref.result.now ≡ c.in-Ok.records.items = search rules in
     (Ok (c.in-Ok.origin, c.in-Ok.records.items), c.in-Ok.ensures, rw same at c.print.ensures)
 
-pub returns-in-Err-clause-told : goal.returns-in-Err-clause-told
-returns-in-Err-clause-told g c =
-    let x = exported_gives c.args.form _ (λ (records : Vec Record Global). records.items) c.args.stored.origin.now (g.P.StoreFiles.finds c.args.place.now c.args.stored.store.now) (g.P.StoreFiles.refuses c.args.place.now c.args.stored.store.now) (g.P.StoreFiles.connects c.args.place.now c.args.stored.store.now) (Err c.in-Err.fault) c.in-Err.ensures in
+pub returns-in-Err-clause-written : goal.returns-in-Err-clause-written
+returns-in-Err-clause-written g c =
+    let x = exported_gives c.args.form _ (λ (records : Vec Record Global). records.items) c.args.stored.origin.now (g.P.StoreFiles.finds c.args.files.now c.args.stored.store.now) (g.P.StoreFiles.refuses c.args.files.now c.args.stored.store.now) (g.P.StoreFiles.connects c.args.files.now c.args.stored.store.now) (Err c.in-Err.fault) c.in-Err.ensures in
     let made = export_text c.args.form c.args.stored.origin.now x.0 in
     let view = λ (l : List ℕ). l in
     (x.0, x.1, answered_told None (λ input. made) _ _ 0 0 _ _ view c.in-Err.fault c.tell.result (told_at_once view made c.in-Err.fault x.2) c.tell.ensures)

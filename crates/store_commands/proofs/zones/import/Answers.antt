@@ -6,10 +6,10 @@ use Rattle.store_commands.specs.Import.{import_text}
 use Rattle.store_commands.proofs.StoreLemmas.{imported_gives}
 use Rattle.store_commands.proofs.zones.import.Goals as goal
 
-pub returns-in_err-write_text-in-Ok-clause-told : goal.returns-in_err-write_text-in-Ok-clause-told
-returns-in_err-write_text-in-Ok-clause-told g c =
+pub returns-in_err-write_text-in-Ok-clause-written : goal.returns-in_err-write_text-in-Ok-clause-written
+returns-in_err-write_text-in-Ok-clause-written g c =
     let p = err_from_is_err_and c.from_residual.result c.from_residual.ensures.1 in
-    let x = imported_gives _ _ c.args.what.0.origin.now (g.P.StoreFiles.finds c.args.place.now c.args.what.0.store.now) (g.P.StoreFiles.refuses c.args.place.now c.args.what.0.store.now) (g.P.StoreFiles.connects c.args.place.now c.args.what.0.store.now) c.args.what.1 (Ok (string_bytes c.in-Ok.text)) _ _ c.in-Ok.ensures in
+    let x = imported_gives _ _ c.args.what.0.origin.now (g.P.StoreFiles.finds c.args.files.now c.args.what.0.store.now) (g.P.StoreFiles.refuses c.args.files.now c.args.what.0.store.now) (g.P.StoreFiles.connects c.args.files.now c.args.what.0.store.now) c.args.what.1 (Ok (string_bytes c.in-Ok.text)) _ _ c.in-Ok.ensures in
     let sent = rw c.as_bytes.ensures.value at c.in_err-write_text-in-Ok.ensures in
     (x.0, x.1, rw (p.1, p.2) (answered_front _ (import_text c.args.what.0.origin.now x.0) _ _ _ _ _ _ (string_bytes c.in-Ok.text) x.2.0 x.2.1 sent))
 
@@ -19,9 +19,9 @@ returns-in_err-write_text-in-Ok-clause-stored g c =
     let sent = rw c.as_bytes.ensures.value at c.in_err-write_text-in-Ok.ensures in
     (Ok (string_bytes c.in-Ok.text), c.in-Ok.ensures, rw (p.1, p.2) sent)
 
-pub returns-in_ok-write_text-in-Ok-clause-told : goal.returns-in_ok-write_text-in-Ok-clause-told
-returns-in_ok-write_text-in-Ok-clause-told g c =
-    let x = imported_gives _ _ c.args.what.0.origin.now (g.P.StoreFiles.finds c.args.place.now c.args.what.0.store.now) (g.P.StoreFiles.refuses c.args.place.now c.args.what.0.store.now) (g.P.StoreFiles.connects c.args.place.now c.args.what.0.store.now) c.args.what.1 (Ok (string_bytes c.in-Ok.text)) _ _ c.in-Ok.ensures in
+pub returns-in_ok-write_text-in-Ok-clause-written : goal.returns-in_ok-write_text-in-Ok-clause-written
+returns-in_ok-write_text-in-Ok-clause-written g c =
+    let x = imported_gives _ _ c.args.what.0.origin.now (g.P.StoreFiles.finds c.args.files.now c.args.what.0.store.now) (g.P.StoreFiles.refuses c.args.files.now c.args.what.0.store.now) (g.P.StoreFiles.connects c.args.files.now c.args.what.0.store.now) c.args.what.1 (Ok (string_bytes c.in-Ok.text)) _ _ c.in-Ok.ensures in
     let sent = rw c.as_bytes.ensures.value at c.in_ok-write_text-in-Ok.ensures in
     (x.0, x.1, answered_sent _ (import_text c.args.what.0.origin.now x.0) _ _ _ _ _ _ (string_bytes c.in-Ok.text) x.2.0 x.2.1 sent)
 
@@ -30,9 +30,9 @@ returns-in_ok-write_text-in-Ok-clause-stored g c =
     let sent = rw c.as_bytes.ensures.value at c.in_ok-write_text-in-Ok.ensures in
     (Ok (string_bytes c.in-Ok.text), c.in-Ok.ensures, sent)
 
-pub returns-in-Err-clause-told : goal.returns-in-Err-clause-told
-returns-in-Err-clause-told g c =
-    let x = imported_gives _ _ c.args.what.0.origin.now (g.P.StoreFiles.finds c.args.place.now c.args.what.0.store.now) (g.P.StoreFiles.refuses c.args.place.now c.args.what.0.store.now) (g.P.StoreFiles.connects c.args.place.now c.args.what.0.store.now) c.args.what.1 (Err c.in-Err.fault) _ _ c.in-Err.ensures in
+pub returns-in-Err-clause-written : goal.returns-in-Err-clause-written
+returns-in-Err-clause-written g c =
+    let x = imported_gives _ _ c.args.what.0.origin.now (g.P.StoreFiles.finds c.args.files.now c.args.what.0.store.now) (g.P.StoreFiles.refuses c.args.files.now c.args.what.0.store.now) (g.P.StoreFiles.connects c.args.files.now c.args.what.0.store.now) c.args.what.1 (Err c.in-Err.fault) _ _ c.in-Err.ensures in
     (x.0, x.1, answered_told _ (import_text c.args.what.0.origin.now x.0) _ _ _ _ _ _ (λ (l : List ℕ). l) c.in-Err.fault c.tell.result x.2 c.tell.ensures)
 
 pub returns-in-Err-clause-stored : goal.returns-in-Err-clause-stored
