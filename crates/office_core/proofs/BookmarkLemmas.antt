@@ -17,11 +17,14 @@ use Rattle.office_core.specs.declared.bookmark.Point.{Point}
 use Rattle.office_core.specs.Bookmarks.{IsBookmark, IsPoint, IsStart, is_of}
 use Rattle.office_core.specs.declared.receipt.Receipt.{Receipt}
 use Rattle.office_core.specs.declared.reply.UpdateReply.{UpdateReply}
+use Rattle.office_core.specs.declared.reply.Reply.{Reply}
+use Rattle.office_core.specs.declared.reply.Reply.TheVariants as replies
 use Rattle.office_core.specs.declared.request.Request.{Request}
 use Rattle.office_core.specs.declared.request.Request.TheVariants as requests
 use Rattle.office_core.specs.Machine.{answered, changes_from, changes_reply, held_after, of_zone, hold, if_some, numbered, refusal, seen, seen_of, step, updated, with_change}
-use Rattle.office_core.specs.Replies.{NumberedOf, changes}
+use Rattle.office_core.specs.Replies.{NumberedOf, changes, reply_of}
 use Rattle.office_core.specs.States.{Held, State, changes_at}
+use Rattle.office_core.specs.Steps.{IsAnswer, Steps}
 
 -- ---- changes with their numbers
 
@@ -242,3 +245,31 @@ module _ (rules : List Rule) (caller : List ℕ) where
   ended_at cs behind sees began (Some point) read sights right is there many some (a, b) =
       last_point rules caller cs behind began point right is (a ∙ ap (λ (n : ℕ). began.read + n) many)
       (b ∙ ap (λ (n : ℕ). began.seen + n) (some ∙ ap (λ (l : List ChangeOf). length l) there))
+
+module _ (holds right : State → Type 0) (rules : List Rule) (s : State) (caller : List ℕ) (request : Request) where
+  -- an answer, with what is right of the state behind it
+  pub and_right : (reply : Reply) → IsAnswer reply → (reply_of reply ≡ Some (step rules s caller request).reply) × holds (step rules s caller request).after
+      → right (step rules s caller request).after → Steps (λ t. holds t × right t) rules s caller request reply
+  and_right (replies.Servfail fault) answers takes after = absurd answers
+  and_right (replies.Update reply) answers takes after = (takes.0, (takes.1, after))
+  and_right replies.IdReused answers takes after = (takes.0, (takes.1, after))
+  and_right replies.NotAuth answers takes after = (takes.0, (takes.1, after))
+  and_right replies.NotZone answers takes after = (takes.0, (takes.1, after))
+  and_right (replies.Records records) answers takes after = (takes.0, (takes.1, after))
+  and_right (replies.File origin records) answers takes after = (takes.0, (takes.1, after))
+  and_right (replies.Delegations all) answers takes after = (takes.0, (takes.1, after))
+  and_right (replies.Changes all) answers takes after = (takes.0, (takes.1, after))
+  and_right (replies.Right made) answers takes after = (takes.0, (takes.1, after))
+
+  -- and without it
+  pub only_held : (reply : Reply) → Steps (λ t. holds t × right t) rules s caller request reply → Steps holds rules s caller request reply
+  only_held (replies.Servfail fault) steps = steps.0
+  only_held (replies.Update reply) steps = (steps.0, steps.1.0)
+  only_held replies.IdReused steps = (steps.0, steps.1.0)
+  only_held replies.NotAuth steps = (steps.0, steps.1.0)
+  only_held replies.NotZone steps = (steps.0, steps.1.0)
+  only_held (replies.Records records) steps = (steps.0, steps.1.0)
+  only_held (replies.File origin records) steps = (steps.0, steps.1.0)
+  only_held (replies.Delegations all) steps = (steps.0, steps.1.0)
+  only_held (replies.Changes all) steps = (steps.0, steps.1.0)
+  only_held (replies.Right made) steps = (steps.0, steps.1.0)

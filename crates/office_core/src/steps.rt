@@ -46,8 +46,8 @@ pub fn step<T: ZoneTable>(
     step_with_bookmarks(alloc, table, policy, &mut bookmarks, caller, request)
 }
 
-/// The same, for a service that keeps bookmarks: who asks for changes again pays for those behind the last answer. The bookmarks are of
-/// this policy, and right of what the table holds; and so they stay.
+/// The same with bookmarks, so that who asks for changes again pays for those behind the last answer. Bookmarks are kept for one
+/// policy.
 pub fn step_with_bookmarks<T: ZoneTable>(
     alloc: Global,
     table: &mut T,
@@ -56,13 +56,12 @@ pub fn step_with_bookmarks<T: ZoneTable>(
     caller: &Identifier,
     request: &Request,
 ) -> Reply
-    // With right bookmarks it does the same.
-    ensures step { T.is_honest table.new → (s : State) → T.holds table.old s → AreBookmarks policy.now s bookmarks.old → Steps (T.holds table.new) policy.now s caller.now request.now result }
+    // Where the store has kept its word and the bookmarks are right of what is held, it does the same, and they are right of what is
+    // held then.
+    ensures step { T.is_honest table.new → (s : State) → T.holds table.old s → AreBookmarks policy.now s bookmarks.old → Steps (λ t. T.holds table.new t × AreBookmarks policy.now t bookmarks.new) policy.now s caller.now request.now result }
     ensures crash { T.is_honest table.new → (s : State) → T.holds table.old s → T.leaves table.old s s → Leaves (T.leaves table.new) policy.now s caller.now request.now result }
     ensures honest { T.is_honest table.new → T.is_honest table.old }
     ensures counts { CountsReply (T.failures table.old) (T.failures table.new) result }
-    // They are right before the request and after it.
-    ensures bookmarks { T.is_honest table.new → (s : State) → T.holds table.old s → AreBookmarks policy.now s bookmarks.old → AreBookmarks policy.now s bookmarks.new × AreBookmarks policy.now (step policy.now s caller.now request.now).after bookmarks.new }
 {
     match answer(alloc, table, policy, bookmarks, caller, request) {
         Ok(reply) => reply,
