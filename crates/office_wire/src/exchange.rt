@@ -2,6 +2,7 @@
 
 ghost use Rattle.std.specs.Prelude.{◌≡◌, ◌+◌, length, IsUtf8, OnOk, OnErr};
 ghost use Rattle.httparse.specs.Grammar.{RequestHead};
+ghost use Rattle.office_core.specs.Bookmarks.{AreBookmarks};
 ghost use Rattle.office_core.specs.States.{State};
 ghost use Rattle.office_wire.specs.Exchange.{Answers};
 ghost use Rattle.office_wire.specs.Framing.{IsAsked};
@@ -23,7 +24,7 @@ use crate::stream::{Stream, write_all};
 use dns_master::{DeviceFailed, Sink, Source};
 use grant_policy::Policy;
 use httparse::spans::HeaderSpan;
-use office_core::{TableFault, ZoneTable, step};
+use office_core::{Bookmarks, TableFault, ZoneTable, step_with_bookmarks};
 use std::alloc::Global;
 
 /// How far the octets that were received are answered.
@@ -46,14 +47,28 @@ pub(crate) struct Service<'a> {
 
 impl<'a> Service<'a> {
     /// What is answered to a request.
-    fn respond<T: ZoneTable>(&self, table: &mut T, heading: &Heading<'_>, body: &[u8]) -> Response
+    fn respond<T: ZoneTable>(
+        &self,
+        table: &mut T,
+        bookmarks: &mut Bookmarks,
+        heading: &Heading<'_>,
+        body: &[u8],
+    ) -> Response
         requires { IsUtf8 heading.now.target.now }
-        ensures answers { T.is_honest table.new → (s : State) → T.holds table.old s → (h : RequestHead) → IsAsked heading.now h → (t : State) × T.holds table.new t × Answers self.now.policy.now (standing s (T.failures table.old)) (call_of h body.now) result (standing t (T.failures table.new)) }
+        ensures answers { T.is_honest table.new → (s : State) → T.holds table.old s × AreBookmarks self.now.policy.now s bookmarks.old → (h : RequestHead) → IsAsked heading.now h → (t : State) × (T.holds table.new t × AreBookmarks self.now.policy.now t bookmarks.new) × Answers self.now.policy.now (standing s (T.failures table.old)) (call_of h body.now) result (standing t (T.failures table.new)) }
         ensures honest { T.is_honest table.new → T.is_honest table.old }
     {
         match read_call(self.alloc, &self.routes, heading, body) {
             Ok(call) => {
-                Response::Replied(step(self.alloc, table, self.policy, &call.caller, &call.request))
+                let reply = step_with_bookmarks(
+                    self.alloc,
+                    table,
+                    self.policy,
+                    bookmarks,
+                    &call.caller,
+                    &call.request,
+                );
+                Response::Replied(reply)
             }
             Err(fault) => Response::refusing(fault),
         }
@@ -63,16 +78,17 @@ impl<'a> Service<'a> {
     fn reply<T: ZoneTable>(
         &self,
         table: &mut T,
+        bookmarks: &mut Bookmarks,
         heading: &Heading<'_>,
         body: &[u8],
         out: &mut ResponseBuffer,
         servfails: &mut Servfails,
     )
         requires { IsUtf8 heading.now.target.now }
-        ensures answered { T.is_honest table.new → (s : State) → T.holds table.old s → (h : RequestHead) → IsAsked heading.now h → (t : State) × T.holds table.new t × IsReplied self.now.policy.now (mark s (T.failures table.old) servfails.old) (call_of h body.now) heading.now.method heading.now.closes out.new (mark t (T.failures table.new) servfails.new) }
+        ensures answered { T.is_honest table.new → (s : State) → T.holds table.old s × AreBookmarks self.now.policy.now s bookmarks.old → (h : RequestHead) → IsAsked heading.now h → (t : State) × (T.holds table.new t × AreBookmarks self.now.policy.now t bookmarks.new) × IsReplied self.now.policy.now (mark s (T.failures table.old) servfails.old) (call_of h body.now) heading.now.method heading.now.closes out.new (mark t (T.failures table.new) servfails.new) }
         ensures honest { T.is_honest table.new → T.is_honest table.old }
     {
-        let response = self.respond(table, heading, body);
+        let response = self.respond(table, bookmarks, heading, body);
         if out.put(heading.method, &response, heading.closes) {
             servfails.note(&response);
         } else {
@@ -86,12 +102,13 @@ impl<'a> Service<'a> {
         pending: &[u8],
         spans: &mut [HeaderSpan],
         table: &mut T,
+        bookmarks: &mut Bookmarks,
         out: &mut ResponseBuffer,
         servfails: &mut Servfails,
     ) -> Progress
         requires { length spans.old ≡ 5462 }
         ensures stands { Stands pending.now result }
-        ensures answered { T.is_honest table.new → (s : State) → T.holds table.old s → (t : State) × T.holds table.new t × IsProgress self.now.policy.now (mark s (T.failures table.old) servfails.old) pending.now result out.new (mark t (T.failures table.new) servfails.new) }
+        ensures answered { T.is_honest table.new → (s : State) → T.holds table.old s × AreBookmarks self.now.policy.now s bookmarks.old → (t : State) × (T.holds table.new t × AreBookmarks self.now.policy.now t bookmarks.new) × IsProgress self.now.policy.now (mark s (T.failures table.old) servfails.old) pending.now result out.new (mark t (T.failures table.new) servfails.new) }
         ensures honest { T.is_honest table.new → T.is_honest table.old }
     {
         match framing_of(pending, spans) {
@@ -106,7 +123,14 @@ impl<'a> Service<'a> {
             }
             Framing::Ready(heading, n) => {
                 let end = heading.len + n;
-                self.reply(table, &heading, &pending[heading.len..end], out, servfails);
+                self.reply(
+                    table,
+                    bookmarks,
+                    &heading,
+                    &pending[heading.len..end],
+                    out,
+                    servfails,
+                );
                 if heading.closes {
                     Progress::Last
                 } else {
@@ -125,12 +149,13 @@ impl<'a> Service<'a> {
         reader: &mut R,
         writer: &mut W,
         table: &mut T,
+        bookmarks: &mut Bookmarks,
         out: &mut ResponseBuffer,
         servfails: &mut Servfails,
     ) -> Result<bool, DeviceFailed>
         requires { length spans.old ≡ 5462 }
         ensures idle { IsIdle result buffer.new }
-        ensures served { T.is_honest table.new → (s : State) → T.holds table.old s → (t : State) × T.holds table.new t × IsServed self.now.policy.now (mark s (T.failures table.old) servfails.old) buffer.old result buffer.new (moment (W.contents writer.old) (S.events reader.old writer.old)) (moment (W.contents writer.new) (S.events reader.new writer.new)) (mark t (T.failures table.new) servfails.new) }
+        ensures served { T.is_honest table.new → (s : State) → T.holds table.old s × AreBookmarks self.now.policy.now s bookmarks.old → (t : State) × (T.holds table.new t × AreBookmarks self.now.policy.now t bookmarks.new) × IsServed self.now.policy.now (mark s (T.failures table.old) servfails.old) buffer.old result buffer.new (moment (W.contents writer.old) (S.events reader.old writer.old)) (moment (W.contents writer.new) (S.events reader.new writer.new)) (mark t (T.failures table.new) servfails.new) }
         ensures honest { T.is_honest table.new → T.is_honest table.old }
         ensures same { OnOk result (W.failures writer.new ≡ W.failures writer.old) }
         ensures rose { OnErr result (W.failures writer.new ≡ W.failures writer.old + 1) }
@@ -141,7 +166,7 @@ impl<'a> Service<'a> {
             return Ok(false);
         }
         'turns: loop {
-            match self.answer(buffer.as_slice(), spans, table, out, servfails) {
+            match self.answer(buffer.as_slice(), spans, table, bookmarks, out, servfails) {
                 Progress::Waiting(n) => {
                     buffer.await_octets(n);
                     return Ok(false);

@@ -2,6 +2,7 @@
 
 ghost use Rattle.std.specs.Prelude.{◌≡◌, ◌+◌, ℕ, List, [], length, OnOk, OnErr};
 ghost use Rattle.std.specs.List.{list_all};
+ghost use Rattle.office_core.specs.Bookmarks.{AreBookmarks};
 ghost use Rattle.office_core.specs.States.{State};
 ghost use Rattle.office_wire.specs.Exchange.{Turn, Run, Waits, is_line_end};
 ghost use Rattle.office_wire.specs.Promises.{ArePromised};
@@ -23,7 +24,7 @@ use crate::stream::{Apart, Stream, write_all};
 use dns_master::{DeviceFailed, Sink, Source};
 use grant_policy::Policy;
 use httparse::spans::{EMPTY_HEADER_SPAN, HeaderSpan};
-use office_core::ZoneTable;
+use office_core::{Bookmarks, ZoneTable};
 use std::alloc::Global;
 
 /// Whether there are only line ends.
@@ -66,11 +67,12 @@ fn serve_in<S: Stream<R, W>, R: Source, W: Sink, T: ZoneTable>(
     reader: &mut R,
     writer: &mut W,
     table: &mut T,
+    bookmarks: &mut Bookmarks,
     servfails: &mut Servfails,
 ) -> Result<(), ServeFault>
     requires empty { length buffer.old ≡ 0 }
     requires spans { length spans.old ≡ 5462 }
-    ensures run { T.is_honest table.new → (s : State) → T.holds table.old s → (turns : List Turn) × (t : State) × T.holds table.new t × Leads service.now.policy.now (mark s (T.failures table.old) servfails.old) turns (mark t (T.failures table.new) servfails.new) × IsDone turns result (R.remaining reader.old) (R.remaining reader.new) (W.contents writer.old) (W.contents writer.new) × IsServedInTurn turns (S.events reader.old writer.old) (S.events reader.new writer.new) }
+    ensures run { T.is_honest table.new → (s : State) → T.holds table.old s × AreBookmarks service.now.policy.now s bookmarks.old → (turns : List Turn) × (t : State) × (T.holds table.new t × AreBookmarks service.now.policy.now t bookmarks.new) × Leads service.now.policy.now (mark s (T.failures table.old) servfails.old) turns (mark t (T.failures table.new) servfails.new) × IsDone turns result (R.remaining reader.old) (R.remaining reader.new) (W.contents writer.old) (W.contents writer.new) × IsServedInTurn turns (S.events reader.old writer.old) (S.events reader.new writer.new) }
     ensures honest { T.is_honest table.new → T.is_honest table.old }
     ensures devices { CountsServed result (R.failures reader.old) (R.failures reader.new) (W.failures writer.old) (W.failures writer.new) }
 {
@@ -86,7 +88,7 @@ fn serve_in<S: Stream<R, W>, R: Source, W: Sink, T: ZoneTable>(
             }
         }
         match service.answer_all::<S, _, _, _>(
-            buffer, spans, reader, writer, table, out, servfails,
+            buffer, spans, reader, writer, table, bookmarks, out, servfails,
         ) {
             Err(_) => return Err(ServeFault::WriteFailed),
             Ok(true) => return Ok(()),
@@ -103,9 +105,10 @@ fn serve_into<S: Stream<R, W>, R: Source, W: Sink, T: ZoneTable>(
     writer: &mut W,
     table: &mut T,
     policy: &Policy,
+    bookmarks: &mut Bookmarks,
     servfails: &mut Servfails,
 ) -> Result<(), ServeFault>
-    ensures run { T.is_honest table.new → (s : State) → T.holds table.old s → (turns : List Turn) × (t : State) × T.holds table.new t × Leads policy.now (mark s (T.failures table.old) servfails.old) turns (mark t (T.failures table.new) servfails.new) × IsDone turns result (R.remaining reader.old) (R.remaining reader.new) (W.contents writer.old) (W.contents writer.new) × IsServedInTurn turns (S.events reader.old writer.old) (S.events reader.new writer.new) }
+    ensures run { T.is_honest table.new → (s : State) → T.holds table.old s × AreBookmarks policy.now s bookmarks.old → (turns : List Turn) × (t : State) × (T.holds table.new t × AreBookmarks policy.now t bookmarks.new) × Leads policy.now (mark s (T.failures table.old) servfails.old) turns (mark t (T.failures table.new) servfails.new) × IsDone turns result (R.remaining reader.old) (R.remaining reader.new) (W.contents writer.old) (W.contents writer.new) × IsServedInTurn turns (S.events reader.old writer.old) (S.events reader.new writer.new) }
     ensures honest { T.is_honest table.new → T.is_honest table.old }
     ensures devices { CountsServed result (R.failures reader.old) (R.failures reader.new) (W.failures writer.old) (W.failures writer.new) }
 {
@@ -132,6 +135,7 @@ fn serve_into<S: Stream<R, W>, R: Source, W: Sink, T: ZoneTable>(
         reader,
         writer,
         table,
+        bookmarks,
         servfails,
     )
 }
@@ -153,31 +157,42 @@ pub fn serve_stream<S: Stream<R, W>, R: Source, W: Sink, T: ZoneTable>(
     writer: &mut W,
     table: &mut T,
     policy: &Policy,
+    bookmarks: &mut Bookmarks,
 ) -> Served
     // Each response goes out whole before the next read, so a peer that waits for it before it sends more gets it.
-    ensures run { T.is_honest table.new → (s : State) → T.holds table.old s → (turns : List Turn) × (t : State) × T.holds table.new t × Run policy.now (standing s (T.failures table.old)) turns (standing t (T.failures table.new)) × IsDone turns result.ended (R.remaining reader.old) (R.remaining reader.new) (W.contents writer.old) (W.contents writer.new) × ArePromised policy.now s turns t × AreNoted (servfails turns) result.servfails × IsServedInTurn turns (S.events reader.old writer.old) (S.events reader.new writer.new) }
+    ensures run { T.is_honest table.new → (s : State) → T.holds table.old s × AreBookmarks policy.now s bookmarks.old → (turns : List Turn) × (t : State) × (T.holds table.new t × AreBookmarks policy.now t bookmarks.new) × Run policy.now (standing s (T.failures table.old)) turns (standing t (T.failures table.new)) × IsDone turns result.ended (R.remaining reader.old) (R.remaining reader.new) (W.contents writer.old) (W.contents writer.new) × ArePromised policy.now s turns t × AreNoted (servfails turns) result.servfails × IsServedInTurn turns (S.events reader.old writer.old) (S.events reader.new writer.new) }
     ensures honest { T.is_honest table.new → T.is_honest table.old }
     ensures devices { CountsServed result.ended (R.failures reader.old) (R.failures reader.new) (W.failures writer.old) (W.failures writer.new) }
 {
     let mut servfails = Servfails::none();
-    let ended = serve_into::<S, _, _, _>(alloc, reader, writer, table, policy, &mut servfails);
+    let ended = serve_into::<S, _, _, _>(
+        alloc,
+        reader,
+        writer,
+        table,
+        policy,
+        bookmarks,
+        &mut servfails,
+    );
     Served { ended, servfails }
 }
 
-/// Serves a stream as `serve` does, and tells how many requests were answered SERVFAIL, and why the last of them was.
+/// Serves a stream as `serve` does, and tells how many requests were answered SERVFAIL, and why the last of them was. Bookmarks of the
+/// same policy are kept from one stream to the next.
 pub fn serve_noting<R: Source, W: Sink, T: ZoneTable>(
     alloc: Global,
     reader: &mut R,
     writer: &mut W,
     table: &mut T,
     policy: &Policy,
+    bookmarks: &mut Bookmarks,
 ) -> Served
     // What is noted is noted of the turns of the stream.
-    ensures run { T.is_honest table.new → (s : State) → T.holds table.old s → (turns : List Turn) × (t : State) × T.holds table.new t × Run policy.now (standing s (T.failures table.old)) turns (standing t (T.failures table.new)) × IsDone turns result.ended (R.remaining reader.old) (R.remaining reader.new) (W.contents writer.old) (W.contents writer.new) × ArePromised policy.now s turns t × AreNoted (servfails turns) result.servfails }
+    ensures run { T.is_honest table.new → (s : State) → T.holds table.old s × AreBookmarks policy.now s bookmarks.old → (turns : List Turn) × (t : State) × (T.holds table.new t × AreBookmarks policy.now t bookmarks.new) × Run policy.now (standing s (T.failures table.old)) turns (standing t (T.failures table.new)) × IsDone turns result.ended (R.remaining reader.old) (R.remaining reader.new) (W.contents writer.old) (W.contents writer.new) × ArePromised policy.now s turns t × AreNoted (servfails turns) result.servfails }
     ensures honest { T.is_honest table.new → T.is_honest table.old }
     ensures devices { CountsServed result.ended (R.failures reader.old) (R.failures reader.new) (W.failures writer.old) (W.failures writer.new) }
 {
-    serve_stream::<Apart, _, _, _>(alloc, reader, writer, table, policy)
+    serve_stream::<Apart, _, _, _>(alloc, reader, writer, table, policy, bookmarks)
 }
 
 /// Answers each request of a stream (RFC 9112), in order, by the policy and over the table, to the end of the stream or to the
@@ -206,5 +221,6 @@ pub fn serve<R: Source, W: Sink, T: ZoneTable>(
     // A fault of a device is reported only if the device failed in this call, and it failed once. `Ok` means that neither failed.
     ensures devices { CountsServed result (R.failures reader.old) (R.failures reader.new) (W.failures writer.old) (W.failures writer.new) }
 {
-    serve_noting(alloc, reader, writer, table, policy).ended
+    let mut bookmarks = Bookmarks::new(alloc);
+    serve_noting(alloc, reader, writer, table, policy, &mut bookmarks).ended
 }

@@ -1,6 +1,7 @@
 //! Serving callers over TCP, one connection after the other.
 
 ghost use Rattle.std.specs.Prelude.{◌≡◌, ◌<◌, ◌≤◌, List, Option, length};
+ghost use Rattle.office_core.specs.Bookmarks.{AreBookmarks};
 ghost use Rattle.office_core.specs.States.{State};
 ghost use Rattle.office_wire.specs.Exchange.{Turn, Run};
 ghost use Rattle.office_wire.specs.Serving.{standing};
@@ -19,7 +20,7 @@ use command_line::Service;
 use dns_master::{Counted, DeviceFailed, Sink, Source};
 use grant_policy::{Policy, read_policy};
 use itoa::Buffer;
-use office_core::ZoneTable;
+use office_core::{Bookmarks, ZoneTable};
 use office_wire::{ServeFault, Served};
 use std::alloc::{AllocError, Global};
 use std::marker::Brand;
@@ -63,6 +64,7 @@ fn serve_stream<T: ZoneTable, C: Clock, A: Ledger, B: Ledger>(
     stream: &PatientStream<'_, C>,
     table: &mut T,
     policy: &Policy,
+    bookmarks: &mut Bookmarks,
     reads: Blank,
     writes: Blank,
 ) -> Served
@@ -72,12 +74,12 @@ fn serve_stream<T: ZoneTable, C: Clock, A: Ledger, B: Ledger>(
     requires writes_name { writes.name ≡ B.name }
     requires writes_parts { writes.parts ≡ B.parts }
     requires writes_some { 0 < writes.parts }
-    ensures run { T.is_honest table.new → (s : State) → T.holds table.old s → (turns : List Turn) × (t : State) × T.holds table.new t × Run policy.now (standing s (T.failures table.old)) turns (standing t (T.failures table.new)) × AreNoted (servfails turns) result.servfails }
+    ensures run { T.is_honest table.new → (s : State) → T.holds table.old s × AreBookmarks policy.now s bookmarks.old → (turns : List Turn) × (t : State) × (T.holds table.new t × AreBookmarks policy.now t bookmarks.new) × Run policy.now (standing s (T.failures table.old)) turns (standing t (T.failures table.new)) × AreNoted (servfails turns) result.servfails }
     ensures honest { T.is_honest table.new → T.is_honest table.old }
 {
     let mut source: Counted<&PatientStream<'_, C>, A> = Counted::new(stream, reads);
     let mut sink: Counted<&PatientStream<'_, C>, B> = Counted::new(stream, writes);
-    office_wire::serve_noting(alloc, &mut source, &mut sink, table, policy)
+    office_wire::serve_noting(alloc, &mut source, &mut sink, table, policy, bookmarks)
 }
 
 /// What is said on standard error where others than programs of this machine can connect.
@@ -130,11 +132,12 @@ fn serve_connection<T: ZoneTable, D: Diagnosis<T>, C: Clock, W: Sink, E: Sink>(
     stream: &PatientStream<'_, C>,
     table: &mut T,
     policy: &Policy,
+    bookmarks: &mut Bookmarks,
     diagnosis: &D,
     writer: &mut W,
     trace: &mut E,
 ) -> Result<(), DeviceFailed>
-    ensures run { T.is_honest table.new → (s : State) → T.holds table.old s → (turns : List Turn) × (t : State) × T.holds table.new t × Run policy.now (standing s (T.failures table.old)) turns (standing t (T.failures table.new)) × IsTraced turns (D.fault diagnosis.now table.new) (E.contents trace.old) (E.contents trace.new) (E.failures trace.old) (E.failures trace.new) }
+    ensures run { T.is_honest table.new → (s : State) → T.holds table.old s × AreBookmarks policy.now s bookmarks.old → (turns : List Turn) × (t : State) × (T.holds table.new t × AreBookmarks policy.now t bookmarks.new) × Run policy.now (standing s (T.failures table.old)) turns (standing t (T.failures table.new)) × IsTraced turns (D.fault diagnosis.now table.new) (E.contents trace.old) (E.contents trace.new) (E.failures trace.old) (E.failures trace.new) }
     ensures honest { T.is_honest table.new → T.is_honest table.old }
     ensures written { (end : Option FaultOf) × IsSent (W.contents writer.old) (W.contents writer.new) (ended_line end) result (W.failures writer.old) (W.failures writer.new) }
     ensures traced { E.failures trace.old ≤ E.failures trace.new }
@@ -144,6 +147,7 @@ fn serve_connection<T: ZoneTable, D: Diagnosis<T>, C: Clock, W: Sink, E: Sink>(
         stream,
         table,
         policy,
+        bookmarks,
         Blank::new(1),
         Blank::new(1),
     );
@@ -175,12 +179,13 @@ impl<C: Clock, D> Connections<'_, C, D> {
         stream: &TcpStream,
         table: &mut T,
         policy: &Policy,
+        bookmarks: &mut Bookmarks,
         writer: &mut W,
         trace: &mut E,
     ) -> Result<(), DeviceFailed>
     where
         D: Diagnosis<T>,
-        ensures run { T.is_honest table.new → (s : State) → T.holds table.old s → (turns : List Turn) × (t : State) × T.holds table.new t × Run policy.now (standing s (T.failures table.old)) turns (standing t (T.failures table.new)) × IsTraced turns (D.fault self.now.diagnosis.now table.new) (E.contents trace.old) (E.contents trace.new) (E.failures trace.old) (E.failures trace.new) }
+        ensures run { T.is_honest table.new → (s : State) → T.holds table.old s × AreBookmarks policy.now s bookmarks.old → (turns : List Turn) × (t : State) × (T.holds table.new t × AreBookmarks policy.now t bookmarks.new) × Run policy.now (standing s (T.failures table.old)) turns (standing t (T.failures table.new)) × IsTraced turns (D.fault self.now.diagnosis.now table.new) (E.contents trace.old) (E.contents trace.new) (E.failures trace.old) (E.failures trace.new) }
         ensures honest { T.is_honest table.new → T.is_honest table.old }
         ensures written { (end : Option FaultOf) × IsSent (W.contents writer.old) (W.contents writer.new) (ended_line end) result (W.failures writer.old) (W.failures writer.new) }
         ensures traced { E.failures trace.old ≤ E.failures trace.new }
@@ -188,7 +193,16 @@ impl<C: Clock, D> Connections<'_, C, D> {
         // a short response goes out at once
         let _ = stream.set_nodelay(true);
         let stream = PatientStream::new(stream, self.clock, self.patience);
-        serve_connection(alloc, &stream, table, policy, self.diagnosis, writer, trace)
+        serve_connection(
+            alloc,
+            &stream,
+            table,
+            policy,
+            bookmarks,
+            self.diagnosis,
+            writer,
+            trace,
+        )
     }
 }
 
@@ -214,10 +228,11 @@ pub fn serve_connections<T: ZoneTable, D: Diagnosis<T>, C: Clock, W: Sink, E: Si
     // A store that has kept its word had kept it before.
     ensures honest { T.is_honest table.new → T.is_honest table.old }
 {
+    let mut bookmarks = Bookmarks::new(alloc);
     'accepted: for _ in 0..most {
         match connections.listener.accept() {
             Ok((stream, _)) => {
-                connections.serve_one(alloc, &stream, table, policy, writer, trace)?
+                connections.serve_one(alloc, &stream, table, policy, &mut bookmarks, writer, trace)?
             }
             Err(_) => return tell(alloc, writer, LineFault::ReadFailed),
         }

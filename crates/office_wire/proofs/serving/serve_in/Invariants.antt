@@ -1,4 +1,5 @@
 use Rattle.std.proofs.Common.{◌≡◌, ◌<◌, length}
+use Rattle.office_core.specs.Bookmarks.{AreBookmarks}
 use Rattle.office_core.specs.States.{State}
 use Rattle.office_wire.specs.Exchange.{Waits}
 use Rattle.office_wire.specs.Order.{moment}
@@ -12,7 +13,7 @@ invariant-reads g l = record {
   waits : Waits l.buffer;
   room : length l.buffer < 81920;
   honest : g.T.ZoneTable.is_honest l.table → g.T.ZoneTable.is_honest l.fn.table;
-  served : g.T.ZoneTable.is_honest l.table → (s : State) → g.T.ZoneTable.holds l.fn.table s → (t : State) × g.T.ZoneTable.holds l.table t
+  served : g.T.ZoneTable.is_honest l.table → (s : State) → g.T.ZoneTable.holds l.fn.table s × AreBookmarks l.service.policy.now s l.fn.bookmarks → (t : State) × (g.T.ZoneTable.holds l.table t × AreBookmarks l.service.policy.now t l.bookmarks)
       × IsAnsweredRead l.service.policy.now (mark s (g.T.ZoneTable.failures l.fn.table) l.fn.servfails) l.counter (g.R.Source.remaining l.fn.reader) (g.R.Source.remaining l.reader) l.buffer
       (moment (g.W.Sink.contents l.fn.writer) (g.S.Stream.events l.fn.reader l.fn.writer)) (moment (g.W.Sink.contents l.writer) (g.S.Stream.events l.reader l.writer))
       (mark t (g.T.ZoneTable.failures l.table) l.servfails);

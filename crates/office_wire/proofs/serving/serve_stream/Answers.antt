@@ -16,7 +16,7 @@ returns-clause-run g c = λ honest s held.
       r.2,
       r.3.0,
       r.4,
-      exchanges_run c.args.policy.now before now r.0 (g.met.T.ZoneTable.zones c.args.table.now s held) (g.met.T.ZoneTable.receipts c.args.table.now s held) r.3.0,
+      exchanges_run c.args.policy.now before now r.0 (g.met.T.ZoneTable.zones c.args.table.now s held.0) (g.met.T.ZoneTable.receipts c.args.table.now s held.0) r.3.0,
       noted_first c.serve_into-ended.new.servfails (servfails r.0) (r.3.1 ∙ ap (λ (n : Servfails). noted n (servfails r.0)) c.none-servfails.ensures),
       r.5,
     )

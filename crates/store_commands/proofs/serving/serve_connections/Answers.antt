@@ -9,7 +9,7 @@ use Rattle.store_commands.proofs.serving.serve_connections.Goals as goal
 pub accepted-init : goal.accepted-init
 accepted-init g c = record {
   honest = λ honest. honest;
-  served = λ honest s held. ([], s, held, refl, refl, traced_none _ _);
+  served = λ honest s held. ([], s, (held, c.new-bookmarks.ensures c.args.policy.now s), refl, refl, traced_none _ _);
   written = ([], refl, Appends-nil _);
   fine = refl;
 }
@@ -43,7 +43,7 @@ returns-in_err-serve_one-in-Ok-clause-served g c = λ honest s held.
     let count = one_more p.0 a.0 c.accepted.counter p.4 in
     let less : length turns ≤ c.args.most = let in_range = c.accepted-test.true in omega arith in
     let e = err_from_is_err_and c.from_residual.result c.from_residual.ensures.1 in
-    (turns, a.1, a.2, are_served c.args.policy.now before now turns (g.met.T.ZoneTable.zones c.args.table.now s held) (g.met.T.ZoneTable.receipts c.args.table.now s held) all, rw e.1 less, traced_more p.0 a.0 _ _ _ _ _ _ _ p.5 a.4)
+    (turns, a.1, a.2.0, are_served c.args.policy.now before now turns (g.met.T.ZoneTable.zones c.args.table.now s held) (g.met.T.ZoneTable.receipts c.args.table.now s held) all, rw e.1 less, traced_more p.0 a.0 _ _ _ _ _ _ _ p.5 a.4)
 
 pub returns-in_err-serve_one-in-Ok-clause-written : goal.returns-in_err-serve_one-in-Ok-clause-written
 returns-in_err-serve_one-in-Ok-clause-written g c =
@@ -73,7 +73,7 @@ returns-in-Err-clause-served g c = λ honest s held.
     let less : length p.0 ≤ c.args.most = let in_range = c.accepted-test.true in let count = p.4 in omega arith in (
       p.0,
       p.1,
-      p.2,
+      p.2.0,
       are_served c.args.policy.now before now p.0 (g.met.T.ZoneTable.zones c.args.table.now s held) (g.met.T.ZoneTable.receipts c.args.table.now s held) p.3,
       told_many c.args.most (length p.0) c.tell.result (g.W.Sink.contents c.accepted.writer) (g.W.Sink.contents c.tell.new.writer) ReadFailed
           (g.W.FaultCount.failures c.accepted.writer) (g.W.FaultCount.failures c.tell.new.writer) c.tell.ensures less,
@@ -87,7 +87,7 @@ returns-clause-served g c = λ honest s held.
     let now = standing p.1 (g.T.ZoneTable.failures c.accepted.table) in (
       p.0,
       p.1,
-      p.2,
+      p.2.0,
       are_served c.args.policy.now before now p.0 (g.met.T.ZoneTable.zones c.args.table.now s held) (g.met.T.ZoneTable.receipts c.args.table.now s held) p.3,
       (let past = c.accepted-test.false in let ended = c.accepted.auto.counter-end in let count = p.4 in omega arith),
       p.5,

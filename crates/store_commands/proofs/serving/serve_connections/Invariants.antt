@@ -1,6 +1,7 @@
 use Rattle.std.proofs.Common.{◌≡◌, List, Option, length}
 use Rattle.std.specs.Io.KnownBytes.{Appends}
 use Rattle.office_wire.specs.declared.serve_fault.ServeFault.{ServeFault}
+use Rattle.office_core.specs.Bookmarks.{AreBookmarks}
 use Rattle.office_core.specs.States.{State}
 use Rattle.office_wire.specs.Exchange.{Turn, Run}
 use Rattle.office_wire.specs.Serving.{standing}
@@ -10,7 +11,7 @@ use Rattle.store_commands.proofs.serving.serve_connections.Given as goal
 abbrev pub invariant-accepted : goal.invariant-accepted
 invariant-accepted g l = record {
   honest : g.T.ZoneTable.is_honest l.table → g.T.ZoneTable.is_honest l.fn.table;
-  served : g.T.ZoneTable.is_honest l.table → (s : State) → g.T.ZoneTable.holds l.fn.table s → (turns : List (List Turn)) × (t : State) × g.T.ZoneTable.holds l.table t
+  served : g.T.ZoneTable.is_honest l.table → (s : State) → g.T.ZoneTable.holds l.fn.table s → (turns : List (List Turn)) × (t : State) × (g.T.ZoneTable.holds l.table t × AreBookmarks l.policy t l.bookmarks)
       × Run l.policy (standing s (g.T.ZoneTable.failures l.fn.table)) (joined turns) (standing t (g.T.ZoneTable.failures l.table)) × (length turns ≡ l.counter)
       × AreTraced turns (g.E.Sink.contents l.fn.trace) (g.E.Sink.contents l.trace) (g.E.FaultCount.failures l.fn.trace) (g.E.FaultCount.failures l.trace);
   written : (ends : List (Option ServeFault)) × (length ends ≡ l.counter) × Appends (g.W.Sink.contents l.fn.writer) (g.W.Sink.contents l.writer) (ended_lines ends);

@@ -1,4 +1,5 @@
 use Rattle.std.proofs.Common.{◌∙◌, sym, subst, Result}
+use Rattle.office_core.specs.Bookmarks.{AreBookmarks}
 use Rattle.office_core.specs.declared.request.Call.{Call}
 use Rattle.office_wire.specs.declared.request_fault.RequestFault.{RequestFault}
 use Rattle.office_wire.specs.Requests.{call_of, Refuses}
@@ -8,8 +9,8 @@ use Rattle.office_wire.proofs.exchange.Service.respond.Goals as goal
 
 pub returns-in-Ok-clause-answers : goal.returns-in-Ok-clause-answers
 returns-in-Ok-clause-answers g c = λ honest s held h asked.
-    steps_answer (g.T.ZoneTable.holds c.step.new.table) c.args.self.now.policy.now s _ _ (call_of h c.args.body.now) c.in-Ok.call c.step.result
-    (sym (asked_call c.args.heading.now h c.args.body.now asked) ∙ c.in-Ok.ensures.exact) c.in-Ok.ensures.update (c.step.ensures.step honest s held) c.step.ensures.counts
+    steps_answer (λ t. g.T.ZoneTable.holds c.step_with_bookmarks-reply.new.table t × AreBookmarks c.args.self.now.policy.now t c.step_with_bookmarks-reply.new.bookmarks) c.args.self.now.policy.now s _ _ (call_of h c.args.body.now) c.in-Ok.call c.step_with_bookmarks-reply.result
+    (sym (asked_call c.args.heading.now h c.args.body.now asked) ∙ c.in-Ok.ensures.exact) c.in-Ok.ensures.update (c.step_with_bookmarks-reply.ensures.step honest s held.0 held.1) c.step_with_bookmarks-reply.ensures.counts
 
 pub returns-in-Err-clause-answers : goal.returns-in-Err-clause-answers
 returns-in-Err-clause-answers g c = λ honest s held h asked. (
