@@ -19,3 +19,4 @@ pub mod MadeLemmas
 pub mod PromiseLemmas
 pub mod CallLemmas
 pub mod AnswerLemmas
+pub mod BookmarkLemmas

@@ -10,7 +10,7 @@ use Rattle.grant_policy.specs.declared.action.Action.TheVariants as action
 use Rattle.grant_policy.specs.declared.rule.Rule.{Rule}
 use Rattle.grant_policy.specs.Reach.{GrantsNowhere, GrantsWithin}
 use Rattle.zone_core.specs.Sets.{InOrder, key_of, listing, part, within}
-use Rattle.zone_core.specs.Zones.{ZoneOf, IsZone}
+use Rattle.zone_core.specs.Zones.{IsZone}
 use Rattle.zone_core.proofs.RowLemmas.{InOrder-filter, listed_part}
 use Rattle.zone_core.proofs.ChangedLemmas as changed
 use Rattle.office_core.specs.Machine.{may_list, listed, listed_at}

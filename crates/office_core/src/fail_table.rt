@@ -124,6 +124,16 @@ impl<L: Ledger> ZoneTable for FailTable<L> {
         self.table.changes(alloc, origin)
     }
 
+    fn changes_behind(
+        &mut self,
+        alloc: Global,
+        origin: &Name,
+        count: u32,
+    ) -> Result<Option<Vec<Change>>, TableFault> {
+        self.call(TableCall::Changes)?;
+        self.table.changes_behind(alloc, origin, count)
+    }
+
     fn commit(&mut self, alloc: Global, addition: Addition) -> Result<(), TableFault> {
         self.call(TableCall::Commit)?;
         self.table.commit(alloc, addition)

@@ -1,6 +1,7 @@
 //! The machine: what is asked of the office, who may ask it, and what is replied and kept.
 #![tactic(auto)]
 
+mod bookmark;
 mod fail_table;
 mod footprint;
 mod item;
@@ -17,6 +18,7 @@ mod table;
 mod table_fault;
 mod update;
 
+pub use bookmark::Bookmarks;
 pub use fail_table::{FailTable, TableCall};
 pub use footprint::{operation_asks, prerequisite_asks};
 pub use laws::{
@@ -29,6 +31,6 @@ pub use receipt::{Addition, Receipt};
 pub use reply::{NumberedChange, Reply, Right, UpdateReply};
 pub use request::{Call, Request};
 pub use runs::run;
-pub use steps::step;
+pub use steps::{step, step_with_bookmarks};
 pub use table::ZoneTable;
 pub use table_fault::{StepFault, TableFault};

@@ -1,6 +1,6 @@
 //! The table in memory.
 
-ghost use Rattle.std.specs.Prelude.{◌≡◌, ℕ, ◌<◌, List, [], length, IfOk, OnOk, OnErr, map, ◌&&◌, if◌then◌else◌, Some};
+ghost use Rattle.std.specs.Prelude.{◌≡◌, ℕ, ◌<◌, List, [], length, IfOk, OnOk, OnErr, drop, map, ◌&&◌, if◌then◌else◌, Some};
 ghost use Rattle.std.specs.Option.{option_copied};
 ghost use Rattle.std.specs.List.{find, position};
 ghost use Rattle.std.specs.BTreeMap.{is_at};
@@ -145,6 +145,13 @@ fn keep(
     Ok(())
 }
 
+/// The changes behind the first ones, so many.
+fn behind(changes: &[Change], count: u32) -> &[Change]
+    ensures { result.now ≡ drop count changes.now }
+{
+    changes.get(count as usize..).unwrap_or_default()
+}
+
 /// Copies of changes. The only error is out of memory.
 fn copied_changes(alloc: Global, changes: &[Change]) -> Result<Vec<Change>, AllocError>
     ensures { IfOk result (λ cs. map change_in cs.items ≡ map change_in changes.now) }
@@ -230,6 +237,18 @@ impl ZoneTable for MemTable {
             return Ok(None);
         };
         Ok(Some(copied_changes(alloc, &held.changes)?))
+    }
+
+    fn changes_behind(
+        &mut self,
+        alloc: Global,
+        origin: &Name,
+        count: u32,
+    ) -> Result<Option<Vec<Change>>, TableFault> {
+        let Some(held) = held(&self.zones, origin) else {
+            return Ok(None);
+        };
+        Ok(Some(copied_changes(alloc, behind(&held.changes, count))?))
     }
 
     fn commit(&mut self, alloc: Global, addition: Addition) -> Result<(), TableFault> {

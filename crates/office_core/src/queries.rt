@@ -1,6 +1,6 @@
 //! Queries: the requests that change nothing.
 
-ghost use Rattle.std.specs.Prelude.{◌≡◌, ◌++◌, [], ◌∷◌, Some, IfOk, IfSome, map, nat_le, option_map};
+ghost use Rattle.std.specs.Prelude.{◌≡◌, ◌+◌, ◌++◌, [], ◌∷◌, Some, IfOk, IfSome, map, nat_le, option_map};
 ghost use Rattle.std.specs.List.{filter};
 ghost use Rattle.zone_core.specs.Sets.{InOrder, listing};
 ghost use Rattle.zone_core.specs.Changes.{change_in};
@@ -11,7 +11,9 @@ ghost use Rattle.office_core.specs.States.{State};
 ghost use Rattle.office_core.specs.Tables.{Counts};
 ghost use Rattle.office_core.specs.Machine.{unchanged, of_zone, may_list, listed, listed_at, list_reply, list_within_reply, file_reply, delegations_reply, changes_reply, if_some, seen, seen_of, numbered};
 ghost use Rattle.office_core.specs.Steps.{IsAnswer, Takes};
+ghost use Rattle.office_core.specs.Bookmarks.{AreBookmarks};
 
+use crate::bookmark::Bookmarks;
 use crate::reply::{NumberedChange, Reply, Right};
 use crate::table::ZoneTable;
 use crate::table_fault::TableFault;
@@ -341,16 +343,17 @@ fn with_numbered(
     Ok(all)
 }
 
-/// Changes with their numbers from 1, of which those from a number on are left. The only error is out of memory.
+/// Changes with the numbers behind one, of which those from a number on are left. The only error is out of memory.
 fn numbered_from(
     alloc: Global,
     from: u32,
+    behind: u32,
     changes: Vec<Change>,
 ) -> Result<Vec<NumberedChange>, AllocError>
-    ensures { IfOk result (λ all. map numbered_of all.items ≡ filter (λ c. nat_le from c.number) (numbered 1 (map change_in changes.items))) }
+    ensures { IfOk result (λ all. map numbered_of all.items ≡ filter (λ c. nat_le from c.number) (numbered (behind + 1) (map change_in changes.items))) }
 {
     let mut all = Vec::new(alloc);
-    let mut number: u64 = 0;
+    let mut number = u64::from(behind);
     for change in changes {
         number += 1;
         all = with_numbered(all, from, number, change)?;
@@ -358,26 +361,34 @@ fn numbered_from(
     Ok(all)
 }
 
-/// What the caller sees of the changes of a zone, from a number on.
+/// What the caller sees of the changes of a zone, from a number on. Only the changes behind its bookmark are read, if it has one that
+/// is before that number; and where they end is its bookmark from now on.
 pub(crate) fn changes<T: ZoneTable>(
     alloc: Global,
     table: &mut T,
     policy: &Policy,
+    bookmarks: &mut Bookmarks,
     caller: &Identifier,
     origin: &Name,
     from: u32,
 ) -> Result<Reply, TableFault>
-    ensures takes { T.is_honest table.new → (s : State) → T.holds table.old s → Takes (T.holds table.new) s (unchanged s (of_zone (s.zones origin.now) (changes_reply policy.now caller.now from))) result }
+    ensures takes { T.is_honest table.new → (s : State) → T.holds table.old s → AreBookmarks policy.now s bookmarks.old → Takes (T.holds table.new) s (unchanged s (of_zone (s.zones origin.now) (changes_reply policy.now caller.now from))) result }
+    ensures bookmarks { T.is_honest table.new → (s : State) → T.holds table.old s → AreBookmarks policy.now s bookmarks.old → AreBookmarks policy.now s bookmarks.new }
     ensures crash { (s t : State) → T.leaves table.old s t → T.leaves table.new s t }
     ensures honest { T.is_honest table.new → T.is_honest table.old }
     ensures answers { IfOk result IsAnswer }
     ensures counts { Counts (T.failures table.old) (T.failures table.new) result }
 {
-    let Some(changes) = table.changes(alloc, origin)? else {
+    let began = bookmarks.start(caller, origin, from);
+    let Some(behind) = table.changes_behind(alloc, origin, began.read)? else {
         return Ok(Reply::NotAuth);
     };
-    let seen = seen(alloc, policy, caller, changes)?;
-    Ok(Reply::Changes(numbered_from(alloc, from, seen)?))
+    let read = behind.len();
+    let seen = seen(alloc, policy, caller, behind)?;
+    let ended = began.after(read, seen.len());
+    let changes = numbered_from(alloc, from, began.seen, seen)?;
+    bookmarks.keep(alloc, caller, origin, began, ended);
+    Ok(Reply::Changes(changes))
 }
 
 /// What the policy decides, with an identifier in memory of its own. The only error is out of memory.

@@ -3,8 +3,10 @@
 ghost use Rattle.std.specs.Prelude.{IfOk};
 ghost use Rattle.office_core.specs.States.{State};
 ghost use Rattle.office_core.specs.Machine.{step};
+ghost use Rattle.office_core.specs.Bookmarks.{AreBookmarks};
 ghost use Rattle.office_core.specs.Steps.{Steps, Leaves, CountsReply, CountsStep, Takes, LeavesTurn, IsAnswer};
 
+use crate::bookmark::Bookmarks;
 use crate::queries::{changes, delegations, file, list, list_within, right};
 use crate::reply::Reply;
 use crate::request::Request;
@@ -40,7 +42,28 @@ pub fn step<T: ZoneTable>(
     // A failure of the table is told only where the table counted it.
     ensures counts { CountsReply (T.failures table.old) (T.failures table.new) result }
 {
-    match answer(alloc, table, policy, caller, request) {
+    let mut bookmarks = Bookmarks::new(alloc);
+    step_with_bookmarks(alloc, table, policy, &mut bookmarks, caller, request)
+}
+
+/// The same with bookmarks, so that who asks for changes again pays for those behind the last answer. Bookmarks are kept for one
+/// policy.
+pub fn step_with_bookmarks<T: ZoneTable>(
+    alloc: Global,
+    table: &mut T,
+    policy: &Policy,
+    bookmarks: &mut Bookmarks,
+    caller: &Identifier,
+    request: &Request,
+) -> Reply
+    // Where the store has kept its word and the bookmarks are right of what is held, it does the same, and they are right of what is
+    // held then.
+    ensures step { T.is_honest table.new → (s : State) → T.holds table.old s → AreBookmarks policy.now s bookmarks.old → Steps (λ t. T.holds table.new t × AreBookmarks policy.now t bookmarks.new) policy.now s caller.now request.now result }
+    ensures crash { T.is_honest table.new → (s : State) → T.holds table.old s → T.leaves table.old s s → Leaves (T.leaves table.new) policy.now s caller.now request.now result }
+    ensures honest { T.is_honest table.new → T.is_honest table.old }
+    ensures counts { CountsReply (T.failures table.old) (T.failures table.new) result }
+{
+    match answer(alloc, table, policy, bookmarks, caller, request) {
         Ok(reply) => reply,
         Err(fault) => Reply::Servfail(fault),
     }
@@ -51,14 +74,16 @@ fn answer<T: ZoneTable>(
     alloc: Global,
     table: &mut T,
     policy: &Policy,
+    bookmarks: &mut Bookmarks,
     caller: &Identifier,
     request: &Request,
 ) -> Result<Reply, StepFault>
-    ensures takes { T.is_honest table.new → (s : State) → T.holds table.old s → Takes (T.holds table.new) s (step policy.now s caller.now request.now) result }
+    ensures takes { T.is_honest table.new → (s : State) → T.holds table.old s → AreBookmarks policy.now s bookmarks.old → Takes (T.holds table.new) s (step policy.now s caller.now request.now) result }
     ensures crash { T.is_honest table.new → (s : State) → T.holds table.old s → T.leaves table.old s s → LeavesTurn (T.leaves table.new) s (step policy.now s caller.now request.now) result }
     ensures honest { T.is_honest table.new → T.is_honest table.old }
     ensures answers { IfOk result IsAnswer }
     ensures counts { CountsStep (T.failures table.old) (T.failures table.new) result }
+    ensures bookmarks { T.is_honest table.new → (s : State) → T.holds table.old s → AreBookmarks policy.now s bookmarks.old → AreBookmarks policy.now s bookmarks.new }
 {
     match request {
         Request::Update { origin, id, update } => update_reply(
@@ -70,9 +95,9 @@ fn answer<T: ZoneTable>(
         }
         Request::File { origin } => Ok(file(alloc, table, policy, caller, origin)?),
         Request::Delegations { origin } => Ok(delegations(alloc, table, policy, caller, origin)?),
-        Request::Changes { origin, from } => {
-            Ok(changes(alloc, table, policy, caller, origin, *from)?)
-        }
+        Request::Changes { origin, from } => Ok(changes(
+            alloc, table, policy, bookmarks, caller, origin, *from,
+        )?),
         Request::Rights {
             name,
             record_type,

@@ -1,6 +1,6 @@
 //! What the machine asks of a table.
 
-ghost use Rattle.std.specs.Prelude.{◌≡◌, ℕ, ◌+◌, List, Option, map, option_map, IfOk, IfSome, OnOk, OnErr};
+ghost use Rattle.std.specs.Prelude.{◌≡◌, ℕ, ◌+◌, List, Option, map, drop, option_map, IfOk, IfSome, OnOk, OnErr};
 ghost use Rattle.dns_data.specs.declared.record.Record.{Record};
 ghost use Rattle.zone_core.specs.Sets.{InOrder};
 ghost use Rattle.zone_core.specs.Changes.{change_in};
@@ -86,6 +86,20 @@ pub trait ZoneTable {
     /// The changes of a zone, the oldest first, where there is the zone.
     fn changes(&mut self, alloc: Global, origin: &Name) -> Result<Option<Vec<Change>>, TableFault>
         ensures answer { is_honest self.new → IfOk result (λ changes. (s : State) → holds self.old s → option_map (λ cs. map change_in cs.items) changes ≡ changes_at s origin.now) }
+        ensures same { (s : State) → holds self.old s → holds self.new s }
+        ensures only { is_honest self.new → OnOk result ((s : State) → holds self.new s → holds self.old s) }
+        ensures crash { (s t : State) → leaves self.old s t → leaves self.new s t }
+        ensures honest { is_honest self.new → is_honest self.old }
+        ensures counts { Counts (failures self.old) (failures self.new) result };
+
+    /// The changes of a zone behind the first ones, so many, the oldest first, where there is the zone.
+    fn changes_behind(
+        &mut self,
+        alloc: Global,
+        origin: &Name,
+        count: u32,
+    ) -> Result<Option<Vec<Change>>, TableFault>
+        ensures answer { is_honest self.new → IfOk result (λ changes. (s : State) → holds self.old s → option_map (λ cs. map change_in cs.items) changes ≡ option_map (λ cs. drop count cs) (changes_at s origin.now)) }
         ensures same { (s : State) → holds self.old s → holds self.new s }
         ensures only { is_honest self.new → OnOk result ((s : State) → holds self.new s → holds self.old s) }
         ensures crash { (s t : State) → leaves self.old s t → leaves self.new s t }

@@ -9,7 +9,7 @@ use Rattle.office_core.proofs.queries.numbered_from.Given as goal
 -- those so far, and then those of the changes that are left
 abbrev pub invariant-loop-change : goal.invariant-loop-change
 invariant-loop-change l = record {
-  count : l.number + length (into_iter_items l.change-iterator) ≡ length l.fn.changes.items;
+  count : l.number + length (into_iter_items l.change-iterator) ≡ l.behind + length l.fn.changes.items;
   all : map numbered_of l.all.items ++ filter (λ (c : NumberedOf). nat_le l.from c.number) (numbered (l.number + 1) (map change_in (into_iter_items l.change-iterator)))
-      ≡ filter (λ (c : NumberedOf). nat_le l.from c.number) (numbered 1 (map change_in l.fn.changes.items));
+      ≡ filter (λ (c : NumberedOf). nat_le l.from c.number) (numbered (l.behind + 1) (map change_in l.fn.changes.items));
 }
