@@ -15,6 +15,7 @@ pub mod ContentLemmas
 pub mod ZoneReadLemmas
 pub mod ReceiptReadLemmas
 pub mod StateLaws
+pub mod LaterChangeLaws
 pub mod OriginLaws
 pub mod ZoneCheckLemmas
 pub mod StateChecks

@@ -204,6 +204,14 @@ changed_in row =
     record_from row.owner row.record_type row.rdata row.ttl >>= λ r.
     Ok (record { origin = origin; number = number; side = side; changed = r })
 
+-- what has a number behind so many changes, numbered from 1
+abbrev pub renumbered : ℕ → ChangedRecord → Result ChangedRecord RowFault
+renumbered count c = if nat_lt count c.number then Ok (record c { number = c.number - count }) else Err BadRow
+
+-- what a row has, numbered so
+abbrev pub changed_behind : ℕ → ChangeRowOf → Result ChangedRecord RowFault
+changed_behind count row = changed_in row >>= renumbered count
+
 -- ---- rows of one kind
 
 -- what each of them is read as, in their order
@@ -231,6 +239,15 @@ pub record AreStoredIn (rows : List ChangeRowOf) (changes : List ChangeOf) : Typ
   pub changed : List ChangedRecord
   pub sorted : List ChangedRecord
   pub each : each_read changed_in rows ≡ Ok changed
+  pub same : IsPermutation changed sorted
+  pub order : IsSorted changed_order sorted
+  pub are : changes_among sorted ≡ Ok changes
+
+-- changes have what each of the rows says, in order, behind so many others
+pub record AreStoredBehind (count : ℕ) (rows : List ChangeRowOf) (changes : List ChangeOf) : Type 0 where
+  pub changed : List ChangedRecord
+  pub sorted : List ChangedRecord
+  pub each : each_read (changed_behind count) rows ≡ Ok changed
   pub same : IsPermutation changed sorted
   pub order : IsSorted changed_order sorted
   pub are : changes_among sorted ≡ Ok changes

@@ -7,7 +7,7 @@ ghost use Rattle.zone_core.specs.Changes.{change_in};
 ghost use Rattle.office_rows.specs.declared.changes.ChangedRecord.{ChangedRecord as Changed};
 ghost use Rattle.office_rows.specs.ChangeRows.{change_row, change_rows, row_of, IsChanged};
 ghost use Rattle.office_rows.specs.RowFaults.{Reads};
-ghost use Rattle.office_rows.specs.RowReading.{number_in, changed_in};
+ghost use Rattle.office_rows.specs.RowReading.{number_in, changed_in, renumbered, changed_behind};
 
 use crate::columns::{name_from, record_from};
 use crate::row_fault::RowFault;
@@ -161,4 +161,27 @@ pub(crate) fn stored_change(alloc: Global, row: &ChangeRow) -> Result<ChangedRec
         side,
         changed,
     })
+}
+
+/// The same behind so many changes, numbered from 1. A number of one of these is `BadRow`.
+fn renumbered(mut changed: ChangedRecord, count: u32) -> Result<ChangedRecord, RowFault>
+    ensures { result ≡ renumbered count changed }
+{
+    if changed.number <= u64::from(count) {
+        return Err(RowFault::BadRow);
+    }
+    changed.number -= u64::from(count);
+    Ok(changed)
+}
+
+/// What a row has behind so many changes, numbered from 1. Its spelling is not looked at.
+pub(crate) fn change_behind(
+    alloc: Global,
+    row: &ChangeRow,
+    count: u32,
+) -> Result<ChangedRecord, RowFault>
+    ensures { Reads (λ c. c) result (changed_behind count row.now) }
+{
+    let changed = stored_change(alloc, row)?;
+    renumbered(changed, count)
 }

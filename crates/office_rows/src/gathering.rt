@@ -1,6 +1,6 @@
 //! The changes of a zone, gathered from their rows.
 
-ghost use Rattle.std.specs.Prelude.{◌≡◌, ◌&&◌, List, ℕ, map, Ok, IfOk, IfErr, OnOk};
+ghost use Rattle.std.specs.Prelude.{◌≡◌, ◌+◌, ◌&&◌, List, ℕ, map, Ok, IfOk, IfErr, OnOk};
 ghost use Rattle.std.specs.List.{AllByRecursion, list_all};
 ghost use Rattle.std.specs.List.Sorted.{IsPermutation, IsSorted};
 ghost use Rattle.dns_names.specs.Labels.{IsName};
@@ -8,9 +8,9 @@ ghost use Rattle.dns_names.specs.Order.{same_name};
 ghost use Rattle.zone_core.specs.Changes.{ChangeOf, change_in};
 ghost use Rattle.office_rows.specs.ChangeRows.{changes_rows, IsChange, IsChanged, IsChangeRow, row_of, changed_order, follows, follows_in_number, follow_in_turn, are_numbered, are_of_one, with_record, opened, placed, gathered};
 ghost use Rattle.office_rows.specs.RowFaults.{Reads};
-ghost use Rattle.office_rows.specs.RowReading.{each_read, changed_in, changes_among, AreStoredIn};
+ghost use Rattle.office_rows.specs.RowReading.{each_read, changed_in, changed_behind, changes_among, AreStoredIn, AreStoredBehind};
 
-use crate::changes::{ChangedRecord, read_change, stored_change};
+use crate::changes::{ChangedRecord, change_behind, read_change, stored_change};
 use crate::row_fault::RowFault;
 use crate::side::Side;
 use dns_data::{Record, record_order};
@@ -45,6 +45,22 @@ pub(crate) fn stored_changes(alloc: Global, rows: &[ChangeRow]) -> Result<Vec<Ch
     changes_among(alloc, in_order(changed)?)
 }
 
+/// Reads the rows of the changes of one zone behind the first ones, so many, in any order, as these changes, the oldest first. A row of
+/// one of the first ones is `BadRow`.
+pub(crate) fn stored_behind(
+    alloc: Global,
+    rows: &[ChangeRow],
+    count: u32,
+) -> Result<Vec<Change>, RowFault>
+    // They have what each row says.
+    ensures found { IfOk result (λ cs. AreStoredBehind count rows.now (map change_in cs.items)) }
+    // The rows of changes with the numbers from there on are read as these changes, unless memory runs out.
+    ensures only { (origin : List (List ℕ)) (changes : List ChangeOf) → IsName origin → AllByRecursion IsChange changes → IsPermutation (changes_rows origin (1 + count) changes) rows.now → Reads (λ cs. map change_in cs.items) result (Ok changes) }
+{
+    let changed = all_behind(alloc, rows, count)?;
+    changes_among(alloc, in_order(changed)?)
+}
+
 /// The changes of what rows have, in order. `BadRow` comes where it is not that of the rows of the changes of one zone.
 fn changes_among(alloc: Global, changed: Vec<ChangedRecord>) -> Result<Vec<Change>, RowFault>
     ensures { Reads (λ cs. map change_in cs.items) result (changes_among changed.items) }
@@ -62,6 +78,17 @@ fn all_stored(alloc: Global, rows: &[ChangeRow]) -> Result<Vec<ChangedRecord>, R
     let mut changed = Vec::with_capacity(alloc, rows.len())?;
     for row in rows {
         changed.push(stored_change(alloc, row)?)?;
+    }
+    Ok(changed)
+}
+
+/// What each row has behind so many changes.
+fn all_behind(alloc: Global, rows: &[ChangeRow], count: u32) -> Result<Vec<ChangedRecord>, RowFault>
+    ensures { Reads (λ cs. cs.items) result (each_read (changed_behind count) rows.now) }
+{
+    let mut changed = Vec::with_capacity(alloc, rows.len())?;
+    for row in rows {
+        changed.push(change_behind(alloc, row, count)?)?;
     }
     Ok(changed)
 }

@@ -1,6 +1,6 @@
 //! Parts of a state, read from the rows of them.
 
-ghost use Rattle.std.specs.Prelude.{◌≡◌, ℕ, ℤ, List, ◌∷◌, map, true, Ok, Some, IfOk, bytes_eq};
+ghost use Rattle.std.specs.Prelude.{◌≡◌, ◌+◌, ℕ, ℤ, pos, List, ◌∷◌, map, drop, true, Ok, Some, IfOk, bytes_eq};
 ghost use Rattle.std.specs.List.{list_all};
 ghost use Rattle.std.specs.List.Sorted.{IsPermutation};
 ghost use Rattle.dns_names.specs.Keys.{key_of};
@@ -13,15 +13,15 @@ ghost use Rattle.zone_core.specs.Parts.{part_of as zone_part, at_names};
 ghost use Rattle.zone_core.specs.Changes.{change_in};
 ghost use Rattle.office_core.specs.States.{Held, State, zone_at};
 ghost use Rattle.office_sql.specs.Rows.{RowsOf};
-ghost use Rattle.office_sql.specs.Lookups.{records_of, receipts_of, changes_of as changes_in};
+ghost use Rattle.office_sql.specs.Lookups.{records_of, receipts_of, changes_of as changes_in, changes_from};
 ghost use Rattle.office_rows.specs.Contents.{AreOfState};
-ghost use Rattle.office_rows.specs.RowReading.{each_read, record_in, zone_by, receipt_by, AreStoredIn};
+ghost use Rattle.office_rows.specs.RowReading.{each_read, record_in, zone_by, receipt_by, AreStoredIn, AreStoredBehind};
 ghost use Rattle.office_rows.specs.RowFaults.{Reads, of_zone, of_zones};
 ghost use Rattle.office_rows.specs.Orders.{rises};
 ghost use Rattle.office_rows.specs.PartRows.{AreRowsAt, rows_within};
 
 use crate::ascending::rise;
-use crate::gathering::stored_changes;
+use crate::gathering::{stored_behind, stored_changes};
 use crate::receipts::stored_receipt;
 use crate::records::stored_record;
 use crate::row_fault::RowFault;
@@ -160,4 +160,19 @@ pub fn changes_of(alloc: Global, rows: Vec<ChangeRow>) -> Result<Vec<Change>, Ro
     ensures held { (version : ℤ) (all : RowsOf) (s : State) (origin : List (List ℕ)) (held : Held) → AreOfState version all s → s.zones origin ≡ Some held → IsPermutation (changes_in (name_text origin) all.changes) rows.items → Reads (λ changes. map change_in changes.items) result (Ok held.changes) }
 {
     stored_changes(alloc, &rows)
+}
+
+/// The changes of a zone behind the first ones, so many, the oldest first, by their rows in any order. Rows that are those of no such
+/// changes are `BadRow`.
+pub fn changes_behind(
+    alloc: Global,
+    rows: Vec<ChangeRow>,
+    count: u32,
+) -> Result<Vec<Change>, RowFault>
+    // They have what each row says.
+    ensures found { IfOk result (λ changes. AreStoredBehind count rows.items (map change_in changes.items)) }
+    // In a state that holds the zone, the rows of its changes with the numbers from there on are read as these, unless memory runs out.
+    ensures held { (version : ℤ) (all : RowsOf) (s : State) (origin : List (List ℕ)) (held : Held) → AreOfState version all s → s.zones origin ≡ Some held → IsPermutation (changes_from (name_text origin) (pos (1 + count)) all.changes) rows.items → Reads (λ changes. map change_in changes.items) result (Ok (drop count held.changes)) }
+{
+    stored_behind(alloc, &rows, count)
 }

@@ -13,5 +13,6 @@ pub mod Queries
 pub mod RowLemmas
 pub mod Selections
 pub mod LastNumbers
+pub mod ChangesFrom
 pub mod Creations
 pub mod WholeTables

@@ -24,7 +24,7 @@ use Rattle.sqlite_rules.specs.Cast.{cast}
 use Rattle.office_sql.specs.Lookups.{is_below}
 use Rattle.office_sql.specs.Stores.{IsReadableRow, Stores}
 
-told : (b : Bool) → is_true (from_truth (Some b)) ≡ b
+pub told : (b : Bool) → is_true (from_truth (Some b)) ≡ b
 told true = refl
 told false = refl
 

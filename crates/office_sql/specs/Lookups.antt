@@ -1,7 +1,7 @@
 -- What is asked of the rows.
 use Rattle.std.specs.Prelude.{◌≡◌, ℕ, ℤ, Bool, false, not, ◌&&◌, List, [], filter, Option, Some, None, IsTrue, bytes_eq}
 use Rattle.std.specs.List.{AllByRecursion, list_any}
-use Rattle.std.specs.Ordering.{is_lt, int_cmp, int_eq, nat_cmp}
+use Rattle.std.specs.Ordering.{is_ge, is_lt, int_cmp, int_eq, nat_cmp}
 use Rattle.std.specs.Cmp.Lexicographic.{slice_cmp}
 use Rattle.office_sql.specs.Rows.{RecordRowOf, ReceiptRowOf, ChangeRowOf}
 
@@ -23,6 +23,10 @@ receipts_of caller id = filter (λ r. bytes_eq r.caller caller && bytes_eq r.id 
 
 abbrev pub changes_of : List ℕ → List ChangeRowOf → List ChangeRowOf
 changes_of origin = filter (λ r. bytes_eq r.origin origin)
+
+-- those of the changes from a number on
+abbrev pub changes_from : List ℕ → ℤ → List ChangeRowOf → List ChangeRowOf
+changes_from origin number = filter (λ r. bytes_eq r.origin origin && is_ge (int_cmp r.number number))
 
 -- none of no rows; else the number of one of them, and none of them has a greater one
 abbrev pub IsLast : List ChangeRowOf → Option ℤ → Type 0

@@ -1,0 +1,154 @@
+-- The changes of a zone behind the first ones, and their rows.
+use Rattle.std.proofs.Common.{◌≡◌, ℕ, zero, suc, ◌+◌, ◌-◌, ◌<◌, ◌≤◌, ℤ, pos, Bool, true, false, cond, ◌&&◌, nat_lt, List, [], ◌∷◌, ◌++◌, map, filter, drop, Result, Ok, Err, IsPermutation, IsSorted, refl, sym, ap, ap₂, subst, ◌∙◌, arith, bytes_eq}
+use Rattle.std.proofs.lemmas.Bool.{lt-ltb}
+use Rattle.std.proofs.lemmas.Bool.Decides.{nat_tests}
+use Rattle.std.proofs.lemmas.Int.{ints}
+use Rattle.std.proofs.lemmas.List.{map-append}
+use Rattle.std.proofs.lemmas.List.Elements.{filter-append}
+use Rattle.std.proofs.lemmas.List.Sorted.{IsPermutation-map, IsPermutation-sym, IsPermutation-trans}
+use Rattle.std.specs.List.{AllByRecursion}
+use Rattle.std.specs.Ordering.{is_ge, int_cmp}
+use Rattle.sqlite_trees.proofs.ListLemmas.{pull_back}
+use Rattle.sqlite_keyed.proofs.ListLemmas.{all-append, filter_all, filter_none, IsPermutation-filter}
+use Rattle.dns_names.specs.Labels.{IsName}
+use Rattle.dns_names.specs.Spelling.{name_text}
+use Rattle.dns_data.specs.declared.record.Record.{Record}
+use Rattle.zone_core.specs.Changes.{ChangeOf}
+use Rattle.office_sql.specs.Rows.{ChangeRowOf}
+use Rattle.office_sql.specs.Lookups.{changes_of, changes_from}
+use Rattle.office_rows.specs.declared.changes.ChangedRecord.{ChangedRecord}
+use Rattle.office_rows.specs.declared.row_fault.RowFault.{RowFault}
+use Rattle.office_rows.specs.declared.row_fault.RowFault.TheVariants.{BadRow}
+use Rattle.office_rows.specs.declared.side.Side.{Side}
+use Rattle.office_rows.specs.declared.side.Side.TheVariants.{Removed, Added}
+use Rattle.office_rows.specs.ChangeRows.{change_row, change_rows, changes_rows, row_of, IsChanged, IsChange, changed_order}
+use Rattle.office_rows.specs.Contents.{ZoneRows, zone_changes}
+use Rattle.office_rows.specs.RowFaults.{◌>>=◌}
+use Rattle.office_rows.specs.RowReading.{changed_in, renumbered, changed_behind, changes_among, each_read}
+use Rattle.office_rows.proofs.ListLemmas.{all_permutation, filter-and}
+use Rattle.office_rows.proofs.RowSteps.{done}
+use Rattle.office_rows.proofs.StoredLaws.{each_stored}
+use Rattle.office_rows.proofs.ChangeRowLaws.{changed_read}
+use Rattle.office_rows.proofs.GatheringLaws.{entry, sides, entries, entries_rows, entries_are, among}
+
+abbrev Labels : Type 0
+Labels = List (List ℕ)
+
+-- ---- rows with greater numbers
+
+-- the same record, of a change so many later
+abbrev later : ℕ → ChangedRecord → ChangedRecord
+later count c = record { origin = c.origin; number = c.number + count; side = c.side; changed = c.changed }
+
+abbrev later_row : ℕ → ChangedRecord → ChangeRowOf
+later_row count c = row_of (later count c)
+
+later_side : (o : Labels) (count n : ℕ) (s : Side) (rs : List Record) → map (later_row count) (map (entry o n s) rs) ≡ map (change_row o (n + count) s) rs
+later_side o count n s [] = refl
+later_side o count n s (r ∷ rs) = ap (λ (l : List ChangeRowOf). change_row o (n + count) s r ∷ l) (later_side o count n s rs)
+
+later_rows : (o : Labels) (count n : ℕ) (cs : List ChangeOf) → map (later_row count) (entries o n cs) ≡ changes_rows o (n + count) cs
+later_rows o count n [] = refl
+later_rows o count n (c ∷ cs) =
+    let next : suc n + count ≡ suc (n + count) = omega arith in
+    let rest = map (later_row count) (entries o (suc n) cs) in
+    map-append (later_row count) (sides o n c.removed c.added) (entries o (suc n) cs)
+    ∙ ap (λ (l : List ChangeRowOf). l ++ rest) (map-append (later_row count) (map (entry o n Removed) c.removed) (map (entry o n Added) c.added))
+    ∙ ap (λ (l : List ChangeRowOf). (l ++ map (later_row count) (map (entry o n Added) c.added)) ++ rest) (later_side o count n Removed c.removed)
+    ∙ ap (λ (l : List ChangeRowOf). (map (change_row o (n + count) Removed) c.removed ++ l) ++ rest) (later_side o count n Added c.added)
+    ∙ ap (λ (l : List ChangeRowOf). change_rows o (n + count) c ++ l) (later_rows o count (suc n) cs ∙ ap (λ (m : ℕ). changes_rows o m cs) next)
+
+renumbered_later : (count : ℕ) (c : ChangedRecord) → 0 < c.number → renumbered count (later count c) ≡ Ok c
+renumbered_later count c some =
+    let back : (c.number + count) - count ≡ c.number = omega arith in
+    ap (λ (b : Bool). cond b (done (record { origin = c.origin; number = (c.number + count) - count; side = c.side; changed = c.changed })) (Err BadRow)) (lt-ltb count (c.number + count) (omega arith))
+    ∙ ap (λ (m : ℕ). done (record { origin = c.origin; number = m; side = c.side; changed = c.changed })) back
+
+later_is : (count : ℕ) (c : ChangedRecord) → IsChanged c → IsChanged (later count c)
+later_is count c is = record { origin = is.origin; number = omega (arith, is.number); changed = is.changed }
+
+behind_read : (count : ℕ) (c : ChangedRecord) → IsChanged c → changed_behind count (later_row count c) ≡ Ok c
+behind_read count c is = ap (λ r. r >>= renumbered count) (changed_read (later count c) (later_is count c is)) ∙ renumbered_later count c is.number
+
+each_behind : (count : ℕ) (cs : List ChangedRecord) → AllByRecursion IsChanged cs → AllByRecursion (λ c. changed_behind count (later_row count c) ≡ Ok c) cs
+each_behind count [] all = tt
+each_behind count (c ∷ cs) all = (behind_read count c all.0, each_behind count cs all.1)
+
+-- the rows are read as what some records on a side of a change have
+pub record AreBehind (count : ℕ) (changes : List ChangeOf) (rows : List ChangeRowOf) : Type 0 where
+  pub changed : List ChangedRecord
+  pub each : each_read (changed_behind count) rows ≡ Ok changed
+  pub pass : (sorted : List ChangedRecord) → IsPermutation changed sorted → IsSorted changed_order sorted → changes_among sorted ≡ Ok changes
+
+pub are_behind : (o : Labels) (count : ℕ) (changes : List ChangeOf) (rows : List ChangeRowOf) → IsName o → AllByRecursion IsChange changes → IsPermutation (changes_rows o (1 + count) changes) rows → AreBehind count changes rows
+are_behind o count changes rows is are same =
+    let from = entries o 1 changes in
+    let moved = pull_back (later_row count) (changes_rows o (1 + count) changes) rows same from (sym (later_rows o count 1 changes)) in
+    let changed = moved.0 in
+    let all = all_permutation IsChanged from changed moved.1 (entries_are o 1 changes is (omega arith) are) in
+    record {
+      changed = changed;
+      each = ap (each_read (changed_behind count)) moved.2 ∙ each_stored (changed_behind count) (later_row count) changed (each_behind count changed all);
+      pass = λ sorted turned order.
+          among o changes (map row_of changed) is are
+          (subst (λ (l : List ChangeRowOf). IsPermutation l (map row_of changed)) (entries_rows o 1 changes) (IsPermutation-map row_of from changed moved.1))
+          sorted (IsPermutation-sym (map row_of changed) (map row_of sorted) (IsPermutation-map row_of changed sorted turned)) (all_permutation IsChanged changed sorted turned all) order;
+    }
+
+-- ---- the rows of the later ones among all
+
+abbrev reaches : ℕ → ChangeRowOf → Bool
+reaches number r = is_ge (int_cmp r.number (pos number))
+
+number_reaches : (n m : ℕ) → m ≤ n → is_ge (int_cmp (pos n) (pos m)) ≡ true
+number_reaches n m h = grind (arith, ints, nat_tests)
+
+number_short : (n m : ℕ) → n < m → is_ge (int_cmp (pos n) (pos m)) ≡ false
+number_short n m h = grind (arith, ints, nat_tests)
+
+side_reaches : (o : Labels) (n m : ℕ) (s : Side) (rs : List Record) → m ≤ n → AllByRecursion (λ r. reaches m r ≡ true) (map (change_row o n s) rs)
+side_reaches o n m s [] h = tt
+side_reaches o n m s (r ∷ rs) h = (number_reaches n m h, side_reaches o n m s rs h)
+
+side_short : (o : Labels) (n m : ℕ) (s : Side) (rs : List Record) → n < m → AllByRecursion (λ r. reaches m r ≡ false) (map (change_row o n s) rs)
+side_short o n m s [] h = tt
+side_short o n m s (r ∷ rs) h = (number_short n m h, side_short o n m s rs h)
+
+change_short : (o : Labels) (n m : ℕ) (c : ChangeOf) → n < m → filter (reaches m) (change_rows o n c) ≡ []
+change_short o n m c h =
+    filter_none (reaches m) (change_rows o n c)
+    (all-append (λ r. reaches m r ≡ false) (map (change_row o n Removed) c.removed) (map (change_row o n Added) c.added) (side_short o n m Removed c.removed h) (side_short o n m Added c.added h))
+
+all_reach : (o : Labels) (n m : ℕ) (cs : List ChangeOf) → m ≤ n → AllByRecursion (λ r. reaches m r ≡ true) (changes_rows o n cs)
+all_reach o n m [] h = tt
+all_reach o n m (c ∷ cs) h =
+    all-append (λ r. reaches m r ≡ true) (change_rows o n c) (changes_rows o (suc n) cs)
+    (all-append (λ r. reaches m r ≡ true) (map (change_row o n Removed) c.removed) (map (change_row o n Added) c.added) (side_reaches o n m Removed c.removed h) (side_reaches o n m Added c.added h))
+    (all_reach o (suc n) m cs (omega arith))
+
+pub later_among : (o : Labels) (n count : ℕ) (cs : List ChangeOf) → filter (reaches (n + count)) (changes_rows o n cs) ≡ changes_rows o (n + count) (drop count cs)
+later_among o n zero cs =
+    let same : n ≡ n + 0 = omega arith in
+    filter_all (reaches (n + 0)) (changes_rows o n cs) (all_reach o n (n + 0) cs (omega arith)) ∙ ap (λ (m : ℕ). changes_rows o m cs) same
+later_among o n (suc count) [] = refl
+later_among o n (suc count) (c ∷ cs) =
+    let next : n + suc count ≡ suc n + count = omega arith in
+    filter-append (reaches (n + suc count)) (change_rows o n c) (changes_rows o (suc n) cs)
+    ∙ ap (λ (l : List ChangeRowOf). l ++ filter (reaches (n + suc count)) (changes_rows o (suc n) cs)) (change_short o n (n + suc count) c (omega arith))
+    ∙ ap (λ (m : ℕ). filter (reaches m) (changes_rows o (suc n) cs)) next
+    ∙ later_among o (suc n) count cs
+    ∙ ap (λ (m : ℕ). changes_rows o m (drop count cs)) (sym next)
+
+pub dropped : {X : Type 0} (P : X → Type 0) (count : ℕ) (xs : List X) → AllByRecursion P xs → AllByRecursion P (drop count xs)
+dropped P zero xs all = all
+dropped P (suc count) [] all = tt
+dropped P (suc count) (x ∷ xs) all = dropped P count xs all.1
+
+-- the rows of the later changes of a zone, in any order
+pub later_found : (z : ZoneRows) (o : Labels) (count : ℕ) (all rows : List ChangeRowOf) → IsPermutation (zone_changes z) (changes_of (name_text o) all) → IsPermutation (changes_from (name_text o) (pos (1 + count)) all) rows
+    → IsPermutation (changes_rows z.origin (1 + count) (drop count z.changes)) rows
+later_found z o count all rows whole same =
+    let passing = IsPermutation-filter (reaches (1 + count)) (zone_changes z) (changes_of (name_text o) all) whole in
+    let those = subst (λ (l : List ChangeRowOf). IsPermutation l (filter (reaches (1 + count)) (changes_of (name_text o) all))) (later_among z.origin 1 count z.changes) passing in
+    IsPermutation-trans (changes_rows z.origin (1 + count) (drop count z.changes)) (filter (reaches (1 + count)) (changes_of (name_text o) all)) rows those
+    (subst (λ (l : List ChangeRowOf). IsPermutation l rows) (filter-and (λ (r : ChangeRowOf). bytes_eq r.origin (name_text o)) (reaches (1 + count)) all) same)

@@ -1,0 +1,60 @@
+-- The changes of a zone from a number on.
+use Rattle.std.proofs.Common.{◌≡◌, true, false, ◌&&◌, ℕ, ℤ, List, [], ◌∷◌, map, drop, codes, refl, ap, ◌∙◌, IsPermutation, bytes_eq}
+use Rattle.std.specs.List.{list_all}
+use Rattle.std.specs.Ordering.{is_ge, int_cmp}
+use Rattle.sqlite_value.specs.declared.keys.Collation.TheVariants.{Binary}
+use Rattle.sqlite_value.specs.declared.value.Value.TheVariants.{Int, Text}
+use Rattle.sqlite_value.specs.Order.{Row, value_cmp}
+use Rattle.sqlite_value.proofs.OrderLemmas.{value_cmp-Int}
+use Rattle.sqlite_sql.specs.Term.{Term, col, op2, holds}
+use Rattle.sqlite_sql.specs.Ops.{binary, is_true}
+use Rattle.sqlite_sql.specs.declared.ops.BinaryOp.TheVariants.{Compare}
+use Rattle.sqlite_sql.specs.declared.ops.CompareOp.TheVariants.{Ge}
+use Rattle.sqlite_schema.specs.declared.command.Command.TheVariants.{Select}
+use Rattle.sqlite_tied.specs.Compute.{everything}
+use Rattle.sqlite.specs.Listing.{understood, reads_listing}
+use Rattle.sqlite.specs.State.{State, Shown}
+use Rattle.sqlite.proofs.Callers.{IsPlain, command_of}
+use Rattle.office_sql.specs.Rows.{ChangeRowOf, RowsOf}
+use Rattle.office_sql.specs.Tables.{changes_columns, office_schema, stored_change}
+use Rattle.office_sql.specs.Holds.{Reads}
+use Rattle.office_sql.specs.Lookups.{changes_from}
+use Rattle.office_sql.proofs.Texts.{is_param, select_from, columns_7}
+use Rattle.office_sql.proofs.StatementLemmas.{plainly}
+use Rattle.office_sql.proofs.Values.{told, same_text, and_true, hits}
+use Rattle.office_sql.proofs.Selections.{asked, shown_7}
+
+-- ---- what the text means
+
+abbrev by_number : List Term
+by_number = is_param 1 0 ∷ op2 (Compare Ge Binary) (col 1 2) (col 0 1) ∷ []
+
+abbrev pub changes_from_text : List ℕ
+changes_from_text = codes "SELECT origin, number, side, owner, type, data, ttl FROM changes WHERE origin = ?1 AND number >= ?2"
+
+changes_from_is : (command_of (understood office_schema changes_from_text) ≡ Select (record { lets = []; body = select_from 8 by_number columns_7 }) (codes "origin" ∷ codes "number" ∷ codes "side" ∷ codes "owner" ∷ codes "type" ∷ codes "data" ∷ codes "ttl" ∷ [])) × (reads_listing office_schema changes_from_text ≡ false)
+unfolding understood everything
+changes_from_is = (refl, refl)
+
+changes_from_plain : IsPlain (understood office_schema changes_from_text)
+unfolding understood everything
+changes_from_plain = (refl, refl)
+
+-- ---- what it answers
+
+not_less_number : (a b : ℤ) → is_true (binary (Compare Ge Binary) (Int a) (Int b)) ≡ is_ge (int_cmp a b)
+unfolding binary
+not_less_number a b = told (is_ge (value_cmp (Int a) (Int b))) ∙ ap is_ge (value_cmp-Int a b)
+
+by_number_test : (params r : Row) → list_all (holds (params ∷ r ∷ [])) by_number ≡ hits by_number params (drop 1 r)
+by_number_test params [] = refl
+by_number_test params (v ∷ body) = refl
+
+changes_from_hits : (origin : List ℕ) (number : ℤ) (r : ChangeRowOf) → hits by_number (Text origin ∷ Int number ∷ []) (stored_change r) ≡ (bytes_eq r.origin origin && is_ge (int_cmp r.number number))
+changes_from_hits origin number r = rw (same_text r.origin origin, not_less_number r.number number, and_true (is_ge (int_cmp r.number number))) refl
+
+pub selects_changes_from : (old new : State) (origin : List ℕ) (number : ℤ) (rows : List Row) (all : RowsOf) → Shown changes_from_text (Text origin ∷ Int number ∷ []) old new rows → Reads old.now all
+    → IsPermutation (map stored_change (changes_from origin number all.changes)) rows
+selects_changes_from old new origin number rows all shown h =
+    asked stored_change (λ r. bytes_eq r.origin origin && is_ge (int_cmp r.number number)) (codes "changes") 8 changes_columns (1 ∷ 2 ∷ 3 ∷ 4 ∷ 5 ∷ 6 ∷ []) 4 refl (plainly 8 refl) changes_from_text (Text origin ∷ Int number ∷ []) old new h.schema changes_from_plain
+    by_number columns_7 _ changes_from_is.0 changes_from_is.1 (by_number_test (Text origin ∷ Int number ∷ [])) (shown_7 (Text origin ∷ Int number ∷ [])) (changes_from_hits origin number) (λ _. refl) all.changes rows shown h.tables.changes
