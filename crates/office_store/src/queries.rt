@@ -1,6 +1,6 @@
 //! What is asked of the rows for a part of the state.
 
-ghost use Rattle.std.specs.Prelude.{◌≡◌, ◌∷◌, false, map, IfOk, IfErr, IfSome, IsTrue, OnOk, is_some, string_bytes, IsPermutation};
+ghost use Rattle.std.specs.Prelude.{◌≡◌, ◌+◌, ◌∷◌, false, pos, map, IfOk, IfErr, IfSome, IsTrue, OnOk, is_some, string_bytes, IsPermutation};
 ghost use Rattle.sqlite.specs.Held.{state};
 ghost use Rattle.sqlite.specs.State.{HasCleanDisk};
 ghost use Rattle.dns_names.specs.Keys.{key_of};
@@ -9,7 +9,7 @@ ghost use Rattle.dns_names.specs.Spelling.{name_text};
 ghost use Rattle.office_core.specs.States.{State};
 ghost use Rattle.office_sql.specs.Rows.{RowsOf};
 ghost use Rattle.office_sql.specs.Holds.{Holds, Keeps, OnlyAsks};
-ghost use Rattle.office_sql.specs.Lookups.{records_of as rows_of, records_at, changes_of as changes_in};
+ghost use Rattle.office_sql.specs.Lookups.{records_of as rows_of, records_at, changes_of as changes_in, changes_from as changes_in_from};
 ghost use Rattle.office_rows.specs.PartRows.{AreRowsAt, rows_within};
 ghost use Rattle.office_rows.specs.StoreFaults.{IsFailure};
 ghost use Rattle.office_store.specs.Holds.{HoldsState};
@@ -18,7 +18,8 @@ ghost use Rattle.office_store.specs.Queries.{AsksOnly, Finds, Stands};
 use dns_names::Name;
 use office_rows::StoreFault;
 use office_sql::{
-    ChangeRow, RecordRow, changes_of, has_zone, records_at, records_between, records_of,
+    ChangeRow, RecordRow, changes_from, changes_of, has_zone, records_at, records_between,
+    records_of,
 };
 use sqlite::{Alter, Connection, Error as StoreError, ErrorCode};
 use std::alloc::Global;
@@ -179,5 +180,29 @@ pub(crate) fn change_rows<S: Alter>(
         return Ok(None);
     };
     let rows = changes_of(alloc, conn, &text)?;
+    Ok(Some(rows))
+}
+
+/// The number of the first change behind so many.
+fn first_behind(count: u32) -> i64
+    ensures { result ≡ pos (1 + count) }
+{
+    1 + i64::from(count)
+}
+
+/// The rows of a zone's changes behind the first ones, so many, in any order, where there is the zone.
+pub(crate) fn change_rows_behind<S: Alter>(
+    alloc: Global,
+    conn: &mut Connection<S>,
+    origin: &Name,
+    count: u32,
+) -> Result<Option<Vec<ChangeRow>>, StoreFault>
+    ensures found { HasCleanDisk (state S.Store conn.new) → IfOk result (λ found. (s : State) → HoldsState (state S.Store conn.old) s → Finds (λ all rows. IsPermutation (changes_in_from (name_text origin.now) (pos (1 + count)) all.changes) rows.items) s origin.now found) }
+    ensures asks { AsksOnly (state S.Store conn.old) (state S.Store conn.new) result }
+{
+    let Some(text) = held_text(alloc, conn, origin)? else {
+        return Ok(None);
+    };
+    let rows = changes_from(alloc, conn, &text, first_behind(count))?;
     Ok(Some(rows))
 }

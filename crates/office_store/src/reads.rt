@@ -1,6 +1,6 @@
 //! Parts of the state that a connection holds.
 
-ghost use Rattle.std.specs.Prelude.{◌≡◌, false, map, option_map, IfOk, IfErr, IfSome, OnOk};
+ghost use Rattle.std.specs.Prelude.{◌≡◌, false, map, drop, option_map, IfOk, IfErr, IfSome, OnOk};
 ghost use Rattle.zone_core.specs.Sets.{InOrder};
 ghost use Rattle.zone_core.specs.Changes.{change_in};
 ghost use Rattle.sqlite.specs.Held.{state};
@@ -10,7 +10,9 @@ ghost use Rattle.office_rows.specs.StoreFaults.{IsFailure};
 ghost use Rattle.office_store.specs.Holds.{HoldsState};
 ghost use Rattle.office_store.specs.Queries.{AsksOnly};
 
-use crate::queries::{change_rows, check_alone, part_rows, subtree_rows, zone_rows};
+use crate::queries::{
+    change_rows, change_rows_behind, check_alone, part_rows, subtree_rows, zone_rows,
+};
 use dns_data::Record;
 use dns_names::Name;
 use grant_policy::Identifier;
@@ -90,6 +92,23 @@ pub(crate) fn changes_at<S: Alter>(
         return Ok(None);
     };
     let changes = changes_of(alloc, rows)?;
+    Ok(Some(changes))
+}
+
+/// The changes of a zone behind the first ones, so many, the oldest first, where there is the zone.
+pub(crate) fn changes_behind<S: Alter>(
+    alloc: Global,
+    conn: &mut Connection<S>,
+    origin: &Name,
+    count: u32,
+) -> Result<Option<Vec<Change>>, StoreFault>
+    ensures answer { HasCleanDisk (state S.Store conn.new) → IfOk result (λ changes. (s : State) → HoldsState (state S.Store conn.old) s → option_map (λ cs. map change_in cs.items) changes ≡ option_map (λ cs. drop count cs) (changes_at s origin.now)) }
+    ensures asks { AsksOnly (state S.Store conn.old) (state S.Store conn.new) result }
+{
+    let Some(rows) = change_rows_behind(alloc, conn, origin, count)? else {
+        return Ok(None);
+    };
+    let changes = office_rows::changes_behind(alloc, rows, count)?;
     Ok(Some(changes))
 }
 

@@ -21,7 +21,7 @@ ghost use Rattle.office_store.specs.Zones.{exported, if_free, if_later, imported
 use crate::cache::{CachedZone, SubtreeRead, cached_subtree, cached_zone, commit_cached};
 use crate::migration::migrate;
 use crate::opening::{Refused, check_state, make};
-use crate::reads::{changes_at, part_at, receipt_at};
+use crate::reads::{changes_at, changes_behind, part_at, receipt_at};
 use crate::zones::{export, import, put_zone, replace, take_place};
 use dns_data::Record;
 use dns_names::Name;
@@ -393,6 +393,22 @@ impl<S: Alter + Drop, L: Ledger> ZoneTable for SqlTable<S, L> {
 
     fn changes(&mut self, alloc: Global, origin: &Name) -> Result<Option<Vec<Change>>, TableFault> {
         match changes_at(alloc, &mut self.conn, origin) {
+            Ok(changes) => Ok(changes),
+            Err(fault) => {
+                self.cache = None;
+                self.fault = Some(fault);
+                Err(refused(&mut self.book, &mut self.share, fault))
+            }
+        }
+    }
+
+    fn changes_behind(
+        &mut self,
+        alloc: Global,
+        origin: &Name,
+        count: u32,
+    ) -> Result<Option<Vec<Change>>, TableFault> {
+        match changes_behind(alloc, &mut self.conn, origin, count) {
             Ok(changes) => Ok(changes),
             Err(fault) => {
                 self.cache = None;

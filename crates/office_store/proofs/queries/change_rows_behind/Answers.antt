@@ -1,0 +1,26 @@
+use Rattle.std.proofs.Common.{◌≡◌, ◌∙◌, ◌+◌, pos, subst, string_bytes, IsPermutation}
+use Rattle.sqlite.specs.Held.{state}
+use Rattle.office_sql.specs.Lookups.{changes_from}
+use Rattle.dns_names.specs.Spelling.{name_text}
+use Rattle.office_store.proofs.QueryLemmas.{asked_more, asks_refused, found, only_of, only_then}
+use Rattle.office_store.proofs.queries.change_rows_behind.Goals as goal
+
+pub returns-in_err-rows-clause-asks : goal.returns-in_err-rows-clause-asks
+returns-in_err-rows-clause-asks g c =
+    asks_refused (state g.S.Store c.args.conn.now) (state g.S.Store c.changes_from.new.conn) c.from_residual-in_err-rows.result c.from_residual-in_err-rows.ensures.0
+    (asked_more (state g.S.Store c.args.conn.now) (state g.S.Store c.held_text.new.conn) (state g.S.Store c.changes_from.new.conn) c.held_text.ensures.asks.0 c.changes_from.ensures.asks)
+
+pub returns-clause-asks : goal.returns-clause-asks
+returns-clause-asks g c = (
+  asked_more (state g.S.Store c.args.conn.now) (state g.S.Store c.held_text.new.conn) (state g.S.Store c.changes_from.new.conn) c.held_text.ensures.asks.0 c.changes_from.ensures.asks,
+  λ clean. only_then (state g.S.Store c.args.conn.now) (state g.S.Store c.held_text.new.conn) (state g.S.Store c.changes_from.new.conn) (c.in_ok-text.ensures.asks.1 (c.changes_from.ensures.asks.honest clean)) (only_of (state g.S.Store c.held_text.new.conn) (state g.S.Store c.changes_from.new.conn) (c.in_ok-rows.ensures.only clean)),
+)
+
+pub returns-clause-found : goal.returns-clause-found
+returns-clause-found g c =
+    λ clean.
+    let text : string_bytes c.in-Some.text ≡ name_text c.args.origin.now = rw c.in-Some.is at c.in_ok-text.ensures.text in
+    let first = pos (1 + c.args.count) in
+    found (λ all. IsPermutation (changes_from (name_text c.args.origin.now) first all.changes) c.in_ok-rows.rows.items) (state g.S.Store c.args.conn.now) (state g.S.Store c.held_text.new.conn) c.args.origin.now c.held_text.ensures.asks.0
+    (rw c.in-Some.is at (c.in_ok-text.ensures.found (c.changes_from.ensures.asks.honest clean)))
+    (λ all h. subst (λ t. IsPermutation (changes_from t first all.changes) c.in_ok-rows.rows.items) (c.deref.ensures ∙ text) (rw c.first_behind.ensures at (c.in_ok-rows.ensures.answer clean all h)))

@@ -1,0 +1,15 @@
+use Rattle.std.proofs.Common.{◌≡◌, pos, Ok, Some, option_map, sym, ap, ◌∙◌, map, drop}
+use Rattle.zone_core.specs.Changes.{change_in}
+use Rattle.office_store.proofs.reads.changes_behind.Goals as goal
+
+pub returns-in_default-clause-answer : goal.returns-in_default-clause-answer
+returns-in_default-clause-answer g c = λ clean s h. sym (ap (λ held. option_map (λ cs. drop c.args.count cs) (option_map (λ held. held.changes) held)) ((rw c.in_default.is at (c.in_ok-rows.ensures.found clean)) s h))
+
+pub returns-clause-answer : goal.returns-clause-answer
+returns-clause-answer g c =
+    λ clean s h.
+    let o = c.args.origin.now in
+    let f = (rw c.in-Some.is at (c.in_ok-rows.ensures.found clean)) s h in
+    let told : Ok (drop c.args.count f.2.changes) ≡ Ok (map change_in c.in_ok-changes.changes.items) = c.in_ok-changes.ensures.held (pos 2) f.0 s o f.2 f.1 f.3 f.4 in
+    let same : drop c.args.count f.2.changes ≡ map change_in c.in_ok-changes.changes.items = cc in
+    sym (ap (λ held. option_map (λ cs. drop c.args.count cs) (option_map (λ held. held.changes) held)) f.3 ∙ ap (λ cs. Some cs) same)
