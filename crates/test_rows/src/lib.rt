@@ -11,5 +11,4 @@ mod octets;
 mod rows;
 
 pub use answering::{Answers, run};
-pub use octets::{push_octets, push_shown};
 pub use rows::{Row, word};

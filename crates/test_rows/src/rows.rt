@@ -25,7 +25,7 @@ impl<'a> Row<'a> {
     pub fn read(alloc: Global, line: &'a str) -> Result<Self, AllocError> {
         let (verb, rest) = line.split_once(' ').unwrap_or((line, ""));
         let mut text = Vec::new(alloc);
-        push_octets(alloc, rest, &mut text)?;
+        push_octets(rest, &mut text)?;
         Ok(Row {
             verb,
             text,
@@ -34,12 +34,11 @@ impl<'a> Row<'a> {
     }
 
     /// Appends a line, which begins with `|`, to the body.
-    pub fn push_line(&mut self, alloc: Global, line: &str) -> Result<(), AllocError> {
+    pub fn push_line(&mut self, line: &str) -> Result<(), AllocError> {
         match line.strip_prefix("|- ") {
-            Some(text) => push_octets(alloc, text, &mut self.body),
+            Some(text) => push_octets(text, &mut self.body),
             None => {
-                let text = line.strip_prefix("| ").unwrap_or("");
-                push_octets(alloc, text, &mut self.body)?;
+                push_octets(line.strip_prefix("| ").unwrap_or(""), &mut self.body)?;
                 self.body.push(b'\n')?;
                 Ok(())
             }

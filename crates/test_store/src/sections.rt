@@ -4,8 +4,7 @@ use test_exchanges::Office;
 use test_files::{Callers, Files};
 use test_rows::{Answers, Row};
 use test_states::Kept;
-use test_stops::Stops;
-use test_stores::Stores;
+use test_stores::{Stops, Stores};
 use test_tables::Tables;
 
 /// What rows are about.

@@ -1,3 +1,5 @@
+//! Commands, and the devices that they read and write.
+
 use command_line::{QuestionWords, TextForm, ZoneForm};
 use dns_master::Pieces;
 use std::alloc::{AllocError, Global};
@@ -36,13 +38,13 @@ pub struct Command<'a> {
 }
 
 impl Command<'_> {
-    /// What the command prints with devices that work so; `None` where there is no such command.
+    /// What the command prints with devices that work so, and how it went.
     pub fn run(
         self,
         alloc: Global,
         reading: Manner,
         writing: Manner,
-    ) -> Result<Option<Printed>, AllocError> {
+    ) -> Result<Printed, AllocError> {
         let words = self.words;
         match self.name {
             "apply" => self.run_task(alloc, Apply, reading, writing),
@@ -53,7 +55,7 @@ impl Command<'_> {
             "rights" => self.run_task(alloc, question(words), reading, writing),
             "explain" => self.run_task(alloc, asked(words), reading, writing),
             "check" => self.run_check(alloc, reading, writing),
-            _ => Ok(None),
+            _ => no_command(alloc),
         }
     }
 
@@ -63,11 +65,11 @@ impl Command<'_> {
         task: T,
         reading: Manner,
         writing: Manner,
-    ) -> Result<Option<Printed>, AllocError> {
+    ) -> Result<Printed, AllocError> {
         let reader = reading.device(Vec::from_slice(alloc, self.input)?);
         let writer = writing.device(Vec::new(alloc));
         let (page, done) = do_task(alloc, task, reader, writer);
-        Ok(Some((page.octets, done.map(|()| Findings::Absent))))
+        Ok((page.octets, found_none(done)))
     }
 
     fn run_check(
@@ -75,11 +77,24 @@ impl Command<'_> {
         alloc: Global,
         reading: Manner,
         writing: Manner,
-    ) -> Result<Option<Printed>, AllocError> {
+    ) -> Result<Printed, AllocError> {
         let reader = reading.device(Vec::from_slice(alloc, self.input)?);
         let writer = writing.device(Vec::new(alloc));
         let (page, done) = do_check(alloc, reader, writer);
-        Ok(Some((page.octets, done)))
+        Ok((page.octets, done))
+    }
+}
+
+fn no_command(alloc: Global) -> Result<Printed, AllocError> {
+    let told = Vec::from_slice(alloc, b"no such command")?;
+    Ok((told, Ok(Findings::Absent)))
+}
+
+/// How a command went that finds nothing.
+fn found_none(done: Result<(), JobFault>) -> Result<Findings, JobFault> {
+    match done {
+        Ok(()) => Ok(Findings::Absent),
+        Err(fault) => Err(fault),
     }
 }
 
