@@ -4,7 +4,7 @@ use dns_data::{Data, DataFault, Record, RecordType, Ttl, data_text};
 use dns_names::Name;
 use std::alloc::{AllocError, Global};
 use std::net::{Ipv4Addr, Ipv6Addr};
-use test_rows::{Answers, Row, word};
+use test_rows::{Answers, Row, text_of, word};
 
 /// Answers to rows of record data, with the records that are ranked so far.
 #[derive(Drop)]
@@ -74,21 +74,21 @@ fn type_answer(alloc: Global, text: &[u8]) -> Result<String, DataFault> {
 }
 
 fn numbered(alloc: Global, number: &[u8]) -> Result<String, DataFault> {
-    let record_type = decimal(number).and_then(RecordType::from_number);
-    let text = record_type.map_or("none", RecordType::text);
-    Ok(String::from_str(alloc, text)?)
+    match decimal(number) {
+        Some(number) => told(alloc, type_text(RecordType::from_number(number))),
+        None => told(alloc, "none"),
+    }
+}
+
+fn type_text(record_type: Option<RecordType>) -> &'static str {
+    match record_type {
+        Some(record_type) => record_type.text(),
+        None => "none",
+    }
 }
 
 fn decimal(text: &[u8]) -> Option<u16> {
-    str::from_utf8(text).ok()?.parse().ok()
-}
-
-fn decimal_octet(text: &[u8]) -> Option<u8> {
-    str::from_utf8(text).ok()?.parse().ok()
-}
-
-fn hexadecimal(text: &[u8]) -> Option<u16> {
-    u16::from_str_radix(str::from_utf8(text).ok()?, 16).ok()
+    text_of(text).parse().ok()
 }
 
 fn ttl(alloc: Global, text: &[u8]) -> Result<String, DataFault> {
@@ -119,7 +119,7 @@ fn ipv4(text: &[u8]) -> Data {
     let mut rest = text;
     for octet in &mut octets {
         let (first, behind) = word(rest);
-        *octet = decimal_octet(first).unwrap_or(0);
+        *octet = text_of(first).parse().unwrap_or(0);
         rest = behind;
     }
     Data::A(Ipv4Addr::from(octets))
@@ -131,7 +131,7 @@ fn ipv6(text: &[u8]) -> Data {
     let mut rest = text;
     for group in &mut groups {
         let (first, behind) = word(rest);
-        *group = hexadecimal(first).unwrap_or(0);
+        *group = u16::from_str_radix(text_of(first), 16).unwrap_or(0);
         rest = behind;
     }
     Data::Aaaa(Ipv6Addr::from(groups))

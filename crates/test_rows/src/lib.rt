@@ -11,4 +11,5 @@ mod octets;
 mod rows;
 
 pub use answering::{Answers, run};
-pub use rows::{Row, word};
+pub use octets::push_repeated;
+pub use rows::{Row, number, text_of, word};

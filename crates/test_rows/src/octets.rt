@@ -1,3 +1,4 @@
+use crate::rows::number;
 use std::alloc::AllocError;
 
 /// Appends the octets that a text of a row spells.
@@ -22,20 +23,23 @@ fn push_piece(piece: &str, octets: &mut Vec<u8>) -> Result<(), AllocError> {
 /// Appends what stands between `<` and `>`: `TEXT*N`, or an octet by its two hexadecimal digits.
 fn push_spelled(spelled: &str, octets: &mut Vec<u8>) -> Result<(), AllocError> {
     match spelled.split_once('*') {
-        Some((text, times)) => push_repeated(text.as_bytes(), number(times), octets),
+        Some((text, times)) => {
+            push_repeated(
+                text.as_bytes(),
+                number(times.as_bytes()).unwrap_or(0),
+                octets,
+            )
+        },
         None => Ok(octets.push(octet(spelled))?),
     }
 }
 
-fn push_repeated(text: &[u8], times: usize, octets: &mut Vec<u8>) -> Result<(), AllocError> {
+/// Appends octets so many times.
+pub fn push_repeated(text: &[u8], times: usize, octets: &mut Vec<u8>) -> Result<(), AllocError> {
     for _ in 0..times {
         octets.extend_from_slice(text)?;
     }
     Ok(())
-}
-
-fn number(digits: &str) -> usize {
-    digits.parse().unwrap_or(0)
 }
 
 fn octet(digits: &str) -> u8 {

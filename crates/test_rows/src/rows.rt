@@ -9,6 +9,16 @@ pub fn word(text: &[u8]) -> (&[u8], &[u8]) {
     }
 }
 
+/// The text of octets, or none where they are not UTF-8.
+pub fn text_of(octets: &[u8]) -> &str {
+    str::from_utf8(octets).unwrap_or("")
+}
+
+/// The number that a text writes in decimal digits, if it is one.
+pub fn number(text: &[u8]) -> Option<usize> {
+    text_of(text).parse().ok()
+}
+
 /// A row: what is asked, and of what.
 #[derive(Drop)]
 pub struct Row<'a> {

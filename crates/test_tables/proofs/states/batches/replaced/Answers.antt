@@ -2,7 +2,7 @@ use Rattle.std.proofs.Common.{sym, ◌∙◌}
 use Rattle.std.proofs.lemmas.Bool.{not-false}
 use Rattle.dns_names.specs.Order.{same_name}
 use Rattle.zone_core.proofs.SetLemmas.{name_is}
-use Rattle.test_states.proofs.batches.replaced.Goals as goal
+use Rattle.test_tables.proofs.states.batches.replaced.Goals as goal
 
 pub replacement_batch-requires-clause-origin : goal.replacement_batch-requires-clause-origin
 replacement_batch-requires-clause-origin c =

@@ -3,7 +3,7 @@
 ghost use Rattle.std.specs.Prelude.{◌≡◌, IfOk};
 ghost use Rattle.zone_core.specs.Sets.{is_same};
 
-use crate::lines::{push_batch, word};
+use crate::states::lines::{push_batch, word};
 use anyhow::{Result, bail};
 use dns_data::Record;
 use dns_names::Name;

@@ -1,6 +1,6 @@
 //! What is read of rows.
 
-use crate::lines::rows_of;
+use crate::states::lines::rows_of;
 use anyhow::Result;
 use dns_data::Record;
 use dns_names::Name;

@@ -4,7 +4,7 @@ use Rattle.std.proofs.lemmas.List.{length-map}
 use Rattle.dns_data.specs.declared.record.Record.{Record}
 use Rattle.zone_core.specs.Sets.{Records, Key, listing, minus}
 use Rattle.zone_core.specs.Changes.{ChangeOf, change_between, is_empty}
-use Rattle.test_states.proofs.batches.have_same.Goals as goal
+use Rattle.test_tables.proofs.states.batches.have_same.Goals as goal
 
 length-listing : (set : Records) → length (listing set) ≡ len set
 length-listing set = length-map (entries set) (λ (e : Key × Record). e.1) ∙ sym (len-entries set)

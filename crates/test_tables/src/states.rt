@@ -1,8 +1,12 @@
 //! The rows that are kept, and whether they are a state.
 
-use crate::batches::{push_addition, push_new_zone, push_replacement};
-use crate::lines::{no_rows, push_row};
-use crate::reads::push_read;
+mod batches;
+mod lines;
+mod reads;
+
+use crate::states::batches::{push_addition, push_new_zone, push_replacement};
+use crate::states::lines::{no_rows, push_row};
+use crate::states::reads::push_read;
 use anyhow::{Result, bail};
 use office_rows::is_state;
 use office_sql::AllRows;

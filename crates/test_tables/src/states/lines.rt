@@ -1,5 +1,6 @@
 //! Rows of tables as lines.
 
+use crate::columns::{change_in, receipt_in, record_in};
 use anyhow::{Result, bail};
 use office_sql::{AllRows, Batch, ChangeRow, ReceiptRow, RecordRow, ZoneRow};
 use std::alloc::{AllocError, Global};
@@ -45,37 +46,14 @@ pub fn rows_of(alloc: Global, text: &[u8]) -> Result<AllRows> {
     Ok(rows)
 }
 
-fn two(alloc: Global, one: &str, other: &str) -> Result<(String, String), AllocError> {
-    let one = String::from_str(alloc, one)?;
-    Ok((one, String::from_str(alloc, other)?))
-}
-
 fn record_row(alloc: Global, text: &str) -> Result<RecordRow> {
     let (origin, rest) = word(text);
     let (owner, rest) = word(rest);
     let (record_type, rest) = word(rest);
     let (ttl, rest) = word(rest);
-    let (record_type, ttl) = (record_type.parse()?, ttl.parse()?);
+    let numbers = (record_type.parse()?, ttl.parse()?);
     let (key, rdata) = word(rest);
-    Ok(record_in(alloc, (origin, owner), (record_type, ttl), (rdata, key))?)
-}
-
-fn record_in(
-    alloc: Global,
-    (origin, owner): (&str, &str),
-    (record_type, ttl): (i64, i64),
-    (rdata, key): (&str, &str),
-) -> Result<RecordRow, AllocError> {
-    let (origin, owner) = two(alloc, origin, owner)?;
-    let rdata = String::from_str(alloc, rdata)?;
-    Ok(RecordRow {
-        origin,
-        owner,
-        record_type,
-        rdata,
-        ttl,
-        owner_key: Vec::from_slice(alloc, key.as_bytes())?,
-    })
+    Ok(record_in(alloc, (origin, owner), numbers, (rdata, key))?)
 }
 
 fn change_row(alloc: Global, text: &str) -> Result<ChangeRow> {
@@ -83,33 +61,16 @@ fn change_row(alloc: Global, text: &str) -> Result<ChangeRow> {
     let (number, rest) = word(rest);
     let (side, rest) = word(rest);
     let (owner, rest) = word(rest);
-    change_in(
-        alloc,
-        (origin, owner),
-        (number.parse()?, side.parse()?),
-        rest,
-    )
+    let numbers = (number.parse()?, side.parse()?);
+    let (numbers_of_data, rdata) = data_of(rest)?;
+    Ok(change_in(alloc, (origin, owner), numbers, numbers_of_data, rdata)?)
 }
 
-fn change_in(
-    alloc: Global,
-    (origin, owner): (&str, &str),
-    (number, side): (i64, i64),
-    rest: &str,
-) -> Result<ChangeRow> {
-    let (record_type, rest) = word(rest);
+/// The type, the TTL and the data of the row of a change.
+fn data_of(text: &str) -> Result<((i64, i64), &str)> {
+    let (record_type, rest) = word(text);
     let (ttl, rdata) = word(rest);
-    let (record_type, ttl) = (record_type.parse()?, ttl.parse()?);
-    let (origin, owner) = two(alloc, origin, owner)?;
-    Ok(ChangeRow {
-        origin,
-        number,
-        side,
-        owner,
-        record_type,
-        rdata: String::from_str(alloc, rdata)?,
-        ttl,
-    })
+    Ok(((record_type.parse()?, ttl.parse()?), rdata))
 }
 
 fn receipt_row(alloc: Global, text: &str) -> Result<ReceiptRow, AllocError> {
@@ -125,23 +86,6 @@ fn request(alloc: Global, items: &str) -> Result<String, AllocError> {
     let mut lines = items.replace(alloc, "|", "\n")?;
     lines.push_str("\n")?;
     Ok(lines)
-}
-
-fn receipt_in(
-    alloc: Global,
-    (caller, id): (&str, &str),
-    (origin, reply): (&str, &str),
-    request: String,
-) -> Result<ReceiptRow, AllocError> {
-    let (caller, id) = two(alloc, caller, id)?;
-    let (origin, reply) = two(alloc, origin, reply)?;
-    Ok(ReceiptRow {
-        caller,
-        id,
-        origin,
-        request,
-        reply,
-    })
 }
 
 fn push_record(
