@@ -48,6 +48,7 @@ mod bodies;
 mod commands;
 mod items;
 mod policies;
+mod refusal;
 mod sections;
 mod words;
 mod zones;

@@ -11,7 +11,7 @@ use anyhow::{Result, bail};
 use office_rows::is_state;
 use office_sql::AllRows;
 use std::alloc::{AllocError, Global};
-use test_rows::{Answers, Row};
+use test_rows::{Answers, Row, text_of};
 
 /// The lines of the rows that are kept.
 #[derive(Drop)]
@@ -37,8 +37,12 @@ impl Answers for Kept {
 
 /// Whether a text has a line.
 fn has_line(text: &[u8], line: &str) -> bool {
-    text.split(|octet| *octet == b'\n')
-        .any(|other| other == line.as_bytes())
+    for other in text_of(text).lines() {
+        if other == line {
+            return true;
+        }
+    }
+    false
 }
 
 impl Kept {
