@@ -28,8 +28,8 @@ impl Records {
             "data" => read_again(alloc, &row.text, None),
             "data-at" => data_at(alloc, &row.text),
             "count" => counted(alloc, &row.text),
-            "ipv4" => text_of(alloc, &ipv4(&row.text)),
-            "ipv6" => text_of(alloc, &ipv6(&row.text)),
+            "ipv4" => data_told(alloc, &ipv4(&row.text)),
+            "ipv6" => data_told(alloc, &ipv6(&row.text)),
             "line" => line(alloc, &row.text),
             "same" => told(alloc, sameness(alloc, &row.body)?),
             "ranked" => rank(alloc, &mut self.ranked, &row.text),
@@ -59,13 +59,13 @@ fn told(alloc: Global, text: &str) -> Result<String, DataFault> {
 }
 
 /// The text of data.
-fn text_of(alloc: Global, rdata: &Data) -> Result<String, DataFault> {
+fn data_told(alloc: Global, rdata: &Data) -> Result<String, DataFault> {
     Ok(data_text(alloc, rdata)?)
 }
 
 /// The text of the data that `TYPE ITEMS` writes.
 fn read_again(alloc: Global, text: &[u8], origin: Option<&Name>) -> Result<String, DataFault> {
-    text_of(alloc, &data(alloc, text, origin)?)
+    data_told(alloc, &data(alloc, text, origin)?)
 }
 
 fn type_answer(alloc: Global, text: &[u8]) -> Result<String, DataFault> {

@@ -1,11 +1,13 @@
 //! Disks that stop.
 
+use crate::acts::done;
+use crate::deed::Deed;
 use anyhow::{Result, anyhow, bail};
 use grant_policy::Policy;
 use sqlite::Files;
 use sqlite_disk::{Crash, Disk, Fuse, Memory};
 use std::alloc::Global;
-use test_calls::{Deed, done, opened};
+use test_calls::opened;
 
 /// What two disks hold: the log of a store, and its database.
 #[derive(Drop)]

@@ -1,11 +1,11 @@
 //! A store on disks, which rows make, change, and stop.
 
+use crate::deed::Deed;
 use crate::disks::{Held, Loss, Stop, Stopping};
 use crate::trial::{Trial, Whole};
 use anyhow::Result;
 use grant_policy::read_policy;
 use std::alloc::{AllocError, Global};
-use test_calls::Deed;
 use test_rows::{Answers, Row};
 
 /// The texts of the policy and of the look, and what the disks hold.

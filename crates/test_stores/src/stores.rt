@@ -1,10 +1,11 @@
 //! A database, which rows make, change and look at.
 
+use crate::acts::done;
+use crate::deed::Deed;
 use anyhow::{Result, bail};
 use grant_policy::read_policy;
 use sqlite::{Alter, Connection, MemStore};
 use std::alloc::{AllocError, Global};
-use test_calls::{Deed, done};
 use test_rows::{Answers, Row};
 
 /// The texts of the policy and of the script that made a database, and a connection to it, while there is one.

@@ -1,10 +1,10 @@
 //! What is found behind stops.
 
+use crate::deed::Deed;
 use crate::disks::{Held, Loss, Stop, Stopping};
 use anyhow::{Result, bail};
 use grant_policy::Policy;
 use std::alloc::{AllocError, Global};
-use test_calls::Deed;
 
 /// What is done to a store, and how it is looked at.
 #[derive(Drop)]
