@@ -96,7 +96,7 @@ fn push_difference_to(
 fn answer_without_zone(alloc: Global, row: &Row<'_>, answer: &mut Vec<u8>) -> Result<(), Refusal> {
     let (first, rest) = row.split();
     match row.verb {
-        "build" => push_records(alloc, built(alloc, row)?.records(), answer),
+        "build" => push_built(alloc, row, answer),
         "read" => push_update(alloc, &row.body, answer),
         "outside" => push_outside(alloc, first, &row.body, answer),
         "same" => push_same(alloc, &row.text, &row.body, answer),
@@ -108,6 +108,10 @@ fn answer_without_zone(alloc: Global, row: &Row<'_>, answer: &mut Vec<u8>) -> Re
         "no-memory" => Err(Refusal::Delegation(DelegationFault::NoMemory)),
         _ => push("no such verb", answer),
     }
+}
+
+fn push_built(alloc: Global, row: &Row<'_>, answer: &mut Vec<u8>) -> Result<(), Refusal> {
+    push_records(alloc, built(alloc, row)?.records(), answer)
 }
 
 /// The zone of a row's origin and record lines.

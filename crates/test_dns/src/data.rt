@@ -28,10 +28,9 @@ impl Records {
             "data" => read_again(alloc, &row.text, None),
             "data-at" => data_at(alloc, &row.text),
             "count" => counted(alloc, &row.text),
-            "ipv4" => data_told(alloc, &ipv4(&row.text)),
-            "ipv6" => data_told(alloc, &ipv6(&row.text)),
+            "ipv4" | "ipv6" => address(alloc, row),
             "line" => line(alloc, &row.text),
-            "same" => told(alloc, sameness(alloc, &row.body)?),
+            "same" => same(alloc, &row.body),
             "ranked" => rank(alloc, &mut self.ranked, &row.text),
             "no-memory" => Err(DataFault::NoMemory),
             _ => told(alloc, "no such verb"),
@@ -61,6 +60,18 @@ fn told(alloc: Global, text: &str) -> Result<String, DataFault> {
 /// The text of data.
 fn data_told(alloc: Global, rdata: &Data) -> Result<String, DataFault> {
     Ok(data_text(alloc, rdata)?)
+}
+
+fn same(alloc: Global, body: &[u8]) -> Result<String, DataFault> {
+    told(alloc, sameness(alloc, body)?)
+}
+
+/// The text of the address of a row.
+fn address(alloc: Global, row: &Row<'_>) -> Result<String, DataFault> {
+    match row.verb {
+        "ipv4" => data_told(alloc, &ipv4(&row.text)),
+        _ => data_told(alloc, &ipv6(&row.text)),
+    }
 }
 
 /// The text of the data that `TYPE ITEMS` writes.
@@ -102,14 +113,14 @@ fn data_at(alloc: Global, text: &[u8]) -> Result<String, DataFault> {
 }
 
 fn counted(alloc: Global, text: &[u8]) -> Result<String, DataFault> {
-    Ok(count(alloc, &data(alloc, text, None)?)?)
+    count(alloc, &data(alloc, text, None)?)
 }
 
-fn count(alloc: Global, rdata: &Data) -> Result<String, AllocError> {
+fn count(alloc: Global, rdata: &Data) -> Result<String, DataFault> {
     match rdata {
-        Data::Txt(strings) => format!(in alloc; "{} strings", strings.as_slice().len()),
-        Data::Ds { digest, .. } => format!(in alloc; "{} octets", digest.octets().len()),
-        _ => String::from_str(alloc, "neither strings nor a digest"),
+        Data::Txt(strings) => Ok(format!(in alloc; "{} strings", strings.as_slice().len())?),
+        Data::Ds { digest, .. } => Ok(format!(in alloc; "{} octets", digest.octets().len())?),
+        _ => told(alloc, "neither strings nor a digest"),
     }
 }
 

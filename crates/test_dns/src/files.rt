@@ -19,19 +19,39 @@ pub fn push_file_answer(
 }
 
 fn answer_to(alloc: Global, row: &Row<'_>, answer: &mut Vec<u8>) -> Result<(), MasterFault> {
-    let (first, rest) = row.split();
     match row.verb {
-        "tokens" => push_tokens(alloc, &tokens(alloc, &row.body)?, answer),
-        "entries" => push_entries(alloc, &tokens(alloc, &row.body)?, answer),
-        "file" => push_records(alloc, &records(alloc, first, &row.body)?, answer),
+        "tokens" | "entries" => push_split(alloc, row, answer),
+        "file" => push_file(alloc, row, answer),
         "read" | "write" => push_moved(alloc, row, answer),
-        "long" => push_long(alloc, device(first, rest), word(rest).1, &row.body, answer),
+        "long" => push_long(alloc, row, answer),
         "print" | "print-relative" | "print-records" | "failing" | "failing-records" => {
             push_page(alloc, row, answer)
         }
         "no-memory" => Err(MasterFault::NoMemory),
         _ => push("no such verb", answer),
     }
+}
+
+/// Appends the items of the body of a row, or its entries.
+fn push_split(alloc: Global, row: &Row<'_>, answer: &mut Vec<u8>) -> Result<(), MasterFault> {
+    push_items(alloc, row.verb, &tokens(alloc, &row.body)?, answer)
+}
+
+fn push_items(
+    alloc: Global,
+    verb: &str,
+    tokens: &[Token<'_>],
+    answer: &mut Vec<u8>,
+) -> Result<(), MasterFault> {
+    match verb {
+        "tokens" => push_tokens(alloc, tokens, answer),
+        _ => push_entries(alloc, tokens, answer),
+    }
+}
+
+/// Appends the lines of the records of the body of a row.
+fn push_file(alloc: Global, row: &Row<'_>, answer: &mut Vec<u8>) -> Result<(), MasterFault> {
+    push_records(alloc, &records(alloc, &row.text, &row.body)?, answer)
 }
 
 fn push(text: &str, answer: &mut Vec<u8>) -> Result<(), MasterFault> {
@@ -292,16 +312,12 @@ const LONG: &[u8] = b"isi.edu.";
 const LONG_HEAD: &[u8] = b"$ORIGIN isi.edu.\n";
 
 /// Appends how much goes out of the zone of so many lines.
-fn push_long(
-    alloc: Global,
-    device: Device,
-    times: &[u8],
-    line: &[u8],
-    answer: &mut Vec<u8>,
-) -> Result<(), MasterFault> {
+fn push_long(alloc: Global, row: &Row<'_>, answer: &mut Vec<u8>) -> Result<(), MasterFault> {
+    let (most, rest) = row.split();
+    let times = number(word(rest).1).unwrap_or(0);
     let mut lines = Vec::new(alloc);
-    push_repeated(line, number(times).unwrap_or(0), &mut lines)?;
-    push_long_lines(alloc, device, &lines, answer)
+    push_repeated(&row.body, times, &mut lines)?;
+    push_long_lines(alloc, device(most, rest), &lines, answer)
 }
 
 fn push_long_lines(

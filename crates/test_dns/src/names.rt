@@ -310,11 +310,19 @@ fn push_symbol(alloc: Global, text: &[u8], answer: &mut Vec<u8>) -> Result<(), N
         return push("no text", answer);
     }
     let (symbol, rest) = first_symbol(text)?;
-    match symbol {
-        Symbol::Dot => push("dot", answer)?,
-        Symbol::Octet(octet) => push(format!(in alloc; "octet {octet}")?.as_str(), answer)?,
-    }
+    push_symbol_itself(alloc, symbol, answer)?;
     push(", before (", answer)?;
     answer.extend_from_slice(rest)?;
     push(")", answer)
+}
+
+fn push_symbol_itself(
+    alloc: Global,
+    symbol: Symbol,
+    answer: &mut Vec<u8>,
+) -> Result<(), NameFault> {
+    match symbol {
+        Symbol::Dot => push("dot", answer),
+        Symbol::Octet(octet) => push(format!(in alloc; "octet {octet}")?.as_str(), answer),
+    }
 }

@@ -5,10 +5,10 @@ use test_rows::text_of;
 
 /// The line of a record, which an equal one in memory of its own has to be the same as.
 pub fn line(alloc: Global, text: &[u8]) -> Result<String, DataFault> {
-    Ok(line_of(alloc, &record(alloc, text)?)?)
+    line_of(alloc, &record(alloc, text)?)
 }
 
-fn line_of(alloc: Global, record: &Record) -> Result<String, AllocError> {
+fn line_of(alloc: Global, record: &Record) -> Result<String, DataFault> {
     let is_same = is_its_copy(alloc, record)?;
     let mut line = record_line(alloc, record)?;
     if !is_same {

@@ -63,7 +63,8 @@ pub fn served(rt: &HostRuntime, store: &str, policy: &str, listen: &str) -> Vec<
 }
 
 /// Runs a script on a store.
-pub fn execute(rt: &HostRuntime, store: &str, script: &str) -> Result<()> {
+pub fn execute(rt: &HostRuntime, store: &str, script: &[u8]) -> Result<()> {
+    let script = str::from_utf8(script)?;
     run_on(Connection::open(rt, store)?, script)
 }
 

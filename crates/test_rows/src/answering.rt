@@ -1,6 +1,7 @@
 use crate::octets::push_shown;
 use crate::rows::Row;
 use std::alloc::{AllocError, Global};
+use std::fmt::Display;
 use std::io;
 use std::io::Write;
 
@@ -13,6 +14,26 @@ pub trait Answers {
         row: &Row<'_>,
         answer: &mut Vec<u8>,
     ) -> Result<(), AllocError>;
+}
+
+/// Appends why there is no answer, where there is none.
+pub fn push_unanswered<E: Display + Drop>(
+    alloc: Global,
+    answered: Result<(), E>,
+    answer: &mut Vec<u8>,
+) -> Result<(), AllocError> {
+    match answered {
+        Ok(()) => Ok(()),
+        Err(fault) => push_fault(alloc, &fault, answer),
+    }
+}
+
+fn push_fault<E: Display>(
+    alloc: Global,
+    fault: &E,
+    answer: &mut Vec<u8>,
+) -> Result<(), AllocError> {
+    answer.extend_from_slice(format!(in alloc; "not answered: {fault}")?.as_bytes())
 }
 
 /// Reads all rows from the standard input, and prints what is answered to each.

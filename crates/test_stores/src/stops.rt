@@ -6,7 +6,7 @@ use crate::trial::{Trial, Whole};
 use anyhow::Result;
 use grant_policy::read_policy;
 use std::alloc::{AllocError, Global};
-use test_rows::{Answers, Row};
+use test_rows::{Answers, Row, push_unanswered};
 
 /// The texts of the policy and of the look, and what the disks hold.
 #[derive(Drop)]
@@ -47,12 +47,8 @@ impl Answers for Stops {
         row: &Row<'_>,
         answer: &mut Vec<u8>,
     ) -> Result<(), AllocError> {
-        match self.answer_to(alloc, row, answer) {
-            Ok(()) => Ok(()),
-            Err(fault) => {
-                answer.extend_from_slice(format!(in alloc; "not answered: {fault}")?.as_bytes())
-            }
-        }
+        let answered = self.answer_to(alloc, row, answer);
+        push_unanswered(alloc, answered, answer)
     }
 }
 
@@ -68,12 +64,26 @@ impl Stops {
 
     fn answer_to(&mut self, alloc: Global, row: &Row<'_>, answer: &mut Vec<u8>) -> Result<()> {
         match row.verb {
-            "policy" => self.policy = Vec::from_slice(alloc, &row.body)?,
-            "look" => self.look = Vec::from_slice(alloc, &row.body)?,
-            "disks" => self.held = Held::new(alloc),
-            "stop" => self.stop(alloc, row, answer)?,
-            _ => self.act(alloc, row, answer)?,
+            "policy" | "look" => self.take(alloc, row),
+            "disks" => self.begin(alloc),
+            "stop" => self.stop(alloc, row, answer),
+            _ => self.act(alloc, row, answer),
         }
+    }
+
+    /// Takes the policy or the look of a row.
+    fn take(&mut self, alloc: Global, row: &Row<'_>) -> Result<()> {
+        let text = Vec::from_slice(alloc, &row.body)?;
+        match row.verb {
+            "policy" => self.policy = text,
+            _ => self.look = text,
+        }
+        Ok(())
+    }
+
+    /// Begins with empty disks.
+    fn begin(&mut self, alloc: Global) -> Result<()> {
+        self.held = Held::new(alloc);
         Ok(())
     }
 

@@ -75,8 +75,20 @@ fn answered<S: Alter + Drop, L: Ledger>(
         "export" => exported(alloc, table, text),
         "subtree" => subtree(alloc, table, text),
         "receipt" => receipt(alloc, table, text),
-        _ => replied(alloc, table, policy, &call(alloc, verb, text, body)?),
+        _ => asked(alloc, table, policy, verb, text, body),
     }
+}
+
+/// The reply to the call of a verb.
+fn asked<T: ZoneTable>(
+    alloc: Global,
+    table: &mut T,
+    policy: &Policy,
+    verb: &str,
+    text: &[u8],
+    body: &[u8],
+) -> Result<Vec<u8>> {
+    replied(alloc, table, policy, &call(alloc, verb, text, body)?)
 }
 
 /// The records of a master file.

@@ -11,7 +11,7 @@ use anyhow::{Result, bail};
 use office_rows::is_state;
 use office_sql::AllRows;
 use std::alloc::{AllocError, Global};
-use test_rows::{Answers, Row, text_of};
+use test_rows::{Answers, Row, push_unanswered, text_of};
 
 /// The lines of the rows that are kept.
 #[derive(Drop)]
@@ -26,12 +26,8 @@ impl Answers for Kept {
         row: &Row<'_>,
         answer: &mut Vec<u8>,
     ) -> Result<(), AllocError> {
-        match self.answer_to(alloc, row, answer) {
-            Ok(()) => Ok(()),
-            Err(fault) => {
-                answer.extend_from_slice(format!(in alloc; "not answered: {fault}")?.as_bytes())
-            }
-        }
+        let answered = self.answer_to(alloc, row, answer);
+        push_unanswered(alloc, answered, answer)
     }
 }
 
@@ -55,24 +51,28 @@ impl Kept {
 
     fn answer_to(&mut self, alloc: Global, row: &Row<'_>, answer: &mut Vec<u8>) -> Result<()> {
         match row.verb {
-            "rows" => {
-                self.lines = Vec::from_slice(alloc, &row.body)?;
-                Ok(())
-            }
-            "state" | "also" | "without" => {
-                let rows = self.rows(alloc, row)?;
-                push_is_state(alloc, row, &rows, answer)
-            }
-            "reversed" => {
-                let rows = self.reversed(alloc, row)?;
-                push_is_state(alloc, row, &rows, answer)
-            }
+            "rows" => self.keep(alloc, &row.body),
+            "state" | "also" | "without" => self.push_state(alloc, row, answer),
+            "reversed" => self.push_reversed(alloc, row, answer),
             "addition" => push_addition(alloc, row, answer),
             "new-zone" => push_new_zone(alloc, row, answer),
             "replacement" => push_replacement(alloc, row, answer),
             "zone" | "part" | "subtree" | "receipt" | "changes" => push_read(alloc, row, answer),
             _ => bail!("no such verb"),
         }
+    }
+
+    fn keep(&mut self, alloc: Global, lines: &[u8]) -> Result<()> {
+        self.lines = Vec::from_slice(alloc, lines)?;
+        Ok(())
+    }
+
+    fn push_state(&self, alloc: Global, row: &Row<'_>, answer: &mut Vec<u8>) -> Result<()> {
+        push_is_state(alloc, row, &self.rows(alloc, row)?, answer)
+    }
+
+    fn push_reversed(&self, alloc: Global, row: &Row<'_>, answer: &mut Vec<u8>) -> Result<()> {
+        push_is_state(alloc, row, &self.reversed(alloc, row)?, answer)
     }
 
     /// The rows that are kept, with those of a body behind them, or without those.

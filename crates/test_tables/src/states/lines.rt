@@ -25,15 +25,38 @@ pub fn no_rows(alloc: Global) -> AllRows {
 pub fn push_row(alloc: Global, line: &str, rows: &mut AllRows) -> Result<()> {
     let (table, text) = word(line);
     match table {
-        "version" => rows.versions.push(text.parse()?)?,
-        "zone" => rows.zones.push(ZoneRow {
-            origin: String::from_str(alloc, text)?,
-        })?,
-        "record" => rows.records.push(record_row(alloc, text)?)?,
-        "change" => rows.changes.push(change_row(alloc, text)?)?,
-        "receipt" => rows.receipts.push(receipt_row(alloc, text)?)?,
+        "version" => push_version(text, &mut rows.versions),
+        "zone" => push_zone(alloc, text, &mut rows.zones),
+        "record" => push_record_row(alloc, text, &mut rows.records),
+        "change" => push_change_row(alloc, text, &mut rows.changes),
+        "receipt" => push_receipt_row(alloc, text, &mut rows.receipts),
         _ => bail!("there is no such table"),
     }
+}
+
+fn push_version(text: &str, versions: &mut Vec<i64>) -> Result<()> {
+    versions.push(text.parse()?)?;
+    Ok(())
+}
+
+fn push_zone(alloc: Global, text: &str, zones: &mut Vec<ZoneRow>) -> Result<()> {
+    let origin = String::from_str(alloc, text)?;
+    zones.push(ZoneRow { origin })?;
+    Ok(())
+}
+
+fn push_record_row(alloc: Global, text: &str, rows: &mut Vec<RecordRow>) -> Result<()> {
+    rows.push(record_row(alloc, text)?)?;
+    Ok(())
+}
+
+fn push_change_row(alloc: Global, text: &str, rows: &mut Vec<ChangeRow>) -> Result<()> {
+    rows.push(change_row(alloc, text)?)?;
+    Ok(())
+}
+
+fn push_receipt_row(alloc: Global, text: &str, rows: &mut Vec<ReceiptRow>) -> Result<()> {
+    rows.push(receipt_row(alloc, text)?)?;
     Ok(())
 }
 

@@ -48,17 +48,17 @@ fn push_fault(alloc: Global, fault: RowFault, answer: &mut Vec<u8>) -> Result<()
 
 /// Appends what is read of the rows of a body.
 pub fn push_read(alloc: Global, row: &Row<'_>, answer: &mut Vec<u8>) -> Result<()> {
-    let AllRows {
-        records,
-        receipts,
-        changes,
-        ..
-    } = rows_of(alloc, &row.body)?;
     match row.verb {
-        "zone" | "part" => push_zone_at(alloc, row, &records, answer),
-        "subtree" => Ok(push_subtree(alloc, &records, answer)?),
-        "receipt" => Ok(push_receipt(alloc, &receipts, answer)?),
-        _ => Ok(push_read_changes(alloc, changes, answer)?),
+        "changes" => push_read_changes(alloc, row, answer),
+        _ => push_read_of(alloc, row, &rows_of(alloc, &row.body)?, answer),
+    }
+}
+
+fn push_read_of(alloc: Global, row: &Row<'_>, rows: &AllRows, answer: &mut Vec<u8>) -> Result<()> {
+    match row.verb {
+        "zone" | "part" => push_zone_at(alloc, row, &rows.records, answer),
+        "subtree" => Ok(push_subtree(alloc, &rows.records, answer)?),
+        _ => Ok(push_receipt(alloc, &rows.receipts, answer)?),
     }
 }
 
@@ -96,7 +96,12 @@ fn push_receipt(
     }
 }
 
-fn push_read_changes(
+fn push_read_changes(alloc: Global, row: &Row<'_>, answer: &mut Vec<u8>) -> Result<()> {
+    let AllRows { changes, .. } = rows_of(alloc, &row.body)?;
+    Ok(push_changes_of(alloc, changes, answer)?)
+}
+
+fn push_changes_of(
     alloc: Global,
     rows: Vec<ChangeRow>,
     answer: &mut Vec<u8>,
