@@ -12,12 +12,12 @@ use test_rows::{Row, word};
 use zone_core::{ChildServer, DelegationRequest, Update, delegation_update};
 
 /// The absolute name that a text spells.
-pub(crate) fn name(alloc: Global, text: &[u8]) -> Result<Name> {
+pub fn name(alloc: Global, text: &[u8]) -> Result<Name> {
     Ok(Name::read_absolute(alloc, text)?)
 }
 
 /// The identifier that a text spells.
-pub(crate) fn identifier(alloc: Global, text: &[u8]) -> Result<Identifier> {
+pub fn identifier(alloc: Global, text: &[u8]) -> Result<Identifier> {
     Ok(Identifier::read(alloc, text)?)
 }
 
@@ -27,7 +27,7 @@ pub fn call_of(alloc: Global, row: &Row<'_>) -> Result<Call> {
 }
 
 /// The call of a verb, of what stands behind it, and of the lines below.
-pub(crate) fn call(alloc: Global, verb: &str, text: &[u8], body: &[u8]) -> Result<Call> {
+pub fn call(alloc: Global, verb: &str, text: &[u8], body: &[u8]) -> Result<Call> {
     let (caller, rest) = word(text);
     Ok(Call {
         caller: identifier(alloc, caller)?,

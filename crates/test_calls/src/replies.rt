@@ -20,7 +20,7 @@ fn push_line(text: &str, told: &mut Vec<u8>) -> Result<(), AllocError> {
 }
 
 /// Appends a line for each record, behind a sign.
-pub(crate) fn push_records(
+pub fn push_records(
     alloc: Global,
     sign: &str,
     records: &[Record],

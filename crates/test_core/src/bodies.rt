@@ -19,11 +19,29 @@ pub fn push_answer(alloc: Global, row: &Row<'_>, answer: &mut Vec<u8>) -> Result
 
 fn answer_to(alloc: Global, row: &Row<'_>, answer: &mut Vec<u8>) -> Result<(), BodyFault> {
     match row.verb {
-        "update" | "delegation" => push_body(alloc, &body_of(alloc, row)?, answer),
-        "update-size" | "delegation-size" => push_size(alloc, &body_of(alloc, row)?, answer),
+        "update" | "delegation" | "update-size" | "delegation-size" => {
+            push_update(alloc, row, answer)
+        }
         "refusals" => push_refusals(row, answer),
         "no-memory" => Err(BodyFault::NoMemory),
         _ => push_reply(alloc, row, answer),
+    }
+}
+
+/// Appends what a row asks of the body that it reads.
+fn push_update(alloc: Global, row: &Row<'_>, answer: &mut Vec<u8>) -> Result<(), BodyFault> {
+    push_of_body(alloc, row.verb, &body_of(alloc, row)?, answer)
+}
+
+fn push_of_body(
+    alloc: Global,
+    verb: &str,
+    body: &UpdateBody,
+    answer: &mut Vec<u8>,
+) -> Result<(), BodyFault> {
+    match verb {
+        "update" | "delegation" => push_body(alloc, body, answer),
+        _ => push_size(alloc, body, answer),
     }
 }
 

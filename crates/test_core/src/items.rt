@@ -2,11 +2,10 @@
 
 mod lines;
 mod points;
-mod refusal;
 
 use crate::items::lines::{push_items, push_many};
 use crate::items::points::{push_denial, push_points};
-use crate::items::refusal::Refusal;
+use crate::refusal::Refusal;
 use grant_policy::{Policy, read_policy};
 use item_lines::ItemsFault;
 use std::alloc::{AllocError, Global};

@@ -1,5 +1,6 @@
-//! Names, record data, master files, policies, zones, items of updates and JSON bodies, by rows: outside vectors and worked examples,
-//! whose wanted values come from the standards, from the formats, or from hand. `section NAME` says what the rows below are about.
+//! Names, record data, master files, policies, zones, items of updates, JSON bodies, and commands that need no store, by rows: outside
+//! vectors and worked examples, whose wanted values come from the standards, from the formats, or from hand. `section NAME` says what
+//! the rows below are about.
 //!
 //! `names`, `data` and `files`: of these rows the crate `test_dns` tells.
 //!
@@ -31,13 +32,25 @@
 //! `NUMBER|REMOVED|ADDED` of such items; `delegations`, with lines `CHILD|GLUE SERVER|..`; and `refusals FORMERR REFUSAL` prints the
 //! bodies of two refusals behind each other.
 //!
+//! `commands`: `apply`, `canon ORIGIN`, `canon-relative ORIGIN`, `rights CALLER|NAME|TYPE|ACTION`, `check` and `explain NUMBER|FORM`
+//! give the body to the command, and print what it prints, and its exit status with the words of the refusal. In front of a command
+//! stands `many`, where each line of the body has before it how often it comes; `pieces N`, where the devices move at most N octets a
+//! call; `reads N COUNT` or `writes N COUNT`, where they do and so many of the calls fail, each in a run of its own.
+//! `heads NUMBER|..` prints the first lines of what `explain` prints of each number.
+//!
+//! `words`: in a row the words of the command line have bars between them, and a verb alone has no words. `job WORDS` prints the job
+//! that they ask for, or `help` or `misused`; `text WORDS` prints what is told where they ask for none.
+//!
 //! A refusal is answered by its number and its line, if it has them, and its words, and in each section `no-memory` prints that one.
 #![tactic(auto)]
 
 mod bodies;
+mod commands;
 mod items;
 mod policies;
+mod refusal;
 mod sections;
+mod words;
 mod zones;
 
 use std::io;

@@ -1,9 +1,8 @@
 mod idle;
-mod row_fault;
 mod rules;
 
 use crate::policies::idle::idle;
-use crate::policies::row_fault::Fault;
+use crate::refusal::Refusal;
 use dns_data::RecordType;
 use dns_names::Name;
 use grant_policy::{
@@ -11,7 +10,7 @@ use grant_policy::{
     read_policy,
 };
 use std::alloc::{AllocError, Global};
-use test_rows::{Answers, Row, word};
+use test_rows::{Answers, Row, number, word};
 
 /// Answers to rows of policies, with the policy that is kept.
 #[derive(Drop)]
@@ -25,7 +24,7 @@ impl Policies {
         Policies { kept: None }
     }
 
-    fn answer_to(&mut self, alloc: Global, row: &Row<'_>) -> Result<String, Fault> {
+    fn answer_to(&mut self, alloc: Global, row: &Row<'_>) -> Result<String, Refusal> {
         let (first, rest) = row.split();
         match row.verb {
             "policy" | "many" | "build" => self.keep(alloc, row),
@@ -34,29 +33,29 @@ impl Policies {
             "identifier" => identifier(alloc, &row.text),
             "identifiers" => identifiers(alloc, first, rest),
             "effect" | "scope" | "action" => told(alloc, word_text(row.verb, &row.text)),
-            "no-memory" => Err(Fault::Policy(PolicyFault::NoMemory)),
+            "no-memory" => Err(Refusal::Policy(PolicyFault::NoMemory)),
             _ => told(alloc, "no such verb"),
         }
     }
 
     /// Keeps the policy of a row, or none where it is refused.
-    fn keep(&mut self, alloc: Global, row: &Row<'_>) -> Result<String, Fault> {
+    fn keep(&mut self, alloc: Global, row: &Row<'_>) -> Result<String, Refusal> {
         self.kept = None;
         self.kept = Some(policy_of(alloc, row)?);
         told(alloc, "read")
     }
 
     /// What a row asks of the policy that is kept.
-    fn ask(&self, alloc: Global, row: &Row<'_>) -> Result<String, Fault> {
+    fn ask(&self, alloc: Global, row: &Row<'_>) -> Result<String, Refusal> {
         match &self.kept {
             Some(policy) => answer_of(alloc, policy, row),
-            None => Err(Fault::NoPolicy),
+            None => Err(Refusal::Row),
         }
     }
 }
 
 /// The policy of a row.
-fn policy_of(alloc: Global, row: &Row<'_>) -> Result<Policy, Fault> {
+fn policy_of(alloc: Global, row: &Row<'_>) -> Result<Policy, Refusal> {
     match row.verb {
         "many" => numbered_policy(alloc, row),
         "build" => built_policy(alloc, row),
@@ -64,18 +63,18 @@ fn policy_of(alloc: Global, row: &Row<'_>) -> Result<Policy, Fault> {
     }
 }
 
-fn numbered_policy(alloc: Global, row: &Row<'_>) -> Result<Policy, Fault> {
+fn numbered_policy(alloc: Global, row: &Row<'_>) -> Result<Policy, Refusal> {
     let text = numbered(alloc, &row.body, row.split().0)?;
     Ok(read_policy(alloc, &text)?)
 }
 
-fn built_policy(alloc: Global, row: &Row<'_>) -> Result<Policy, Fault> {
+fn built_policy(alloc: Global, row: &Row<'_>) -> Result<Policy, Refusal> {
     let rules = rules::rules(alloc, &row.body)?;
     Ok(Policy::build(alloc, rules)?)
 }
 
 /// What a row asks of a policy.
-fn answer_of(alloc: Global, policy: &Policy, row: &Row<'_>) -> Result<String, Fault> {
+fn answer_of(alloc: Global, policy: &Policy, row: &Row<'_>) -> Result<String, Refusal> {
     let (first, rest) = row.split();
     match row.verb {
         "decide" => decision(alloc, policy, first, rest),
@@ -87,9 +86,18 @@ fn answer_of(alloc: Global, policy: &Policy, row: &Row<'_>) -> Result<String, Fa
 /// The text of a word that is read as an effect, a scope or an action.
 fn word_text(verb: &str, text: &[u8]) -> &'static str {
     match verb {
-        "effect" => Effect::read(text).map_or("none", |effect| effect.text()),
-        "scope" => Scope::read(text).map_or("none", |scope| scope.text()),
-        _ => Action::read(text).map_or("none", |action| action.text()),
+        "effect" => match Effect::read(text) {
+            Some(effect) => effect.text(),
+            None => "none",
+        },
+        "scope" => match Scope::read(text) {
+            Some(scope) => scope.text(),
+            None => "none",
+        },
+        _ => match Action::read(text) {
+            Some(action) => action.text(),
+            None => "none",
+        },
     }
 }
 
@@ -102,27 +110,23 @@ impl Answers for Policies {
     ) -> Result<(), AllocError> {
         let told = match self.answer_to(alloc, row) {
             Ok(told) => told,
-            Err(fault) => fault.to_string(alloc)?,
+            Err(refusal) => refusal.text(alloc)?,
         };
         answer.extend_from_slice(told.as_bytes())
     }
 }
 
-fn told(alloc: Global, text: &str) -> Result<String, Fault> {
+fn told(alloc: Global, text: &str) -> Result<String, Refusal> {
     Ok(String::from_str(alloc, text)?)
 }
 
 /// A text so many times, where `#` stands for the number of each time, from 0.
 fn numbered(alloc: Global, text: &[u8], times: &[u8]) -> Result<Vec<u8>, AllocError> {
     let mut all = Vec::new(alloc);
-    for number in 0..times_of(times).unwrap_or(0) {
-        push_numbered(alloc, text, number, &mut all)?;
+    for time in 0..number(times).unwrap_or(0) {
+        push_numbered(alloc, text, time, &mut all)?;
     }
     Ok(all)
-}
-
-fn times_of(digits: &[u8]) -> Option<usize> {
-    str::from_utf8(digits).ok()?.parse().ok()
 }
 
 fn push_numbered(
@@ -146,7 +150,7 @@ fn push_octet(octet: u8, number: &[u8], all: &mut Vec<u8>) -> Result<(), AllocEr
 }
 
 /// The decision on what `CALLER NAME TYPE ACTION` asks.
-fn decision(alloc: Global, policy: &Policy, caller: &[u8], rest: &[u8]) -> Result<String, Fault> {
+fn decision(alloc: Global, policy: &Policy, caller: &[u8], rest: &[u8]) -> Result<String, Refusal> {
     let caller = Identifier::read(alloc, caller)?;
     let (name, rest) = word(rest);
     decision_for(
@@ -164,10 +168,10 @@ fn decision_for(
     caller: &Identifier,
     name: &Name,
     rest: &[u8],
-) -> Result<String, Fault> {
+) -> Result<String, Refusal> {
     let (record_type, action) = word(rest);
     let record_type = RecordType::read(record_type)?;
-    let action = Action::read(action).ok_or(Fault::Word)?;
+    let action = Action::read(action).ok_or(Refusal::Row)?;
     let mut look_ups = LookUps::new();
     let decision = decide(policy, caller, name, record_type, action, &mut look_ups);
     let verdict = if decision.is_granted() {
@@ -179,13 +183,13 @@ fn decision_for(
     Ok(format!(in alloc; "{verdict} by {rule}")?)
 }
 
-fn rights(alloc: Global, policy: &Policy, caller: &[u8], name: &[u8]) -> Result<String, Fault> {
+fn rights(alloc: Global, policy: &Policy, caller: &[u8], name: &[u8]) -> Result<String, Refusal> {
     let caller = Identifier::read(alloc, caller)?;
     let has_some = has_any_right(policy, &caller, &Name::read_absolute(alloc, name)?);
     told(alloc, if has_some { "some" } else { "none" })
 }
 
-fn covering(alloc: Global, at: &[u8], name: &[u8]) -> Result<String, Fault> {
+fn covering(alloc: Global, at: &[u8], name: &[u8]) -> Result<String, Refusal> {
     let at = Name::read_absolute(alloc, at)?;
     Ok(covering_text(alloc, &at, &Name::read_absolute(alloc, name)?)?)
 }
@@ -198,11 +202,11 @@ fn covering_text(alloc: Global, at: &Name, name: &Name) -> Result<String, AllocE
 }
 
 /// The text of an identifier, whose copy has to be equal.
-fn identifier(alloc: Global, text: &[u8]) -> Result<String, Fault> {
+fn identifier(alloc: Global, text: &[u8]) -> Result<String, Refusal> {
     copied(alloc, &Identifier::read(alloc, text)?)
 }
 
-fn copied(alloc: Global, identifier: &Identifier) -> Result<String, Fault> {
+fn copied(alloc: Global, identifier: &Identifier) -> Result<String, Refusal> {
     let copy = identifier.try_copy(alloc)?;
     if copy == *identifier {
         told(
@@ -214,7 +218,7 @@ fn copied(alloc: Global, identifier: &Identifier) -> Result<String, Fault> {
     }
 }
 
-fn identifiers(alloc: Global, one: &[u8], other: &[u8]) -> Result<String, Fault> {
+fn identifiers(alloc: Global, one: &[u8], other: &[u8]) -> Result<String, Refusal> {
     let one = Identifier::read(alloc, one)?;
     let is_same = one == Identifier::read(alloc, other)?;
     told(alloc, if is_same { "same" } else { "different" })

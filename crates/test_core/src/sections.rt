@@ -1,7 +1,7 @@
-use crate::bodies;
 use crate::items::Items;
 use crate::policies::Policies;
 use crate::zones::Zones;
+use crate::{bodies, commands, words};
 use std::alloc::{AllocError, Global};
 use test_dns::{Records, push_file_answer, push_name_answer};
 use test_rows::{Answers, Row};
@@ -16,6 +16,8 @@ enum Section {
     Zones,
     Items,
     Bodies,
+    Commands,
+    Words,
 }
 
 /// Answers to rows of the section that is open.
@@ -50,6 +52,8 @@ impl Sections {
             b"zones" => Section::Zones,
             b"items" => Section::Items,
             b"bodies" => Section::Bodies,
+            b"commands" => Section::Commands,
+            b"words" => Section::Words,
             _ => return answer.extend_from_slice(b"no such section"),
         };
         Ok(())
@@ -74,6 +78,8 @@ impl Answers for Sections {
             Section::Zones => self.zones.answer(alloc, row, answer),
             Section::Items => self.items.answer(alloc, row, answer),
             Section::Bodies => bodies::push_answer(alloc, row, answer),
+            Section::Commands => commands::push_answer(alloc, row, answer),
+            Section::Words => words::push_answer(alloc, row, answer),
         }
     }
 }

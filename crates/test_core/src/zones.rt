@@ -4,19 +4,16 @@ mod delegations;
 mod differences;
 mod lines;
 mod parsed_rows;
-mod refusal;
 mod serials;
 mod updates;
 
+use crate::refusal::Refusal;
 use crate::zones::delegations::{push_count, push_delegation, push_report};
 use crate::zones::differences::push_difference;
 use crate::zones::lines::{push, push_name, push_number, push_records};
 use crate::zones::parsed_rows::{file, name, record_type};
-use crate::zones::refusal::Refusal;
 use crate::zones::serials::{push_less, push_sum};
-use crate::zones::updates::{
-    push_after, push_change, push_outside, push_same, push_serial_after, push_update, push_verdict,
-};
+use crate::zones::updates::{push_outside, push_same, push_update, push_with_update};
 use dns_data::{Record, record_line};
 use dns_names::Name;
 use std::alloc::{AllocError, Global};
@@ -78,10 +75,9 @@ fn answer_of_zone(
         "tells" => push_told(alloc, zone, answer),
         "at" | "set" | "within" => push_listed(alloc, zone, row, answer),
         "report" => push_report(alloc, zone, answer),
-        "holds" => push_verdict(alloc, zone, &row.body, answer),
-        "change" => push_change(alloc, zone, &row.body, answer),
-        "after" => push_after(alloc, zone, &row.body, answer),
-        "serial-after" => push_serial_after(alloc, zone, &row.body, answer),
+        "holds" | "change" | "after" | "serial-after" => {
+            push_with_update(alloc, zone, row, answer)
+        }
         "to" => push_difference_to(alloc, zone, row, answer),
         _ => answer_without_zone(alloc, row, answer),
     }
@@ -100,7 +96,7 @@ fn push_difference_to(
 fn answer_without_zone(alloc: Global, row: &Row<'_>, answer: &mut Vec<u8>) -> Result<(), Refusal> {
     let (first, rest) = row.split();
     match row.verb {
-        "build" => push_records(alloc, built(alloc, row)?.records(), answer),
+        "build" => push_built(alloc, row, answer),
         "read" => push_update(alloc, &row.body, answer),
         "outside" => push_outside(alloc, first, &row.body, answer),
         "same" => push_same(alloc, &row.text, &row.body, answer),
@@ -112,6 +108,10 @@ fn answer_without_zone(alloc: Global, row: &Row<'_>, answer: &mut Vec<u8>) -> Re
         "no-memory" => Err(Refusal::Delegation(DelegationFault::NoMemory)),
         _ => push("no such verb", answer),
     }
+}
+
+fn push_built(alloc: Global, row: &Row<'_>, answer: &mut Vec<u8>) -> Result<(), Refusal> {
+    push_records(alloc, built(alloc, row)?.records(), answer)
 }
 
 /// The zone of a row's origin and record lines.

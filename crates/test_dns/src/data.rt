@@ -4,7 +4,7 @@ use dns_data::{Data, DataFault, Record, RecordType, Ttl, data_text};
 use dns_names::Name;
 use std::alloc::{AllocError, Global};
 use std::net::{Ipv4Addr, Ipv6Addr};
-use test_rows::{Answers, Row, word};
+use test_rows::{Answers, Row, text_of, word};
 
 /// Answers to rows of record data, with the records that are ranked so far.
 #[derive(Drop)]
@@ -28,10 +28,9 @@ impl Records {
             "data" => read_again(alloc, &row.text, None),
             "data-at" => data_at(alloc, &row.text),
             "count" => counted(alloc, &row.text),
-            "ipv4" => text_of(alloc, &ipv4(&row.text)),
-            "ipv6" => text_of(alloc, &ipv6(&row.text)),
+            "ipv4" | "ipv6" => address(alloc, row),
             "line" => line(alloc, &row.text),
-            "same" => told(alloc, sameness(alloc, &row.body)?),
+            "same" => same(alloc, &row.body),
             "ranked" => rank(alloc, &mut self.ranked, &row.text),
             "no-memory" => Err(DataFault::NoMemory),
             _ => told(alloc, "no such verb"),
@@ -59,13 +58,25 @@ fn told(alloc: Global, text: &str) -> Result<String, DataFault> {
 }
 
 /// The text of data.
-fn text_of(alloc: Global, rdata: &Data) -> Result<String, DataFault> {
+fn data_told(alloc: Global, rdata: &Data) -> Result<String, DataFault> {
     Ok(data_text(alloc, rdata)?)
+}
+
+fn same(alloc: Global, body: &[u8]) -> Result<String, DataFault> {
+    told(alloc, sameness(alloc, body)?)
+}
+
+/// The text of the address of a row.
+fn address(alloc: Global, row: &Row<'_>) -> Result<String, DataFault> {
+    match row.verb {
+        "ipv4" => data_told(alloc, &ipv4(&row.text)),
+        _ => data_told(alloc, &ipv6(&row.text)),
+    }
 }
 
 /// The text of the data that `TYPE ITEMS` writes.
 fn read_again(alloc: Global, text: &[u8], origin: Option<&Name>) -> Result<String, DataFault> {
-    text_of(alloc, &data(alloc, text, origin)?)
+    data_told(alloc, &data(alloc, text, origin)?)
 }
 
 fn type_answer(alloc: Global, text: &[u8]) -> Result<String, DataFault> {
@@ -74,21 +85,21 @@ fn type_answer(alloc: Global, text: &[u8]) -> Result<String, DataFault> {
 }
 
 fn numbered(alloc: Global, number: &[u8]) -> Result<String, DataFault> {
-    let record_type = decimal(number).and_then(RecordType::from_number);
-    let text = record_type.map_or("none", RecordType::text);
-    Ok(String::from_str(alloc, text)?)
+    match decimal(number) {
+        Some(number) => told(alloc, type_text(RecordType::from_number(number))),
+        None => told(alloc, "none"),
+    }
+}
+
+fn type_text(record_type: Option<RecordType>) -> &'static str {
+    match record_type {
+        Some(record_type) => record_type.text(),
+        None => "none",
+    }
 }
 
 fn decimal(text: &[u8]) -> Option<u16> {
-    str::from_utf8(text).ok()?.parse().ok()
-}
-
-fn decimal_octet(text: &[u8]) -> Option<u8> {
-    str::from_utf8(text).ok()?.parse().ok()
-}
-
-fn hexadecimal(text: &[u8]) -> Option<u16> {
-    u16::from_str_radix(str::from_utf8(text).ok()?, 16).ok()
+    text_of(text).parse().ok()
 }
 
 fn ttl(alloc: Global, text: &[u8]) -> Result<String, DataFault> {
@@ -102,14 +113,14 @@ fn data_at(alloc: Global, text: &[u8]) -> Result<String, DataFault> {
 }
 
 fn counted(alloc: Global, text: &[u8]) -> Result<String, DataFault> {
-    Ok(count(alloc, &data(alloc, text, None)?)?)
+    count(alloc, &data(alloc, text, None)?)
 }
 
-fn count(alloc: Global, rdata: &Data) -> Result<String, AllocError> {
+fn count(alloc: Global, rdata: &Data) -> Result<String, DataFault> {
     match rdata {
-        Data::Txt(strings) => format!(in alloc; "{} strings", strings.as_slice().len()),
-        Data::Ds { digest, .. } => format!(in alloc; "{} octets", digest.octets().len()),
-        _ => String::from_str(alloc, "neither strings nor a digest"),
+        Data::Txt(strings) => Ok(format!(in alloc; "{} strings", strings.as_slice().len())?),
+        Data::Ds { digest, .. } => Ok(format!(in alloc; "{} octets", digest.octets().len())?),
+        _ => told(alloc, "neither strings nor a digest"),
     }
 }
 
@@ -119,7 +130,7 @@ fn ipv4(text: &[u8]) -> Data {
     let mut rest = text;
     for octet in &mut octets {
         let (first, behind) = word(rest);
-        *octet = decimal_octet(first).unwrap_or(0);
+        *octet = text_of(first).parse().unwrap_or(0);
         rest = behind;
     }
     Data::A(Ipv4Addr::from(octets))
@@ -131,7 +142,7 @@ fn ipv6(text: &[u8]) -> Data {
     let mut rest = text;
     for group in &mut groups {
         let (first, behind) = word(rest);
-        *group = hexadecimal(first).unwrap_or(0);
+        *group = u16::from_str_radix(text_of(first), 16).unwrap_or(0);
         rest = behind;
     }
     Data::Aaaa(Ipv6Addr::from(groups))

@@ -1,7 +1,7 @@
 use dns_data::{Data, DataFault, Item, Record, RecordType, Ttl, read_data};
 use dns_names::Name;
 use std::alloc::{AllocError, Global};
-use test_rows::word;
+use test_rows::{text_of, word};
 
 /// The items of a text that has one space between them.
 fn items(alloc: Global, text: &[u8]) -> Result<Vec<Item<'_>>, AllocError> {
@@ -9,13 +9,17 @@ fn items(alloc: Global, text: &[u8]) -> Result<Vec<Item<'_>>, AllocError> {
     if text.is_empty() {
         return Ok(items);
     }
-    for piece in text.split(|octet| *octet == b' ') {
-        items.push(match piece {
-            [b'"', raw @ .., b'"'] => Item { raw, quoted: true },
-            raw => Item { raw, quoted: false },
-        })?;
+    for piece in text_of(text).split(' ') {
+        items.push(item(piece.as_bytes()))?;
     }
     Ok(items)
+}
+
+fn item(piece: &[u8]) -> Item<'_> {
+    match piece {
+        [b'"', raw @ .., b'"'] => Item { raw, quoted: true },
+        raw => Item { raw, quoted: false },
+    }
 }
 
 /// The data that `TYPE ITEMS` writes.

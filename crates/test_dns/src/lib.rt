@@ -15,12 +15,15 @@
 //! `files`: the body of a row is a master file. `tokens` prints its items, each as `ITEM@START:LINE:ENTRY`, with its quotes if it
 //! has them; `entries` counts its items, and those of each entry with its line; `file ORIGIN` prints the lines of its records;
 //! `print N ORIGIN` prints them as a zone, N octets at a time, and reads them again; and `print-records N ORIGIN` prints only the
-//! lines. A refusal is printed as its number, with those of the faults inside it, its line, and its words.
+//! lines. `failing N CALL ORIGIN` and `failing-records N CALL ORIGIN` print what goes out, up to a bar, where the write of that number
+//! fails, and `long N CALL TIMES` how much of a zone of one line so many times. `read N CALL` and `write N CALL` print what a device
+//! gives or takes of the body. A refusal is printed as its number, with those of the faults inside it, its line, and its words.
 //!
 //! In each section `no-memory` prints that refusal.
 #![tactic(auto)]
 
 mod data;
+mod devices;
 mod files;
 mod items;
 mod names;

@@ -1,7 +1,7 @@
 use dns_names::{KeyRange, Name, NameFault, Symbol, first_symbol};
 use std::alloc::{AllocError, Global};
 use std::cmp::Ordering;
-use test_rows::Row;
+use test_rows::{Row, number, text_of};
 
 /// Appends the answer to a row of names.
 pub fn push_name_answer(
@@ -19,11 +19,8 @@ fn answer_to(alloc: Global, row: &Row<'_>, answer: &mut Vec<u8>) -> Result<(), N
     let (first, rest) = row.split();
     match row.verb {
         "absolute" | "labels" | "parents" | "key" => push_told(alloc, row, answer),
-        "relative" => push_relative(alloc, first, rest, answer),
-        "print-relative" => push_printed(alloc, first, rest, answer),
+        "relative" | "print-relative" | "within" | "range" => push_of_two(alloc, row, answer),
         "ancestor-key" => push_ancestor_key(alloc, first, rest, answer),
-        "within" => push_place(alloc, first, rest, answer),
-        "range" => push_range(alloc, first, rest, answer),
         "order" => push_order(alloc, Order::Canonical, &row.body, answer),
         "text-order" => push_order(alloc, Order::ByText, &row.body, answer),
         "symbol" => push_symbol(alloc, &row.text, answer),
@@ -88,28 +85,48 @@ fn push_whether_same(again: &Name, name: &Name, answer: &mut Vec<u8>) -> Result<
     push(", which is another name", answer)
 }
 
-fn push_relative(
+/// Appends what a row asks of its name and of the one behind that.
+fn push_of_two(alloc: Global, row: &Row<'_>, answer: &mut Vec<u8>) -> Result<(), NameFault> {
+    let (first, second) = row.split();
+    let first = Name::read_absolute(alloc, first)?;
+    push_of_second(alloc, row.verb, &first, second, answer)
+}
+
+fn push_of_second(
     alloc: Global,
-    origin: &[u8],
-    text: &[u8],
+    verb: &str,
+    first: &Name,
+    second: &[u8],
     answer: &mut Vec<u8>,
 ) -> Result<(), NameFault> {
-    let origin = Name::read_absolute(alloc, origin)?;
-    push_name(alloc, &Name::read_relative(alloc, text, &origin)?, answer)
+    if verb == "relative" {
+        return push_name(alloc, &Name::read_relative(alloc, second, first)?, answer);
+    }
+    push_of_names(
+        alloc,
+        verb,
+        first,
+        &Name::read_absolute(alloc, second)?,
+        answer,
+    )
+}
+
+fn push_of_names(
+    alloc: Global,
+    verb: &str,
+    first: &Name,
+    second: &Name,
+    answer: &mut Vec<u8>,
+) -> Result<(), NameFault> {
+    match verb {
+        "print-relative" => push_printed(alloc, first, second, answer),
+        "range" => push_range(alloc, first, second, answer),
+        _ => push(place(first, second), answer),
+    }
 }
 
 /// Appends the text of a name relative to an origin, which has to be the same name again.
 fn push_printed(
-    alloc: Global,
-    origin: &[u8],
-    text: &[u8],
-    answer: &mut Vec<u8>,
-) -> Result<(), NameFault> {
-    let origin = Name::read_absolute(alloc, origin)?;
-    push_printed_at(alloc, &origin, &Name::read_absolute(alloc, text)?, answer)
-}
-
-fn push_printed_at(
     alloc: Global,
     origin: &Name,
     name: &Name,
@@ -172,29 +189,19 @@ fn push_ancestor_key(
     push_ancestor_key_of(&Name::read_absolute(alloc, name)?, number(labels), answer)
 }
 
-fn number(digits: &[u8]) -> Option<usize> {
-    str::from_utf8(digits).ok()?.parse().ok()
-}
-
 fn push_ancestor_key_of(
     name: &Name,
     labels: Option<usize>,
     answer: &mut Vec<u8>,
 ) -> Result<(), NameFault> {
-    match labels.and_then(|labels| name.ancestor_key(labels)) {
+    let key = match labels {
+        Some(labels) => name.ancestor_key(labels),
+        None => None,
+    };
+    match key {
         Some(key) => Ok(answer.extend_from_slice(key)?),
         None => push("none", answer),
     }
-}
-
-fn push_place(
-    alloc: Global,
-    name: &[u8],
-    top: &[u8],
-    answer: &mut Vec<u8>,
-) -> Result<(), NameFault> {
-    let name = Name::read_absolute(alloc, name)?;
-    push(place(&name, &Name::read_absolute(alloc, top)?), answer)
 }
 
 /// Where a name stands to another.
@@ -208,16 +215,6 @@ fn place(name: &Name, top: &Name) -> &'static str {
 }
 
 fn push_range(
-    alloc: Global,
-    top: &[u8],
-    name: &[u8],
-    answer: &mut Vec<u8>,
-) -> Result<(), NameFault> {
-    let top = Name::read_absolute(alloc, top)?;
-    push_range_of(alloc, &top, &Name::read_absolute(alloc, name)?, answer)
-}
-
-fn push_range_of(
     alloc: Global,
     top: &Name,
     name: &Name,
@@ -281,10 +278,8 @@ fn push_order(
 /// The names of a body, each on a line.
 fn names(alloc: Global, body: &[u8]) -> Result<Vec<Name>, NameFault> {
     let mut names = Vec::new(alloc);
-    for line in body.split(|octet| *octet == b'\n') {
-        if !line.is_empty() {
-            names.push(Name::read_absolute(alloc, line)?)?;
-        }
+    for line in text_of(body).lines() {
+        names.push(Name::read_absolute(alloc, line.as_bytes())?)?;
     }
     Ok(names)
 }
@@ -315,11 +310,19 @@ fn push_symbol(alloc: Global, text: &[u8], answer: &mut Vec<u8>) -> Result<(), N
         return push("no text", answer);
     }
     let (symbol, rest) = first_symbol(text)?;
-    match symbol {
-        Symbol::Dot => push("dot", answer)?,
-        Symbol::Octet(octet) => push(format!(in alloc; "octet {octet}")?.as_str(), answer)?,
-    }
+    push_symbol_itself(alloc, symbol, answer)?;
     push(", before (", answer)?;
     answer.extend_from_slice(rest)?;
     push(")", answer)
+}
+
+fn push_symbol_itself(
+    alloc: Global,
+    symbol: Symbol,
+    answer: &mut Vec<u8>,
+) -> Result<(), NameFault> {
+    match symbol {
+        Symbol::Dot => push("dot", answer),
+        Symbol::Octet(octet) => push(format!(in alloc; "octet {octet}")?.as_str(), answer),
+    }
 }

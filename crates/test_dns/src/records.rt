@@ -1,13 +1,14 @@
 use crate::items::record;
 use dns_data::{DataFault, Record, Ttl, record_line, record_order, same_record};
 use std::alloc::{AllocError, Global};
+use test_rows::text_of;
 
 /// The line of a record, which an equal one in memory of its own has to be the same as.
 pub fn line(alloc: Global, text: &[u8]) -> Result<String, DataFault> {
-    Ok(line_of(alloc, &record(alloc, text)?)?)
+    line_of(alloc, &record(alloc, text)?)
 }
 
-fn line_of(alloc: Global, record: &Record) -> Result<String, AllocError> {
+fn line_of(alloc: Global, record: &Record) -> Result<String, DataFault> {
     let is_same = is_its_copy(alloc, record)?;
     let mut line = record_line(alloc, record)?;
     if !is_same {
@@ -38,10 +39,8 @@ fn sameness_of(records: &[Record]) -> &'static str {
 /// The records of a body, each on a line.
 fn records(alloc: Global, body: &[u8]) -> Result<Vec<Record>, DataFault> {
     let mut records = Vec::new(alloc);
-    for text in body.split(|octet| *octet == b'\n') {
-        if !text.is_empty() {
-            records.push(record(alloc, text)?)?;
-        }
+    for line in text_of(body).lines() {
+        records.push(record(alloc, line.as_bytes())?)?;
     }
     Ok(records)
 }
@@ -56,17 +55,27 @@ pub fn rank(alloc: Global, ranked: &mut Vec<Record>, text: &[u8]) -> Result<Stri
 }
 
 fn rank_behind(alloc: Global, earlier: &[Record], record: &Record) -> Result<String, DataFault> {
-    let ties = ties_with_itself(alloc, record)?;
-    let behind = earlier
-        .iter()
-        .filter(|other| are_in_order(other, record))
-        .count();
-    let before = earlier
-        .iter()
-        .filter(|other| are_in_order(record, other))
-        .count();
-    let end = if ties { "" } else { ", and not beside itself" };
+    let end = if ties_with_itself(alloc, record)? {
+        ""
+    } else {
+        ", and not beside itself"
+    };
+    let (behind, before) = ranks(earlier, record);
     Ok(format!(in alloc; "behind {behind}, before {before}{end}")?)
+}
+
+/// How many records another one stands behind, and how many before.
+fn ranks(earlier: &[Record], record: &Record) -> (usize, usize) {
+    let (mut behind, mut before) = (0usize, 0usize);
+    for other in earlier {
+        if are_in_order(other, record) {
+            behind = behind.saturating_add(1);
+        }
+        if are_in_order(record, other) {
+            before = before.saturating_add(1);
+        }
+    }
+    (behind, before)
 }
 
 /// Whether the first stands before the second, and the second behind the first.

@@ -6,7 +6,7 @@ use crate::given::Given;
 use crate::spoiling::Spoiling;
 use anyhow::Result;
 use std::alloc::{AllocError, Global};
-use test_rows::{Answers, Row};
+use test_rows::{Answers, Row, push_unanswered};
 
 /// What the rows so far have given, and the case that they are about.
 #[derive(Drop)]
@@ -22,12 +22,8 @@ impl Answers for Office {
         row: &Row<'_>,
         answer: &mut Vec<u8>,
     ) -> Result<(), AllocError> {
-        match self.answer_to(alloc, row, answer) {
-            Ok(()) => Ok(()),
-            Err(fault) => {
-                answer.extend_from_slice(format!(in alloc; "not answered: {fault}")?.as_bytes())
-            }
-        }
+        let answered = self.answer_to(alloc, row, answer);
+        push_unanswered(alloc, answered, answer)
     }
 }
 

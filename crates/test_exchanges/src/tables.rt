@@ -8,7 +8,7 @@ use anyhow::{Result, anyhow, bail};
 use office_core::{FailTable, MemTable, TableCall, ZoneTable};
 use office_store::{SqlTable, StoreFault};
 use sqlite::{Alter, Connection, Files};
-use sqlite_disk::{Disk, Memory};
+use sqlite_disk::{Disk, Fuse, Memory};
 use std::alloc::Global;
 use std::marker::Brand;
 use std::sync::ledger::{Blank, Ledger};
@@ -94,10 +94,11 @@ fn over_files<D: Disk + Drop>(
     }
 }
 
-fn empty_files(alloc: Global) -> Files<Memory> {
+/// Two empty files of memory: disks that never stop, since stores on such disks are in the program that has these rows anyway.
+fn empty_files(alloc: Global) -> Files<Fuse<Memory>> {
     Files {
-        log: Memory::new(alloc),
-        db: Memory::new(alloc),
+        log: Fuse::new(Memory::new(alloc), u64::MAX),
+        db: Fuse::new(Memory::new(alloc), u64::MAX),
     }
 }
 

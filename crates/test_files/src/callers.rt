@@ -14,7 +14,7 @@ use std::net::{Shutdown, TcpListener, TcpStream};
 use std::sync::ledger::{Blank, Ledger};
 use std::time::Duration;
 use store_commands::{Connections, JobFault, Undiagnosed, serve_connections};
-use test_rows::{Answers, Row};
+use test_rows::{Answers, Row, push_unanswered};
 
 /// An office, and those who call it.
 #[derive(Drop)]
@@ -31,12 +31,8 @@ impl Answers for Callers<'_> {
         row: &Row<'_>,
         answer: &mut Vec<u8>,
     ) -> Result<(), AllocError> {
-        match self.answer_to(row, answer) {
-            Ok(()) => Ok(()),
-            Err(fault) => {
-                answer.extend_from_slice(format!(in alloc; "not answered: {fault}")?.as_bytes())
-            }
-        }
+        let answered = self.answer_to(row, answer);
+        push_unanswered(alloc, answered, answer)
     }
 }
 

@@ -6,7 +6,7 @@ use anyhow::Result;
 use std::alloc::{AllocError, Global};
 use std::fs;
 use store_commands::do_migrate;
-use test_rows::{Answers, Row};
+use test_rows::{Answers, Row, push_unanswered, text_of};
 
 /// A store and a policy in files, and the machine that has them.
 #[derive(Drop)]
@@ -25,12 +25,8 @@ impl Answers for Files<'_> {
         row: &Row<'_>,
         answer: &mut Vec<u8>,
     ) -> Result<(), AllocError> {
-        match self.answer_to(row, answer) {
-            Ok(()) => Ok(()),
-            Err(fault) => {
-                answer.extend_from_slice(format!(in alloc; "not answered: {fault}")?.as_bytes())
-            }
-        }
+        let answered = self.answer_to(row, answer);
+        push_unanswered(alloc, answered, answer)
     }
 }
 
@@ -48,11 +44,11 @@ impl<'a> Files<'a> {
         match row.verb {
             "files" => self.begin(&row.text),
             "remove" => self.end(),
-            "store" => Ok(fs::write(self.rt, self.store.as_str(), &row.body)?),
-            "policy" => Ok(fs::write(self.rt, self.policy.as_str(), &row.body)?),
+            "store" => write(self.rt, self.store.as_str(), &row.body),
+            "policy" => write(self.rt, self.policy.as_str(), &row.body),
             "comment" => self.write_comment(&row.text),
-            "sql" => execute(self.rt, self.store.as_str(), str::from_utf8(&row.body)?),
-            _ => Ok(answer.extend_from_slice(&self.told(row)?)?),
+            "sql" => execute(self.rt, self.store.as_str(), &row.body),
+            _ => self.push_told(row, answer),
         }
     }
 
@@ -76,18 +72,31 @@ impl<'a> Files<'a> {
         Ok(fs::write(self.rt, self.policy.as_str(), text.as_str())?)
     }
 
+    fn push_told(&self, row: &Row<'_>, answer: &mut Vec<u8>) -> Result<()> {
+        Ok(answer.extend_from_slice(&self.told(row)?)?)
+    }
+
     /// What is told of a row that writes no file itself.
     fn told(&self, row: &Row<'_>) -> Result<Vec<u8>> {
-        let alloc = self.rt.alloc();
         match row.verb {
-            "look" => spelled(alloc, found(self.rt, self.store.as_str())?),
+            "look" => self.look(),
             "pages" => self.pages(),
-            "migrate" => Ok(do_migrate(self.rt, self.store.as_str(), Vec::new(alloc)).0),
-            "serve" => self.served(str::from_utf8(&row.text)?),
-            "listens" => self.without_port(str::from_utf8(&row.text)?),
+            "migrate" => Ok(self.migrated()),
+            "serve" => self.served(text_of(&row.text)),
+            "listens" => self.without_port(text_of(&row.text)),
             "taken" => self.at_taken(),
             _ => zone_told(self.rt, self.store.as_str(), row),
         }
+    }
+
+    /// Whether the store has a file.
+    fn look(&self) -> Result<Vec<u8>> {
+        spelled(self.rt.alloc(), found(self.rt, self.store.as_str())?)
+    }
+
+    /// What `migrate` prints.
+    fn migrated(&self) -> Vec<u8> {
+        do_migrate(self.rt, self.store.as_str(), Vec::new(self.rt.alloc())).0
     }
 
     /// The octets 16 and 17 of a database are the size of its pages.
@@ -117,6 +126,10 @@ impl<'a> Files<'a> {
         let taken = format!(in self.rt.alloc(); "{}", other.local_addr()?)?;
         self.served(taken.as_str())
     }
+}
+
+fn write(rt: &HostRuntime, path: &str, text: &[u8]) -> Result<()> {
+    Ok(fs::write(rt, path, text)?)
 }
 
 fn spelled(alloc: Global, text: &str) -> Result<Vec<u8>> {

@@ -2,7 +2,7 @@
 
 use anyhow::{Result, bail};
 use command_line::{Existing, Service, StoredZone, ZoneForm};
-use sqlite::Connection;
+use sqlite::{Alter, Connection};
 use std::path::PathBuf;
 use std::{env, fs, process};
 use store_commands::{do_export, do_import, do_serve};
@@ -63,8 +63,13 @@ pub fn served(rt: &HostRuntime, store: &str, policy: &str, listen: &str) -> Vec<
 }
 
 /// Runs a script on a store.
-pub fn execute(rt: &HostRuntime, store: &str, script: &str) -> Result<()> {
-    let mut conn = Connection::open(rt, store)?;
+pub fn execute(rt: &HostRuntime, store: &str, script: &[u8]) -> Result<()> {
+    let script = str::from_utf8(script)?;
+    run_on(Connection::open(rt, store)?, script)
+}
+
+fn run_on<S: Alter + Drop>(conn: Connection<S>, script: &str) -> Result<()> {
+    let mut conn = conn;
     Ok(conn.execute_batch(script)?)
 }
 

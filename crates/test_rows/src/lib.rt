@@ -10,6 +10,6 @@ mod answering;
 mod octets;
 mod rows;
 
-pub use answering::{Answers, run};
-pub use octets::{push_octets, push_shown};
-pub use rows::{Row, word};
+pub use answering::{Answers, push_unanswered, run};
+pub use octets::push_repeated;
+pub use rows::{Row, number, text_of, word};

@@ -9,6 +9,16 @@ pub fn word(text: &[u8]) -> (&[u8], &[u8]) {
     }
 }
 
+/// The text of octets, or none where they are not UTF-8.
+pub fn text_of(octets: &[u8]) -> &str {
+    str::from_utf8(octets).unwrap_or("")
+}
+
+/// The number that a text writes in decimal digits, if it is one.
+pub fn number(text: &[u8]) -> Option<usize> {
+    text_of(text).parse().ok()
+}
+
 /// A row: what is asked, and of what.
 #[derive(Drop)]
 pub struct Row<'a> {
@@ -25,7 +35,7 @@ impl<'a> Row<'a> {
     pub fn read(alloc: Global, line: &'a str) -> Result<Self, AllocError> {
         let (verb, rest) = line.split_once(' ').unwrap_or((line, ""));
         let mut text = Vec::new(alloc);
-        push_octets(alloc, rest, &mut text)?;
+        push_octets(rest, &mut text)?;
         Ok(Row {
             verb,
             text,
@@ -34,12 +44,11 @@ impl<'a> Row<'a> {
     }
 
     /// Appends a line, which begins with `|`, to the body.
-    pub fn push_line(&mut self, alloc: Global, line: &str) -> Result<(), AllocError> {
+    pub fn push_line(&mut self, line: &str) -> Result<(), AllocError> {
         match line.strip_prefix("|- ") {
-            Some(text) => push_octets(alloc, text, &mut self.body),
+            Some(text) => push_octets(text, &mut self.body),
             None => {
-                let text = line.strip_prefix("| ").unwrap_or("");
-                push_octets(alloc, text, &mut self.body)?;
+                push_octets(line.strip_prefix("| ").unwrap_or(""), &mut self.body)?;
                 self.body.push(b'\n')?;
                 Ok(())
             }

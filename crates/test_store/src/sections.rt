@@ -3,10 +3,8 @@ use std::alloc::{AllocError, Global};
 use test_exchanges::Office;
 use test_files::{Callers, Files};
 use test_rows::{Answers, Row};
-use test_states::Kept;
-use test_stops::Stops;
-use test_stores::Stores;
-use test_tables::Tables;
+use test_stores::{Stops, Stores};
+use test_tables::{Kept, Tables};
 
 /// What rows are about.
 #[derive(Clone, Copy)]

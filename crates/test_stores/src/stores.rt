@@ -1,11 +1,12 @@
 //! A database, which rows make, change and look at.
 
+use crate::acts::done;
+use crate::deed::Deed;
 use anyhow::{Result, bail};
 use grant_policy::read_policy;
 use sqlite::{Alter, Connection, MemStore};
 use std::alloc::{AllocError, Global};
-use test_calls::{Deed, done};
-use test_rows::{Answers, Row};
+use test_rows::{Answers, Row, push_unanswered};
 
 /// The texts of the policy and of the script that made a database, and a connection to it, while there is one.
 #[derive(Drop)]
@@ -22,12 +23,8 @@ impl Answers for Stores<MemStore> {
         row: &Row<'_>,
         answer: &mut Vec<u8>,
     ) -> Result<(), AllocError> {
-        match self.answer_to(alloc, row, answer) {
-            Ok(()) => Ok(()),
-            Err(fault) => {
-                answer.extend_from_slice(format!(in alloc; "not answered: {fault}")?.as_bytes())
-            }
-        }
+        let answered = self.answer_to(alloc, row, answer);
+        push_unanswered(alloc, answered, answer)
     }
 }
 
@@ -48,7 +45,7 @@ impl Stores<MemStore> {
             "policy" => self.take_policy(alloc, row),
             "database" => self.make(alloc, row),
             "again" => self.make_again(alloc, row, answer),
-            _ => self.act(alloc, &Deed::of(alloc, row)?, answer),
+            _ => self.act_as(alloc, row, answer),
         }
     }
 
@@ -91,6 +88,11 @@ impl<S: Alter + Drop> Stores<S> {
     /// Holds a connection in the place of the last one.
     fn hold(&mut self, conn: Connection<S>) {
         self.conn = Some(conn);
+    }
+
+    /// Does what a row says to the database.
+    fn act_as(&mut self, alloc: Global, row: &Row<'_>, answer: &mut Vec<u8>) -> Result<()> {
+        self.act(alloc, &Deed::of(alloc, row)?, answer)
     }
 
     /// Does something to the database.

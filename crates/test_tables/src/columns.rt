@@ -39,21 +39,16 @@ pub fn record_of(alloc: Global, text: &str) -> Result<RecordRow, Refusal> {
     let (record_type, rest) = column(rest)?;
     let (rdata, rest) = column(rest)?;
     let (ttl, key) = column(rest)?;
-    record_in(
-        alloc,
-        (origin, owner),
-        (record_type, ttl),
-        (rdata, last(key)?),
-    )
+    let numbers = (number(record_type)?, number(ttl)?);
+    Ok(record_in(alloc, (origin, owner), numbers, (rdata, last(key)?))?)
 }
 
-fn record_in(
+pub(crate) fn record_in(
     alloc: Global,
     (origin, owner): (&str, &str),
-    (record_type, ttl): (&str, &str),
+    (record_type, ttl): (i64, i64),
     (rdata, key): (&str, &str),
-) -> Result<RecordRow, Refusal> {
-    let (record_type, ttl) = (number(record_type)?, number(ttl)?);
+) -> Result<RecordRow, AllocError> {
     let (origin, owner) = two(alloc, origin, owner)?;
     let rdata = String::from_str(alloc, rdata)?;
     Ok(RecordRow {
@@ -73,22 +68,28 @@ pub fn change_of(alloc: Global, text: &str) -> Result<ChangeRow, Refusal> {
     let (side, rest) = column(rest)?;
     let (owner, rest) = column(rest)?;
     let numbers = (number(change)?, number(side)?);
-    change_in(alloc, (origin, owner), numbers, rest)
+    let (numbers_of_data, rdata) = data_of(rest)?;
+    Ok(change_in(alloc, (origin, owner), numbers, numbers_of_data, rdata)?)
 }
 
-fn change_in(
+/// The type, the TTL and the data of the row of a change.
+fn data_of(text: &str) -> Result<((i64, i64), &str), Refusal> {
+    let (record_type, rest) = column(text)?;
+    let (rdata, ttl) = column(rest)?;
+    Ok(((number(record_type)?, number(ttl)?), rdata))
+}
+
+pub(crate) fn change_in(
     alloc: Global,
     (origin, owner): (&str, &str),
-    (number_of, side): (i64, i64),
-    rest: &str,
-) -> Result<ChangeRow, Refusal> {
-    let (record_type, rest) = column(rest)?;
-    let (rdata, ttl) = column(rest)?;
-    let (record_type, ttl) = (number(record_type)?, number(ttl)?);
+    (number, side): (i64, i64),
+    (record_type, ttl): (i64, i64),
+    rdata: &str,
+) -> Result<ChangeRow, AllocError> {
     let (origin, owner) = two(alloc, origin, owner)?;
     Ok(ChangeRow {
         origin,
-        number: number_of,
+        number,
         side,
         owner,
         record_type,
@@ -103,21 +104,23 @@ pub fn receipt_of(alloc: Global, text: &str) -> Result<ReceiptRow, Refusal> {
     let (id, rest) = column(rest)?;
     let (origin, rest) = column(rest)?;
     let (request, reply) = column(rest)?;
-    receipt_in(alloc, (caller, id), origin, (request, last(reply)?))
+    let reply = last(reply)?;
+    let request = String::from_str(alloc, request)?;
+    Ok(receipt_in(alloc, (caller, id), (origin, reply), request)?)
 }
 
-fn receipt_in(
+pub(crate) fn receipt_in(
     alloc: Global,
     (caller, id): (&str, &str),
-    origin: &str,
-    (request, reply): (&str, &str),
-) -> Result<ReceiptRow, Refusal> {
+    (origin, reply): (&str, &str),
+    request: String,
+) -> Result<ReceiptRow, AllocError> {
     let (caller, id) = two(alloc, caller, id)?;
-    let (request, reply) = two(alloc, request, reply)?;
+    let (origin, reply) = two(alloc, origin, reply)?;
     Ok(ReceiptRow {
         caller,
         id,
-        origin: String::from_str(alloc, origin)?,
+        origin,
         request,
         reply,
     })

@@ -1,7 +1,7 @@
-//! Rows of the tables and the tables in SQLite, by rows: worked examples, whose wanted values are written by hand from the texts of
-//! RFC 1035 section 5.1 and the numbers of its section 3.2.2. A row of a table is written with a bar between two columns.
+//! Rows of the tables, the tables in SQLite, and the rows that are a state, by rows: worked examples, whose wanted values are written by
+//! hand from the texts of RFC 1035 section 5.1 and the numbers of its section 3.2.2.
 //!
-//! `write-record ORIGIN ITEM` prints the row of the record that an item adds, and `write-receipt CALLER ID ORIGIN REPLY` that of the
+//! `Tables`: a row of a table is written with a bar between two columns. `write-record ORIGIN ITEM` prints the row of the record that an item adds, and `write-receipt CALLER ID ORIGIN REPLY` that of the
 //! receipt of the items below; both read it again. `read-origin TEXT`, `read-reply WORDS`, `read-record ROW`, `read-receipt ROW` and
 //! `read-changes ORIGIN`, with the rows below, print what is read.
 //!
@@ -10,6 +10,15 @@
 //! `change` and `receipt` with a row. `zone ORIGIN`, `records ORIGIN`, `records-at ORIGIN KEY`, `records-between ORIGIN FROM TO`,
 //! `receipts CALLER ID`, `changes ORIGIN`, `last ORIGIN`, `versions` and `all` print what is answered, in the order of the texts.
 //! `no-memory` and `no-memory-row` print those refusals.
+//!
+//! `Kept`: in a body, and in answers, a row of a table is a line: `version N`, `zone ORIGIN`,
+//! `record ORIGIN OWNER TYPE TTL KEY DATA`, `change ORIGIN NUMBER SIDE OWNER TYPE TTL DATA` or
+//! `receipt CALLER ID ORIGIN ITEM|..|REPLY`. `rows` keeps the rows of its body. `state VERSION` tells whether they are a state of that
+//! version, `reversed` the same of them the other way round, `also` of them and those of the body, and `without` of them without
+//! those. `zone ORIGIN`, `part ORIGIN`, `subtree`, `receipt` and `changes` print what is read of the rows of the body.
+//! `addition NUMBER REPLY` prints what is written for an update of the items that lines `item` say, whose change lines `gone` and
+//! `come` say; `new-zone` for the zone of the records of the body; and `replacement NUMBER` for that of lines `new` in the place of
+//! that of lines `old`.
 #![tactic(auto)]
 
 mod batch;
@@ -17,7 +26,9 @@ mod columns;
 mod refusal;
 mod replies;
 mod rows;
+mod states;
 mod table_queries;
 mod tables;
 
+pub use states::Kept;
 pub use tables::Tables;

@@ -5,7 +5,7 @@ use office_sql::RowsFault;
 use std::alloc::{AllocError, AllocFailed, Global};
 
 /// The refusal of a row.
-#[derive(Debug, Drop)]
+#[derive(Clone, Copy)]
 pub enum Refusal {
     Row(RowFault),
     Store(RowsFault),
@@ -15,7 +15,7 @@ pub enum Refusal {
 
 impl Refusal {
     /// Its words.
-    pub fn text(&self, alloc: Global) -> Result<String, AllocError> {
+    pub fn text(self, alloc: Global) -> Result<String, AllocError> {
         match self {
             Refusal::Row(fault) => format!(in alloc; "refused: {fault}"),
             Refusal::Store(fault) => format!(in alloc; "refused: {fault}"),

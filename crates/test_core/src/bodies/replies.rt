@@ -14,25 +14,53 @@ use zone_core::{
 /// The reply of a row.
 pub fn reply_of(alloc: Global, row: &Row<'_>) -> Result<Reply, BodyFault> {
     match row.verb {
-        "reply" => Ok(Reply::Update(update_reply(alloc, text_of(&row.text)?)?)),
         "id-reused" => Ok(Reply::IdReused),
         "servfail" => Ok(Reply::Servfail(StepFault::Commit(TableFault::Store))),
         "not-auth" => Ok(Reply::NotAuth),
         "not-zone" => Ok(Reply::NotZone),
-        "granted" | "denied" => Ok(Reply::Right(right(alloc, row)?)),
-        "records" => Ok(Reply::Records(records(alloc, &row.body)?)),
+        "reply" => update(alloc, &row.text),
+        "granted" | "denied" => right(alloc, row),
         "file" => file(alloc, row),
-        "changes" => Ok(Reply::Changes(changes(alloc, text_of(&row.body)?)?)),
-        "delegations" => Ok(Reply::Delegations(delegations(alloc, text_of(&row.body)?)?)),
+        _ => reply_of_lines(alloc, row),
+    }
+}
+
+/// The reply of the lines below a row.
+fn reply_of_lines(alloc: Global, row: &Row<'_>) -> Result<Reply, BodyFault> {
+    match row.verb {
+        "records" => listed(alloc, &row.body),
+        "changes" => changed(alloc, &row.body),
+        "delegations" => delegated(alloc, &row.body),
         _ => Err(BodyFault::BadField),
     }
 }
 
-fn right(alloc: Global, row: &Row<'_>) -> Result<Right, BodyFault> {
-    match row.verb {
-        "granted" => Ok(Right::Granted(Identifier::read(alloc, &row.text)?)),
-        _ => Ok(Right::Denied(rule(alloc, text_of(&row.text)?)?)),
-    }
+fn update(alloc: Global, text: &[u8]) -> Result<Reply, BodyFault> {
+    let reply = update_reply(alloc, text_of(text)?)?;
+    Ok(Reply::Update(reply))
+}
+
+fn listed(alloc: Global, lines: &[u8]) -> Result<Reply, BodyFault> {
+    let records = records(alloc, lines)?;
+    Ok(Reply::Records(records))
+}
+
+fn changed(alloc: Global, lines: &[u8]) -> Result<Reply, BodyFault> {
+    let changes = changes(alloc, text_of(lines)?)?;
+    Ok(Reply::Changes(changes))
+}
+
+fn delegated(alloc: Global, lines: &[u8]) -> Result<Reply, BodyFault> {
+    let delegations = delegations(alloc, text_of(lines)?)?;
+    Ok(Reply::Delegations(delegations))
+}
+
+fn right(alloc: Global, row: &Row<'_>) -> Result<Reply, BodyFault> {
+    let right = match row.verb {
+        "granted" => Right::Granted(Identifier::read(alloc, &row.text)?),
+        _ => Right::Denied(rule(alloc, text_of(&row.text)?)?),
+    };
+    Ok(Reply::Right(right))
 }
 
 fn file(alloc: Global, row: &Row<'_>) -> Result<Reply, BodyFault> {

@@ -1,8 +1,9 @@
 //! Item lines.
 
-use crate::items::refusal::Refusal;
+use crate::refusal::Refusal;
 use item_lines::{items_text, read_items};
 use std::alloc::{AllocError, Global};
+use test_rows::number;
 use zone_core::Update;
 
 /// Appends the canonical lines of the items of a text, which have to be the same lines again when they are read.
@@ -27,13 +28,9 @@ pub fn push_many(
     behind: &[u8],
     answer: &mut Vec<u8>,
 ) -> Result<(), Refusal> {
-    let mut text = repeated(alloc, times(count).unwrap_or(0), line)?;
+    let mut text = repeated(alloc, number(count).unwrap_or(0), line)?;
     text.extend_from_slice(behind)?;
     push_size(alloc, &read_items(alloc, &text)?, answer)
-}
-
-fn times(digits: &[u8]) -> Option<usize> {
-    str::from_utf8(digits).ok()?.parse().ok()
 }
 
 /// A line so many times.

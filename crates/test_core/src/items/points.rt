@@ -1,6 +1,6 @@
 //! What items ask for, and whether a policy permits them.
 
-use crate::items::refusal::Refusal;
+use crate::refusal::Refusal;
 use dns_data::RecordType;
 use dns_names::Name;
 use grant_policy::{Action, Identifier, LookUps, Policy};

@@ -1,11 +1,11 @@
 //! Rules that never decide.
 
-use crate::policies::row_fault::Fault;
+use crate::refusal::Refusal;
 use grant_policy::{Policy, idle_rules};
 use std::alloc::{AllocError, Global};
 
 /// The idle rules of a policy, each with those that take its questions behind a colon, by their ids.
-pub fn idle(alloc: Global, policy: &Policy) -> Result<String, Fault> {
+pub fn idle(alloc: Global, policy: &Policy) -> Result<String, Refusal> {
     let mut text = String::new(alloc);
     for idle in idle_rules(alloc, policy)? {
         if !text.is_empty() {

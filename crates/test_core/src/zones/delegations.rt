@@ -1,8 +1,8 @@
 //! Rows of delegations.
 
+use crate::refusal::Refusal;
 use crate::zones::lines::{push, push_name, push_operation};
 use crate::zones::parsed_rows::{name, servers};
-use crate::zones::refusal::Refusal;
 use dns_data::Ttl;
 use std::alloc::Global;
 use test_rows::{Row, word};

@@ -1,8 +1,8 @@
 //! What leads from one zone to another.
 
+use crate::refusal::Refusal;
 use crate::zones::lines::push;
-use crate::zones::refusal::Refusal;
-use crate::zones::updates::push_serial;
+use crate::zones::updates::push_of_update;
 use item_lines::items_text;
 use std::alloc::Global;
 use zone_core::{Update, Zone, operations_between};
@@ -20,5 +20,5 @@ pub fn push_difference(
     let update = Update::build(Vec::new(alloc), operations_between(alloc, old, new)?)?;
     push(items_text(alloc, &update)?.as_str(), answer)?;
     push("serial ", answer)?;
-    push_serial(alloc, old, &update, answer)
+    push_of_update(alloc, old, "serial-after", &update, answer)
 }

@@ -1,6 +1,6 @@
 //! Texts of names, records and operations.
 
-use crate::zones::refusal::Refusal;
+use crate::refusal::Refusal;
 use dns_data::{Data, Record, RecordType, Soa, data_text, record_line};
 use dns_names::Name;
 use std::alloc::Global;

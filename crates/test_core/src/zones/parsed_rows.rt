@@ -1,13 +1,12 @@
 //! Records, updates and servers that rows write.
 
-use crate::zones::refusal::Refusal;
+use crate::refusal::Refusal;
 use dns_data::{Data, DataFault, Record, RecordType};
 use dns_master::read_file;
 use dns_names::Name;
 use std::alloc::{AllocError, Global};
 use std::net::IpAddr;
-use std::str;
-use test_rows::word;
+use test_rows::{text_of, word};
 use zone_core::{ChildServer, Operation, OperationKind, Prerequisite, PrerequisiteKind, Update};
 
 /// The name of an absolute text.
@@ -22,16 +21,11 @@ pub fn record_type(text: &[u8]) -> Result<RecordType, Refusal> {
 
 /// The number that a text writes, or 0.
 pub fn number(text: &[u8]) -> u32 {
-    str::from_utf8(text)
-        .ok()
-        .and_then(|text| text.parse::<u32>().ok())
-        .unwrap_or(0)
+    text_of(text).parse().unwrap_or(0)
 }
 
-/// Whether an octet ends an item: a line end, or a bar.
-pub fn ends_item(octet: u8) -> bool {
-    matches!(octet, b'\n' | b'|')
-}
+/// What ends an item: a line end, or a bar.
+const ENDS: [char; 2] = ['\n', '|'];
 
 /// The records of a master file.
 pub fn file(alloc: Global, text: &[u8], origin: &Name) -> Result<Vec<Record>, Refusal> {
@@ -116,8 +110,8 @@ fn record_deletion(alloc: Global, name: Name, line: &[u8]) -> Result<Operation, 
 pub fn update(alloc: Global, items: &[u8]) -> Result<Update, Refusal> {
     let mut prerequisites = Vec::new(alloc);
     let mut operations = Vec::new(alloc);
-    for item in items.split(|octet| ends_item(*octet)) {
-        push_item(alloc, item, &mut prerequisites, &mut operations)?;
+    for item in text_of(items).split(ENDS) {
+        push_item(alloc, item.as_bytes(), &mut prerequisites, &mut operations)?;
     }
     Ok(Update::build(prerequisites, operations)?)
 }
@@ -142,19 +136,19 @@ fn push_item(
     }
 }
 
-fn address(text: &[u8]) -> Result<IpAddr, Refusal> {
-    let address = str::from_utf8(text)
-        .ok()
-        .and_then(|text| text.parse::<IpAddr>().ok());
-    Ok(address.ok_or(DataFault::BadAddress)?)
+fn address(text: &str) -> Result<IpAddr, Refusal> {
+    match text.parse::<IpAddr>() {
+        Ok(address) => Ok(address),
+        Err(_) => Err(Refusal::from(DataFault::BadAddress)),
+    }
 }
 
 /// The servers of a child, each with its addresses.
 pub fn servers(alloc: Global, items: &[u8]) -> Result<Vec<ChildServer>, Refusal> {
     let mut servers = Vec::new(alloc);
-    for item in items.split(|octet| ends_item(*octet)) {
+    for item in text_of(items).split(ENDS) {
         if !item.is_empty() {
-            servers.push(server(alloc, item)?)?;
+            servers.push(server(alloc, item.as_bytes())?)?;
         }
     }
     Ok(servers)
@@ -169,10 +163,8 @@ fn server(alloc: Global, item: &[u8]) -> Result<ChildServer, Refusal> {
 
 fn addresses(alloc: Global, text: &[u8]) -> Result<Vec<IpAddr>, Refusal> {
     let mut addresses = Vec::new(alloc);
-    for text in text.split(|octet| *octet == b' ') {
-        if !text.is_empty() {
-            addresses.push(address(text)?)?;
-        }
+    for text in text_of(text).split_whitespace() {
+        addresses.push(address(text)?)?;
     }
     Ok(addresses)
 }

@@ -1,8 +1,8 @@
 //! Rows of serials.
 
+use crate::refusal::Refusal;
 use crate::zones::lines::push;
 use crate::zones::parsed_rows::number;
-use crate::zones::refusal::Refusal;
 use std::alloc::Global;
 use zone_core::{serial_add, serial_less};
 

@@ -1,9 +1,10 @@
 //! Rows of updates.
 
+use crate::refusal::Refusal;
 use crate::zones::lines::{push, push_marked, push_number};
 use crate::zones::parsed_rows::{name, update};
-use crate::zones::refusal::Refusal;
 use std::alloc::{AllocError, Global};
+use test_rows::Row;
 use zone_core::{Failed, ItemList, Outcome, Place, Update, Zone, apply, apply_owned, holds};
 
 /// What an update makes of a zone, if it is within it.
@@ -26,14 +27,39 @@ fn applied_owned(
     }
 }
 
-/// Appends which prerequisite fails first, and with which code.
-pub fn push_verdict(
+/// Appends what a row asks of a zone and of the update of its body.
+pub fn push_with_update(
     alloc: Global,
     zone: &Zone,
-    items: &[u8],
+    row: &Row<'_>,
     answer: &mut Vec<u8>,
 ) -> Result<(), Refusal> {
-    match holds(zone, &update(alloc, items)?) {
+    push_of_update(alloc, zone, row.verb, &update(alloc, &row.body)?, answer)
+}
+
+/// Appends whether prerequisites hold, or what operations make of a zone.
+pub fn push_of_update(
+    alloc: Global,
+    zone: &Zone,
+    verb: &str,
+    update: &Update,
+    answer: &mut Vec<u8>,
+) -> Result<(), Refusal> {
+    match verb {
+        "holds" => push_verdict(alloc, zone, update, answer),
+        "after" => push_after(alloc, zone, update, answer),
+        _ => push_effect(alloc, zone, verb, update, answer),
+    }
+}
+
+/// Appends which prerequisite fails first, and with which code.
+fn push_verdict(
+    alloc: Global,
+    zone: &Zone,
+    update: &Update,
+    answer: &mut Vec<u8>,
+) -> Result<(), Refusal> {
+    match holds(zone, update) {
         Ok(()) => push("all hold", answer),
         Err(failed) => push_failed(alloc, failed, answer),
     }
@@ -45,48 +71,8 @@ fn push_failed(alloc: Global, failed: Failed, answer: &mut Vec<u8>) -> Result<()
     push(text.as_str(), answer)
 }
 
-/// Appends the records that an update removes, and those that it adds.
-pub fn push_change(
-    alloc: Global,
-    zone: &Zone,
-    items: &[u8],
-    answer: &mut Vec<u8>,
-) -> Result<(), Refusal> {
-    push_change_of(alloc, zone, &update(alloc, items)?, answer)
-}
-
-fn push_change_of(
-    alloc: Global,
-    zone: &Zone,
-    update: &Update,
-    answer: &mut Vec<u8>,
-) -> Result<(), Refusal> {
-    match applied(alloc, zone, update)? {
-        Some(outcome) => push_outcome(alloc, &outcome, answer),
-        None => push("outside", answer),
-    }
-}
-
-fn push_outcome(alloc: Global, outcome: &Outcome, answer: &mut Vec<u8>) -> Result<(), Refusal> {
-    push_marked(alloc, "- ", &outcome.removed, answer)?;
-    push_marked(alloc, "+ ", &outcome.added, answer)?;
-    if answer.is_empty() {
-        push("no change", answer)?;
-    }
-    Ok(())
-}
-
 /// Appends the zone after an update.
-pub fn push_after(
-    alloc: Global,
-    zone: &Zone,
-    items: &[u8],
-    answer: &mut Vec<u8>,
-) -> Result<(), Refusal> {
-    push_zone_after(alloc, zone, &update(alloc, items)?, answer)
-}
-
-fn push_zone_after(
+fn push_after(
     alloc: Global,
     zone: &Zone,
     update: &Update,
@@ -98,27 +84,40 @@ fn push_zone_after(
     }
 }
 
-/// Appends the serial of the zone after the update of some items.
-pub fn push_serial_after(
+/// Appends what an update removes and adds, or only the serial of the zone after it.
+fn push_effect(
     alloc: Global,
     zone: &Zone,
-    items: &[u8],
-    answer: &mut Vec<u8>,
-) -> Result<(), Refusal> {
-    push_serial(alloc, zone, &update(alloc, items)?, answer)
-}
-
-/// Appends the serial of the zone after an update.
-pub fn push_serial(
-    alloc: Global,
-    zone: &Zone,
+    verb: &str,
     update: &Update,
     answer: &mut Vec<u8>,
 ) -> Result<(), Refusal> {
     match applied(alloc, zone, update)? {
-        Some(outcome) => push_number(alloc, outcome.zone.serial(), answer),
+        Some(outcome) => push_outcome(alloc, verb, &outcome, answer),
         None => push("outside", answer),
     }
+}
+
+fn push_outcome(
+    alloc: Global,
+    verb: &str,
+    outcome: &Outcome,
+    answer: &mut Vec<u8>,
+) -> Result<(), Refusal> {
+    match verb {
+        "change" => push_change(alloc, outcome, answer),
+        _ => push_number(alloc, outcome.zone.serial(), answer),
+    }
+}
+
+/// Appends the records that an update removes, and those that it adds.
+fn push_change(alloc: Global, outcome: &Outcome, answer: &mut Vec<u8>) -> Result<(), Refusal> {
+    push_marked(alloc, "- ", &outcome.removed, answer)?;
+    push_marked(alloc, "+ ", &outcome.added, answer)?;
+    if answer.is_empty() {
+        push("no change", answer)?;
+    }
+    Ok(())
 }
 
 /// Appends how many items an update has, which a copy of it has to have too.

@@ -1,0 +1,215 @@
+//! What commands print.
+
+mod devices;
+
+use crate::commands::devices::{Command, Manner};
+use std::alloc::{AllocError, Global};
+use test_rows::Row;
+use text_commands::{Findings, JobFault, LineFault};
+
+/// Appends the answer to a row of commands.
+pub fn push_answer(alloc: Global, row: &Row<'_>, answer: &mut Vec<u8>) -> Result<(), AllocError> {
+    let text = str::from_utf8(&row.text).unwrap_or("");
+    match row.verb {
+        "many" => push_many(alloc, text, &row.body, answer),
+        "pieces" => push_pieces(alloc, text, &row.body, answer),
+        "reads" => push_reads(alloc, text, &row.body, answer),
+        "writes" => push_writes(alloc, text, &row.body, answer),
+        "heads" => push_heads(alloc, text, answer),
+        "no-memory" => push_status(alloc, Err(JobFault::Told(LineFault::NoMemory)), answer),
+        name => push_run(
+            alloc,
+            Command {
+                name,
+                words: text,
+                input: &row.body,
+            },
+            Manner::SOUND,
+            answer,
+        ),
+    }
+}
+
+fn push(text: &str, answer: &mut Vec<u8>) -> Result<(), AllocError> {
+    answer.extend_from_slice(text.as_bytes())
+}
+
+/// The command of a text, over an input.
+fn command<'a>(text: &'a str, input: &'a [u8]) -> Command<'a> {
+    let (name, words) = text.split_once(' ').unwrap_or((text, ""));
+    Command { name, words, input }
+}
+
+/// The number before the first space of a text, and what stands behind it.
+fn number(text: &str) -> (usize, &str) {
+    let (digits, rest) = text.split_once(' ').unwrap_or((text, ""));
+    (digits.parse::<usize>().unwrap_or(0), rest)
+}
+
+/// Appends what a command prints of the lines of a text, each as often as the number before it says.
+fn push_many(
+    alloc: Global,
+    text: &str,
+    lines: &[u8],
+    answer: &mut Vec<u8>,
+) -> Result<(), AllocError> {
+    let mut input = Vec::new(alloc);
+    for line in str::from_utf8(lines).unwrap_or("").lines() {
+        push_counted(line, &mut input)?;
+    }
+    push_run(alloc, command(text, &input), Manner::SOUND, answer)
+}
+
+/// Appends a line as often as the number before it says.
+fn push_counted(counted: &str, lines: &mut Vec<u8>) -> Result<(), AllocError> {
+    let (times, line) = number(counted);
+    for _ in 0..times {
+        push(line, lines)?;
+        lines.push(b'\n')?;
+    }
+    Ok(())
+}
+
+/// Appends what a command prints with devices that move at most so many octets a call.
+fn push_pieces(
+    alloc: Global,
+    text: &str,
+    input: &[u8],
+    answer: &mut Vec<u8>,
+) -> Result<(), AllocError> {
+    let (most, text) = number(text);
+    push_run(
+        alloc,
+        command(text, input),
+        Manner { most, fails: 0 },
+        answer,
+    )
+}
+
+/// Appends what a command prints with devices that work so, and its exit status.
+fn push_run(
+    alloc: Global,
+    command: Command<'_>,
+    manner: Manner,
+    answer: &mut Vec<u8>,
+) -> Result<(), AllocError> {
+    let (printed, done) = command.run(alloc, manner, manner)?;
+    answer.extend_from_slice(&printed)?;
+    push_status(alloc, done, answer)
+}
+
+/// Appends, for each number of a text with bars between them, the first lines of its rows.
+fn push_heads(alloc: Global, text: &str, answer: &mut Vec<u8>) -> Result<(), AllocError> {
+    for number in text.split('|') {
+        push_head(alloc, number, answer)?;
+    }
+    Ok(())
+}
+
+fn push_head(alloc: Global, number: &str, answer: &mut Vec<u8>) -> Result<(), AllocError> {
+    push(number, answer)?;
+    push(":", answer)?;
+    let command = Command {
+        name: "explain",
+        words: number,
+        input: &[],
+    };
+    push_rows(&command.run(alloc, Manner::SOUND, Manner::SOUND)?.0, answer)
+}
+
+/// Appends the lines of a text that begin with no space, as one line.
+fn push_rows(text: &[u8], answer: &mut Vec<u8>) -> Result<(), AllocError> {
+    for line in str::from_utf8(text).unwrap_or("").lines() {
+        if !line.starts_with(' ') {
+            push(" | ", answer)?;
+            push(line, answer)?;
+        }
+    }
+    push("\n", answer)
+}
+
+/// Appends a line, without its end, for how a command went.
+fn push_status(
+    alloc: Global,
+    done: Result<Findings, JobFault>,
+    answer: &mut Vec<u8>,
+) -> Result<(), AllocError> {
+    match done {
+        Ok(Findings::Absent) => push("status 0", answer),
+        Ok(Findings::Present) => push("status 1", answer),
+        Err(fault) => push(format!(in alloc; "status 1: {fault}")?.as_str(), answer),
+    }
+}
+
+/// Appends what a command prints where each of so many reads fails in turn.
+fn push_reads(
+    alloc: Global,
+    text: &str,
+    input: &[u8],
+    answer: &mut Vec<u8>,
+) -> Result<(), AllocError> {
+    let (most, text) = number(text);
+    let (count, text) = number(text);
+    for fails in 1..=count {
+        push_failed_read(alloc, command(text, input), Manner { most, fails }, answer)?;
+    }
+    Ok(())
+}
+
+fn push_failed_read(
+    alloc: Global,
+    command: Command<'_>,
+    reading: Manner,
+    answer: &mut Vec<u8>,
+) -> Result<(), AllocError> {
+    let (printed, done) = command.run(alloc, reading, Manner::SOUND)?;
+    answer.extend_from_slice(&printed)?;
+    push_status(alloc, done, answer)?;
+    push("\n", answer)
+}
+
+/// Appends how much of its text a command prints where each of so many writes fails in turn.
+fn push_writes(
+    alloc: Global,
+    text: &str,
+    input: &[u8],
+    answer: &mut Vec<u8>,
+) -> Result<(), AllocError> {
+    let (most, text) = number(text);
+    let (count, text) = number(text);
+    let command = command(text, input);
+    let (whole, _) = command.run(alloc, Manner::SOUND, Manner::SOUND)?;
+    for fails in 1..=count {
+        push_failed_write(alloc, command, Manner { most, fails }, &whole, answer)?;
+    }
+    Ok(())
+}
+
+fn push_failed_write(
+    alloc: Global,
+    command: Command<'_>,
+    writing: Manner,
+    whole: &[u8],
+    answer: &mut Vec<u8>,
+) -> Result<(), AllocError> {
+    let (printed, done) = command.run(alloc, Manner::SOUND, writing)?;
+    push_part(alloc, &printed, whole, answer)?;
+    push_status(alloc, done, answer)?;
+    push("\n", answer)
+}
+
+/// Appends how many octets were printed, and whether they are a prefix of what is printed otherwise.
+fn push_part(
+    alloc: Global,
+    printed: &[u8],
+    whole: &[u8],
+    answer: &mut Vec<u8>,
+) -> Result<(), AllocError> {
+    let octets = printed.len();
+    push(format!(in alloc; "{octets}")?.as_str(), answer)?;
+    if whole.starts_with(printed) {
+        push(" octets of it, ", answer)
+    } else {
+        push(" other octets, ", answer)
+    }
+}

@@ -1,0 +1,128 @@
+//! Commands, and the devices that they read and write.
+
+use command_line::{QuestionWords, TextForm, ZoneForm};
+use dns_master::Pieces;
+use std::alloc::{AllocError, Global};
+use text_commands::{Apply, Canon, Explain, Findings, JobFault, Task, do_check, do_task};
+
+/// How a device works.
+#[derive(Clone, Copy)]
+pub struct Manner {
+    /// The most octets that it moves in a call.
+    pub most: usize,
+    /// The number of the call that fails, from 1, and 0 where none does.
+    pub fails: usize,
+}
+
+impl Manner {
+    /// A device that never fails.
+    pub const SOUND: Manner = Manner {
+        most: 4096,
+        fails: 0,
+    };
+
+    fn device(self, octets: Vec<u8>) -> Pieces {
+        Pieces::new(octets, self.most, self.fails)
+    }
+}
+
+/// What a command printed, and how it went. A command that checks nothing finds nothing.
+pub type Printed = (Vec<u8>, Result<Findings, JobFault>);
+
+/// A command, its words, and its input.
+#[derive(Clone, Copy)]
+pub struct Command<'a> {
+    pub name: &'a str,
+    pub words: &'a str,
+    pub input: &'a [u8],
+}
+
+impl Command<'_> {
+    /// What the command prints with devices that work so, and how it went.
+    pub fn run(
+        self,
+        alloc: Global,
+        reading: Manner,
+        writing: Manner,
+    ) -> Result<Printed, AllocError> {
+        let words = self.words;
+        match self.name {
+            "apply" => self.run_task(alloc, Apply, reading, writing),
+            "canon" => self.run_task(alloc, canon(words, ZoneForm::Whole), reading, writing),
+            "canon-relative" => {
+                self.run_task(alloc, canon(words, ZoneForm::Relative), reading, writing)
+            }
+            "rights" => self.run_task(alloc, question(words), reading, writing),
+            "explain" => self.run_task(alloc, asked(words), reading, writing),
+            "check" => self.run_check(alloc, reading, writing),
+            _ => no_command(alloc),
+        }
+    }
+
+    fn run_task<T: Task>(
+        self,
+        alloc: Global,
+        task: T,
+        reading: Manner,
+        writing: Manner,
+    ) -> Result<Printed, AllocError> {
+        let reader = reading.device(Vec::from_slice(alloc, self.input)?);
+        let writer = writing.device(Vec::new(alloc));
+        let (page, done) = do_task(alloc, task, reader, writer);
+        Ok((page.octets, found_none(done)))
+    }
+
+    fn run_check(
+        self,
+        alloc: Global,
+        reading: Manner,
+        writing: Manner,
+    ) -> Result<Printed, AllocError> {
+        let reader = reading.device(Vec::from_slice(alloc, self.input)?);
+        let writer = writing.device(Vec::new(alloc));
+        let (page, done) = do_check(alloc, reader, writer);
+        Ok((page.octets, done))
+    }
+}
+
+fn no_command(alloc: Global) -> Result<Printed, AllocError> {
+    let told = Vec::from_slice(alloc, b"no such command")?;
+    Ok((told, Ok(Findings::Absent)))
+}
+
+/// How a command went that finds nothing.
+fn found_none(done: Result<(), JobFault>) -> Result<Findings, JobFault> {
+    match done {
+        Ok(()) => Ok(Findings::Absent),
+        Err(fault) => Err(fault),
+    }
+}
+
+/// The task `canon` for an origin.
+fn canon(origin: &str, form: ZoneForm) -> Canon<'_> {
+    Canon { origin, form }
+}
+
+/// What words with bars between them ask of a policy.
+fn question(words: &str) -> QuestionWords<'_> {
+    let mut words = words.split('|');
+    QuestionWords {
+        caller: words.next().unwrap_or(""),
+        name: words.next().unwrap_or(""),
+        record_type: words.next().unwrap_or(""),
+        action: words.next().unwrap_or(""),
+    }
+}
+
+/// What words with a bar between them ask about refusals: a number, or `all`, and then `json` for that form.
+fn asked(words: &str) -> Explain<'_> {
+    let (number, form) = words.split_once('|').unwrap_or((words, ""));
+    Explain {
+        number: (number != "all").then_some(number),
+        form: if form == "json" {
+            TextForm::Json
+        } else {
+            TextForm::Plain
+        },
+    }
+}

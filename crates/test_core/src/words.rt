@@ -1,0 +1,156 @@
+//! What the words of a command line ask for.
+
+use command_line::{
+    Existing, Job, QuestionWords, Service, StoredZone, TextForm, WordsFault, ZoneForm, read_words,
+};
+use std::alloc::{AllocError, Global};
+use test_rows::Row;
+
+/// Appends the answer to a row of words.
+pub fn push_answer(alloc: Global, row: &Row<'_>, answer: &mut Vec<u8>) -> Result<(), AllocError> {
+    let words = words_of(alloc, &row.text)?;
+    push_read(alloc, row.verb, &read_words(alloc, &words), answer)
+}
+
+/// The words of a text, which is one of ASCII.
+fn words_of(alloc: Global, text: &[u8]) -> Result<Vec<&str>, AllocError> {
+    match str::from_utf8(text) {
+        Ok(text) if !text.is_empty() => text.split('|').collect(alloc),
+        _ => Ok(Vec::new(alloc)),
+    }
+}
+
+fn push(text: &str, answer: &mut Vec<u8>) -> Result<(), AllocError> {
+    answer.extend_from_slice(text.as_bytes())
+}
+
+fn push_all(texts: &[&str], answer: &mut Vec<u8>) -> Result<(), AllocError> {
+    for text in texts {
+        push(text, answer)?;
+    }
+    Ok(())
+}
+
+fn push_read(
+    alloc: Global,
+    verb: &str,
+    read: &Result<Job<'_>, WordsFault>,
+    answer: &mut Vec<u8>,
+) -> Result<(), AllocError> {
+    match (verb, read) {
+        ("job", Ok(job)) => push_job(alloc, job, answer),
+        ("job", Err(fault)) => push(kind_of(fault), answer),
+        ("text", Ok(_)) => push("a job", answer),
+        ("text", Err(fault)) => push(text_of(fault), answer),
+        _ => push("no such verb", answer),
+    }
+}
+
+fn kind_of(fault: &WordsFault) -> &'static str {
+    match fault {
+        WordsFault::Help(_) => "help",
+        WordsFault::Misused(_) => "misused",
+        WordsFault::NoMemory => "no memory",
+    }
+}
+
+fn text_of(fault: &WordsFault) -> &str {
+    match fault {
+        WordsFault::Help(text) => text.as_str(),
+        WordsFault::Misused(text) => text.as_str(),
+        WordsFault::NoMemory => "no memory",
+    }
+}
+
+/// Appends what a job was told by the words.
+fn push_job(alloc: Global, job: &Job<'_>, answer: &mut Vec<u8>) -> Result<(), AllocError> {
+    match job {
+        Job::Apply => push("apply", answer),
+        Job::Canon { origin, form } => {
+            push_all(&["canon (", origin, ")", form_text(*form)], answer)
+        }
+        Job::Import { zone, existing } => push_zone(
+            "import",
+            zone,
+            match existing {
+                Existing::Kept => " kept",
+                Existing::Replaced => " replaced",
+            },
+            answer,
+        ),
+        Job::Export { zone, form } => push_zone("export", zone, form_text(*form), answer),
+        Job::Migrate { store } => push_all(&["migrate (", store, ")"], answer),
+        Job::Rights { policy, asked } => push_question(policy, asked, answer),
+        Job::Serve { service } => push_service(alloc, service, answer),
+        Job::CheckPolicy { policy } => push_all(&["check policy (", policy, ")"], answer),
+        Job::Explain { number, form } => push_explain(*number, *form, answer),
+    }
+}
+
+fn push_zone(
+    verb: &str,
+    zone: &StoredZone<'_>,
+    end: &str,
+    answer: &mut Vec<u8>,
+) -> Result<(), AllocError> {
+    push_all(
+        &[verb, " (", zone.store, ") (", zone.origin, ")", end],
+        answer,
+    )
+}
+
+fn form_text(form: ZoneForm) -> &'static str {
+    match form {
+        ZoneForm::Whole => "",
+        ZoneForm::Relative => " relative",
+    }
+}
+
+fn push_explain(
+    number: Option<&str>,
+    form: TextForm,
+    answer: &mut Vec<u8>,
+) -> Result<(), AllocError> {
+    let form = match form {
+        TextForm::Plain => " plain",
+        TextForm::Json => " json",
+    };
+    match number {
+        Some(number) => push_all(&["explain (", number, ")", form], answer),
+        None => push_all(&["explain all", form], answer),
+    }
+}
+
+fn push_question(
+    policy: &str,
+    asked: &QuestionWords<'_>,
+    answer: &mut Vec<u8>,
+) -> Result<(), AllocError> {
+    push_all(&["rights (", policy, ") (", asked.caller], answer)?;
+    push_all(&[") (", asked.name, ") (", asked.record_type], answer)?;
+    push_all(&[") (", asked.action, ")"], answer)
+}
+
+fn push_service(
+    alloc: Global,
+    service: &Service<'_>,
+    answer: &mut Vec<u8>,
+) -> Result<(), AllocError> {
+    push_all(&["serve (", service.store, ") (", service.policy], answer)?;
+    push_all(&[") (", service.listen, ")"], answer)?;
+    push_number(alloc, " ", service.connections, answer)?;
+    push_number(alloc, " patience ", service.patience, answer)
+}
+
+/// Appends a number behind a word where one was given.
+fn push_number(
+    alloc: Global,
+    word: &str,
+    number: Option<u64>,
+    answer: &mut Vec<u8>,
+) -> Result<(), AllocError> {
+    match number {
+        None => Ok(()),
+        Some(number) => push(format!(in alloc; "{word}{number}")?.as_str(), answer),
+    }
+}
