@@ -1,4 +1,5 @@
 use crate::devices::{Command, Manner};
+use crate::diffs::push_diff;
 use std::alloc::{AllocError, Global};
 use test_rows::{Answers, Row};
 use text_commands::{Findings, JobFault, LineFault};
@@ -28,6 +29,7 @@ impl Answers for Commands {
             "reads" => push_reads(alloc, text, &row.body, answer),
             "writes" => push_writes(alloc, text, &row.body, answer),
             "heads" => push_heads(alloc, text, answer),
+            "diff" | "edit" | "diff-reads" | "diff-write" => push_diff(alloc, row, answer),
             "no-memory" => push_status(alloc, Err(JobFault::Told(LineFault::NoMemory)), answer),
             name => {
                 let command = Command {
