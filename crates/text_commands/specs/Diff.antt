@@ -1,9 +1,12 @@
 -- What `diff` prints: the items that lead from one zone to another of the same origin.
-use Rattle.std.specs.Prelude.{◌≡◌, ℕ, List, [], Option, Result, Ok, Err}
+use Rattle.std.specs.Prelude.{◌≡◌, ℕ, ◌≤◌, List, [], length, Option, Result, Ok, Err}
 use Rattle.std.specs.List.{flat_map}
 use Rattle.zone_core.specs.declared.update.Operation.{Operation}
-use Rattle.zone_core.specs.Zones.{ZoneOf}
-use Rattle.zone_core.specs.Differences.{operations}
+use Rattle.zone_core.specs.Zones.{ZoneOf, IsZone}
+use Rattle.zone_core.specs.Updates.{UpdateOf}
+use Rattle.zone_core.specs.Effects.{zone_after}
+use Rattle.zone_core.specs.Differences.{operations, target}
+use Rattle.item_lines.specs.Reading.{items_of}
 use Rattle.item_lines.specs.Texts.{operation_line}
 use Rattle.text_commands.specs.declared.refusal.Refusal.{Refusal}
 use Rattle.text_commands.specs.declared.line_fault.JobFault.{JobFault}
@@ -12,6 +15,7 @@ use Rattle.text_commands.specs.declared.diff_fault.DiffFault.TheVariants.{Old, N
 use Rattle.text_commands.specs.LineFaults.{◌>>=◌, limited, Makes}
 use Rattle.text_commands.specs.Replies.{Answered}
 use Rattle.text_commands.specs.Canon.{zone_of_file, zone_read}
+use Rattle.text_commands.specs.Apply.{updated, zone_lines}
 
 -- the lines of operations, which are items of an update
 abbrev pub operations_text : List Operation → List ℕ
@@ -56,3 +60,23 @@ Differs word old_left new_left before after (Err (Old fault)) =
     (failed_reads : ℕ) × (failed_writes : ℕ) × Answered old_left (old_text word) before after (Err fault) 0 failed_reads 0 failed_writes
 Differs word old_left new_left before after (Err (New fault)) = IsDiff word old_left new_left before after (Err fault)
 Differs word old_left new_left before after (Ok done) = IsDiff word old_left new_left before after (Ok done)
+
+-- ---- where the items lead
+
+-- the update of the operations between two zones, which has no prerequisites
+abbrev pub update_between : ZoneOf → ZoneOf → UpdateOf
+update_between old new = record { prerequisites = []; operations = operations old.origin old.records new.records }
+
+-- the zone to which they lead: the new one, with a serial that is greater than the old one's
+abbrev pub target_of : ZoneOf → ZoneOf → ZoneOf
+target_of old new = record old { records = target old.origin old.records new.records }
+
+-- the operations, made in order in the old zone, give that zone
+abbrev pub DiffsLead : Type 0
+DiffsLead = (old new : ZoneOf) → IsZone old → IsZone new → new.origin ≡ old.origin → zone_after old (update_between old new) ≡ target_of old new
+
+-- if they are no more than an update may have, the items are read as these operations, and `apply` prints the zone to which they lead
+abbrev pub DiffsAreApplied : Type 0
+DiffsAreApplied =
+    (old new : ZoneOf) → IsZone old → IsZone new → new.origin ≡ old.origin → length (update_between old new).operations ≤ 256
+    → (items_of (items_between old new) ≡ Ok (update_between old new)) × (updated old (update_between old new) ≡ Ok (zone_lines (target_of old new)))
