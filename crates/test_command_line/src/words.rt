@@ -42,6 +42,9 @@ fn job_text(alloc: Global, job: &Job<'_>) -> Result<String, AllocError> {
     match job {
         Job::Apply => String::from_str(alloc, "apply"),
         Job::Canon { origin, form } => { format!(in alloc; "canon ({origin}){}", form_text(*form)) }
+        Job::Diff { origin, files } => {
+            format!(in alloc; "diff ({origin}) ({}) ({})", files.old, files.new)
+        }
         Job::Import { zone, existing } => {
             let existing = match existing {
                 Existing::Kept => "kept",

@@ -77,7 +77,7 @@ module _ (old new : ZoneOf) (is_old : IsZone old) (is_new : IsZone new) (same : 
   }
 
   none_unmet : first_unmet old (update_between old new) ≡ None
-  none_unmet = rw ((none_outside old.origin (update_between old new) (first_outside old.origin (update_between old new)) refl).2 acts) refl
+  none_unmet = rw ((none_outside old.origin (update_between old new) (first_outside old.origin (update_between old new)) refl).1 acts) refl
 
   made : updated old (update_between old new) ≡ Ok (zone_lines (target_of old new))
   made = ap (λ o. unless o (zone_lines (zone_after old (update_between old new)))) none_unmet ∙ ap (λ z. Ok (zone_lines z)) leads

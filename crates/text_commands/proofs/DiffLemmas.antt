@@ -1,5 +1,5 @@
 -- The items between two zones.
-use Rattle.std.proofs.Common.{◌≡◌, ◌∙◌, ap, sym, refl, ℕ, List, [], ◌∷◌, length, Bool, true, false, cond, if◌then◌else◌, nat_lt, Option, Some, None, Result, Ok, Err, append-nil, true≢false}
+use Rattle.std.proofs.Common.{◌≡◌, ◌∙◌, ap, sym, refl, ℕ, List, [], ◌∷◌, length, Bool, true, false, cond, if◌then◌else◌, nat_lt, Option, Some, None, Result, Ok, Err, append-nil, subst, true≢false}
 use Rattle.std.specs.Result.{is_ok}
 use Rattle.std.specs.Prelude.{unwrap_or}
 use Rattle.dns_data.specs.declared.record.Record.{Record}
@@ -12,7 +12,10 @@ use Rattle.zone_core.specs.Sets.{Records}
 use Rattle.zone_core.specs.Updates.{UpdateOf, adds_soa, update_of}
 use Rattle.zone_core.specs.Zones.{ZoneOf, built, fault_in, latest, min_rrset_ttls, unless_fault}
 use Rattle.item_lines.specs.Texts.{operation_line, update_text}
+use Rattle.text_commands.specs.declared.refusal.Refusal.{Refusal}
+use Rattle.text_commands.specs.declared.line_fault.JobFault.{JobFault}
 use Rattle.text_commands.specs.LineFaults.{◌>>=◌, of_masters, of_zones}
+use Rattle.text_commands.specs.Replies.{Answered}
 use Rattle.text_commands.specs.Canon.{zone_of_file}
 
 -- ---- an operation by itself
@@ -47,3 +50,13 @@ module _ (origin : List (List ℕ)) (zone : ZoneOf) where
 
   pub origin_read : (text : List ℕ) → zone_of_file origin text ≡ Ok zone → zone.origin ≡ origin
   origin_read text e = of_records (file_of text origin) e
+
+-- ---- the second file
+
+-- what was answered behind a writer that holds what another held
+pub answered_behind : (left : Option (List ℕ)) (answer : List ℕ → Result (List ℕ) Refusal) (before old new : Option (List ℕ)) (result done : Result (Unit {0}) JobFault)
+    (reads reads_after writes writes_after : ℕ) → old ≡ before → result ≡ done → Answered left answer old new result reads reads_after writes writes_after
+    → Answered left answer before new done reads reads_after writes writes_after
+answered_behind left answer before old new result done reads reads_after writes writes_after same is answered =
+    subst (λ o. Answered left answer o new done reads reads_after writes writes_after) same
+    (subst (λ r. Answered left answer old new r reads reads_after writes writes_after) is answered)

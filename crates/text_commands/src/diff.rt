@@ -113,10 +113,14 @@ fn old_zone<R: Source, W: Sink>(
     }
 }
 
+/// The word of the command line that is the origin.
+#[derive(Clone, Copy)]
+struct OriginWord<'a>(&'a str);
+
 /// The same, with a reader and a writer of std, whose failures are counted; the writer is handed back.
 fn counted<R: Read + Drop, W: Write + Drop, A: Ledger, B: Ledger>(
     alloc: Global,
-    origin: &str,
+    origin: OriginWord<'_>,
     reader: R,
     writer: W,
     reads: Blank,
@@ -128,11 +132,11 @@ fn counted<R: Read + Drop, W: Write + Drop, A: Ledger, B: Ledger>(
     requires writes_name { writes.name ≡ B.name }
     requires writes_parts { writes.parts ≡ B.parts }
     requires writes_some { 0 < writes.parts }
-    ensures { (failed_reads : ℕ) × (failed_writes : ℕ) × IsOldRead origin.now (R.remaining reader) (W.contents writer) (W.contents result.0) result.1 0 failed_reads 0 failed_writes }
+    ensures { (failed_reads : ℕ) × (failed_writes : ℕ) × IsOldRead origin.entry.0.now (R.remaining reader) (W.contents writer) (W.contents result.0) result.1 0 failed_reads 0 failed_writes }
 {
     let mut source: Counted<R, A> = Counted::new(reader, reads);
     let mut sink: Counted<W, B> = Counted::new(writer, writes);
-    let zone = old_zone(alloc, origin, &mut source, &mut sink);
+    let zone = old_zone(alloc, origin.0, &mut source, &mut sink);
     (sink.into_inner(), zone)
 }
 
@@ -146,7 +150,7 @@ fn read_old<R: Read + Drop, W: Write + Drop>(
     ensures { (failed_reads : ℕ) × (failed_writes : ℕ) × IsOldRead origin.now (R.remaining reader) (W.contents writer) (W.contents result.0) result.1 0 failed_reads 0 failed_writes }
 {
     let (reads, writes) = (Blank::new(1), Blank::new(1));
-    counted::<_, _, Brand, Brand>(alloc, origin, reader, writer, reads, writes)
+    counted::<_, _, Brand, Brand>(alloc, OriginWord(origin), reader, writer, reads, writes)
 }
 
 /// Writes the items that lead from one zone to another of an origin, and hands the writer back. Readers of std give the two master
@@ -164,11 +168,13 @@ pub fn do_diff<R: Read + Drop, S: Read + Drop, W: Write + Drop>(
     ensures { Differs origin.now (R.remaining old) (S.remaining new) (W.contents writer) (W.contents result.0) result.1 }
 {
     let (writer, zone) = read_old(alloc, origin, old, writer);
-    match zone {
-        Ok(old) => {
-            let (writer, done) = do_task(alloc, Diff { old }, new, writer);
-            (writer, done.map_err(DiffFault::New))
-        }
-        Err(fault) => (writer, Err(DiffFault::Old(fault))),
+    let old = match zone {
+        Ok(old) => old,
+        Err(fault) => return (writer, Err(DiffFault::Old(fault))),
+    };
+    let (writer, done) = do_task(alloc, Diff { old }, new, writer);
+    match done {
+        Ok(()) => (writer, Ok(())),
+        Err(fault) => (writer, Err(DiffFault::New(fault))),
     }
 }
