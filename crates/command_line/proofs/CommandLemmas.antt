@@ -45,6 +45,7 @@ met : (c : Command) → (first_walked c).stopped ≡ Some (command_word c, [])
 unfolding office clap_on_literals
 met command.Apply = refl
 met command.Canon = refl
+met command.Diff = refl
 met command.Import = refl
 met command.Export = refl
 met command.Migrate = refl
@@ -57,6 +58,7 @@ entered_by : (c : Command) (words : List Text) → entered_at (Some (command_wor
 unfolding office clap_on_literals
 entered_by command.Apply words = refl
 entered_by command.Canon words = refl
+entered_by command.Diff words = refl
 entered_by command.Import words = refl
 entered_by command.Export words = refl
 entered_by command.Migrate words = refl
@@ -68,6 +70,7 @@ entered_by command.Explain words = refl
 read_back : (c : Command) → command_of (command_word c) ≡ Some c
 read_back command.Apply = refl
 read_back command.Canon = refl
+read_back command.Diff = refl
 read_back command.Import = refl
 read_back command.Export = refl
 read_back command.Migrate = refl

@@ -17,7 +17,7 @@ use Rattle.command_line.specs.declared.job.ZoneForm.TheVariants.{Whole, Relative
 use Rattle.command_line.specs.declared.job.TextForm.{TextForm}
 use Rattle.command_line.specs.declared.job.TextForm.TheVariants.{Plain, Json}
 use Rattle.command_line.specs.PlainForms.{IsNumberGiven, IsPlain, IsValue, IsValueIfGiven, existing_words, form_words, given, place_words, zone_form_words}
-use Rattle.command_line.specs.Words.{JobOf, apply, canon, imports, export, migrate, rights, serve, check_policy, explain, job_by, job_of, stored_at}
+use Rattle.command_line.specs.Words.{JobOf, apply, canon, diff, files_at, imports, export, migrate, rights, serve, check_policy, explain, job_by, job_of, stored_at}
 use Rattle.command_line.proofs.CommandLemmas.{job_of_command, no_words, place_walked, rows_from, rules_of, standing, value_walked}
 
 -- ---- steps
@@ -61,6 +61,17 @@ canon_read : (o : Text) (form : ZoneForm) → IsValue o → job_from command.Can
 unfolding clap_on_literals
 canon_read o Whole is = option_read command.Canon start argument.Origin o [] is refl
 canon_read o Relative is = option_read command.Canon start argument.Origin o (zone_form_words Relative) is refl
+
+module _ (o old new : Text) (is_o : IsValue o) (is_old : IsValue old) (is_new : IsValue new) where
+  abbrev origin_given : Held
+  origin_given = valued command.Diff start argument.Origin o
+
+  diff_read : job_from command.Diff (given argument.Origin o ++ old ∷ new ∷ []) (walk_from start) ≡ Some (diff o (files_at old new))
+  unfolding clap_on_literals
+  diff_read =
+      option_read command.Diff start argument.Origin o (old ∷ new ∷ []) is_o refl
+      ∙ (place_read command.Diff 1 origin_given argument.Old old (new ∷ []) is_old refl
+      ∙ place_read command.Diff 2 (placed command.Diff 1 origin_given argument.Old old) argument.New new [] is_new refl)
 
 migrate_read : (s : Text) → IsValue s → job_from command.Migrate (given argument.Store s) (walk_from start) ≡ Some (migrate s)
 unfolding clap_on_literals
@@ -174,6 +185,8 @@ pub plain_read : (words : List Text) (x : JobOf) → IsPlain words x → job_of 
 plain_read words apply (inl none) = ap job_of none ∙ no_words
 plain_read words apply (inr word) = ap job_of word ∙ job_of_command command.Apply []
 plain_read words (canon o form) is = ap job_of is.1 ∙ (job_of_command command.Canon _ ∙ canon_read o form is.0)
+plain_read words (diff o files) is =
+    ap job_of is.3 ∙ (job_of_command command.Diff _ ∙ diff_read o files.old files.new is.0 is.1 is.2)
 plain_read words (imports z existing) is =
     ap job_of is.2 ∙ (job_of_command command.Import _ ∙ import_read z.store z.origin existing is.0 is.1)
 plain_read words (export z form) is = ap job_of is.2 ∙ (job_of_command command.Export _ ∙ export_read z.store z.origin form is.0 is.1)

@@ -30,6 +30,8 @@ argument_row argument.Patience = (codes "patience", Number)
 argument_row argument.Number = (codes "number", OptionalPlace)
 argument_row argument.Subject = (codes "subject", Place)
 argument_row argument.Json = (codes "json", Flag)
+argument_row argument.Old = (codes "old", Place)
+argument_row argument.New = (codes "new", Place)
 
 abbrev pub argument_name : Argument → Text
 argument_name a = (argument_row a).0
@@ -43,6 +45,7 @@ argument_form a = (argument_row a).1
 abbrev pub command_row : Command → Text × List Argument
 command_row command.Apply = (codes "apply", [])
 command_row command.Canon = (codes "canon", argument.Origin ∷ argument.Relative ∷ [])
+command_row command.Diff = (codes "diff", argument.Origin ∷ argument.Old ∷ argument.New ∷ [])
 command_row command.Import = (codes "import", argument.Store ∷ argument.Origin ∷ argument.Replace ∷ [])
 command_row command.Export = (codes "export", argument.Store ∷ argument.Origin ∷ argument.Relative ∷ [])
 command_row command.Migrate = (codes "migrate", argument.Store ∷ [])
@@ -61,7 +64,8 @@ arguments_of c = (command_row c).1
 
 abbrev pub all_commands : List Command
 all_commands =
-    command.Apply ∷ command.Canon ∷ command.Import ∷ command.Export ∷ command.Migrate ∷ command.Rights ∷ command.Serve ∷ command.Check ∷ command.Explain ∷ []
+    command.Apply ∷ command.Canon ∷ command.Diff ∷ command.Import ∷ command.Export ∷ command.Migrate ∷ command.Rights ∷ command.Serve ∷ command.Check
+    ∷ command.Explain ∷ []
 
 -- the command that a word names
 abbrev pub command_of : Text → Option Command

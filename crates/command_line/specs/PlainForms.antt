@@ -4,7 +4,7 @@ use Rattle.std.specs.Str.{bytes_eq}
 use Rattle.clap.specs.Words.{Text}
 use Rattle.clap.specs.Lexer.{long_of, short_of}
 use Rattle.command_line.specs.Commands.{argument_name}
-use Rattle.command_line.specs.Words.{JobOf, apply, canon, imports, export, migrate, rights, serve, check_policy, explain, number_in}
+use Rattle.command_line.specs.Words.{JobOf, apply, canon, diff, imports, export, migrate, rights, serve, check_policy, explain, number_in}
 use Rattle.command_line.specs.declared.argument.Argument.{Argument}
 use Rattle.command_line.specs.declared.argument.Argument.TheVariants as argument
 use Rattle.command_line.specs.declared.job.Existing.{Existing}
@@ -58,6 +58,8 @@ IsNumberGiven a (Some n) words = (t : Text) × IsValue t × (number_in t ≡ Som
 abbrev pub IsPlain : List Text → JobOf → Type 0
 IsPlain words apply = (words ≡ []) ⊎ (words ≡ codes "apply" ∷ [])
 IsPlain words (canon origin form) = IsValue origin × (words ≡ codes "canon" ∷ (given argument.Origin origin ++ zone_form_words form))
+IsPlain words (diff origin files) = IsValue origin × IsValue files.old × IsValue files.new
+    × (words ≡ codes "diff" ∷ (given argument.Origin origin ++ files.old ∷ files.new ∷ []))
 IsPlain words (imports zone existing) = IsValue zone.store × IsValue zone.origin
     × (words ≡ codes "import" ∷ (given argument.Store zone.store ++ given argument.Origin zone.origin ++ existing_words existing))
 IsPlain words (export zone form) = IsValue zone.store × IsValue zone.origin

@@ -16,6 +16,7 @@ use Rattle.command_line.specs.declared.job.TextForm.TheVariants.{Plain, Json}
 use Rattle.command_line.specs.declared.job.ZoneForm.{ZoneForm}
 use Rattle.command_line.specs.declared.job.ZoneForm.TheVariants.{Whole, Relative}
 use Rattle.command_line.specs.declared.job.StoredZone.{StoredZone}
+use Rattle.command_line.specs.declared.job.ZoneFiles.{ZoneFiles}
 use Rattle.command_line.specs.declared.job.Job.{Job}
 use Rattle.command_line.specs.declared.job.Job.TheVariants as job
 
@@ -26,10 +27,16 @@ pub record StoredOf : Type 0 where
   pub store : Text
   pub origin : Text
 
+-- the files of two zones, by their paths
+pub record FilesOf : Type 0 where
+  pub old : Text
+  pub new : Text
+
 -- a job, by its words
 pub data JobOf : Type 0 where
   apply : JobOf
   canon : (origin : Text) → ZoneForm → JobOf
+  diff : (origin : Text) → FilesOf → JobOf
   imports : StoredOf → Existing → JobOf
   export : StoredOf → ZoneForm → JobOf
   migrate : (store : Text) → JobOf
@@ -41,9 +48,13 @@ pub data JobOf : Type 0 where
 abbrev pub zone_asked : StoredZone → StoredOf
 zone_asked zone = record { store = zone.store.now; origin = zone.origin.now }
 
+abbrev pub files_asked : ZoneFiles → FilesOf
+files_asked files = record { old = files.old.now; new = files.new.now }
+
 abbrev pub asks : Job → JobOf
 asks job.Apply = apply
 asks (job.Canon origin form) = canon origin.now form
+asks (job.Diff origin files) = diff origin.now (files_asked files)
 asks (job.Import zone existing) = imports (zone_asked zone) existing
 asks (job.Export zone form) = export (zone_asked zone) form
 asks (job.Migrate store) = migrate store.now
@@ -82,6 +93,15 @@ form_of (Some t) = if bytes_eq t (codes "true") then Json else Plain
 
 abbrev pub canon_of : List Row → Option JobOf
 canon_of rows = option_map (λ o. canon o (zone_form_of (first_of (argument_name argument.Relative) rows))) (first_of (argument_name argument.Origin) rows)
+
+abbrev pub files_at : Text → Text → FilesOf
+files_at old new = record { old = old; new = new }
+
+abbrev pub files_of : List Row → Option FilesOf
+files_of rows = option_and_then (λ o. option_map (λ n. files_at o n) (first_of (argument_name argument.New) rows)) (first_of (argument_name argument.Old) rows)
+
+abbrev pub diff_of : List Row → Option JobOf
+diff_of rows = option_and_then (λ o. option_map (λ f. diff o f) (files_of rows)) (first_of (argument_name argument.Origin) rows)
 
 abbrev pub stored_at : Text → Text → StoredOf
 stored_at store origin = record { store = store; origin = origin }
@@ -129,6 +149,7 @@ explain_of rows = explain (first_of (argument_name argument.Number) rows) (form_
 abbrev pub job_by : Command → List Row → Option JobOf
 job_by command.Apply rows = Some apply
 job_by command.Canon rows = canon_of rows
+job_by command.Diff rows = diff_of rows
 job_by command.Import rows = import_of rows
 job_by command.Export rows = export_of rows
 job_by command.Migrate rows = migrate_of rows

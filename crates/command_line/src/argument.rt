@@ -25,6 +25,8 @@ pub enum Argument {
     Number,
     Subject,
     Json,
+    Old,
+    New,
 }
 
 /// How an argument is written.
@@ -108,6 +110,16 @@ impl Argument {
             ),
             Argument::Subject => Row::new("subject", Form::Place, "What to check: policy"),
             Argument::Json => Row::new("json", Form::Flag, "As an array of JSON"),
+            Argument::Old => Row::new(
+                "old",
+                Form::Place,
+                "The file of the zone as it is, or - for standard input",
+            ),
+            Argument::New => Row::new(
+                "new",
+                Form::Place,
+                "The file of the zone as it is to be, or -",
+            ),
         }
     }
 

@@ -9,6 +9,7 @@ use crate::argument::Argument;
 pub enum Command {
     Apply,
     Canon,
+    Diff,
     Import,
     Export,
     Migrate,
@@ -54,9 +55,10 @@ impl Command {
     ghost use Rattle.command_line.specs.Commands.{command_word, arguments_of, command_of};
 
     /// The commands, in the order of the help.
-    pub const ALL: [Command; 9] = [
+    pub const ALL: [Command; 10] = [
         Command::Apply,
         Command::Canon,
+        Command::Diff,
         Command::Import,
         Command::Export,
         Command::Migrate,
@@ -83,6 +85,12 @@ impl Command {
                 "Prints a zone in canonical form",
                 "Example: zoneoffice canon --origin example.org. < zone.txt",
                 &[Argument::Origin, Argument::Relative],
+            ),
+            Command::Diff => Row::new(
+                "diff",
+                "Prints the items that lead from a zone to another",
+                "Example: zoneoffice diff --origin example.org. old.zone new.zone",
+                &[Argument::Origin, Argument::Old, Argument::New],
             ),
             Command::Import => Row::new(
                 "import",

@@ -12,6 +12,13 @@ pub enum Job<'a> {
         /// In which form it is printed.
         form: ZoneForm,
     },
+    /// To print the items that lead from a zone to another.
+    Diff {
+        /// The name of their origin.
+        origin: &'a str,
+        /// Where the two zones are.
+        files: ZoneFiles<'a>,
+    },
     /// To put a zone that is read from standard input into a store.
     Import {
         /// Which zone, and which store.
@@ -82,6 +89,15 @@ pub struct StoredZone<'a> {
     pub store: &'a str,
     /// The name of the zone's origin.
     pub origin: &'a str,
+}
+
+/// The master files of two zones of one origin. A path that is `-` is standard input.
+#[derive(Clone, Copy, PartialEq, Eq)]
+pub struct ZoneFiles<'a> {
+    /// The path of the zone as it is.
+    pub old: &'a str,
+    /// The path of the zone as it is to be.
+    pub new: &'a str,
 }
 
 /// What becomes of a zone of a store when one of its origin is imported.

@@ -7,5 +7,5 @@ mod job;
 mod parser;
 mod words;
 
-pub use job::{Existing, Job, QuestionWords, Service, StoredZone, TextForm, ZoneForm};
+pub use job::{Existing, Job, QuestionWords, Service, StoredZone, TextForm, ZoneFiles, ZoneForm};
 pub use words::{WordsFault, read_words};

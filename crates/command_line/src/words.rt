@@ -3,13 +3,15 @@
 ghost use Rattle.std.specs.Prelude.{◌≡◌, [], IfErr, IfOk, map, option_map, Some, is_some, true, codes};
 ghost use Rattle.clap.specs.Words.{app_of, fault_of, first_of, found_of, kind_of, one_of, rows_of, subcommand_rows_of, takes};
 ghost use Rattle.command_line.specs.Commands.{office, argument_name};
-ghost use Rattle.command_line.specs.Words.{asks, JobOf, canon_of, zone_asked, stored_of, import_of, export_of, migrate_of, rights_of, serve_of, checked_of, check_of, explain_of, number_if, existing_of, zone_form_of, form_of, job_by, job_named, job_met, job_of};
+ghost use Rattle.command_line.specs.Words.{asks, JobOf, canon_of, files_asked, files_of, diff_of, zone_asked, stored_of, import_of, export_of, migrate_of, rights_of, serve_of, checked_of, check_of, explain_of, number_if, existing_of, zone_form_of, form_of, job_by, job_named, job_met, job_of};
 ghost use Rattle.command_line.specs.PlainForms.{IsPlain};
 ghost use Rattle.command_line.specs.Misuse.{IsReportedAs, IsReported, is_help};
 
 use crate::argument::Argument;
 use crate::command::Command;
-use crate::job::{Existing, Job, QuestionWords, Service, StoredZone, TextForm, ZoneForm};
+use crate::job::{
+    Existing, Job, QuestionWords, Service, StoredZone, TextForm, ZoneFiles, ZoneForm,
+};
 use crate::parser::parser;
 use clap::error::ErrorKind;
 use clap::{ArgMatches, Error};
@@ -77,6 +79,24 @@ fn canon_in<'a>(matches: &ArgMatches<'a>) -> Option<Job<'a>>
     let origin = text_at(matches, Argument::Origin)?;
     let form = zone_form_at(matches);
     Some(Job::Canon { origin, form })
+}
+
+/// The files of two zones that words name.
+fn files_at<'a>(matches: &ArgMatches<'a>) -> Option<ZoneFiles<'a>>
+    ensures { option_map files_asked result ≡ files_of (rows_of (found_of matches.now)) }
+{
+    let old = text_at(matches, Argument::Old)?;
+    let new = text_at(matches, Argument::New)?;
+    Some(ZoneFiles { old, new })
+}
+
+/// The job of the command `diff`.
+fn diff_in<'a>(matches: &ArgMatches<'a>) -> Option<Job<'a>>
+    ensures { option_map asks result ≡ diff_of (rows_of (found_of matches.now)) }
+{
+    let origin = text_at(matches, Argument::Origin)?;
+    let files = files_at(matches)?;
+    Some(Job::Diff { origin, files })
 }
 
 /// The zone of a store that words name.
@@ -185,6 +205,7 @@ fn job_of_command<'a>(command: Command, matches: &ArgMatches<'a>) -> Option<Job<
     match command {
         Command::Apply => Some(Job::Apply),
         Command::Canon => canon_in(matches),
+        Command::Diff => diff_in(matches),
         Command::Import => import_in(matches),
         Command::Export => export_in(matches),
         Command::Migrate => migrate_in(matches),
@@ -237,6 +258,7 @@ fn reported(alloc: Global, error: Error) -> WordsFault
 }
 
 /// The job that the words behind the program's name ask for: none or `apply`; `canon --origin NAME [--relative]`;
+/// `diff --origin NAME OLD NEW`;
 /// `import --store PATH --origin NAME [--replace]`; `export --store PATH --origin NAME [--relative]`;
 /// `migrate --store PATH`;
 /// `rights --policy PATH --caller CALLER NAME TYPE ACTION`;

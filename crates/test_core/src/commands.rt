@@ -1,8 +1,10 @@
 //! What commands print.
 
 mod devices;
+mod diffs;
 
 use crate::commands::devices::{Command, Manner};
+use crate::commands::diffs::push_diff;
 use std::alloc::{AllocError, Global};
 use test_rows::Row;
 use text_commands::{Findings, JobFault, LineFault};
@@ -16,6 +18,7 @@ pub fn push_answer(alloc: Global, row: &Row<'_>, answer: &mut Vec<u8>) -> Result
         "reads" => push_reads(alloc, text, &row.body, answer),
         "writes" => push_writes(alloc, text, &row.body, answer),
         "heads" => push_heads(alloc, text, answer),
+        "diff" | "edit" | "diff-reads" | "diff-write" => push_diff(alloc, row, answer),
         "no-memory" => push_status(alloc, Err(JobFault::Told(LineFault::NoMemory)), answer),
         name => push_run(
             alloc,

@@ -38,6 +38,9 @@
 //! call; `reads N COUNT` or `writes N COUNT`, where they do and so many of the calls fail, each in a run of its own.
 //! `heads NUMBER|..` prints the first lines of what `explain` prints of each number.
 //!
+//! `diff ORIGIN` gives two master files, with a line `--` between them, to the command; `edit ORIGIN` prints what `apply` makes of the
+//! first and the items; in `diff-reads` the first read of each file fails, and in `diff-write` the first write.
+//!
 //! `words`: in a row the words of the command line have bars between them, and a verb alone has no words. `job WORDS` prints the job
 //! that they ask for, or `help` or `misused`; `text WORDS` prints what is told where they ask for none.
 //!

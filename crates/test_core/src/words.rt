@@ -69,6 +69,10 @@ fn push_job(alloc: Global, job: &Job<'_>, answer: &mut Vec<u8>) -> Result<(), Al
         Job::Canon { origin, form } => {
             push_all(&["canon (", origin, ")", form_text(*form)], answer)
         }
+        Job::Diff { origin, files } => push_all(
+            &["diff (", origin, ") (", files.old, ") (", files.new, ")"],
+            answer,
+        ),
         Job::Import { zone, existing } => push_zone(
             "import",
             zone,

@@ -8,5 +8,7 @@ pub mod SendLemmas
 pub mod StepLemmas
 pub mod ExplainLemmas
 pub mod CheckLemmas
+pub mod DiffLaws
+pub mod DiffLemmas
 pub mod RefusalNumberLemmas
 pub mod RefusalTableLemmas

@@ -9,6 +9,7 @@ pub mod PartViews
 pub mod Rights
 pub mod Explain
 pub mod Check
+pub mod Diff
 pub mod RefusalTables
 pub mod RefusalNumbers
 pub mod RefusalTexts

@@ -2,6 +2,7 @@
 
 ghost use Rattle.std.specs.Prelude.{◌≡◌, ◌↔◌, List, ℕ, Some};
 ghost use Rattle.text_commands.specs.Canon.{ZonesAreReadAgain};
+ghost use Rattle.text_commands.specs.Diff.{DiffsLead, DiffsAreApplied};
 ghost use Rattle.text_commands.specs.Parts.{Parts, IsDivided, divided};
 ghost use Rattle.text_commands.specs.RefusalLaws.{RowsAreOfTheirNumber, NumbersAreApart, TextsArePlain};
 
@@ -14,6 +15,13 @@ pub fn text_is_divided()
 /// is not too long for a master file.
 pub fn zones_are_read_again()
     ensures { ZonesAreReadAgain }
+{}
+
+/// The operations between two zones lead from the one to the other. If there are at most 256, the items that `diff` prints are read as
+/// these operations, and `apply` prints the zone to which they lead.
+pub fn diffs_lead()
+    ensures lead { DiffsLead }
+    ensures applied { DiffsAreApplied }
 {}
 
 /// The rows of a refusal's number are those of its parts.

@@ -1,4 +1,4 @@
-//! The commands that need no store, `canon`, `apply`, `rights`, `check policy` and `explain`: each writes its answer to an input, or
+//! The commands that need no store, `canon`, `apply`, `diff`, `rights`, `check policy` and `explain`: each writes its answer to an input, or
 //! one line that says why it has no answer. And what every command shares: its refusals, the one table of all refusals in words, and
 //! how inputs are read and texts written.
 #![tactic(auto)]
@@ -7,7 +7,10 @@ mod apply;
 mod canon;
 mod check;
 mod device;
+mod diff;
+mod diff_fault;
 mod explain;
+mod input_file;
 mod laws;
 mod line_fault;
 mod parts;
@@ -24,9 +27,12 @@ pub use apply::Apply;
 pub use canon::{Canon, print_zone_in, read_name, read_zone};
 pub use check::{Findings, do_check};
 pub use device::{ended, read_input, tell, write_text};
+pub use diff::do_diff;
+pub use diff_fault::DiffFault;
 pub use explain::Explain;
+pub use input_file::InputFile;
 pub use laws::{
-    numbers_are_apart, rows_are_of_their_number, text_is_divided, texts_are_plain,
+    diffs_lead, numbers_are_apart, rows_are_of_their_number, text_is_divided, texts_are_plain,
     zones_are_read_again,
 };
 pub use line_fault::{JobFault, LineFault, NO_MEMORY_LINE};

@@ -6,6 +6,8 @@ use Rattle.text_commands.specs.Replies.{Answered}
 use Rattle.text_commands.specs.declared.check.Findings.{Findings}
 use Rattle.text_commands.specs.declared.check.Findings.TheVariants.{Absent, Present}
 use Rattle.text_commands.specs.Check.{Checked}
+use Rattle.text_commands.specs.declared.diff_fault.DiffFault.{DiffFault}
+use Rattle.text_commands.specs.Diff.{Differs}
 
 -- 0 where the job went through, and else 1
 abbrev pub status_of : Result (Unit {0}) JobFault → ℕ
@@ -28,3 +30,13 @@ check_status_of (Err fault) = 1
 abbrev pub EndsCheck : Option (List ℕ) → Option (List ℕ) → Option (List ℕ) → ℕ → Type 0
 EndsCheck left old new status = (outcome : Result Findings JobFault) × (failed_reads : ℕ) × (failed_writes : ℕ)
     × Checked left old new outcome 0 failed_reads 0 failed_writes × (status ≡ check_status_of outcome)
+
+-- 0 where a diff went through, and else 1
+abbrev pub diff_status_of : Result (Unit {0}) DiffFault → ℕ
+diff_status_of (Ok done) = 0
+diff_status_of (Err fault) = 1
+
+-- the same of a diff: at 0 both zones were read, and all items were written
+abbrev pub EndsDiff : List ℕ → Option (List ℕ) → Option (List ℕ) → Option (List ℕ) → Option (List ℕ) → ℕ → Type 0
+EndsDiff word old_left new_left before after status =
+    (outcome : Result (Unit {0}) DiffFault) × Differs word old_left new_left before after outcome × (status ≡ diff_status_of outcome)

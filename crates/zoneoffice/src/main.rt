@@ -3,18 +3,19 @@
 
 ghost use Rattle.std.specs.Prelude.{◌≡◌};
 ghost use Rattle.std.specs.Process.{exit_status};
-ghost use Rattle.zoneoffice.specs.Status.{EndsTask, EndsCheck, status_of, check_status_of};
+ghost use Rattle.zoneoffice.specs.Status.{EndsTask, EndsCheck, EndsDiff, status_of, check_status_of, diff_status_of};
 
 use command_line::{Job, WordsFault, read_words};
 use std::alloc::{AllocError, Global};
 use std::env;
+use std::fmt::Display;
 use std::io::{self, ErrorKind, Read, Write};
 use std::process::ExitCode;
 use store_commands::{
     Apply, Canon, Explain, JobFault, NO_MEMORY_LINE, PolicyFile, Task, do_export, do_import,
     do_migrate, do_serve, do_task,
 };
-use text_commands::{Findings, do_check};
+use text_commands::{DiffFault, Findings, InputFile, do_check, do_diff};
 
 /// The exit status of a job: 0 where it went through, and else 1.
 fn status(done: Result<(), JobFault>) -> ExitCode
@@ -27,7 +28,7 @@ fn status(done: Result<(), JobFault>) -> ExitCode
 }
 
 /// Says in words on standard error why a job was not done.
-fn complain(rt: &HostRuntime, fault: JobFault) {
+fn complain<F: Display + Drop>(rt: &HostRuntime, fault: F) {
     if let Ok(words) = format!(in rt.alloc(); "zoneoffice: {fault}") {
         let _ = rt.eprintln(words.as_str());
     }
@@ -84,6 +85,34 @@ fn check_with<R: Read + Drop, W: Write + Drop>(
     (writer, check_status(rt, done))
 }
 
+/// The exit status of a diff: 0 where it went through, and else 1, behind the words that say why it did not.
+fn diff_status(rt: &HostRuntime, done: Result<(), DiffFault>) -> ExitCode
+    ensures { exit_status result ≡ diff_status_of done }
+{
+    match done {
+        Ok(()) => ExitCode::SUCCESS,
+        Err(fault) => {
+            complain(rt, fault);
+            ExitCode::FAILURE
+        }
+    }
+}
+
+/// Writes the items that lead from the zone of one reader to that of another, with a writer, which is handed back.
+fn diff_with<R: Read + Drop, S: Read + Drop, W: Write + Drop>(
+    rt: &HostRuntime,
+    origin: &str,
+    old: R,
+    new: S,
+    writer: W,
+) -> (W, ExitCode)
+    // At status 0 both zones were read, and all items that lead from the one to the other were written.
+    ensures { EndsDiff origin.now (R.remaining old) (S.remaining new) (W.contents writer) (W.contents result.0) (exit_status result.1) }
+{
+    let (writer, done) = do_diff(rt.alloc(), origin, old, new, writer);
+    (writer, diff_status(rt, done))
+}
+
 /// Does a job.
 fn do_job(rt: &HostRuntime, job: Job<'_>) -> ExitCode {
     match job {
@@ -94,6 +123,13 @@ fn do_job(rt: &HostRuntime, job: Job<'_>) -> ExitCode {
             rt.stdin(),
             rt.stdout(),
         ).1,
+        Job::Diff { origin, files } => {
+            let (old, new) = (
+                InputFile::open(rt, files.old),
+                InputFile::open(rt, files.new),
+            );
+            diff_with(rt, origin, old, new, rt.stdout()).1
+        }
         Job::Import { zone, existing } => {
             ended(
                 rt,

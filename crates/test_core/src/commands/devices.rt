@@ -21,7 +21,7 @@ impl Manner {
         fails: 0,
     };
 
-    fn device(self, octets: Vec<u8>) -> Pieces {
+    pub fn device(self, octets: Vec<u8>) -> Pieces {
         Pieces::new(octets, self.most, self.fails)
     }
 }

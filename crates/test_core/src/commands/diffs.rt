@@ -1,0 +1,130 @@
+use crate::commands::devices::Manner;
+use std::alloc::{AllocError, Global};
+use test_rows::Row;
+use text_commands::{Apply, DiffFault, do_diff, do_task};
+
+/// The master files of two zones of an origin.
+#[derive(Clone, Copy)]
+struct TwoZones<'a> {
+    origin: &'a str,
+    old: &'a str,
+    new: &'a str,
+}
+
+/// How the devices of a diff work.
+#[derive(Clone, Copy)]
+struct Manners {
+    old: Manner,
+    new: Manner,
+    writing: Manner,
+}
+
+impl Manners {
+    /// Devices that never fail.
+    const SOUND: Manners = Manners {
+        old: Manner::SOUND,
+        new: Manner::SOUND,
+        writing: Manner::SOUND,
+    };
+}
+
+impl<'a> TwoZones<'a> {
+    /// The two files of a body, with a line `--` between them.
+    fn of(origin: &'a str, body: &'a [u8]) -> TwoZones<'a> {
+        let text = str::from_utf8(body).unwrap_or("");
+        let (old, new) = text.split_once("--\n").unwrap_or((text, ""));
+        TwoZones { origin, old, new }
+    }
+
+    /// What their diff prints, and how it went.
+    fn diff(
+        self,
+        alloc: Global,
+        manners: Manners,
+    ) -> Result<(Vec<u8>, Result<(), DiffFault>), AllocError> {
+        let old = manners
+            .old
+            .device(Vec::from_slice(alloc, self.old.as_bytes())?);
+        let new = manners
+            .new
+            .device(Vec::from_slice(alloc, self.new.as_bytes())?);
+        let writer = manners.writing.device(Vec::new(alloc));
+        let (page, done) = do_diff(alloc, self.origin, old, new, writer);
+        Ok((page.octets, done))
+    }
+
+    /// What `apply` prints of the old zone and the items.
+    fn edited(self, alloc: Global) -> Result<Vec<u8>, AllocError> {
+        let (items, _) = self.diff(alloc, Manners::SOUND)?;
+        let mut input = Vec::from_slice(alloc, self.old.as_bytes())?;
+        input.extend_from_slice(b"--\n")?;
+        input.extend_from_slice(&items)?;
+        let reader = Manner::SOUND.device(input);
+        let writer = Manner::SOUND.device(Vec::new(alloc));
+        Ok(do_task(alloc, Apply, reader, writer).0.octets)
+    }
+}
+
+/// Appends the answer to a row of a diff: what it prints; what `apply` makes of the old zone and the items; what is printed where the
+/// first read of each file fails; and how much is printed where each of some writes fails.
+pub fn push_diff(alloc: Global, row: &Row<'_>, answer: &mut Vec<u8>) -> Result<(), AllocError> {
+    let origin = str::from_utf8(&row.text).unwrap_or("");
+    let zones = TwoZones::of(origin, &row.body);
+    let failing = Manner { most: 64, fails: 1 };
+    match row.verb {
+        "edit" => answer.extend_from_slice(&zones.edited(alloc)?),
+        "diff-reads" => {
+            let sound = Manners::SOUND;
+            push_run(
+                alloc,
+                zones,
+                Manners {
+                    old: failing,
+                    ..sound
+                },
+                answer,
+            )?;
+            answer.push(b'\n')?;
+            push_run(
+                alloc,
+                zones,
+                Manners {
+                    new: failing,
+                    ..sound
+                },
+                answer,
+            )
+        }
+        "diff-write" => {
+            let sound = Manners::SOUND;
+            push_run(
+                alloc,
+                zones,
+                Manners {
+                    writing: failing,
+                    ..sound
+                },
+                answer,
+            )
+        }
+        _ => push_run(alloc, zones, Manners::SOUND, answer),
+    }
+}
+
+/// Appends what a diff prints with devices that work so, and its exit status.
+fn push_run(
+    alloc: Global,
+    zones: TwoZones<'_>,
+    manners: Manners,
+    answer: &mut Vec<u8>,
+) -> Result<(), AllocError> {
+    let (printed, done) = zones.diff(alloc, manners)?;
+    answer.extend_from_slice(&printed)?;
+    match done {
+        Ok(()) => answer.extend_from_slice(b"status 0"),
+        Err(fault) => {
+            let status = format!(in alloc; "status 1: {fault}")?;
+            answer.extend_from_slice(status.as_bytes())
+        }
+    }
+}

@@ -1,0 +1,62 @@
+-- The items between two zones.
+use Rattle.std.proofs.Common.{◌≡◌, ◌∙◌, ap, sym, refl, ℕ, List, [], ◌∷◌, length, Bool, true, false, cond, if◌then◌else◌, nat_lt, Option, Some, None, Result, Ok, Err, append-nil, subst, true≢false}
+use Rattle.std.specs.Result.{is_ok}
+use Rattle.std.specs.Prelude.{unwrap_or}
+use Rattle.dns_data.specs.declared.record.Record.{Record}
+use Rattle.dns_master.specs.Files.{file_of}
+use Rattle.dns_master.specs.declared.master_fault.MasterFault.{MasterFault}
+use Rattle.zone_core.specs.declared.refusals.ZoneFault.{ZoneFault}
+use Rattle.zone_core.specs.declared.refusals.UpdateFault.TheVariants.{TwoSoa}
+use Rattle.zone_core.specs.declared.update.Operation.{Operation}
+use Rattle.zone_core.specs.Sets.{Records}
+use Rattle.zone_core.specs.Updates.{UpdateOf, adds_soa, update_of}
+use Rattle.zone_core.specs.Zones.{ZoneOf, built, fault_in, latest, min_rrset_ttls, unless_fault}
+use Rattle.item_lines.specs.Texts.{operation_line, update_text}
+use Rattle.text_commands.specs.declared.refusal.Refusal.{Refusal}
+use Rattle.text_commands.specs.declared.line_fault.JobFault.{JobFault}
+use Rattle.text_commands.specs.LineFaults.{◌>>=◌, of_masters, of_zones}
+use Rattle.text_commands.specs.Replies.{Answered}
+use Rattle.text_commands.specs.Canon.{zone_of_file}
+
+-- ---- an operation by itself
+
+abbrev pub alone : Operation → UpdateOf
+alone op = record { prerequisites = []; operations = op ∷ [] }
+
+pub alone_built : (op : Operation) → update_of [] (op ∷ []) ≡ Ok (alone op)
+alone_built op = by (adds_soa op)
+  where
+    by : (b : Bool) → (if nat_lt 1 (length (cond b (op ∷ []) [])) then Err TwoSoa else Ok (alone op)) ≡ Ok (alone op)
+    by true = refl
+    by false = refl
+
+pub alone_printed : (op : Operation) → update_text (alone op) ≡ operation_line op
+alone_printed op = append-nil (operation_line op)
+
+-- ---- the origin of a zone that was read
+
+module _ (origin : List (List ℕ)) (zone : ZoneOf) where
+  of_set : (set : Records) (fault : Option ZoneFault) → of_zones (unless_fault origin set fault) ≡ Ok zone → zone.origin ≡ origin
+  of_set set None e = ap (λ r. (or_else r).origin) (sym e)
+    where
+      or_else : {E : Type 0} → Result ZoneOf E → ZoneOf
+      or_else (Ok z) = z
+      or_else (Err fault) = zone
+  of_set set (Some fault) e = absurd (true≢false (sym (ap is_ok e)))
+
+  of_records : (read : Result (List Record) MasterFault) → (of_masters read >>= λ records. of_zones (built origin records)) ≡ Ok zone → zone.origin ≡ origin
+  of_records (Ok records) e = of_set (min_rrset_ttls (latest records)) (fault_in origin (min_rrset_ttls (latest records))) e
+  of_records (Err fault) e = absurd (true≢false (sym (ap is_ok e)))
+
+  pub origin_read : (text : List ℕ) → zone_of_file origin text ≡ Ok zone → zone.origin ≡ origin
+  origin_read text e = of_records (file_of text origin) e
+
+-- ---- the second file
+
+-- what was answered behind a writer that holds what another held
+pub answered_behind : (left : Option (List ℕ)) (answer : List ℕ → Result (List ℕ) Refusal) (before old new : Option (List ℕ)) (result done : Result (Unit {0}) JobFault)
+    (reads reads_after writes writes_after : ℕ) → old ≡ before → result ≡ done → Answered left answer old new result reads reads_after writes writes_after
+    → Answered left answer before new done reads reads_after writes writes_after
+answered_behind left answer before old new result done reads reads_after writes writes_after same is answered =
+    subst (λ o. Answered left answer o new done reads reads_after writes writes_after) same
+    (subst (λ r. Answered left answer old new r reads reads_after writes writes_after) is answered)

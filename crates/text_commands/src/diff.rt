@@ -1,0 +1,180 @@
+//! The items that lead from one zone to another.
+
+ghost use Rattle.std.specs.Prelude.{◌≡◌, ◌<◌, ℕ, IfOk, string_bytes};
+ghost use Rattle.item_lines.specs.Texts.{operation_line};
+ghost use Rattle.text_commands.specs.LineFaults.{Gives, GivesOf};
+ghost use Rattle.text_commands.specs.Diff.{operations_text, items_between, items_to, diff_text, IsOldRead, Differs};
+
+use crate::canon::{read_zone, zone_of_file};
+use crate::device::{read_input, tell, write_text};
+use crate::diff_fault::DiffFault;
+use crate::line_fault::{JobFault, LineFault};
+use crate::task::{Task, do_task};
+use dns_master::{Counted, Sink, Source};
+use item_lines::items_text;
+use std::alloc::{AllocError, Global};
+use std::io::{Read, Write};
+use std::marker::Brand;
+use std::sync::ledger::{Blank, Ledger};
+use zone_core::{Operation, Update, Zone, operations_between};
+
+/// The line of an operation, which is an update by itself. The only error is out of memory.
+fn operation_line(alloc: Global, operation: Operation) -> Result<String, AllocError>
+    ensures { IfOk result (λ text. string_bytes text ≡ operation_line operation) }
+{
+    let mut operations = Vec::new(alloc);
+    operations.push(operation)?;
+    match Update::build(Vec::new(alloc), operations) {
+        Ok(update) => items_text(alloc, &update),
+        Err(_) => unreachable!(),
+    }
+}
+
+/// The lines of operations. The only error is out of memory.
+fn operations_text(alloc: Global, operations: Vec<Operation>) -> Result<Vec<u8>, AllocError>
+    ensures { IfOk result (λ text. text.items ≡ operations_text operations.items) }
+{
+    let mut text = Vec::new(alloc);
+    for operation in operations {
+        let line = operation_line(alloc, operation)?;
+        text.extend_from_slice(line.as_bytes())?;
+    }
+    Ok(text)
+}
+
+/// The items that lead from a zone to another of its origin. The only error is out of memory.
+fn items_between(alloc: Global, old: &Zone, new: &Zone) -> Result<Vec<u8>, AllocError>
+    requires { new.now.origin ≡ old.now.origin }
+    ensures { IfOk result (λ text. text.items ≡ items_between old.now new.now) }
+{
+    let operations = operations_between(alloc, old, new)?;
+    operations_text(alloc, operations)
+}
+
+/// The items that lead from a zone to that of a master file, whose octets are given back.
+fn items_to(alloc: Global, old: &Zone, file: Vec<u8>) -> Result<Vec<u8>, LineFault>
+    ensures { Gives (λ text. text.items) result (items_to old.now file.items) }
+{
+    let origin = old.origin().try_copy(alloc)?;
+    let new = zone_of_file(alloc, origin, file)?;
+    Ok(items_between(alloc, old, &new)?)
+}
+
+/// The items that lead from a zone to that of the master file that a reader gives.
+fn answer<R: Source>(alloc: Global, old: &Zone, reader: &mut R) -> Result<Vec<u8>, LineFault>
+    ensures { GivesOf (λ text. text.items) (R.remaining reader.old) (diff_text old.now) result (R.failures reader.old) (R.failures reader.new) }
+{
+    let file = read_input(alloc, reader)?;
+    items_to(alloc, old, file)
+}
+
+/// The task `diff`, once the zone as it is was read: to read the master file of the zone as it is to be, and to write the items
+/// that lead to it.
+#[derive(Drop)]
+struct Diff {
+    /// The zone as it is.
+    old: Zone,
+}
+
+impl Task for Diff {
+    ghost answer = { λ d. diff_text d.old };
+
+    fn run<R: Source, W: Sink>(
+        self,
+        alloc: Global,
+        reader: &mut R,
+        writer: &mut W,
+    ) -> Result<(), JobFault> {
+        match answer(alloc, &self.old, reader) {
+            Ok(text) => {
+                write_text(writer, &text)?;
+                Ok(())
+            }
+            Err(fault) => tell(alloc, writer, fault),
+        }
+    }
+}
+
+/// The zone of an origin and a reader that gives its master file. Where there is none, a line tells why.
+fn old_zone<R: Source, W: Sink>(
+    alloc: Global,
+    origin: &str,
+    reader: &mut R,
+    writer: &mut W,
+) -> Result<Zone, JobFault>
+    ensures { IsOldRead origin.now (R.remaining reader.old) (W.contents writer.old) (W.contents writer.new) result (R.failures reader.old) (R.failures reader.new) (W.failures writer.old) (W.failures writer.new) }
+{
+    match read_zone(alloc, origin, reader) {
+        Ok(zone) => Ok(zone),
+        Err(fault) => {
+            tell(alloc, writer, fault)?;
+            unreachable!()
+        }
+    }
+}
+
+/// The word of the command line that is the origin.
+#[derive(Clone, Copy)]
+struct OriginWord<'a>(&'a str);
+
+/// The same, with a reader and a writer of std, whose failures are counted; the writer is handed back.
+fn counted<R: Read + Drop, W: Write + Drop, A: Ledger, B: Ledger>(
+    alloc: Global,
+    origin: OriginWord<'_>,
+    reader: R,
+    writer: W,
+    reads: Blank,
+    writes: Blank,
+) -> (W, Result<Zone, JobFault>)
+    requires reads_name { reads.name ≡ A.name }
+    requires reads_parts { reads.parts ≡ A.parts }
+    requires reads_some { 0 < reads.parts }
+    requires writes_name { writes.name ≡ B.name }
+    requires writes_parts { writes.parts ≡ B.parts }
+    requires writes_some { 0 < writes.parts }
+    ensures { (failed_reads : ℕ) × (failed_writes : ℕ) × IsOldRead origin.entry.0.now (R.remaining reader) (W.contents writer) (W.contents result.0) result.1 0 failed_reads 0 failed_writes }
+{
+    let mut source: Counted<R, A> = Counted::new(reader, reads);
+    let mut sink: Counted<W, B> = Counted::new(writer, writes);
+    let zone = old_zone(alloc, origin.0, &mut source, &mut sink);
+    (sink.into_inner(), zone)
+}
+
+/// The same, with blanks of its own.
+fn read_old<R: Read + Drop, W: Write + Drop>(
+    alloc: Global,
+    origin: &str,
+    reader: R,
+    writer: W,
+) -> (W, Result<Zone, JobFault>)
+    ensures { (failed_reads : ℕ) × (failed_writes : ℕ) × IsOldRead origin.now (R.remaining reader) (W.contents writer) (W.contents result.0) result.1 0 failed_reads 0 failed_writes }
+{
+    let (reads, writes) = (Blank::new(1), Blank::new(1));
+    counted::<_, _, Brand, Brand>(alloc, OriginWord(origin), reader, writer, reads, writes)
+}
+
+/// Writes the items that lead from one zone to another of an origin, and hands the writer back. Readers of std give the two master
+/// files: of the zone as it is, and as it is to be. Made in order, the items give the new zone of the old one; where the two differ
+/// in nothing but a serial that is not greater, nothing is written. Otherwise one line tells the refusal that comes first: of the
+/// origin; that the old zone's file is too large, of it as a master file, of its records as a zone; and the same of the new
+/// zone's, which is read behind the other.
+pub fn do_diff<R: Read + Drop, S: Read + Drop, W: Write + Drop>(
+    alloc: Global,
+    origin: &str,
+    old: R,
+    new: S,
+    writer: W,
+) -> (W, Result<(), DiffFault>)
+    ensures { Differs origin.now (R.remaining old) (S.remaining new) (W.contents writer) (W.contents result.0) result.1 }
+{
+    let (writer, zone) = read_old(alloc, origin, old, writer);
+    let old = match zone {
+        Ok(old) => old,
+        Err(fault) => return (writer, Err(DiffFault::Old(fault))),
+    };
+    let (writer, done) = do_task(alloc, Diff { old }, new, writer);
+    match done {
+        Ok(()) => (writer, Ok(())),
+        Err(fault) => (writer, Err(DiffFault::New(fault))),
+    }
+}
