@@ -11,9 +11,9 @@ use Rattle.office_wire.proofs.PromiseLemmas.{exchanges_run}
 use Rattle.text_commands.specs.declared.line_fault.LineFault.{LineFault}
 use Rattle.text_commands.specs.declared.line_fault.LineFault.TheVariants.{Refused, ReadFailed, NoMemory}
 use Rattle.text_commands.specs.declared.line_fault.JobFault.{JobFault}
-use Rattle.text_commands.specs.declared.line_fault.JobFault.TheVariants.{Told, WriteFailed}
+use Rattle.text_commands.specs.declared.line_fault.JobFault.TheVariants.{Reported, WriteFailed}
 use Rattle.text_commands.specs.Device.{AppendsFront}
-use Rattle.text_commands.specs.Replies.{IsTold, line_of}
+use Rattle.text_commands.specs.Replies.{IsRefusalWritten, line_of}
 use Rattle.text_commands.proofs.JobLemmas.{front_behind}
 use Rattle.office_wire.specs.declared.serve_fault.ServeFault.{ServeFault}
 use Rattle.dns_master.specs.declared.device.DeviceFailed.{DeviceFailed}
@@ -43,7 +43,7 @@ one_ended ends end n count = let all = length-append ends (end ∷ []) in omega 
 
 -- a fault is written, so that no more need have been served
 pub told_many : (most n : ℕ) (result : Result (Unit {0}) JobFault) (old new : Option (List ℕ)) (fault : LineFault) (before after : ℕ)
-    → IsTold old new fault result before after → n ≤ most → IsSoMany most result n
+    → IsRefusalWritten old new fault result before after → n ≤ most → IsSoMany most result n
 told_many most n (Ok u) old new fault before after lines less = absurd lines
 told_many most n (Err e) old new fault before after lines less = less
 
@@ -67,12 +67,12 @@ module _ (old mid new : Option (List ℕ)) (ends : List (Option ServeFault)) whe
 
   -- no further connection can be had, and that is written
   pub told_last : (most n : ℕ) (result : Result (Unit {0}) JobFault) (before failed after : ℕ) → length ends ≡ n → n < most → Appends old mid (ended_lines ends) → failed ≡ before
-      → IsTold mid new ReadFailed result failed after → AreReported most ends old new result before after
+      → IsRefusalWritten mid new ReadFailed result failed after → AreReported most ends old new result before after
   told_last most n (Ok done) before failed after count more lines fine wrote = absurd wrote
-  told_last most n (Err (Told ReadFailed)) before failed after count more lines fine wrote =
+  told_last most n (Err (Reported ReadFailed)) before failed after count more lines fine wrote =
       (omega (arith, count, more), Appends-trans old mid new (ended_lines ends) (line_of ReadFailed) lines wrote.1, wrote.2 ∙ fine)
-  told_last most n (Err (Told (Refused refusal))) before failed after count more lines fine wrote = absurd (cc wrote.0)
-  told_last most n (Err (Told NoMemory)) before failed after count more lines fine wrote = absurd (cc wrote.0)
+  told_last most n (Err (Reported (Refused refusal))) before failed after count more lines fine wrote = absurd (cc wrote.0)
+  told_last most n (Err (Reported NoMemory)) before failed after count more lines fine wrote = absurd (cc wrote.0)
   told_last most n (Err WriteFailed) before failed after count more lines fine wrote =
       let line = wrote.0.0 in
       let same : line ≡ ReadFailed = wrote.0.1 in

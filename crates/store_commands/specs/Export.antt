@@ -20,7 +20,7 @@ FindsRecords (Err refusal) = IsOfStore refusal
 abbrev pub export_text : ZoneForm → List ℕ → Result (List Record) Refusal → Result (List ℕ) Refusal
 export_text form word held = of_names (absolute_name word) >>= λ origin. held >>= λ records. Ok (zone_text_in form origin records)
 
--- What connections show, what the files tell of the path, and the origin with the records that were had: the origin's word is one, and these are the records that
+-- What connections show, what the files say of the path, and the origin with the records that were had: the origin's word is one, and these are the records that
 -- the store of the path holds of it; or the word was refused; or the store refused them.
 abbrev pub IsExported : {C X : Type 0} → (C → Shown) → (X → List Record) → List ℕ → (Bool → Type 0) → (StoreFault → Type 0) → (C → Type 0) → Result (List (List ℕ) × X) LineFault → Type 0
 IsExported shows view word finds refuses connects (Ok found) =

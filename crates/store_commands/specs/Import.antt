@@ -34,7 +34,7 @@ import_text origin put input = zone_read origin input >>= put
 
 -- ---- the store
 
--- What connections show, what was left to read, the origin's word, what the files tell of the path, the answer, and the reader's failures before and after: the
+-- What connections show, what was left to read, the origin's word, what the files say of the path, the answer, and the reader's failures before and after: the
 -- zone that was read was put into the store of the path, and this is its line; or no zone was read; or memory ran out for the line; or
 -- the store refused the zone that was read.
 abbrev pub IsImported : {C : Type 0} → (C → Shown) → Option (List ℕ) → List ℕ → (Bool → Type 0) → (StoreFault → Type 0) → (C → Type 0) → Existing → Result (List ℕ) LineFault → ℕ → ℕ → Type 0

@@ -17,7 +17,7 @@ use Rattle.text_commands.specs.declared.refusal.Refusal.{Refusal}
 use Rattle.text_commands.specs.LineFaults.{◌>>=◌, limited, of_policies}
 use Rattle.text_commands.specs.declared.line_fault.LineFault.TheVariants.{ReadFailed}
 use Rattle.text_commands.specs.declared.line_fault.JobFault.{JobFault}
-use Rattle.text_commands.specs.declared.line_fault.JobFault.TheVariants.{Told, WriteFailed}
+use Rattle.text_commands.specs.declared.line_fault.JobFault.TheVariants.{Reported, WriteFailed}
 use Rattle.text_commands.specs.Device.{AppendsFront}
 use Rattle.text_commands.specs.Replies.{line_of}
 
@@ -73,8 +73,8 @@ pub record AreServed (rules : List Rule) (c : Standing) (connections : List (Lis
 -- told, or where a line cannot be written.
 abbrev pub AreReported : ℕ → List (Option ServeFault) → Option (List ℕ) → Option (List ℕ) → Result (Unit {0}) JobFault → ℕ → ℕ → Type 0
 AreReported most ends old new (Ok done) before after = (length ends ≡ most) × Appends old new (ended_lines ends) × (after ≡ before)
-AreReported most ends old new (Err (Told ReadFailed)) before after = (length ends < most) × Appends old new (ended_lines ends ++ line_of ReadFailed) × (after ≡ before)
-AreReported most ends old new (Err (Told fault)) before after = ⊥
+AreReported most ends old new (Err (Reported ReadFailed)) before after = (length ends < most) × Appends old new (ended_lines ends ++ line_of ReadFailed) × (after ≡ before)
+AreReported most ends old new (Err (Reported fault)) before after = ⊥
 AreReported most ends old new (Err WriteFailed) before after =
     (((length ends ≤ most) × AppendsFront old new (ended_lines ends)) ⊎ ((length ends < most) × AppendsFront old new (ended_lines ends ++ line_of ReadFailed))) × (before < after)
 

@@ -1,4 +1,4 @@
--- The store of a path: what the files tell of the path, and what is opened, made, read, written and migrated there.
+-- The store of a path: what the files say of the path, and what is opened, made, read, written and migrated there.
 use Rattle.std.specs.Prelude.{◌≡◌, ◌≢◌, ◌⊎◌, ℕ, Bool, false, List, Result, Ok, Err}
 use Rattle.dns_data.specs.declared.record.Record.{Record}
 use Rattle.sqlite.specs.State.{State as Shown, HasCleanDisk}
@@ -97,7 +97,7 @@ IsRead {C} shows view origin now result =
     (after : C) × AsksOnly (shows now) (shows after) result
     × (HasCleanDisk (shows after) → (s : State) → HoldsState (shows now) s → Gives view result (exported (s.zones origin)))
 
--- ---- the store of a path, by what the files tell of the path: whether there is a file, why it refuses it, and what it connects to
+-- ---- the store of a path, by what the files say of the path: whether there is a file, why it refuses it, and what it connects to
 
 -- there is no file, or the files refuse it
 abbrev pub IsUnfound : (Bool → Type 0) → (StoreFault → Type 0) → StoreFault → Type 0

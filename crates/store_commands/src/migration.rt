@@ -16,7 +16,7 @@ use dns_master::{DeviceFailed, Sink};
 use itoa::Buffer;
 use sqlite::Alter;
 use std::alloc::Global;
-use text_commands::{JobFault, LineFault, tell};
+use text_commands::{JobFault, LineFault, write_refusal};
 
 /// Writes the line that tells how many zones a migration changed. It takes no memory, so that memory cannot run out after the migration.
 fn tell_migrated<W: Sink>(writer: &mut W, zones: usize) -> Result<(), DeviceFailed>
@@ -46,6 +46,6 @@ pub fn migrate<W: Sink, S: Alter + Drop, P: StoreFiles<S>>(
             tell_migrated(writer, zones)?;
             Ok(())
         }
-        Err(fault) => tell(alloc, writer, LineFault::from(fault)),
+        Err(fault) => write_refusal(alloc, writer, LineFault::from(fault)),
     }
 }

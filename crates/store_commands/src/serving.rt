@@ -27,7 +27,7 @@ use std::marker::Brand;
 use std::net::{SocketAddr, TcpListener, TcpStream};
 use std::sync::ledger::{Blank, Ledger};
 use std::time::{Clock, Duration};
-use text_commands::{JobFault, LineFault, PolicyFile, read_input, tell, write_text};
+use text_commands::{JobFault, LineFault, PolicyFile, read_input, write_refusal, write_text};
 
 /// The policy that a reader gives.
 fn read_policy_from<R: Source>(alloc: Global, reader: &mut R) -> Result<Policy, LineFault>
@@ -234,7 +234,7 @@ pub fn serve_connections<T: ZoneTable, D: Diagnosis<T>, C: Clock, W: Sink, E: Si
             Ok((stream, _)) => {
                 connections.serve_one(alloc, &stream, table, policy, &mut bookmarks, writer, trace)?
             }
-            Err(_) => return tell(alloc, writer, LineFault::ReadFailed),
+            Err(_) => return write_refusal(alloc, writer, LineFault::ReadFailed),
         }
     }
     Ok(())
@@ -256,7 +256,7 @@ fn serve_table<T: ZoneTable, D: Diagnosis<T>, W: Sink, E: Sink>(
     let alloc = rt.alloc();
     let (listener, listening) = match listening_at(rt, service.listen) {
         Ok(listening) => listening,
-        Err(fault) => return tell(alloc, writer, fault),
+        Err(fault) => return write_refusal(alloc, writer, fault),
     };
     write_text(writer, listening.as_bytes())?;
     let connections = Connections {
@@ -304,10 +304,10 @@ pub fn serve<W: Sink, E: Sink, A: Ledger, B: Ledger>(
 {
     let policy = match policy_of::<A>(rt, service.policy, reads) {
         Ok(policy) => policy,
-        Err(fault) => return tell(rt.alloc(), writer, fault),
+        Err(fault) => return write_refusal(rt.alloc(), writer, fault),
     };
     match open_store::<_, B, _>(rt.alloc(), &MachineFiles(rt), service.store, store) {
         Ok(table) => serve_opened(rt, service, &policy, table, &Remembered, writer, trace),
-        Err(fault) => tell(rt.alloc(), writer, LineFault::from(fault)),
+        Err(fault) => write_refusal(rt.alloc(), writer, LineFault::from(fault)),
     }
 }

@@ -27,7 +27,7 @@ use std::alloc::{AllocError, Global};
 use std::fmt::{self, Display, Formatter, Write};
 use std::sync::ledger::{Blank, Ledger};
 use text_commands::{
-    JobFault, LineFault, ended, print_zone_in, read_name, read_zone, tell, write_text,
+    JobFault, LineFault, ended, print_zone_in, read_name, read_zone, write_refusal, write_text,
 };
 use zone_core::Zone;
 
@@ -161,7 +161,7 @@ pub fn import<R: Source, W: Sink, S: Alter + Drop, L: Ledger, P: StoreFiles<S>>(
             write_text(writer, text.as_bytes())?;
             Ok(())
         }
-        Err(fault) => tell(alloc, writer, fault),
+        Err(fault) => write_refusal(alloc, writer, fault),
     }
 }
 
@@ -245,6 +245,6 @@ pub fn export<W: Sink, S: Alter + Drop, L: Ledger, P: StoreFiles<S>>(
 {
     match exported::<S, L, P>(alloc, files, stored, blank) {
         Ok((origin, records)) => print(alloc, form, &origin, &records, writer),
-        Err(fault) => tell(alloc, writer, fault),
+        Err(fault) => write_refusal(alloc, writer, fault),
     }
 }

@@ -10,10 +10,10 @@ use Rattle.text_commands.specs.declared.refusal.Refusal.{Refusal}
 use Rattle.text_commands.specs.declared.line_fault.LineFault.{LineFault}
 use Rattle.text_commands.specs.declared.line_fault.LineFault.TheVariants.{Refused, ReadFailed, NoMemory}
 use Rattle.text_commands.specs.declared.line_fault.JobFault.{JobFault}
-use Rattle.text_commands.specs.declared.line_fault.JobFault.TheVariants.{Told, WriteFailed}
+use Rattle.text_commands.specs.declared.line_fault.JobFault.TheVariants.{Reported, WriteFailed}
 use Rattle.text_commands.specs.Device.{AppendsFront}
 use Rattle.text_commands.specs.LineFaults.{◌>>=◌, Makes, GivesOf}
-use Rattle.text_commands.specs.Replies.{line_of, MayTell, IsTold, IsPrinted, IsReply, Answered}
+use Rattle.text_commands.specs.Replies.{line_of, MayWrite, IsRefusalWritten, IsPrinted, IsReply, Answered}
 use Rattle.text_commands.proofs.StepLemmas.{refused_before, given_before, reached_before}
 
 -- ---- printing
@@ -25,18 +25,18 @@ front_behind a b c first second whole front =
     (length first + front.0, short, subst (Appends a c) (sym (take-append-add first second front.0)) (Appends-trans a b c first (take front.0 second) whole front.2))
 
 module _ (a b c : Option (List ℕ)) (text : List ℕ) (first second third : ℕ) where
-  told_behind : (n : ℕ) (result : Result (Unit {0}) JobFault) → n ≤ length text → Appends a b (take n text) → second ≡ first → IsTold b c NoMemory result second third → IsPrinted a c text result first third
+  told_behind : (n : ℕ) (result : Result (Unit {0}) JobFault) → n ≤ length text → Appends a b (take n text) → second ≡ first → IsRefusalWritten b c NoMemory result second third → IsPrinted a c text result first third
   told_behind n (Ok done) small front fine wrote = absurd wrote
-  told_behind n (Err (Told NoMemory)) small front fine wrote =
+  told_behind n (Err (Reported NoMemory)) small front fine wrote =
       ((take n text ++ line_of NoMemory, (n, small, refl), Appends-trans a b c (take n text) (line_of NoMemory) front wrote.1), omega (arith, fine, wrote.2))
-  told_behind n (Err (Told (Refused refusal))) small front fine wrote = absurd (cc (wrote.0))
-  told_behind n (Err (Told ReadFailed)) small front fine wrote = absurd (cc (wrote.0))
+  told_behind n (Err (Reported (Refused refusal))) small front fine wrote = absurd (cc (wrote.0))
+  told_behind n (Err (Reported ReadFailed)) small front fine wrote = absurd (cc (wrote.0))
   told_behind n (Err WriteFailed) small front fine sent =
       let same = sent.0.1 in
       ((take n text ++ line_of NoMemory, inr (n, small, refl), front_behind a b c (take n text) (line_of NoMemory) front (subst (λ l. AppendsFront b c (line_of l)) same sent.0.2)), omega (arith, fine, sent.1))
 
   -- memory ran out while the text was written, and that was told
-  pub printed_short : (fault : MasterFault) (result : Result (Unit {0}) JobFault) → ¬ (fault ≡ master.WriteFailed) → TextWritten a b text (Err fault) first second → IsTold b c NoMemory result second third → IsPrinted a c text result first third
+  pub printed_short : (fault : MasterFault) (result : Result (Unit {0}) JobFault) → ¬ (fault ≡ master.WriteFailed) → TextWritten a b text (Err fault) first second → IsRefusalWritten b c NoMemory result second third → IsPrinted a c text result first third
   printed_short master.WriteFailed result other wrote line = absurd (other refl)
   printed_short master.NoMemory result other wrote line = told_behind wrote.0.0 result wrote.0.1 wrote.0.2 wrote.1 line
   printed_short fault result other wrote line = absurd wrote
@@ -53,9 +53,9 @@ module _ (left : Option (List ℕ)) (answer : List ℕ → Result (List ℕ) Ref
 
   pub answered_printed : (text : List ℕ) (result : Result (Unit {0}) JobFault) → Makes left answer (Ok text) → reads_after ≡ reads → IsPrinted old new text result writes writes_after → Answered left answer old new result reads reads_after writes writes_after
   answered_printed text (Ok done) makes fine wrote = answered_sent text makes fine wrote
-  answered_printed text (Err (Told NoMemory)) makes fine wrote = ((wrote.0.0, inr (text, makes, wrote.0.1), wrote.0.2), fine, wrote.1)
-  answered_printed text (Err (Told (Refused refusal))) makes fine wrote = absurd wrote
-  answered_printed text (Err (Told ReadFailed)) makes fine wrote = absurd wrote
+  answered_printed text (Err (Reported NoMemory)) makes fine wrote = ((wrote.0.0, inr (text, makes, wrote.0.1), wrote.0.2), fine, wrote.1)
+  answered_printed text (Err (Reported (Refused refusal))) makes fine wrote = absurd wrote
+  answered_printed text (Err (Reported ReadFailed)) makes fine wrote = absurd wrote
   answered_printed text (Err WriteFailed) makes fine wrote =
       let sent = wrote.0.0 in
       let reply : IsReply left answer reads reads_after sent = elim wrote.0.1 [
@@ -65,7 +65,7 @@ module _ (left : Option (List ℕ)) (answer : List ℕ → Result (List ℕ) Ref
       ((sent, reply, wrote.0.2), wrote.1)
 
   -- a fault was told by the line of its own, or by that of out of memory
-  own_line : {X : Type 0} (view : X → List ℕ) (fault : LineFault) → GivesOf view left answer (Err fault) reads reads_after → Appends old new (line_of fault) → writes_after ≡ writes → Answered left answer old new (Err (Told fault)) reads reads_after writes writes_after
+  own_line : {X : Type 0} (view : X → List ℕ) (fault : LineFault) → GivesOf view left answer (Err fault) reads reads_after → Appends old new (line_of fault) → writes_after ≡ writes → Answered left answer old new (Err (Reported fault)) reads reads_after writes writes_after
   own_line view (Refused refusal) given line fine = (given.0, line, given.1, fine)
   own_line view ReadFailed given line fine = (line, given.0, given.1, fine)
   own_line view NoMemory given line fine = ((line_of NoMemory, inl refl, line), given, fine)
@@ -76,15 +76,15 @@ module _ (left : Option (List ℕ)) (answer : List ℕ → Result (List ℕ) Ref
   own_front view NoMemory given front failed = ((line_of NoMemory, inr (inr (inl refl, given)), front), failed)
 
   -- which fault was told in the place of another
-  told_as : {X : Type 0} (view : X → List ℕ) (fault line : LineFault) → MayTell fault line → GivesOf view left answer (Err fault) reads reads_after → GivesOf view left answer (Err line) reads reads_after
+  told_as : {X : Type 0} (view : X → List ℕ) (fault line : LineFault) → MayWrite fault line → GivesOf view left answer (Err fault) reads reads_after → GivesOf view left answer (Err line) reads reads_after
   told_as {X} view (Refused refusal) line (inl same) given = subst (λ l. GivesOf {X = X} view left answer (Err l) reads reads_after) (sym same) given
   told_as {X} view (Refused refusal) line (inr short) given = subst (λ l. GivesOf {X = X} view left answer (Err l) reads reads_after) (sym short) given.1
   told_as {X} view ReadFailed line same given = subst (λ l. GivesOf {X = X} view left answer (Err l) reads reads_after) (sym same) given
   told_as {X} view NoMemory line same given = subst (λ l. GivesOf {X = X} view left answer (Err l) reads reads_after) (sym same) given
 
-  pub answered_told : {X : Type 0} (view : X → List ℕ) (fault : LineFault) (result : Result (Unit {0}) JobFault) → GivesOf view left answer (Err fault) reads reads_after → IsTold old new fault result writes writes_after → Answered left answer old new result reads reads_after writes writes_after
+  pub answered_told : {X : Type 0} (view : X → List ℕ) (fault : LineFault) (result : Result (Unit {0}) JobFault) → GivesOf view left answer (Err fault) reads reads_after → IsRefusalWritten old new fault result writes writes_after → Answered left answer old new result reads reads_after writes writes_after
   answered_told view fault (Ok done) given wrote = absurd wrote
-  answered_told view fault (Err (Told line)) given wrote = own_line view line (told_as view fault line wrote.0 given) wrote.1 wrote.2
+  answered_told view fault (Err (Reported line)) given wrote = own_line view line (told_as view fault line wrote.0 given) wrote.1 wrote.2
   answered_told view fault (Err WriteFailed) given wrote = own_front view wrote.0.0 (told_as view fault wrote.0.0 wrote.0.1 given) wrote.0.2 wrote.1
 
 -- ---- an answer that is the text of what was made

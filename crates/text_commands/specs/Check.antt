@@ -15,7 +15,7 @@ use Rattle.text_commands.specs.declared.refusal.Refusal.{Refusal}
 use Rattle.text_commands.specs.declared.line_fault.LineFault.{LineFault}
 use Rattle.text_commands.specs.declared.line_fault.LineFault.TheVariants.{Refused, ReadFailed, NoMemory}
 use Rattle.text_commands.specs.declared.line_fault.JobFault.{JobFault}
-use Rattle.text_commands.specs.declared.line_fault.JobFault.TheVariants.{Told, WriteFailed}
+use Rattle.text_commands.specs.declared.line_fault.JobFault.TheVariants.{Reported, WriteFailed}
 use Rattle.text_commands.specs.Device.{AppendsFront}
 use Rattle.text_commands.specs.LineFaults.{◌>>=◌, limited, of_policies, Makes, ReachesInput}
 use Rattle.text_commands.specs.Refusals.{refused_line}
@@ -89,11 +89,11 @@ IsCheckReply left reads reads_after text =
 abbrev pub Checked : Option (List ℕ) → Option (List ℕ) → Option (List ℕ) → Result Findings JobFault → ℕ → ℕ → ℕ → ℕ → Type 0
 Checked left old new (Ok findings) reads reads_after writes writes_after =
     ((text : List ℕ) × ReportsOn left findings text × Appends old new text) × (reads_after ≡ reads) × (writes_after ≡ writes)
-Checked left old new (Err (Told (Refused refusal))) reads reads_after writes writes_after =
+Checked left old new (Err (Reported (Refused refusal))) reads reads_after writes writes_after =
     Makes left rules_read (Err refusal) × Appends old new (refused_line refusal) × (reads_after ≡ reads) × (writes_after ≡ writes)
-Checked left old new (Err (Told ReadFailed)) reads reads_after writes writes_after =
+Checked left old new (Err (Reported ReadFailed)) reads reads_after writes writes_after =
     Appends old new (line_of ReadFailed) × (reads < reads_after) × ReachesInput rules_read × (writes_after ≡ writes)
-Checked left old new (Err (Told NoMemory)) reads reads_after writes writes_after =
+Checked left old new (Err (Reported NoMemory)) reads reads_after writes writes_after =
     Appends old new (line_of NoMemory) × (reads_after ≡ reads) × (writes_after ≡ writes)
 Checked left old new (Err WriteFailed) reads reads_after writes writes_after =
     ((text : List ℕ) × IsCheckReply left reads reads_after text × AppendsFront old new text) × (writes < writes_after)

@@ -6,7 +6,7 @@ use Rattle.text_commands.specs.declared.refusal.Refusal.{Refusal}
 use Rattle.text_commands.specs.declared.line_fault.LineFault.{LineFault}
 use Rattle.text_commands.specs.declared.line_fault.LineFault.TheVariants.{Refused, ReadFailed, NoMemory}
 use Rattle.text_commands.specs.declared.line_fault.JobFault.{JobFault}
-use Rattle.text_commands.specs.declared.line_fault.JobFault.TheVariants.{Told, WriteFailed}
+use Rattle.text_commands.specs.declared.line_fault.JobFault.TheVariants.{Reported, WriteFailed}
 use Rattle.text_commands.specs.Device.{AppendsFront}
 use Rattle.text_commands.specs.Refusals.{refused_line}
 use Rattle.text_commands.specs.LineFaults.{Makes, ReachesInput}
@@ -26,15 +26,15 @@ IsSent old new text (Ok done) before after = Appends old new text × (after ≡ 
 IsSent old new text (Err failed) before after = AppendsFront old new text × (before < after)
 
 -- a fault is reported by its line; without memory for the line of a refusal, by that of out of memory
-abbrev pub MayTell : LineFault → LineFault → Type 0
-MayTell (Refused refusal) line = (line ≡ Refused refusal) ⊎ (line ≡ NoMemory)
-MayTell fault line = line ≡ fault
+abbrev pub MayWrite : LineFault → LineFault → Type 0
+MayWrite (Refused refusal) line = (line ≡ Refused refusal) ⊎ (line ≡ NoMemory)
+MayWrite fault line = line ≡ fault
 
 -- What the writer held before and after, the fault, the answer, and the writer's failures before and after.
-abbrev pub IsTold : Option (List ℕ) → Option (List ℕ) → LineFault → Result (Unit {0}) JobFault → ℕ → ℕ → Type 0
-IsTold old new fault (Ok done) before after = ⊥
-IsTold old new fault (Err (Told line)) before after = MayTell fault line × Appends old new (line_of line) × (after ≡ before)
-IsTold old new fault (Err WriteFailed) before after = ((line : LineFault) × MayTell fault line × AppendsFront old new (line_of line)) × (before < after)
+abbrev pub IsRefusalWritten : Option (List ℕ) → Option (List ℕ) → LineFault → Result (Unit {0}) JobFault → ℕ → ℕ → Type 0
+IsRefusalWritten old new fault (Ok done) before after = ⊥
+IsRefusalWritten old new fault (Err (Reported line)) before after = MayWrite fault line × Appends old new (line_of line) × (after ≡ before)
+IsRefusalWritten old new fault (Err WriteFailed) before after = ((line : LineFault) × MayWrite fault line × AppendsFront old new (line_of line)) × (before < after)
 
 -- a prefix of a text, and then the line of out of memory
 abbrev pub IsCutShort : List ℕ → List ℕ → Type 0
@@ -44,7 +44,7 @@ IsCutShort text cut = (n : ℕ) × (n ≤ length text) × (cut ≡ take n text +
 -- memory while it is written.
 abbrev pub IsPrinted : Option (List ℕ) → Option (List ℕ) → List ℕ → Result (Unit {0}) JobFault → ℕ → ℕ → Type 0
 IsPrinted old new text (Ok done) before after = Appends old new text × (after ≡ before)
-IsPrinted old new text (Err (Told NoMemory)) before after = ((cut : List ℕ) × IsCutShort text cut × Appends old new cut) × (after ≡ before)
+IsPrinted old new text (Err (Reported NoMemory)) before after = ((cut : List ℕ) × IsCutShort text cut × Appends old new cut) × (after ≡ before)
 IsPrinted old new text (Err WriteFailed) before after =
     ((sent : List ℕ) × ((sent ≡ text) ⊎ IsCutShort text sent) × AppendsFront old new sent) × (before < after)
 IsPrinted old new text (Err fault) before after = ⊥
@@ -73,11 +73,11 @@ IsReply left answer reads reads_after text =
 abbrev pub Answered : Option (List ℕ) → (List ℕ → Result (List ℕ) Refusal) → Option (List ℕ) → Option (List ℕ) → Result (Unit {0}) JobFault → ℕ → ℕ → ℕ → ℕ → Type 0
 Answered left answer old new (Ok done) reads reads_after writes writes_after =
     ((text : List ℕ) × Makes left answer (Ok text) × Appends old new text) × (reads_after ≡ reads) × (writes_after ≡ writes)
-Answered left answer old new (Err (Told (Refused refusal))) reads reads_after writes writes_after =
+Answered left answer old new (Err (Reported (Refused refusal))) reads reads_after writes writes_after =
     Makes left answer (Err refusal) × Appends old new (refused_line refusal) × (reads_after ≡ reads) × (writes_after ≡ writes)
-Answered left answer old new (Err (Told ReadFailed)) reads reads_after writes writes_after =
+Answered left answer old new (Err (Reported ReadFailed)) reads reads_after writes writes_after =
     Appends old new (line_of ReadFailed) × (reads < reads_after) × ReachesInput answer × (writes_after ≡ writes)
-Answered left answer old new (Err (Told NoMemory)) reads reads_after writes writes_after =
+Answered left answer old new (Err (Reported NoMemory)) reads reads_after writes writes_after =
     ((text : List ℕ) × IsShortReply left answer text × Appends old new text) × (reads_after ≡ reads) × (writes_after ≡ writes)
 Answered left answer old new (Err WriteFailed) reads reads_after writes writes_after =
     ((text : List ℕ) × IsReply left answer reads reads_after text × AppendsFront old new text) × (writes < writes_after)

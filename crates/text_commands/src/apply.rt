@@ -7,7 +7,7 @@ ghost use Rattle.text_commands.specs.Replies.{IsPrinted};
 ghost use Rattle.text_commands.specs.PartViews.{parts_in, records_in, update_in};
 ghost use Rattle.text_commands.specs.Apply.{origin_of, zone_of_records, records_of, line_ends, update_behind, first_unmet, zone_lines, updated, text_after, apply_text};
 
-use crate::device::{ended, read_input, tell};
+use crate::device::{ended, read_input, write_refusal};
 use crate::line_fault::{JobFault, LineFault};
 use crate::parts::{InputParts, divided};
 use crate::refusal::Refusal;
@@ -176,7 +176,7 @@ impl Task for Apply {
     ) -> Result<(), JobFault> {
         match read_updated(alloc, reader) {
             Ok(zone) => print(alloc, &zone, writer),
-            Err(fault) => tell(alloc, writer, fault),
+            Err(fault) => write_refusal(alloc, writer, fault),
         }
     }
 }

@@ -8,7 +8,7 @@ ghost use Rattle.text_commands.specs.Replies.{IsPrinted};
 ghost use Rattle.text_commands.specs.Canon.{zone_of_file, zone_read, zone_text_in, text_of_zone};
 ghost use Rattle.dns_master.specs.Device.{TextWritten};
 
-use crate::device::{ended, read_input, tell};
+use crate::device::{ended, read_input, write_refusal};
 use crate::line_fault::{JobFault, LineFault};
 use crate::task::Task;
 use command_line::ZoneForm;
@@ -103,7 +103,7 @@ impl Task for Canon<'_> {
     ) -> Result<(), JobFault> {
         match read_zone(alloc, self.origin, reader) {
             Ok(zone) => print(alloc, &zone, self.form, writer),
-            Err(fault) => tell(alloc, writer, fault),
+            Err(fault) => write_refusal(alloc, writer, fault),
         }
     }
 }

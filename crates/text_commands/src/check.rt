@@ -4,7 +4,7 @@ ghost use Rattle.std.specs.Prelude.{◌≡◌, ◌++◌, ◌<◌, ℕ, IfOk, OnO
 ghost use Rattle.text_commands.specs.LineFaults.{Gives, GivesOf};
 ghost use Rattle.text_commands.specs.Check.{rules_in, rules_read, id_text, idle_head, idle_line, idle_text, findings_of, IsReport, Reports, Checked};
 
-use crate::device::{read_input, tell, write_text};
+use crate::device::{read_input, write_refusal, write_text};
 use crate::line_fault::{JobFault, LineFault};
 use dns_master::{Counted, Sink, Source};
 use grant_policy::{IdleRule, Policy, Rule, idle_rules, read_policy};
@@ -132,7 +132,7 @@ fn check_policy<R: Source, W: Sink>(
             Ok(report.findings)
         }
         Err(fault) => {
-            tell(alloc, writer, fault)?;
+            write_refusal(alloc, writer, fault)?;
             unreachable!()
         }
     }

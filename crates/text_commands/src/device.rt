@@ -4,7 +4,7 @@ ghost use Rattle.std.specs.Prelude.{◌≡◌, ℕ, List, Option, string_bytes, 
 ghost use Rattle.dns_master.specs.Device.{TextWritten};
 ghost use Rattle.text_commands.specs.LineFaults.{GivesOf, limited};
 ghost use Rattle.text_commands.specs.Refusals.{refused_line};
-ghost use Rattle.text_commands.specs.Replies.{IsSent, IsTold, IsPrinted};
+ghost use Rattle.text_commands.specs.Replies.{IsSent, IsRefusalWritten, IsPrinted};
 
 use crate::line_fault::{JobFault, LineFault, NO_MEMORY_LINE, READ_FAILED_LINE};
 use crate::refusal::{Refusal, RefusalLine};
@@ -51,10 +51,10 @@ fn refusal_text(alloc: Global, refusal: Refusal) -> Result<String, AllocError>
 
 /// Tells out of memory, and hands it on.
 fn tell_no_memory<W: Sink>(writer: &mut W) -> Result<(), JobFault>
-    ensures { IsTold (W.contents writer.old) (W.contents writer.new) LineFault.NoMemory result (W.failures writer.old) (W.failures writer.new) }
+    ensures { IsRefusalWritten (W.contents writer.old) (W.contents writer.new) LineFault.NoMemory result (W.failures writer.old) (W.failures writer.new) }
 {
     write_text(writer, NO_MEMORY_LINE.as_bytes())?;
-    Err(JobFault::Told(LineFault::NoMemory))
+    Err(JobFault::Reported(LineFault::NoMemory))
 }
 
 /// What came of a printing that `dns_master` did. Where memory ran out, a line tells it behind what went out.
@@ -73,8 +73,12 @@ pub fn ended<W: Sink>(writer: &mut W, printed: Result<(), MasterFault>) -> Resul
 
 /// Tells a fault by its line, and hands it on: `NoMemory` where there is no memory for the line, and `WriteFailed` where the
 /// writer failed.
-pub fn tell<W: Sink>(alloc: Global, writer: &mut W, fault: LineFault) -> Result<(), JobFault>
-    ensures { IsTold (W.contents writer.old) (W.contents writer.new) fault result (W.failures writer.old) (W.failures writer.new) }
+pub fn write_refusal<W: Sink>(
+    alloc: Global,
+    writer: &mut W,
+    fault: LineFault,
+) -> Result<(), JobFault>
+    ensures { IsRefusalWritten (W.contents writer.old) (W.contents writer.new) fault result (W.failures writer.old) (W.failures writer.new) }
 {
     match fault {
         LineFault::Refused(refusal) => {
@@ -82,12 +86,12 @@ pub fn tell<W: Sink>(alloc: Global, writer: &mut W, fault: LineFault) -> Result<
                 return tell_no_memory(writer);
             };
             write_text(writer, text.as_bytes())?;
-            Err(JobFault::Told(fault))
+            Err(JobFault::Reported(fault))
         }
-        // Told without memory, so that out of memory never hides it.
+        // Reported without memory, so that out of memory never hides it.
         LineFault::ReadFailed => {
             write_text(writer, READ_FAILED_LINE.as_bytes())?;
-            Err(JobFault::Told(fault))
+            Err(JobFault::Reported(fault))
         }
         LineFault::NoMemory => tell_no_memory(writer),
     }

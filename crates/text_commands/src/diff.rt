@@ -6,7 +6,7 @@ ghost use Rattle.text_commands.specs.LineFaults.{Gives, GivesOf};
 ghost use Rattle.text_commands.specs.Diff.{operations_text, items_between, items_to, diff_text, IsOldRead, Differs};
 
 use crate::canon::{read_zone, zone_of_file};
-use crate::device::{read_input, tell, write_text};
+use crate::device::{read_input, write_refusal, write_text};
 use crate::diff_fault::DiffFault;
 use crate::line_fault::{JobFault, LineFault};
 use crate::task::{Task, do_task};
@@ -90,7 +90,7 @@ impl Task for Diff {
                 write_text(writer, &text)?;
                 Ok(())
             }
-            Err(fault) => tell(alloc, writer, fault),
+            Err(fault) => write_refusal(alloc, writer, fault),
         }
     }
 }
@@ -107,7 +107,7 @@ fn old_zone<R: Source, W: Sink>(
     match read_zone(alloc, origin, reader) {
         Ok(zone) => Ok(zone),
         Err(fault) => {
-            tell(alloc, writer, fault)?;
+            write_refusal(alloc, writer, fault)?;
             unreachable!()
         }
     }

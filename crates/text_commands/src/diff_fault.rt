@@ -16,8 +16,8 @@ pub enum DiffFault {
 /// Whether a fault is of the input that was read.
 fn is_of_input(fault: JobFault) -> bool {
     match fault {
-        JobFault::Told(LineFault::ReadFailed) => true,
-        JobFault::Told(LineFault::Refused(refusal)) => !matches!(refusal, Refusal::Name(_)),
+        JobFault::Reported(LineFault::ReadFailed) => true,
+        JobFault::Reported(LineFault::Refused(refusal)) => !matches!(refusal, Refusal::Name(_)),
         _ => false,
     }
 }

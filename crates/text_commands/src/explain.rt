@@ -5,7 +5,7 @@ ghost use Rattle.text_commands.specs.RefusalNumbers.{row_of};
 ghost use Rattle.text_commands.specs.LineFaults.{Gives};
 ghost use Rattle.text_commands.specs.Explain.{rows_asked, rows_text, explain_made, explain_text};
 
-use crate::device::{tell, write_text};
+use crate::device::{write_refusal, write_text};
 use crate::line_fault::{JobFault, LineFault};
 use crate::refusal::Refusal;
 use crate::refusal_number::{all_rows, explained};
@@ -71,7 +71,7 @@ impl Task for Explain<'_> {
                 write_text(writer, text.as_bytes())?;
                 Ok(())
             }
-            Err(fault) => tell(alloc, writer, fault),
+            Err(fault) => write_refusal(alloc, writer, fault),
         }
     }
 }

@@ -34,7 +34,7 @@ pub enum LineFault {
 pub enum JobFault {
     /// A line told why it has no answer.
     #[error("{0}")]
-    Told(LineFault),
+    Reported(LineFault),
     /// The writer failed, and a beginning of what was to be written went out.
     #[error("the output cannot be written")]
     WriteFailed,

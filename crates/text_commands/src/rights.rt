@@ -9,7 +9,7 @@ ghost use Rattle.text_commands.specs.LineFaults.{Gives, GivesOf, or_refused};
 ghost use Rattle.text_commands.specs.Rights.{question_in, question_of, verdict_line, decided_by, rights_text};
 
 use crate::canon::read_name;
-use crate::device::{read_input, tell, write_text};
+use crate::device::{read_input, write_refusal, write_text};
 use crate::line_fault::{JobFault, LineFault};
 use crate::refusal::Refusal;
 use crate::task::Task;
@@ -135,7 +135,7 @@ impl Task for QuestionWords<'_> {
                 write_text(writer, &line)?;
                 Ok(())
             }
-            Err(fault) => tell(alloc, writer, fault),
+            Err(fault) => write_refusal(alloc, writer, fault),
         }
     }
 }

@@ -15,7 +15,7 @@ use std::sync::ledger::{Blank, Ledger};
 pub trait Task: Drop {
     ghost answer: { Self → List ℕ → Result (List ℕ) Refusal };
 
-    /// Reads the input, and writes its answer, or one line that tells why it has none: `Told` then, and `WriteFailed` where the
+    /// Reads the input, and writes its answer, or one line that tells why it has none: `Reported` then, and `WriteFailed` where the
     /// writer failed.
     fn run<R: Source, W: Sink>(
         self,

@@ -34,8 +34,8 @@ returns-in-Err-clause-written g c =
     let view = λ (l : List ℕ). l in (
       made,
       migrates_by fault line named (0, refl),
-      answered_told None (λ input. made) _ _ 0 0 _ _ view fault c.tell.result (told_at_once view made fault (migration_refused view line fault named)) (rw c.from.ensures at c.tell.ensures),
+      answered_told None (λ input. made) _ _ 0 0 _ _ view fault c.write_refusal.result (told_at_once view made fault (migration_refused view line fault named)) (rw c.from.ensures at c.write_refusal.ensures),
     )
 
 pub returns-in-Err-clause-migrated : goal.returns-in-Err-clause-migrated
-returns-in-Err-clause-migrated g c = (Err c.in-Err.fault, c.in-Err.ensures, rw c.from.ensures at c.tell.ensures)
+returns-in-Err-clause-migrated g c = (Err c.in-Err.fault, c.in-Err.ensures, rw c.from.ensures at c.write_refusal.ensures)

@@ -57,7 +57,7 @@ pub returns-in-Err-clause-written : goal.returns-in-Err-clause-written
 returns-in-Err-clause-written g c =
     let p = c.accepted.invariant.written in
     let more : c.accepted.counter < c.args.most = let in_range = c.accepted-test.true in omega arith in
-    (p.0, told_last _ _ _ p.0 c.args.most c.accepted.counter c.tell.result _ _ _ p.1 more p.2 c.accepted.invariant.fine c.tell.ensures)
+    (p.0, told_last _ _ _ p.0 c.args.most c.accepted.counter c.write_refusal.result _ _ _ p.1 more p.2 c.accepted.invariant.fine c.write_refusal.ensures)
 
 pub returns-clause-written : goal.returns-clause-written
 returns-clause-written g c =
@@ -75,8 +75,8 @@ returns-in-Err-clause-served g c = λ honest s held.
       p.1,
       p.2.0,
       are_served c.args.policy.now before now p.0 (g.met.T.ZoneTable.zones c.args.table.now s held) (g.met.T.ZoneTable.receipts c.args.table.now s held) p.3,
-      told_many c.args.most (length p.0) c.tell.result (g.W.Sink.contents c.accepted.writer) (g.W.Sink.contents c.tell.new.writer) ReadFailed
-          (g.W.FaultCount.failures c.accepted.writer) (g.W.FaultCount.failures c.tell.new.writer) c.tell.ensures less,
+      told_many c.args.most (length p.0) c.write_refusal.result (g.W.Sink.contents c.accepted.writer) (g.W.Sink.contents c.write_refusal.new.writer) ReadFailed
+          (g.W.FaultCount.failures c.accepted.writer) (g.W.FaultCount.failures c.write_refusal.new.writer) c.write_refusal.ensures less,
       p.5,
     )
 

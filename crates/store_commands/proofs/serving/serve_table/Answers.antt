@@ -9,7 +9,7 @@ pub returns-in-Err-clause-served : goal.returns-in-Err-clause-served
 returns-in-Err-clause-served g c = λ honest s held.
     let now = standing s (g.T.ZoneTable.failures c.args.table.now) in
     let none = are_served c.args.policy.now now now [] (g.met.T.ZoneTable.zones c.args.table.now s held) (g.met.T.ZoneTable.receipts c.args.table.now s held) refl in
-    ([], s, held, none, told_many (most_of c.args.service) 0 c.tell.result _ _ c.in-Err.fault _ _ c.tell.ensures (omega arith), traced_none _ _)
+    ([], s, held, none, told_many (most_of c.args.service) 0 c.write_refusal.result _ _ c.in-Err.fault _ _ c.write_refusal.ensures (omega arith), traced_none _ _)
 
 pub returns-in_err-write_text-clause-served : goal.returns-in_err-write_text-clause-served
 returns-in_err-write_text-clause-served g c = λ honest s held.

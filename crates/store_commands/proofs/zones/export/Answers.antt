@@ -22,7 +22,7 @@ returns-in-Err-clause-written g c =
     let x = exported_gives c.args.form _ (λ (records : Vec Record Global). records.items) c.args.stored.origin.now (g.P.StoreFiles.finds c.args.files.now c.args.stored.store.now) (g.P.StoreFiles.refuses c.args.files.now c.args.stored.store.now) (g.P.StoreFiles.connects c.args.files.now c.args.stored.store.now) (Err c.in-Err.fault) c.in-Err.ensures in
     let made = export_text c.args.form c.args.stored.origin.now x.0 in
     let view = λ (l : List ℕ). l in
-    (x.0, x.1, answered_told None (λ input. made) _ _ 0 0 _ _ view c.in-Err.fault c.tell.result (told_at_once view made c.in-Err.fault x.2) c.tell.ensures)
+    (x.0, x.1, answered_told None (λ input. made) _ _ 0 0 _ _ view c.in-Err.fault c.write_refusal.result (told_at_once view made c.in-Err.fault x.2) c.write_refusal.ensures)
 
 pub returns-in-Err-clause-held : goal.returns-in-Err-clause-held
-returns-in-Err-clause-held g c = (Err c.in-Err.fault, c.in-Err.ensures, c.tell.ensures)
+returns-in-Err-clause-held g c = (Err c.in-Err.fault, c.in-Err.ensures, c.write_refusal.ensures)

@@ -33,7 +33,7 @@ returns-in_ok-write_text-in-Ok-clause-stored g c =
 pub returns-in-Err-clause-written : goal.returns-in-Err-clause-written
 returns-in-Err-clause-written g c =
     let x = imported_gives _ _ c.args.what.0.origin.now (g.P.StoreFiles.finds c.args.files.now c.args.what.0.store.now) (g.P.StoreFiles.refuses c.args.files.now c.args.what.0.store.now) (g.P.StoreFiles.connects c.args.files.now c.args.what.0.store.now) c.args.what.1 (Err c.in-Err.fault) _ _ c.in-Err.ensures in
-    (x.0, x.1, answered_told _ (import_text c.args.what.0.origin.now x.0) _ _ _ _ _ _ (λ (l : List ℕ). l) c.in-Err.fault c.tell.result x.2 c.tell.ensures)
+    (x.0, x.1, answered_told _ (import_text c.args.what.0.origin.now x.0) _ _ _ _ _ _ (λ (l : List ℕ). l) c.in-Err.fault c.write_refusal.result x.2 c.write_refusal.ensures)
 
 pub returns-in-Err-clause-stored : goal.returns-in-Err-clause-stored
-returns-in-Err-clause-stored g c = (Err c.in-Err.fault, c.in-Err.ensures, c.tell.ensures)
+returns-in-Err-clause-stored g c = (Err c.in-Err.fault, c.in-Err.ensures, c.write_refusal.ensures)

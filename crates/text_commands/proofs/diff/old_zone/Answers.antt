@@ -6,9 +6,9 @@ use Rattle.text_commands.specs.Diff.{old_text}
 use Rattle.text_commands.proofs.JobLemmas.{answered_told, text_refused}
 use Rattle.text_commands.proofs.diff.old_zone.Goals as goal
 
-pub returns-in_err-tell-in-Err : goal.returns-in_err-tell-in-Err
-returns-in_err-tell-in-Err g c =
+pub returns-in_err-write_refusal-in-Err : goal.returns-in_err-write_refusal-in-Err
+returns-in_err-write_refusal-in-Err g c =
     let p = err_from_is_err_and c.from_residual.result c.from_residual.ensures.1 in
     let word = c.args.origin.now in
     let refused = text_refused _ (zone_read word) (λ (zone : ZoneOf). []) (λ (zone : ZoneOf). zone) c.in-Err.fault _ _ c.in-Err.ensures in
-    rw (p.1, p.2) (answered_told _ (old_text word) _ _ _ _ _ _ (λ t. t) c.in-Err.fault (Err _) refused c.in_err-tell-in-Err.ensures)
+    rw (p.1, p.2) (answered_told _ (old_text word) _ _ _ _ _ _ (λ t. t) c.in-Err.fault (Err _) refused c.in_err-write_refusal-in-Err.ensures)

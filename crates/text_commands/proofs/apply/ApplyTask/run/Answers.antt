@@ -8,4 +8,4 @@ returns-in-Ok g c =
     answered_printed _ apply_text _ _ _ _ _ _ (zone_lines c.in-Ok.zone) c.print.result read.0 read.1 c.print.ensures
 
 pub returns-in-Err : goal.returns-in-Err
-returns-in-Err g c = answered_told _ apply_text _ _ _ _ _ _ zone_lines c.in-Err.fault c.tell.result c.in-Err.ensures c.tell.ensures
+returns-in-Err g c = answered_told _ apply_text _ _ _ _ _ _ zone_lines c.in-Err.fault c.write_refusal.result c.in-Err.ensures c.write_refusal.ensures

@@ -13,4 +13,4 @@ returns-in_err-write_text-in-Ok g c =
 
 pub returns : goal.returns
 returns g c =
-    answered_told _ (diff_text c.args.self.old) _ _ _ _ _ _ (λ (text : Vec ℕ Global). text.items) c.in-Err.fault c.tell.result c.in-Err.ensures c.tell.ensures
+    answered_told _ (diff_text c.args.self.old) _ _ _ _ _ _ (λ (text : Vec ℕ Global). text.items) c.in-Err.fault c.write_refusal.result c.in-Err.ensures c.write_refusal.ensures

@@ -28,5 +28,5 @@ returns-in-Err g c =
     let asked = c.args.self in
     let number = option_map (λ n. n.now) asked.number in
     let view = string_bytes {Z = Global} in
-    answered_told _ (explain_text number asked.form) _ _ _ _ _ _ view c.in-Err.fault c.tell.result
-    (unread_fault view _ (explain_made number asked.form) c.in-Err.fault _ c.in-Err.ensures) c.tell.ensures
+    answered_told _ (explain_text number asked.form) _ _ _ _ _ _ view c.in-Err.fault c.write_refusal.result
+    (unread_fault view _ (explain_made number asked.form) c.in-Err.fault _ c.in-Err.ensures) c.write_refusal.ensures

@@ -13,4 +13,4 @@ returns-in_err-write_text-in-Ok g c =
 
 pub returns-in-Err : goal.returns-in-Err
 returns-in-Err g c =
-    answered_told _ (rights_text c.args.self) _ _ _ _ _ _ (λ (line : Vec ℕ Global). line.items) c.in-Err.fault c.tell.result c.in-Err.ensures c.tell.ensures
+    answered_told _ (rights_text c.args.self) _ _ _ _ _ _ (λ (line : Vec ℕ Global). line.items) c.in-Err.fault c.write_refusal.result c.in-Err.ensures c.write_refusal.ensures

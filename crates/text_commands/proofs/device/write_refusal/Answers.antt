@@ -1,7 +1,7 @@
 use Rattle.std.proofs.Common.{inl, refl}
 use Rattle.std.proofs.lemmas.Result.{err_from_is_err_and}
 use Rattle.text_commands.specs.declared.line_fault.LineFault.TheVariants.{Refused}
-use Rattle.text_commands.proofs.device.tell.Goals as goal
+use Rattle.text_commands.proofs.device.write_refusal.Goals as goal
 
 pub returns-in_err-write_text-in-Refused : goal.returns-in_err-write_text-in-Refused
 returns-in_err-write_text-in-Refused g c =
