@@ -1,4 +1,7 @@
-use Rattle.std.proofs.Common.{◌≡◌, ◌∙◌, ◌+◌, pos, subst, string_bytes, IsPermutation}
+use Rattle.std.proofs.Common.{◌≡◌, ◌∙◌, ◌+◌, pos, subst, string_bytes, IsPermutation, rules}
+use Rattle.std.specs.Int.{w64}
+use Rattle.std.specs.Prelude.{FitsSigned}
+use Rattle.std.proofs.lemmas.Int.{to_z-of_z}
 use Rattle.sqlite.specs.Held.{state}
 use Rattle.office_sql.specs.Lookups.{changes_from}
 use Rattle.dns_names.specs.Spelling.{name_text}
@@ -21,6 +24,7 @@ returns-clause-found g c =
     λ clean.
     let text : string_bytes c.in-Some.text ≡ name_text c.args.origin.now = rw c.in-Some.is at c.in_ok-text.ensures.text in
     let first = pos (1 + c.args.count) in
+    let fits : FitsSigned w64 c.first_behind.result = search rules in
     found (λ all. IsPermutation (changes_from (name_text c.args.origin.now) first all.changes) c.in_ok-rows.rows.items) (state g.S.Store c.args.conn.now) (state g.S.Store c.held_text.new.conn) c.args.origin.now c.held_text.ensures.asks.0
     (rw c.in-Some.is at (c.in_ok-text.ensures.found (c.changes_from.ensures.asks.honest clean)))
-    (λ all h. subst (λ t. IsPermutation (changes_from t first all.changes) c.in_ok-rows.rows.items) (c.deref.ensures ∙ text) (rw c.first_behind.ensures at (c.in_ok-rows.ensures.answer clean all h)))
+    (λ all h. subst (λ t. IsPermutation (changes_from t first all.changes) c.in_ok-rows.rows.items) (c.deref.ensures ∙ text) (rw (to_z-of_z w64 c.first_behind.result fits, c.first_behind.ensures) at (c.in_ok-rows.ensures.answer clean all h)))
