@@ -1,8 +1,6 @@
-//! What the contracts of the store refuse: its tables, and the calls over a connection. Each function has clauses of a function of
-//! `office_sql` or `office_store` and calls it; each edit in must-fail makes the call or the answer wrong in one idea, and the prover
-//! refuses it.
+//! What the contracts of stores refuse. Each function has clauses of a function of `office_sql` or `office_store` and calls it; each
+//! edit in must-fail makes the call or the answer wrong in one idea, and the prover refuses it.
 #![tactic(auto)]
 
 pub mod stores;
 pub mod tables;
-pub mod twins;

@@ -1,14 +1,12 @@
-//! What is asked of tables, and written to them.
+//! What is written to tables.
 
-ghost use Rattle.std.specs.Prelude.{◌≡◌, false, IfOk, IsTrue, OnOk, OnErr};
+ghost use Rattle.std.specs.Prelude.{◌≡◌, [], false, None, IfOk, IsTrue, OnErr};
 ghost use Rattle.sqlite.specs.Files.{file_state};
 ghost use Rattle.sqlite.specs.Held.{state};
 ghost use Rattle.sqlite.specs.State.{HasCleanDisk};
 ghost use Rattle.office_sql.specs.Files.{ShowsThose};
-ghost use Rattle.office_sql.specs.Holds.{Holds};
-ghost use Rattle.office_sql.specs.Lookups as the;
-ghost use Rattle.office_sql.specs.Lookups.{IsLast};
-ghost use Rattle.office_sql.specs.Rows.{RowsOf, written};
+ghost use Rattle.office_sql.specs.Holds.{Keeps};
+ghost use Rattle.office_rows.specs.Batches.{receipts_batch};
 
 use office_sql::{Batch, RowsFault};
 use sqlite::{Alter, Connection, Error, FileStore, Leftover, Options};
@@ -28,38 +26,17 @@ pub fn connect<D: Disk + Drop>(
     office_sql::connect(alloc, files, options)
 }
 
-/// `last_number`.
-pub fn last_number<S: Alter>(
-    alloc: Global,
-    conn: &mut Connection<S>,
-    origin: &str,
-) -> Result<Option<i64>, RowsFault>
-    requires { conn.old.in_transaction ≡ false }
-    ensures { HasCleanDisk (state S.Store conn.new) → IfOk result (λ last. (rows : RowsOf) → Holds (state S.Store conn.old) rows → IsLast (the.changes_of origin.now rows.changes) last) }
-{
-    office_sql::last_number(alloc, conn, origin)
-}
-
-/// What `write` writes.
+/// What `write` leaves where it fails, beside what is written without its receipts, and these by themselves.
 pub fn write<S: Alter>(
-    _alloc: Global,
     conn: &mut Connection<S>,
-    batch: Batch,
+    batch: &Batch,
+    _others: &Batch,
+    _receipts: &Batch,
 ) -> Result<(), RowsFault>
-    requires { conn.old.in_transaction ≡ false }
-    ensures { OnOk result ((rows : RowsOf) → Holds (state S.Store conn.old) rows → Holds (state S.Store conn.new) (written batch rows)) }
+    requires alone { conn.old.in_transaction ≡ false }
+    requires others { _others.now ≡ record batch.now { receipts = [] } }
+    requires receipts { _receipts.now ≡ receipts_batch batch.now.receipts }
+    ensures { OnErr result (Keeps (state S.Store conn.old) (state S.Store conn.new)) }
 {
-    office_sql::write(conn, &batch)
-}
-
-/// What `write` leaves where it fails.
-pub fn write_or_not<S: Alter>(
-    _alloc: Global,
-    conn: &mut Connection<S>,
-    whole: Batch,
-) -> Result<(), RowsFault>
-    requires { conn.old.in_transaction ≡ false }
-    ensures { OnErr result ((rows : RowsOf) → Holds (state S.Store conn.old) rows → Holds (state S.Store conn.new) rows) }
-{
-    office_sql::write(conn, &whole)
+    office_sql::write(conn, batch)
 }

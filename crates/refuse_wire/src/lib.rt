@@ -3,4 +3,3 @@
 #![tactic(auto)]
 
 pub mod streams;
-pub mod twins;

@@ -1,6 +1,7 @@
 //! Streams of requests.
 
 ghost use Rattle.std.specs.Prelude.{◌≡◌, ◌<◌, ℕ, List, [], Option, Some};
+ghost use Rattle.office_core.specs.Bookmarks.{AreBookmarks};
 ghost use Rattle.office_core.specs.States.{State};
 ghost use Rattle.office_wire.specs.Exchange.{Turn, Run};
 ghost use Rattle.office_wire.specs.Serving.{standing, IsDone, CountsServed};
@@ -9,23 +10,10 @@ ghost use Rattle.office_wire.specs.Servfails.{AreNoted, servfails};
 
 use dns_master::{Counted, Pieces, Sink, Source};
 use grant_policy::Policy;
-use office_core::ZoneTable;
+use office_core::{Bookmarks, ZoneTable};
 use office_wire::{ServeFault, Served, Stream};
 use std::alloc::Global;
 use std::sync::ledger::{Blank, Ledger};
-
-/// `serve`.
-pub fn serve<R: Source, W: Sink, T: ZoneTable>(
-    alloc: Global,
-    reader: &mut R,
-    writer: &mut W,
-    table: &mut T,
-    policy: &Policy,
-) -> Result<(), ServeFault>
-    ensures { T.is_honest table.new → (s : State) → T.holds table.old s → (turns : List Turn) × (t : State) × T.holds table.new t × Run policy.now (standing s (T.failures table.old)) turns (standing t (T.failures table.new)) × IsDone turns result (R.remaining reader.old) (R.remaining reader.new) (W.contents writer.old) (W.contents writer.new) }
-{
-    office_wire::serve(alloc, reader, writer, table, policy)
-}
 
 /// `serve`, by how often its devices fail.
 pub fn serve_counted<R: Source, W: Sink, T: ZoneTable>(
@@ -41,31 +29,21 @@ pub fn serve_counted<R: Source, W: Sink, T: ZoneTable>(
     ended
 }
 
-/// `serve_noting`, by what it notes.
-pub fn serve_noting<R: Source, W: Sink, T: ZoneTable>(
-    alloc: Global,
-    reader: &mut R,
-    writer: &mut W,
-    table: &mut T,
-    policy: &Policy,
-) -> Served
-    ensures { T.is_honest table.new → (s : State) → T.holds table.old s → (turns : List Turn) × (t : State) × T.holds table.new t × Run policy.now (standing s (T.failures table.old)) turns (standing t (T.failures table.new)) × AreNoted (servfails turns) result.servfails }
-{
-    let served = office_wire::serve_noting(alloc, reader, writer, table, policy);
-    served
-}
-
-/// `serve_stream`, by the order of what it reads and writes.
+/// `serve_stream`, by what it notes, and by the order of what it reads and writes.
 pub fn serve_stream<S: Stream<R, W>, R: Source, W: Sink, T: ZoneTable>(
     alloc: Global,
     reader: &mut R,
     writer: &mut W,
     table: &mut T,
     policy: &Policy,
+    bookmarks: &mut Bookmarks,
 ) -> Served
-    ensures { T.is_honest table.new → (s : State) → T.holds table.old s → (turns : List Turn) × (t : State) × T.holds table.new t × Run policy.now (standing s (T.failures table.old)) turns (standing t (T.failures table.new)) × IsServedInTurn turns (S.events reader.old writer.old) (S.events reader.new writer.new) }
+    ensures { T.is_honest table.new → (s : State) → T.holds table.old s × AreBookmarks policy.now s bookmarks.old → (turns : List Turn) × (t : State) × (T.holds table.new t × AreBookmarks policy.now t bookmarks.new) × Run policy.now (standing s (T.failures table.old)) turns (standing t (T.failures table.new)) × AreNoted (servfails turns) result.servfails × IsServedInTurn turns (S.events reader.old writer.old) (S.events reader.new writer.new) }
 {
-    office_wire::serve_stream::<S, _, _, _>(alloc, reader, writer, table, policy)
+    let served = office_wire::serve_stream::<S, _, _, _>(
+        alloc, reader, writer, table, policy, bookmarks,
+    );
+    served
 }
 
 /// `serve`, of octets in memory, to a text in memory.

@@ -1,0 +1,52 @@
+//! One step of the machine.
+
+ghost use Rattle.office_core.specs.States.{State};
+ghost use Rattle.office_core.specs.Steps.{Steps, Leaves, CountsReply};
+
+use grant_policy::{Identifier, Policy};
+use office_core::{Reply, Request, StepFault, TableFault, UpdateReply, ZoneTable};
+use std::alloc::Global;
+use zone_core::Failed;
+
+/// `step`, beside another request and a prerequisite that fails. The second reply of the answer is what an edit got and does not give:
+/// to drop it here would be proved with each edit.
+pub fn step<T: ZoneTable>(
+    alloc: Global,
+    table: &mut T,
+    policy: &Policy,
+    caller: &Identifier,
+    request: &Request,
+    _other: &Request,
+    _failed: Failed,
+) -> (Reply, Option<Reply>)
+    ensures { T.is_honest table.new → (s : State) → T.holds table.old s → Steps (T.holds table.new) policy.now s caller.now request.now result.0 }
+{
+    let reply = office_core::step(alloc, table, policy, caller, request);
+    (reply, None)
+}
+
+/// `step`, by the failures of the table.
+pub fn counted_step<T: ZoneTable>(
+    alloc: Global,
+    table: &mut T,
+    policy: &Policy,
+    caller: &Identifier,
+    asked: &Request,
+) -> Reply
+    ensures { CountsReply (T.failures table.old) (T.failures table.new) result }
+{
+    office_core::step(alloc, table, policy, caller, asked)
+}
+
+/// `step`, by what a crash leaves.
+pub fn left_by_step<T: ZoneTable>(
+    alloc: Global,
+    table: &mut T,
+    policy: &Policy,
+    caller: &Identifier,
+    wanted: &Request,
+) -> Reply
+    ensures { T.is_honest table.new → (s : State) → T.holds table.old s → T.leaves table.old s s → Leaves (T.leaves table.new) policy.now s caller.now wanted.now result }
+{
+    office_core::step(alloc, table, policy, caller, wanted)
+}

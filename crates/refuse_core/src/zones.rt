@@ -1,0 +1,23 @@
+//! Zones and updates.
+
+ghost use Rattle.std.specs.Prelude.{◌≡◌, IfOk};
+ghost use Rattle.zone_core.specs.Effects.{zone_after};
+ghost use Rattle.zone_core.specs.Updates.{ActsWithin};
+ghost use Rattle.zone_core.specs.Zones.{serial_of};
+
+use dns_data::same_record;
+use std::alloc::{AllocError, Global};
+use zone_core::{Outcome, Update, Zone};
+
+/// `apply`, and the serial of the zone after it.
+pub fn serial_after(
+    alloc: Global,
+    zone: &Zone,
+    update: &Update,
+) -> Result<(u32, Outcome), AllocError>
+    requires { ActsWithin zone.now.origin update.now }
+    ensures { IfOk result (λ made. made.0 ≡ serial_of (zone_after zone.now update.now)) }
+{
+    let outcome = zone_core::apply(alloc, zone, update)?;
+    Ok((outcome.zone.serial(), outcome))
+}

@@ -1,5 +1,0 @@
--- One tactic for what the function ensures, so that a wrong body is refused soon.
-use Rattle.refuse_dns.proofs.names.is_within.Goals as goal
-
-pub returns : goal.returns
-returns c = search

@@ -1,9 +1,0 @@
-use Rattle.std.proofs.Common.{◌≡◌, ◌++◌, length}
-use Rattle.dns_names.specs.Rows.{row_of}
-use Rattle.refuse_dns.proofs.twins.row.Given as goal
-
-abbrev pub invariant-loop-label : goal.invariant-loop-label
-invariant-loop-label l = l.row.items ++ row_of l.labels ≡ row_of l.initial.labels
-
-abbrev pub decreases-loop-label : goal.decreases-loop-label
-decreases-loop-label l = length l.labels

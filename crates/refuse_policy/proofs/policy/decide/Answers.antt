@@ -1,5 +1,0 @@
--- One tactic for what the function ensures, so that a wrong body is refused soon.
-use Rattle.refuse_policy.proofs.policy.decide.Goals as goal
-
-pub returns : goal.returns
-returns c = search

@@ -1,6 +1,0 @@
--- One tactic for what the function ensures, so that a wrong body is refused soon.
-use Rattle.std.proofs.Common.{rules}
-use Rattle.refuse_wire.proofs.streams.serve_noting.Goals as goal
-
-pub returns : goal.returns
-returns g c = λ honest s held. let r = c.serve_noting-served.ensures.run honest s held in (r.0, r.1, r.2, r.3, r.6)

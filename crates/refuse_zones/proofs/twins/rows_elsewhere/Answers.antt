@@ -1,8 +1,0 @@
-use Rattle.std.proofs.Common.{rules, not}
-use Rattle.dns_names.specs.Order.{same_name}
-use Rattle.dns_data.specs.declared.record.Record.{Record}
-use Rattle.zone_core.proofs.RetainLemmas.{retain_is}
-use Rattle.refuse_zones.proofs.twins.rows_elsewhere.Goals as goal
-
-pub returns : goal.returns
-returns c = retain_is _ (λ (r : Record). not (same_name r.owner c.args.name.now)) _ (λ x b g k. search rules) c.args.rows.items c.retain.new.self.items c.retain.ensures.filtered

@@ -1,5 +1,0 @@
--- One tactic for what the function ensures, so that a wrong body is refused soon.
-use Rattle.refuse_zones.proofs.zones.serial_less.Goals as goal
-
-pub returns : goal.returns
-returns c = search
