@@ -60,19 +60,13 @@ impl Case {
             self.most.push(usize::MAX)?;
             return Ok(());
         }
-        for number in row.words(alloc)? {
-            self.most.push(str::from_utf8(number)?.parse()?)?;
-        }
-        Ok(())
+        push_numbers(&row.words(alloc)?, &mut self.most)
     }
 
     /// Begins anew, with a table of which the calls fail that a row says.
     pub fn start_failing(&mut self, alloc: Global, row: &Row<'_>) -> Result<()> {
         self.clear();
-        for word in row.words(alloc)? {
-            self.failing.push(table_call(word)?)?;
-        }
-        Ok(())
+        push_table_calls(&row.words(alloc)?, &mut self.failing)
     }
 
     /// Begins another stream.
@@ -124,11 +118,10 @@ impl Case {
     /// What each table answers, by each number of octets.
     fn all_told(&mut self, alloc: Global, given: &Given) -> Result<Vec<Told>> {
         if self.failing.is_empty() {
-            return told_by_pieces(alloc, given, &self.most, &mut self.steps);
+            told_by_pieces(alloc, given, &self.most, &mut self.steps)
+        } else {
+            told_by_failing(alloc, given, &self.steps, &self.failing)
         }
-        let mut all = Vec::new(alloc);
-        all.push(over_failing(alloc, given, &self.steps, &self.failing)?)?;
-        Ok(all)
     }
 
     /// What all tables answer, if they answer the same.
@@ -153,18 +146,35 @@ impl Case {
         spoiling: Spoiling,
         answer: &mut Vec<u8>,
     ) -> Result<()> {
-        let whole = self.one_told(alloc, given)?;
-        let octets = first_octets(alloc, &self.steps)?;
-        let mut outcomes = Vec::new(alloc);
-        for number in 1..10_000usize {
-            let told = self.spoiled(alloc, given, spoiling, &octets, number)?;
-            if told == whole {
-                break;
-            }
-            outcomes.push(self.kept(alloc, spoiling, told, &whole, number)?)?;
-        }
+        let outcomes = self.outcomes(alloc, given, spoiling)?;
         self.steps.clear();
         Ok(push_runs(alloc, &outcomes, answer)?)
+    }
+
+    /// What is told where something is spoiled, as long as that is not what is told of the whole.
+    fn outcomes(&mut self, alloc: Global, given: &Given, spoiling: Spoiling) -> Result<Vec<Told>> {
+        let whole = self.one_told(alloc, given)?;
+        let octets = first_octets(alloc, &self.steps)?;
+        self.outcomes_beside(alloc, given, spoiling, &whole, &octets)
+    }
+
+    fn outcomes_beside(
+        &mut self,
+        alloc: Global,
+        given: &Given,
+        spoiling: Spoiling,
+        whole: &[Vec<u8>],
+        octets: &[u8],
+    ) -> Result<Vec<Told>> {
+        let mut outcomes = Vec::new(alloc);
+        for number in 1..10_000usize {
+            let told = self.spoiled(alloc, given, spoiling, octets, number)?;
+            if told.as_slice() == whole {
+                break;
+            }
+            outcomes.push(self.kept(alloc, spoiling, told, whole, number)?)?;
+        }
+        Ok(outcomes)
     }
 
     /// What is told where a call or the octet of a number is spoiled.
@@ -198,6 +208,20 @@ impl Case {
         let written = number.saturating_sub(1).saturating_mul(most);
         Ok(without_front(alloc, told, whole, written)?)
     }
+}
+
+fn push_numbers(words: &[&[u8]], numbers: &mut Vec<usize>) -> Result<()> {
+    for word in words {
+        numbers.push(str::from_utf8(word)?.parse()?)?;
+    }
+    Ok(())
+}
+
+fn push_table_calls(words: &[&[u8]], calls: &mut Vec<TableCall>) -> Result<()> {
+    for word in words {
+        calls.push(table_call(word)?)?;
+    }
+    Ok(())
 }
 
 /// Appends a call to the last step.
@@ -239,6 +263,18 @@ fn told_by_pieces(
         set_most(steps, *most);
         push_over_each(alloc, given, steps, &mut all)?;
     }
+    Ok(all)
+}
+
+/// What a table answers of which some calls fail.
+fn told_by_failing(
+    alloc: Global,
+    given: &Given,
+    steps: &[Step],
+    failing: &[TableCall],
+) -> Result<Vec<Told>> {
+    let mut all = Vec::new(alloc);
+    all.push(over_failing(alloc, given, steps, failing)?)?;
     Ok(all)
 }
 

@@ -98,9 +98,7 @@ impl<'a> Callers<'a> {
     fn serve(&mut self, connections: u64, answer: &mut Vec<u8>) -> Result<()> {
         push_served(self.rt, self.listener()?, connections, answer)?;
         for caller in &mut self.callers {
-            answer.extend_from_slice(b"answered: ")?;
-            caller.read_to_end(answer)?;
-            answer.push(b'\n')?;
+            push_answered(caller, answer)?;
         }
         self.callers.clear();
         Ok(())
@@ -125,6 +123,14 @@ fn sent(rt: &HostRuntime, listener: &TcpListener, text: &[u8]) -> Result<TcpStre
     Ok(caller)
 }
 
+/// Appends what a caller was answered.
+fn push_answered(caller: &mut TcpStream, answer: &mut Vec<u8>) -> Result<()> {
+    answer.extend_from_slice(b"answered: ")?;
+    caller.read_to_end(answer)?;
+    answer.push(b'\n')?;
+    Ok(())
+}
+
 /// Appends what the office tells while it serves so many connections, and its trace.
 fn push_served(
     rt: &HostRuntime,
@@ -136,6 +142,10 @@ fn push_served(
     let policy = policy(alloc)?;
     let mut table = table(alloc)?;
     let served = served_from(rt, listener, connections, &mut table, &policy);
+    push_told(&served, answer)
+}
+
+fn push_told(served: &Served, answer: &mut Vec<u8>) -> Result<()> {
     if served.result.is_err() {
         bail!("a connection is not served");
     }

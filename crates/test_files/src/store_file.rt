@@ -3,6 +3,7 @@
 use anyhow::{Result, bail};
 use command_line::{Existing, Service, StoredZone, ZoneForm};
 use sqlite::{Alter, Connection};
+use std::alloc::{AllocError, Global};
 use std::path::PathBuf;
 use std::{env, fs, process};
 use store_commands::{do_export, do_import, do_serve};
@@ -10,13 +11,21 @@ use test_rows::Row;
 
 /// A path of this process's own, at which there is no file.
 pub fn fresh_path(rt: &HostRuntime, name: &[u8], kind: &str) -> Result<String> {
-    let alloc = rt.alloc();
-    let (id, name) = (process::id(rt.process()), str::from_utf8(name)?);
-    let file = format!(in alloc; "zoneoffice-{id}-{name}-{kind}")?;
-    let path: PathBuf = env::temp_dir(rt)?.join(alloc, file.as_str())?;
-    let path = String::from_str(alloc, path.to_str().unwrap_or(""))?;
+    let id = process::id(rt.process());
+    let file = file_name(rt.alloc(), id, str::from_utf8(name)?, kind)?;
+    let path = path_of(rt, file.as_str())?;
     remove(rt, path.as_str())?;
     Ok(path)
+}
+
+fn file_name(alloc: Global, id: u32, name: &str, kind: &str) -> Result<String, AllocError> {
+    format!(in alloc; "zoneoffice-{id}-{name}-{kind}")
+}
+
+/// The path of a file in the folder for those that go.
+fn path_of(rt: &HostRuntime, file: &str) -> Result<String> {
+    let path: PathBuf = env::temp_dir(rt)?.join(rt.alloc(), file)?;
+    Ok(String::from_str(rt.alloc(), path.to_str().unwrap_or(""))?)
 }
 
 /// Removes a file where there is one.

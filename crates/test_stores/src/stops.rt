@@ -4,7 +4,7 @@ use crate::deed::Deed;
 use crate::disks::{Held, Loss, Stop, Stopping};
 use crate::trial::{Trial, Whole};
 use anyhow::Result;
-use grant_policy::read_policy;
+use grant_policy::{Policy, read_policy};
 use std::alloc::{AllocError, Global};
 use test_rows::{Answers, Row, push_unanswered};
 
@@ -90,23 +90,41 @@ impl Stops {
     /// Does what a row says to the store on the disks.
     fn act(&mut self, alloc: Global, row: &Row<'_>, answer: &mut Vec<u8>) -> Result<()> {
         let policy = read_policy(alloc, &self.policy)?;
-        let deed = Deed::of(alloc, row)?;
-        let (told, held) = self.held.act(alloc, Stop::NEVER, &policy, &deed)?;
+        self.act_under(alloc, &policy, &Deed::of(alloc, row)?, answer)
+    }
+
+    fn act_under(
+        &mut self,
+        alloc: Global,
+        policy: &Policy,
+        deed: &Deed,
+        answer: &mut Vec<u8>,
+    ) -> Result<()> {
+        let (told, held) = self.held.act(alloc, Stop::NEVER, policy, deed)?;
         self.held = held.settle(alloc)?;
         Ok(answer.extend_from_slice(&told)?)
     }
 
     /// Goes through the stops of what stands behind the first word of a row.
     fn stop(&self, alloc: Global, row: &Row<'_>, answer: &mut Vec<u8>) -> Result<()> {
-        let trial = Trial {
-            policy: read_policy(alloc, &self.policy)?,
-            deed: Deed::behind_verb(alloc, row)?,
-            look: Deed::below(alloc, "look", &self.look)?,
-        };
-        let whole = trial.whole(alloc, &self.held)?;
-        whole.push(answer)?;
-        push_stops(alloc, &trial, &whole, &self.held, answer)
+        push_trial(alloc, &self.trial(alloc, row)?, &self.held, answer)
     }
+
+    fn trial(&self, alloc: Global, row: &Row<'_>) -> Result<Trial> {
+        let deed = Deed::behind_verb(alloc, row)?;
+        let look = Deed::below(alloc, "look", &self.look)?;
+        Ok(Trial {
+            policy: read_policy(alloc, &self.policy)?,
+            deed,
+            look,
+        })
+    }
+}
+
+fn push_trial(alloc: Global, trial: &Trial, held: &Held, answer: &mut Vec<u8>) -> Result<()> {
+    let whole = trial.whole(alloc, held)?;
+    whole.push(answer)?;
+    push_stops(alloc, trial, &whole, held, answer)
 }
 
 fn push_stops(

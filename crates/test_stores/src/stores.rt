@@ -3,7 +3,7 @@
 use crate::acts::done;
 use crate::deed::Deed;
 use anyhow::{Result, bail};
-use grant_policy::read_policy;
+use grant_policy::{Policy, read_policy};
 use sqlite::{Alter, Connection, MemStore};
 use std::alloc::{AllocError, Global};
 use test_rows::{Answers, Row, push_unanswered};
@@ -39,6 +39,12 @@ fn with_script<S: Alter + Drop>(conn: Connection<S>, script: &[u8]) -> Result<Co
     Ok(conn)
 }
 
+fn joined(alloc: Global, script: &[u8], more: &[u8]) -> Result<Vec<u8>, AllocError> {
+    let mut joined = Vec::from_slice(alloc, script)?;
+    joined.extend_from_slice(more)?;
+    Ok(joined)
+}
+
 impl Stores<MemStore> {
     fn answer_to(&mut self, alloc: Global, row: &Row<'_>, answer: &mut Vec<u8>) -> Result<()> {
         match row.verb {
@@ -52,21 +58,20 @@ impl Stores<MemStore> {
     /// Makes a database by a script.
     fn make(&mut self, alloc: Global, row: &Row<'_>) -> Result<()> {
         self.script = Vec::from_slice(alloc, &row.body)?;
-        self.hold(opened(alloc, &row.body)?);
+        self.open(alloc, &row.body)
+    }
+
+    /// Holds a connection to a database that a script makes.
+    fn open(&mut self, alloc: Global, script: &[u8]) -> Result<()> {
+        self.hold(opened(alloc, script)?);
         Ok(())
     }
 
     /// Makes it anew, runs another script, and migrates it or looks for the table.
     fn make_again(&mut self, alloc: Global, row: &Row<'_>, answer: &mut Vec<u8>) -> Result<()> {
-        let mut script = Vec::from_slice(alloc, &self.script)?;
-        script.extend_from_slice(&row.body)?;
-        self.hold(opened(alloc, &script)?);
-        let verb = if row.text.is_empty() {
-            "adopt"
-        } else {
-            "migrate"
-        };
-        self.act(alloc, &Deed::below(alloc, verb, &[])?, answer)
+        let script = joined(alloc, &self.script, &row.body)?;
+        self.open(alloc, &script)?;
+        self.look_again(alloc, row, answer)
     }
 }
 
@@ -90,6 +95,16 @@ impl<S: Alter + Drop> Stores<S> {
         self.conn = Some(conn);
     }
 
+    /// Looks for the table, or migrates it where a row says so.
+    fn look_again(&mut self, alloc: Global, row: &Row<'_>, answer: &mut Vec<u8>) -> Result<()> {
+        let verb = if row.text.is_empty() {
+            "adopt"
+        } else {
+            "migrate"
+        };
+        self.act(alloc, &Deed::below(alloc, verb, &[])?, answer)
+    }
+
     /// Does what a row says to the database.
     fn act_as(&mut self, alloc: Global, row: &Row<'_>, answer: &mut Vec<u8>) -> Result<()> {
         self.act(alloc, &Deed::of(alloc, row)?, answer)
@@ -98,11 +113,16 @@ impl<S: Alter + Drop> Stores<S> {
     /// Does something to the database.
     fn act(&mut self, alloc: Global, deed: &Deed, answer: &mut Vec<u8>) -> Result<()> {
         let policy = read_policy(alloc, &self.policy)?;
+        let told = self.told(alloc, &policy, deed)?;
+        Ok(answer.extend_from_slice(&told)?)
+    }
+
+    fn told(&mut self, alloc: Global, policy: &Policy, deed: &Deed) -> Result<Vec<u8>> {
         let Some(conn) = self.conn.take() else {
             bail!("there is no database");
         };
-        let (told, conn) = done(alloc, conn, &policy, deed);
+        let (told, conn) = done(alloc, conn, policy, deed);
         self.hold(conn);
-        Ok(answer.extend_from_slice(&told?)?)
+        told
     }
 }

@@ -42,14 +42,20 @@ impl Trial {
     pub fn whole(&self, alloc: Global, held: &Held) -> Result<Whole> {
         let (old, held) = self.look_at(alloc, held)?;
         let (told, held) = self.act(alloc, &held)?;
-        let (new, held) = self.look_at(alloc, &held)?;
-        let (twice, _) = self.act(alloc, &held)?;
+        let (new, twice) = self.look_and_act(alloc, &held)?;
         Ok(Whole {
             old,
             new,
             told,
             twice,
         })
+    }
+
+    /// Looks, and does it once more.
+    fn look_and_act(&self, alloc: Global, held: &Held) -> Result<(Vec<u8>, Vec<u8>)> {
+        let (new, held) = self.look_at(alloc, held)?;
+        let (twice, _) = self.act(alloc, &held)?;
+        Ok((new, twice))
     }
 
     fn look_at(&self, alloc: Global, held: &Held) -> Result<(Vec<u8>, Held)> {
@@ -92,15 +98,16 @@ impl Trial {
         seen: &mut Seen,
     ) -> Result<bool> {
         let (told, left) = held.act(alloc, stop, &self.policy, &self.deed)?;
+        self.see_left(alloc, whole, left, seen)?;
+        kept_if_done(told == whole.told, seen.found)
+    }
+
+    fn see_left(&self, alloc: Global, whole: &Whole, left: Held, seen: &mut Seen) -> Result<()> {
         if !left.is(&seen.held) {
             let found = self.see(alloc, whole, &left)?;
             *seen = Seen { held: left, found };
         }
-        let is_done = told == whole.told;
-        if is_done && seen.found == Found::Old {
-            bail!("what was done is lost");
-        }
-        Ok(is_done)
+        Ok(())
     }
 
     /// Lets a disk stop at one call after the other, until it is done without a stop.
@@ -153,6 +160,14 @@ impl Whole {
         push_part("behind:\n", &self.new, answer)?;
         push_part("told of the same again: ", &self.twice, answer)
     }
+}
+
+/// Whether something was done, which must be found then.
+fn kept_if_done(is_done: bool, found: Found) -> Result<bool> {
+    if is_done && found == Found::Old {
+        bail!("what was done is lost");
+    }
+    Ok(is_done)
 }
 
 /// Appends a part on lines of its own.
