@@ -5,6 +5,7 @@ use dns_master::MasterFault;
 use dns_names::NameFault;
 use grant_policy::{IdentifierFault, PolicyFault};
 use item_lines::ItemsFault;
+use office_json::BodyFault;
 use std::alloc::{AllocError, AllocFailed, Global};
 use std::fmt::Display;
 use zone_core::{DelegationFault, UpdateFault, ZoneFault};
@@ -21,6 +22,7 @@ pub enum Refusal {
     Update(UpdateFault),
     Delegation(DelegationFault),
     Items(ItemsFault),
+    Body(BodyFault),
     /// What stands in the row is not what its verb wants.
     Row,
     NoMemory,
@@ -39,6 +41,7 @@ impl Refusal {
             Refusal::Update(fault) => numbered(alloc, fault.number(), &fault),
             Refusal::Delegation(fault) => numbered(alloc, fault.number(), &fault),
             Refusal::Items(fault) => items_text(alloc, fault),
+            Refusal::Body(fault) => numbered(alloc, fault.number(), &fault),
             Refusal::Row => String::from_str(alloc, "another row is wanted"),
             Refusal::NoMemory => String::from_str(alloc, "out of memory"),
         }
@@ -108,6 +111,12 @@ impl From<DelegationFault> for Refusal {
 impl From<ItemsFault> for Refusal {
     fn from(fault: ItemsFault) -> Refusal {
         Refusal::Items(fault)
+    }
+}
+
+impl From<BodyFault> for Refusal {
+    fn from(fault: BodyFault) -> Refusal {
+        Refusal::Body(fault)
     }
 }
 

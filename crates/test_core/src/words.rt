@@ -1,7 +1,8 @@
 //! What the words of a command line ask for.
 
 use command_line::{
-    Existing, Job, QuestionWords, Service, StoredZone, TextForm, WordsFault, ZoneForm, read_words,
+    Existing, Job, QuestionWords, Service, StoredZone, TextForm, WordsFault, ZoneFiles, ZoneForm,
+    read_words,
 };
 use std::alloc::{AllocError, Global};
 use test_rows::Row;
@@ -66,28 +67,39 @@ fn text_of(fault: &WordsFault) -> &str {
 fn push_job(alloc: Global, job: &Job<'_>, answer: &mut Vec<u8>) -> Result<(), AllocError> {
     match job {
         Job::Apply => push("apply", answer),
-        Job::Canon { origin, form } => {
-            push_all(&["canon (", origin, ")", form_text(*form)], answer)
-        }
-        Job::Diff { origin, files } => push_all(
-            &["diff (", origin, ") (", files.old, ") (", files.new, ")"],
-            answer,
-        ),
+        Job::Canon { origin, form } => push_given("canon", origin, form_text(*form), answer),
+        Job::Diff { origin, files } => push_diff(origin, files, answer),
         Job::Import { zone, existing } => push_zone(
             "import",
             zone,
-            match existing {
-                Existing::Kept => " kept",
-                Existing::Replaced => " replaced",
-            },
+            existing_text(*existing),
             answer,
         ),
         Job::Export { zone, form } => push_zone("export", zone, form_text(*form), answer),
-        Job::Migrate { store } => push_all(&["migrate (", store, ")"], answer),
+        Job::Migrate { store } => push_given("migrate", store, "", answer),
         Job::Rights { policy, asked } => push_question(policy, asked, answer),
         Job::Serve { service } => push_service(alloc, service, answer),
-        Job::CheckPolicy { policy } => push_all(&["check policy (", policy, ")"], answer),
+        Job::CheckPolicy { policy } => push_given("check policy", policy, "", answer),
         Job::Explain { number, form } => push_explain(*number, *form, answer),
+    }
+}
+
+/// Appends the word of a job, what it was given, and an end.
+fn push_given(word: &str, given: &str, end: &str, answer: &mut Vec<u8>) -> Result<(), AllocError> {
+    push_all(&[word, " (", given, ")", end], answer)
+}
+
+fn push_diff(origin: &str, files: &ZoneFiles<'_>, answer: &mut Vec<u8>) -> Result<(), AllocError> {
+    push_all(
+        &["diff (", origin, ") (", files.old, ") (", files.new, ")"],
+        answer,
+    )
+}
+
+fn existing_text(existing: Existing) -> &'static str {
+    match existing {
+        Existing::Kept => " kept",
+        Existing::Replaced => " replaced",
     }
 }
 
@@ -115,13 +127,19 @@ fn push_explain(
     form: TextForm,
     answer: &mut Vec<u8>,
 ) -> Result<(), AllocError> {
-    let form = match form {
+    match number {
+        Some(number) => push_given("explain", number, text_form(form), answer),
+        None => {
+            push("explain all", answer)?;
+            push(text_form(form), answer)
+        }
+    }
+}
+
+fn text_form(form: TextForm) -> &'static str {
+    match form {
         TextForm::Plain => " plain",
         TextForm::Json => " json",
-    };
-    match number {
-        Some(number) => push_all(&["explain (", number, ")", form], answer),
-        None => push_all(&["explain all", form], answer),
     }
 }
 

@@ -2,7 +2,7 @@
 
 mod delegations;
 mod differences;
-mod lines;
+pub mod lines;
 mod parsed_rows;
 mod serials;
 mod updates;
@@ -129,10 +129,11 @@ fn push_told(alloc: Global, zone: &Zone, answer: &mut Vec<u8>) -> Result<(), Ref
     push_number(alloc, zone.serial(), answer)?;
     push("\n", answer)?;
     push(record_line(alloc, zone.soa())?.as_str(), answer)?;
-    push_copied(alloc, zone.try_copy(alloc)?.records().len(), answer)
+    push_copied(alloc, zone, answer)
 }
 
-fn push_copied(alloc: Global, count: usize, answer: &mut Vec<u8>) -> Result<(), Refusal> {
+fn push_copied(alloc: Global, zone: &Zone, answer: &mut Vec<u8>) -> Result<(), Refusal> {
+    let count = zone.try_copy(alloc)?.records().len();
     let text = format!(in alloc; "\nrecords in a copy: {count}")?;
     push(text.as_str(), answer)
 }

@@ -7,7 +7,7 @@ use dns_data::Ttl;
 use std::alloc::Global;
 use test_rows::{Row, word};
 use zone_core::{
-    DelegatedServer, DelegationRequest, Glue, Update, Zone, cuts, delegation_report,
+    DelegatedServer, Delegation, DelegationRequest, Glue, Update, Zone, cuts, delegation_report,
     delegation_update,
 };
 
@@ -60,9 +60,22 @@ fn glue(glue: Glue) -> &'static str {
 
 /// Appends how many cuts a zone has, and its delegations: each child, its servers and their glue.
 pub fn push_report(alloc: Global, zone: &Zone, answer: &mut Vec<u8>) -> Result<(), Refusal> {
+    push_cuts(alloc, zone, answer)?;
+    let report = delegation_report(alloc, zone.origin(), zone.records())?;
+    push_delegations(alloc, &report, answer)
+}
+
+fn push_cuts(alloc: Global, zone: &Zone, answer: &mut Vec<u8>) -> Result<(), Refusal> {
     let cuts = cuts(alloc, zone.origin(), zone.records())?.len();
-    push(format!(in alloc; "cuts: {cuts}")?.as_str(), answer)?;
-    for delegation in &delegation_report(alloc, zone.origin(), zone.records())? {
+    push(format!(in alloc; "cuts: {cuts}")?.as_str(), answer)
+}
+
+fn push_delegations(
+    alloc: Global,
+    delegations: &[Delegation],
+    answer: &mut Vec<u8>,
+) -> Result<(), Refusal> {
+    for delegation in delegations {
         push("\n", answer)?;
         push_name(alloc, &delegation.child, answer)?;
         push_servers(alloc, &delegation.servers, answer)?;

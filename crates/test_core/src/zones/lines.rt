@@ -81,16 +81,24 @@ pub fn push_operation(
         Operation::DeleteRrset { name, record_type } => {
             push_rrset(alloc, name, *record_type, answer)
         }
-        Operation::DeleteRecord { name, rdata } => {
-            push_rrset(alloc, name, rdata.record_type(), answer)?;
-            push(" ", answer)?;
-            push(data_text(alloc, rdata)?.as_str(), answer)
-        }
+        Operation::DeleteRecord { name, rdata } => push_data(alloc, name, rdata, answer),
     }
 }
 
+/// Appends a name, a type and data of that.
+pub fn push_data(
+    alloc: Global,
+    name: &Name,
+    rdata: &Data,
+    answer: &mut Vec<u8>,
+) -> Result<(), Refusal> {
+    push_rrset(alloc, name, rdata.record_type(), answer)?;
+    push(" ", answer)?;
+    push(data_text(alloc, rdata)?.as_str(), answer)
+}
+
 /// Appends a name and a type.
-fn push_rrset(
+pub fn push_rrset(
     alloc: Global,
     name: &Name,
     record_type: RecordType,

@@ -59,25 +59,32 @@ fn prerequisite(
     kind: PrerequisiteKind,
     text: &[u8],
 ) -> Result<Prerequisite, Refusal> {
-    let (owner, rest) = word(text);
-    let name = name(alloc, owner)?;
     match kind {
-        PrerequisiteKind::NameUsed => Ok(Prerequisite::NameUsed(name)),
-        PrerequisiteKind::NameUnused => Ok(Prerequisite::NameUnused(name)),
-        PrerequisiteKind::RrsetEquals => rrset_equals(alloc, name, text),
+        PrerequisiteKind::NameUsed | PrerequisiteKind::NameUnused => name_test(alloc, kind, text),
+        PrerequisiteKind::RrsetEquals => rrset_equals(alloc, text),
         PrerequisiteKind::RrsetExists | PrerequisiteKind::RrsetAbsent => {
-            rrset_test(kind, name, rest)
+            rrset_test(alloc, kind, text)
         }
     }
 }
 
-fn rrset_equals(alloc: Global, name: Name, line: &[u8]) -> Result<Prerequisite, Refusal> {
+fn name_test(alloc: Global, kind: PrerequisiteKind, text: &[u8]) -> Result<Prerequisite, Refusal> {
+    let name = name(alloc, word(text).0)?;
+    Ok(if kind == PrerequisiteKind::NameUsed {
+        Prerequisite::NameUsed(name)
+    } else {
+        Prerequisite::NameUnused(name)
+    })
+}
+
+fn rrset_equals(alloc: Global, line: &[u8]) -> Result<Prerequisite, Refusal> {
+    let name = name(alloc, word(line).0)?;
     let rdata = rdata(alloc, line)?;
     Ok(Prerequisite::RrsetEquals { name, rdata })
 }
 
-fn rrset_test(kind: PrerequisiteKind, name: Name, text: &[u8]) -> Result<Prerequisite, Refusal> {
-    let record_type = record_type(text)?;
+fn rrset_test(alloc: Global, kind: PrerequisiteKind, text: &[u8]) -> Result<Prerequisite, Refusal> {
+    let (name, record_type) = rrset(alloc, text)?;
     Ok(if kind == PrerequisiteKind::RrsetExists {
         Prerequisite::RrsetExists { name, record_type }
     } else {
@@ -85,23 +92,38 @@ fn rrset_test(kind: PrerequisiteKind, name: Name, text: &[u8]) -> Result<Prerequ
     })
 }
 
+/// The name and the type of a text.
+fn rrset(alloc: Global, text: &[u8]) -> Result<(Name, RecordType), Refusal> {
+    let (owner, rest) = word(text);
+    let name = name(alloc, owner)?;
+    Ok((name, record_type(rest)?))
+}
+
 /// An operation, from what stands behind its first word.
 fn operation(alloc: Global, kind: OperationKind, text: &[u8]) -> Result<Operation, Refusal> {
-    let (owner, rest) = word(text);
     match kind {
-        OperationKind::Add => Ok(Operation::Add(record(alloc, text)?)),
-        OperationKind::DeleteName => Ok(Operation::DeleteName(name(alloc, owner)?)),
-        OperationKind::DeleteRrset => rrset_deletion(name(alloc, owner)?, rest),
-        OperationKind::DeleteRecord => record_deletion(alloc, name(alloc, owner)?, text),
+        OperationKind::Add => addition(alloc, text),
+        OperationKind::DeleteName => name_deletion(alloc, text),
+        OperationKind::DeleteRrset => rrset_deletion(alloc, text),
+        OperationKind::DeleteRecord => record_deletion(alloc, text),
     }
 }
 
-fn rrset_deletion(name: Name, text: &[u8]) -> Result<Operation, Refusal> {
-    let record_type = record_type(text)?;
+fn addition(alloc: Global, line: &[u8]) -> Result<Operation, Refusal> {
+    Ok(Operation::Add(record(alloc, line)?))
+}
+
+fn name_deletion(alloc: Global, text: &[u8]) -> Result<Operation, Refusal> {
+    Ok(Operation::DeleteName(name(alloc, word(text).0)?))
+}
+
+fn rrset_deletion(alloc: Global, text: &[u8]) -> Result<Operation, Refusal> {
+    let (name, record_type) = rrset(alloc, text)?;
     Ok(Operation::DeleteRrset { name, record_type })
 }
 
-fn record_deletion(alloc: Global, name: Name, line: &[u8]) -> Result<Operation, Refusal> {
+fn record_deletion(alloc: Global, line: &[u8]) -> Result<Operation, Refusal> {
+    let name = name(alloc, word(line).0)?;
     let rdata = rdata(alloc, line)?;
     Ok(Operation::DeleteRecord { name, rdata })
 }
