@@ -1,6 +1,8 @@
+//! Diffs of two zones.
+
 use crate::commands::devices::Manner;
 use std::alloc::{AllocError, Global};
-use test_rows::Row;
+use test_rows::{Row, text_of};
 use text_commands::{Apply, DiffFault, do_diff, do_task};
 
 /// The master files of two zones of an origin.
@@ -31,7 +33,7 @@ impl Manners {
 impl<'a> TwoZones<'a> {
     /// The two files of a body, with a line `--` between them.
     fn of(origin: &'a str, body: &'a [u8]) -> TwoZones<'a> {
-        let text = str::from_utf8(body).unwrap_or("");
+        let text = text_of(body);
         let (old, new) = text.split_once("--\n").unwrap_or((text, ""));
         TwoZones { origin, old, new }
     }
@@ -56,59 +58,61 @@ impl<'a> TwoZones<'a> {
     /// What `apply` prints of the old zone and the items.
     fn edited(self, alloc: Global) -> Result<Vec<u8>, AllocError> {
         let (items, _) = self.diff(alloc, Manners::SOUND)?;
-        let mut input = Vec::from_slice(alloc, self.old.as_bytes())?;
-        input.extend_from_slice(b"--\n")?;
-        input.extend_from_slice(&items)?;
-        let reader = Manner::SOUND.device(input);
-        let writer = Manner::SOUND.device(Vec::new(alloc));
-        Ok(do_task(alloc, Apply, reader, writer).0.octets)
+        applied(alloc, self.old.as_bytes(), &items)
     }
 }
+
+/// What `apply` prints of a zone and items.
+fn applied(alloc: Global, zone: &[u8], items: &[u8]) -> Result<Vec<u8>, AllocError> {
+    let mut input = Vec::from_slice(alloc, zone)?;
+    input.extend_from_slice(b"--\n")?;
+    input.extend_from_slice(items)?;
+    let reader = Manner::SOUND.device(input);
+    let writer = Manner::SOUND.device(Vec::new(alloc));
+    Ok(do_task(alloc, Apply, reader, writer).0.octets)
+}
+
+/// A device whose first call fails.
+const FAILING: Manner = Manner { most: 64, fails: 1 };
 
 /// Appends the answer to a row of a diff: what it prints; what `apply` makes of the old zone and the items; what is printed where the
 /// first read of each file fails; and how much is printed where each of some writes fails.
 pub fn push_diff(alloc: Global, row: &Row<'_>, answer: &mut Vec<u8>) -> Result<(), AllocError> {
-    let origin = str::from_utf8(&row.text).unwrap_or("");
-    let zones = TwoZones::of(origin, &row.body);
-    let failing = Manner { most: 64, fails: 1 };
+    let zones = TwoZones::of(text_of(&row.text), &row.body);
     match row.verb {
-        "edit" => answer.extend_from_slice(&zones.edited(alloc)?),
-        "diff-reads" => {
-            let sound = Manners::SOUND;
-            push_run(
-                alloc,
-                zones,
-                Manners {
-                    old: failing,
-                    ..sound
-                },
-                answer,
-            )?;
-            answer.push(b'\n')?;
-            push_run(
-                alloc,
-                zones,
-                Manners {
-                    new: failing,
-                    ..sound
-                },
-                answer,
-            )
-        }
-        "diff-write" => {
-            let sound = Manners::SOUND;
-            push_run(
-                alloc,
-                zones,
-                Manners {
-                    writing: failing,
-                    ..sound
-                },
-                answer,
-            )
-        }
+        "edit" => push_edited(alloc, zones, answer),
+        "diff-reads" => push_failed_reads(alloc, zones, answer),
+        "diff-write" => push_failed_write(alloc, zones, answer),
         _ => push_run(alloc, zones, Manners::SOUND, answer),
     }
+}
+
+fn push_edited(alloc: Global, zones: TwoZones<'_>, answer: &mut Vec<u8>) -> Result<(), AllocError> {
+    answer.extend_from_slice(&zones.edited(alloc)?)
+}
+
+fn push_failed_reads(
+    alloc: Global,
+    zones: TwoZones<'_>,
+    answer: &mut Vec<u8>,
+) -> Result<(), AllocError> {
+    let mut manners = Manners::SOUND;
+    manners.old = FAILING;
+    push_run(alloc, zones, manners, answer)?;
+    answer.push(b'\n')?;
+    manners = Manners::SOUND;
+    manners.new = FAILING;
+    push_run(alloc, zones, manners, answer)
+}
+
+fn push_failed_write(
+    alloc: Global,
+    zones: TwoZones<'_>,
+    answer: &mut Vec<u8>,
+) -> Result<(), AllocError> {
+    let mut manners = Manners::SOUND;
+    manners.writing = FAILING;
+    push_run(alloc, zones, manners, answer)
 }
 
 /// Appends what a diff prints with devices that work so, and its exit status.
@@ -120,6 +124,14 @@ fn push_run(
 ) -> Result<(), AllocError> {
     let (printed, done) = zones.diff(alloc, manners)?;
     answer.extend_from_slice(&printed)?;
+    push_status(alloc, done, answer)
+}
+
+fn push_status(
+    alloc: Global,
+    done: Result<(), DiffFault>,
+    answer: &mut Vec<u8>,
+) -> Result<(), AllocError> {
     match done {
         Ok(()) => answer.extend_from_slice(b"status 0"),
         Err(fault) => {
