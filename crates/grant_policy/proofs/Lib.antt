@@ -21,3 +21,4 @@ pub mod CallerLemmas
 pub mod TakeLemmas
 pub mod IdleLemmas
 pub mod ClaimLemmas
+pub mod EntryRightLemmas

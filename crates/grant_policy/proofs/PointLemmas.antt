@@ -13,8 +13,7 @@ use Rattle.dns_data.proofs.KeptLaws.{place_is_low, place_of_type, type_at_place}
 use Rattle.grant_policy.specs.declared.action.Action.{Action}
 use Rattle.grant_policy.specs.declared.action.Action.TheVariants as actions
 use Rattle.grant_policy.specs.Words.{all_actions}
-use Rattle.grant_policy.specs.declared.rule.Rule.{Rule}
-use Rattle.grant_policy.specs.Points.{action_place, pairs, pair_number, type_at, action_at, has_point, names_point, Meet}
+use Rattle.grant_policy.specs.Points.{action_place, pairs, pair_number, type_at, action_at, has_point, Meet, IsInBoth}
 
 -- ---- places
 
@@ -116,8 +115,9 @@ same_bools true c f g = sym (f refl)
 same_bools false true f g = g refl
 same_bools false false f g = refl
 
-pub some_pair : (x y : ℕ) → x < 2 ^ pairs → (bit_and x y ≡ 0 → ⊥) → Meet x y
-some_pair x y small some =
+-- the lowest pair of both sets
+pub first_pair : (x y : ℕ) → x < 2 ^ pairs → (bit_and x y ≡ 0 → ⊥) → (trailing_zeros w64 (bit_and x y) < pairs) × IsInBoth x y (type_at (trailing_zeros w64 (bit_and x y))) (action_at (trailing_zeros w64 (bit_and x y)))
+first_pair x y small some =
     let z = bit_and x y in
     let low : z < 2 ^ pairs = omega (arith, and_le_l x y, small) in
     let first = bit_at-trailing_zeros w64 z (omega (arith, some)) (fits_word z low) in
@@ -127,7 +127,13 @@ some_pair x y small some =
     in
     let e : bit_at z (pair_number (type_at k) (action_at k)) ≡ 1 = ap (λ (n : ℕ). bit_at z n) (number_of_pair k within) ∙ first.1 in
     let both = and_parts (has_point x (type_at k) (action_at k)) (has_point y (type_at k) (action_at k)) (sym (and_bit x y (pair_number (type_at k) (action_at k))) ∙ eq-eqb (bit_at z (pair_number (type_at k) (action_at k))) 1 e) in
-    record { record_type = type_at k; action = action_at k; in_one = both.0; in_other = both.1 }
+    (within, record { in_one = both.0; in_other = both.1 })
+
+pub some_pair : (x y : ℕ) → x < 2 ^ pairs → (bit_and x y ≡ 0 → ⊥) → Meet x y
+some_pair x y small some =
+    let k = trailing_zeros w64 (bit_and x y) in
+    let both = (first_pair x y small some).1 in
+    record { record_type = type_at k; action = action_at k; in_one = both.in_one; in_other = both.in_other }
 
 pub not_none : (x y : ℕ) → Meet x y → bit_and x y ≡ 0 → ⊥
 not_none x y m none =
@@ -137,23 +143,23 @@ not_none x y m none =
     let zero' : bit_at (bit_and x y) n ≡ 0 = ap (λ (z : ℕ). bit_at z n) none ∙ bit_at-zero n in
     omega (arith, one, zero')
 
--- ---- the pairs of a rule
+-- ---- the pairs that pass a test
 
-pub record AreBits (rule : Rule) (n bits : ℕ) : Type 0 where
+pub record AreBits (test : RecordType → Action → Bool) (n bits : ℕ) : Type 0 where
   pub few : bits < 2 ^ n
-  pub pairs : (t : RecordType) (a : Action) → has_point bits t a ≡ (ltb (pair_number t a) n && names_point rule t a)
+  pub pairs : (t : RecordType) (a : Action) → has_point bits t a ≡ (ltb (pair_number t a) n && test t a)
 
-pub no_bits : (rule : Rule) → AreBits rule 0 0
-no_bits rule = record {
+pub no_bits : (test : RecordType → Action → Bool) → AreBits test 0 0
+no_bits test = record {
   few = lit< tt;
-  pairs = λ t a. ap (λ (n : ℕ). eqb n 1) (bit_at-zero (pair_number t a)) ∙ sym (and_left (ltb (pair_number t a) 0) (names_point rule t a) (le-ltb (pair_number t a) 0 (omega arith)));
+  pairs = λ t a. ap (λ (n : ℕ). eqb n 1) (bit_at-zero (pair_number t a)) ∙ sym (and_left (ltb (pair_number t a) 0) (test t a) (le-ltb (pair_number t a) 0 (omega arith)));
 }
 
-named_at : (rule : Rule) (n : ℕ) (b : Bool) → names_point rule (type_at n) (action_at n) ≡ b → (t : RecordType) (a : Action) → pair_number t a ≡ n → names_point rule t a ≡ b
-named_at rule n b says t a e =
+named_at : (test : RecordType → Action → Bool) (n : ℕ) (b : Bool) → test (type_at n) (action_at n) ≡ b → (t : RecordType) (a : Action) → pair_number t a ≡ n → test t a ≡ b
+named_at test n b says t a e =
     let tn : type_at n ≡ t = ap type_at (sym e) ∙ type_of_pair t a in
     let an : action_at n ≡ a = ap action_at (sym e) ∙ action_of_pair t a in
-    sym (ap (λ (u : RecordType). names_point rule u a) tn) ∙ sym (ap (λ (b' : Action). names_point rule (type_at n) b') an) ∙ says
+    sym (ap (λ (u : RecordType). test u a) tn) ∙ sym (ap (λ (b' : Action). test (type_at n) b') an) ∙ says
 
 below_next : (m n : ℕ) → (m ≡ n → ⊥) → ltb m n ≡ ltb m (n + 1)
 below_next m n other =
@@ -168,8 +174,8 @@ twice n =
     let d : 2 ^ n * 2 ≡ 2 ^ n + 2 ^ n = omega arith in
     ap (λ (k : ℕ). 2 ^ k) e ∙ pow-suc 2 n ∙ d
 
-pub one_bit : (rule : Rule) (n bits : ℕ) → n < pairs → AreBits rule n bits → names_point rule (type_at n) (action_at n) ≡ true → AreBits rule (n + 1) (bit_or bits (1 * 2 ^ n % 2 ^ 64))
-one_bit rule n bits lt are says = record {
+pub one_bit : (test : RecordType → Action → Bool) (n bits : ℕ) → n < pairs → AreBits test n bits → test (type_at n) (action_at n) ≡ true → AreBits test (n + 1) (bit_or bits (1 * 2 ^ n % 2 ^ 64))
+one_bit test n bits lt are says = record {
   few = or_lt (n + 1) bits (1 * 2 ^ n % 2 ^ 64) (omega (arith, are.few, twice n)) (omega (arith, bit, twice n, pow_pos n));
   pairs = λ t a. by t a (cases_eq (pair_number t a) n);
 }
@@ -177,28 +183,28 @@ one_bit rule n bits lt are says = record {
     bit : 1 * 2 ^ n % 2 ^ 64 ≤ 2 ^ n
     bit = omega (arith, mod-le (1 * 2 ^ n) (2 ^ 64))
 
-    by : (t : RecordType) (a : Action) → (pair_number t a ≡ n) ⊎ (pair_number t a ≡ n → ⊥) → has_point (bit_or bits (1 * 2 ^ n % 2 ^ 64)) t a ≡ (ltb (pair_number t a) (n + 1) && names_point rule t a)
+    by : (t : RecordType) (a : Action) → (pair_number t a ≡ n) ⊎ (pair_number t a ≡ n → ⊥) → has_point (bit_or bits (1 * 2 ^ n % 2 ^ 64)) t a ≡ (ltb (pair_number t a) (n + 1) && test t a)
     by t a (inl e) =
         let set : bit_at (bit_or bits (1 * 2 ^ n % 2 ^ 64)) (pair_number t a) ≡ 1 = ap (λ (k : ℕ). bit_at (bit_or bits (1 * 2 ^ n % 2 ^ 64)) k) e ∙ bit_at_set_same w64 bits n (omega (arith, lt, pairs_fit)) in
         eq-eqb (bit_at (bit_or bits (1 * 2 ^ n % 2 ^ 64)) (pair_number t a)) 1 set
-        ∙ sym (and_from (ltb (pair_number t a) (n + 1)) (names_point rule t a) (lt-ltb (pair_number t a) (n + 1) (omega (arith, e))) (named_at rule n true says t a e))
+        ∙ sym (and_from (ltb (pair_number t a) (n + 1)) (test t a) (lt-ltb (pair_number t a) (n + 1) (omega (arith, e))) (named_at test n true says t a e))
     by t a (inr other) =
         ap (λ (k : ℕ). eqb k 1) (bit_at_set_other w64 bits n (omega (arith, lt, pairs_fit)) (pair_number t a) other)
         ∙ are.pairs t a
-        ∙ ap (λ (b : Bool). b && names_point rule t a) (below_next (pair_number t a) n other)
+        ∙ ap (λ (b : Bool). b && test t a) (below_next (pair_number t a) n other)
 
-pub same_bits : (rule : Rule) (n bits : ℕ) → n < pairs → AreBits rule n bits → names_point rule (type_at n) (action_at n) ≡ false → AreBits rule (n + 1) bits
-same_bits rule n bits lt are says = record {
+pub same_bits : (test : RecordType → Action → Bool) (n bits : ℕ) → n < pairs → AreBits test n bits → test (type_at n) (action_at n) ≡ false → AreBits test (n + 1) bits
+same_bits test n bits lt are says = record {
   few = omega (arith, are.few, twice n);
   pairs = λ t a. by t a (cases_eq (pair_number t a) n);
 }
   where
-    by : (t : RecordType) (a : Action) → (pair_number t a ≡ n) ⊎ (pair_number t a ≡ n → ⊥) → has_point bits t a ≡ (ltb (pair_number t a) (n + 1) && names_point rule t a)
+    by : (t : RecordType) (a : Action) → (pair_number t a ≡ n) ⊎ (pair_number t a ≡ n → ⊥) → has_point bits t a ≡ (ltb (pair_number t a) (n + 1) && test t a)
     by t a (inl e) =
         are.pairs t a
-        ∙ and_right (ltb (pair_number t a) n) (names_point rule t a) (named_at rule n false says t a e)
-        ∙ sym (and_right (ltb (pair_number t a) (n + 1)) (names_point rule t a) (named_at rule n false says t a e))
-    by t a (inr other) = are.pairs t a ∙ ap (λ (b : Bool). b && names_point rule t a) (below_next (pair_number t a) n other)
+        ∙ and_right (ltb (pair_number t a) n) (test t a) (named_at test n false says t a e)
+        ∙ sym (and_right (ltb (pair_number t a) (n + 1)) (test t a) (named_at test n false says t a e))
+    by t a (inr other) = are.pairs t a ∙ ap (λ (b : Bool). b && test t a) (below_next (pair_number t a) n other)
 
-pub all_bits : (rule : Rule) (n bits : ℕ) → n ≡ pairs → AreBits rule n bits → (t : RecordType) (a : Action) → has_point bits t a ≡ names_point rule t a
-all_bits rule n bits e are t a = are.pairs t a ∙ ap (λ (b : Bool). b && names_point rule t a) (lt-ltb (pair_number t a) n (omega (arith, e, pair_low t a)))
+pub all_bits : (test : RecordType → Action → Bool) (n bits : ℕ) → n ≡ pairs → AreBits test n bits → (t : RecordType) (a : Action) → has_point bits t a ≡ test t a
+all_bits test n bits e are t a = are.pairs t a ∙ ap (λ (b : Bool). b && test t a) (lt-ltb (pair_number t a) n (omega (arith, e, pair_low t a)))

@@ -38,6 +38,11 @@ has_point bits t a = bit_at bits (pair_number t a) == 1
 abbrev pub names_point : Rule → RecordType → Action → Bool
 names_point rule t a = has same_type rule.types t && has same_action rule.actions a
 
+-- a pair is in both sets
+pub record IsInBoth (one other : ℕ) (record_type : RecordType) (action : Action) : Type 0 where
+  pub in_one : has_point one record_type action ≡ true
+  pub in_other : has_point other record_type action ≡ true
+
 -- some pair is in both sets
 pub record Meet (one other : ℕ) : Type 0 where
   pub record_type : RecordType

@@ -20,6 +20,7 @@ pub enum Action {
 
 impl Action {
     ghost use Rattle.grant_policy.specs.Words.{action_text, action_of};
+    ghost use Rattle.grant_policy.specs.Wanted.{changes};
 
     /// The actions that there are.
     pub const ALL: [Action; 5] = [
@@ -40,6 +41,16 @@ impl Action {
             Action::Add => "add",
             Action::Delete => "delete",
             Action::Delegate => "delegate",
+        }
+    }
+
+    /// Whether it changes records.
+    pub(crate) fn changes_records(self) -> bool
+        ensures { result ≡ changes self }
+    {
+        match self {
+            Action::List | Action::Check => false,
+            Action::Add | Action::Delete | Action::Delegate => true,
         }
     }
 

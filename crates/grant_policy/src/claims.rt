@@ -89,7 +89,7 @@ fn entry_behind<'a>(before: &[Entry<'_>], number: usize, claim: Claim<'a>) -> En
 }
 
 /// The entries of the rules at a name.
-fn entries_at<'a>(
+pub(crate) fn entries_at<'a>(
     alloc: Global,
     claims: &[Claim<'a>],
     name: &Name,

@@ -1,16 +1,25 @@
 //! Record types with actions, as sets.
 
-ghost use Rattle.std.specs.Prelude.{◌≡◌, ◌<◌, ◌^◌, ◌&&◌, ◌||◌, not, ◌↔◌, true, false};
+ghost use Rattle.std.specs.Prelude.{◌≡◌, ◌<◌, ◌^◌, ◌&&◌, ◌||◌, not, ◌↔◌, true, false, MatchOption};
 ghost use Rattle.dns_data.specs.declared.record_type.RecordType.{RecordType as TypeOf};
 ghost use Rattle.grant_policy.specs.declared.action.Action.{Action as ActionOf};
-ghost use Rattle.grant_policy.specs.Points.{has_point, names_point, pairs, Meet, type_at, action_at};
+ghost use Rattle.grant_policy.specs.Points.{has_point, names_point, pairs, Meet, IsInBoth, type_at, action_at};
+ghost use Rattle.grant_policy.specs.Wanted.{wants};
 
 use crate::action::Action;
 use crate::rule::Rule;
+use crate::wanted::Wanted;
 use dns_data::RecordType;
 
 /// How many pairs of a record type and an action there are.
 const PAIRS: usize = 5 * RecordType::ALL.len();
+
+/// A record type and an action.
+#[derive(Clone, Copy)]
+pub(crate) struct Pair {
+    pub(crate) record_type: RecordType,
+    pub(crate) action: Action,
+}
 
 /// A set of pairs of a record type and an action, a bit for each.
 #[derive(Clone, Copy)]
@@ -40,6 +49,19 @@ impl Points {
         Points { bits }
     }
 
+    /// The pairs that are looked for.
+    pub(crate) fn wanted(wanted: Wanted) -> Points
+        ensures { (t : TypeOf) (a : ActionOf) → has_point result.bits t a ≡ wants wanted t a }
+    {
+        let mut bits = 0;
+        for number in 0..PAIRS {
+            if wanted.has(RecordType::ALL[number / 5], Action::ALL[number % 5]) {
+                bits |= 1u64 << number;
+            }
+        }
+        Points { bits }
+    }
+
     /// The pairs of either set.
     pub(crate) fn with(self, other: Points) -> Points
         ensures { (t : TypeOf) (a : ActionOf) → has_point result.bits t a ≡ (has_point self.bits t a || has_point other.bits t a) }
@@ -63,6 +85,21 @@ impl Points {
         ensures { result ≡ true ↔ Meet self.bits other.bits }
     {
         self.bits & other.bits != 0
+    }
+
+    /// A pair of both sets, if there is one.
+    pub(crate) fn shared(self, other: Points) -> Option<Pair>
+        ensures { MatchOption result (¬ Meet self.bits other.bits) (λ p. IsInBoth self.bits other.bits p.record_type p.action) }
+    {
+        let both = self.bits & other.bits;
+        if both == 0 {
+            return None;
+        }
+        let number = both.trailing_zeros() as usize;
+        Some(Pair {
+            record_type: RecordType::ALL[number / 5],
+            action: Action::ALL[number % 5],
+        })
     }
 }
 
