@@ -28,7 +28,7 @@ pair_identifier n h = record {
 }
 
 -- the identifier that callers are, where it is one
-abbrev names : List ℕ → Callers → Bool
+abbrev pub names : List ℕ → Callers → Bool
 names identifier Every = false
 names identifier (One other) = bytes_eq other identifier
 
@@ -51,20 +51,21 @@ search_to p (suc n) =
     (cases_Bool (p n)))
     (search_to p n)
 
-abbrev is_named : List Rule → ℕ → Bool
-is_named rules n = list_any (λ rule. names (pair_of n) rule.callers) rules
+-- whether one of these speaks of the identifier of this number alone
+abbrev is_named : {X : Type 0} → (X → Callers) → List X → ℕ → Bool
+is_named of xs n = list_any (λ x. names (pair_of n) (of x)) xs
 
-has_number : (rules : List Rule) (n : ℕ) → n < 1296 → is_named rules n ≡ true → HasNumber (λ (rule : Rule). number_by rule.callers) rules n
-has_number rules n h e =
-    let a = Any-from_list_any (λ (rule : Rule). names (pair_of n) rule.callers) rules e in
-    (a.1, (a.0, a.2, a.3), named_number a.1.callers n h a.4)
+has_number : {X : Type 0} (of : X → Callers) (xs : List X) (n : ℕ) → n < 1296 → is_named of xs n ≡ true → HasNumber (λ (x : X). number_by (of x)) xs n
+has_number {X} of xs n h e =
+    let a = Any-from_list_any (λ (x : X). names (pair_of n) (of x)) xs e in
+    (a.1, (a.0, a.2, a.3), named_number (of a.1) n h a.4)
 
-unnamed : (rules : List Rule) → length rules ≤ 1024 → (n : ℕ) × (n < 1025) × (is_named rules n ≡ false)
-unnamed rules few =
+unnamed : {X : Type 0} (of : X → Callers) (xs : List X) → length xs ≤ 1025 → (n : ℕ) × (n < 1026) × (is_named of xs n ≡ false)
+unnamed {X} of xs few =
     ⊎_elim
-    (λ (found : (n : ℕ) × (n < 1025) × (is_named rules n ≡ false)). found)
-    (λ (all : (n : ℕ) → n < 1025 → is_named rules n ≡ true). absurd (omega (arith, at_least (λ (rule : Rule). number_by rule.callers) rules 1025 (λ n lt. has_number rules n (omega arith) (all n lt)))))
-    (search_to (is_named rules) 1025)
+    (λ (found : (n : ℕ) × (n < 1026) × (is_named of xs n ≡ false)). found)
+    (λ (all : (n : ℕ) → n < 1026 → is_named of xs n ≡ true). absurd (omega (arith, at_least (λ (x : X). number_by (of x)) xs 1026 (λ n lt. has_number of xs n (omega arith) (all n lt)))))
+    (search_to (is_named of xs) 1026)
 
 -- ---- a caller of a kind
 
@@ -73,7 +74,7 @@ pub record RepresentsAll (rules : List Rule) (callers : Callers) (caller : List 
   pub identifier : IsIdentifier caller
   pub alike : (rule : Rule) → Contains rules rule → is_of rule.callers caller ≡ includes rule.callers callers
 
-not_named : (own : Callers) (identifier : List ℕ) → names identifier own ≡ false → is_of own identifier ≡ is_every own
+pub not_named : (own : Callers) (identifier : List ℕ) → names identifier own ≡ false → is_of own identifier ≡ is_every own
 not_named Every identifier e = refl
 not_named (One other) identifier e = e
 
@@ -87,7 +88,7 @@ passes_not {X} p xs x none (k, lt, is) =
 pub represented : (rules : List Rule) (callers : Callers) → length rules ≤ 1024 → AreCallers callers → (caller : List ℕ) × RepresentsAll rules callers caller
 represented rules (One identifier) few are = (identifier, record { identifier = are; alike = λ rule in'. refl })
 represented rules Every few are =
-    let free = unnamed rules few in (
+    let free = unnamed (λ (rule : Rule). rule.callers) rules (omega arith) in (
       pair_of free.0,
       record {
         identifier = pair_identifier free.0 (omega (arith, free.1));
@@ -95,17 +96,23 @@ represented rules Every few are =
       },
     )
 
+-- an identifier of which none of these speaks alone
+pub free_identifier : (all : List Callers) → length all ≤ 1025 → (identifier : List ℕ) × IsIdentifier identifier × ((callers : Callers) → Contains all callers → names identifier callers ≡ false)
+free_identifier all few =
+    let free = unnamed (λ (callers : Callers). callers) all few in
+    (pair_of free.0, pair_identifier free.0 (omega (arith, free.1)), λ callers in'. passes_not (names (pair_of free.0)) all callers free.2 in')
+
 -- ---- callers of whom two rules speak
 
 pub record IsShared (one other callers : Callers) (caller : List ℕ) : Type 0 where
   pub is : shared_of one other ≡ Some callers
   pub among : (own : Callers) → includes own callers ≡ true → is_of own caller ≡ true
 
-every_is_of : (own : Callers) (caller : List ℕ) → is_every own ≡ true → is_of own caller ≡ true
+pub every_is_of : (own : Callers) (caller : List ℕ) → is_every own ≡ true → is_of own caller ≡ true
 every_is_of Every caller e = refl
 every_is_of (One identifier) caller e = absurd (false≢true e)
 
-same_among : (identifier caller : List ℕ) → bytes_eq identifier caller ≡ true → (own : Callers) → is_of own identifier ≡ true → is_of own caller ≡ true
+pub same_among : (identifier caller : List ℕ) → bytes_eq identifier caller ≡ true → (own : Callers) → is_of own identifier ≡ true → is_of own caller ≡ true
 same_among identifier caller e own i = subst (λ (c : List ℕ). is_of own c ≡ true) ((bytes_eq-Decides identifier caller).0 e) i
 
 -- a caller of whom both speak is one of those that they share

@@ -22,3 +22,4 @@ pub mod TakeLemmas
 pub mod IdleLemmas
 pub mod ClaimLemmas
 pub mod EntryRightLemmas
+pub mod IsolatedLemmas

@@ -2,6 +2,7 @@
 
 ghost use Rattle.std.specs.Prelude.{◌≡◌, ◌↔◌, ◌≤◌, None, length, IfOk, IfSome, MatchOption};
 ghost use Rattle.std.specs.List.{All};
+ghost use Rattle.dns_names.specs.Labels.{IsName};
 ghost use Rattle.grant_policy.specs.Claims.{IsClaim, AreEntries, rules_of};
 ghost use Rattle.grant_policy.specs.Representatives.{Represent};
 ghost use Rattle.grant_policy.specs.Isolated.{IsIsolated, IsIsolatedAt, IsExposed, named_of};
@@ -96,8 +97,8 @@ fn exposure_among(
     for name in names {
         let entries = entries_at(alloc, claims, name)?;
         let found = exposure_at(alloc, rules, &entries, name, caller)?;
-        if found.is_some() {
-            return Ok(found);
+        if let Some(exposure) = found {
+            return Ok(Some(exposure));
         }
     }
     Ok(None)
@@ -112,6 +113,7 @@ fn exposure_at(
     caller: &Identifier,
 ) -> Result<Option<Exposure>, AllocError>
     requires few { length rules.now ≤ 1024 }
+    requires name { IsName name.now }
     requires entries { AreEntries rules.now name.now (length rules.now) entries.now }
     ensures { IfOk result (λ found. MatchOption found (IsIsolatedAt rules.now caller.now name.now) (IsExposed rules.now caller.now)) }
 {
