@@ -1,5 +1,5 @@
 -- Whether a caller is isolated, by the entries at names that represent all names.
-use Rattle.std.proofs.Common.{◌≡◌, ◌≢◌, ◌↔◌, ◌⊎◌, inl, inr, ℕ, suc, ◌+◌, ◌<◌, ◌≤◌, Bool, true, false, ◌&&◌, not, if◌then◌else◌, List, [], ◌∷◌, length, map, get_or, take, Option, Some, None, Result, Ok, Err, IfOk, refl, sym, ap, ◌∙◌, subst, ⊎_elim, arith}
+use Rattle.std.proofs.Common.{◌≡◌, ◌≢◌, ◌↔◌, inl, inr, ℕ, suc, ◌<◌, ◌≤◌, Bool, true, false, ◌&&◌, not, if◌then◌else◌, List, [], ◌∷◌, length, map, get_or, take, Option, Some, None, Result, Ok, Err, IfOk, refl, sym, ap, ◌∙◌, subst, arith}
 use Rattle.std.specs.Prelude.{slice_get, MatchOption}
 use Rattle.std.specs.List.{Contains}
 use Rattle.std.proofs.lemmas.Bool.{both_ways, false≢true, false_from_ne_true, and_from, not-true, not_from_false}
@@ -21,25 +21,24 @@ use Rattle.grant_policy.specs.declared.claims.Entry.{Entry}
 use Rattle.grant_policy.specs.declared.exposure.Right.{Right}
 use Rattle.grant_policy.specs.declared.exposure.Exposure.{Exposure}
 use Rattle.grant_policy.specs.declared.exposure.Exposure.TheVariants.{Soa, Shared}
-use Rattle.grant_policy.specs.declared.wanted.Wanted.{Wanted}
 use Rattle.grant_policy.specs.declared.wanted.Wanted.TheVariants as wanted
 use Rattle.grant_policy.specs.Identifiers.{IsIdentifier}
 use Rattle.grant_policy.specs.Scopes.{covers}
 use Rattle.grant_policy.specs.Rules.{matches, is_of, has, same_type, same_action}
 use Rattle.grant_policy.specs.Decisions.{Verdict, HasRight, IsDecision, decided, decision, effect_by}
 use Rattle.grant_policy.specs.Representatives.{AreAlike, Represent}
-use Rattle.grant_policy.specs.Wanted.{changes, wants}
-use Rattle.grant_policy.specs.Points.{has_point, names_point}
+use Rattle.grant_policy.specs.Wanted.{changes}
+use Rattle.grant_policy.specs.Points.{names_point}
 use Rattle.grant_policy.specs.Taking.{includes, speaks}
 use Rattle.grant_policy.specs.Claims.{is_taken, IsEntry, AreEntries}
 use Rattle.grant_policy.specs.EntryRights.{IsWanted, GrantsAmong, GrantsOthers}
-use Rattle.grant_policy.specs.Isolated.{question, IsGranted, IsGrantedBy, ShowsRecords, ChangesRecords, IsIsolatedAt, IsIsolated, IsUnnamed, IsUnnamedOther, OtherHas, named_of, SeesSoa, SharesName, IsExposed}
+use Rattle.grant_policy.specs.Isolated.{question, IsGranted, IsGrantedBy, ShowsRecords, ChangesRecords, IsIsolatedAt, IsIsolated, IsUnnamedOther, OtherHas, named_of, SeesSoa, SharesName, IsExposed}
 use Rattle.grant_policy.proofs.WordLemmas.{same_type-Decides}
 use Rattle.grant_policy.proofs.RuleLemmas.{matches-Decides}
 use Rattle.grant_policy.proofs.DecisionLaws.{same_Some, decision_found, decision_one, grants_by}
 use Rattle.grant_policy.proofs.CallerLemmas.{names, free_identifier, not_named, every_is_of, same_among, shared_by}
 use Rattle.grant_policy.proofs.TakeLemmas.{fst, snd, at_place, before_place, passes_before}
-use Rattle.grant_policy.proofs.ClaimLemmas.{from_map, in_map, place_of, among, entry_at, entries_before, before_same, covering, item_at}
+use Rattle.grant_policy.proofs.ClaimLemmas.{from_map, in_map, place_of, among, entry_at, entries_before, before_same, covering}
 use Rattle.grant_policy.proofs.EntryRightLemmas.{NoneAmong, NoneToOthers}
 
 -- ---- callers

@@ -16,11 +16,7 @@ use crate::points::Points;
 use crate::wanted::Wanted;
 
 /// A right that entries grant a caller, among those that are looked for.
-pub(crate) fn own_right(
-    entries: &[Entry<'_>],
-    caller: &Identifier,
-    wanted: Wanted,
-) -> Option<Right>
+pub(crate) fn own_right(entries: &[Entry<'_>], caller: &Identifier, wanted: Wanted) -> Option<Right>
     ensures { MatchOption result ((right : RightOf) → IsWanted wanted right → ¬ GrantsAmong (One caller.now) entries.now (length entries.now) right) (λ right. IsWanted wanted right × GrantsAmong (One caller.now) entries.now (length entries.now) right) }
 {
     let looked_for = Points::wanted(wanted);

@@ -1,4 +1,4 @@
-use Rattle.std.proofs.Common.{List, ℕ, [], get_or, length, sym, ◌∙◌, subst, below_more, arith}
+use Rattle.std.proofs.Common.{List, ℕ, [], subst, below_more, arith}
 use Rattle.std.proofs.lemmas.List.{get_or_read}
 use Rattle.grant_policy.specs.Isolated.{IsIsolatedAt}
 use Rattle.grant_policy.proofs.IsolatedLemmas.{isolated_all}
