@@ -1,13 +1,16 @@
 -- A caller's replies among all calls are those to its calls alone.
-use Rattle.std.proofs.Common.{◌≡◌, ◌≢◌, ℕ, List, [], ◌∷◌, map, Bool, true, false, cond, Option, Some, None, refl, sym, ap, subst, ◌∙◌, inl}
+use Rattle.std.proofs.Common.{◌≡◌, ◌≢◌, ℕ, List, [], ◌∷◌, map, Bool, true, false, cond, Option, Some, None, refl, sym, ap, subst, ◌∙◌, inl, inr}
 use Rattle.std.specs.Prelude.{bytes_eq}
 use Rattle.std.specs.List.{AllByRecursion, filter}
 use Rattle.std.proofs.lemmas.Slice.Eq.{bytes_eq-Decides}
+use Rattle.dns_names.specs.Labels.{IsName}
 use Rattle.grant_policy.specs.declared.action.Action.TheVariants as action
 use Rattle.grant_policy.specs.declared.rule.Rule.{Rule}
+use Rattle.grant_policy.specs.Isolated.{IsIsolated}
+use Rattle.zone_core.specs.Sets.{key_of}
 use Rattle.zone_core.specs.declared.update.Operation.{Operation}
 use Rattle.zone_core.specs.declared.update.Operation.TheVariants.{Add, DeleteRrset, DeleteName, DeleteRecord}
-use Rattle.zone_core.specs.Updates.{UpdateOf, acted_name}
+use Rattle.zone_core.specs.Updates.{UpdateOf, IsUpdate, acted_name}
 use Rattle.zone_core.specs.Visibility.{IsInvisible}
 use Rattle.zone_core.proofs.SetLemmas.{by_cases}
 use Rattle.office_core.specs.declared.request.Request.{Request}
@@ -16,10 +19,10 @@ use Rattle.office_core.specs.declared.request.Call.{Call}
 use Rattle.office_core.specs.declared.reply.UpdateReply.{UpdateReply}
 use Rattle.office_core.specs.declared.receipt.Receipt.{Receipt}
 use Rattle.office_core.specs.Replies.{ReplyOf}
-use Rattle.office_core.specs.States.{State, Held}
+use Rattle.office_core.specs.States.{State, Held, AreZones}
 use Rattle.office_core.specs.Machine.{step, refusal, made_now, made}
 use Rattle.office_core.specs.Runs.{Answer, turn, answers, HasUpdate, HaveUpdates}
-use Rattle.office_core.specs.Isolation.{asked_by, replies_to, IsOwn, origin_of, OthersStayAway, OthersStayInvisible, OthersMayNot, CallersAreAlone, BlindCallersAreAlone, PoliciesKeepAlone}
+use Rattle.office_core.specs.Isolation.{asked_by, replies_to, IsOwn, origin_of, OthersStayAway, OthersStayInvisible, OthersMayNot, SeesNoSoa, CallersAreAlone, BlindCallersAreAlone, PoliciesKeepAlone, IsolatedCallersAreAlone}
 use Rattle.office_core.proofs.OwnNameLemmas.{permitted_away}
 use Rattle.office_core.proofs.SameLemmas.{Same, Turns, not_refused, step_alike, step_away, same_self}
 
@@ -90,23 +93,32 @@ invisible_calls rules caller s (call ∷ calls) away = (
 
 -- where the policy keeps the caller's names from the others, they stay away
 module _ (rules : List Rule) (caller : List ℕ) (others : OthersMayNot rules caller) where
-  update_away : (other : List ℕ) → other ≢ caller → (origin : List (List ℕ)) (update : UpdateOf) (x : Option Held) (kept : Option Receipt) (f : Option UpdateReply) → refusal rules other origin update x ≡ f → AllByRecursion (λ op. ¬ IsOwn rules caller (acted_name op)) (made_now kept f update)
-  update_away other differs origin update x (Some kept) f e = tt
-  update_away other differs origin update x None (Some reply) e = tt
-  update_away other differs origin update x None None e = permitted_away rules other origin caller others differs update (not_refused rules other origin update x e).permitted
+  update_away : (other : List ℕ) → other ≢ caller → (origin : List (List ℕ)) (update : UpdateOf) → IsUpdate update → (x : Option Held) (kept : Option Receipt) (f : Option UpdateReply) → refusal rules other origin update x ≡ f → AllByRecursion (λ op. ¬ IsOwn rules caller (acted_name op)) (made_now kept f update)
+  update_away other differs origin update is x (Some kept) f e = tt
+  update_away other differs origin update is x None (Some reply) e = tt
+  update_away other differs origin update is x None None e = permitted_away rules other origin caller others differs update is (not_refused rules other origin update x e).permitted
 
-  stays_away : (s : State) (other : List ℕ) → other ≢ caller → (request : Request) → AllByRecursion (λ op. ¬ IsOwn rules caller (acted_name op)) (made rules s other request)
-  stays_away s other differs (requests.Update origin id update) = update_away other differs origin update (s.zones origin) (s.receipts other id) (refusal rules other origin update (s.zones origin)) refl
-  stays_away s other differs (requests.List origin) = tt
-  stays_away s other differs (requests.ListWithin origin top) = tt
-  stays_away s other differs (requests.File origin) = tt
-  stays_away s other differs (requests.Delegations origin) = tt
-  stays_away s other differs (requests.Changes origin from) = tt
-  stays_away s other differs (requests.Rights name record_type asked) = tt
+  stays_away : (s : State) (other : List ℕ) → other ≢ caller → (request : Request) → HasUpdate request → AllByRecursion (λ op. ¬ IsOwn rules caller (acted_name op)) (made rules s other request)
+  stays_away s other differs (requests.Update origin id update) is = update_away other differs origin update is (s.zones origin) (s.receipts other id) (refusal rules other origin update (s.zones origin)) refl
+  stays_away s other differs (requests.List origin) is = tt
+  stays_away s other differs (requests.ListWithin origin top) is = tt
+  stays_away s other differs (requests.File origin) is = tt
+  stays_away s other differs (requests.Delegations origin) is = tt
+  stays_away s other differs (requests.Changes origin from) is = tt
+  stays_away s other differs (requests.Rights name record_type asked) is = tt
 
-  stay_away : (s : State) (calls : List Call) → OthersStayAway rules caller s calls
-  stay_away s [] = tt
-  stay_away s (call ∷ calls) = (λ differs. stays_away s call.caller differs call.request, stay_away (turn rules s call).after calls)
+  stay_away : (s : State) (calls : List Call) → HaveUpdates calls → OthersStayAway rules caller s calls
+  stay_away s [] are = tt
+  stay_away s (call ∷ calls) are = (λ differs. stays_away s call.caller differs call.request are.0, stay_away (turn rules s call).after calls are.1)
+
+-- an isolated caller sees no SOA at an origin, which is a name
+sees_no_soa : (rules : List Rule) (caller : List ℕ) (s : State) → AreZones s → IsIsolated rules caller → SeesNoSoa rules caller s
+sees_no_soa rules caller s zones is origin held e =
+    let zone = zones origin held e in
+    let soa = zone.soa.0 in
+    let named : IsName origin = subst IsName zone.soa.1.origin (zone.kept (key_of soa) soa zone.soa.1.here).1.owner in
+    let blind = (is origin named).blind in
+    record { unlisted = blind action.List (inl refl); unchecked = blind action.Check (inr refl) }
 
 -- ---- the laws
 
@@ -120,4 +132,8 @@ callers_are_alone rules caller s calls zones are rights away =
 
 pub policies_keep_alone : PoliciesKeepAlone
 policies_keep_alone rules caller s calls zones are blind others =
-    blind_callers_are_alone rules caller s calls zones are blind (invisible_calls rules caller s calls (stay_away rules caller others s calls))
+    blind_callers_are_alone rules caller s calls zones are blind (invisible_calls rules caller s calls (stay_away rules caller others s calls are))
+
+pub isolated_callers_are_alone : IsolatedCallersAreAlone
+isolated_callers_are_alone rules caller s calls zones are is =
+    policies_keep_alone rules caller s calls zones are (sees_no_soa rules caller s zones is) (λ other name t a differs named own change. (is name named).alone own other t a differs change)

@@ -1,23 +1,32 @@
 -- The names of a permitted update are its caller's own.
 use Rattle.std.proofs.Common.{◌≡◌, ◌≢◌, ℕ, List, [], ◌∷◌, Bool, true, false, Some, None, refl, subst, inl, inr, if◌then◌else◌}
 use Rattle.std.specs.List.{AllByRecursion}
+use Rattle.dns_names.specs.Labels.{IsName}
 use Rattle.dns_data.specs.declared.record_type.RecordType.{RecordType}
 use Rattle.dns_data.specs.declared.record_type.RecordType.TheVariants as types
 use Rattle.dns_data.specs.Rdata.{type_of}
 use Rattle.grant_policy.specs.declared.action.Action.{Action}
 use Rattle.grant_policy.specs.declared.action.Action.TheVariants as action
 use Rattle.grant_policy.specs.declared.rule.Rule.{Rule}
+use Rattle.grant_policy.specs.Isolated.{ChangesRecords}
 use Rattle.grant_policy.proofs.WordLemmas.{same_type-Decides}
 use Rattle.zone_core.specs.declared.update.Prerequisite.{Prerequisite}
 use Rattle.zone_core.specs.declared.update.Prerequisite.TheVariants.{RrsetExists, RrsetEquals, RrsetAbsent, NameUsed, NameUnused}
 use Rattle.zone_core.specs.declared.update.Operation.{Operation}
 use Rattle.zone_core.specs.declared.update.Operation.TheVariants.{Add, DeleteRrset, DeleteName, DeleteRecord}
-use Rattle.zone_core.specs.Updates.{UpdateOf, tested_name, acted_name}
+use Rattle.zone_core.specs.Updates.{UpdateOf, IsOperation, IsUpdate, tested_name, acted_name}
 use Rattle.zone_core.specs.Visibility.{TestsSeen}
 use Rattle.office_core.specs.Footprints.{PrerequisiteAsks, OperationAsks, changes_type, delegates, change_of, operation_action}
 use Rattle.office_core.specs.Permissions.{IsGranted, IsPermitted}
-use Rattle.office_core.specs.Isolation.{IsOwn, ChangesRecords, OthersMayNot}
+use Rattle.office_core.specs.Isolation.{IsOwn, OthersMayNot}
 use Rattle.office_core.proofs.FootprintLemmas.{operation_asked}
+
+-- an operation acts at a name
+acts_at_name : (op : Operation) → IsOperation op → IsName (acted_name op)
+acts_at_name (Add r) is = is.owner
+acts_at_name (DeleteRrset name t) is = is
+acts_at_name (DeleteName name) is = is
+acts_at_name (DeleteRecord name rdata) is = is.0
 
 -- ---- what an operation asks for
 
@@ -96,12 +105,15 @@ module _ (rules : List Rule) (caller : List ℕ) where
     permitted_acts update permitted = all_own update.operations permitted.operations
 
     module _ (mine : List ℕ) (others : OthersMayNot rules mine) (other : caller ≢ mine) where
-      all_away : (ops : List Operation) → AllByRecursion Allows ops → AllByRecursion (λ op. ¬ IsOwn rules mine (acted_name op)) ops
-      all_away [] all = tt
-      all_away (op ∷ ops) all =
+      all_away : (ops : List Operation) → AllByRecursion IsOperation ops → AllByRecursion Allows ops → AllByRecursion (λ op. ¬ IsOwn rules mine (acted_name op)) ops
+      all_away [] are all = tt
+      all_away (op ∷ ops) are all =
           let some = some_change origin op in
-          (λ own. others caller (acted_name op) some.record_type some.asked other own some.change (all.0 some.record_type some.asked some.asks), all_away ops all.1)
+          (
+            λ own. others caller (acted_name op) some.record_type some.asked other (acts_at_name op are.0) own some.change (all.0 some.record_type some.asked some.asks),
+            all_away ops are.1 all.1,
+          )
 
       -- and at no name of a caller whose names the policy keeps from it
-      pub permitted_away : (update : UpdateOf) → IsPermitted rules caller origin update → AllByRecursion (λ op. ¬ IsOwn rules mine (acted_name op)) update.operations
-      permitted_away update permitted = all_away update.operations permitted.operations
+      pub permitted_away : (update : UpdateOf) → IsUpdate update → IsPermitted rules caller origin update → AllByRecursion (λ op. ¬ IsOwn rules mine (acted_name op)) update.operations
+      permitted_away update is permitted = all_away update.operations is.operations permitted.operations

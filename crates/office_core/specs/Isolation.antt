@@ -1,12 +1,14 @@
 -- Isolation: a caller's replies are those that it would get alone, as long as others change nothing at its own names.
-use Rattle.std.specs.Prelude.{◌≡◌, ◌≢◌, ◌⊎◌, ℕ, List, [], ◌∷◌, map, bytes_eq, Some}
+use Rattle.std.specs.Prelude.{◌≡◌, ◌≢◌, ℕ, List, [], ◌∷◌, map, bytes_eq, Some}
 use Rattle.std.specs.List.{filter, AllByRecursion}
+use Rattle.dns_names.specs.Labels.{IsName}
 use Rattle.dns_data.specs.declared.record_type.RecordType.{RecordType}
 use Rattle.dns_data.specs.declared.record_type.RecordType.TheVariants as types
 use Rattle.grant_policy.specs.declared.action.Action.{Action}
 use Rattle.grant_policy.specs.declared.action.Action.TheVariants as action
 use Rattle.grant_policy.specs.declared.rule.Rule.{Rule}
 use Rattle.grant_policy.specs.Decisions.{HasRight}
+use Rattle.grant_policy.specs.Isolated.{ChangesRecords, IsIsolated}
 use Rattle.zone_core.specs.Updates.{acted_name}
 use Rattle.zone_core.specs.Visibility.{IsInvisible}
 use Rattle.office_core.specs.declared.request.Request.{Request}
@@ -77,15 +79,11 @@ OthersStayInvisible rules caller s (call ∷ calls) =
     (call.caller ≢ caller → AllByRecursion (IsInvisible (IsOwn rules caller) (origin_of call.request)) (made rules s call.caller call.request))
     × OthersStayInvisible rules caller (turn rules s call).after calls
 
--- an action that changes records
-abbrev pub ChangesRecords : Action → Type 0
-ChangesRecords asked = (asked ≡ action.Add) ⊎ ((asked ≡ action.Delete) ⊎ (asked ≡ action.Delegate))
-
 -- the policy grants no other caller to change records at a name of the caller's own
 abbrev pub OthersMayNot : List Rule → List ℕ → Type 0
 OthersMayNot rules caller =
     (other : List ℕ) (name : List (List ℕ)) (record_type : RecordType) (asked : Action)
-    → other ≢ caller → IsOwn rules caller name → ChangesRecords asked → ¬ IsGranted rules other name record_type asked
+    → other ≢ caller → IsName name → IsOwn rules caller name → ChangesRecords asked → ¬ IsGranted rules other name record_type asked
 
 -- ---- the laws
 
@@ -114,3 +112,9 @@ abbrev pub PoliciesKeepAlone : Type 0
 PoliciesKeepAlone =
     (rules : List Rule) (caller : List ℕ) (s : State) (calls : List Call)
     → AreZones s → HaveUpdates calls → SeesNoSoa rules caller s → OthersMayNot rules caller → IsAnsweredAlone rules caller s calls
+
+-- So by one fact of the policy, which is decided of each policy: a caller that it isolates is told what it would be told alone.
+abbrev pub IsolatedCallersAreAlone : Type 0
+IsolatedCallersAreAlone =
+    (rules : List Rule) (caller : List ℕ) (s : State) (calls : List Call)
+    → AreZones s → HaveUpdates calls → IsIsolated rules caller → IsAnsweredAlone rules caller s calls
