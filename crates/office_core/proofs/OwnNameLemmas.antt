@@ -108,8 +108,7 @@ module _ (rules : List Rule) (caller : List ℕ) where
       all_away : (ops : List Operation) → AllByRecursion IsOperation ops → AllByRecursion Allows ops → AllByRecursion (λ op. ¬ IsOwn rules mine (acted_name op)) ops
       all_away [] are all = tt
       all_away (op ∷ ops) are all =
-          let some = some_change origin op in
-          (
+          let some = some_change origin op in (
             λ own. others caller (acted_name op) some.record_type some.asked other (acts_at_name op are.0) own some.change (all.0 some.record_type some.asked some.asks),
             all_away ops are.1 all.1,
           )
