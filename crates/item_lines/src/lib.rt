@@ -11,4 +11,4 @@ mod text;
 pub use items_fault::ItemsFault;
 pub use laws::items_are_read;
 pub use lines::{entry_items, read_items};
-pub use text::items_text;
+pub use text::{items_text, lists_text};

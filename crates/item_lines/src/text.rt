@@ -74,14 +74,27 @@ fn push_operations(text: &mut String, operations: &[Operation]) -> Result<(), Al
     Ok(())
 }
 
+/// The canonical text of prerequisites and operations: the prerequisites, and then the operations, each list in its order, one item
+/// a line that a line feed ends, as `items_text` prints them. There may be more of them than an update has. The only error is out of
+/// memory.
+pub fn lists_text(
+    alloc: Global,
+    prerequisites: &[Prerequisite],
+    operations: &[Operation],
+) -> Result<String, AllocError>
+    ensures canonical { IfOk result (λ text. string_bytes text ≡ update_text (record { prerequisites = prerequisites.now; operations = operations.now })) }
+{
+    let mut text = String::new(alloc);
+    push_prerequisites(&mut text, prerequisites)?;
+    push_operations(&mut text, operations)?;
+    Ok(text)
+}
+
 /// The canonical text of an update, which `read_items` reads: the prerequisites, and then the operations, each list in its
 /// order, one item a line that a line feed ends. Fields have one space between them; names, types and data have their canonical
 /// texts, and the TTL is its seconds in decimal digits. The only error is out of memory.
 pub fn items_text(alloc: Global, update: &Update) -> Result<String, AllocError>
     ensures canonical { IfOk result (λ text. string_bytes text ≡ update_text update.now) }
 {
-    let mut text = String::new(alloc);
-    push_prerequisites(&mut text, update.prerequisites())?;
-    push_operations(&mut text, update.operations())?;
-    Ok(text)
+    lists_text(alloc, update.prerequisites(), update.operations())
 }
