@@ -1,10 +1,12 @@
 pub mod AddressLemmas
 pub mod AppendLemmas
 pub mod DataLemmas
+pub mod DataTextLemmas
 pub mod DelegationLemmas
 pub mod EscapeLemmas
 pub mod FormLaws
 pub mod KindLemmas
 pub mod ListLemmas
 pub mod ShortLemmas
+pub mod UpdateTextLaws
 pub mod ValueLemmas

@@ -6,4 +6,5 @@ pub mod Reading
 pub mod Requests
 pub mod Json
 pub mod Replies
+pub mod UpdateTexts
 pub mod Appending

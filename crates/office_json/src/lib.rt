@@ -1,5 +1,5 @@
-//! The bodies of requests and replies in JSON (RFC 8259): reading updates and delegations, and printing what the office
-//! replies.
+//! The bodies of requests and replies in JSON (RFC 8259): reading updates and delegations, and printing updates and
+//! what the office replies.
 #![tactic(auto)]
 
 mod body;
@@ -16,6 +16,7 @@ mod reply;
 mod server;
 mod short;
 mod update;
+mod update_body;
 mod value;
 
 pub use body::UpdateBody;
@@ -25,3 +26,4 @@ pub use laws::delegations_are_one;
 pub use piece::push_all;
 pub use reply::{form_error_text, refusal_text, reply_text};
 pub use update::read_update;
+pub use update_body::update_text;
