@@ -46,6 +46,7 @@ unfolding office clap_on_literals
 met command.Apply = refl
 met command.Canon = refl
 met command.Diff = refl
+met command.Request = refl
 met command.Import = refl
 met command.Export = refl
 met command.Migrate = refl
@@ -59,6 +60,7 @@ unfolding office clap_on_literals
 entered_by command.Apply words = refl
 entered_by command.Canon words = refl
 entered_by command.Diff words = refl
+entered_by command.Request words = refl
 entered_by command.Import words = refl
 entered_by command.Export words = refl
 entered_by command.Migrate words = refl
@@ -71,6 +73,7 @@ read_back : (c : Command) → command_of (command_word c) ≡ Some c
 read_back command.Apply = refl
 read_back command.Canon = refl
 read_back command.Diff = refl
+read_back command.Request = refl
 read_back command.Import = refl
 read_back command.Export = refl
 read_back command.Migrate = refl

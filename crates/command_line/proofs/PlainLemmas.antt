@@ -12,12 +12,14 @@ use Rattle.command_line.specs.declared.command.Command.{Command}
 use Rattle.command_line.specs.declared.command.Command.TheVariants as command
 use Rattle.command_line.specs.declared.job.Existing.{Existing}
 use Rattle.command_line.specs.declared.job.Existing.TheVariants.{Kept, Replaced}
+use Rattle.command_line.specs.declared.job.DiffForm.{DiffForm}
+use Rattle.command_line.specs.declared.job.DiffForm.TheVariants.{Bare, Guarded}
 use Rattle.command_line.specs.declared.job.ZoneForm.{ZoneForm}
 use Rattle.command_line.specs.declared.job.ZoneForm.TheVariants.{Whole, Relative}
 use Rattle.command_line.specs.declared.job.TextForm.{TextForm}
 use Rattle.command_line.specs.declared.job.TextForm.TheVariants.{Plain, Json}
-use Rattle.command_line.specs.PlainForms.{IsNumberGiven, IsPlain, IsValue, IsValueIfGiven, existing_words, form_words, given, place_words, zone_form_words}
-use Rattle.command_line.specs.Words.{JobOf, apply, canon, diff, files_at, imports, export, migrate, rights, serve, check_policy, explain, job_by, job_of, stored_at}
+use Rattle.command_line.specs.PlainForms.{IsNumberGiven, IsPlain, IsValue, IsValueIfGiven, diff_form_words, existing_words, form_words, given, place_words, zone_form_words}
+use Rattle.command_line.specs.Words.{JobOf, apply, canon, diff, request, files_at, imports, export, migrate, rights, serve, check_policy, explain, job_by, job_of, stored_at}
 use Rattle.command_line.proofs.CommandLemmas.{job_of_command, no_words, place_walked, rows_from, rules_of, standing, value_walked}
 
 -- ---- steps
@@ -66,12 +68,24 @@ module _ (o old new : Text) (is_o : IsValue o) (is_old : IsValue old) (is_new : 
   abbrev origin_given : Held
   origin_given = valued command.Diff start argument.Origin o
 
-  diff_read : job_from command.Diff (given argument.Origin o ++ old ∷ new ∷ []) (walk_from start) ≡ Some (diff o (files_at old new))
+  -- what is held after the flag
+  abbrev flagged : Held
+  flagged = (walked (rules_of command.Diff) [] (standing 1 origin_given idle) (codes "--" ++ argument_name argument.Guard)).held
+
+  diff_read : (form : DiffForm) → job_from command.Diff (given argument.Origin o ++ diff_form_words form ++ old ∷ new ∷ []) (walk_from start) ≡ Some (diff o (files_at old new) form)
   unfolding clap_on_literals
-  diff_read =
+  diff_read Bare =
       option_read command.Diff start argument.Origin o (old ∷ new ∷ []) is_o refl
       ∙ (place_read command.Diff 1 origin_given argument.Old old (new ∷ []) is_old refl
       ∙ place_read command.Diff 2 (placed command.Diff 1 origin_given argument.Old old) argument.New new [] is_new refl)
+  diff_read Guarded =
+      option_read command.Diff start argument.Origin o (diff_form_words Guarded ++ old ∷ new ∷ []) is_o refl
+      ∙ (place_read command.Diff 1 flagged argument.Old old (new ∷ []) is_old refl
+      ∙ place_read command.Diff 2 (placed command.Diff 1 flagged argument.Old old) argument.New new [] is_new refl)
+
+request_read : (i : Text) → IsValue i → job_from command.Request (given argument.Id i) (walk_from start) ≡ Some (request i)
+unfolding clap_on_literals
+request_read i is = option_read command.Request start argument.Id i [] is refl
 
 migrate_read : (s : Text) → IsValue s → job_from command.Migrate (given argument.Store s) (walk_from start) ≡ Some (migrate s)
 unfolding clap_on_literals
@@ -185,8 +199,9 @@ pub plain_read : (words : List Text) (x : JobOf) → IsPlain words x → job_of 
 plain_read words apply (inl none) = ap job_of none ∙ no_words
 plain_read words apply (inr word) = ap job_of word ∙ job_of_command command.Apply []
 plain_read words (canon o form) is = ap job_of is.1 ∙ (job_of_command command.Canon _ ∙ canon_read o form is.0)
-plain_read words (diff o files) is =
-    ap job_of is.3 ∙ (job_of_command command.Diff _ ∙ diff_read o files.old files.new is.0 is.1 is.2)
+plain_read words (diff o files form) is =
+    ap job_of is.3 ∙ (job_of_command command.Diff _ ∙ diff_read o files.old files.new is.0 is.1 is.2 form)
+plain_read words (request i) is = ap job_of is.1 ∙ (job_of_command command.Request _ ∙ request_read i is.0)
 plain_read words (imports z existing) is =
     ap job_of is.2 ∙ (job_of_command command.Import _ ∙ import_read z.store z.origin existing is.0 is.1)
 plain_read words (export z form) is = ap job_of is.2 ∙ (job_of_command command.Export _ ∙ export_read z.store z.origin form is.0 is.1)

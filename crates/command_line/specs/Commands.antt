@@ -30,8 +30,10 @@ argument_row argument.Patience = (codes "patience", Number)
 argument_row argument.Number = (codes "number", OptionalPlace)
 argument_row argument.Subject = (codes "subject", Place)
 argument_row argument.Json = (codes "json", Flag)
+argument_row argument.Guard = (codes "guard", Flag)
 argument_row argument.Old = (codes "old", Place)
 argument_row argument.New = (codes "new", Place)
+argument_row argument.Id = (codes "id", Needed)
 
 abbrev pub argument_name : Argument → Text
 argument_name a = (argument_row a).0
@@ -45,7 +47,8 @@ argument_form a = (argument_row a).1
 abbrev pub command_row : Command → Text × List Argument
 command_row command.Apply = (codes "apply", [])
 command_row command.Canon = (codes "canon", argument.Origin ∷ argument.Relative ∷ [])
-command_row command.Diff = (codes "diff", argument.Origin ∷ argument.Old ∷ argument.New ∷ [])
+command_row command.Diff = (codes "diff", argument.Origin ∷ argument.Guard ∷ argument.Old ∷ argument.New ∷ [])
+command_row command.Request = (codes "request", argument.Id ∷ [])
 command_row command.Import = (codes "import", argument.Store ∷ argument.Origin ∷ argument.Replace ∷ [])
 command_row command.Export = (codes "export", argument.Store ∷ argument.Origin ∷ argument.Relative ∷ [])
 command_row command.Migrate = (codes "migrate", argument.Store ∷ [])
@@ -64,8 +67,8 @@ arguments_of c = (command_row c).1
 
 abbrev pub all_commands : List Command
 all_commands =
-    command.Apply ∷ command.Canon ∷ command.Diff ∷ command.Import ∷ command.Export ∷ command.Migrate ∷ command.Rights ∷ command.Serve ∷ command.Check
-    ∷ command.Explain ∷ []
+    command.Apply ∷ command.Canon ∷ command.Diff ∷ command.Request ∷ command.Import ∷ command.Export ∷ command.Migrate ∷ command.Rights ∷ command.Serve
+    ∷ command.Check ∷ command.Explain ∷ []
 
 -- the command that a word names
 abbrev pub command_of : Text → Option Command

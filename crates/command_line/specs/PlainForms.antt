@@ -4,11 +4,13 @@ use Rattle.std.specs.Str.{bytes_eq}
 use Rattle.clap.specs.Words.{Text}
 use Rattle.clap.specs.Lexer.{long_of, short_of}
 use Rattle.command_line.specs.Commands.{argument_name}
-use Rattle.command_line.specs.Words.{JobOf, apply, canon, diff, imports, export, migrate, rights, serve, check_policy, explain, number_in}
+use Rattle.command_line.specs.Words.{JobOf, apply, canon, diff, request, imports, export, migrate, rights, serve, check_policy, explain, number_in}
 use Rattle.command_line.specs.declared.argument.Argument.{Argument}
 use Rattle.command_line.specs.declared.argument.Argument.TheVariants as argument
 use Rattle.command_line.specs.declared.job.Existing.{Existing}
 use Rattle.command_line.specs.declared.job.Existing.TheVariants.{Kept, Replaced}
+use Rattle.command_line.specs.declared.job.DiffForm.{DiffForm}
+use Rattle.command_line.specs.declared.job.DiffForm.TheVariants.{Bare, Guarded}
 use Rattle.command_line.specs.declared.job.ZoneForm.{ZoneForm}
 use Rattle.command_line.specs.declared.job.ZoneForm.TheVariants.{Whole, Relative}
 use Rattle.command_line.specs.declared.job.TextForm.{TextForm}
@@ -34,6 +36,11 @@ abbrev pub zone_form_words : ZoneForm → List Text
 zone_form_words Whole = []
 zone_form_words Relative = codes "--relative" ∷ []
 
+-- `--guard`, where tests are to stand before the operations
+abbrev pub diff_form_words : DiffForm → List Text
+diff_form_words Bare = []
+diff_form_words Guarded = codes "--guard" ∷ []
+
 -- `--json`, where JSON is asked for
 abbrev pub form_words : TextForm → List Text
 form_words Plain = []
@@ -58,8 +65,9 @@ IsNumberGiven a (Some n) words = (t : Text) × IsValue t × (number_in t ≡ Som
 abbrev pub IsPlain : List Text → JobOf → Type 0
 IsPlain words apply = (words ≡ []) ⊎ (words ≡ codes "apply" ∷ [])
 IsPlain words (canon origin form) = IsValue origin × (words ≡ codes "canon" ∷ (given argument.Origin origin ++ zone_form_words form))
-IsPlain words (diff origin files) = IsValue origin × IsValue files.old × IsValue files.new
-    × (words ≡ codes "diff" ∷ (given argument.Origin origin ++ files.old ∷ files.new ∷ []))
+IsPlain words (diff origin files form) = IsValue origin × IsValue files.old × IsValue files.new
+    × (words ≡ codes "diff" ∷ (given argument.Origin origin ++ diff_form_words form ++ files.old ∷ files.new ∷ []))
+IsPlain words (request id) = IsValue id × (words ≡ codes "request" ∷ given argument.Id id)
 IsPlain words (imports zone existing) = IsValue zone.store × IsValue zone.origin
     × (words ≡ codes "import" ∷ (given argument.Store zone.store ++ given argument.Origin zone.origin ++ existing_words existing))
 IsPlain words (export zone form) = IsValue zone.store × IsValue zone.origin

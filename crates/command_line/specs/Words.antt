@@ -13,6 +13,8 @@ use Rattle.command_line.specs.declared.job.Existing.{Existing}
 use Rattle.command_line.specs.declared.job.Existing.TheVariants.{Kept, Replaced}
 use Rattle.command_line.specs.declared.job.TextForm.{TextForm}
 use Rattle.command_line.specs.declared.job.TextForm.TheVariants.{Plain, Json}
+use Rattle.command_line.specs.declared.job.DiffForm.{DiffForm}
+use Rattle.command_line.specs.declared.job.DiffForm.TheVariants.{Bare, Guarded}
 use Rattle.command_line.specs.declared.job.ZoneForm.{ZoneForm}
 use Rattle.command_line.specs.declared.job.ZoneForm.TheVariants.{Whole, Relative}
 use Rattle.command_line.specs.declared.job.StoredZone.{StoredZone}
@@ -36,7 +38,8 @@ pub record FilesOf : Type 0 where
 pub data JobOf : Type 0 where
   apply : JobOf
   canon : (origin : Text) → ZoneForm → JobOf
-  diff : (origin : Text) → FilesOf → JobOf
+  diff : (origin : Text) → FilesOf → DiffForm → JobOf
+  request : (id : Text) → JobOf
   imports : StoredOf → Existing → JobOf
   export : StoredOf → ZoneForm → JobOf
   migrate : (store : Text) → JobOf
@@ -54,7 +57,8 @@ files_asked files = record { old = files.old.now; new = files.new.now }
 abbrev pub asks : Job → JobOf
 asks job.Apply = apply
 asks (job.Canon origin form) = canon origin.now form
-asks (job.Diff origin files) = diff origin.now (files_asked files)
+asks (job.Diff origin files form) = diff origin.now (files_asked files) form
+asks (job.Request id) = request id.now
 asks (job.Import zone existing) = imports (zone_asked zone) existing
 asks (job.Export zone form) = export (zone_asked zone) form
 asks (job.Migrate store) = migrate store.now
@@ -86,6 +90,11 @@ abbrev pub zone_form_of : Option Text → ZoneForm
 zone_form_of None = Whole
 zone_form_of (Some t) = if bytes_eq t (codes "true") then Relative else Whole
 
+-- tests stand before the operations of a diff where the option is given
+abbrev pub diff_form_of : Option Text → DiffForm
+diff_form_of None = Bare
+diff_form_of (Some t) = if bytes_eq t (codes "true") then Guarded else Bare
+
 -- JSON is printed where the option is given
 abbrev pub form_of : Option Text → TextForm
 form_of None = Plain
@@ -101,7 +110,12 @@ abbrev pub files_of : List Row → Option FilesOf
 files_of rows = option_and_then (λ o. option_map (λ n. files_at o n) (first_of (argument_name argument.New) rows)) (first_of (argument_name argument.Old) rows)
 
 abbrev pub diff_of : List Row → Option JobOf
-diff_of rows = option_and_then (λ o. option_map (λ f. diff o f) (files_of rows)) (first_of (argument_name argument.Origin) rows)
+diff_of rows =
+    option_and_then (λ o. option_map (λ f. diff o f (diff_form_of (first_of (argument_name argument.Guard) rows))) (files_of rows))
+    (first_of (argument_name argument.Origin) rows)
+
+abbrev pub request_of : List Row → Option JobOf
+request_of rows = option_map (λ i. request i) (first_of (argument_name argument.Id) rows)
 
 abbrev pub stored_at : Text → Text → StoredOf
 stored_at store origin = record { store = store; origin = origin }
@@ -150,6 +164,7 @@ abbrev pub job_by : Command → List Row → Option JobOf
 job_by command.Apply rows = Some apply
 job_by command.Canon rows = canon_of rows
 job_by command.Diff rows = diff_of rows
+job_by command.Request rows = request_of rows
 job_by command.Import rows = import_of rows
 job_by command.Export rows = export_of rows
 job_by command.Migrate rows = migrate_of rows

@@ -25,8 +25,10 @@ pub enum Argument {
     Number,
     Subject,
     Json,
+    Guard,
     Old,
     New,
+    Id,
 }
 
 /// How an argument is written.
@@ -110,6 +112,11 @@ impl Argument {
             ),
             Argument::Subject => Row::new("subject", Form::Place, "What to check: policy"),
             Argument::Json => Row::new("json", Form::Flag, "As an array of JSON"),
+            Argument::Guard => Row::new(
+                "guard",
+                Form::Flag,
+                "With prerequisites that nobody changed the sets",
+            ),
             Argument::Old => Row::new(
                 "old",
                 Form::Place,
@@ -120,6 +127,7 @@ impl Argument {
                 Form::Place,
                 "The file of the zone as it is to be, or -",
             ),
+            Argument::Id => Row::new("id", Form::Needed, "The identifier of the update"),
         }
     }
 

@@ -10,6 +10,7 @@ pub enum Command {
     Apply,
     Canon,
     Diff,
+    Request,
     Import,
     Export,
     Migrate,
@@ -55,10 +56,11 @@ impl Command {
     ghost use Rattle.command_line.specs.Commands.{command_word, arguments_of, command_of};
 
     /// The commands, in the order of the help.
-    pub const ALL: [Command; 10] = [
+    pub const ALL: [Command; 11] = [
         Command::Apply,
         Command::Canon,
         Command::Diff,
+        Command::Request,
         Command::Import,
         Command::Export,
         Command::Migrate,
@@ -90,7 +92,18 @@ impl Command {
                 "diff",
                 "Prints the items that lead from a zone to another",
                 "Example: zoneoffice diff --origin example.org. old.zone new.zone",
-                &[Argument::Origin, Argument::Old, Argument::New],
+                &[
+                    Argument::Origin,
+                    Argument::Guard,
+                    Argument::Old,
+                    Argument::New,
+                ],
+            ),
+            Command::Request => Row::new(
+                "request",
+                "Prints the body of an update, for the HTTP service",
+                "Example: zoneoffice diff --guard --origin example.org. old.zone new.zone | zoneoffice request --id a1",
+                &[Argument::Id],
             ),
             Command::Import => Row::new(
                 "import",

@@ -18,6 +18,13 @@ pub enum Job<'a> {
         origin: &'a str,
         /// Where the two zones are.
         files: ZoneFiles<'a>,
+        /// What stands before the items.
+        form: DiffForm,
+    },
+    /// To print the body of an update that is read from standard input.
+    Request {
+        /// The identifier of the update.
+        id: &'a str,
     },
     /// To put a zone that is read from standard input into a store.
     Import {
@@ -80,6 +87,15 @@ pub enum ZoneForm {
     Whole,
     /// Owners are relative to the origin, and a TTL is written where it is not the zone's.
     Relative,
+}
+
+/// What a diff prints.
+#[derive(Clone, Copy, PartialEq, Eq)]
+pub enum DiffForm {
+    /// The operations alone.
+    Bare,
+    /// Before them prerequisites: that the record sets that they change are as in the old zone.
+    Guarded,
 }
 
 /// A zone of a store, as the words of `import` and of `export` name it.

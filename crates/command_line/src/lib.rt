@@ -7,5 +7,7 @@ mod job;
 mod parser;
 mod words;
 
-pub use job::{Existing, Job, QuestionWords, Service, StoredZone, TextForm, ZoneFiles, ZoneForm};
+pub use job::{
+    DiffForm, Existing, Job, QuestionWords, Service, StoredZone, TextForm, ZoneFiles, ZoneForm,
+};
 pub use words::{WordsFault, read_words};

@@ -3,14 +3,14 @@
 ghost use Rattle.std.specs.Prelude.{◌≡◌, [], IfErr, IfOk, map, option_map, Some, is_some, true, codes};
 ghost use Rattle.clap.specs.Words.{app_of, fault_of, first_of, found_of, kind_of, one_of, rows_of, subcommand_rows_of, takes};
 ghost use Rattle.command_line.specs.Commands.{office, argument_name};
-ghost use Rattle.command_line.specs.Words.{asks, JobOf, canon_of, files_asked, files_of, diff_of, zone_asked, stored_of, import_of, export_of, migrate_of, rights_of, serve_of, checked_of, check_of, explain_of, number_if, existing_of, zone_form_of, form_of, job_by, job_named, job_met, job_of};
+ghost use Rattle.command_line.specs.Words.{asks, JobOf, canon_of, files_asked, files_of, diff_of, request_of, zone_asked, stored_of, import_of, export_of, migrate_of, rights_of, serve_of, checked_of, check_of, explain_of, number_if, existing_of, zone_form_of, diff_form_of, form_of, job_by, job_named, job_met, job_of};
 ghost use Rattle.command_line.specs.PlainForms.{IsPlain};
 ghost use Rattle.command_line.specs.Misuse.{IsReportedAs, IsReported, is_help};
 
 use crate::argument::Argument;
 use crate::command::Command;
 use crate::job::{
-    Existing, Job, QuestionWords, Service, StoredZone, TextForm, ZoneFiles, ZoneForm,
+    DiffForm, Existing, Job, QuestionWords, Service, StoredZone, TextForm, ZoneFiles, ZoneForm,
 };
 use crate::parser::parser;
 use clap::error::ErrorKind;
@@ -62,6 +62,16 @@ fn zone_form_at(matches: &ArgMatches<'_>) -> ZoneForm
     }
 }
 
+/// What a diff is to print.
+fn diff_form_at(matches: &ArgMatches<'_>) -> DiffForm
+    ensures { result ≡ diff_form_of (first_of (argument_name Argument.Guard) (rows_of (found_of matches.now))) }
+{
+    match text_at(matches, Argument::Guard) {
+        Some("true") => DiffForm::Guarded,
+        _ => DiffForm::Bare,
+    }
+}
+
 /// As what a text is to be printed.
 fn form_at(matches: &ArgMatches<'_>) -> TextForm
     ensures { result ≡ form_of (first_of (argument_name Argument.Json) (rows_of (found_of matches.now))) }
@@ -96,7 +106,20 @@ fn diff_in<'a>(matches: &ArgMatches<'a>) -> Option<Job<'a>>
 {
     let origin = text_at(matches, Argument::Origin)?;
     let files = files_at(matches)?;
-    Some(Job::Diff { origin, files })
+    let form = diff_form_at(matches);
+    Some(Job::Diff {
+        origin,
+        files,
+        form,
+    })
+}
+
+/// The job of the command `request`.
+fn request_in<'a>(matches: &ArgMatches<'a>) -> Option<Job<'a>>
+    ensures { option_map asks result ≡ request_of (rows_of (found_of matches.now)) }
+{
+    let id = text_at(matches, Argument::Id)?;
+    Some(Job::Request { id })
 }
 
 /// The zone of a store that words name.
@@ -206,6 +229,7 @@ fn job_of_command<'a>(command: Command, matches: &ArgMatches<'a>) -> Option<Job<
         Command::Apply => Some(Job::Apply),
         Command::Canon => canon_in(matches),
         Command::Diff => diff_in(matches),
+        Command::Request => request_in(matches),
         Command::Import => import_in(matches),
         Command::Export => export_in(matches),
         Command::Migrate => migrate_in(matches),
@@ -258,7 +282,7 @@ fn reported(alloc: Global, error: Error) -> WordsFault
 }
 
 /// The job that the words behind the program's name ask for: none or `apply`; `canon --origin NAME [--relative]`;
-/// `diff --origin NAME OLD NEW`;
+/// `diff --origin NAME [--guard] OLD NEW`; `request --id ID`;
 /// `import --store PATH --origin NAME [--replace]`; `export --store PATH --origin NAME [--relative]`;
 /// `migrate --store PATH`;
 /// `rights --policy PATH --caller CALLER NAME TYPE ACTION`;

@@ -1,20 +1,29 @@
 -- The items between two zones lead from the one to the other, and are read as they were printed.
-use Rattle.std.proofs.Common.{◌≡◌, ◌∙◌, ap, sym, refl, subst, ℕ, ◌≤◌, List, [], ◌∷◌, ◌++◌, length, Bool, true, false, cond, Option, None, Ok, inl, inr, arith}
+use Rattle.std.proofs.Common.{◌≡◌, ◌∙◌, ap, sym, refl, subst, ℕ, ◌≤◌, List, [], ◌∷◌, ◌++◌, length, Bool, true, false, cond, Option, Some, None, Result, Ok, Err, inl, inr, arith}
 use Rattle.std.specs.List.{AllByRecursion, filter}
 use Rattle.dns_names.specs.Labels.{IsWithin}
 use Rattle.zone_core.specs.declared.update.Operation.{Operation}
-use Rattle.zone_core.specs.Sets.{Records}
-use Rattle.zone_core.specs.Zones.{ZoneOf, IsZone}
-use Rattle.zone_core.specs.Updates.{UpdateOf, IsUpdate, IsOperation, ActsWithin, acted_name, adds_soa, first_outside}
+use Rattle.zone_core.specs.declared.update.Prerequisite.{Prerequisite}
+use Rattle.zone_core.specs.declared.verdict.Failed.{Failed}
+use Rattle.zone_core.specs.Sets.{Records, key_of, listing}
+use Rattle.zone_core.specs.Zones.{ZoneOf, IsZone, AreKept}
+use Rattle.zone_core.specs.Updates.{IsUpdate, IsOperation, IsPrerequisite, ActsWithin, acted_name, tested_name, adds_soa, first_outside}
+use Rattle.zone_core.specs.Prerequisites.{verdict, failure}
+use Rattle.zone_core.specs.Met.{AreMet}
+use Rattle.command_line.specs.declared.job.DiffForm.{DiffForm}
+use Rattle.command_line.specs.declared.job.DiffForm.TheVariants.{Bare, Guarded}
 use Rattle.zone_core.specs.Effects.{zone_after}
 use Rattle.zone_core.specs.Differences.{operations, target}
 use Rattle.zone_core.specs.DifferencePromises.{AddsSoaLast, AreWithin}
 use Rattle.zone_core.proofs.ZoneLemmas.{Keys, keys_of}
+use Rattle.zone_core.proofs.ChangedLemmas.{listed}
+use Rattle.zone_core.proofs.MetLemmas.{met_answer}
 use Rattle.zone_core.proofs.UpdateLemmas.{none_outside}
 use Rattle.zone_core.proofs.DiffPromiseLemmas.{operations_lead, operations_soa, operations_within}
 use Rattle.item_lines.proofs.PrintLaws.{update_read}
 use Rattle.text_commands.specs.Apply.{first_unmet, updated, unless, zone_lines, not_met, not_zone}
-use Rattle.text_commands.specs.Diff.{DiffsAreApplied, DiffsLead, target_of, update_between}
+use Rattle.text_commands.specs.Diff.{DiffsAreApplied, DiffsAreMet, DiffsLead, prerequisites_in, target_of, update_between, update_in}
+use Rattle.text_commands.proofs.GuardLaws.{each_guard, guards_met}
 
 -- ---- no more than one SOA is added
 
@@ -46,6 +55,23 @@ are_within : (origin : List (List ℕ)) (ops : List Operation) → AreWithin ori
 are_within origin [] all = tt
 are_within origin (op ∷ ops) all = (all.0.1, are_within origin ops all.1)
 
+-- ---- prerequisites that are met
+
+abbrev answer_of : Option Failed → Result (Unit {0}) Failed
+answer_of None = Ok tt
+answer_of (Some failed) = Err failed
+
+answer_same : (o : Option Failed) → failure (answer_of o) ≡ o
+answer_same None = refl
+answer_same (Some failed) = refl
+
+-- none of them fails
+verdict_none : (set : Records) → AreKept set → (all : List Prerequisite) → AllByRecursion IsPrerequisite all → AreMet set all → verdict set all ≡ None
+verdict_none set kept all are met =
+    let rows = listed set kept in
+    let v = verdict set all in
+    sym (answer_same v) ∙ ap failure ((met_answer set (listing set) rows.order rows.set kept all are (answer_of v) (answer_same v)).1 met)
+
 -- ---- the laws
 
 module _ (old new : ZoneOf) (is_old : IsZone old) (is_new : IsZone new) (same : new.origin ≡ old.origin) where
@@ -64,27 +90,51 @@ module _ (old new : ZoneOf) (is_old : IsZone old) (is_new : IsZone new) (same : 
   leads : zone_after old (update_between old new) ≡ target_of old new
   leads = ap (λ (rs : Records). record old { records = rs }) (operations_lead old.origin old.records new.records old_keys new_keys)
 
-  acts : ActsWithin old.origin (update_between old new)
-  acts = record { prerequisites = tt; operations = are_within old.origin ops within }
+  are_prerequisites : (form : DiffForm) → AllByRecursion IsPrerequisite (prerequisites_in form old new ops)
+  are_prerequisites Bare = tt
+  are_prerequisites Guarded =
+      each_guard old.records new.records ops is_old.kept is_new.kept IsPrerequisite (λ r here. let is = (is_old.kept (key_of r) r here).1 in (is.owner, is.rdata))
+      (λ r here. (is_new.kept (key_of r) r here).1.owner)
 
-  is_update : length ops ≤ 256 → IsUpdate (update_between old new)
-  is_update few = record {
-    prerequisites = tt;
+  test_within : (form : DiffForm) → AllByRecursion (λ p. IsWithin (tested_name p) old.origin) (prerequisites_in form old new ops)
+  test_within Bare = tt
+  test_within Guarded =
+      each_guard old.records new.records ops is_old.kept is_new.kept (λ p. IsWithin (tested_name p) old.origin) (λ r here. is_old.owners r here)
+      (λ r here. subst (λ o. IsWithin r.owner o) same (is_new.owners r here))
+
+  are_met : (form : DiffForm) → AreMet old.records (prerequisites_in form old new ops)
+  are_met Bare = tt
+  are_met Guarded = guards_met old.records new.records ops is_old.kept
+
+  acts : (form : DiffForm) → ActsWithin old.origin (update_in form old new)
+  acts form = record { prerequisites = test_within form; operations = are_within old.origin ops within }
+
+  is_update : (form : DiffForm) → length (prerequisites_in form old new ops) ≤ 64 → length ops ≤ 256 → IsUpdate (update_in form old new)
+  is_update form few_tests few = record {
+    prerequisites = are_prerequisites form;
     operations = are_operations old.origin ops within;
-    few_prerequisites = omega arith;
+    few_prerequisites = few_tests;
     few_operations = few;
     one_soa = one_added old.origin old.records _ ops (operations_soa old.origin old.records new.records old_keys new_keys);
   }
 
-  none_unmet : first_unmet old (update_between old new) ≡ None
-  none_unmet = rw ((none_outside old.origin (update_between old new) (first_outside old.origin (update_between old new)) refl).1 acts) refl
+  none_fails : (form : DiffForm) → verdict old.records (prerequisites_in form old new ops) ≡ None
+  none_fails form = verdict_none old.records is_old.kept (prerequisites_in form old new ops) (are_prerequisites form) (are_met form)
 
-  made : updated old (update_between old new) ≡ Ok (zone_lines (target_of old new))
-  made = ap (λ o. unless o (zone_lines (zone_after old (update_between old new)))) none_unmet ∙ ap (λ z. Ok (zone_lines z)) leads
+  none_unmet : (form : DiffForm) → first_unmet old (update_in form old new) ≡ None
+  none_unmet form =
+      rw ((none_outside old.origin (update_in form old new) (first_outside old.origin (update_in form old new)) refl).1 (acts form), none_fails form) refl
+
+  made : (form : DiffForm) → updated old (update_in form old new) ≡ Ok (zone_lines (target_of old new))
+  made form = ap (λ o. unless o (zone_lines (zone_after old (update_in form old new)))) (none_unmet form) ∙ ap (λ z. Ok (zone_lines z)) leads
 
 pub diffs_lead : DiffsLead
 diffs_lead old new is_old is_new same = leads old new is_old is_new same
 
+pub diffs_met : DiffsAreMet
+diffs_met Bare old new is_old is_new = tt
+diffs_met Guarded old new is_old is_new = guards_met old.records new.records (operations old.origin old.records new.records) is_old.kept
+
 pub diffs_applied : DiffsAreApplied
-diffs_applied old new is_old is_new same few =
-    (update_read (update_between old new) (is_update old new is_old is_new same few), made old new is_old is_new same)
+diffs_applied form old new is_old is_new same few_tests few =
+    (update_read (update_in form old new) (is_update old new is_old is_new same form few_tests few), made old new is_old is_new same form)

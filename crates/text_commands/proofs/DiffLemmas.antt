@@ -1,37 +1,17 @@
 -- The items between two zones.
-use Rattle.std.proofs.Common.{◌≡◌, ◌∙◌, ap, sym, refl, ℕ, List, [], ◌∷◌, length, Bool, true, false, cond, if◌then◌else◌, nat_lt, Option, Some, None, Result, Ok, Err, append-nil, subst, true≢false}
+use Rattle.std.proofs.Common.{◌≡◌, ap, sym, ℕ, List, Option, Some, None, Result, Ok, Err, subst, true≢false}
 use Rattle.std.specs.Result.{is_ok}
-use Rattle.std.specs.Prelude.{unwrap_or}
 use Rattle.dns_data.specs.declared.record.Record.{Record}
 use Rattle.dns_master.specs.Files.{file_of}
 use Rattle.dns_master.specs.declared.master_fault.MasterFault.{MasterFault}
 use Rattle.zone_core.specs.declared.refusals.ZoneFault.{ZoneFault}
-use Rattle.zone_core.specs.declared.refusals.UpdateFault.TheVariants.{TwoSoa}
-use Rattle.zone_core.specs.declared.update.Operation.{Operation}
 use Rattle.zone_core.specs.Sets.{Records}
-use Rattle.zone_core.specs.Updates.{UpdateOf, adds_soa, update_of}
 use Rattle.zone_core.specs.Zones.{ZoneOf, built, fault_in, latest, min_rrset_ttls, unless_fault}
-use Rattle.item_lines.specs.Texts.{operation_line, update_text}
 use Rattle.text_commands.specs.declared.refusal.Refusal.{Refusal}
 use Rattle.text_commands.specs.declared.line_fault.JobFault.{JobFault}
 use Rattle.text_commands.specs.LineFaults.{◌>>=◌, of_masters, of_zones}
 use Rattle.text_commands.specs.Replies.{Answered}
 use Rattle.text_commands.specs.Canon.{zone_of_file}
-
--- ---- an operation by itself
-
-abbrev pub alone : Operation → UpdateOf
-alone op = record { prerequisites = []; operations = op ∷ [] }
-
-pub alone_built : (op : Operation) → update_of [] (op ∷ []) ≡ Ok (alone op)
-alone_built op = by (adds_soa op)
-  where
-    by : (b : Bool) → (if nat_lt 1 (length (cond b (op ∷ []) [])) then Err TwoSoa else Ok (alone op)) ≡ Ok (alone op)
-    by true = refl
-    by false = refl
-
-pub alone_printed : (op : Operation) → update_text (alone op) ≡ operation_line op
-alone_printed op = append-nil (operation_line op)
 
 -- ---- the origin of a zone that was read
 

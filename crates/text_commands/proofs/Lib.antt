@@ -7,6 +7,7 @@ pub mod ReadAgainLemmas
 pub mod SendLemmas
 pub mod StepLemmas
 pub mod ExplainLemmas
+pub mod GuardLaws
 pub mod CheckLemmas
 pub mod DiffLaws
 pub mod DiffLemmas

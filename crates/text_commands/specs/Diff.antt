@@ -1,13 +1,16 @@
--- What `diff` prints: the items that lead from one zone to another of the same origin.
+-- What `diff` prints: the items that lead from one zone to another of the same origin, and in a form prerequisites before them.
 use Rattle.std.specs.Prelude.{◌≡◌, ℕ, ◌≤◌, List, [], length, Option, Result, Ok, Err}
-use Rattle.std.specs.List.{flat_map}
 use Rattle.zone_core.specs.declared.update.Operation.{Operation}
+use Rattle.zone_core.specs.declared.update.Prerequisite.{Prerequisite}
 use Rattle.zone_core.specs.Zones.{ZoneOf, IsZone}
 use Rattle.zone_core.specs.Updates.{UpdateOf}
 use Rattle.zone_core.specs.Effects.{zone_after}
+use Rattle.zone_core.specs.Met.{AreMet}
 use Rattle.zone_core.specs.Differences.{operations, target}
 use Rattle.item_lines.specs.Reading.{items_of}
-use Rattle.item_lines.specs.Texts.{operation_line}
+use Rattle.item_lines.specs.Texts.{update_text}
+use Rattle.command_line.specs.declared.job.DiffForm.{DiffForm}
+use Rattle.command_line.specs.declared.job.DiffForm.TheVariants.{Bare, Guarded}
 use Rattle.text_commands.specs.declared.refusal.Refusal.{Refusal}
 use Rattle.text_commands.specs.declared.line_fault.JobFault.{JobFault}
 use Rattle.text_commands.specs.declared.diff_fault.DiffFault.{DiffFault}
@@ -16,22 +19,29 @@ use Rattle.text_commands.specs.LineFaults.{◌>>=◌, limited, Makes}
 use Rattle.text_commands.specs.Replies.{Answered}
 use Rattle.text_commands.specs.Canon.{zone_of_file, zone_read}
 use Rattle.text_commands.specs.Apply.{updated, zone_lines}
+use Rattle.text_commands.specs.Guards.{guards_of}
 
--- the lines of operations, which are items of an update
-abbrev pub operations_text : List Operation → List ℕ
-operations_text ops = flat_map operation_line ops
+-- the prerequisites before operations between two zones, in a form
+abbrev pub prerequisites_in : DiffForm → ZoneOf → ZoneOf → List Operation → List Prerequisite
+prerequisites_in Bare old new ops = []
+prerequisites_in Guarded old new ops = guards_of old.records new.records ops
+
+-- the update that leads from one zone to another, in a form
+abbrev pub update_in : DiffForm → ZoneOf → ZoneOf → UpdateOf
+update_in form old new =
+    let ops = operations old.origin old.records new.records in record { prerequisites = prerequisites_in form old new ops; operations = ops }
 
 -- the items that lead from one zone to another
-abbrev pub items_between : ZoneOf → ZoneOf → List ℕ
-items_between old new = operations_text (operations old.origin old.records new.records)
+abbrev pub items_between : DiffForm → ZoneOf → ZoneOf → List ℕ
+items_between form old new = update_text (update_in form old new)
 
 -- the items that lead from a zone to that of a master file
-abbrev pub items_to : ZoneOf → List ℕ → Result (List ℕ) Refusal
-items_to old file = zone_of_file old.origin file >>= λ new. Ok (items_between old new)
+abbrev pub items_to : DiffForm → ZoneOf → List ℕ → Result (List ℕ) Refusal
+items_to form old file = zone_of_file old.origin file >>= λ new. Ok (items_between form old new)
 
 -- the same of an input that is the master file
-abbrev pub diff_text : ZoneOf → List ℕ → Result (List ℕ) Refusal
-diff_text old input = limited input >>= items_to old
+abbrev pub diff_text : DiffForm → ZoneOf → List ℕ → Result (List ℕ) Refusal
+diff_text form old input = limited input >>= items_to form old
 
 -- ---- two inputs
 
@@ -48,18 +58,18 @@ IsOldRead word left before after (Err fault) reads reads_after writes writes_aft
     Answered left (old_text word) before after (Err fault) reads reads_after writes writes_after
 
 -- what is answered to the new zone's file, where the old zone was read
-abbrev pub IsDiff : List ℕ → Option (List ℕ) → Option (List ℕ) → Option (List ℕ) → Option (List ℕ) → Result (Unit {0}) JobFault → Type 0
-IsDiff word old_left new_left before after result =
+abbrev pub IsDiff : DiffForm → List ℕ → Option (List ℕ) → Option (List ℕ) → Option (List ℕ) → Option (List ℕ) → Result (Unit {0}) JobFault → Type 0
+IsDiff form word old_left new_left before after result =
     (old : ZoneOf) × Makes old_left (zone_read word) (Ok old)
-    × (failed_reads : ℕ) × (failed_writes : ℕ) × Answered new_left (diff_text old) before after result 0 failed_reads 0 failed_writes
+    × (failed_reads : ℕ) × (failed_writes : ℕ) × Answered new_left (diff_text form old) before after result 0 failed_reads 0 failed_writes
 
--- The word of the origin, what was left to read of the old zone's file and of the new one's, what the writer held before and after,
+-- The form, the word of the origin, what was left to read of the old zone's file and of the new one's, what the writer held before and after,
 -- and how it went: the old zone was refused, or not read; or else the new one's file was answered.
-abbrev pub Differs : List ℕ → Option (List ℕ) → Option (List ℕ) → Option (List ℕ) → Option (List ℕ) → Result (Unit {0}) DiffFault → Type 0
-Differs word old_left new_left before after (Err (Old fault)) =
+abbrev pub Differs : DiffForm → List ℕ → Option (List ℕ) → Option (List ℕ) → Option (List ℕ) → Option (List ℕ) → Result (Unit {0}) DiffFault → Type 0
+Differs form word old_left new_left before after (Err (Old fault)) =
     (failed_reads : ℕ) × (failed_writes : ℕ) × Answered old_left (old_text word) before after (Err fault) 0 failed_reads 0 failed_writes
-Differs word old_left new_left before after (Err (New fault)) = IsDiff word old_left new_left before after (Err fault)
-Differs word old_left new_left before after (Ok done) = IsDiff word old_left new_left before after (Ok done)
+Differs form word old_left new_left before after (Err (New fault)) = IsDiff form word old_left new_left before after (Err fault)
+Differs form word old_left new_left before after (Ok done) = IsDiff form word old_left new_left before after (Ok done)
 
 -- ---- where the items lead
 
@@ -75,8 +85,14 @@ target_of old new = record old { records = target old.origin old.records new.rec
 abbrev pub DiffsLead : Type 0
 DiffsLead = (old new : ZoneOf) → IsZone old → IsZone new → new.origin ≡ old.origin → zone_after old (update_between old new) ≡ target_of old new
 
--- if they are no more than an update may have, the items are read as these operations, and `apply` prints the zone to which they lead
+-- the prerequisites of a diff are met in the old zone
+abbrev pub DiffsAreMet : Type 0
+DiffsAreMet = (form : DiffForm) (old new : ZoneOf) → IsZone old → IsZone new → AreMet old.records (update_in form old new).prerequisites
+
+-- if there are no more items than an update may have, they are read as the update, and `apply` prints of the old zone the zone to which
+-- the operations lead
 abbrev pub DiffsAreApplied : Type 0
 DiffsAreApplied =
-    (old new : ZoneOf) → IsZone old → IsZone new → new.origin ≡ old.origin → length (update_between old new).operations ≤ 256
-    → (items_of (items_between old new) ≡ Ok (update_between old new)) × (updated old (update_between old new) ≡ Ok (zone_lines (target_of old new)))
+    (form : DiffForm) (old new : ZoneOf) → IsZone old → IsZone new → new.origin ≡ old.origin → length (update_in form old new).prerequisites ≤ 64
+    → length (update_in form old new).operations ≤ 256
+    → (items_of (items_between form old new) ≡ Ok (update_in form old new)) × (updated old (update_in form old new) ≡ Ok (zone_lines (target_of old new)))

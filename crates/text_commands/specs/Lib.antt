@@ -9,7 +9,9 @@ pub mod PartViews
 pub mod Rights
 pub mod Explain
 pub mod Check
+pub mod Guards
 pub mod Diff
+pub mod Request
 pub mod RefusalTables
 pub mod RefusalNumbers
 pub mod RefusalTexts

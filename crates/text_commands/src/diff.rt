@@ -1,71 +1,75 @@
 //! The items that lead from one zone to another.
 
 ghost use Rattle.std.specs.Prelude.{◌≡◌, ◌<◌, ℕ, IfOk, string_bytes};
-ghost use Rattle.item_lines.specs.Texts.{operation_line};
 ghost use Rattle.text_commands.specs.LineFaults.{Gives, GivesOf};
-ghost use Rattle.text_commands.specs.Diff.{operations_text, items_between, items_to, diff_text, IsOldRead, Differs};
+ghost use Rattle.text_commands.specs.Diff.{prerequisites_in, items_between, items_to, diff_text, IsOldRead, Differs};
 
 use crate::canon::{read_zone, zone_of_file};
 use crate::device::{read_input, write_refusal, write_text};
 use crate::diff_fault::DiffFault;
+use crate::guard::guards_of;
 use crate::line_fault::{JobFault, LineFault};
 use crate::task::{Task, do_task};
+use command_line::DiffForm;
 use dns_master::{Counted, Sink, Source};
-use item_lines::items_text;
+use item_lines::lists_text;
 use std::alloc::{AllocError, Global};
 use std::io::{Read, Write};
 use std::marker::Brand;
 use std::sync::ledger::{Blank, Ledger};
-use zone_core::{Operation, Update, Zone, operations_between};
+use zone_core::{Operation, Prerequisite, Zone, operations_between};
 
-/// The line of an operation, which is an update by itself. The only error is out of memory.
-fn operation_line(alloc: Global, operation: Operation) -> Result<String, AllocError>
-    ensures { IfOk result (λ text. string_bytes text ≡ operation_line operation) }
+/// The prerequisites that a diff prints before operations. The only error is out of memory.
+fn prerequisites_in(
+    alloc: Global,
+    form: DiffForm,
+    old: &Zone,
+    new: &Zone,
+    operations: &[Operation],
+) -> Result<Vec<Prerequisite>, AllocError>
+    ensures { IfOk result (λ guards. guards.items ≡ prerequisites_in form old.now new.now operations.now) }
 {
-    let mut operations = Vec::new(alloc);
-    operations.push(operation)?;
-    match Update::build(Vec::new(alloc), operations) {
-        Ok(update) => items_text(alloc, &update),
-        Err(_) => unreachable!(),
+    match form {
+        DiffForm::Bare => Ok(Vec::new(alloc)),
+        DiffForm::Guarded => guards_of(alloc, old, new, operations),
     }
-}
-
-/// The lines of operations. The only error is out of memory.
-fn operations_text(alloc: Global, operations: Vec<Operation>) -> Result<Vec<u8>, AllocError>
-    ensures { IfOk result (λ text. text.items ≡ operations_text operations.items) }
-{
-    let mut text = Vec::new(alloc);
-    for operation in operations {
-        let line = operation_line(alloc, operation)?;
-        text.extend_from_slice(line.as_bytes())?;
-    }
-    Ok(text)
 }
 
 /// The items that lead from a zone to another of its origin. The only error is out of memory.
-fn items_between(alloc: Global, old: &Zone, new: &Zone) -> Result<Vec<u8>, AllocError>
+fn items_between(
+    alloc: Global,
+    form: DiffForm,
+    old: &Zone,
+    new: &Zone,
+) -> Result<String, AllocError>
     requires { new.now.origin ≡ old.now.origin }
-    ensures { IfOk result (λ text. text.items ≡ items_between old.now new.now) }
+    ensures { IfOk result (λ text. string_bytes text ≡ items_between form old.now new.now) }
 {
     let operations = operations_between(alloc, old, new)?;
-    operations_text(alloc, operations)
+    let prerequisites = prerequisites_in(alloc, form, old, new, &operations)?;
+    lists_text(alloc, &prerequisites, &operations)
 }
 
 /// The items that lead from a zone to that of a master file, whose octets are given back.
-fn items_to(alloc: Global, old: &Zone, file: Vec<u8>) -> Result<Vec<u8>, LineFault>
-    ensures { Gives (λ text. text.items) result (items_to old.now file.items) }
+fn items_to(alloc: Global, form: DiffForm, old: &Zone, file: Vec<u8>) -> Result<String, LineFault>
+    ensures { Gives string_bytes result (items_to form old.now file.items) }
 {
     let origin = old.origin().try_copy(alloc)?;
     let new = zone_of_file(alloc, origin, file)?;
-    Ok(items_between(alloc, old, &new)?)
+    Ok(items_between(alloc, form, old, &new)?)
 }
 
 /// The items that lead from a zone to that of the master file that a reader gives.
-fn answer<R: Source>(alloc: Global, old: &Zone, reader: &mut R) -> Result<Vec<u8>, LineFault>
-    ensures { GivesOf (λ text. text.items) (R.remaining reader.old) (diff_text old.now) result (R.failures reader.old) (R.failures reader.new) }
+fn answer<R: Source>(
+    alloc: Global,
+    form: DiffForm,
+    old: &Zone,
+    reader: &mut R,
+) -> Result<String, LineFault>
+    ensures { GivesOf string_bytes (R.remaining reader.old) (diff_text form old.now) result (R.failures reader.old) (R.failures reader.new) }
 {
     let file = read_input(alloc, reader)?;
-    items_to(alloc, old, file)
+    items_to(alloc, form, old, file)
 }
 
 /// The task `diff`, once the zone as it is was read: to read the master file of the zone as it is to be, and to write the items
@@ -74,10 +78,12 @@ fn answer<R: Source>(alloc: Global, old: &Zone, reader: &mut R) -> Result<Vec<u8
 struct Diff {
     /// The zone as it is.
     old: Zone,
+    /// What is printed.
+    form: DiffForm,
 }
 
 impl Task for Diff {
-    ghost answer = { λ d. diff_text d.old };
+    ghost answer = { λ d. diff_text d.form d.old };
 
     fn run<R: Source, W: Sink>(
         self,
@@ -85,9 +91,9 @@ impl Task for Diff {
         reader: &mut R,
         writer: &mut W,
     ) -> Result<(), JobFault> {
-        match answer(alloc, &self.old, reader) {
+        match answer(alloc, self.form, &self.old, reader) {
             Ok(text) => {
-                write_text(writer, &text)?;
+                write_text(writer, text.as_bytes())?;
                 Ok(())
             }
             Err(fault) => write_refusal(alloc, writer, fault),
@@ -153,7 +159,7 @@ fn read_old<R: Read + Drop, W: Write + Drop>(
     counted::<_, _, Brand, Brand>(alloc, OriginWord(origin), reader, writer, reads, writes)
 }
 
-/// Writes the items that lead from one zone to another of an origin, and hands the writer back. Readers of std give the two master
+/// Writes the items that lead from one zone to another of an origin, in a form, and hands the writer back. Readers of std give the two master
 /// files: of the zone as it is, and as it is to be. Made in order, the items give the new zone of the old one; where the two differ
 /// in nothing but a serial that is not greater, nothing is written. Otherwise one line tells the refusal that comes first: of the
 /// origin; that the old zone's file is too large, of it as a master file, of its records as a zone; and the same of the new
@@ -161,18 +167,19 @@ fn read_old<R: Read + Drop, W: Write + Drop>(
 pub fn do_diff<R: Read + Drop, S: Read + Drop, W: Write + Drop>(
     alloc: Global,
     origin: &str,
+    form: DiffForm,
     old: R,
     new: S,
     writer: W,
 ) -> (W, Result<(), DiffFault>)
-    ensures { Differs origin.now (R.remaining old) (S.remaining new) (W.contents writer) (W.contents result.0) result.1 }
+    ensures { Differs form origin.now (R.remaining old) (S.remaining new) (W.contents writer) (W.contents result.0) result.1 }
 {
     let (writer, zone) = read_old(alloc, origin, old, writer);
     let old = match zone {
         Ok(old) => old,
         Err(fault) => return (writer, Err(DiffFault::Old(fault))),
     };
-    let (writer, done) = do_task(alloc, Diff { old }, new, writer);
+    let (writer, done) = do_task(alloc, Diff { old, form }, new, writer);
     match done {
         Ok(()) => (writer, Ok(())),
         Err(fault) => (writer, Err(DiffFault::New(fault))),

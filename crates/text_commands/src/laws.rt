@@ -2,7 +2,7 @@
 
 ghost use Rattle.std.specs.Prelude.{◌≡◌, ◌↔◌, List, ℕ, Some};
 ghost use Rattle.text_commands.specs.Canon.{ZonesAreReadAgain};
-ghost use Rattle.text_commands.specs.Diff.{DiffsLead, DiffsAreApplied};
+ghost use Rattle.text_commands.specs.Diff.{DiffsLead, DiffsAreMet, DiffsAreApplied};
 ghost use Rattle.text_commands.specs.Parts.{Parts, IsDivided, divided};
 ghost use Rattle.text_commands.specs.RefusalLaws.{RowsAreOfTheirNumber, NumbersAreApart, TextsArePlain};
 
@@ -17,10 +17,12 @@ pub fn zones_are_read_again()
     ensures { ZonesAreReadAgain }
 {}
 
-/// The operations between two zones lead from the one to the other. If there are at most 256, the items that `diff` prints are read as
-/// these operations, and `apply` prints the zone to which they lead.
+/// The operations between two zones lead from the one to the other, and the prerequisites before them are met in the one. If there are
+/// no more than an update has, the items that `diff` prints are read as this update, and `apply` prints of the one the zone to which
+/// they lead.
 pub fn diffs_lead()
     ensures lead { DiffsLead }
+    ensures met { DiffsAreMet }
     ensures applied { DiffsAreApplied }
 {}
 

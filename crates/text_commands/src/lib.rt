@@ -1,4 +1,4 @@
-//! The commands that need no store, `canon`, `apply`, `diff`, `rights`, `check policy` and `explain`: each writes its answer to an input, or
+//! The commands that need no store, `canon`, `apply`, `diff`, `request`, `rights`, `check policy` and `explain`: each writes its answer to an input, or
 //! one line that says why it has no answer. And what every command shares: its refusals, the one table of all refusals in words, and
 //! how inputs are read and texts written.
 #![tactic(auto)]
@@ -10,6 +10,7 @@ mod device;
 mod diff;
 mod diff_fault;
 mod explain;
+mod guard;
 mod input_file;
 mod laws;
 mod line_fault;
@@ -20,6 +21,7 @@ mod refusal_number;
 mod refusal_row;
 mod refusal_table;
 mod refusal_text;
+mod request;
 mod rights;
 mod task;
 
@@ -41,4 +43,5 @@ pub use refusal::{Refusal, RefusalLine};
 pub use refusal_number::{all_rows, explained};
 pub use refusal_row::{Kind, NumberPlace, RefusalRow};
 pub use refusal_text::{json_text, plain_text};
+pub use request::Request;
 pub use task::{Task, do_task};

@@ -57,6 +57,12 @@ pub enum Refusal {
     /// A word of the command line is no number that the program prints for a refusal.
     #[error("the program prints no such number")]
     UnknownNumber,
+    /// A word of the command line is no identifier of an update.
+    #[error("an identifier is 1 to 64 of the octets a to z, A to Z, 0 to 9, -, _ and .")]
+    NoIdentifier,
+    /// The body of the update has more than 65,536 octets.
+    #[error("the body has more than 65536 octets")]
+    BodyTooLarge,
     /// The store refuses it, or failed.
     #[error("{0}")]
     Store(StoreFault),
@@ -75,6 +81,8 @@ impl Refusal {
             Refusal::TooLarge => 30,
             Refusal::NoDivider => 96,
             Refusal::UnknownNumber => 98,
+            Refusal::NoIdentifier => 88,
+            Refusal::BodyTooLarge => 84,
             Refusal::Master(fault) => fault.number(),
             Refusal::Zone(fault) => fault.number(),
             Refusal::Policy(fault) => fault.number(),

@@ -7,6 +7,7 @@ use Rattle.text_commands.specs.declared.check.Findings.{Findings}
 use Rattle.text_commands.specs.declared.check.Findings.TheVariants.{Absent, Present}
 use Rattle.text_commands.specs.Check.{Checked}
 use Rattle.text_commands.specs.declared.diff_fault.DiffFault.{DiffFault}
+use Rattle.command_line.specs.declared.job.DiffForm.{DiffForm}
 use Rattle.text_commands.specs.Diff.{Differs}
 
 -- 0 where the job went through, and else 1
@@ -37,6 +38,6 @@ diff_status_of (Ok done) = 0
 diff_status_of (Err fault) = 1
 
 -- the same of a diff: at 0 both zones were read, and all items were written
-abbrev pub EndsDiff : List ℕ → Option (List ℕ) → Option (List ℕ) → Option (List ℕ) → Option (List ℕ) → ℕ → Type 0
-EndsDiff word old_left new_left before after status =
-    (outcome : Result (Unit {0}) DiffFault) × Differs word old_left new_left before after outcome × (status ≡ diff_status_of outcome)
+abbrev pub EndsDiff : DiffForm → List ℕ → Option (List ℕ) → Option (List ℕ) → Option (List ℕ) → Option (List ℕ) → ℕ → Type 0
+EndsDiff form word old_left new_left before after status =
+    (outcome : Result (Unit {0}) DiffFault) × Differs form word old_left new_left before after outcome × (status ≡ diff_status_of outcome)

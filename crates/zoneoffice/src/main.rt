@@ -5,7 +5,7 @@ ghost use Rattle.std.specs.Prelude.{◌≡◌};
 ghost use Rattle.std.specs.Process.{exit_status};
 ghost use Rattle.zoneoffice.specs.Status.{EndsTask, EndsCheck, EndsDiff, status_of, check_status_of, diff_status_of};
 
-use command_line::{Job, WordsFault, read_words};
+use command_line::{DiffForm, Job, WordsFault, read_words};
 use std::alloc::{AllocError, Global};
 use std::env;
 use std::fmt::Display;
@@ -15,7 +15,7 @@ use store_commands::{
     Apply, Canon, Explain, JobFault, NO_MEMORY_LINE, PolicyFile, Task, do_export, do_import,
     do_migrate, do_serve, do_task,
 };
-use text_commands::{DiffFault, Findings, InputFile, do_check, do_diff};
+use text_commands::{DiffFault, Findings, InputFile, Request, do_check, do_diff};
 
 /// The exit status of a job: 0 where it went through, and else 1.
 fn status(done: Result<(), JobFault>) -> ExitCode
@@ -102,14 +102,15 @@ fn diff_status(rt: &HostRuntime, done: Result<(), DiffFault>) -> ExitCode
 fn diff_with<R: Read + Drop, S: Read + Drop, W: Write + Drop>(
     rt: &HostRuntime,
     origin: &str,
+    form: DiffForm,
     old: R,
     new: S,
     writer: W,
 ) -> (W, ExitCode)
     // At status 0 both zones were read, and all items that lead from the one to the other were written.
-    ensures { EndsDiff origin.now (R.remaining old) (S.remaining new) (W.contents writer) (W.contents result.0) (exit_status result.1) }
+    ensures { EndsDiff form origin.now (R.remaining old) (S.remaining new) (W.contents writer) (W.contents result.0) (exit_status result.1) }
 {
-    let (writer, done) = do_diff(rt.alloc(), origin, old, new, writer);
+    let (writer, done) = do_diff(rt.alloc(), origin, form, old, new, writer);
     (writer, diff_status(rt, done))
 }
 
@@ -123,13 +124,18 @@ fn do_job(rt: &HostRuntime, job: Job<'_>) -> ExitCode {
             rt.stdin(),
             rt.stdout(),
         ).1,
-        Job::Diff { origin, files } => {
+        Job::Diff {
+            origin,
+            files,
+            form,
+        } => {
             let (old, new) = (
                 InputFile::open(rt, files.old),
                 InputFile::open(rt, files.new),
             );
-            diff_with(rt, origin, old, new, rt.stdout()).1
+            diff_with(rt, origin, form, old, new, rt.stdout()).1
         }
+        Job::Request { id } => do_with(rt, Request { id }, rt.stdin(), rt.stdout()).1,
         Job::Import { zone, existing } => {
             ended(
                 rt,
