@@ -18,7 +18,9 @@ pub fn push_answer(alloc: Global, row: &Row<'_>, answer: &mut Vec<u8>) -> Result
         "reads" => push_reads(alloc, text, &row.body, answer),
         "writes" => push_writes(alloc, text, &row.body, answer),
         "heads" => push_heads(alloc, text, answer),
-        "diff" | "edit" | "diff-reads" | "diff-write" => push_diff(alloc, row, answer),
+        "diff" | "edit" | "diff-guarded" | "edit-guarded" | "diff-reads" | "diff-write" => {
+            push_diff(alloc, row, answer)
+        }
         "no-memory" => push_status(alloc, Err(JobFault::Reported(LineFault::NoMemory)), answer),
         name => push_run(
             alloc,

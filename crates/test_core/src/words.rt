@@ -1,8 +1,8 @@
 //! What the words of a command line ask for.
 
 use command_line::{
-    Existing, Job, QuestionWords, Service, StoredZone, TextForm, WordsFault, ZoneFiles, ZoneForm,
-    read_words,
+    DiffForm, Existing, Job, QuestionWords, Service, StoredZone, TextForm, WordsFault, ZoneFiles,
+    ZoneForm, read_words,
 };
 use std::alloc::{AllocError, Global};
 use test_rows::Row;
@@ -68,7 +68,12 @@ fn push_job(alloc: Global, job: &Job<'_>, answer: &mut Vec<u8>) -> Result<(), Al
     match job {
         Job::Apply => push("apply", answer),
         Job::Canon { origin, form } => push_given("canon", origin, form_text(*form), answer),
-        Job::Diff { origin, files } => push_diff(origin, files, answer),
+        Job::Diff {
+            origin,
+            files,
+            form,
+        } => push_diff(origin, files, *form, answer),
+        Job::Request { id } => push_given("request", id, "", answer),
         Job::Import { zone, existing } => push_zone(
             "import",
             zone,
@@ -89,11 +94,21 @@ fn push_given(word: &str, given: &str, end: &str, answer: &mut Vec<u8>) -> Resul
     push_all(&[word, " (", given, ")", end], answer)
 }
 
-fn push_diff(origin: &str, files: &ZoneFiles<'_>, answer: &mut Vec<u8>) -> Result<(), AllocError> {
-    push_all(
-        &["diff (", origin, ") (", files.old, ") (", files.new, ")"],
-        answer,
-    )
+fn push_diff(
+    origin: &str,
+    files: &ZoneFiles<'_>,
+    form: DiffForm,
+    answer: &mut Vec<u8>,
+) -> Result<(), AllocError> {
+    push_all(&["diff (", origin, ") (", files.old], answer)?;
+    push_all(&[") (", files.new, ")", diff_text(form)], answer)
+}
+
+fn diff_text(form: DiffForm) -> &'static str {
+    match form {
+        DiffForm::Bare => "",
+        DiffForm::Guarded => " guarded",
+    }
 }
 
 fn existing_text(existing: Existing) -> &'static str {

@@ -3,7 +3,7 @@
 use command_line::{QuestionWords, TextForm, ZoneForm};
 use dns_master::Pieces;
 use std::alloc::{AllocError, Global};
-use text_commands::{Apply, Canon, Explain, Findings, JobFault, Task, do_check, do_task};
+use text_commands::{Apply, Canon, Explain, Findings, JobFault, Request, Task, do_check, do_task};
 
 /// How a device works.
 #[derive(Clone, Copy)]
@@ -52,6 +52,7 @@ impl Command<'_> {
             "canon-relative" => {
                 self.run_task(alloc, canon(words, ZoneForm::Relative), reading, writing)
             }
+            "request" => self.run_task(alloc, Request { id: words }, reading, writing),
             "rights" => self.run_task(alloc, question(words), reading, writing),
             "explain" => self.run_task(alloc, asked(words), reading, writing),
             "check" => self.run_check(alloc, reading, writing),

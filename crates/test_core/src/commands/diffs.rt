@@ -1,6 +1,7 @@
 //! Diffs of two zones.
 
 use crate::commands::devices::Manner;
+use command_line::DiffForm;
 use std::alloc::{AllocError, Global};
 use test_rows::{Row, text_of};
 use text_commands::{Apply, DiffFault, do_diff, do_task};
@@ -13,20 +14,28 @@ struct TwoZones<'a> {
     new: &'a str,
 }
 
-/// How the devices of a diff work.
+/// What a diff prints, and how its devices work.
 #[derive(Clone, Copy)]
 struct Manners {
+    form: DiffForm,
     old: Manner,
     new: Manner,
     writing: Manner,
 }
 
 impl Manners {
-    /// Devices that never fail.
+    /// The operations alone, and devices that never fail.
     const SOUND: Manners = Manners {
+        form: DiffForm::Bare,
         old: Manner::SOUND,
         new: Manner::SOUND,
         writing: Manner::SOUND,
+    };
+
+    /// Prerequisites and operations, and devices that never fail.
+    const GUARDED: Manners = Manners {
+        form: DiffForm::Guarded,
+        ..Manners::SOUND
     };
 }
 
@@ -51,13 +60,13 @@ impl<'a> TwoZones<'a> {
             .new
             .device(Vec::from_slice(alloc, self.new.as_bytes())?);
         let writer = manners.writing.device(Vec::new(alloc));
-        let (page, done) = do_diff(alloc, self.origin, old, new, writer);
+        let (page, done) = do_diff(alloc, self.origin, manners.form, old, new, writer);
         Ok((page.octets, done))
     }
 
     /// What `apply` prints of the old zone and the items.
-    fn edited(self, alloc: Global) -> Result<Vec<u8>, AllocError> {
-        let (items, _) = self.diff(alloc, Manners::SOUND)?;
+    fn edited(self, alloc: Global, manners: Manners) -> Result<Vec<u8>, AllocError> {
+        let (items, _) = self.diff(alloc, manners)?;
         applied(alloc, self.old.as_bytes(), &items)
     }
 }
@@ -75,20 +84,28 @@ fn applied(alloc: Global, zone: &[u8], items: &[u8]) -> Result<Vec<u8>, AllocErr
 /// A device whose first call fails.
 const FAILING: Manner = Manner { most: 64, fails: 1 };
 
-/// Appends the answer to a row of a diff: what it prints; what `apply` makes of the old zone and the items; what is printed where the
+/// Appends the answer to a row of a diff, of operations alone or with prerequisites: what it prints; what `apply` makes of the old zone
+/// and the items; what is printed where the
 /// first read of each file fails; and how much is printed where each of some writes fails.
 pub fn push_diff(alloc: Global, row: &Row<'_>, answer: &mut Vec<u8>) -> Result<(), AllocError> {
     let zones = TwoZones::of(text_of(&row.text), &row.body);
     match row.verb {
-        "edit" => push_edited(alloc, zones, answer),
+        "edit" => push_edited(alloc, zones, Manners::SOUND, answer),
+        "edit-guarded" => push_edited(alloc, zones, Manners::GUARDED, answer),
+        "diff-guarded" => push_run(alloc, zones, Manners::GUARDED, answer),
         "diff-reads" => push_failed_reads(alloc, zones, answer),
         "diff-write" => push_failed_write(alloc, zones, answer),
         _ => push_run(alloc, zones, Manners::SOUND, answer),
     }
 }
 
-fn push_edited(alloc: Global, zones: TwoZones<'_>, answer: &mut Vec<u8>) -> Result<(), AllocError> {
-    answer.extend_from_slice(&zones.edited(alloc)?)
+fn push_edited(
+    alloc: Global,
+    zones: TwoZones<'_>,
+    manners: Manners,
+    answer: &mut Vec<u8>,
+) -> Result<(), AllocError> {
+    answer.extend_from_slice(&zones.edited(alloc, manners)?)
 }
 
 fn push_failed_reads(
