@@ -16,11 +16,13 @@ use Rattle.sqlite.specs.Listing.{understood, reads_listing}
 use Rattle.sqlite.specs.State.{State, Shown}
 use Rattle.sqlite.proofs.Callers.{IsPlain, command_of}
 use Rattle.office_sql.specs.Rows.{ChangeRowOf, RowsOf}
-use Rattle.office_sql.specs.Tables.{changes_columns, office_schema, stored_change}
+use Rattle.office_sql.specs.declared.layout.Layout.{Layout}
+use Rattle.office_sql.specs.declared.layout.Layout.TheVariants.{IndexAfterRecords, IndexLast}
+use Rattle.office_sql.specs.Tables.{layout_in, changes_tree, changes_columns, office_schema, stored_change}
 use Rattle.office_sql.specs.Holds.{Reads}
 use Rattle.office_sql.specs.Lookups.{changes_from}
 use Rattle.office_sql.proofs.Texts.{is_param, select_from, columns_7}
-use Rattle.office_sql.proofs.StatementLemmas.{plainly}
+use Rattle.office_sql.proofs.StatementLemmas.{plainly_changes}
 use Rattle.office_sql.proofs.Values.{told, same_text, and_true, hits}
 use Rattle.office_sql.proofs.Selections.{asked, shown_7}
 
@@ -32,13 +34,15 @@ by_number = is_param 1 0 ∷ op2 (Compare Ge Binary) (col 1 2) (col 0 1) ∷ []
 abbrev pub changes_from_text : List ℕ
 changes_from_text = codes "SELECT origin, number, side, owner, type, data, ttl FROM changes WHERE origin = ?1 AND number >= ?2"
 
-changes_from_is : (command_of (understood office_schema changes_from_text) ≡ Select (record { lets = []; body = select_from 8 by_number columns_7 }) (codes "origin" ∷ codes "number" ∷ codes "side" ∷ codes "owner" ∷ codes "type" ∷ codes "data" ∷ codes "ttl" ∷ [])) × (reads_listing office_schema changes_from_text ≡ false)
+changes_from_is : (l : Layout) → (command_of (understood (office_schema l) changes_from_text) ≡ Select (record { lets = []; body = select_from (changes_tree l) by_number columns_7 }) (codes "origin" ∷ codes "number" ∷ codes "side" ∷ codes "owner" ∷ codes "type" ∷ codes "data" ∷ codes "ttl" ∷ [])) × (reads_listing (office_schema l) changes_from_text ≡ false)
 unfolding understood everything
-changes_from_is = (refl, refl)
+changes_from_is IndexAfterRecords = (refl, refl)
+changes_from_is IndexLast = (refl, refl)
 
-changes_from_plain : IsPlain (understood office_schema changes_from_text)
+changes_from_plain : (l : Layout) → IsPlain (understood (office_schema l) changes_from_text)
 unfolding understood everything
-changes_from_plain = (refl, refl)
+changes_from_plain IndexAfterRecords = (refl, refl)
+changes_from_plain IndexLast = (refl, refl)
 
 -- ---- what it answers
 
@@ -56,5 +60,6 @@ changes_from_hits origin number r = rw (same_text r.origin origin, not_less_numb
 pub selects_changes_from : (old new : State) (origin : List ℕ) (number : ℤ) (rows : List Row) (all : RowsOf) → Shown changes_from_text (Text origin ∷ Int number ∷ []) old new rows → Reads old.now all
     → IsPermutation (map stored_change (changes_from origin number all.changes)) rows
 selects_changes_from old new origin number rows all shown h =
-    asked stored_change (λ r. bytes_eq r.origin origin && is_ge (int_cmp r.number number)) (codes "changes") 8 changes_columns (1 ∷ 2 ∷ 3 ∷ 4 ∷ 5 ∷ 6 ∷ []) 4 refl (plainly 8 refl) changes_from_text (Text origin ∷ Int number ∷ []) old new h.schema changes_from_plain
-    by_number columns_7 _ changes_from_is.0 changes_from_is.1 (by_number_test (Text origin ∷ Int number ∷ [])) (shown_7 (Text origin ∷ Int number ∷ [])) (changes_from_hits origin number) (λ _. refl) all.changes rows shown h.tables.changes
+    let l = layout_in old.now.trees in
+    asked l stored_change (λ r. bytes_eq r.origin origin && is_ge (int_cmp r.number number)) (codes "changes") (changes_tree l) changes_columns (1 ∷ 2 ∷ 3 ∷ 4 ∷ 5 ∷ 6 ∷ []) 4 refl (plainly_changes l) changes_from_text (Text origin ∷ Int number ∷ []) old new h.schema
+    (changes_from_plain l) by_number columns_7 _ (changes_from_is l).0 (changes_from_is l).1 (by_number_test (Text origin ∷ Int number ∷ [])) (shown_7 (Text origin ∷ Int number ∷ [])) (changes_from_hits origin number) (λ _. refl) all.changes rows shown h.tables.changes

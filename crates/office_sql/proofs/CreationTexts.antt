@@ -1,13 +1,13 @@
 -- What each text means that makes a table or an index.
-use Rattle.std.proofs.Common.{◌≡◌, Bool, true, ℕ, List, [], ◌∷◌, codes, Ok, refl}
-use Rattle.sqlite_value.specs.Keys.{plain}
-use Rattle.sqlite_schema.specs.declared.schema.Index.{Index}
+use Rattle.std.proofs.Common.{◌≡◌, ℕ, List, [], ◌∷◌, codes, Ok, refl}
 use Rattle.sqlite_schema.specs.declared.command.Command.TheVariants.{CreateTable, CreateIndex}
 use Rattle.sqlite_resolve.specs.Compile.{table_defined_by, index_defined_by}
 use Rattle.sqlite_tied.specs.Compute.{everything}
 use Rattle.sqlite.specs.Listing.{understood}
 use Rattle.sqlite.proofs.Callers.{IsPlain, command_of, statement_of}
-use Rattle.office_sql.specs.Tables.{keyed, meta_columns, zones_columns, records_columns, receipts_columns, changes_columns, records, records_by_key, no_schema, with_meta, with_zones, with_records, with_records_by_key, with_receipts, office_schema}
+use Rattle.office_sql.specs.declared.layout.Layout.{Layout}
+use Rattle.office_sql.specs.declared.layout.Layout.TheVariants.{IndexAfterRecords, IndexLast}
+use Rattle.office_sql.specs.Tables.{keyed, meta_columns, zones_columns, records_columns, receipts_columns, changes_columns, records, records_by_key, no_schema, with_meta, with_zones, with_records, with_index, with_receipts, made_schema, office_schema}
 
 abbrev pub create_meta_text : List ℕ
 create_meta_text = codes "CREATE TABLE meta(version INTEGER NOT NULL) STRICT"
@@ -57,11 +57,11 @@ create_records_defines = refl
 abbrev pub create_receipts_text : List ℕ
 create_receipts_text = codes "CREATE TABLE receipts(caller TEXT NOT NULL, id TEXT NOT NULL, origin TEXT NOT NULL, request TEXT NOT NULL, reply TEXT NOT NULL, PRIMARY KEY(caller, id)) STRICT"
 
-pub create_receipts_is : (command_of (understood with_records_by_key create_receipts_text) ≡ CreateTable) × (statement_of create_receipts_text (understood with_records_by_key create_receipts_text) ≡ create_receipts_text)
+pub create_receipts_is : (command_of (understood (with_index with_records) create_receipts_text) ≡ CreateTable) × (statement_of create_receipts_text (understood (with_index with_records) create_receipts_text) ≡ create_receipts_text)
 unfolding understood everything
 create_receipts_is = (refl, refl)
 
-pub create_receipts_plain : IsPlain (understood with_records_by_key create_receipts_text)
+pub create_receipts_plain : IsPlain (understood (with_index with_records) create_receipts_text)
 unfolding understood everything
 create_receipts_plain = (refl, refl)
 
@@ -72,11 +72,11 @@ create_receipts_defines = refl
 abbrev pub create_changes_text : List ℕ
 create_changes_text = codes "CREATE TABLE changes(origin TEXT NOT NULL, number INTEGER NOT NULL, side INTEGER NOT NULL, owner TEXT NOT NULL, type INTEGER NOT NULL, data TEXT NOT NULL, ttl INTEGER NOT NULL, PRIMARY KEY(origin, number, side, owner, type, data)) STRICT"
 
-pub create_changes_is : (command_of (understood with_receipts create_changes_text) ≡ CreateTable) × (statement_of create_changes_text (understood with_receipts create_changes_text) ≡ create_changes_text)
+pub create_changes_is : (command_of (understood (with_receipts (with_index with_records)) create_changes_text) ≡ CreateTable) × (statement_of create_changes_text (understood (with_receipts (with_index with_records)) create_changes_text) ≡ create_changes_text)
 unfolding understood everything
 create_changes_is = (refl, refl)
 
-pub create_changes_plain : IsPlain (understood with_receipts create_changes_text)
+pub create_changes_plain : IsPlain (understood (with_receipts (with_index with_records)) create_changes_text)
 unfolding understood everything
 create_changes_plain = (refl, refl)
 
@@ -95,15 +95,12 @@ pub create_index_plain : IsPlain (understood with_records create_index_text)
 unfolding understood everything
 create_index_plain = (refl, refl)
 
-pub create_index_defines : index_defined_by records create_index_text ≡ Ok (record records_by_key { tree = 0 })
+pub create_index_defines : index_defined_by records create_index_text ≡ Ok (record (records_by_key IndexAfterRecords) { tree = 0 })
 unfolding understood everything
 create_index_defines = refl
 
-abbrev pub index_of : List ℕ → ℕ → ℕ → List ℕ → Bool → Index
-index_of name tree table columns is_unique = record { name = name; tree = tree; table = table; columns = columns; order = plain; is_unique = is_unique }
-
-pub indexes_are : office_schema.indexes
-    ≡ index_of (codes "sqlite_autoindex_zones_1") 2 1 (1 ∷ []) true ∷ index_of (codes "sqlite_autoindex_records_1") 4 3 (1 ∷ 2 ∷ 3 ∷ 4 ∷ []) true ∷ records_by_key ∷ index_of (codes "sqlite_autoindex_receipts_1") 7 6 (1 ∷ 2 ∷ []) true
-    ∷ index_of (codes "sqlite_autoindex_changes_1") 9 8 (1 ∷ 2 ∷ 3 ∷ 4 ∷ 5 ∷ 6 ∷ []) true ∷ []
+-- the schema of a layout is what the statements make in its order
+pub made_is : (l : Layout) → made_schema l ≡ office_schema l
 unfolding everything
-indexes_are = refl
+made_is IndexAfterRecords = refl
+made_is IndexLast = refl

@@ -9,22 +9,26 @@ use Rattle.sqlite_schema.specs.declared.schema.Schema.{Schema}
 use Rattle.sqlite_schema.specs.declared.command.Command.TheVariants.{CreateTable, CreateIndex}
 use Rattle.sqlite_catalog.specs.Change.{created, indexed, next_tree, KeepsRows}
 use Rattle.sqlite_resolve.specs.Compile.{table_defined_by, index_defined_by}
-use Rattle.sqlite.specs.Effect.{Database}
+use Rattle.sqlite.specs.Effect.{Database, IsDatabase}
 use Rattle.sqlite.specs.Listing.{understood}
 use Rattle.sqlite.specs.Does.{Tally, Does, lacks_sequence}
 use Rattle.sqlite.specs.State.{State, mode_of, Writes, Executes}
 use Rattle.sqlite.proofs.Callers.{IsPlain, command_of, statement_of, runs_as}
-use Rattle.office_sql.specs.Tables.{keyed, meta_columns, zones_columns, records_columns, receipts_columns, changes_columns, records as the_records, records_by_key, no_schema, with_meta, with_zones, with_records, with_records_by_key, with_receipts}
+use Rattle.office_sql.specs.declared.layout.Layout.{Layout}
+use Rattle.office_sql.specs.declared.layout.Layout.TheVariants.{IndexAfterRecords}
+use Rattle.office_sql.specs.Tables.{keyed, meta_columns, zones_columns, records_columns, receipts_columns, changes_columns, records as the_records, records_by_key, no_schema, with_meta, with_zones, with_records, with_index, with_receipts}
 use Rattle.office_sql.specs.Stores.{Stores}
 use Rattle.office_sql.specs.Holds.{Reads, AreEmpty}
 use Rattle.office_sql.proofs.CreationTexts as the
 use Rattle.office_sql.proofs.Effects.{went, same_value}
+use Rattle.office_sql.proofs.Layouts.{layout_is, reads_in}
 
 -- what CREATE TABLE leaves: the schema with the table, no rows in it, and the rows of the others
 pub record Creates (schema : Schema) (defined : Table) (db : Trees) (new : Database) : Type 0 where
   pub schema_is : new.schema ≡ created schema defined
   pub empty : new.trees (next_tree schema) ≡ []
   pub others : KeepsRows schema.tables db new.trees
+  pub sound : IsDatabase new
 
 module _ (schema : Schema) (defined : Table) (sql : List ℕ) (old new : State) (has : old.now.schema ≡ schema) where
   creates : (count : ℕ) → command_of (understood schema sql) ≡ CreateTable → statement_of sql (understood schema sql) ≡ sql → IsPlain (understood schema sql)
@@ -44,6 +48,7 @@ module _ (schema : Schema) (defined : Table) (sql : List ℕ) (old new : State) 
         schema_is = ap (λ (d : Database). d.schema) now ∙ after;
         empty = ap (λ (d : Database). d.trees (next_tree schema)) now ∙ made.empty;
         others = rw now made.others;
+        sound = w.sound;
       }
 
 -- what CREATE INDEX leaves: the schema with the index, and all rows
@@ -74,11 +79,12 @@ creates_all s a b c d e f k l m n o p none one two three four five six =
     let meta = creates no_schema (keyed _ 0 meta_columns []) the.create_meta_text s a none k the.create_meta_is.0 the.create_meta_is.1 the.create_meta_plain the.create_meta_defines refl one in
     let zones = creates with_meta (keyed _ 0 zones_columns (1 ∷ [])) the.create_zones_text a b meta.schema_is l the.create_zones_is.0 the.create_zones_is.1 the.create_zones_plain the.create_zones_defines refl two in
     let records = creates with_zones (keyed _ 0 records_columns (1 ∷ 2 ∷ 3 ∷ 4 ∷ [])) the.create_records_text b c zones.schema_is m the.create_records_is.0 the.create_records_is.1 the.create_records_plain the.create_records_defines refl three in
-    let index = indexes with_records the_records 2 refl (record records_by_key { tree = 0 }) the.create_index_text c d records.schema_is n the.create_index_is.0 the.create_index_is.1 the.create_index_plain the.create_index_defines four in
-    let receipts = creates with_records_by_key (keyed _ 0 receipts_columns (1 ∷ 2 ∷ [])) the.create_receipts_text d e index.schema_is o the.create_receipts_is.0 the.create_receipts_is.1 the.create_receipts_plain the.create_receipts_defines refl five in
-    let changes = creates with_receipts (keyed _ 0 changes_columns (1 ∷ 2 ∷ 3 ∷ 4 ∷ 5 ∷ 6 ∷ [])) the.create_changes_text e f receipts.schema_is p the.create_changes_is.0 the.create_changes_is.1 the.create_changes_plain the.create_changes_defines refl six in
+    let index = indexes with_records the_records 2 refl (record (records_by_key IndexAfterRecords) { tree = 0 }) the.create_index_text c d records.schema_is n the.create_index_is.0 the.create_index_is.1 the.create_index_plain the.create_index_defines four in
+    let receipts = creates (with_index with_records) (keyed _ 0 receipts_columns (1 ∷ 2 ∷ [])) the.create_receipts_text d e index.schema_is o the.create_receipts_is.0 the.create_receipts_is.1 the.create_receipts_plain the.create_receipts_defines refl five in
+    let changes = creates (with_receipts (with_index with_records)) (keyed _ 0 changes_columns (1 ∷ 2 ∷ 3 ∷ 4 ∷ 5 ∷ 6 ∷ [])) the.create_changes_text e f receipts.schema_is p the.create_changes_is.0 the.create_changes_is.1 the.create_changes_plain the.create_changes_defines refl six in
     record {
-      schema = changes.schema_is;
+      schema = changes.schema_is ∙ the.made_is IndexAfterRecords;
+      sound = changes.sound;
       meta = changes.others.0 ∙ receipts.others.0 ∙ index.others.0 ∙ records.others.0 ∙ zones.others.0 ∙ meta.empty;
       zones = changes.others.1.0 ∙ receipts.others.1.0 ∙ index.others.1.0 ∙ records.others.1.0 ∙ zones.empty;
       records = changes.others.1.1.0 ∙ receipts.others.1.1.0 ∙ index.others.1.1.0 ∙ records.empty;
@@ -90,7 +96,11 @@ stores_none : (rows : List Row) → rows ≡ [] → Stores rows []
 stores_none rows none = rw none (record { apart = tt; numbered = tt; same = IsPermutation-refl []; readable = tt })
 
 pub empty_reads : (db : Database) → AreEmpty db → Reads db (record { versions = []; zones = []; records = []; receipts = []; changes = [] })
-empty_reads db h = record {
-  schema = h.schema;
-  tables = record { versions = stores_none _ h.meta; zones = stores_none _ h.zones; records = stores_none _ h.records; receipts = stores_none _ h.receipts; changes = stores_none _ h.changes };
-}
+empty_reads db h =
+    reads_in IndexAfterRecords db _ (layout_is db IndexAfterRecords h.sound h.schema) h.schema (record {
+      versions = stores_none _ h.meta;
+      zones = stores_none _ h.zones;
+      records = stores_none _ h.records;
+      receipts = stores_none _ h.receipts;
+      changes = stores_none _ h.changes;
+    })

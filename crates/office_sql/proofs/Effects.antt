@@ -26,6 +26,7 @@ use Rattle.sqlite.specs.State.{State, mode_of, Shows, Executes, Shown}
 use Rattle.sqlite.proofs.Callers.{IsPlain, command_of, statement_of, runs_as, reads_as, one_step}
 use Rattle.sqlite.specs.declared.run.Mode.{Mode}
 use Rattle.sqlite_schema.specs.declared.schema.Keys.TheVariants.{Enforced}
+use Rattle.office_sql.specs.declared.layout.Layout.{Layout}
 use Rattle.office_sql.specs.Tables.{keyed, office_schema}
 use Rattle.office_sql.specs.Stores.{IsReadableRow, Stores}
 use Rattle.office_sql.proofs.Texts.{select_from}
@@ -41,19 +42,19 @@ pub same_value : {B E : Type 0} {a b : B} → ◌≡◌ {A = Result B E} (Ok a) 
 same_value e = cc
 
 -- one table has other rows, and nothing else differs
-pub record Rewrites (old new : State) (tree : ℕ) : Type 0 where
-  pub schema : new.now.schema ≡ office_schema
-  pub others : (t : ℕ) → t ≢ tree → IsNoIndex office_schema t → new.now.trees t ≡ old.now.trees t
+pub record Rewrites (l : Layout) (old new : State) (tree : ℕ) : Type 0 where
+  pub schema : new.now.schema ≡ office_schema l
+  pub others : (t : ℕ) → t ≢ tree → IsNoIndex (office_schema l) t → new.now.trees t ≡ old.now.trees t
   pub shown : Shows old new new.now (cond old.in_transaction old.committed new.now) old.in_transaction
 
 abbrev the_mode : Mode
 the_mode = record { keys = Enforced; in_doubt = false; may_wait = false }
 
 -- a step of one edit, and what it leaves
-record Stepped (db : Trees) (edit : Edit) (after : Database) : Type 0 where
+record Stepped (l : Layout) (db : Trees) (edit : Edit) (after : Database) : Type 0 where
   next : Trees
-  applied : Applies office_schema Enforced db edit next
-  is : after ≡ record { schema = office_schema; trees = next }
+  applied : Applies (office_schema l) Enforced db edit next
+  is : after ≡ record { schema = office_schema l; trees = next }
 
 pub flat : (params : Row) (filters : List Term) (p : Row → Bool) (rows : List Row) → ((r : Row) → list_all (holds (params ∷ r ∷ [])) filters ≡ p r)
     → flat_map (λ (r : Row). cond (list_all (holds (params ∷ r ∷ [])) filters) ((params ∷ r ∷ []) ∷ []) []) rows ≡ map (λ (r : Row). params ∷ r ∷ []) (filter p rows)
@@ -92,13 +93,13 @@ puts f rows ys (x ∷ all) readable fresh h =
     let more = stores_last f ys x (put_row new rows) (stores_put rows (map f ys) new h readable.0 refl (not-true _ parts.0)) in
     subst (λ l. Stores (put_all (put_row new rows) (given_rowids f (put_row new rows) all)) (map f l)) (append_assoc ys (x ∷ []) all) (puts f (put_row new rows) (ys ++ x ∷ []) all readable.1 parts.1 more)
 
-module _ (name : List ℕ) (tree : ℕ) (columns : List Column) (key : List ℕ) (at : ℕ) (place : slice_get office_schema.tables at ≡ Some (keyed name tree columns key)) (plainly : (db : Trees) → overlay db [] tree ≡ db tree) where
+module _ (l : Layout) (name : List ℕ) (tree : ℕ) (columns : List Column) (key : List ℕ) (at : ℕ) (place : slice_get (office_schema l).tables at ≡ Some (keyed name tree columns key)) (plainly : (db : Trees) → overlay db [] tree ≡ db tree) where
   abbrev table : Table
   table = keyed name tree columns key
 
   insert_does : (limit : Option ℕ) (params : Row) (db : Trees) (text : List ℕ) (terms : List Term) (width : ℕ) (tally : Tally) (after : Database)
-      → Does limit the_mode params (record { schema = office_schema; trees = db }) text None (Insert at (Values terms width)) (Ok (tally, after))
-      → Stepped db (edit_of db table [] Chosen 0 (value_rows (params ++ []) width (length terms / width) terms)) after
+      → Does limit the_mode params (record { schema = office_schema l; trees = db }) text None (Insert at (Values terms width)) (Ok (tally, after))
+      → Stepped l db (edit_of db table [] Chosen 0 (value_rows (params ++ []) width (length terms / width) terms)) after
   insert_does limit params db text terms width tally after does =
       let done = went (rw place at does) in
       let now = ap (λ (p : Tally × Database). p.1) (same_value (went (went done.2).2).2) in
@@ -106,16 +107,16 @@ module _ (name : List ℕ) (tree : ℕ) (columns : List Column) (key : List ℕ)
       let written = went (went given.2).2 in
       let counted = went written.2 in
       let trees : done.0.trees ≡ written.0 = ap (λ (it : Written). it.trees) (same_value counted.2) ∙ same_value counted.1 in
-      let step = one_step office_schema Enforced db written.0 (edit_of db table [] Chosen 0 given.0) refl written.1 in
+      let step = one_step (office_schema l) Enforced db written.0 (edit_of db table [] Chosen 0 given.0) refl written.1 in
       record {
         next = written.0;
-        applied = subst (λ all. Applies office_schema Enforced db (edit_of db table [] Chosen 0 all) written.0) given.1.1 step;
-        is = now ∙ ap (λ (t : Trees). let d : Database = record { schema = office_schema; trees = t } in d) trees;
+        applied = subst (λ all. Applies (office_schema l) Enforced db (edit_of db table [] Chosen 0 all) written.0) given.1.1 step;
+        is = now ∙ ap (λ (t : Trees). let d : Database = record { schema = office_schema l; trees = t } in d) trees;
       }
 
   delete_does : (limit : Option ℕ) (params : Row) (db : Trees) (text : List ℕ) (q : Query) (tally : Tally) (after : Database)
-      → Does limit the_mode params (record { schema = office_schema; trees = db }) text None (Delete at (record { lets = []; body = q })) (Ok (tally, after))
-      → (rows : List Row) × IsAnswer q (overlay db []) params rows × Stepped db (edit_of db table (ids_of rows) Given 0 []) after
+      → Does limit the_mode params (record { schema = office_schema l; trees = db }) text None (Delete at (record { lets = []; body = q })) (Ok (tally, after))
+      → (rows : List Row) × IsAnswer q (overlay db []) params rows × Stepped l db (edit_of db table (ids_of rows) Given 0 []) after
   delete_does limit params db text q tally after does =
       let done = went (rw place at does) in
       let now = ap (λ (p : Tally × Database). p.1) (same_value (went (went done.2).2).2) in
@@ -126,17 +127,17 @@ module _ (name : List ℕ) (tree : ℕ) (columns : List Column) (key : List ℕ)
         asked.1.answer Null,
         record {
           next = written.0;
-          applied = one_step office_schema Enforced db written.0 (edit_of db table (ids_of asked.0) Given 0 []) refl written.1;
-          is = now ∙ ap (λ (t : Trees). let d : Database = record { schema = office_schema; trees = t } in d) trees;
+          applied = one_step (office_schema l) Enforced db written.0 (edit_of db table (ids_of asked.0) Given 0 []) refl written.1;
+          is = now ∙ ap (λ (t : Trees). let d : Database = record { schema = office_schema l; trees = t } in d) trees;
         },
       )
 
   put_each : {X : Type 0} (db : Trees) (f : X → Row) (ys all : List X) (after : Database) → AllByRecursion (λ x. IsReadableRow (f x)) all → ((x : X) → cast_row table (Null ∷ f x) ≡ Null ∷ f x)
-      → Stepped db (edit_of db table [] Chosen 0 (map (λ x. Null ∷ f x) all)) after → Stores (db tree) (map f ys) → Stores (after.trees tree) (map f (ys ++ all))
+      → Stepped l db (edit_of db table [] Chosen 0 (map (λ x. Null ∷ f x) all)) after → Stores (db tree) (map f ys) → Stores (after.trees tree) (map f (ys ++ all))
   put_each db f ys all after readable casts it h =
       let edit : edit_of db table [] Chosen 0 (map (λ x. Null ∷ f x) all) ≡ record { table = table; gone = []; news = given_rowids f (db tree) all } =
       ap (λ rows. let e : Edit = record { table = table; gone = []; news = numbered Chosen (db tree) rows } in e) (map_cast f casts all) in
-      let step = subst (λ e. Applies office_schema Enforced db e it.next) edit it.applied in
+      let step = subst (λ e. Applies (office_schema l) Enforced db e it.next) edit it.applied in
       let rows : after.trees tree ≡ put_all (db tree) (given_rowids f (db tree) all) = ap (λ (d : Database). d.trees tree) it.is ∙ step.rows in
       rw rows (puts f (db tree) ys all readable step.fresh h)
     where
@@ -145,7 +146,7 @@ module _ (name : List ℕ) (tree : ℕ) (columns : List Column) (key : List ℕ)
       map_cast f casts (x ∷ all) = rw (casts x, map_cast f casts all) refl
 
   take_some : (db : Trees) (p : Row → Bool) (rows xs : List Row) (after : Database) → IsPermutation (map (λ (r : Row). rowid r ∷ []) (filter (λ r. p (drop 1 r)) (db tree))) rows
-      → Stepped db (edit_of db table (ids_of rows) Given 0 []) after → Stores (db tree) xs → Stores (after.trees tree) (filter (λ x. not (p x)) xs)
+      → Stepped l db (edit_of db table (ids_of rows) Given 0 []) after → Stores (db tree) xs → Stores (after.trees tree) (filter (λ x. not (p x)) xs)
   take_some db p rows xs after found it h =
       let rows_are : after.trees tree ≡ without_all (db tree) (ids_of rows) = ap (λ (d : Database). d.trees tree) it.is ∙ it.applied.rows in
       let ids = IsPermutation-map (λ (r : Row). id_in (rowid r)) _ _ found in
@@ -155,44 +156,44 @@ module _ (name : List ℕ) (tree : ℕ) (columns : List Column) (key : List ℕ)
       map_twice [] = refl
       map_twice (r ∷ rs) = ap (λ l. id_in (rowid r) ∷ l) (map_twice rs)
 
-  module _ (sql : List ℕ) (params : Row) (old new : State) (has : old.now.schema ≡ office_schema) (plain : IsPlain (understood office_schema sql)) (count : ℕ) (ran : Executes sql params old new (Ok count)) where
-    rewrites : (edit : Edit) → edit.table ≡ table → Stepped old.now.trees edit new.now → Shows old new new.now (cond old.in_transaction old.committed new.now) old.in_transaction → Rewrites old new tree
+  module _ (sql : List ℕ) (params : Row) (old new : State) (has : old.now.schema ≡ office_schema l) (plain : IsPlain (understood (office_schema l) sql)) (count : ℕ) (ran : Executes sql params old new (Ok count)) where
+    rewrites : (edit : Edit) → edit.table ≡ table → Stepped l old.now.trees edit new.now → Shows old new new.now (cond old.in_transaction old.committed new.now) old.in_transaction → Rewrites l old new tree
     rewrites edit is it shown = record {
       schema = ap (λ (d : Database). d.schema) it.is;
       others = λ t other free. ap (λ (d : Database). d.trees t) it.is ∙ it.applied.others t (rw is other) free;
       shown = shown;
     }
 
-    pub inserts : {X : Type 0} (terms : List Term) (width : ℕ) (f : X → Row) (ys all : List X) → AllByRecursion (λ x. IsReadableRow (f x)) all → command_of (understood office_schema sql) ≡ Insert at (Values terms width)
+    pub inserts : {X : Type 0} (terms : List Term) (width : ℕ) (f : X → Row) (ys all : List X) → AllByRecursion (λ x. IsReadableRow (f x)) all → command_of (understood (office_schema l) sql) ≡ Insert at (Values terms width)
         → value_rows (params ++ []) width (length terms / width) terms ≡ map (λ x. Null ∷ f x) all → ((x : X) → cast_row table (Null ∷ f x) ≡ Null ∷ f x)
-        → Stores (old.now.trees tree) (map f ys) → Rewrites old new tree × Stores (new.now.trees tree) (map f (ys ++ all))
+        → Stores (old.now.trees tree) (map f ys) → Rewrites l old new tree × Stores (new.now.trees tree) (map f (ys ++ all))
     inserts terms width f ys all readable is these casts h =
-        let w = runs_as sql params old new office_schema has (Insert at (Values terms width)) is plain count ran in
-        let text = statement_of sql (understood office_schema sql) in
+        let w = runs_as sql params old new (office_schema l) has (Insert at (Values terms width)) is plain count ran in
+        let text = statement_of sql (understood (office_schema l) sql) in
         let does = subst (λ s. Does old.step_limit (mode_of old) params (record old.now { schema = s }) text None (Insert at (Values terms width)) (Ok (w.tally, new.now))) has w.changed in
-        let it = subst (λ rows. Stepped old.now.trees (edit_of old.now.trees table [] Chosen 0 rows) new.now) these (insert_does old.step_limit params old.now.trees text terms width w.tally new.now does) in
+        let it = subst (λ rows. Stepped l old.now.trees (edit_of old.now.trees table [] Chosen 0 rows) new.now) these (insert_does old.step_limit params old.now.trees text terms width w.tally new.now does) in
         (rewrites _ refl it w.shown, put_each old.now.trees f ys all new.now readable casts it h)
 
-    pub deletes : (filters : List Term) (p : Row → Bool) (xs : List Row) → command_of (understood office_schema sql) ≡ Delete at (record { lets = []; body = select_from tree filters (col 1 0 ∷ []) })
+    pub deletes : (filters : List Term) (p : Row → Bool) (xs : List Row) → command_of (understood (office_schema l) sql) ≡ Delete at (record { lets = []; body = select_from tree filters (col 1 0 ∷ []) })
         → ((r : Row) → list_all (holds (params ∷ r ∷ [])) filters ≡ p (drop 1 r))
-        → Stores (old.now.trees tree) xs → Rewrites old new tree × Stores (new.now.trees tree) (filter (λ x. not (p x)) xs)
+        → Stores (old.now.trees tree) xs → Rewrites l old new tree × Stores (new.now.trees tree) (filter (λ x. not (p x)) xs)
     deletes filters p xs is test h =
         let q = select_from tree filters (col 1 0 ∷ []) in
-        let w = runs_as sql params old new office_schema has (Delete at (record { lets = []; body = q })) is plain count ran in
-        let text = statement_of sql (understood office_schema sql) in
+        let w = runs_as sql params old new (office_schema l) has (Delete at (record { lets = []; body = q })) is plain count ran in
+        let text = statement_of sql (understood (office_schema l) sql) in
         let does = subst (λ s. Does old.step_limit (mode_of old) params (record old.now { schema = s }) text None (Delete at (record { lets = []; body = q })) (Ok (w.tally, new.now))) has w.changed in
         let it = delete_does old.step_limit params old.now.trees text q w.tally new.now does in
         let found = answered tree plainly filters (col 1 0 ∷ []) (λ r. p (drop 1 r)) params old.now.trees it.0 test it.1 in
         (rewrites _ refl it.2 w.shown, take_some old.now.trees p it.0 xs new.now found it.2 h)
 
-  module _ (sql : List ℕ) (params : Row) (old new : State) (has : old.now.schema ≡ office_schema) (plain : IsPlain (understood office_schema sql)) where
+  module _ (sql : List ℕ) (params : Row) (old new : State) (has : old.now.schema ≡ office_schema l) (plain : IsPlain (understood (office_schema l) sql)) where
     pub selects_of : (filters project : List Term) (names : List (List ℕ)) (p : Row → Bool) (f : Row → Row) (xs rows : List Row)
-        → command_of (understood office_schema sql) ≡ Select (record { lets = []; body = select_from tree filters project }) names → reads_listing office_schema sql ≡ false
+        → command_of (understood (office_schema l) sql) ≡ Select (record { lets = []; body = select_from tree filters project }) names → reads_listing (office_schema l) sql ≡ false
         → ((r : Row) → list_all (holds (params ∷ r ∷ [])) filters ≡ p (drop 1 r)) → ((r : Row) → eval_all project (params ∷ r ∷ []) ≡ f (drop 1 r))
         → Shown sql params old new rows → Stores (old.now.trees tree) xs → IsPermutation (map f (filter p xs)) rows
     selects_of filters project names p f xs rows is unlisted test shows shown h =
         let q = select_from tree filters project in
-        let read = (reads_as sql params old new office_schema has (Select (record { lets = []; body = q }) names) is plain unlisted rows shown).answer Null in
+        let read = (reads_as sql params old new (office_schema l) has (Select (record { lets = []; body = q }) names) is plain unlisted rows shown).answer Null in
         let found = answered tree plainly filters project (λ r. p (drop 1 r)) params old.now.trees rows test read in
         IsPermutation-trans _ _ _ (IsPermutation-map f _ _ (IsPermutation-filter p _ _ h.same)) (subst (λ l. IsPermutation l rows) (columns_of (old.now.trees tree)) found)
       where

@@ -20,14 +20,15 @@ use Rattle.sqlite_sql.proofs.QueryLemmas.{key_cmp_total}
 use Rattle.sqlite.specs.State.{State, Shown}
 use Rattle.sqlite.proofs.Callers.{reads_as}
 use Rattle.office_sql.specs.Rows.{ChangeRowOf, RowsOf}
-use Rattle.office_sql.specs.Tables.{office_schema, stored_change, stored_version}
+use Rattle.office_sql.specs.declared.layout.Layout.{Layout}
+use Rattle.office_sql.specs.Tables.{layout_in, changes_tree, office_schema, stored_change, stored_version}
 use Rattle.office_sql.specs.Stores.{IsReadableRow}
 use Rattle.office_sql.specs.Holds.{Reads}
 use Rattle.office_sql.specs.Lookups.{changes_of, IsLast}
 use Rattle.office_sql.proofs.Texts.{by_first, last_text, last_query, last_is, last_plain}
 use Rattle.office_sql.proofs.Effects.{flat}
 use Rattle.office_sql.proofs.Selections.{by_first_test, changes_of_hits}
-use Rattle.office_sql.proofs.StatementLemmas.{plainly}
+use Rattle.office_sql.proofs.StatementLemmas.{plainly_changes}
 use Rattle.office_sql.proofs.Values.{hits, filter_stored}
 
 abbrev newest_first : Key
@@ -45,15 +46,15 @@ all_by_place : {X : Type 0} (P : X → Type 0) (xs : List X) → ((j : ℕ) (d :
 all_by_place P [] each = tt
 all_by_place P (x ∷ xs) each = (each 0 x (omega arith), all_by_place P xs (λ j d low. each (suc j) d (omega arith)))
 
-sorted_from : (xs : List ChangeRowOf) → IsSorted (output_cmp last_query) (map shown_number xs) → (k : ℕ) (d : ChangeRowOf) → 0 ≤ k → k + 1 < length xs
-    → is_lt (output_cmp last_query (shown_number (get_or xs (k + 1) d)) (shown_number (get_or xs k d))) ≡ false
-sorted_from xs up k d low high = rw (get_or-map shown_number xs (k + 1) d, get_or-map shown_number xs k d) at (up k (shown_number d) low (rw length-map high))
+sorted_from : (l : Layout) (xs : List ChangeRowOf) → IsSorted (output_cmp (last_query l)) (map shown_number xs) → (k : ℕ) (d : ChangeRowOf) → 0 ≤ k → k + 1 < length xs
+    → is_lt (output_cmp (last_query l) (shown_number (get_or xs (k + 1) d)) (shown_number (get_or xs k d))) ≡ false
+sorted_from l xs up k d low high = rw (get_or-map shown_number xs (k + 1) d, get_or-map shown_number xs k d) at (up k (shown_number d) low (rw length-map high))
 
 -- the first of the changes in order has the greatest number
-first_is_last : (c : ChangeRowOf) (more : List ChangeRowOf) → IsSorted (output_cmp last_query) (map shown_number (c ∷ more)) → AllByRecursion (λ d. is_lt (int_cmp c.number d.number) ≡ false) (c ∷ more)
-first_is_last c more up =
+first_is_last : (l : Layout) (c : ChangeRowOf) (more : List ChangeRowOf) → IsSorted (output_cmp (last_query l)) (map shown_number (c ∷ more)) → AllByRecursion (λ d. is_lt (int_cmp c.number d.number) ≡ false) (c ∷ more)
+first_is_last l c more up =
     all_by_place _ (c ∷ more) (λ j d low.
-    let far = sorted_far _ (ranks_by (key_cmp_total (newest_first ∷ []) 0) (λ (x : ChangeRowOf). (shown_number x).0)) (c ∷ more) (sorted_from (c ∷ more) up) 0 j d (omega arith) low in
+    let far = sorted_far _ (ranks_by (key_cmp_total (newest_first ∷ []) 0) (λ (x : ChangeRowOf). (shown_number x).0)) (c ∷ more) (sorted_from l (c ∷ more) up) 0 j d (omega arith) low in
     sym (ap is_lt (then-Equal (value_cmp (Int c.number) (Int (get_or (c ∷ more) j d).number)) ∙ value_cmp-Int c.number (get_or (c ∷ more) j d).number)) ∙ far)
 
 -- the first of some numbers, if there is one
@@ -69,24 +70,24 @@ same_int : (n : ℤ) → int_eq n n ≡ true
 same_int n = int_eq_equiv.refl n
 
 -- the answer, as the first of the numbers in order
-last_of : (all ordered : List ChangeRowOf) (numbers : List ℤ) → IsPermutation all ordered → IsSorted (output_cmp last_query) (map shown_number ordered)
+last_of : (l : Layout) (all ordered : List ChangeRowOf) (numbers : List ℤ) → IsPermutation all ordered → IsSorted (output_cmp (last_query l)) (map shown_number ordered)
     → map stored_version numbers ≡ take 1 (map (λ (o : Output). o.1) (map shown_number ordered)) → IsLast all (head_of numbers)
-last_of all [] [] same up is = nothing_in all same
-last_of all [] (n ∷ rest) same up is = absurd cc
-last_of all (c ∷ more) [] same up is = absurd cc
-last_of all (c ∷ more) (n ∷ m ∷ rest) same up is = absurd cc
-last_of all (c ∷ more) (n ∷ []) same up is =
+last_of l all [] [] same up is = nothing_in all same
+last_of l all [] (n ∷ rest) same up is = absurd cc
+last_of l all (c ∷ more) [] same up is = absurd cc
+last_of l all (c ∷ more) (n ∷ m ∷ rest) same up is = absurd cc
+last_of l all (c ∷ more) (n ∷ []) same up is =
     let one : n ≡ c.number = cc in
     subst (λ k. IsLast all (Some k)) (sym one) (
       list_any-IsPermutation (λ r. int_eq r.number c.number) all (c ∷ more) same ∙ ap (λ b. b || list_any (λ r. int_eq r.number c.number) more) (same_int c.number),
-      all-permutation (λ r. is_lt (int_cmp c.number r.number) ≡ false) (c ∷ more) all (IsPermutation-sym _ _ same) (first_is_last c more up),
+      all-permutation (λ r. is_lt (int_cmp c.number r.number) ≡ false) (c ∷ more) all (IsPermutation-sym _ _ same) (first_is_last l c more up),
     )
 
 -- what the query answers
-outputs_of : (params : Row) (rs : List Row) → map (output last_query) (map (λ (r : Row). params ∷ r ∷ []) rs) ≡ map shown_of (map (drop 1) rs)
-outputs_of params [] = refl
-outputs_of params ([] ∷ rs) = ap (λ l. shown_of [] ∷ l) (outputs_of params rs)
-outputs_of params ((v ∷ body) ∷ rs) = ap (λ l. shown_of body ∷ l) (outputs_of params rs)
+outputs_of : (l : Layout) (params : Row) (rs : List Row) → map (output (last_query l)) (map (λ (r : Row). params ∷ r ∷ []) rs) ≡ map shown_of (map (drop 1) rs)
+outputs_of l params [] = refl
+outputs_of l params ([] ∷ rs) = ap (λ l. shown_of [] ∷ l) (outputs_of l params rs)
+outputs_of l params ((v ∷ body) ∷ rs) = ap (λ l. shown_of body ∷ l) (outputs_of l params rs)
 
 stored_outputs : (cs : List ChangeRowOf) → map shown_of (map stored_change cs) ≡ map shown_number cs
 stored_outputs [] = refl
@@ -102,18 +103,19 @@ part_of p (r ∷ rows) = elim (p (drop 1 r)) as (λ b. map (drop 1) (cond b (r �
 pub selects_last : (old new : State) (origin : List ℕ) (numbers : List ℤ) (all : RowsOf) → Shown last_text (Text origin ∷ []) old new (map stored_version numbers) → Reads old.now all
     → IsLast (changes_of origin all.changes) (head_of numbers)
 selects_last old new origin numbers all shown h =
+    let l = layout_in old.now.trees in
     let params = Text origin ∷ [] in
     let db = old.now.trees in
     let p = hits by_first params in
-    let a = (reads_as last_text params old new office_schema h.schema (Select (record { lets = []; body = last_query }) _) last_is.0 last_plain last_is.1 (map stored_version numbers) shown).answer Null in
-    let staged : a.staged ≡ map (λ (r : Row). params ∷ r ∷ []) (filter (λ r. p (drop 1 r)) (db 8)) = a.grouped ∙ rw (plainly 8 refl db) (flat params by_first (λ r. p (drop 1 r)) (db 8) (by_first_test params)) in
-    let kept : a.kept ≡ map shown_of (filter p (map (drop 1) (db 8))) = a.distinct ∙ ap (map (output last_query)) staged ∙ outputs_of params (filter (λ r. p (drop 1 r)) (db 8)) ∙ ap (map shown_of) (part_of p (db 8)) in
-    let mine : IsPermutation (map stored_change (changes_of origin all.changes)) (filter p (map (drop 1) (db 8))) =
-    subst (λ l. IsPermutation l (filter p (map (drop 1) (db 8)))) (filter_stored stored_change p (λ r. bytes_eq r.origin origin) (changes_of_hits origin) all.changes) (IsPermutation-filter p _ _ h.tables.changes.same) in
+    let a = (reads_as last_text params old new (office_schema l) h.schema (Select (record { lets = []; body = last_query l }) _) (last_is l).0 (last_plain l) (last_is l).1 (map stored_version numbers) shown).answer Null in
+    let staged : a.staged ≡ map (λ (r : Row). params ∷ r ∷ []) (filter (λ r. p (drop 1 r)) (db (changes_tree l))) = a.grouped ∙ rw (plainly_changes l db) (flat params by_first (λ r. p (drop 1 r)) (db (changes_tree l)) (by_first_test params)) in
+    let kept : a.kept ≡ map shown_of (filter p (map (drop 1) (db (changes_tree l)))) = a.distinct ∙ ap (map (output (last_query l))) staged ∙ outputs_of l params (filter (λ r. p (drop 1 r)) (db (changes_tree l))) ∙ ap (map shown_of) (part_of p (db (changes_tree l))) in
+    let mine : IsPermutation (map stored_change (changes_of origin all.changes)) (filter p (map (drop 1) (db (changes_tree l)))) =
+    subst (λ cs. IsPermutation cs (filter p (map (drop 1) (db (changes_tree l))))) (filter_stored stored_change p (λ r. bytes_eq r.origin origin) (changes_of_hits origin) all.changes) (IsPermutation-filter p _ _ h.tables.changes.same) in
     let shown_as : IsPermutation (map shown_number (changes_of origin all.changes)) a.ordered =
-    IsPermutation-trans _ _ _ (subst (λ l. IsPermutation l (map shown_of (filter p (map (drop 1) (db 8))))) (stored_outputs (changes_of origin all.changes)) (IsPermutation-map shown_of _ _ mine)) (subst (λ l. IsPermutation l a.ordered) kept a.same) in
+    IsPermutation-trans _ _ _ (subst (λ os. IsPermutation os (map shown_of (filter p (map (drop 1) (db (changes_tree l)))))) (stored_outputs (changes_of origin all.changes)) (IsPermutation-map shown_of _ _ mine)) (subst (λ l. IsPermutation l a.ordered) kept a.same) in
     let back = pull_back shown_number _ a.ordered shown_as (changes_of origin all.changes) refl in
-    last_of (changes_of origin all.changes) back.0 numbers back.1 (subst (IsSorted (output_cmp last_query)) back.2 a.sorted) (a.shown ∙ ap (λ l. take 1 (map (λ (o : Output). o.1) l)) back.2)
+    last_of l (changes_of origin all.changes) back.0 numbers back.1 (subst (IsSorted (output_cmp (last_query l))) back.2 a.sorted) (a.shown ∙ ap (λ l. take 1 (map (λ (o : Output). o.1) l)) back.2)
 
 pub first_is : (xs : List ℤ) → slice_get xs 0 ≡ head_of xs
 first_is [] = refl
@@ -123,16 +125,17 @@ first_is (n ∷ xs) = refl
 pub never_bad_numbers : (old new : State) (origin : List ℕ) (rows : List Row) (all : RowsOf) → Shown last_text (Text origin ∷ []) old new rows → Reads old.now all
     → ((ns : List ℤ) → rows ≡ map stored_version ns → AllByRecursion IsReadableRow rows → ⊥) → ⊥
 never_bad_numbers old new origin rows all shown h none =
+    let l = layout_in old.now.trees in
     let params = Text origin ∷ [] in
     let db = old.now.trees in
     let p = hits by_first params in
-    let a = (reads_as last_text params old new office_schema h.schema (Select (record { lets = []; body = last_query }) _) last_is.0 last_plain last_is.1 rows shown).answer Null in
-    let staged : a.staged ≡ map (λ (r : Row). params ∷ r ∷ []) (filter (λ r. p (drop 1 r)) (db 8)) = a.grouped ∙ rw (plainly 8 refl db) (flat params by_first (λ r. p (drop 1 r)) (db 8) (by_first_test params)) in
-    let kept : a.kept ≡ map shown_of (filter p (map (drop 1) (db 8))) = a.distinct ∙ ap (map (output last_query)) staged ∙ outputs_of params (filter (λ r. p (drop 1 r)) (db 8)) ∙ ap (map shown_of) (part_of p (db 8)) in
-    let mine : IsPermutation (map stored_change (changes_of origin all.changes)) (filter p (map (drop 1) (db 8))) =
-    subst (λ l. IsPermutation l (filter p (map (drop 1) (db 8)))) (filter_stored stored_change p (λ r. bytes_eq r.origin origin) (changes_of_hits origin) all.changes) (IsPermutation-filter p _ _ h.tables.changes.same) in
+    let a = (reads_as last_text params old new (office_schema l) h.schema (Select (record { lets = []; body = last_query l }) _) (last_is l).0 (last_plain l) (last_is l).1 rows shown).answer Null in
+    let staged : a.staged ≡ map (λ (r : Row). params ∷ r ∷ []) (filter (λ r. p (drop 1 r)) (db (changes_tree l))) = a.grouped ∙ rw (plainly_changes l db) (flat params by_first (λ r. p (drop 1 r)) (db (changes_tree l)) (by_first_test params)) in
+    let kept : a.kept ≡ map shown_of (filter p (map (drop 1) (db (changes_tree l)))) = a.distinct ∙ ap (map (output (last_query l))) staged ∙ outputs_of l params (filter (λ r. p (drop 1 r)) (db (changes_tree l))) ∙ ap (map shown_of) (part_of p (db (changes_tree l))) in
+    let mine : IsPermutation (map stored_change (changes_of origin all.changes)) (filter p (map (drop 1) (db (changes_tree l)))) =
+    subst (λ cs. IsPermutation cs (filter p (map (drop 1) (db (changes_tree l))))) (filter_stored stored_change p (λ r. bytes_eq r.origin origin) (changes_of_hits origin) all.changes) (IsPermutation-filter p _ _ h.tables.changes.same) in
     let shown_as : IsPermutation (map shown_number (changes_of origin all.changes)) a.ordered =
-    IsPermutation-trans _ _ _ (subst (λ l. IsPermutation l (map shown_of (filter p (map (drop 1) (db 8))))) (stored_outputs (changes_of origin all.changes)) (IsPermutation-map shown_of _ _ mine)) (subst (λ l. IsPermutation l a.ordered) kept a.same) in
+    IsPermutation-trans _ _ _ (subst (λ os. IsPermutation os (map shown_of (filter p (map (drop 1) (db (changes_tree l)))))) (stored_outputs (changes_of origin all.changes)) (IsPermutation-map shown_of _ _ mine)) (subst (λ l. IsPermutation l a.ordered) kept a.same) in
     let back = pull_back shown_number _ a.ordered shown_as (changes_of origin all.changes) refl in
     numbers_shown back.0 rows (a.shown ∙ ap (λ l. take 1 (map (λ (o : Output). o.1) l)) back.2) none
   where

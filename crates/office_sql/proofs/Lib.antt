@@ -5,6 +5,7 @@ pub mod Texts
 pub mod BatchTexts
 pub mod CreationTexts
 pub mod Values
+pub mod Layouts
 pub mod Effects
 pub mod TransactionParts
 pub mod StatementLemmas

@@ -15,14 +15,15 @@ use Rattle.sqlite.specs.Listing.{understood, reads_listing}
 use Rattle.sqlite.specs.State.{State, Shown}
 use Rattle.sqlite.proofs.Callers.{IsPlain, command_of}
 use Rattle.office_sql.specs.Rows.{RecordRowOf, ReceiptRowOf, ChangeRowOf, RowsOf}
-use Rattle.office_sql.specs.Tables.{keyed, zones_columns, records_columns, receipts_columns, changes_columns, office_schema, stored_version, stored_zone, stored_record, stored_receipt, stored_change}
+use Rattle.office_sql.specs.declared.layout.Layout.{Layout}
+use Rattle.office_sql.specs.Tables.{layout_in, receipts_tree, changes_tree, keyed, zones_columns, records_columns, receipts_columns, changes_columns, office_schema, stored_version, stored_zone, stored_record, stored_receipt, stored_change}
 use Rattle.office_sql.specs.Stores.{IsReadableRow, Stores}
 use Rattle.office_sql.specs.Holds.{Reads}
 use Rattle.office_sql.specs.Lookups.{records_of, records_at, records_between, receipts_of, changes_of, is_below}
 use Rattle.office_sql.proofs.Texts as the
 use Rattle.office_sql.proofs.Texts.{by_first, by_two, by_owner_key, by_range, columns_1, columns_5, columns_6, columns_7, select_from}
 use Rattle.office_sql.proofs.Effects.{selects_of}
-use Rattle.office_sql.proofs.StatementLemmas.{plainly}
+use Rattle.office_sql.proofs.StatementLemmas.{plainly, plainly_receipts, plainly_changes}
 use Rattle.office_sql.proofs.Values.{bytes_eq_sym, same_text, same_key_octets, below, not_below, and_true, hits, filter_stored, map_stored}
 
 -- what is shown of a row
@@ -30,14 +31,14 @@ abbrev pub shown_by : List Term → Row → Row
 shown_by project body = eval_all project ([] ∷ (Null ∷ body) ∷ [])
 
 -- the rows of a table that pass are shown, in some order
-pub asked : {X : Type 0} (stored : X → Row) (passes : X → Bool) (name : List ℕ) (tree : ℕ) (columns : List Column) (key : List ℕ) (at : ℕ) (place : slice_get office_schema.tables at ≡ Some (keyed name tree columns key))
-    → ((db : Trees) → overlay db [] tree ≡ db tree) → (sql : List ℕ) (params : Row) (old new : State) → old.now.schema ≡ office_schema → IsPlain (understood office_schema sql)
-    → (filters project : List Term) (names : List (List ℕ)) → command_of (understood office_schema sql) ≡ Select (record { lets = []; body = select_from tree filters project }) names → reads_listing office_schema sql ≡ false
+pub asked : (l : Layout) {X : Type 0} (stored : X → Row) (passes : X → Bool) (name : List ℕ) (tree : ℕ) (columns : List Column) (key : List ℕ) (at : ℕ) (place : slice_get (office_schema l).tables at ≡ Some (keyed name tree columns key))
+    → ((db : Trees) → overlay db [] tree ≡ db tree) → (sql : List ℕ) (params : Row) (old new : State) → old.now.schema ≡ office_schema l → IsPlain (understood (office_schema l) sql)
+    → (filters project : List Term) (names : List (List ℕ)) → command_of (understood (office_schema l) sql) ≡ Select (record { lets = []; body = select_from tree filters project }) names → reads_listing (office_schema l) sql ≡ false
     → ((r : Row) → list_all (holds (params ∷ r ∷ [])) filters ≡ hits filters params (drop 1 r)) → ((r : Row) → eval_all project (params ∷ r ∷ []) ≡ shown_by project (drop 1 r))
     → ((x : X) → hits filters params (stored x) ≡ passes x) → ((x : X) → shown_by project (stored x) ≡ stored x)
     → (xs : List X) (rows : List Row) → Shown sql params old new rows → Stores (old.now.trees tree) (map stored xs) → IsPermutation (map stored (filter passes xs)) rows
-asked stored passes name tree columns key at place plain_tree sql params old new has plain filters project names is unlisted test shows hit whole xs rows shown h =
-    let it = selects_of name tree columns key at place plain_tree sql params old new has plain filters project names (hits filters params) (shown_by project) (map stored xs) rows is unlisted test shows shown h in
+asked l stored passes name tree columns key at place plain_tree sql params old new has plain filters project names is unlisted test shows hit whole xs rows shown h =
+    let it = selects_of l name tree columns key at place plain_tree sql params old new has plain filters project names (hits filters params) (shown_by project) (map stored xs) rows is unlisted test shows shown h in
     subst (λ l. IsPermutation l rows) (ap (map (shown_by project)) (filter_stored stored (hits filters params) passes hit xs) ∙ map_stored stored (shown_by project) whole (filter passes xs)) it
 
 -- what was read is what is stored, where one row stores one thing
@@ -130,7 +131,7 @@ zone_hits origin r = rw (same_text r origin, and_true (bytes_eq r origin)) refl
 
 pub selects_zone : (old new : State) (origin : List ℕ) (rows : List Row) (all : RowsOf) → Shown the.zone_text (Text origin ∷ []) old new rows → Reads old.now all → IsPermutation (map stored_zone (filter (λ r. bytes_eq r origin) all.zones)) rows
 selects_zone old new origin rows all shown h =
-    asked stored_zone (λ r. bytes_eq r origin) (codes "zones") 1 zones_columns (1 ∷ []) 1 refl (plainly 1 refl) the.zone_text (Text origin ∷ []) old new h.schema the.zone_plain by_first columns_1 _ the.zone_is.0 the.zone_is.1
+    asked (layout_in old.now.trees) stored_zone (λ r. bytes_eq r origin) (codes "zones") 1 zones_columns (1 ∷ []) 1 refl (plainly 1 refl) the.zone_text (Text origin ∷ []) old new h.schema (the.zone_plain (layout_in old.now.trees)) by_first columns_1 _ (the.zone_is (layout_in old.now.trees)).0 (the.zone_is (layout_in old.now.trees)).1
     (by_first_test (Text origin ∷ [])) (shown_1 (Text origin ∷ [])) (zone_hits origin) (λ _. refl) all.zones rows shown h.tables.zones
 
 records_of_hits : (origin : List ℕ) (r : RecordRowOf) → hits by_first (Text origin ∷ []) (stored_record r) ≡ (bytes_eq r.origin origin)
@@ -138,7 +139,7 @@ records_of_hits origin r = rw (same_text r.origin origin, and_true (bytes_eq r.o
 
 pub selects_records_of : (old new : State) (origin : List ℕ) (rows : List Row) (all : RowsOf) → Shown the.records_of_text (Text origin ∷ []) old new rows → Reads old.now all → IsPermutation (map stored_record (records_of origin all.records)) rows
 selects_records_of old new origin rows all shown h =
-    asked stored_record (λ r. bytes_eq r.origin origin) (codes "records") 3 records_columns (1 ∷ 2 ∷ 3 ∷ 4 ∷ []) 2 refl (plainly 3 refl) the.records_of_text (Text origin ∷ []) old new h.schema the.records_of_plain by_first columns_6 _ the.records_of_is.0 the.records_of_is.1
+    asked (layout_in old.now.trees) stored_record (λ r. bytes_eq r.origin origin) (codes "records") 3 records_columns (1 ∷ 2 ∷ 3 ∷ 4 ∷ []) 2 refl (plainly 3 refl) the.records_of_text (Text origin ∷ []) old new h.schema (the.records_of_plain (layout_in old.now.trees)) by_first columns_6 _ (the.records_of_is (layout_in old.now.trees)).0 (the.records_of_is (layout_in old.now.trees)).1
     (by_first_test (Text origin ∷ [])) (shown_6 (Text origin ∷ [])) (records_of_hits origin) (λ _. refl) all.records rows shown h.tables.records
 
 records_at_hits : (origin owner_key : List ℕ) (r : RecordRowOf) → hits by_owner_key (Text origin ∷ Blob owner_key ∷ []) (stored_record r) ≡ (bytes_eq r.origin origin && bytes_eq r.owner_key owner_key)
@@ -146,7 +147,7 @@ records_at_hits origin owner_key r = rw (same_text r.origin origin, same_key_oct
 
 pub selects_records_at : (old new : State) (origin owner_key : List ℕ) (rows : List Row) (all : RowsOf) → Shown the.records_at_text (Text origin ∷ Blob owner_key ∷ []) old new rows → Reads old.now all → IsPermutation (map stored_record (records_at origin owner_key all.records)) rows
 selects_records_at old new origin owner_key rows all shown h =
-    asked stored_record (λ r. bytes_eq r.origin origin && bytes_eq r.owner_key owner_key) (codes "records") 3 records_columns (1 ∷ 2 ∷ 3 ∷ 4 ∷ []) 2 refl (plainly 3 refl) the.records_at_text (Text origin ∷ Blob owner_key ∷ []) old new h.schema the.records_at_plain by_owner_key columns_6 _ the.records_at_is.0 the.records_at_is.1
+    asked (layout_in old.now.trees) stored_record (λ r. bytes_eq r.origin origin && bytes_eq r.owner_key owner_key) (codes "records") 3 records_columns (1 ∷ 2 ∷ 3 ∷ 4 ∷ []) 2 refl (plainly 3 refl) the.records_at_text (Text origin ∷ Blob owner_key ∷ []) old new h.schema (the.records_at_plain (layout_in old.now.trees)) by_owner_key columns_6 _ (the.records_at_is (layout_in old.now.trees)).0 (the.records_at_is (layout_in old.now.trees)).1
     (by_owner_key_test (Text origin ∷ Blob owner_key ∷ [])) (shown_6 (Text origin ∷ Blob owner_key ∷ [])) (records_at_hits origin owner_key) (λ _. refl) all.records rows shown h.tables.records
 
 records_between_hits : (origin from to : List ℕ) (r : RecordRowOf) → hits by_range (Text origin ∷ Blob from ∷ Blob to ∷ []) (stored_record r) ≡ (bytes_eq r.origin origin && (not (is_below r.owner_key from) && is_below r.owner_key to))
@@ -154,7 +155,7 @@ records_between_hits origin from to r = rw (same_text r.origin origin, not_below
 
 pub selects_records_between : (old new : State) (origin from to : List ℕ) (rows : List Row) (all : RowsOf) → Shown the.records_between_text (Text origin ∷ Blob from ∷ Blob to ∷ []) old new rows → Reads old.now all → IsPermutation (map stored_record (records_between origin from to all.records)) rows
 selects_records_between old new origin from to rows all shown h =
-    asked stored_record (λ r. bytes_eq r.origin origin && (not (is_below r.owner_key from) && is_below r.owner_key to)) (codes "records") 3 records_columns (1 ∷ 2 ∷ 3 ∷ 4 ∷ []) 2 refl (plainly 3 refl) the.records_between_text (Text origin ∷ Blob from ∷ Blob to ∷ []) old new h.schema the.records_between_plain by_range columns_6 _ the.records_between_is.0 the.records_between_is.1
+    asked (layout_in old.now.trees) stored_record (λ r. bytes_eq r.origin origin && (not (is_below r.owner_key from) && is_below r.owner_key to)) (codes "records") 3 records_columns (1 ∷ 2 ∷ 3 ∷ 4 ∷ []) 2 refl (plainly 3 refl) the.records_between_text (Text origin ∷ Blob from ∷ Blob to ∷ []) old new h.schema (the.records_between_plain (layout_in old.now.trees)) by_range columns_6 _ (the.records_between_is (layout_in old.now.trees)).0 (the.records_between_is (layout_in old.now.trees)).1
     (by_range_test (Text origin ∷ Blob from ∷ Blob to ∷ [])) (shown_6 (Text origin ∷ Blob from ∷ Blob to ∷ [])) (records_between_hits origin from to) (λ _. refl) all.records rows shown h.tables.records
 
 receipts_of_hits : (caller id : List ℕ) (r : ReceiptRowOf) → hits by_two (Text caller ∷ Text id ∷ []) (stored_receipt r) ≡ (bytes_eq r.caller caller && bytes_eq r.id id)
@@ -162,7 +163,7 @@ receipts_of_hits caller id r = rw (same_text r.caller caller, same_text r.id id,
 
 pub selects_receipts_of : (old new : State) (caller id : List ℕ) (rows : List Row) (all : RowsOf) → Shown the.receipts_of_text (Text caller ∷ Text id ∷ []) old new rows → Reads old.now all → IsPermutation (map stored_receipt (receipts_of caller id all.receipts)) rows
 selects_receipts_of old new caller id rows all shown h =
-    asked stored_receipt (λ r. bytes_eq r.caller caller && bytes_eq r.id id) (codes "receipts") 6 receipts_columns (1 ∷ 2 ∷ []) 3 refl (plainly 6 refl) the.receipts_of_text (Text caller ∷ Text id ∷ []) old new h.schema the.receipts_of_plain by_two columns_5 _ the.receipts_of_is.0 the.receipts_of_is.1
+    asked (layout_in old.now.trees) stored_receipt (λ r. bytes_eq r.caller caller && bytes_eq r.id id) (codes "receipts") (receipts_tree (layout_in old.now.trees)) receipts_columns (1 ∷ 2 ∷ []) 3 refl (plainly_receipts (layout_in old.now.trees)) the.receipts_of_text (Text caller ∷ Text id ∷ []) old new h.schema (the.receipts_of_plain (layout_in old.now.trees)) by_two columns_5 _ (the.receipts_of_is (layout_in old.now.trees)).0 (the.receipts_of_is (layout_in old.now.trees)).1
     (by_two_test (Text caller ∷ Text id ∷ [])) (shown_5 (Text caller ∷ Text id ∷ [])) (receipts_of_hits caller id) (λ _. refl) all.receipts rows shown h.tables.receipts
 
 pub changes_of_hits : (origin : List ℕ) (r : ChangeRowOf) → hits by_first (Text origin ∷ []) (stored_change r) ≡ (bytes_eq r.origin origin)
@@ -170,7 +171,7 @@ changes_of_hits origin r = rw (same_text r.origin origin, and_true (bytes_eq r.o
 
 pub selects_changes_of : (old new : State) (origin : List ℕ) (rows : List Row) (all : RowsOf) → Shown the.changes_of_text (Text origin ∷ []) old new rows → Reads old.now all → IsPermutation (map stored_change (changes_of origin all.changes)) rows
 selects_changes_of old new origin rows all shown h =
-    asked stored_change (λ r. bytes_eq r.origin origin) (codes "changes") 8 changes_columns (1 ∷ 2 ∷ 3 ∷ 4 ∷ 5 ∷ 6 ∷ []) 4 refl (plainly 8 refl) the.changes_of_text (Text origin ∷ []) old new h.schema the.changes_of_plain by_first columns_7 _ the.changes_of_is.0 the.changes_of_is.1
+    asked (layout_in old.now.trees) stored_change (λ r. bytes_eq r.origin origin) (codes "changes") (changes_tree (layout_in old.now.trees)) changes_columns (1 ∷ 2 ∷ 3 ∷ 4 ∷ 5 ∷ 6 ∷ []) 4 refl (plainly_changes (layout_in old.now.trees)) the.changes_of_text (Text origin ∷ []) old new h.schema (the.changes_of_plain (layout_in old.now.trees)) by_first columns_7 _ (the.changes_of_is (layout_in old.now.trees)).0 (the.changes_of_is (layout_in old.now.trees)).1
     (by_first_test (Text origin ∷ [])) (shown_7 (Text origin ∷ [])) (changes_of_hits origin) (λ _. refl) all.changes rows shown h.tables.changes
 
 readable_part : {X : Type 0} (stored : X → Row) (q : X → Bool) (xs : List X) → AllByRecursion IsReadableRow (map stored xs) → AllByRecursion IsReadableRow (map stored (filter q xs))

@@ -1,8 +1,9 @@
 -- What each statement of a batch does to all rows.
-use Rattle.std.proofs.Common.{◌≡◌, ℕ, ℤ, ◌^◌, ◌/◌, length, nat_le, true, false, not, List, [], ◌∷◌, ◌++◌, map, filter, drop, flat_map, codes, Ok, refl, sym, ap, subst, ◌∙◌, append-nil, arith}
+use Rattle.std.proofs.Common.{◌≡◌, ◌<◌, ℕ, ℤ, ◌^◌, ◌/◌, length, nat_le, true, false, not, List, [], ◌∷◌, ◌++◌, map, filter, drop, flat_map, codes, Ok, refl, sym, ap, subst, ◌∙◌, append-nil, arith}
 use Rattle.std.specs.List.{AllByRecursion, list_all}
 use Rattle.sqlite_value.specs.declared.value.Value.TheVariants.{Int, Null, Text}
 use Rattle.sqlite_value.specs.Order.{Row}
+use Rattle.sqlite_trees.specs.Objects.{catalog_tree}
 use Rattle.sqlite_trees.specs.Tree.{Trees}
 use Rattle.sqlite_sql.specs.Program.{overlay}
 use Rattle.sqlite_sql.specs.Term.{Term, holds}
@@ -18,7 +19,9 @@ use Rattle.sqlite.specs.Values.{bound, bound_value}
 use Rattle.sqlite.specs.State.{State, Executes}
 use Rattle.sqlite.proofs.Callers.{IsPlain, command_of}
 use Rattle.office_sql.specs.Rows.{RecordRowOf, ReceiptRowOf, ChangeRowOf, RowsOf, same_key}
-use Rattle.office_sql.specs.Tables.{meta, zones, records, receipts, changes, meta_columns, zones_columns, records_columns, receipts_columns, changes_columns, office_schema, stored_version, stored_zone, stored_record, stored_receipt, stored_change}
+use Rattle.office_sql.specs.declared.layout.Layout.{Layout}
+use Rattle.office_sql.specs.declared.layout.Layout.TheVariants.{IndexAfterRecords, IndexLast}
+use Rattle.office_sql.specs.Tables.{layout_of, layout_in, receipts_tree, changes_tree, meta, zones, records, receipts, changes, meta_columns, zones_columns, records_columns, receipts_columns, changes_columns, office_schema, stored_version, stored_zone, stored_record, stored_receipt, stored_change}
 use Rattle.office_sql.specs.Stores.{IsReadableRow, Stores}
 use Rattle.office_sql.specs.Holds.{Reads}
 use Rattle.office_sql.specs.Statements.{with_version, with_zone, with_record, with_receipt, with_change, with_each, without_record}
@@ -30,61 +33,88 @@ use Rattle.std.proofs.lemmas.List.{map-append}
 use Rattle.office_sql.proofs.BatchTexts as the
 use Rattle.office_sql.proofs.Texts.{by_key, terms_1, terms_5}
 use Rattle.office_sql.proofs.Effects.{inserts, deletes}
+use Rattle.office_sql.proofs.Layouts.{reads_in}
 use Rattle.office_sql.proofs.Values.{bytes_eq_sym, same_text, same_number, and_true, cast_null, cast_int, hits, filter_stored}
 
 pub plainly : (tree : ℕ) → nat_le (2 ^ 31) tree ≡ false → (db : Trees) → overlay db [] tree ≡ db tree
 plainly tree low db = rw low refl
 
-free_of_index_0 : IsNoIndex office_schema 0
-free_of_index_0 = ((λ e. omega arith), ((λ e. omega arith), ((λ e. omega arith), ((λ e. omega arith), ((λ e. omega arith), tt)))))
+-- the trees of `receipts` and `changes` are behind those of the other tables
+pub receipts_between : (l : Layout) → (4 < receipts_tree l) × (receipts_tree l < 7)
+receipts_between IndexAfterRecords = (omega arith, omega arith)
+receipts_between IndexLast = (omega arith, omega arith)
 
-free_of_index_1 : IsNoIndex office_schema 1
-free_of_index_1 = ((λ e. omega arith), ((λ e. omega arith), ((λ e. omega arith), ((λ e. omega arith), ((λ e. omega arith), tt)))))
+pub changes_between : (l : Layout) → (6 < changes_tree l) × (changes_tree l < 9)
+changes_between IndexAfterRecords = (omega arith, omega arith)
+changes_between IndexLast = (omega arith, omega arith)
 
-free_of_index_3 : IsNoIndex office_schema 3
-free_of_index_3 = ((λ e. omega arith), ((λ e. omega arith), ((λ e. omega arith), ((λ e. omega arith), ((λ e. omega arith), tt)))))
+pub plainly_receipts : (l : Layout) (db : Trees) → overlay db [] (receipts_tree l) ≡ db (receipts_tree l)
+plainly_receipts IndexAfterRecords = plainly 6 refl
+plainly_receipts IndexLast = plainly 5 refl
 
-free_of_index_6 : IsNoIndex office_schema 6
-free_of_index_6 = ((λ e. omega arith), ((λ e. omega arith), ((λ e. omega arith), ((λ e. omega arith), ((λ e. omega arith), tt)))))
+pub plainly_changes : (l : Layout) (db : Trees) → overlay db [] (changes_tree l) ≡ db (changes_tree l)
+plainly_changes IndexAfterRecords = plainly 8 refl
+plainly_changes IndexLast = plainly 7 refl
 
-free_of_index_8 : IsNoIndex office_schema 8
-free_of_index_8 = ((λ e. omega arith), ((λ e. omega arith), ((λ e. omega arith), ((λ e. omega arith), ((λ e. omega arith), tt)))))
+free_of_index_0 : (l : Layout) → IsNoIndex (office_schema l) 0
+free_of_index_0 IndexAfterRecords = ((λ e. omega arith), ((λ e. omega arith), ((λ e. omega arith), ((λ e. omega arith), ((λ e. omega arith), tt)))))
+free_of_index_0 IndexLast = ((λ e. omega arith), ((λ e. omega arith), ((λ e. omega arith), ((λ e. omega arith), ((λ e. omega arith), tt)))))
+
+free_of_index_1 : (l : Layout) → IsNoIndex (office_schema l) 1
+free_of_index_1 IndexAfterRecords = ((λ e. omega arith), ((λ e. omega arith), ((λ e. omega arith), ((λ e. omega arith), ((λ e. omega arith), tt)))))
+free_of_index_1 IndexLast = ((λ e. omega arith), ((λ e. omega arith), ((λ e. omega arith), ((λ e. omega arith), ((λ e. omega arith), tt)))))
+
+free_of_index_3 : (l : Layout) → IsNoIndex (office_schema l) 3
+free_of_index_3 IndexAfterRecords = ((λ e. omega arith), ((λ e. omega arith), ((λ e. omega arith), ((λ e. omega arith), ((λ e. omega arith), tt)))))
+free_of_index_3 IndexLast = ((λ e. omega arith), ((λ e. omega arith), ((λ e. omega arith), ((λ e. omega arith), ((λ e. omega arith), tt)))))
+
+free_of_index_receipts : (l : Layout) → IsNoIndex (office_schema l) (receipts_tree l)
+free_of_index_receipts IndexAfterRecords = ((λ e. omega arith), ((λ e. omega arith), ((λ e. omega arith), ((λ e. omega arith), ((λ e. omega arith), tt)))))
+free_of_index_receipts IndexLast = ((λ e. omega arith), ((λ e. omega arith), ((λ e. omega arith), ((λ e. omega arith), ((λ e. omega arith), tt)))))
+
+free_of_index_changes : (l : Layout) → IsNoIndex (office_schema l) (changes_tree l)
+free_of_index_changes IndexAfterRecords = ((λ e. omega arith), ((λ e. omega arith), ((λ e. omega arith), ((λ e. omega arith), ((λ e. omega arith), tt)))))
+free_of_index_changes IndexLast = ((λ e. omega arith), ((λ e. omega arith), ((λ e. omega arith), ((λ e. omega arith), ((λ e. omega arith), tt)))))
+
+free_of_index_catalog : (l : Layout) → IsNoIndex (office_schema l) catalog_tree
+free_of_index_catalog IndexAfterRecords = ((λ e. omega arith), ((λ e. omega arith), ((λ e. omega arith), ((λ e. omega arith), ((λ e. omega arith), tt)))))
+free_of_index_catalog IndexLast = ((λ e. omega arith), ((λ e. omega arith), ((λ e. omega arith), ((λ e. omega arith), ((λ e. omega arith), tt)))))
 
 cast_meta : (k : ℤ) → cast_row meta (Null ∷ stored_version k) ≡ Null ∷ stored_version k
 cast_meta k = rw (cast_null, cast_int k) refl
 
 pub inserts_meta : (old new : State) (k : ℤ) (count : ℕ) (rows : RowsOf) → IsReadableRow (stored_version k) → Executes the.insert_meta_text (stored_version k) old new (Ok count) → Reads old.now rows → Reads new.now (with_version k rows)
 inserts_meta old new k count rows readable ran h =
-    let it = inserts (codes "meta") 0 meta_columns ([]) 0 refl (plainly 0 refl) the.insert_meta_text (stored_version k) old new h.schema the.insert_meta_plain count ran
-    terms_1 2 stored_version rows.versions (k ∷ []) (readable, tt) the.insert_meta_is refl cast_meta h.tables.versions in
-    record {
-      schema = it.0.schema;
-      tables = record {
-        versions = it.1;
-        zones = rw (it.0.others 1 (omega arith) free_of_index_1) h.tables.zones;
-        records = rw (it.0.others 3 (omega arith) free_of_index_3) h.tables.records;
-        receipts = rw (it.0.others 6 (omega arith) free_of_index_6) h.tables.receipts;
-        changes = rw (it.0.others 8 (omega arith) free_of_index_8) h.tables.changes;
-      };
-    }
+    let l = layout_in old.now.trees in
+    let r = receipts_between l in
+    let c = changes_between l in
+    let it = inserts l (codes "meta") 0 meta_columns ([]) 0 refl (plainly 0 refl) the.insert_meta_text (stored_version k) old new h.schema (the.insert_meta_plain l) count ran
+    terms_1 2 stored_version rows.versions (k ∷ []) (readable, tt) (the.insert_meta_is l) refl cast_meta h.tables.versions in
+    reads_in l new.now _ (ap layout_of (it.0.others catalog_tree (omega arith) (free_of_index_catalog l))) it.0.schema (record {
+      versions = it.1;
+      zones = rw (it.0.others 1 (omega arith) (free_of_index_1 l)) h.tables.zones;
+      records = rw (it.0.others 3 (omega arith) (free_of_index_3 l)) h.tables.records;
+      receipts = rw (it.0.others (receipts_tree l) (omega arith) (free_of_index_receipts l)) h.tables.receipts;
+      changes = rw (it.0.others (changes_tree l) (omega arith) (free_of_index_changes l)) h.tables.changes;
+    })
 
 cast_zones : (k : List ℕ) → cast_row zones (Null ∷ stored_zone k) ≡ Null ∷ stored_zone k
 cast_zones k = rw cast_null refl
 
 pub inserts_zones : (old new : State) (k : List ℕ) (count : ℕ) (rows : RowsOf) → IsReadableRow (stored_zone k) → Executes the.insert_zones_text (stored_zone k) old new (Ok count) → Reads old.now rows → Reads new.now (with_zone k rows)
 inserts_zones old new k count rows readable ran h =
-    let it = inserts (codes "zones") 1 zones_columns (1 ∷ []) 1 refl (plainly 1 refl) the.insert_zones_text (stored_zone k) old new h.schema the.insert_zones_plain count ran
-    terms_1 2 stored_zone rows.zones (k ∷ []) (readable, tt) the.insert_zones_is refl cast_zones h.tables.zones in
-    record {
-      schema = it.0.schema;
-      tables = record {
-        versions = rw (it.0.others 0 (omega arith) free_of_index_0) h.tables.versions;
-        zones = it.1;
-        records = rw (it.0.others 3 (omega arith) free_of_index_3) h.tables.records;
-        receipts = rw (it.0.others 6 (omega arith) free_of_index_6) h.tables.receipts;
-        changes = rw (it.0.others 8 (omega arith) free_of_index_8) h.tables.changes;
-      };
-    }
+    let l = layout_in old.now.trees in
+    let r = receipts_between l in
+    let c = changes_between l in
+    let it = inserts l (codes "zones") 1 zones_columns (1 ∷ []) 1 refl (plainly 1 refl) the.insert_zones_text (stored_zone k) old new h.schema (the.insert_zones_plain l) count ran
+    terms_1 2 stored_zone rows.zones (k ∷ []) (readable, tt) (the.insert_zones_is l) refl cast_zones h.tables.zones in
+    reads_in l new.now _ (ap layout_of (it.0.others catalog_tree (omega arith) (free_of_index_catalog l))) it.0.schema (record {
+      versions = rw (it.0.others 0 (omega arith) (free_of_index_0 l)) h.tables.versions;
+      zones = it.1;
+      records = rw (it.0.others 3 (omega arith) (free_of_index_3 l)) h.tables.records;
+      receipts = rw (it.0.others (receipts_tree l) (omega arith) (free_of_index_receipts l)) h.tables.receipts;
+      changes = rw (it.0.others (changes_tree l) (omega arith) (free_of_index_changes l)) h.tables.changes;
+    })
 
 -- the parameters of two rows, and of three
 pub bound_two : (a b : List ValueRef) (x y : Row) → bound a ≡ x → bound b ≡ y → bound (flat_map (λ values. values) (a ∷ b ∷ [])) ≡ x ++ y
@@ -97,63 +127,63 @@ cast_records : (k : RecordRowOf) → cast_row records (Null ∷ stored_record k)
 cast_records k = rw (cast_null, cast_int k.record_type, cast_int k.ttl) refl
 
 -- an INSERT of some rows into `records`, whose terms are columns of these rows
-pub inserts_records : (sql : List ℕ) (params : Row) (terms : List Term) (old new : State) (all : List RecordRowOf) (count : ℕ) (rows : RowsOf) → IsPlain (understood office_schema sql)
-    → command_of (understood office_schema sql) ≡ Insert 2 (Values terms 7) → value_rows (params ++ []) 7 (length terms / 7) terms ≡ map (λ k. Null ∷ stored_record k) all
+pub inserts_records : (sql : List ℕ) (params : Row) (terms : List Term) (old new : State) (all : List RecordRowOf) (count : ℕ) (rows : RowsOf) → ((l : Layout) → IsPlain (understood (office_schema l) sql))
+    → ((l : Layout) → command_of (understood (office_schema l) sql) ≡ Insert 2 (Values terms 7)) → value_rows (params ++ []) 7 (length terms / 7) terms ≡ map (λ k. Null ∷ stored_record k) all
     → AllByRecursion (λ k. IsReadableRow (stored_record k)) all → Executes sql params old new (Ok count) → Reads old.now rows → Reads new.now (with_each with_record all rows)
 inserts_records sql params terms old new all count rows plain is these readable ran h =
-    let it = inserts (codes "records") 3 records_columns (1 ∷ 2 ∷ 3 ∷ 4 ∷ []) 2 refl (plainly 3 refl) sql params old new h.schema plain count ran
-    terms 7 stored_record rows.records all readable is these cast_records h.tables.records in
+    let l = layout_in old.now.trees in
+    let r = receipts_between l in
+    let c = changes_between l in
+    let it = inserts l (codes "records") 3 records_columns (1 ∷ 2 ∷ 3 ∷ 4 ∷ []) 2 refl (plainly 3 refl) sql params old new h.schema (plain l) count ran
+    terms 7 stored_record rows.records all readable (is l) these cast_records h.tables.records in
     subst (Reads new.now) (sym (with_records all rows)) (
-    record {
-      schema = it.0.schema;
-      tables = record {
-        versions = rw (it.0.others 0 (omega arith) free_of_index_0) h.tables.versions;
-        zones = rw (it.0.others 1 (omega arith) free_of_index_1) h.tables.zones;
-        records = it.1;
-        receipts = rw (it.0.others 6 (omega arith) free_of_index_6) h.tables.receipts;
-        changes = rw (it.0.others 8 (omega arith) free_of_index_8) h.tables.changes;
-      };
-    })
+    reads_in l new.now _ (ap layout_of (it.0.others catalog_tree (omega arith) (free_of_index_catalog l))) it.0.schema (record {
+      versions = rw (it.0.others 0 (omega arith) (free_of_index_0 l)) h.tables.versions;
+      zones = rw (it.0.others 1 (omega arith) (free_of_index_1 l)) h.tables.zones;
+      records = it.1;
+      receipts = rw (it.0.others (receipts_tree l) (omega arith) (free_of_index_receipts l)) h.tables.receipts;
+      changes = rw (it.0.others (changes_tree l) (omega arith) (free_of_index_changes l)) h.tables.changes;
+    }))
 
-cast_receipts : (k : ReceiptRowOf) → cast_row receipts (Null ∷ stored_receipt k) ≡ Null ∷ stored_receipt k
-cast_receipts k = rw cast_null refl
+cast_receipts : (l : Layout) (k : ReceiptRowOf) → cast_row (receipts l) (Null ∷ stored_receipt k) ≡ Null ∷ stored_receipt k
+cast_receipts l k = rw cast_null refl
 
 pub inserts_receipts : (old new : State) (k : ReceiptRowOf) (count : ℕ) (rows : RowsOf) → IsReadableRow (stored_receipt k) → Executes the.insert_receipts_text (stored_receipt k) old new (Ok count) → Reads old.now rows → Reads new.now (with_receipt k rows)
 inserts_receipts old new k count rows readable ran h =
-    let it = inserts (codes "receipts") 6 receipts_columns (1 ∷ 2 ∷ []) 3 refl (plainly 6 refl) the.insert_receipts_text (stored_receipt k) old new h.schema the.insert_receipts_plain count ran
-    terms_5 6 stored_receipt rows.receipts (k ∷ []) (readable, tt) the.insert_receipts_is refl cast_receipts h.tables.receipts in
-    record {
-      schema = it.0.schema;
-      tables = record {
-        versions = rw (it.0.others 0 (omega arith) free_of_index_0) h.tables.versions;
-        zones = rw (it.0.others 1 (omega arith) free_of_index_1) h.tables.zones;
-        records = rw (it.0.others 3 (omega arith) free_of_index_3) h.tables.records;
-        receipts = it.1;
-        changes = rw (it.0.others 8 (omega arith) free_of_index_8) h.tables.changes;
-      };
-    }
+    let l = layout_in old.now.trees in
+    let r = receipts_between l in
+    let c = changes_between l in
+    let it = inserts l (codes "receipts") (receipts_tree l) receipts_columns (1 ∷ 2 ∷ []) 3 refl (plainly_receipts l) the.insert_receipts_text (stored_receipt k) old new h.schema (the.insert_receipts_plain l) count ran
+    terms_5 6 stored_receipt rows.receipts (k ∷ []) (readable, tt) (the.insert_receipts_is l) refl (cast_receipts l) h.tables.receipts in
+    reads_in l new.now _ (ap layout_of (it.0.others catalog_tree (omega arith) (free_of_index_catalog l))) it.0.schema (record {
+      versions = rw (it.0.others 0 (omega arith) (free_of_index_0 l)) h.tables.versions;
+      zones = rw (it.0.others 1 (omega arith) (free_of_index_1 l)) h.tables.zones;
+      records = rw (it.0.others 3 (omega arith) (free_of_index_3 l)) h.tables.records;
+      receipts = it.1;
+      changes = rw (it.0.others (changes_tree l) (omega arith) (free_of_index_changes l)) h.tables.changes;
+    })
 
-cast_changes : (k : ChangeRowOf) → cast_row changes (Null ∷ stored_change k) ≡ Null ∷ stored_change k
-cast_changes k = rw (cast_null, cast_int k.number, cast_int k.side, cast_int k.record_type, cast_int k.ttl) refl
+cast_changes : (l : Layout) (k : ChangeRowOf) → cast_row (changes l) (Null ∷ stored_change k) ≡ Null ∷ stored_change k
+cast_changes l k = rw (cast_null, cast_int k.number, cast_int k.side, cast_int k.record_type, cast_int k.ttl) refl
 
 -- the same of `changes`
-pub inserts_changes : (sql : List ℕ) (params : Row) (terms : List Term) (old new : State) (all : List ChangeRowOf) (count : ℕ) (rows : RowsOf) → IsPlain (understood office_schema sql)
-    → command_of (understood office_schema sql) ≡ Insert 4 (Values terms 8) → value_rows (params ++ []) 8 (length terms / 8) terms ≡ map (λ k. Null ∷ stored_change k) all
+pub inserts_changes : (sql : List ℕ) (params : Row) (terms : List Term) (old new : State) (all : List ChangeRowOf) (count : ℕ) (rows : RowsOf) → ((l : Layout) → IsPlain (understood (office_schema l) sql))
+    → ((l : Layout) → command_of (understood (office_schema l) sql) ≡ Insert 4 (Values terms 8)) → value_rows (params ++ []) 8 (length terms / 8) terms ≡ map (λ k. Null ∷ stored_change k) all
     → AllByRecursion (λ k. IsReadableRow (stored_change k)) all → Executes sql params old new (Ok count) → Reads old.now rows → Reads new.now (with_each with_change all rows)
 inserts_changes sql params terms old new all count rows plain is these readable ran h =
-    let it = inserts (codes "changes") 8 changes_columns (1 ∷ 2 ∷ 3 ∷ 4 ∷ 5 ∷ 6 ∷ []) 4 refl (plainly 8 refl) sql params old new h.schema plain count ran
-    terms 8 stored_change rows.changes all readable is these cast_changes h.tables.changes in
+    let l = layout_in old.now.trees in
+    let r = receipts_between l in
+    let c = changes_between l in
+    let it = inserts l (codes "changes") (changes_tree l) changes_columns (1 ∷ 2 ∷ 3 ∷ 4 ∷ 5 ∷ 6 ∷ []) 4 refl (plainly_changes l) sql params old new h.schema (plain l) count ran
+    terms 8 stored_change rows.changes all readable (is l) these (cast_changes l) h.tables.changes in
     subst (Reads new.now) (sym (with_changes all rows)) (
-    record {
-      schema = it.0.schema;
-      tables = record {
-        versions = rw (it.0.others 0 (omega arith) free_of_index_0) h.tables.versions;
-        zones = rw (it.0.others 1 (omega arith) free_of_index_1) h.tables.zones;
-        records = rw (it.0.others 3 (omega arith) free_of_index_3) h.tables.records;
-        receipts = rw (it.0.others 6 (omega arith) free_of_index_6) h.tables.receipts;
-        changes = it.1;
-      };
-    })
+    reads_in l new.now _ (ap layout_of (it.0.others catalog_tree (omega arith) (free_of_index_catalog l))) it.0.schema (record {
+      versions = rw (it.0.others 0 (omega arith) (free_of_index_0 l)) h.tables.versions;
+      zones = rw (it.0.others 1 (omega arith) (free_of_index_1 l)) h.tables.zones;
+      records = rw (it.0.others 3 (omega arith) (free_of_index_3 l)) h.tables.records;
+      receipts = rw (it.0.others (receipts_tree l) (omega arith) (free_of_index_receipts l)) h.tables.receipts;
+      changes = it.1;
+    }))
 
 key_test : (params r : Row) → list_all (holds (params ∷ r ∷ [])) by_key ≡ hits by_key params (drop 1 r)
 key_test params [] = refl
@@ -171,18 +201,18 @@ key_hits k r = rw (same_text r.origin k.origin, same_text r.owner k.owner, same_
 
 pub deletes_record : (old new : State) (k : RecordRowOf) (count : ℕ) (rows : RowsOf) → Executes the.delete_record_text (key_of k) old new (Ok count) → Reads old.now rows → Reads new.now (without_record k rows)
 deletes_record old new k count rows ran h =
-    let it = deletes (codes "records") 3 records_columns (1 ∷ 2 ∷ 3 ∷ 4 ∷ []) 2 refl (plainly 3 refl) the.delete_record_text (key_of k) old new h.schema the.delete_record_plain count ran
-    by_key (hits by_key (key_of k)) (map stored_record rows.records) the.delete_record_is (key_test (key_of k)) h.tables.records in
-    record {
-      schema = it.0.schema;
-      tables = record {
-        versions = rw (it.0.others 0 (omega arith) free_of_index_0) h.tables.versions;
-        zones = rw (it.0.others 1 (omega arith) free_of_index_1) h.tables.zones;
-        records = subst (Stores (new.now.trees 3)) (filter_stored stored_record (λ x. not (hits by_key (key_of k) x)) (λ r. not (same_key k r)) (λ r. ap not (key_hits k r)) rows.records) it.1;
-        receipts = rw (it.0.others 6 (omega arith) free_of_index_6) h.tables.receipts;
-        changes = rw (it.0.others 8 (omega arith) free_of_index_8) h.tables.changes;
-      };
-    }
+    let l = layout_in old.now.trees in
+    let r = receipts_between l in
+    let c = changes_between l in
+    let it = deletes l (codes "records") 3 records_columns (1 ∷ 2 ∷ 3 ∷ 4 ∷ []) 2 refl (plainly 3 refl) the.delete_record_text (key_of k) old new h.schema (the.delete_record_plain l) count ran
+    by_key (hits by_key (key_of k)) (map stored_record rows.records) (the.delete_record_is l) (key_test (key_of k)) h.tables.records in
+    reads_in l new.now _ (ap layout_of (it.0.others catalog_tree (omega arith) (free_of_index_catalog l))) it.0.schema (record {
+      versions = rw (it.0.others 0 (omega arith) (free_of_index_0 l)) h.tables.versions;
+      zones = rw (it.0.others 1 (omega arith) (free_of_index_1 l)) h.tables.zones;
+      records = subst (Stores (new.now.trees 3)) (filter_stored stored_record (λ x. not (hits by_key (key_of k) x)) (λ r. not (same_key k r)) (λ r. ap not (key_hits k r)) rows.records) it.1;
+      receipts = rw (it.0.others (receipts_tree l) (omega arith) (free_of_index_receipts l)) h.tables.receipts;
+      changes = rw (it.0.others (changes_tree l) (omega arith) (free_of_index_changes l)) h.tables.changes;
+    })
 
 none_left : (xs : List Row) → filter (λ x. false) xs ≡ []
 none_left [] = refl
@@ -190,15 +220,15 @@ none_left (x ∷ xs) = none_left xs
 
 pub deletes_meta : (old new : State) (count : ℕ) (rows : RowsOf) → Executes the.delete_meta_text [] old new (Ok count) → Reads old.now rows → Reads new.now (record rows { versions = [] })
 deletes_meta old new count rows ran h =
-    let it = deletes (codes "meta") 0 meta_columns [] 0 refl (plainly 0 refl) the.delete_meta_text [] old new h.schema the.delete_meta_plain count ran
-    [] (λ x. true) (map stored_version rows.versions) the.delete_meta_is (λ r. refl) h.tables.versions in
-    record {
-      schema = it.0.schema;
-      tables = record {
-        versions = subst (Stores (new.now.trees 0)) (none_left (map stored_version rows.versions)) it.1;
-        zones = rw (it.0.others 1 (omega arith) free_of_index_1) h.tables.zones;
-        records = rw (it.0.others 3 (omega arith) free_of_index_3) h.tables.records;
-        receipts = rw (it.0.others 6 (omega arith) free_of_index_6) h.tables.receipts;
-        changes = rw (it.0.others 8 (omega arith) free_of_index_8) h.tables.changes;
-      };
-    }
+    let l = layout_in old.now.trees in
+    let r = receipts_between l in
+    let c = changes_between l in
+    let it = deletes l (codes "meta") 0 meta_columns [] 0 refl (plainly 0 refl) the.delete_meta_text [] old new h.schema (the.delete_meta_plain l) count ran
+    [] (λ x. true) (map stored_version rows.versions) (the.delete_meta_is l) (λ r. refl) h.tables.versions in
+    reads_in l new.now _ (ap layout_of (it.0.others catalog_tree (omega arith) (free_of_index_catalog l))) it.0.schema (record {
+      versions = subst (Stores (new.now.trees 0)) (none_left (map stored_version rows.versions)) it.1;
+      zones = rw (it.0.others 1 (omega arith) (free_of_index_1 l)) h.tables.zones;
+      records = rw (it.0.others 3 (omega arith) (free_of_index_3 l)) h.tables.records;
+      receipts = rw (it.0.others (receipts_tree l) (omega arith) (free_of_index_receipts l)) h.tables.receipts;
+      changes = rw (it.0.others (changes_tree l) (omega arith) (free_of_index_changes l)) h.tables.changes;
+    })

@@ -11,7 +11,9 @@ use Rattle.sqlite_schema.specs.declared.command.Command.TheVariants.{Select}
 use Rattle.sqlite_tied.specs.Compute.{everything}
 use Rattle.sqlite.specs.Listing.{understood, reads_listing}
 use Rattle.sqlite.proofs.Callers.{IsPlain, command_of}
-use Rattle.office_sql.specs.Tables.{office_schema}
+use Rattle.office_sql.specs.declared.layout.Layout.{Layout}
+use Rattle.office_sql.specs.declared.layout.Layout.TheVariants.{IndexAfterRecords, IndexLast}
+use Rattle.office_sql.specs.Tables.{office_schema, receipts_tree, changes_tree}
 
 abbrev pub is_param : ℕ → ℕ → Term
 is_param column param = op2 (Compare Eq Binary) (col 1 column) (col 0 param)
@@ -91,189 +93,223 @@ terms_7_three = lit Null ∷ col 0 0 ∷ col 0 1 ∷ col 0 2 ∷ col 0 3 ∷ col
 abbrev pub zone_text : List ℕ
 zone_text = codes "SELECT origin FROM zones WHERE origin = ?1"
 
-pub zone_is : (command_of (understood office_schema zone_text) ≡ Select (record { lets = []; body = select_from 1 by_first columns_1 }) (codes "origin" ∷ [])) × (reads_listing office_schema zone_text ≡ false)
+pub zone_is : (l : Layout) → (command_of (understood (office_schema l) zone_text) ≡ Select (record { lets = []; body = select_from 1 by_first columns_1 }) (codes "origin" ∷ [])) × (reads_listing (office_schema l) zone_text ≡ false)
 unfolding understood everything
-zone_is = (refl, refl)
+zone_is IndexAfterRecords = (refl, refl)
+zone_is IndexLast = (refl, refl)
 
-pub zone_plain : IsPlain (understood office_schema zone_text)
+pub zone_plain : (l : Layout) → IsPlain (understood (office_schema l) zone_text)
 unfolding understood everything
-zone_plain = (refl, refl)
+zone_plain IndexAfterRecords = (refl, refl)
+zone_plain IndexLast = (refl, refl)
 
 abbrev pub records_of_text : List ℕ
 records_of_text = codes "SELECT origin, owner, type, data, ttl, owner_key FROM records WHERE origin = ?1"
 
-pub records_of_is : (command_of (understood office_schema records_of_text) ≡ Select (record { lets = []; body = select_from 3 by_first columns_6 }) (codes "origin" ∷ codes "owner" ∷ codes "type" ∷ codes "data" ∷ codes "ttl" ∷ codes "owner_key" ∷ [])) × (reads_listing office_schema records_of_text ≡ false)
+pub records_of_is : (l : Layout) → (command_of (understood (office_schema l) records_of_text) ≡ Select (record { lets = []; body = select_from 3 by_first columns_6 }) (codes "origin" ∷ codes "owner" ∷ codes "type" ∷ codes "data" ∷ codes "ttl" ∷ codes "owner_key" ∷ [])) × (reads_listing (office_schema l) records_of_text ≡ false)
 unfolding understood everything
-records_of_is = (refl, refl)
+records_of_is IndexAfterRecords = (refl, refl)
+records_of_is IndexLast = (refl, refl)
 
-pub records_of_plain : IsPlain (understood office_schema records_of_text)
+pub records_of_plain : (l : Layout) → IsPlain (understood (office_schema l) records_of_text)
 unfolding understood everything
-records_of_plain = (refl, refl)
+records_of_plain IndexAfterRecords = (refl, refl)
+records_of_plain IndexLast = (refl, refl)
 
 abbrev pub records_at_text : List ℕ
 records_at_text = codes "SELECT origin, owner, type, data, ttl, owner_key FROM records WHERE origin = ?1 AND owner_key = ?2"
 
-pub records_at_is : (command_of (understood office_schema records_at_text) ≡ Select (record { lets = []; body = select_from 3 by_owner_key columns_6 }) (codes "origin" ∷ codes "owner" ∷ codes "type" ∷ codes "data" ∷ codes "ttl" ∷ codes "owner_key" ∷ [])) × (reads_listing office_schema records_at_text ≡ false)
+pub records_at_is : (l : Layout) → (command_of (understood (office_schema l) records_at_text) ≡ Select (record { lets = []; body = select_from 3 by_owner_key columns_6 }) (codes "origin" ∷ codes "owner" ∷ codes "type" ∷ codes "data" ∷ codes "ttl" ∷ codes "owner_key" ∷ [])) × (reads_listing (office_schema l) records_at_text ≡ false)
 unfolding understood everything
-records_at_is = (refl, refl)
+records_at_is IndexAfterRecords = (refl, refl)
+records_at_is IndexLast = (refl, refl)
 
-pub records_at_plain : IsPlain (understood office_schema records_at_text)
+pub records_at_plain : (l : Layout) → IsPlain (understood (office_schema l) records_at_text)
 unfolding understood everything
-records_at_plain = (refl, refl)
+records_at_plain IndexAfterRecords = (refl, refl)
+records_at_plain IndexLast = (refl, refl)
 
 abbrev pub records_between_text : List ℕ
 records_between_text = codes "SELECT origin, owner, type, data, ttl, owner_key FROM records WHERE origin = ?1 AND owner_key >= ?2 AND owner_key < ?3"
 
-pub records_between_is : (command_of (understood office_schema records_between_text) ≡ Select (record { lets = []; body = select_from 3 by_range columns_6 }) (codes "origin" ∷ codes "owner" ∷ codes "type" ∷ codes "data" ∷ codes "ttl" ∷ codes "owner_key" ∷ [])) × (reads_listing office_schema records_between_text ≡ false)
+pub records_between_is : (l : Layout) → (command_of (understood (office_schema l) records_between_text) ≡ Select (record { lets = []; body = select_from 3 by_range columns_6 }) (codes "origin" ∷ codes "owner" ∷ codes "type" ∷ codes "data" ∷ codes "ttl" ∷ codes "owner_key" ∷ [])) × (reads_listing (office_schema l) records_between_text ≡ false)
 unfolding understood everything
-records_between_is = (refl, refl)
+records_between_is IndexAfterRecords = (refl, refl)
+records_between_is IndexLast = (refl, refl)
 
-pub records_between_plain : IsPlain (understood office_schema records_between_text)
+pub records_between_plain : (l : Layout) → IsPlain (understood (office_schema l) records_between_text)
 unfolding understood everything
-records_between_plain = (refl, refl)
+records_between_plain IndexAfterRecords = (refl, refl)
+records_between_plain IndexLast = (refl, refl)
 
 abbrev pub receipts_of_text : List ℕ
 receipts_of_text = codes "SELECT caller, id, origin, request, reply FROM receipts WHERE caller = ?1 AND id = ?2"
 
-pub receipts_of_is : (command_of (understood office_schema receipts_of_text) ≡ Select (record { lets = []; body = select_from 6 by_two columns_5 }) (codes "caller" ∷ codes "id" ∷ codes "origin" ∷ codes "request" ∷ codes "reply" ∷ [])) × (reads_listing office_schema receipts_of_text ≡ false)
+pub receipts_of_is : (l : Layout) → (command_of (understood (office_schema l) receipts_of_text) ≡ Select (record { lets = []; body = select_from (receipts_tree l) by_two columns_5 }) (codes "caller" ∷ codes "id" ∷ codes "origin" ∷ codes "request" ∷ codes "reply" ∷ [])) × (reads_listing (office_schema l) receipts_of_text ≡ false)
 unfolding understood everything
-receipts_of_is = (refl, refl)
+receipts_of_is IndexAfterRecords = (refl, refl)
+receipts_of_is IndexLast = (refl, refl)
 
-pub receipts_of_plain : IsPlain (understood office_schema receipts_of_text)
+pub receipts_of_plain : (l : Layout) → IsPlain (understood (office_schema l) receipts_of_text)
 unfolding understood everything
-receipts_of_plain = (refl, refl)
+receipts_of_plain IndexAfterRecords = (refl, refl)
+receipts_of_plain IndexLast = (refl, refl)
 
 abbrev pub changes_of_text : List ℕ
 changes_of_text = codes "SELECT origin, number, side, owner, type, data, ttl FROM changes WHERE origin = ?1"
 
-pub changes_of_is : (command_of (understood office_schema changes_of_text) ≡ Select (record { lets = []; body = select_from 8 by_first columns_7 }) (codes "origin" ∷ codes "number" ∷ codes "side" ∷ codes "owner" ∷ codes "type" ∷ codes "data" ∷ codes "ttl" ∷ [])) × (reads_listing office_schema changes_of_text ≡ false)
+pub changes_of_is : (l : Layout) → (command_of (understood (office_schema l) changes_of_text) ≡ Select (record { lets = []; body = select_from (changes_tree l) by_first columns_7 }) (codes "origin" ∷ codes "number" ∷ codes "side" ∷ codes "owner" ∷ codes "type" ∷ codes "data" ∷ codes "ttl" ∷ [])) × (reads_listing (office_schema l) changes_of_text ≡ false)
 unfolding understood everything
-changes_of_is = (refl, refl)
+changes_of_is IndexAfterRecords = (refl, refl)
+changes_of_is IndexLast = (refl, refl)
 
-pub changes_of_plain : IsPlain (understood office_schema changes_of_text)
+pub changes_of_plain : (l : Layout) → IsPlain (understood (office_schema l) changes_of_text)
 unfolding understood everything
-changes_of_plain = (refl, refl)
+changes_of_plain IndexAfterRecords = (refl, refl)
+changes_of_plain IndexLast = (refl, refl)
 
-abbrev pub last_query : Query
-last_query = select_by ((col 1 2, record { collation = Binary; descending = true }) ∷ []) (lit (Int (pos 1))) 8 by_first (col 1 2 ∷ [])
+abbrev pub last_query : Layout → Query
+last_query l = select_by ((col 1 2, record { collation = Binary; descending = true }) ∷ []) (lit (Int (pos 1))) (changes_tree l) by_first (col 1 2 ∷ [])
 
 abbrev pub last_text : List ℕ
 last_text = codes "SELECT number FROM changes WHERE origin = ?1 ORDER BY number DESC LIMIT 1"
 
-pub last_is : (command_of (understood office_schema last_text) ≡ Select (record { lets = []; body = last_query }) (codes "number" ∷ [])) × (reads_listing office_schema last_text ≡ false)
+pub last_is : (l : Layout) → (command_of (understood (office_schema l) last_text) ≡ Select (record { lets = []; body = last_query l }) (codes "number" ∷ [])) × (reads_listing (office_schema l) last_text ≡ false)
 unfolding understood everything
-last_is = (refl, refl)
+last_is IndexAfterRecords = (refl, refl)
+last_is IndexLast = (refl, refl)
 
-pub last_plain : IsPlain (understood office_schema last_text)
+pub last_plain : (l : Layout) → IsPlain (understood (office_schema l) last_text)
 unfolding understood everything
-last_plain = (refl, refl)
+last_plain IndexAfterRecords = (refl, refl)
+last_plain IndexLast = (refl, refl)
 
 abbrev pub rowids_meta_text : List ℕ
 rowids_meta_text = codes "SELECT rowid FROM meta"
 
-pub rowids_meta_is : (command_of (understood office_schema rowids_meta_text) ≡ Select (record { lets = []; body = select_from 0 [] the_rowid }) (codes "rowid" ∷ [])) × (reads_listing office_schema rowids_meta_text ≡ false)
+pub rowids_meta_is : (l : Layout) → (command_of (understood (office_schema l) rowids_meta_text) ≡ Select (record { lets = []; body = select_from 0 [] the_rowid }) (codes "rowid" ∷ [])) × (reads_listing (office_schema l) rowids_meta_text ≡ false)
 unfolding understood everything
-rowids_meta_is = (refl, refl)
+rowids_meta_is IndexAfterRecords = (refl, refl)
+rowids_meta_is IndexLast = (refl, refl)
 
-pub rowids_meta_plain : IsPlain (understood office_schema rowids_meta_text)
+pub rowids_meta_plain : (l : Layout) → IsPlain (understood (office_schema l) rowids_meta_text)
 unfolding understood everything
-rowids_meta_plain = (refl, refl)
+rowids_meta_plain IndexAfterRecords = (refl, refl)
+rowids_meta_plain IndexLast = (refl, refl)
 
 abbrev pub all_meta_text : List ℕ
 all_meta_text = codes "SELECT version FROM meta"
 
-pub all_meta_is : (command_of (understood office_schema all_meta_text) ≡ Select (record { lets = []; body = select_from 0 [] columns_1 }) (codes "version" ∷ [])) × (reads_listing office_schema all_meta_text ≡ false)
+pub all_meta_is : (l : Layout) → (command_of (understood (office_schema l) all_meta_text) ≡ Select (record { lets = []; body = select_from 0 [] columns_1 }) (codes "version" ∷ [])) × (reads_listing (office_schema l) all_meta_text ≡ false)
 unfolding understood everything
-all_meta_is = (refl, refl)
+all_meta_is IndexAfterRecords = (refl, refl)
+all_meta_is IndexLast = (refl, refl)
 
-pub all_meta_plain : IsPlain (understood office_schema all_meta_text)
+pub all_meta_plain : (l : Layout) → IsPlain (understood (office_schema l) all_meta_text)
 unfolding understood everything
-all_meta_plain = (refl, refl)
+all_meta_plain IndexAfterRecords = (refl, refl)
+all_meta_plain IndexLast = (refl, refl)
 
 abbrev pub rowids_zones_text : List ℕ
 rowids_zones_text = codes "SELECT rowid FROM zones"
 
-pub rowids_zones_is : (command_of (understood office_schema rowids_zones_text) ≡ Select (record { lets = []; body = select_from 1 [] the_rowid }) (codes "rowid" ∷ [])) × (reads_listing office_schema rowids_zones_text ≡ false)
+pub rowids_zones_is : (l : Layout) → (command_of (understood (office_schema l) rowids_zones_text) ≡ Select (record { lets = []; body = select_from 1 [] the_rowid }) (codes "rowid" ∷ [])) × (reads_listing (office_schema l) rowids_zones_text ≡ false)
 unfolding understood everything
-rowids_zones_is = (refl, refl)
+rowids_zones_is IndexAfterRecords = (refl, refl)
+rowids_zones_is IndexLast = (refl, refl)
 
-pub rowids_zones_plain : IsPlain (understood office_schema rowids_zones_text)
+pub rowids_zones_plain : (l : Layout) → IsPlain (understood (office_schema l) rowids_zones_text)
 unfolding understood everything
-rowids_zones_plain = (refl, refl)
+rowids_zones_plain IndexAfterRecords = (refl, refl)
+rowids_zones_plain IndexLast = (refl, refl)
 
 abbrev pub all_zones_text : List ℕ
 all_zones_text = codes "SELECT origin FROM zones"
 
-pub all_zones_is : (command_of (understood office_schema all_zones_text) ≡ Select (record { lets = []; body = select_from 1 [] columns_1 }) (codes "origin" ∷ [])) × (reads_listing office_schema all_zones_text ≡ false)
+pub all_zones_is : (l : Layout) → (command_of (understood (office_schema l) all_zones_text) ≡ Select (record { lets = []; body = select_from 1 [] columns_1 }) (codes "origin" ∷ [])) × (reads_listing (office_schema l) all_zones_text ≡ false)
 unfolding understood everything
-all_zones_is = (refl, refl)
+all_zones_is IndexAfterRecords = (refl, refl)
+all_zones_is IndexLast = (refl, refl)
 
-pub all_zones_plain : IsPlain (understood office_schema all_zones_text)
+pub all_zones_plain : (l : Layout) → IsPlain (understood (office_schema l) all_zones_text)
 unfolding understood everything
-all_zones_plain = (refl, refl)
+all_zones_plain IndexAfterRecords = (refl, refl)
+all_zones_plain IndexLast = (refl, refl)
 
 abbrev pub rowids_records_text : List ℕ
 rowids_records_text = codes "SELECT rowid FROM records"
 
-pub rowids_records_is : (command_of (understood office_schema rowids_records_text) ≡ Select (record { lets = []; body = select_from 3 [] the_rowid }) (codes "rowid" ∷ [])) × (reads_listing office_schema rowids_records_text ≡ false)
+pub rowids_records_is : (l : Layout) → (command_of (understood (office_schema l) rowids_records_text) ≡ Select (record { lets = []; body = select_from 3 [] the_rowid }) (codes "rowid" ∷ [])) × (reads_listing (office_schema l) rowids_records_text ≡ false)
 unfolding understood everything
-rowids_records_is = (refl, refl)
+rowids_records_is IndexAfterRecords = (refl, refl)
+rowids_records_is IndexLast = (refl, refl)
 
-pub rowids_records_plain : IsPlain (understood office_schema rowids_records_text)
+pub rowids_records_plain : (l : Layout) → IsPlain (understood (office_schema l) rowids_records_text)
 unfolding understood everything
-rowids_records_plain = (refl, refl)
+rowids_records_plain IndexAfterRecords = (refl, refl)
+rowids_records_plain IndexLast = (refl, refl)
 
 abbrev pub all_records_text : List ℕ
 all_records_text = codes "SELECT origin, owner, type, data, ttl, owner_key FROM records"
 
-pub all_records_is : (command_of (understood office_schema all_records_text) ≡ Select (record { lets = []; body = select_from 3 [] columns_6 }) (codes "origin" ∷ codes "owner" ∷ codes "type" ∷ codes "data" ∷ codes "ttl" ∷ codes "owner_key" ∷ [])) × (reads_listing office_schema all_records_text ≡ false)
+pub all_records_is : (l : Layout) → (command_of (understood (office_schema l) all_records_text) ≡ Select (record { lets = []; body = select_from 3 [] columns_6 }) (codes "origin" ∷ codes "owner" ∷ codes "type" ∷ codes "data" ∷ codes "ttl" ∷ codes "owner_key" ∷ [])) × (reads_listing (office_schema l) all_records_text ≡ false)
 unfolding understood everything
-all_records_is = (refl, refl)
+all_records_is IndexAfterRecords = (refl, refl)
+all_records_is IndexLast = (refl, refl)
 
-pub all_records_plain : IsPlain (understood office_schema all_records_text)
+pub all_records_plain : (l : Layout) → IsPlain (understood (office_schema l) all_records_text)
 unfolding understood everything
-all_records_plain = (refl, refl)
+all_records_plain IndexAfterRecords = (refl, refl)
+all_records_plain IndexLast = (refl, refl)
 
 abbrev pub rowids_receipts_text : List ℕ
 rowids_receipts_text = codes "SELECT rowid FROM receipts"
 
-pub rowids_receipts_is : (command_of (understood office_schema rowids_receipts_text) ≡ Select (record { lets = []; body = select_from 6 [] the_rowid }) (codes "rowid" ∷ [])) × (reads_listing office_schema rowids_receipts_text ≡ false)
+pub rowids_receipts_is : (l : Layout) → (command_of (understood (office_schema l) rowids_receipts_text) ≡ Select (record { lets = []; body = select_from (receipts_tree l) [] the_rowid }) (codes "rowid" ∷ [])) × (reads_listing (office_schema l) rowids_receipts_text ≡ false)
 unfolding understood everything
-rowids_receipts_is = (refl, refl)
+rowids_receipts_is IndexAfterRecords = (refl, refl)
+rowids_receipts_is IndexLast = (refl, refl)
 
-pub rowids_receipts_plain : IsPlain (understood office_schema rowids_receipts_text)
+pub rowids_receipts_plain : (l : Layout) → IsPlain (understood (office_schema l) rowids_receipts_text)
 unfolding understood everything
-rowids_receipts_plain = (refl, refl)
+rowids_receipts_plain IndexAfterRecords = (refl, refl)
+rowids_receipts_plain IndexLast = (refl, refl)
 
 abbrev pub all_receipts_text : List ℕ
 all_receipts_text = codes "SELECT caller, id, origin, request, reply FROM receipts"
 
-pub all_receipts_is : (command_of (understood office_schema all_receipts_text) ≡ Select (record { lets = []; body = select_from 6 [] columns_5 }) (codes "caller" ∷ codes "id" ∷ codes "origin" ∷ codes "request" ∷ codes "reply" ∷ [])) × (reads_listing office_schema all_receipts_text ≡ false)
+pub all_receipts_is : (l : Layout) → (command_of (understood (office_schema l) all_receipts_text) ≡ Select (record { lets = []; body = select_from (receipts_tree l) [] columns_5 }) (codes "caller" ∷ codes "id" ∷ codes "origin" ∷ codes "request" ∷ codes "reply" ∷ [])) × (reads_listing (office_schema l) all_receipts_text ≡ false)
 unfolding understood everything
-all_receipts_is = (refl, refl)
+all_receipts_is IndexAfterRecords = (refl, refl)
+all_receipts_is IndexLast = (refl, refl)
 
-pub all_receipts_plain : IsPlain (understood office_schema all_receipts_text)
+pub all_receipts_plain : (l : Layout) → IsPlain (understood (office_schema l) all_receipts_text)
 unfolding understood everything
-all_receipts_plain = (refl, refl)
+all_receipts_plain IndexAfterRecords = (refl, refl)
+all_receipts_plain IndexLast = (refl, refl)
 
 abbrev pub rowids_changes_text : List ℕ
 rowids_changes_text = codes "SELECT rowid FROM changes"
 
-pub rowids_changes_is : (command_of (understood office_schema rowids_changes_text) ≡ Select (record { lets = []; body = select_from 8 [] the_rowid }) (codes "rowid" ∷ [])) × (reads_listing office_schema rowids_changes_text ≡ false)
+pub rowids_changes_is : (l : Layout) → (command_of (understood (office_schema l) rowids_changes_text) ≡ Select (record { lets = []; body = select_from (changes_tree l) [] the_rowid }) (codes "rowid" ∷ [])) × (reads_listing (office_schema l) rowids_changes_text ≡ false)
 unfolding understood everything
-rowids_changes_is = (refl, refl)
+rowids_changes_is IndexAfterRecords = (refl, refl)
+rowids_changes_is IndexLast = (refl, refl)
 
-pub rowids_changes_plain : IsPlain (understood office_schema rowids_changes_text)
+pub rowids_changes_plain : (l : Layout) → IsPlain (understood (office_schema l) rowids_changes_text)
 unfolding understood everything
-rowids_changes_plain = (refl, refl)
+rowids_changes_plain IndexAfterRecords = (refl, refl)
+rowids_changes_plain IndexLast = (refl, refl)
 
 abbrev pub all_changes_text : List ℕ
 all_changes_text = codes "SELECT origin, number, side, owner, type, data, ttl FROM changes"
 
-pub all_changes_is : (command_of (understood office_schema all_changes_text) ≡ Select (record { lets = []; body = select_from 8 [] columns_7 }) (codes "origin" ∷ codes "number" ∷ codes "side" ∷ codes "owner" ∷ codes "type" ∷ codes "data" ∷ codes "ttl" ∷ [])) × (reads_listing office_schema all_changes_text ≡ false)
+pub all_changes_is : (l : Layout) → (command_of (understood (office_schema l) all_changes_text) ≡ Select (record { lets = []; body = select_from (changes_tree l) [] columns_7 }) (codes "origin" ∷ codes "number" ∷ codes "side" ∷ codes "owner" ∷ codes "type" ∷ codes "data" ∷ codes "ttl" ∷ [])) × (reads_listing (office_schema l) all_changes_text ≡ false)
 unfolding understood everything
-all_changes_is = (refl, refl)
+all_changes_is IndexAfterRecords = (refl, refl)
+all_changes_is IndexLast = (refl, refl)
 
-pub all_changes_plain : IsPlain (understood office_schema all_changes_text)
+pub all_changes_plain : (l : Layout) → IsPlain (understood (office_schema l) all_changes_text)
 unfolding understood everything
-all_changes_plain = (refl, refl)
+all_changes_plain IndexAfterRecords = (refl, refl)
+all_changes_plain IndexLast = (refl, refl)

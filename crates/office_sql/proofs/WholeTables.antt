@@ -29,14 +29,15 @@ use Rattle.sqlite.specs.Effect.{Database, IsDatabase}
 use Rattle.sqlite.specs.State.{State, Shown}
 use Rattle.sqlite.proofs.Callers.{reads_as}
 use Rattle.office_sql.specs.Rows.{RecordRowOf, ReceiptRowOf, ChangeRowOf, RowsOf}
-use Rattle.office_sql.specs.Tables.{meta, zones, records, receipts, changes, meta_columns, zones_columns, records_columns, receipts_columns, changes_columns, office_schema, stored_version, stored_zone, stored_record, stored_receipt, stored_change}
+use Rattle.office_sql.specs.declared.layout.Layout.{Layout}
+use Rattle.office_sql.specs.Tables.{layout_in, IsOffice, receipts_tree, changes_tree, meta, zones, records, receipts, changes, meta_columns, zones_columns, records_columns, receipts_columns, changes_columns, office_schema, stored_version, stored_zone, stored_record, stored_receipt, stored_change}
 use Rattle.office_sql.specs.Stores.{AreApart, HasOwnRowid, IsReadableRow, Stores}
 use Rattle.office_sql.specs.Holds.{Reads}
 use Rattle.sqlite_rules.specs.Edit.{id_in}
 use Rattle.sqlite_rules.proofs.TableLemmas.{int_is}
 use Rattle.office_sql.proofs.Selections.{asked, read_as, shown_1, shown_5, shown_6, shown_7}
 use Rattle.office_sql.proofs.Effects.{answered}
-use Rattle.office_sql.proofs.StatementLemmas.{plainly}
+use Rattle.office_sql.proofs.StatementLemmas.{plainly, plainly_receipts, plainly_changes}
 use Rattle.office_sql.proofs.Texts as the
 use Rattle.office_sql.proofs.Texts.{columns_1, columns_5, columns_6, columns_7, the_rowid, select_from}
 use Rattle.office_sql.proofs.Values.{equal_ints}
@@ -144,84 +145,84 @@ whole_7 (v ∷ a ∷ b ∷ c ∷ d ∷ e ∷ f ∷ g ∷ []) len = refl
 whole_7 _ len = absurd (omega arith)
 
 -- the rows of `meta` have their columns
-shape_meta : (d : Database) → d.schema ≡ office_schema → IsDatabase d → AllByRecursion (λ (r : Row). eval_all columns_1 ([] ∷ r ∷ []) ≡ drop 1 r) (d.trees 0)
-shape_meta d is h =
+shape_meta : (l : Layout) (d : Database) → d.schema ≡ office_schema l → IsDatabase d → AllByRecursion (λ (r : Row). eval_all columns_1 ([] ∷ r ∷ []) ≡ drop 1 r) (d.trees 0)
+shape_meta l d is h =
     let typed = (subst (λ s. AllByRecursion (λ t. AllByRecursion (λ row. passes Datatype s d.trees t row ≡ true) (d.trees t.tree)) s.tables) is (h.obeys.rules Datatype)).0 in
     let present = (subst (λ s. AllByRecursion (λ t. AllByRecursion (λ row. passes NotNull s d.trees t row ≡ true) (d.trees t.tree)) s.tables) is (h.obeys.rules NotNull)).0 in
     all_both (λ row. (are_typed None 0 meta_columns (drop 1 row) && has_computed meta row) ≡ true) (λ row. are_present None 0 meta_columns row ≡ true) (λ (r : Row). eval_all columns_1 ([] ∷ r ∷ []) ≡ drop 1 r)
     (λ row p q. whole_1 row (full 0 meta_columns row (drop 1 row) refl (refl, tt) (and_parts _ _ p).0 q)) (d.trees 0) typed present
 
-pub all_meta : (begun mid again end : State) (ids : List ℤ) (xs : List ℤ) → begun.now.schema ≡ office_schema → IsDatabase begun.now → again.now ≡ begun.now → Shown the.rowids_meta_text [] begun mid (map stored_version ids)
+pub all_meta : (l : Layout) (begun mid again end : State) (ids : List ℤ) (xs : List ℤ) → begun.now.schema ≡ office_schema l → IsDatabase begun.now → again.now ≡ begun.now → Shown the.rowids_meta_text [] begun mid (map stored_version ids)
     → IsDistinct int_eq ids → Shown the.all_meta_text [] again end (map stored_version xs) → AllByRecursion IsReadableRow (map stored_version xs) → Stores (begun.now.trees 0) (map stored_version xs)
-all_meta begun mid again end ids xs is live same one distinct two readable =
-    let first = (reads_as the.rowids_meta_text [] begun mid office_schema is (Select (record { lets = []; body = select_from 0 [] the_rowid }) _) the.rowids_meta_is.0 the.rowids_meta_plain the.rowids_meta_is.1 (map stored_version ids) one).answer Null in
-    let is_again : again.now.schema ≡ office_schema = ap (λ (d : Database). d.schema) same ∙ is in
-    let second = (reads_as the.all_meta_text [] again end office_schema is_again (Select (record { lets = []; body = select_from 0 [] columns_1 }) _) the.all_meta_is.0 the.all_meta_plain the.all_meta_is.1 (map stored_version xs) two).answer Null in
-    stores_all 0 (plainly 0 refl) begun.now.trees columns_1 ids (map stored_version xs) (shape_meta begun.now is live) first distinct (subst (λ (d : Database). IsAnswer (select_from 0 [] columns_1) (overlay d.trees []) [] (map stored_version xs)) same second) readable
+all_meta l begun mid again end ids xs is live same one distinct two readable =
+    let first = (reads_as the.rowids_meta_text [] begun mid (office_schema l) is (Select (record { lets = []; body = select_from 0 [] the_rowid }) _) (the.rowids_meta_is l).0 (the.rowids_meta_plain l) (the.rowids_meta_is l).1 (map stored_version ids) one).answer Null in
+    let is_again : again.now.schema ≡ office_schema l = ap (λ (d : Database). d.schema) same ∙ is in
+    let second = (reads_as the.all_meta_text [] again end (office_schema l) is_again (Select (record { lets = []; body = select_from 0 [] columns_1 }) _) (the.all_meta_is l).0 (the.all_meta_plain l) (the.all_meta_is l).1 (map stored_version xs) two).answer Null in
+    stores_all 0 (plainly 0 refl) begun.now.trees columns_1 ids (map stored_version xs) (shape_meta l begun.now is live) first distinct (subst (λ (d : Database). IsAnswer (select_from 0 [] columns_1) (overlay d.trees []) [] (map stored_version xs)) same second) readable
 
 -- the rows of `zones` have their columns
-shape_zones : (d : Database) → d.schema ≡ office_schema → IsDatabase d → AllByRecursion (λ (r : Row). eval_all columns_1 ([] ∷ r ∷ []) ≡ drop 1 r) (d.trees 1)
-shape_zones d is h =
+shape_zones : (l : Layout) (d : Database) → d.schema ≡ office_schema l → IsDatabase d → AllByRecursion (λ (r : Row). eval_all columns_1 ([] ∷ r ∷ []) ≡ drop 1 r) (d.trees 1)
+shape_zones l d is h =
     let typed = (subst (λ s. AllByRecursion (λ t. AllByRecursion (λ row. passes Datatype s d.trees t row ≡ true) (d.trees t.tree)) s.tables) is (h.obeys.rules Datatype)).1.0 in
     let present = (subst (λ s. AllByRecursion (λ t. AllByRecursion (λ row. passes NotNull s d.trees t row ≡ true) (d.trees t.tree)) s.tables) is (h.obeys.rules NotNull)).1.0 in
     all_both (λ row. (are_typed None 0 zones_columns (drop 1 row) && has_computed zones row) ≡ true) (λ row. are_present None 0 zones_columns row ≡ true) (λ (r : Row). eval_all columns_1 ([] ∷ r ∷ []) ≡ drop 1 r)
     (λ row p q. whole_1 row (full 0 zones_columns row (drop 1 row) refl (refl, tt) (and_parts _ _ p).0 q)) (d.trees 1) typed present
 
-pub all_zones : (begun mid again end : State) (ids : List ℤ) (xs : List (List ℕ)) → begun.now.schema ≡ office_schema → IsDatabase begun.now → again.now ≡ begun.now → Shown the.rowids_zones_text [] begun mid (map stored_version ids)
+pub all_zones : (l : Layout) (begun mid again end : State) (ids : List ℤ) (xs : List (List ℕ)) → begun.now.schema ≡ office_schema l → IsDatabase begun.now → again.now ≡ begun.now → Shown the.rowids_zones_text [] begun mid (map stored_version ids)
     → IsDistinct int_eq ids → Shown the.all_zones_text [] again end (map stored_zone xs) → AllByRecursion IsReadableRow (map stored_zone xs) → Stores (begun.now.trees 1) (map stored_zone xs)
-all_zones begun mid again end ids xs is live same one distinct two readable =
-    let first = (reads_as the.rowids_zones_text [] begun mid office_schema is (Select (record { lets = []; body = select_from 1 [] the_rowid }) _) the.rowids_zones_is.0 the.rowids_zones_plain the.rowids_zones_is.1 (map stored_version ids) one).answer Null in
-    let is_again : again.now.schema ≡ office_schema = ap (λ (d : Database). d.schema) same ∙ is in
-    let second = (reads_as the.all_zones_text [] again end office_schema is_again (Select (record { lets = []; body = select_from 1 [] columns_1 }) _) the.all_zones_is.0 the.all_zones_plain the.all_zones_is.1 (map stored_zone xs) two).answer Null in
-    stores_all 1 (plainly 1 refl) begun.now.trees columns_1 ids (map stored_zone xs) (shape_zones begun.now is live) first distinct (subst (λ (d : Database). IsAnswer (select_from 1 [] columns_1) (overlay d.trees []) [] (map stored_zone xs)) same second) readable
+all_zones l begun mid again end ids xs is live same one distinct two readable =
+    let first = (reads_as the.rowids_zones_text [] begun mid (office_schema l) is (Select (record { lets = []; body = select_from 1 [] the_rowid }) _) (the.rowids_zones_is l).0 (the.rowids_zones_plain l) (the.rowids_zones_is l).1 (map stored_version ids) one).answer Null in
+    let is_again : again.now.schema ≡ office_schema l = ap (λ (d : Database). d.schema) same ∙ is in
+    let second = (reads_as the.all_zones_text [] again end (office_schema l) is_again (Select (record { lets = []; body = select_from 1 [] columns_1 }) _) (the.all_zones_is l).0 (the.all_zones_plain l) (the.all_zones_is l).1 (map stored_zone xs) two).answer Null in
+    stores_all 1 (plainly 1 refl) begun.now.trees columns_1 ids (map stored_zone xs) (shape_zones l begun.now is live) first distinct (subst (λ (d : Database). IsAnswer (select_from 1 [] columns_1) (overlay d.trees []) [] (map stored_zone xs)) same second) readable
 
 -- the rows of `records` have their columns
-shape_records : (d : Database) → d.schema ≡ office_schema → IsDatabase d → AllByRecursion (λ (r : Row). eval_all columns_6 ([] ∷ r ∷ []) ≡ drop 1 r) (d.trees 3)
-shape_records d is h =
+shape_records : (l : Layout) (d : Database) → d.schema ≡ office_schema l → IsDatabase d → AllByRecursion (λ (r : Row). eval_all columns_6 ([] ∷ r ∷ []) ≡ drop 1 r) (d.trees 3)
+shape_records l d is h =
     let typed = (subst (λ s. AllByRecursion (λ t. AllByRecursion (λ row. passes Datatype s d.trees t row ≡ true) (d.trees t.tree)) s.tables) is (h.obeys.rules Datatype)).1.1.0 in
     let present = (subst (λ s. AllByRecursion (λ t. AllByRecursion (λ row. passes NotNull s d.trees t row ≡ true) (d.trees t.tree)) s.tables) is (h.obeys.rules NotNull)).1.1.0 in
     all_both (λ row. (are_typed None 0 records_columns (drop 1 row) && has_computed records row) ≡ true) (λ row. are_present None 0 records_columns row ≡ true) (λ (r : Row). eval_all columns_6 ([] ∷ r ∷ []) ≡ drop 1 r)
     (λ row p q. whole_6 row (full 0 records_columns row (drop 1 row) refl (refl, (refl, (refl, (refl, (refl, (refl, tt)))))) (and_parts _ _ p).0 q)) (d.trees 3) typed present
 
-pub all_records : (begun mid again end : State) (ids : List ℤ) (xs : List RecordRowOf) → begun.now.schema ≡ office_schema → IsDatabase begun.now → again.now ≡ begun.now → Shown the.rowids_records_text [] begun mid (map stored_version ids)
+pub all_records : (l : Layout) (begun mid again end : State) (ids : List ℤ) (xs : List RecordRowOf) → begun.now.schema ≡ office_schema l → IsDatabase begun.now → again.now ≡ begun.now → Shown the.rowids_records_text [] begun mid (map stored_version ids)
     → IsDistinct int_eq ids → Shown the.all_records_text [] again end (map stored_record xs) → AllByRecursion IsReadableRow (map stored_record xs) → Stores (begun.now.trees 3) (map stored_record xs)
-all_records begun mid again end ids xs is live same one distinct two readable =
-    let first = (reads_as the.rowids_records_text [] begun mid office_schema is (Select (record { lets = []; body = select_from 3 [] the_rowid }) _) the.rowids_records_is.0 the.rowids_records_plain the.rowids_records_is.1 (map stored_version ids) one).answer Null in
-    let is_again : again.now.schema ≡ office_schema = ap (λ (d : Database). d.schema) same ∙ is in
-    let second = (reads_as the.all_records_text [] again end office_schema is_again (Select (record { lets = []; body = select_from 3 [] columns_6 }) _) the.all_records_is.0 the.all_records_plain the.all_records_is.1 (map stored_record xs) two).answer Null in
-    stores_all 3 (plainly 3 refl) begun.now.trees columns_6 ids (map stored_record xs) (shape_records begun.now is live) first distinct (subst (λ (d : Database). IsAnswer (select_from 3 [] columns_6) (overlay d.trees []) [] (map stored_record xs)) same second) readable
+all_records l begun mid again end ids xs is live same one distinct two readable =
+    let first = (reads_as the.rowids_records_text [] begun mid (office_schema l) is (Select (record { lets = []; body = select_from 3 [] the_rowid }) _) (the.rowids_records_is l).0 (the.rowids_records_plain l) (the.rowids_records_is l).1 (map stored_version ids) one).answer Null in
+    let is_again : again.now.schema ≡ office_schema l = ap (λ (d : Database). d.schema) same ∙ is in
+    let second = (reads_as the.all_records_text [] again end (office_schema l) is_again (Select (record { lets = []; body = select_from 3 [] columns_6 }) _) (the.all_records_is l).0 (the.all_records_plain l) (the.all_records_is l).1 (map stored_record xs) two).answer Null in
+    stores_all 3 (plainly 3 refl) begun.now.trees columns_6 ids (map stored_record xs) (shape_records l begun.now is live) first distinct (subst (λ (d : Database). IsAnswer (select_from 3 [] columns_6) (overlay d.trees []) [] (map stored_record xs)) same second) readable
 
 -- the rows of `receipts` have their columns
-shape_receipts : (d : Database) → d.schema ≡ office_schema → IsDatabase d → AllByRecursion (λ (r : Row). eval_all columns_5 ([] ∷ r ∷ []) ≡ drop 1 r) (d.trees 6)
-shape_receipts d is h =
+shape_receipts : (l : Layout) (d : Database) → d.schema ≡ office_schema l → IsDatabase d → AllByRecursion (λ (r : Row). eval_all columns_5 ([] ∷ r ∷ []) ≡ drop 1 r) (d.trees (receipts_tree l))
+shape_receipts l d is h =
     let typed = (subst (λ s. AllByRecursion (λ t. AllByRecursion (λ row. passes Datatype s d.trees t row ≡ true) (d.trees t.tree)) s.tables) is (h.obeys.rules Datatype)).1.1.1.0 in
     let present = (subst (λ s. AllByRecursion (λ t. AllByRecursion (λ row. passes NotNull s d.trees t row ≡ true) (d.trees t.tree)) s.tables) is (h.obeys.rules NotNull)).1.1.1.0 in
-    all_both (λ row. (are_typed None 0 receipts_columns (drop 1 row) && has_computed receipts row) ≡ true) (λ row. are_present None 0 receipts_columns row ≡ true) (λ (r : Row). eval_all columns_5 ([] ∷ r ∷ []) ≡ drop 1 r)
-    (λ row p q. whole_5 row (full 0 receipts_columns row (drop 1 row) refl (refl, (refl, (refl, (refl, (refl, tt))))) (and_parts _ _ p).0 q)) (d.trees 6) typed present
+    all_both (λ row. (are_typed None 0 receipts_columns (drop 1 row) && has_computed (receipts l) row) ≡ true) (λ row. are_present None 0 receipts_columns row ≡ true) (λ (r : Row). eval_all columns_5 ([] ∷ r ∷ []) ≡ drop 1 r)
+    (λ row p q. whole_5 row (full 0 receipts_columns row (drop 1 row) refl (refl, (refl, (refl, (refl, (refl, tt))))) (and_parts _ _ p).0 q)) (d.trees (receipts_tree l)) typed present
 
-pub all_receipts : (begun mid again end : State) (ids : List ℤ) (xs : List ReceiptRowOf) → begun.now.schema ≡ office_schema → IsDatabase begun.now → again.now ≡ begun.now → Shown the.rowids_receipts_text [] begun mid (map stored_version ids)
-    → IsDistinct int_eq ids → Shown the.all_receipts_text [] again end (map stored_receipt xs) → AllByRecursion IsReadableRow (map stored_receipt xs) → Stores (begun.now.trees 6) (map stored_receipt xs)
-all_receipts begun mid again end ids xs is live same one distinct two readable =
-    let first = (reads_as the.rowids_receipts_text [] begun mid office_schema is (Select (record { lets = []; body = select_from 6 [] the_rowid }) _) the.rowids_receipts_is.0 the.rowids_receipts_plain the.rowids_receipts_is.1 (map stored_version ids) one).answer Null in
-    let is_again : again.now.schema ≡ office_schema = ap (λ (d : Database). d.schema) same ∙ is in
-    let second = (reads_as the.all_receipts_text [] again end office_schema is_again (Select (record { lets = []; body = select_from 6 [] columns_5 }) _) the.all_receipts_is.0 the.all_receipts_plain the.all_receipts_is.1 (map stored_receipt xs) two).answer Null in
-    stores_all 6 (plainly 6 refl) begun.now.trees columns_5 ids (map stored_receipt xs) (shape_receipts begun.now is live) first distinct (subst (λ (d : Database). IsAnswer (select_from 6 [] columns_5) (overlay d.trees []) [] (map stored_receipt xs)) same second) readable
+pub all_receipts : (l : Layout) (begun mid again end : State) (ids : List ℤ) (xs : List ReceiptRowOf) → begun.now.schema ≡ office_schema l → IsDatabase begun.now → again.now ≡ begun.now → Shown the.rowids_receipts_text [] begun mid (map stored_version ids)
+    → IsDistinct int_eq ids → Shown the.all_receipts_text [] again end (map stored_receipt xs) → AllByRecursion IsReadableRow (map stored_receipt xs) → Stores (begun.now.trees (receipts_tree l)) (map stored_receipt xs)
+all_receipts l begun mid again end ids xs is live same one distinct two readable =
+    let first = (reads_as the.rowids_receipts_text [] begun mid (office_schema l) is (Select (record { lets = []; body = select_from (receipts_tree l) [] the_rowid }) _) (the.rowids_receipts_is l).0 (the.rowids_receipts_plain l) (the.rowids_receipts_is l).1 (map stored_version ids) one).answer Null in
+    let is_again : again.now.schema ≡ office_schema l = ap (λ (d : Database). d.schema) same ∙ is in
+    let second = (reads_as the.all_receipts_text [] again end (office_schema l) is_again (Select (record { lets = []; body = select_from (receipts_tree l) [] columns_5 }) _) (the.all_receipts_is l).0 (the.all_receipts_plain l) (the.all_receipts_is l).1 (map stored_receipt xs) two).answer Null in
+    stores_all (receipts_tree l) (plainly_receipts l) begun.now.trees columns_5 ids (map stored_receipt xs) (shape_receipts l begun.now is live) first distinct (subst (λ (d : Database). IsAnswer (select_from (receipts_tree l) [] columns_5) (overlay d.trees []) [] (map stored_receipt xs)) same second) readable
 
 -- the rows of `changes` have their columns
-shape_changes : (d : Database) → d.schema ≡ office_schema → IsDatabase d → AllByRecursion (λ (r : Row). eval_all columns_7 ([] ∷ r ∷ []) ≡ drop 1 r) (d.trees 8)
-shape_changes d is h =
+shape_changes : (l : Layout) (d : Database) → d.schema ≡ office_schema l → IsDatabase d → AllByRecursion (λ (r : Row). eval_all columns_7 ([] ∷ r ∷ []) ≡ drop 1 r) (d.trees (changes_tree l))
+shape_changes l d is h =
     let typed = (subst (λ s. AllByRecursion (λ t. AllByRecursion (λ row. passes Datatype s d.trees t row ≡ true) (d.trees t.tree)) s.tables) is (h.obeys.rules Datatype)).1.1.1.1.0 in
     let present = (subst (λ s. AllByRecursion (λ t. AllByRecursion (λ row. passes NotNull s d.trees t row ≡ true) (d.trees t.tree)) s.tables) is (h.obeys.rules NotNull)).1.1.1.1.0 in
-    all_both (λ row. (are_typed None 0 changes_columns (drop 1 row) && has_computed changes row) ≡ true) (λ row. are_present None 0 changes_columns row ≡ true) (λ (r : Row). eval_all columns_7 ([] ∷ r ∷ []) ≡ drop 1 r)
-    (λ row p q. whole_7 row (full 0 changes_columns row (drop 1 row) refl (refl, (refl, (refl, (refl, (refl, (refl, (refl, tt))))))) (and_parts _ _ p).0 q)) (d.trees 8) typed present
+    all_both (λ row. (are_typed None 0 changes_columns (drop 1 row) && has_computed (changes l) row) ≡ true) (λ row. are_present None 0 changes_columns row ≡ true) (λ (r : Row). eval_all columns_7 ([] ∷ r ∷ []) ≡ drop 1 r)
+    (λ row p q. whole_7 row (full 0 changes_columns row (drop 1 row) refl (refl, (refl, (refl, (refl, (refl, (refl, (refl, tt))))))) (and_parts _ _ p).0 q)) (d.trees (changes_tree l)) typed present
 
-pub all_changes : (begun mid again end : State) (ids : List ℤ) (xs : List ChangeRowOf) → begun.now.schema ≡ office_schema → IsDatabase begun.now → again.now ≡ begun.now → Shown the.rowids_changes_text [] begun mid (map stored_version ids)
-    → IsDistinct int_eq ids → Shown the.all_changes_text [] again end (map stored_change xs) → AllByRecursion IsReadableRow (map stored_change xs) → Stores (begun.now.trees 8) (map stored_change xs)
-all_changes begun mid again end ids xs is live same one distinct two readable =
-    let first = (reads_as the.rowids_changes_text [] begun mid office_schema is (Select (record { lets = []; body = select_from 8 [] the_rowid }) _) the.rowids_changes_is.0 the.rowids_changes_plain the.rowids_changes_is.1 (map stored_version ids) one).answer Null in
-    let is_again : again.now.schema ≡ office_schema = ap (λ (d : Database). d.schema) same ∙ is in
-    let second = (reads_as the.all_changes_text [] again end office_schema is_again (Select (record { lets = []; body = select_from 8 [] columns_7 }) _) the.all_changes_is.0 the.all_changes_plain the.all_changes_is.1 (map stored_change xs) two).answer Null in
-    stores_all 8 (plainly 8 refl) begun.now.trees columns_7 ids (map stored_change xs) (shape_changes begun.now is live) first distinct (subst (λ (d : Database). IsAnswer (select_from 8 [] columns_7) (overlay d.trees []) [] (map stored_change xs)) same second) readable
+pub all_changes : (l : Layout) (begun mid again end : State) (ids : List ℤ) (xs : List ChangeRowOf) → begun.now.schema ≡ office_schema l → IsDatabase begun.now → again.now ≡ begun.now → Shown the.rowids_changes_text [] begun mid (map stored_version ids)
+    → IsDistinct int_eq ids → Shown the.all_changes_text [] again end (map stored_change xs) → AllByRecursion IsReadableRow (map stored_change xs) → Stores (begun.now.trees (changes_tree l)) (map stored_change xs)
+all_changes l begun mid again end ids xs is live same one distinct two readable =
+    let first = (reads_as the.rowids_changes_text [] begun mid (office_schema l) is (Select (record { lets = []; body = select_from (changes_tree l) [] the_rowid }) _) (the.rowids_changes_is l).0 (the.rowids_changes_plain l) (the.rowids_changes_is l).1 (map stored_version ids) one).answer Null in
+    let is_again : again.now.schema ≡ office_schema l = ap (λ (d : Database). d.schema) same ∙ is in
+    let second = (reads_as the.all_changes_text [] again end (office_schema l) is_again (Select (record { lets = []; body = select_from (changes_tree l) [] columns_7 }) _) (the.all_changes_is l).0 (the.all_changes_plain l) (the.all_changes_is l).1 (map stored_change xs) two).answer Null in
+    stores_all (changes_tree l) (plainly_changes l) begun.now.trees columns_7 ids (map stored_change xs) (shape_changes l begun.now is live) first distinct (subst (λ (d : Database). IsAnswer (select_from (changes_tree l) [] columns_7) (overlay d.trees []) [] (map stored_change xs)) same second) readable
 
 -- ---- numbers in order
 
@@ -272,54 +273,54 @@ ids_shown tree plain_tree db xs rows h a none =
     let it = pull_back stored_version (map (λ (r : Row). rowid r ∷ []) (db tree)) rows whole (map (λ (r : Row). id_in (rowid r)) (db tree)) (ids_are (db tree) h.numbered) in
     none it.0 it.2 (IsDistinct-IsPermutation int_eq int_eq_equiv.symm (map (λ (r : Row). id_in (rowid r)) (db tree)) it.0 it.1 (distinct_ids (db tree) h.numbered h.apart))
 
-pub never_bad_meta : (begun mid : State) (rows : List Row) (all : RowsOf) → Reads begun.now all → Shown the.rowids_meta_text [] begun mid rows → (begun.now.schema ≡ office_schema → (ids : List ℤ) → rows ≡ map stored_version ids → IsDistinct int_eq ids → ⊥) → ⊥
+pub never_bad_meta : (begun mid : State) (rows : List Row) (all : RowsOf) → Reads begun.now all → Shown the.rowids_meta_text [] begun mid rows → (IsOffice begun.now.schema → (ids : List ℤ) → rows ≡ map stored_version ids → IsDistinct int_eq ids → ⊥) → ⊥
 never_bad_meta begun mid rows all h shown none =
-    let a = (reads_as the.rowids_meta_text [] begun mid office_schema h.schema (Select (record { lets = []; body = select_from 0 [] the_rowid }) _) the.rowids_meta_is.0 the.rowids_meta_plain the.rowids_meta_is.1 rows shown).answer Null in
-    ids_shown 0 (plainly 0 refl) begun.now.trees (map stored_version all.versions) rows h.tables.versions a (none h.schema)
+    let a = (reads_as the.rowids_meta_text [] begun mid (office_schema (layout_in begun.now.trees)) h.schema (Select (record { lets = []; body = select_from 0 [] the_rowid }) _) (the.rowids_meta_is (layout_in begun.now.trees)).0 (the.rowids_meta_plain (layout_in begun.now.trees)) (the.rowids_meta_is (layout_in begun.now.trees)).1 rows shown).answer Null in
+    ids_shown 0 (plainly 0 refl) begun.now.trees (map stored_version all.versions) rows h.tables.versions a (none (layout_in begun.now.trees, h.schema))
 
 pub shows_all_meta : (again end : State) (rows : List Row) (all : RowsOf) → Reads again.now all → Shown the.all_meta_text [] again end rows → IsPermutation (map stored_version (filter (λ r. true) all.versions)) rows
 shows_all_meta again end rows all h shown =
-    asked stored_version (λ r. true) (codes "meta") 0 meta_columns ([]) 0 refl (plainly 0 refl) the.all_meta_text [] again end h.schema the.all_meta_plain [] columns_1 _ the.all_meta_is.0 the.all_meta_is.1
+    asked (layout_in again.now.trees) stored_version (λ r. true) (codes "meta") 0 meta_columns ([]) 0 refl (plainly 0 refl) the.all_meta_text [] again end h.schema (the.all_meta_plain (layout_in again.now.trees)) [] columns_1 _ (the.all_meta_is (layout_in again.now.trees)).0 (the.all_meta_is (layout_in again.now.trees)).1
     (λ r. refl) (shown_1 []) (λ r. refl) (λ _. refl) all.versions rows shown h.tables.versions
 
-pub never_bad_zones : (begun mid : State) (rows : List Row) (all : RowsOf) → Reads begun.now all → Shown the.rowids_zones_text [] begun mid rows → (begun.now.schema ≡ office_schema → (ids : List ℤ) → rows ≡ map stored_version ids → IsDistinct int_eq ids → ⊥) → ⊥
+pub never_bad_zones : (begun mid : State) (rows : List Row) (all : RowsOf) → Reads begun.now all → Shown the.rowids_zones_text [] begun mid rows → (IsOffice begun.now.schema → (ids : List ℤ) → rows ≡ map stored_version ids → IsDistinct int_eq ids → ⊥) → ⊥
 never_bad_zones begun mid rows all h shown none =
-    let a = (reads_as the.rowids_zones_text [] begun mid office_schema h.schema (Select (record { lets = []; body = select_from 1 [] the_rowid }) _) the.rowids_zones_is.0 the.rowids_zones_plain the.rowids_zones_is.1 rows shown).answer Null in
-    ids_shown 1 (plainly 1 refl) begun.now.trees (map stored_zone all.zones) rows h.tables.zones a (none h.schema)
+    let a = (reads_as the.rowids_zones_text [] begun mid (office_schema (layout_in begun.now.trees)) h.schema (Select (record { lets = []; body = select_from 1 [] the_rowid }) _) (the.rowids_zones_is (layout_in begun.now.trees)).0 (the.rowids_zones_plain (layout_in begun.now.trees)) (the.rowids_zones_is (layout_in begun.now.trees)).1 rows shown).answer Null in
+    ids_shown 1 (plainly 1 refl) begun.now.trees (map stored_zone all.zones) rows h.tables.zones a (none (layout_in begun.now.trees, h.schema))
 
 pub shows_all_zones : (again end : State) (rows : List Row) (all : RowsOf) → Reads again.now all → Shown the.all_zones_text [] again end rows → IsPermutation (map stored_zone (filter (λ r. true) all.zones)) rows
 shows_all_zones again end rows all h shown =
-    asked stored_zone (λ r. true) (codes "zones") 1 zones_columns (1 ∷ []) 1 refl (plainly 1 refl) the.all_zones_text [] again end h.schema the.all_zones_plain [] columns_1 _ the.all_zones_is.0 the.all_zones_is.1
+    asked (layout_in again.now.trees) stored_zone (λ r. true) (codes "zones") 1 zones_columns (1 ∷ []) 1 refl (plainly 1 refl) the.all_zones_text [] again end h.schema (the.all_zones_plain (layout_in again.now.trees)) [] columns_1 _ (the.all_zones_is (layout_in again.now.trees)).0 (the.all_zones_is (layout_in again.now.trees)).1
     (λ r. refl) (shown_1 []) (λ r. refl) (λ _. refl) all.zones rows shown h.tables.zones
 
-pub never_bad_records : (begun mid : State) (rows : List Row) (all : RowsOf) → Reads begun.now all → Shown the.rowids_records_text [] begun mid rows → (begun.now.schema ≡ office_schema → (ids : List ℤ) → rows ≡ map stored_version ids → IsDistinct int_eq ids → ⊥) → ⊥
+pub never_bad_records : (begun mid : State) (rows : List Row) (all : RowsOf) → Reads begun.now all → Shown the.rowids_records_text [] begun mid rows → (IsOffice begun.now.schema → (ids : List ℤ) → rows ≡ map stored_version ids → IsDistinct int_eq ids → ⊥) → ⊥
 never_bad_records begun mid rows all h shown none =
-    let a = (reads_as the.rowids_records_text [] begun mid office_schema h.schema (Select (record { lets = []; body = select_from 3 [] the_rowid }) _) the.rowids_records_is.0 the.rowids_records_plain the.rowids_records_is.1 rows shown).answer Null in
-    ids_shown 3 (plainly 3 refl) begun.now.trees (map stored_record all.records) rows h.tables.records a (none h.schema)
+    let a = (reads_as the.rowids_records_text [] begun mid (office_schema (layout_in begun.now.trees)) h.schema (Select (record { lets = []; body = select_from 3 [] the_rowid }) _) (the.rowids_records_is (layout_in begun.now.trees)).0 (the.rowids_records_plain (layout_in begun.now.trees)) (the.rowids_records_is (layout_in begun.now.trees)).1 rows shown).answer Null in
+    ids_shown 3 (plainly 3 refl) begun.now.trees (map stored_record all.records) rows h.tables.records a (none (layout_in begun.now.trees, h.schema))
 
 pub shows_all_records : (again end : State) (rows : List Row) (all : RowsOf) → Reads again.now all → Shown the.all_records_text [] again end rows → IsPermutation (map stored_record (filter (λ r. true) all.records)) rows
 shows_all_records again end rows all h shown =
-    asked stored_record (λ r. true) (codes "records") 3 records_columns (1 ∷ 2 ∷ 3 ∷ 4 ∷ []) 2 refl (plainly 3 refl) the.all_records_text [] again end h.schema the.all_records_plain [] columns_6 _ the.all_records_is.0 the.all_records_is.1
+    asked (layout_in again.now.trees) stored_record (λ r. true) (codes "records") 3 records_columns (1 ∷ 2 ∷ 3 ∷ 4 ∷ []) 2 refl (plainly 3 refl) the.all_records_text [] again end h.schema (the.all_records_plain (layout_in again.now.trees)) [] columns_6 _ (the.all_records_is (layout_in again.now.trees)).0 (the.all_records_is (layout_in again.now.trees)).1
     (λ r. refl) (shown_6 []) (λ r. refl) (λ _. refl) all.records rows shown h.tables.records
 
-pub never_bad_receipts : (begun mid : State) (rows : List Row) (all : RowsOf) → Reads begun.now all → Shown the.rowids_receipts_text [] begun mid rows → (begun.now.schema ≡ office_schema → (ids : List ℤ) → rows ≡ map stored_version ids → IsDistinct int_eq ids → ⊥) → ⊥
+pub never_bad_receipts : (begun mid : State) (rows : List Row) (all : RowsOf) → Reads begun.now all → Shown the.rowids_receipts_text [] begun mid rows → (IsOffice begun.now.schema → (ids : List ℤ) → rows ≡ map stored_version ids → IsDistinct int_eq ids → ⊥) → ⊥
 never_bad_receipts begun mid rows all h shown none =
-    let a = (reads_as the.rowids_receipts_text [] begun mid office_schema h.schema (Select (record { lets = []; body = select_from 6 [] the_rowid }) _) the.rowids_receipts_is.0 the.rowids_receipts_plain the.rowids_receipts_is.1 rows shown).answer Null in
-    ids_shown 6 (plainly 6 refl) begun.now.trees (map stored_receipt all.receipts) rows h.tables.receipts a (none h.schema)
+    let a = (reads_as the.rowids_receipts_text [] begun mid (office_schema (layout_in begun.now.trees)) h.schema (Select (record { lets = []; body = select_from (receipts_tree (layout_in begun.now.trees)) [] the_rowid }) _) (the.rowids_receipts_is (layout_in begun.now.trees)).0 (the.rowids_receipts_plain (layout_in begun.now.trees)) (the.rowids_receipts_is (layout_in begun.now.trees)).1 rows shown).answer Null in
+    ids_shown (receipts_tree (layout_in begun.now.trees)) (plainly_receipts (layout_in begun.now.trees)) begun.now.trees (map stored_receipt all.receipts) rows h.tables.receipts a (none (layout_in begun.now.trees, h.schema))
 
 pub shows_all_receipts : (again end : State) (rows : List Row) (all : RowsOf) → Reads again.now all → Shown the.all_receipts_text [] again end rows → IsPermutation (map stored_receipt (filter (λ r. true) all.receipts)) rows
 shows_all_receipts again end rows all h shown =
-    asked stored_receipt (λ r. true) (codes "receipts") 6 receipts_columns (1 ∷ 2 ∷ []) 3 refl (plainly 6 refl) the.all_receipts_text [] again end h.schema the.all_receipts_plain [] columns_5 _ the.all_receipts_is.0 the.all_receipts_is.1
+    asked (layout_in again.now.trees) stored_receipt (λ r. true) (codes "receipts") (receipts_tree (layout_in again.now.trees)) receipts_columns (1 ∷ 2 ∷ []) 3 refl (plainly_receipts (layout_in again.now.trees)) the.all_receipts_text [] again end h.schema (the.all_receipts_plain (layout_in again.now.trees)) [] columns_5 _ (the.all_receipts_is (layout_in again.now.trees)).0 (the.all_receipts_is (layout_in again.now.trees)).1
     (λ r. refl) (shown_5 []) (λ r. refl) (λ _. refl) all.receipts rows shown h.tables.receipts
 
-pub never_bad_changes : (begun mid : State) (rows : List Row) (all : RowsOf) → Reads begun.now all → Shown the.rowids_changes_text [] begun mid rows → (begun.now.schema ≡ office_schema → (ids : List ℤ) → rows ≡ map stored_version ids → IsDistinct int_eq ids → ⊥) → ⊥
+pub never_bad_changes : (begun mid : State) (rows : List Row) (all : RowsOf) → Reads begun.now all → Shown the.rowids_changes_text [] begun mid rows → (IsOffice begun.now.schema → (ids : List ℤ) → rows ≡ map stored_version ids → IsDistinct int_eq ids → ⊥) → ⊥
 never_bad_changes begun mid rows all h shown none =
-    let a = (reads_as the.rowids_changes_text [] begun mid office_schema h.schema (Select (record { lets = []; body = select_from 8 [] the_rowid }) _) the.rowids_changes_is.0 the.rowids_changes_plain the.rowids_changes_is.1 rows shown).answer Null in
-    ids_shown 8 (plainly 8 refl) begun.now.trees (map stored_change all.changes) rows h.tables.changes a (none h.schema)
+    let a = (reads_as the.rowids_changes_text [] begun mid (office_schema (layout_in begun.now.trees)) h.schema (Select (record { lets = []; body = select_from (changes_tree (layout_in begun.now.trees)) [] the_rowid }) _) (the.rowids_changes_is (layout_in begun.now.trees)).0 (the.rowids_changes_plain (layout_in begun.now.trees)) (the.rowids_changes_is (layout_in begun.now.trees)).1 rows shown).answer Null in
+    ids_shown (changes_tree (layout_in begun.now.trees)) (plainly_changes (layout_in begun.now.trees)) begun.now.trees (map stored_change all.changes) rows h.tables.changes a (none (layout_in begun.now.trees, h.schema))
 
 pub shows_all_changes : (again end : State) (rows : List Row) (all : RowsOf) → Reads again.now all → Shown the.all_changes_text [] again end rows → IsPermutation (map stored_change (filter (λ r. true) all.changes)) rows
 shows_all_changes again end rows all h shown =
-    asked stored_change (λ r. true) (codes "changes") 8 changes_columns (1 ∷ 2 ∷ 3 ∷ 4 ∷ 5 ∷ 6 ∷ []) 4 refl (plainly 8 refl) the.all_changes_text [] again end h.schema the.all_changes_plain [] columns_7 _ the.all_changes_is.0 the.all_changes_is.1
+    asked (layout_in again.now.trees) stored_change (λ r. true) (codes "changes") (changes_tree (layout_in again.now.trees)) changes_columns (1 ∷ 2 ∷ 3 ∷ 4 ∷ 5 ∷ 6 ∷ []) 4 refl (plainly_changes (layout_in again.now.trees)) the.all_changes_text [] again end h.schema (the.all_changes_plain (layout_in again.now.trees)) [] columns_7 _ (the.all_changes_is (layout_in again.now.trees)).0 (the.all_changes_is (layout_in again.now.trees)).1
     (λ r. refl) (shown_7 []) (λ r. refl) (λ _. refl) all.changes rows shown h.tables.changes
 
 -- two lists that a table stores are the same in some order

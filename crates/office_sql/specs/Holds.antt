@@ -1,23 +1,33 @@
 -- When a connection holds rows, and what a call leaves of them.
 use Rattle.std.specs.Prelude.{◌≡◌, true, false, ℤ, [], ◌∷◌, map, IsTrue, IsPermutation}
 use Rattle.sqlite_trees.specs.Tree.{Trees}
-use Rattle.sqlite.specs.Effect.{Database}
+use Rattle.sqlite.specs.Effect.{Database, IsDatabase}
 use Rattle.sqlite.specs.State.{State, HasCleanDisk, Survives, KeepsCommit}
 use Rattle.office_sql.specs.Rows.{RowsOf}
-use Rattle.office_sql.specs.Tables.{office_schema, stored_version, stored_zone, stored_record, stored_receipt, stored_change}
+use Rattle.office_sql.specs.declared.layout.Layout.{Layout}
+use Rattle.office_sql.specs.declared.layout.Layout.TheVariants.{IndexAfterRecords}
+use Rattle.office_sql.specs.Tables.{office_schema, layout_in, receipts_tree, changes_tree, stored_version, stored_zone, stored_record, stored_receipt, stored_change}
 use Rattle.office_sql.specs.Stores.{Stores}
 
--- the trees of the tables have these rows
-pub record AreRows (db : Trees) (rows : RowsOf) : Type 0 where
+-- the trees of the tables have these rows, in a layout
+pub record AreRowsIn (layout : Layout) (db : Trees) (rows : RowsOf) : Type 0 where
   pub versions : Stores (db 0) (map stored_version rows.versions)
   pub zones : Stores (db 1) (map stored_zone rows.zones)
   pub records : Stores (db 3) (map stored_record rows.records)
-  pub receipts : Stores (db 6) (map stored_receipt rows.receipts)
-  pub changes : Stores (db 8) (map stored_change rows.changes)
+  pub receipts : Stores (db (receipts_tree layout)) (map stored_receipt rows.receipts)
+  pub changes : Stores (db (changes_tree layout)) (map stored_change rows.changes)
+
+-- the same in the layout that they list
+abbrev pub AreRows : Trees → RowsOf → Type 0
+AreRows db rows = AreRowsIn (layout_in db) db rows
+
+-- the database has the tables in the layout that it lists, and nothing else
+abbrev pub HasTables : Database → Type 0
+HasTables db = db.schema ≡ office_schema (layout_in db.trees)
 
 -- the database has the tables, and these rows in them
 pub record Reads (db : Database) (rows : RowsOf) : Type 0 where
-  pub schema : db.schema ≡ office_schema
+  pub schema : HasTables db
   pub tables : AreRows db.trees rows
 
 -- What the connection shows was committed. A connection that is shut shows nothing.
@@ -73,9 +83,10 @@ pub record Part (old new : State) (f : RowsOf → RowsOf) : Type 0 where
 abbrev pub Keeps : State → State → Type 0
 Keeps old new = IsTrue new.is_open → IsTrue old.is_open × (new.committed ≡ old.committed) × (old.committed ≡ old.now → new.now ≡ old.now)
 
--- the tables are there, and have no rows
+-- the tables were made, and have no rows
 pub record AreEmpty (db : Database) : Type 0 where
-  pub schema : db.schema ≡ office_schema
+  pub schema : db.schema ≡ office_schema IndexAfterRecords
+  pub sound : IsDatabase db
   pub meta : db.trees 0 ≡ []
   pub zones : db.trees 1 ≡ []
   pub records : db.trees 3 ≡ []

@@ -5,6 +5,7 @@ mod batch;
 mod creation;
 mod files;
 mod from_row;
+mod layout;
 mod lookups;
 mod path;
 mod query;

@@ -7,9 +7,9 @@ ghost use Rattle.sqlite.specs.Effect.{IsDatabase};
 ghost use Rattle.sqlite.specs.Held.{state};
 ghost use Rattle.sqlite.specs.State.{HasCleanDisk, Shows, Shown};
 ghost use Rattle.office_sql.specs.Rows.{RowsOf};
-ghost use Rattle.office_sql.specs.Tables.{office_schema, stored_version, stored_zone, stored_record, stored_receipt, stored_change};
+ghost use Rattle.office_sql.specs.Tables.{IsOffice, layout_in, receipts_tree, changes_tree, stored_version, stored_zone, stored_record, stored_receipt, stored_change};
 ghost use Rattle.office_sql.specs.Stores.{Stores, IsReadableRow};
-ghost use Rattle.office_sql.specs.Holds.{AreRows, Holds, Leaves, OnlyAsks, SameRows};
+ghost use Rattle.office_sql.specs.Holds.{AreRows, HasTables, Holds, Leaves, OnlyAsks, SameRows};
 ghost use Rattle.office_sql.specs.declared.rows_fault.RowsFault.TheVariants.{BadRow};
 
 use crate::from_row::FromRow;
@@ -65,9 +65,9 @@ fn check_rowids<S: Alter>(
     requires { conn.old.in_transaction ≡ false }
     ensures asks { OnlyAsks (state S.Store conn.old) (state S.Store conn.new) }
     ensures same { HasCleanDisk (state S.Store conn.new) → OnOk result (Shows (state S.Store conn.old) (state S.Store conn.new) (state S.Store conn.old).now (state S.Store conn.old).now false) }
-    ensures live { HasCleanDisk (state S.Store conn.new) → OnOk result (((state S.Store conn.new).now.schema ≡ office_schema) × IsDatabase (state S.Store conn.new).now) }
+    ensures live { HasCleanDisk (state S.Store conn.new) → OnOk result (IsOffice (state S.Store conn.new).now.schema × IsDatabase (state S.Store conn.new).now) }
     ensures shown { HasCleanDisk (state S.Store conn.new) → OnOk result ((mid : _) × (ids : List ℤ) × Shown sql.now [] (state S.Store (record conn.old { in_transaction = true })) (state S.Store mid) (map stored_version ids) × IsDistinct int_eq ids) }
-    ensures bad { HasCleanDisk (state S.Store conn.new) → result ≡ Err BadRow → (rows : _) × (mid : _) × Shown sql.now [] (state S.Store (record conn.old { in_transaction = true })) (state S.Store mid) rows × ((state S.Store conn.old).now.schema ≡ office_schema → (ids : List ℤ) → rows ≡ map stored_version ids → IsDistinct int_eq ids → ⊥) }
+    ensures bad { HasCleanDisk (state S.Store conn.new) → result ≡ Err BadRow → (rows : _) × (mid : _) × Shown sql.now [] (state S.Store (record conn.old { in_transaction = true })) (state S.Store mid) rows × (IsOffice (state S.Store conn.old).now.schema → (ids : List ℤ) → rows ≡ map stored_version ids → IsDistinct int_eq ids → ⊥) }
 {
     let ids: Vec<i64> = ask(alloc, conn, sql, &[])?;
     if has_tables(conn) && are_apart(ids) {
@@ -87,12 +87,12 @@ fn all<S: Alter, T: FromRow>(
     requires { conn.old.in_transaction ≡ false }
     ensures asks { OnlyAsks (state S.Store conn.old) (state S.Store conn.new) }
     ensures same { HasCleanDisk (state S.Store conn.new) → OnOk result (Shows (state S.Store conn.old) (state S.Store conn.new) (state S.Store conn.old).now (state S.Store conn.old).now false) }
-    ensures live { HasCleanDisk (state S.Store conn.new) → OnOk result (((state S.Store conn.old).now.schema ≡ office_schema) × IsDatabase (state S.Store conn.old).now) }
+    ensures live { HasCleanDisk (state S.Store conn.new) → OnOk result (IsOffice (state S.Store conn.old).now.schema × IsDatabase (state S.Store conn.old).now) }
     ensures apart { HasCleanDisk (state S.Store conn.new) → OnOk result ((mid : _) × (ids : List ℤ) × Shown rowids.now [] (state S.Store (record conn.old { in_transaction = true })) (state S.Store mid) (map stored_version ids) × IsDistinct int_eq ids) }
     ensures shown { HasCleanDisk (state S.Store conn.new) → IfOk result (λ xs. (begun : _) × (mid : _) × ((state S.Store begun).now ≡ (state S.Store conn.old).now) × Shown columns.now [] (state S.Store begun) (state S.Store mid) (map T.FromRow.stored xs.items)) }
     ensures readable { IfOk result (λ xs. AllByRecursion IsReadableRow (map T.FromRow.stored xs.items)) }
     ensures bad { HasCleanDisk (state S.Store conn.new) → result ≡ Err BadRow
-        → ((rows : _) × (mid : _) × Shown rowids.now [] (state S.Store (record conn.old { in_transaction = true })) (state S.Store mid) rows × ((state S.Store conn.old).now.schema ≡ office_schema → (ids : List ℤ) → rows ≡ map stored_version ids → IsDistinct int_eq ids → ⊥))
+        → ((rows : _) × (mid : _) × Shown rowids.now [] (state S.Store (record conn.old { in_transaction = true })) (state S.Store mid) rows × (IsOffice (state S.Store conn.old).now.schema → (ids : List ℤ) → rows ≡ map stored_version ids → IsDistinct int_eq ids → ⊥))
         ⊎ (IsTrue (state S.Store conn.old).is_open × (rows : _) × (begun : _) × (mid : _) × ((state S.Store begun).now ≡ (state S.Store conn.old).now) × Shown columns.now [] (state S.Store begun) (state S.Store mid) rows × ((xs : List T) → rows ≡ map T.FromRow.stored xs → AllByRecursion IsReadableRow rows → ⊥)) }
 {
     check_rowids(alloc, conn, rowids)?;
@@ -103,7 +103,7 @@ fn all<S: Alter, T: FromRow>(
 /// `BadRow` where the tables are not those of the office or a row cannot have been written here.
 pub fn versions<S: Alter>(alloc: Global, conn: &mut Connection<S>) -> Result<Vec<i64>, RowsFault>
     requires { conn.old.in_transaction ≡ false }
-    ensures found { HasCleanDisk (state S.Store conn.new) → IfOk result (λ xs. ((state S.Store conn.new).now.schema ≡ office_schema) × Stores ((state S.Store conn.new).now.trees 0) (map stored_version xs.items)) }
+    ensures found { HasCleanDisk (state S.Store conn.new) → IfOk result (λ xs. IsOffice (state S.Store conn.new).now.schema × Stores ((state S.Store conn.new).now.trees 0) (map stored_version xs.items)) }
     ensures asks { OnlyAsks (state S.Store conn.old) (state S.Store conn.new) }
     ensures same { HasCleanDisk (state S.Store conn.new) → OnOk result (Shows (state S.Store conn.old) (state S.Store conn.new) (state S.Store conn.old).now (state S.Store conn.old).now false) }
     ensures only { HasCleanDisk (state S.Store conn.new) → OnOk result ((rows : RowsOf) → Holds (state S.Store conn.new) rows → Holds (state S.Store conn.old) rows) }
@@ -120,7 +120,7 @@ pub fn versions<S: Alter>(alloc: Global, conn: &mut Connection<S>) -> Result<Vec
 /// All zones.
 fn all_zones<S: Alter>(alloc: Global, conn: &mut Connection<S>) -> Result<Vec<ZoneRow>, RowsFault>
     requires { conn.old.in_transaction ≡ false }
-    ensures found { HasCleanDisk (state S.Store conn.new) → IfOk result (λ xs. ((state S.Store conn.new).now.schema ≡ office_schema) × Stores ((state S.Store conn.new).now.trees 1) (map stored_zone xs.items)) }
+    ensures found { HasCleanDisk (state S.Store conn.new) → IfOk result (λ xs. HasTables (state S.Store conn.new).now × Stores ((state S.Store conn.new).now.trees 1) (map stored_zone xs.items)) }
     ensures asks { OnlyAsks (state S.Store conn.old) (state S.Store conn.new) }
     ensures same { HasCleanDisk (state S.Store conn.new) → OnOk result (Shows (state S.Store conn.old) (state S.Store conn.new) (state S.Store conn.old).now (state S.Store conn.old).now false) }
     ensures only { HasCleanDisk (state S.Store conn.new) → OnOk result ((rows : RowsOf) → Holds (state S.Store conn.new) rows → Holds (state S.Store conn.old) rows) }
@@ -140,7 +140,7 @@ fn all_records<S: Alter>(
     conn: &mut Connection<S>,
 ) -> Result<Vec<RecordRow>, RowsFault>
     requires { conn.old.in_transaction ≡ false }
-    ensures found { HasCleanDisk (state S.Store conn.new) → IfOk result (λ xs. ((state S.Store conn.new).now.schema ≡ office_schema) × Stores ((state S.Store conn.new).now.trees 3) (map stored_record xs.items)) }
+    ensures found { HasCleanDisk (state S.Store conn.new) → IfOk result (λ xs. HasTables (state S.Store conn.new).now × Stores ((state S.Store conn.new).now.trees 3) (map stored_record xs.items)) }
     ensures asks { OnlyAsks (state S.Store conn.old) (state S.Store conn.new) }
     ensures same { HasCleanDisk (state S.Store conn.new) → OnOk result (Shows (state S.Store conn.old) (state S.Store conn.new) (state S.Store conn.old).now (state S.Store conn.old).now false) }
     ensures only { HasCleanDisk (state S.Store conn.new) → OnOk result ((rows : RowsOf) → Holds (state S.Store conn.new) rows → Holds (state S.Store conn.old) rows) }
@@ -160,7 +160,7 @@ fn all_receipts<S: Alter>(
     conn: &mut Connection<S>,
 ) -> Result<Vec<ReceiptRow>, RowsFault>
     requires { conn.old.in_transaction ≡ false }
-    ensures found { HasCleanDisk (state S.Store conn.new) → IfOk result (λ xs. ((state S.Store conn.new).now.schema ≡ office_schema) × Stores ((state S.Store conn.new).now.trees 6) (map stored_receipt xs.items)) }
+    ensures found { HasCleanDisk (state S.Store conn.new) → IfOk result (λ xs. HasTables (state S.Store conn.new).now × Stores ((state S.Store conn.new).now.trees (receipts_tree (layout_in (state S.Store conn.new).now.trees))) (map stored_receipt xs.items)) }
     ensures asks { OnlyAsks (state S.Store conn.old) (state S.Store conn.new) }
     ensures same { HasCleanDisk (state S.Store conn.new) → OnOk result (Shows (state S.Store conn.old) (state S.Store conn.new) (state S.Store conn.old).now (state S.Store conn.old).now false) }
     ensures only { HasCleanDisk (state S.Store conn.new) → OnOk result ((rows : RowsOf) → Holds (state S.Store conn.new) rows → Holds (state S.Store conn.old) rows) }
@@ -180,7 +180,7 @@ pub fn all_changes<S: Alter>(
     conn: &mut Connection<S>,
 ) -> Result<Vec<ChangeRow>, RowsFault>
     requires { conn.old.in_transaction ≡ false }
-    ensures found { HasCleanDisk (state S.Store conn.new) → IfOk result (λ xs. ((state S.Store conn.new).now.schema ≡ office_schema) × Stores ((state S.Store conn.new).now.trees 8) (map stored_change xs.items)) }
+    ensures found { HasCleanDisk (state S.Store conn.new) → IfOk result (λ xs. HasTables (state S.Store conn.new).now × Stores ((state S.Store conn.new).now.trees (changes_tree (layout_in (state S.Store conn.new).now.trees))) (map stored_change xs.items)) }
     ensures asks { OnlyAsks (state S.Store conn.old) (state S.Store conn.new) }
     ensures same { HasCleanDisk (state S.Store conn.new) → OnOk result (Shows (state S.Store conn.old) (state S.Store conn.new) (state S.Store conn.old).now (state S.Store conn.old).now false) }
     ensures only { HasCleanDisk (state S.Store conn.new) → OnOk result ((rows : RowsOf) → Holds (state S.Store conn.new) rows → Holds (state S.Store conn.old) rows) }

@@ -1,11 +1,12 @@
 //! Whether a schema is that of the tables.
 
-ghost use Rattle.std.specs.Prelude.{◌≡◌, ◌↔◌, [], ◌∷◌, map, true};
+ghost use Rattle.std.specs.Prelude.{◌≡◌, ◌<◌, ◌↔◌, [], ◌∷◌, map, true};
 ghost use Rattle.sqlite.specs.Held.{state};
 ghost use Rattle.sqlite.specs.State.{IsLive};
 ghost use Rattle.sqlite_value.specs.Keys.{plain};
-ghost use Rattle.office_sql.specs.Tables.{strict, keyed, keys_over, IsBare, meta, zones, records, receipts, changes, office_schema, no_schema};
+ghost use Rattle.office_sql.specs.Tables.{strict, keyed, keys_over, IsBare, meta, zones, records, receipts, changes, key_index, records_by_key, receipts_key, changes_key, later_indexes, office_schema, IsOffice, no_schema};
 
+use crate::layout::Layout;
 use sqlite::{Alter, Connection};
 use sqlite_schema::code::Terms;
 use sqlite_schema::schema::{Column, Index, Kind, Schema, Table};
@@ -133,13 +134,13 @@ fn is_records(table: &Table) -> bool
     is_strict(owner_key, b"owner_key", Kind::Blob)
 }
 
-fn is_receipts(table: &Table) -> bool
-    ensures { (result ≡ true) ↔ (table.now ≡ receipts) }
+fn is_receipts(table: &Table, layout: Layout) -> bool
+    ensures { (result ≡ true) ↔ (table.now ≡ receipts layout) }
 {
     let [caller, id, origin, request, reply] = table.columns.as_slice() else {
         return false;
     };
-    if !is_table(table, b"receipts", 6, &[1, 2]) {
+    if !is_table(table, b"receipts", layout.receipts(), &[1, 2]) {
         return false;
     }
     if !is_strict(caller, b"caller", Kind::Text) {
@@ -157,13 +158,13 @@ fn is_receipts(table: &Table) -> bool
     is_strict(reply, b"reply", Kind::Text)
 }
 
-fn is_changes(table: &Table) -> bool
-    ensures { (result ≡ true) ↔ (table.now ≡ changes) }
+fn is_changes(table: &Table, layout: Layout) -> bool
+    ensures { (result ≡ true) ↔ (table.now ≡ changes layout) }
 {
     let [origin, number, side, owner, kind, words, ttl] = table.columns.as_slice() else {
         return false;
     };
-    if !is_table(table, b"changes", 8, &[1, 2, 3, 4, 5, 6]) {
+    if !is_table(table, b"changes", layout.changes(), &[1, 2, 3, 4, 5, 6]) {
         return false;
     }
     if !is_strict(origin, b"origin", Kind::Text) {
@@ -206,51 +207,87 @@ fn is_index(
         && index.is_unique == is_unique
 }
 
-/// Whether these are the indexes of the four keys, and the one by which records are found by the key of their owner.
-fn are_indexes(indexes: &[Index]) -> bool
-    ensures { (result ≡ true) ↔ (indexes.now ≡ office_schema.indexes) }
+/// Whether an index is that of the key of a table, which has the next tree.
+fn is_key(index: &Index, name: &[u8], table: u32, key: &[usize]) -> bool
+    requires { table < 9 }
+    ensures { (result ≡ true) ↔ (index.now ≡ key_index name.now table key.now) }
 {
-    let [of_zones, of_records, by_key, of_receipts, of_changes] = indexes else {
-        return false;
-    };
-    if !is_index(of_zones, b"sqlite_autoindex_zones_1", 2, 1, &[1], true) {
-        return false;
-    }
-    if !is_index(
-        of_records,
-        b"sqlite_autoindex_records_1",
-        4,
-        3,
-        &[1, 2, 3, 4],
-        true,
-    ) {
-        return false;
-    }
-    if !is_index(by_key, b"records_by_key", 5, 3, &[1, 6], false) {
-        return false;
-    }
-    if !is_index(
-        of_receipts,
+    is_index(index, name, table + 1, table, key, true)
+}
+
+fn is_receipts_key(index: &Index, layout: Layout) -> bool
+    ensures { (result ≡ true) ↔ (index.now ≡ receipts_key layout) }
+{
+    is_key(
+        index,
         b"sqlite_autoindex_receipts_1",
-        7,
-        6,
+        layout.receipts(),
         &[1, 2],
-        true,
-    ) {
-        return false;
-    }
-    is_index(
-        of_changes,
-        b"sqlite_autoindex_changes_1",
-        9,
-        8,
-        &[1, 2, 3, 4, 5, 6],
-        true,
     )
 }
 
-fn is_office(schema: &Schema) -> bool
-    ensures { (result ≡ true) ↔ (schema.now ≡ office_schema) }
+fn is_changes_key(index: &Index, layout: Layout) -> bool
+    ensures { (result ≡ true) ↔ (index.now ≡ changes_key layout) }
+{
+    is_key(
+        index,
+        b"sqlite_autoindex_changes_1",
+        layout.changes(),
+        &[1, 2, 3, 4, 5, 6],
+    )
+}
+
+/// Whether an index is that by which records are found by the key of their owner.
+fn is_records_by_key(index: &Index, layout: Layout) -> bool
+    ensures { (result ≡ true) ↔ (index.now ≡ records_by_key layout) }
+{
+    is_index(
+        index,
+        b"records_by_key",
+        layout.records_by_key(),
+        3,
+        &[1, 6],
+        false,
+    )
+}
+
+/// Whether these are the indexes behind those of the keys of `zones` and `records`.
+fn are_later(third: &Index, fourth: &Index, fifth: &Index, layout: Layout) -> bool
+    ensures { (result ≡ true) ↔ (third.now ∷ fourth.now ∷ fifth.now ∷ [] ≡ later_indexes layout) }
+{
+    match layout {
+        Layout::IndexAfterRecords => {
+            is_records_by_key(third, layout)
+                && is_receipts_key(fourth, layout)
+                && is_changes_key(fifth, layout)
+        }
+        Layout::IndexLast => {
+            is_receipts_key(third, layout)
+                && is_changes_key(fourth, layout)
+                && is_records_by_key(fifth, layout)
+        }
+    }
+}
+
+/// Whether these are the indexes of the four keys, and the one by which records are found by the key of their owner.
+fn are_indexes(indexes: &[Index], layout: Layout) -> bool
+    ensures { (result ≡ true) ↔ (indexes.now ≡ (office_schema layout).indexes) }
+{
+    let [of_zones, of_records, third, fourth, fifth] = indexes else {
+        return false;
+    };
+    if !is_key(of_zones, b"sqlite_autoindex_zones_1", 1, &[1]) {
+        return false;
+    }
+    if !is_key(of_records, b"sqlite_autoindex_records_1", 3, &[1, 2, 3, 4]) {
+        return false;
+    }
+    are_later(third, fourth, fifth, layout)
+}
+
+/// Whether a schema is that of the tables in a layout.
+fn is_laid_out(schema: &Schema, layout: Layout) -> bool
+    ensures { (result ≡ true) ↔ (schema.now ≡ office_schema layout) }
 {
     let [meta, zones, records, receipts, changes] = schema.tables.as_slice() else {
         return false;
@@ -264,21 +301,27 @@ fn is_office(schema: &Schema) -> bool
     if !is_records(records) {
         return false;
     }
-    if !is_receipts(receipts) {
+    if !is_receipts(receipts, layout) {
         return false;
     }
-    if !is_changes(changes) {
+    if !is_changes(changes, layout) {
         return false;
     }
-    if !are_indexes(schema.indexes.as_slice()) {
+    if !are_indexes(schema.indexes.as_slice(), layout) {
         return false;
     }
     schema.views.is_empty()
 }
 
-/// Whether the connection shows the tables and nothing else.
+fn is_office(schema: &Schema) -> bool
+    ensures { (result ≡ true) ↔ IsOffice schema.now }
+{
+    is_laid_out(schema, Layout::IndexAfterRecords) || is_laid_out(schema, Layout::IndexLast)
+}
+
+/// Whether the connection shows the tables and nothing else, in either layout.
 pub fn has_tables<S: Alter>(conn: &Connection<S>) -> bool
-    ensures known { (result ≡ true) ↔ ((state S.Store conn.now).now.schema ≡ office_schema) }
+    ensures known { (result ≡ true) ↔ IsOffice (state S.Store conn.now).now.schema }
     // Its rows obey it.
     ensures live { IsLive (state S.Store conn.now) }
 {

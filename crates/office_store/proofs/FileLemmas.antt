@@ -10,6 +10,7 @@ use Rattle.office_core.specs.States.{State}
 use Rattle.office_sql.specs.Holds.{AreRows, Keeps, Leaves}
 use Rattle.office_sql.specs.Stores.{Stores}
 use Rattle.office_sql.specs.Tables.{stored_version}
+use Rattle.office_sql.proofs.Layouts.{reads_so}
 use Rattle.office_store.specs.Queries.{Only}
 use Rattle.office_store.specs.Files.{AreOfVersion, HoldStateIn, HoldVersionIn, ShowsStill}
 use Rattle.office_store.specs.Holds.{HasVersion, HoldsState, IsStateIn}
@@ -26,7 +27,7 @@ module _ (image : Image) (first : Shown) (opens : Opens first) (finds : FindsIn 
       record {
         rows = held.rows.0;
         are = held.rows.1;
-        held = λ is_open. (record { schema = held.tables first.now (live is_open).0 now; tables = subst (λ trees. AreRows trees held.rows.0) (sym now) held.rows.2 }, sym opens.clean);
+        held = λ is_open. (reads_so first.now held.rows.0 (live is_open).0 (held.tables first.now (live is_open).0 now) (subst (λ trees. AreRows trees held.rows.0) (sym now) held.rows.2), sym opens.clean);
       }
 
   -- a state that is shown after it was asked for is one of the files

@@ -8,12 +8,12 @@ use Rattle.sqlite.specs.Start.{FindsIn}
 use Rattle.sqlite.specs.State.{State as Shown}
 use Rattle.office_core.specs.States.{State}
 use Rattle.office_sql.specs.Stores.{Stores}
-use Rattle.office_sql.specs.Tables.{office_schema, stored_version}
+use Rattle.office_sql.specs.Tables.{IsOffice, stored_version}
 use Rattle.office_store.specs.Holds.{IsStateIn}
 
 -- trees that list the tables of the office, and no others
 abbrev pub ListTables : Trees → Type 0
-ListTables trees = (db : Database) → IsDatabase db → db.trees ≡ trees → db.schema ≡ office_schema
+ListTables trees = (db : Database) → IsDatabase db → db.trees ≡ trees → IsOffice db.schema
 
 -- The files recover to a database of the office's tables, and `meta` says by one row that they are of version 2.
 pub record HoldVersionIn (image : Image) : Type 0 where
@@ -24,7 +24,7 @@ pub record HoldVersionIn (image : Image) : Type 0 where
 
 -- These trees are a database of the office's tables, of version 2.
 pub record AreOfVersion (trees : Trees) : Type 0 where
-  pub tables : (db : Database) × IsDatabase db × (db.trees ≡ trees) × (db.schema ≡ office_schema)
+  pub tables : (db : Database) × IsDatabase db × (db.trees ≡ trees) × IsOffice db.schema
   pub version : Stores (trees 0) (map stored_version (pos 2 ∷ []))
 
 -- An open connection shows what the files held.

@@ -4,7 +4,7 @@ use Rattle.sqlite_trees.specs.Tree.{Trees}
 use Rattle.sqlite.specs.State.{State as Shown}
 use Rattle.office_core.specs.States.{State}
 use Rattle.office_sql.specs.Rows.{RowsOf}
-use Rattle.office_sql.specs.Tables.{no_schema, office_schema, stored_version}
+use Rattle.office_sql.specs.Tables.{no_schema, IsOffice, stored_version}
 use Rattle.office_sql.specs.Stores.{Stores}
 use Rattle.office_sql.specs.Holds.{AreRows, Holds, Leaves}
 use Rattle.office_rows.specs.Contents.{AreOfState}
@@ -27,7 +27,7 @@ LeavesStates conn s t = Leaves conn (λ db. IsStateIn db s ⊎ IsStateIn db t)
 
 -- the tables are there, and say by one row that they are of a version
 abbrev pub IsOfVersion : ℤ → Shown → Type 0
-IsOfVersion version conn = (conn.now.schema ≡ office_schema) × Stores (conn.now.trees 0) (map stored_version (version ∷ []))
+IsOfVersion version conn = IsOffice conn.now.schema × Stores (conn.now.trees 0) (map stored_version (version ∷ []))
 
 -- of version 2
 abbrev pub HasVersion : Shown → Type 0

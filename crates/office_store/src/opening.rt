@@ -7,7 +7,7 @@ ghost use Rattle.sqlite.specs.State.{HasCleanDisk};
 ghost use Rattle.office_core.specs.States.{State};
 ghost use Rattle.office_sql.specs.Holds.{Holds, Keeps, Leaves};
 ghost use Rattle.office_sql.specs.Rows.{RowsOf};
-ghost use Rattle.office_sql.specs.Tables.{no_schema, office_schema};
+ghost use Rattle.office_sql.specs.Tables.{no_schema, IsOffice};
 ghost use Rattle.office_rows.specs.Batches.{nothing_held};
 ghost use Rattle.office_rows.specs.declared.store_fault.StoreFault.TheVariants.{BadRow, WrongVersion};
 ghost use Rattle.office_rows.specs.StoreFaults.{IsFailure, IsOfRows, of_found};
@@ -68,9 +68,9 @@ pub(crate) fn found(fault: RowsFault) -> StoreFault
 /// Tells whether an open connection shows the tables.
 fn check_tables<S: Alter>(conn: &mut Connection<S>) -> Result<(), StoreFault>
     requires { conn.old.in_transaction ≡ false }
-    ensures tables { OnOk result ((state S.Store conn.old).now.schema ≡ office_schema) }
+    ensures tables { OnOk result (IsOffice (state S.Store conn.old).now.schema) }
     ensures same { OnOk result (conn.new ≡ conn.old) }
-    ensures wrong { result ≡ Err WrongVersion → (state S.Store conn.old).now.schema ≢ office_schema }
+    ensures wrong { result ≡ Err WrongVersion → ¬ IsOffice (state S.Store conn.old).now.schema }
     ensures good { HasCleanDisk (state S.Store conn.new) → IfErr result (λ e. (rows : RowsOf) → Holds (state S.Store conn.old) rows → IsFailure e) }
     ensures named { IfErr result (λ e. (e ≡ WrongVersion) ⊎ IsFailure e) }
     ensures asked { Asked (state S.Store conn.old) (state S.Store conn.new) }
@@ -94,7 +94,7 @@ pub(crate) fn check_version<S: Alter>(
     requires { conn.old.in_transaction ≡ false }
     ensures version { HasCleanDisk (state S.Store conn.new) → OnOk result (IsOfVersion version (state S.Store conn.old)) }
     ensures wrong { HasCleanDisk (state S.Store conn.new) → result ≡ Err WrongVersion → ¬ IsOfVersion version (state S.Store conn.old) }
-    ensures tables { OnOk result ((state S.Store conn.old).now.schema ≡ office_schema) }
+    ensures tables { OnOk result (IsOffice (state S.Store conn.old).now.schema) }
     ensures good { HasCleanDisk (state S.Store conn.new) → IfErr result (λ e. (rows : RowsOf) → IsPermutation (version ∷ []) rows.versions → Holds (state S.Store conn.old) rows → IsFailure e) }
     ensures named { IfErr result (λ e. (e ≡ WrongVersion) ⊎ IsFailure e) }
     ensures asks { AsksOnly (state S.Store conn.old) (state S.Store conn.new) result }
@@ -141,7 +141,7 @@ pub(crate) fn check_state<S: Alter>(
     ensures good { HasCleanDisk (state S.Store conn.new) → IfErr result (λ e. (s : State) → HoldsState (state S.Store conn.old) s → IsFailure e) }
     ensures wrong { HasCleanDisk (state S.Store conn.new) → result ≡ Err WrongVersion → ¬ HasVersion (state S.Store conn.old) }
     ensures bad { HasCleanDisk (state S.Store conn.new) → result ≡ Err BadRow → HasVersion (state S.Store conn.old) }
-    ensures tables { result ≡ Err BadRow → (state S.Store conn.old).now.schema ≡ office_schema }
+    ensures tables { result ≡ Err BadRow → IsOffice (state S.Store conn.old).now.schema }
     ensures named { IfErr result (λ e. (e ≡ WrongVersion) ⊎ IsOfRows e) }
     ensures asks { AsksOnly (state S.Store conn.old) (state S.Store conn.new) result }
     ensures shown { Keeps (state S.Store conn.old) (state S.Store conn.new) }

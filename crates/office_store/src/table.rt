@@ -6,7 +6,7 @@ ghost use Rattle.sqlite.specs.State.{HasCleanDisk};
 ghost use Rattle.office_core.specs.States.{State};
 ghost use Rattle.office_core.specs.Tables.{CountsFault};
 ghost use Rattle.office_sql.specs.Holds.{Keeps, Leaves};
-ghost use Rattle.office_sql.specs.Tables.{no_schema, office_schema};
+ghost use Rattle.office_sql.specs.Tables.{no_schema, IsOffice};
 ghost use Rattle.office_rows.specs.Contents.{ContentOf};
 ghost use Rattle.office_rows.specs.Batches.{nothing_held};
 ghost use Rattle.office_rows.specs.declared.store_fault.StoreFault.TheVariants.{BadRow, WrongVersion};
@@ -154,7 +154,7 @@ impl<S: Alter + Drop, L: Ledger> SqlTable<S, L> {
         ensures wrong { IfErr result (λ refused. HasCleanDisk (state S.Store refused.conn) → refused.fault ≡ WrongVersion → ¬ HasVersion (state S.Store conn)) }
         // It comes only over tables of this version.
         ensures bad { IfErr result (λ refused. HasCleanDisk (state S.Store refused.conn) → refused.fault ≡ BadRow → HasVersion (state S.Store conn)) }
-        ensures tables { IfErr result (λ refused. refused.fault ≡ BadRow → (state S.Store conn).now.schema ≡ office_schema) }
+        ensures tables { IfErr result (λ refused. refused.fault ≡ BadRow → IsOffice (state S.Store conn).now.schema) }
         ensures named { IfErr result (λ refused. (refused.fault ≡ WrongVersion) ⊎ IsOfRows refused.fault) }
         // Behind a refusal all is as it was, whatever the tables are, and a crash leaves what was committed.
         ensures same { IfErr result (λ refused. Asked (state S.Store conn) (state S.Store refused.conn)) }

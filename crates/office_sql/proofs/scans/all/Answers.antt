@@ -1,8 +1,8 @@
-use Rattle.std.proofs.Common.{◌≡◌, true, inr, subst}
+use Rattle.std.proofs.Common.{true, inr, subst}
 use Rattle.sqlite.specs.Effect.{Database, IsDatabase}
 use Rattle.sqlite.specs.Held.{state}
 use Rattle.sqlite.specs.State.{HasCleanDisk}
-use Rattle.office_sql.specs.Tables.{office_schema}
+use Rattle.office_sql.specs.Tables.{IsOffice}
 use Rattle.office_sql.proofs.Commits.{asks_then, shows_then, on_ok, if_ok_then}
 use Rattle.office_sql.proofs.TransactionParts.{on_part}
 use Rattle.office_sql.proofs.scans.all.Goals as goal
@@ -18,7 +18,7 @@ returns-clause-same g c clean =
 pub returns-clause-live : goal.returns-clause-live
 returns-clause-live g c clean =
     let early : HasCleanDisk (state g.S.Store c.check_rowids.new.conn) = c.ask.ensures.asks.honest clean in
-    on_ok c.ask.result _ (subst (λ (d : Database). (d.schema ≡ office_schema) × IsDatabase d) (c.in_ok-check_rowids.ensures.same early).now_is (c.in_ok-check_rowids.ensures.live early))
+    on_ok c.ask.result _ (subst (λ (d : Database). IsOffice d.schema × IsDatabase d) (c.in_ok-check_rowids.ensures.same early).now_is (c.in_ok-check_rowids.ensures.live early))
 
 pub returns-clause-apart : goal.returns-clause-apart
 returns-clause-apart g c clean =

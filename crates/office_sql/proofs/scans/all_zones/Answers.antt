@@ -1,12 +1,13 @@
 use Rattle.std.proofs.Common.{inl, inr, ◌∙◌, true, [], map, sym, ap, subst, refl}
 use Rattle.sqlite.specs.Effect.{Database}
 use Rattle.sqlite.specs.Held.{state}
-use Rattle.office_sql.specs.Tables.{stored_zone}
+use Rattle.office_sql.specs.Tables.{layout_in, stored_zone}
 use Rattle.office_sql.specs.Stores.{Stores}
-use Rattle.office_sql.specs.Holds.{Reads}
+use Rattle.office_sql.specs.Holds.{HasTables, Reads}
 use Rattle.office_sql.proofs.Queries.{shown_keeps}
 use Rattle.office_sql.proofs.Commits.{if_ok_all, held_before}
 use Rattle.office_sql.proofs.TransactionParts.{on_part}
+use Rattle.office_sql.proofs.Layouts.{has_tables}
 use Rattle.office_sql.proofs.Selections.{never_bad_rows}
 use Rattle.office_sql.proofs.Texts.{rowids_zones_text}
 use Rattle.office_sql.proofs.WholeTables.{all_zones, never_bad_zones, shows_all_zones}
@@ -15,11 +16,11 @@ use Rattle.office_sql.proofs.scans.all_zones.Goals as goal
 pub returns-clause-found : goal.returns-clause-found
 returns-clause-found g c clean =
     let begun = state g.S.Store (record c.args.conn.now { in_transaction = true }) in
-    if_ok_all c.all.result _ _ _ _ _ _ (c.all.ensures.live clean) (c.all.ensures.apart clean) (c.all.ensures.same clean) (c.all.ensures.shown clean) c.all.ensures.readable (λ xs live apart same shown readable. (
-      ap (λ (d : Database). d.schema) same.now_is ∙ live.0,
-      subst (λ (d : Database). Stores (d.trees 1) (map stored_zone xs.items)) (sym same.now_is)
-          (all_zones begun (state g.S.Store apart.0) (state g.S.Store shown.0) (state g.S.Store shown.1) apart.1 xs.items live.0 live.1 shown.2 apart.2 apart.3 shown.3 readable),
-    ))
+    if_ok_all c.all.result _ _ _ _ _ _ (c.all.ensures.live clean) (c.all.ensures.apart clean) (c.all.ensures.same clean) (c.all.ensures.shown clean) c.all.ensures.readable (λ xs live apart same shown readable.
+    let old = (state g.S.Store c.args.conn.now).now in
+    let has = has_tables old live.1 live.0 in
+    let stores = all_zones (layout_in old.trees) begun (state g.S.Store apart.0) (state g.S.Store shown.0) (state g.S.Store shown.1) apart.1 xs.items has live.1 shown.2 apart.2 apart.3 shown.3 readable in
+    subst (λ (d : Database). HasTables d × Stores (d.trees 1) (map stored_zone xs.items)) (sym same.now_is) (has, stores))
 
 pub returns-clause-only : goal.returns-clause-only
 returns-clause-only g c clean =

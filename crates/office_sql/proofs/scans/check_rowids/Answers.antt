@@ -28,6 +28,6 @@ returns-else-has_tables-clause-bad g c clean is =
       h.1,
       (λ schema ids same distinct. elim c.else-has_tables.branch [
         | else-has_tables-via-then-has_tables+else-are_apart w ↦ (let yes = w.are_apart.ensures.1 (subst (IsDistinct int_eq) (sym (numbers_same c.in_ok-ids.ids.items ids same)) distinct) in absurd cc)
-        | else-has_tables-via-else-has_tables w ↦ (let yes = c.has_tables.ensures.known.1 (ap (λ (d : Database). d.schema) now ∙ schema) in absurd cc)
+        | else-has_tables-via-else-has_tables w ↦ (let yes = c.has_tables.ensures.known.1 (schema.0, ap (λ (d : Database). d.schema) now ∙ schema.1) in absurd cc)
       ]),
     )

@@ -16,9 +16,9 @@ pub returns-clause-found : goal.returns-clause-found
 returns-clause-found g c clean =
     let begun = state g.S.Store (record c.args.conn.now { in_transaction = true }) in
     if_ok_all c.all.result _ _ _ _ _ _ (c.all.ensures.live clean) (c.all.ensures.apart clean) (c.all.ensures.same clean) (c.all.ensures.shown clean) c.all.ensures.readable (λ xs live apart same shown readable. (
-      ap (λ (d : Database). d.schema) same.now_is ∙ live.0,
+      (live.0.0, ap (λ (d : Database). d.schema) same.now_is ∙ live.0.1),
       subst (λ (d : Database). Stores (d.trees 0) (map stored_version xs.items)) (sym same.now_is)
-          (all_meta begun (state g.S.Store apart.0) (state g.S.Store shown.0) (state g.S.Store shown.1) apart.1 xs.items live.0 live.1 shown.2 apart.2 apart.3 shown.3 readable),
+          (all_meta live.0.0 begun (state g.S.Store apart.0) (state g.S.Store shown.0) (state g.S.Store shown.1) apart.1 xs.items live.0.1 live.1 shown.2 apart.2 apart.3 shown.3 readable),
     ))
 
 pub returns-clause-only : goal.returns-clause-only

@@ -16,6 +16,10 @@ returns c =
     let two = c.is_strict-2.ensures.0 t2 in
     let three = c.is_strict-3.ensures.0 t3 in
     let four = c.is_strict-4.ensures.0 t4 in (
-      (λ last. let all_five = c.is_strict-5.ensures.0 last in c.is_table.ensures.0 t0 ∙ ap (λ cs. keyed (codes "receipts") 6 cs (1 ∷ 2 ∷ [])) (sym c.as_slice.ensures ∙ (rw (one, two, three, four, all_five) at same))),
+      (λ last.
+          let all_five = c.is_strict-5.ensures.0 last in
+          let table = c.is_table.ensures.0 t0 in
+          let is = table ∙ ap (λ cs. keyed (codes "receipts") c.receipts.result cs (1 ∷ 2 ∷ [])) (sym c.as_slice.ensures ∙ (rw (one, two, three, four, all_five) at same)) in
+          rw c.receipts.ensures.tree at is),
       (λ e. c.is_strict-5.ensures.1 (ap (λ l. get_or l 4 c.reply-item.result) (sym same ∙ c.as_slice.ensures ∙ ap (λ (t : Table). t.columns) e))),
     )

@@ -1,5 +1,7 @@
 use Rattle.std.proofs.Common.{◌≡◌, true, false, pos, sym, ◌∙◌}
+use Rattle.sqlite.specs.Held.{state}
 use Rattle.office_rows.proofs.StateLaws.{order_does_not_count}
+use Rattle.office_store.proofs.QueryLemmas.{asked_once, only_of}
 use Rattle.office_store.proofs.opening.check_rows.Goals as goal
 
 pub returns-else-is_one-clause-good : goal.returns-else-is_one-clause-good
@@ -7,3 +9,9 @@ returns-else-is_one-clause-good g c = λ clean s h.
     let one = c.in_ok-is_one-in-Ok.ensures.1 (s, order_does_not_count (pos 2) h.rows c.in-Ok.rows s h.are (c.in-Ok.ensures.answer clean h.rows h.held)) in
     let both : true ≡ false = sym one ∙ c.if-is_one.false in
     cc
+
+pub returns-then-is_one-clause-asks : goal.returns-then-is_one-clause-asks
+returns-then-is_one-clause-asks g c =
+    let old = state g.S.Store c.args.conn.now in
+    let new = state g.S.Store c.all_rows.new.conn in
+    (asked_once old new c.all_rows.ensures.asks, λ clean. only_of old new (c.in-Ok.ensures.only clean))

@@ -7,7 +7,7 @@ use Rattle.office_sql.specs.Tables.{stored_version}
 use Rattle.office_sql.specs.Stores.{Stores}
 use Rattle.office_store.specs.Holds.{IsOfVersion}
 use Rattle.office_sql.specs.Holds.{Holds}
-use Rattle.office_store.proofs.QueryLemmas.{asked_more, only_of}
+use Rattle.office_store.proofs.QueryLemmas.{asked_more, asks_refused, only_of}
 use Rattle.office_store.proofs.VersionLemmas.{one_version}
 use Rattle.office_store.proofs.opening.check_version.Goals as goal
 
@@ -42,3 +42,14 @@ returns-clause-asks g c =
       asked_more old mid new c.check_tables.ensures.asked c.versions.ensures.asks,
       λ clean. only_of old new (λ rows h. subst (λ q. Holds (state g.S.Store q) rows) c.in_ok-check_tables.ensures.same (c.in_ok-versions.ensures.only clean rows h)),
     )
+
+pub returns-in_err-versions-clause-asks : goal.returns-in_err-versions-clause-asks
+returns-in_err-versions-clause-asks g c =
+    let old = state g.S.Store c.args.conn.now in
+    let mid = state g.S.Store c.check_tables.new.conn in
+    let new = state g.S.Store c.versions.new.conn in
+    asks_refused old new c.from_residual-in_err-versions.result c.from_residual-in_err-versions.ensures.0 (asked_more old mid new c.check_tables.ensures.asked c.versions.ensures.asks)
+
+pub returns-then-not-is_alone-clause-asks : goal.returns-then-not-is_alone-clause-asks
+returns-then-not-is_alone-clause-asks g c =
+    (asked_more (state g.S.Store c.args.conn.now) (state g.S.Store c.check_tables.new.conn) (state g.S.Store c.versions.new.conn) c.check_tables.ensures.asked c.versions.ensures.asks, λ clean. tt)

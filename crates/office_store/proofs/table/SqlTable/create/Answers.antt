@@ -1,0 +1,7 @@
+use Rattle.sqlite.specs.Held.{state}
+use Rattle.office_rows.specs.Batches.{nothing_held}
+use Rattle.office_store.proofs.CacheLemmas.{fits_held}
+use Rattle.office_store.proofs.table.SqlTable.create.Goals as goal
+
+pub over-requires-clause-fits : goal.over-requires-clause-fits
+over-requires-clause-fits g c = fits_held (state g.S.Store c.make.new.conn) (λ clean. (nothing_held, c.in-Ok.ensures.made))
