@@ -19,7 +19,7 @@ use Rattle.command_line.specs.declared.job.ZoneForm.TheVariants.{Whole, Relative
 use Rattle.command_line.specs.declared.job.TextForm.{TextForm}
 use Rattle.command_line.specs.declared.job.TextForm.TheVariants.{Plain, Json}
 use Rattle.command_line.specs.PlainForms.{IsNumberGiven, IsPlain, IsValue, IsValueIfGiven, diff_form_words, existing_words, form_words, given, place_words, zone_form_words}
-use Rattle.command_line.specs.Words.{JobOf, apply, canon, diff, request, files_at, imports, export, migrate, rights, serve, check_policy, explain, job_by, job_of, stored_at}
+use Rattle.command_line.specs.Words.{JobOf, apply, canon, diff, request, files_at, imports, export, migrate, rights, serve, check_policy, check_isolation, explain, job_by, job_of, stored_at}
 use Rattle.command_line.proofs.CommandLemmas.{job_of_command, no_words, place_walked, rows_from, rules_of, standing, value_walked}
 
 -- ---- steps
@@ -185,6 +185,20 @@ check_read : (p : Text) → IsValue p → job_from command.Check (codes "policy"
 unfolding clap_on_literals
 check_read p is = option_read_behind command.Check 2 policy_named argument.Policy p [] is refl
 
+-- what is held after `isolation` and the word of the first option, and after its value and the word of the second
+abbrev isolation_named : Held
+isolation_named = (walked (rules_of command.Check) [] (standing 2 (placed command.Check 1 start argument.Subject (codes "isolation")) idle) (codes "--" ++ argument_name argument.Policy)).held
+
+abbrev isolated_named : Text → Held
+isolated_named p = (walked (rules_of command.Check) [] (standing 2 (pushed (argument_name argument.Policy) p isolation_named) idle) (codes "--" ++ argument_name argument.Isolated)).held
+
+isolation_read : (p q : Text) → IsValue p → IsValue q
+    → job_from command.Check (codes "isolation" ∷ (given argument.Policy p ++ given argument.Isolated q)) (walk_from start) ≡ Some (check_isolation p q)
+unfolding clap_on_literals
+isolation_read p q is_p is_q =
+    option_read_behind command.Check 2 isolation_named argument.Policy p (given argument.Isolated q) is_p refl
+    ∙ option_read_behind command.Check 2 (isolated_named p) argument.Isolated q [] is_q refl
+
 explain_read : (n : Option Text) (form : TextForm) → IsValueIfGiven n
     → job_from command.Explain (place_words n ++ form_words form) (walk_from start) ≡ Some (explain n form)
 unfolding clap_on_literals
@@ -212,4 +226,5 @@ plain_read words (serve s p l n w) is =
     ap job_of is.7 ∙ (job_of_command command.Serve _ ∙ (needed_read s p l is.0 is.1 is.2 (is.3 ++ is.5)
     ∙ numbers_read s p l is.0 is.1 is.2 n w is.3 is.5 is.4 is.6))
 plain_read words (check_policy p) is = ap job_of is.1 ∙ (job_of_command command.Check _ ∙ check_read p is.0)
+plain_read words (check_isolation p q) is = ap job_of is.2 ∙ (job_of_command command.Check _ ∙ isolation_read p q is.0 is.1)
 plain_read words (explain n form) is = ap job_of is.1 ∙ (job_of_command command.Explain _ ∙ explain_read n form is.0)

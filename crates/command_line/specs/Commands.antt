@@ -7,7 +7,7 @@ use Rattle.clap.specs.declared.builder.value_parser.ValueParser.TheVariants as v
 use Rattle.command_line.specs.declared.argument.Argument.{Argument}
 use Rattle.command_line.specs.declared.argument.Argument.TheVariants as argument
 use Rattle.command_line.specs.declared.argument.Form.{Form}
-use Rattle.command_line.specs.declared.argument.Form.TheVariants.{Needed, Number, Flag, Place, OptionalPlace}
+use Rattle.command_line.specs.declared.argument.Form.TheVariants.{Needed, Number, Flag, Optional, Place, OptionalPlace}
 use Rattle.command_line.specs.declared.command.Command.{Command}
 use Rattle.command_line.specs.declared.command.Command.TheVariants as command
 
@@ -29,6 +29,7 @@ argument_row argument.Connections = (codes "connections", Number)
 argument_row argument.Patience = (codes "patience", Number)
 argument_row argument.Number = (codes "number", OptionalPlace)
 argument_row argument.Subject = (codes "subject", Place)
+argument_row argument.Isolated = (codes "caller", Optional)
 argument_row argument.Json = (codes "json", Flag)
 argument_row argument.Guard = (codes "guard", Flag)
 argument_row argument.Old = (codes "old", Place)
@@ -56,7 +57,7 @@ command_row command.Rights =
     (codes "rights", argument.Policy ∷ argument.Caller ∷ argument.Name ∷ argument.Type ∷ argument.Action ∷ [])
 command_row command.Serve =
     (codes "serve", argument.Store ∷ argument.Policy ∷ argument.Listen ∷ argument.Connections ∷ argument.Patience ∷ [])
-command_row command.Check = (codes "check", argument.Subject ∷ argument.Policy ∷ [])
+command_row command.Check = (codes "check", argument.Subject ∷ argument.Policy ∷ argument.Isolated ∷ [])
 command_row command.Explain = (codes "explain", argument.Number ∷ argument.Json ∷ [])
 
 abbrev pub command_word : Command → Text
@@ -80,6 +81,7 @@ abbrev pub in_form : Form → Text → Rule → Rule
 in_form Needed name r = record r { long = Some name; required = true; action = Some Set }
 in_form Number name r = record r { long = Some name; action = Some Set; parser = Some (value.Unsigned 0 18446744073709551615) }
 in_form Flag name r = record r { long = Some name; action = Some SetTrue }
+in_form Optional name r = record r { long = Some name; action = Some Set }
 in_form Place name r = record r { required = true; action = Some Set }
 in_form OptionalPlace name r = record r { action = Some Set }
 

@@ -4,7 +4,7 @@ use Rattle.std.specs.Str.{bytes_eq}
 use Rattle.clap.specs.Words.{Text}
 use Rattle.clap.specs.Lexer.{long_of, short_of}
 use Rattle.command_line.specs.Commands.{argument_name}
-use Rattle.command_line.specs.Words.{JobOf, apply, canon, diff, request, imports, export, migrate, rights, serve, check_policy, explain, number_in}
+use Rattle.command_line.specs.Words.{JobOf, apply, canon, diff, request, imports, export, migrate, rights, serve, check_policy, check_isolation, explain, number_in}
 use Rattle.command_line.specs.declared.argument.Argument.{Argument}
 use Rattle.command_line.specs.declared.argument.Argument.TheVariants as argument
 use Rattle.command_line.specs.declared.job.Existing.{Existing}
@@ -81,4 +81,6 @@ IsPlain words (serve store policy listen connections patience) = IsValue store �
     × (ws : List Text) × IsNumberGiven argument.Patience patience ws
     × (words ≡ codes "serve" ∷ (given argument.Store store ++ given argument.Policy policy ++ given argument.Listen listen ++ ns ++ ws))
 IsPlain words (check_policy policy) = IsValue policy × (words ≡ codes "check" ∷ codes "policy" ∷ given argument.Policy policy)
+IsPlain words (check_isolation policy caller) = IsValue policy × IsValue caller
+    × (words ≡ codes "check" ∷ codes "isolation" ∷ (given argument.Policy policy ++ given argument.Isolated caller))
 IsPlain words (explain number form) = IsValueIfGiven number × (words ≡ codes "explain" ∷ (place_words number ++ form_words form))

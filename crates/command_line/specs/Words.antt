@@ -46,6 +46,7 @@ pub data JobOf : Type 0 where
   rights : (policy caller name record_type action : Text) → JobOf
   serve : (store policy listen : Text) → (connections patience : Option ℕ) → JobOf
   check_policy : (policy : Text) → JobOf
+  check_isolation : (policy caller : Text) → JobOf
   explain : (number : Option Text) → TextForm → JobOf
 
 abbrev pub zone_asked : StoredZone → StoredOf
@@ -65,6 +66,7 @@ asks (job.Migrate store) = migrate store.now
 asks (job.Rights policy asked) = rights policy.now asked.caller.now asked.name.now asked.record_type.now asked.action.now
 asks (job.Serve service) = serve service.store.now service.policy.now service.listen.now service.connections service.patience
 asks (job.CheckPolicy policy) = check_policy policy.now
+asks (job.CheckIsolation policy caller) = check_isolation policy.now caller.now
 asks (job.Explain number form) = explain (option_map (λ n. n.now) number) form
 
 -- ---- what words ask for
@@ -148,10 +150,15 @@ serve_of rows =
 abbrev pub checked_of : List Row → Option JobOf
 checked_of rows = option_map (λ p. check_policy p) (first_of (argument_name argument.Policy) rows)
 
--- what is checked is the policy
+abbrev pub isolated_of : List Row → Option JobOf
+isolated_of rows =
+    option_and_then (λ p. option_map (λ c. check_isolation p c) (first_of (argument_name argument.Isolated) rows))
+    (first_of (argument_name argument.Policy) rows)
+
+-- what is checked is the policy, or the isolation of a caller
 abbrev pub check_if : Option Text → List Row → Option JobOf
 check_if None rows = None
-check_if (Some t) rows = if bytes_eq t (codes "policy") then checked_of rows else None
+check_if (Some t) rows = if bytes_eq t (codes "policy") then checked_of rows else (if bytes_eq t (codes "isolation") then isolated_of rows else None)
 
 abbrev pub check_of : List Row → Option JobOf
 check_of rows = check_if (first_of (argument_name argument.Subject) rows) rows

@@ -24,6 +24,7 @@ pub enum Argument {
     Patience,
     Number,
     Subject,
+    Isolated,
     Json,
     Guard,
     Old,
@@ -40,6 +41,8 @@ pub enum Form {
     Number,
     /// `--name`, which may be left out.
     Flag,
+    /// `--name VALUE`, which may be left out.
+    Optional,
     /// A word in its place, which must be given.
     Place,
     /// A word in its place, which may be left out.
@@ -110,7 +113,12 @@ impl Argument {
                 Form::OptionalPlace,
                 "The number, as 29.19.1, or the code; all if left out",
             ),
-            Argument::Subject => Row::new("subject", Form::Place, "What to check: policy"),
+            Argument::Subject => Row::new(
+                "subject",
+                Form::Place,
+                "What to check: policy, or the isolation of a caller",
+            ),
+            Argument::Isolated => Row::new("caller", Form::Optional, "Whose isolation to check"),
             Argument::Json => Row::new("json", Form::Flag, "As an array of JSON"),
             Argument::Guard => Row::new(
                 "guard",
@@ -162,6 +170,7 @@ fn in_form<'a>(rule: Arg<'a>, name: &'a str, form: Form) -> Arg<'a>
             .action(ArgAction::Set)
             .value_parser(clap::value_parser!(u64)),
         Form::Flag => rule.long(name).action(ArgAction::SetTrue),
+        Form::Optional => rule.long(name).action(ArgAction::Set),
         Form::Place => rule.required(true).action(ArgAction::Set),
         Form::OptionalPlace => rule.action(ArgAction::Set),
     }

@@ -149,9 +149,9 @@ impl Command {
             ),
             Command::Check => Row::new(
                 "check",
-                "Finds the rules of a policy that never decide",
+                "Finds rules that never decide, or what keeps a caller from being isolated",
                 "Example: zoneoffice check policy --policy policy.toml",
-                &[Argument::Subject, Argument::Policy],
+                &[Argument::Subject, Argument::Policy, Argument::Isolated],
             ),
             Command::Explain => Row::new(
                 "explain",

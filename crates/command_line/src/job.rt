@@ -62,6 +62,13 @@ pub enum Job<'a> {
         /// The path of the policy.
         policy: &'a str,
     },
+    /// To find what keeps a caller of a policy from being isolated.
+    CheckIsolation {
+        /// The path of the policy.
+        policy: &'a str,
+        /// Whose isolation it is.
+        caller: &'a str,
+    },
     /// To say what the number of a refusal means.
     Explain {
         /// The number, or the code, and all where none is given.

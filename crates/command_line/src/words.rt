@@ -3,7 +3,7 @@
 ghost use Rattle.std.specs.Prelude.{◌≡◌, [], IfErr, IfOk, map, option_map, Some, is_some, true, codes};
 ghost use Rattle.clap.specs.Words.{app_of, fault_of, first_of, found_of, kind_of, one_of, rows_of, subcommand_rows_of, takes};
 ghost use Rattle.command_line.specs.Commands.{office, argument_name};
-ghost use Rattle.command_line.specs.Words.{asks, JobOf, canon_of, files_asked, files_of, diff_of, request_of, zone_asked, stored_of, import_of, export_of, migrate_of, rights_of, serve_of, checked_of, check_of, explain_of, number_if, existing_of, zone_form_of, diff_form_of, form_of, job_by, job_named, job_met, job_of};
+ghost use Rattle.command_line.specs.Words.{asks, JobOf, canon_of, files_asked, files_of, diff_of, request_of, zone_asked, stored_of, import_of, export_of, migrate_of, rights_of, serve_of, checked_of, isolated_of, check_of, explain_of, number_if, existing_of, zone_form_of, diff_form_of, form_of, job_by, job_named, job_met, job_of};
 ghost use Rattle.command_line.specs.PlainForms.{IsPlain};
 ghost use Rattle.command_line.specs.Misuse.{IsReportedAs, IsReported, is_help};
 
@@ -202,12 +202,22 @@ fn policy_check_in<'a>(matches: &ArgMatches<'a>) -> Option<Job<'a>>
     Some(Job::CheckPolicy { policy })
 }
 
+/// The job of `check isolation`.
+fn isolation_check_in<'a>(matches: &ArgMatches<'a>) -> Option<Job<'a>>
+    ensures { option_map asks result ≡ isolated_of (rows_of (found_of matches.now)) }
+{
+    let policy = text_at(matches, Argument::Policy)?;
+    let caller = text_at(matches, Argument::Isolated)?;
+    Some(Job::CheckIsolation { policy, caller })
+}
+
 /// The job of the command `check`.
 fn check_in<'a>(matches: &ArgMatches<'a>) -> Option<Job<'a>>
     ensures { option_map asks result ≡ check_of (rows_of (found_of matches.now)) }
 {
     match text_at(matches, Argument::Subject) {
         Some("policy") => policy_check_in(matches),
+        Some("isolation") => isolation_check_in(matches),
         _ => None,
     }
 }
@@ -287,7 +297,7 @@ fn reported(alloc: Global, error: Error) -> WordsFault
 /// `migrate --store PATH`;
 /// `rights --policy PATH --caller CALLER NAME TYPE ACTION`;
 /// `serve --store PATH --policy PATH --listen ADDRESS:PORT [--connections N] [--patience SECONDS]`;
-/// `check policy --policy PATH`; and
+/// `check policy --policy PATH`; `check isolation --policy PATH --caller CALLER`; and
 /// `explain [NUMBER] [--json]`. The words behind a command may come in any order.
 /// `Help` comes where they ask for help or the version, and `Misused` where there is a mistake in them.
 pub fn read_words<'a>(alloc: Global, words: &'a [&'a str]) -> Result<Job<'a>, WordsFault>

@@ -1,34 +1,64 @@
--- What `check policy` prints: the rules of a policy that never decide, each with the rules that take its questions.
-use Rattle.std.specs.Prelude.{◌≡◌, ◌⊎◌, ◌↔◌, ℕ, ◌<◌, List, [], ◌∷◌, ◌++◌, length, map, codes, decimal, Option, Some, None, Result, Ok, Err, slice_get}
+-- What `check policy` prints: the rules of a policy that never decide, each with the rules that take its questions. And what
+-- `check isolation` prints: that the policy isolates a caller, or what keeps it from that.
+use Rattle.std.specs.Prelude.{◌≡◌, ◌⊎◌, ◌↔◌, ℕ, ◌<◌, List, [], ◌∷◌, ◌++◌, length, map, codes, decimal, Option, Some, None, Result, Ok, Err, IfSome, slice_get}
 use Rattle.std.specs.List.{All, Contains, flat_map}
 use Rattle.std.specs.List.Sorted.{IsStrictlyIncreasing}
 use Rattle.std.specs.Io.KnownBytes.{Appends}
+use Rattle.dns_names.specs.Spelling.{name_text}
+use Rattle.dns_data.specs.Types.{type_text}
 use Rattle.grant_policy.specs.declared.rule.Rule.{Rule}
 use Rattle.grant_policy.specs.Documents.{document_of}
-use Rattle.grant_policy.specs.Reading.{policy_of}
+use Rattle.grant_policy.specs.Reading.{identifier_of, policy_of}
+use Rattle.grant_policy.specs.Words.{action_text}
+use Rattle.grant_policy.specs.declared.exposure.Exposure.{Exposure}
+use Rattle.grant_policy.specs.declared.exposure.Exposure.TheVariants.{Soa, Shared}
+use Rattle.grant_policy.specs.declared.exposure.Right.{Right}
+use Rattle.grant_policy.specs.Isolated.{IsIsolated, IsExposed}
 use Rattle.grant_policy.specs.declared.idle.IdleRule.{IdleRule}
 use Rattle.grant_policy.specs.Idle.{IsIdle, AreTakers}
 use Rattle.text_commands.specs.declared.check.Findings.{Findings}
 use Rattle.text_commands.specs.declared.check.Findings.TheVariants.{Absent, Present}
+use Rattle.text_commands.specs.declared.check.Checking.{Checking}
 use Rattle.text_commands.specs.declared.check.Report.{Report}
+use Rattle.text_commands.specs.declared.check.Subject.{Subject}
+use Rattle.text_commands.specs.declared.check.Subject.TheVariants.{Rules, Isolation}
 use Rattle.text_commands.specs.declared.refusal.Refusal.{Refusal}
+use Rattle.text_commands.specs.declared.refusal.Refusal.TheVariants.{NoCaller}
 use Rattle.text_commands.specs.declared.line_fault.LineFault.{LineFault}
 use Rattle.text_commands.specs.declared.line_fault.LineFault.TheVariants.{Refused, ReadFailed, NoMemory}
 use Rattle.text_commands.specs.declared.line_fault.JobFault.{JobFault}
 use Rattle.text_commands.specs.declared.line_fault.JobFault.TheVariants.{Reported, WriteFailed}
 use Rattle.text_commands.specs.Device.{AppendsFront}
-use Rattle.text_commands.specs.LineFaults.{◌>>=◌, limited, of_policies, Makes, ReachesInput}
+use Rattle.text_commands.specs.LineFaults.{◌>>=◌, or_refused, limited, of_policies, Makes, ReachesInput}
 use Rattle.text_commands.specs.Refusals.{refused_line}
 use Rattle.text_commands.specs.Replies.{line_of}
 
--- the rules of the policy of a text, and of an input
+-- ---- what is checked
+
+-- the rules of the policy of a text
 abbrev pub rules_in : List ℕ → Result (List Rule) Refusal
 rules_in text = of_policies (policy_of (document_of text))
 
-abbrev pub rules_read : List ℕ → Result (List Rule) Refusal
-rules_read input = limited input >>= rules_in
+-- a caller whose isolation is checked, if it is one, and the rules of a policy
+abbrev pub Checked_of : Type 0
+Checked_of = Option (List ℕ) × List Rule
 
--- ---- the report
+-- the caller that a word is
+abbrev pub caller_in : Subject → Result (Option (List ℕ)) Refusal
+caller_in Rules = Ok None
+caller_in (Isolation word) = or_refused (identifier_of word.now) NoCaller >>= λ caller. Ok (Some caller)
+
+abbrev pub checking_of : Option (List ℕ) → List ℕ → Result Checked_of Refusal
+checking_of caller text = rules_in text >>= λ rules. Ok (caller, rules)
+
+-- the word is read first, and then the input
+abbrev pub checked_read : Subject → List ℕ → Result Checked_of Refusal
+checked_read subject input = caller_in subject >>= λ caller. limited input >>= checking_of caller
+
+abbrev pub checking_in : Checking → Checked_of
+checking_in c = (c.caller, c.policy)
+
+-- ---- the report on the rules
 
 -- those are the rules that never decide, in order, each with the rules that take its questions
 pub record AreIdle (rules : List Rule) (idle : List IdleRule) : Type 0 where
@@ -63,37 +93,73 @@ findings_of (r ∷ rs) = Present
 abbrev pub IsReport : List Rule → Findings → List ℕ → Type 0
 IsReport rules findings text = (idle : List IdleRule) × AreIdle rules idle × (text ≡ idle_text rules idle) × (findings ≡ findings_of idle)
 
+-- ---- the report on isolation
+
+-- a type, an action, and the id of the rule that grants it, with a space before each
+abbrev pub right_text : List Rule → Right → List ℕ
+right_text rules right = (32 ∷ type_text right.record_type ++ 32 ∷ action_text right.action) ++ id_text rules right.rule
+
+-- another caller, and `*` for any that no rule names
+abbrev pub other_text : Option (List ℕ) → List ℕ
+other_text None = codes " *"
+other_text (Some caller) = 32 ∷ caller
+
+abbrev pub exposure_line : List Rule → Exposure → List ℕ
+exposure_line rules (Soa name right) = (codes "soa " ++ name_text name) ++ right_text rules right
+exposure_line rules (Shared name own other theirs) =
+    (((codes "shared " ++ name_text name) ++ right_text rules own) ++ other_text other) ++ right_text rules theirs
+
+abbrev pub isolation_line : List Rule → Option Exposure → List ℕ
+isolation_line rules None = codes "isolated"
+isolation_line rules (Some exposure) = exposure_line rules exposure
+
+abbrev pub exposures_of : Option Exposure → Findings
+exposures_of None = Absent
+exposures_of (Some exposure) = Present
+
+-- that the caller is isolated, or what keeps it from that
+abbrev pub IsIsolationReport : List Rule → List ℕ → Findings → List ℕ → Type 0
+IsIsolationReport rules caller findings text =
+    (found : Option Exposure) × ((found ≡ None) ↔ IsIsolated rules caller) × IfSome found (IsExposed rules caller)
+    × (text ≡ isolation_line rules found ++ 10 ∷ []) × (findings ≡ exposures_of found)
+
+-- ---- both
+
+abbrev pub IsReportOn : Checked_of → Findings → List ℕ → Type 0
+IsReportOn (None, rules) findings text = IsReport rules findings text
+IsReportOn (Some caller, rules) findings text = IsIsolationReport rules caller findings text
+
 -- the report on the policy that is read
-abbrev pub ReportsOn : Option (List ℕ) → Findings → List ℕ → Type 0
-ReportsOn left findings text = (rules : List Rule) × Makes left rules_read (Ok rules) × IsReport rules findings text
+abbrev pub ReportsOn : Subject → Option (List ℕ) → Findings → List ℕ → Type 0
+ReportsOn subject left findings text = (made : Checked_of) × Makes left (checked_read subject) (Ok made) × IsReportOn made findings text
 
 -- What was left to read, the answer, and the reader's failures before and after.
-abbrev pub Reports : Option (List ℕ) → Result Report LineFault → ℕ → ℕ → Type 0
-Reports left (Ok report) before after = ReportsOn left report.findings report.text.items × (after ≡ before)
-Reports left (Err (Refused refusal)) before after = Makes left rules_read (Err refusal) × (after ≡ before)
-Reports left (Err NoMemory) before after = after ≡ before
-Reports left (Err ReadFailed) before after = (before < after) × ReachesInput rules_read
+abbrev pub Reports : Subject → Option (List ℕ) → Result Report LineFault → ℕ → ℕ → Type 0
+Reports subject left (Ok report) before after = ReportsOn subject left report.findings report.text.items × (after ≡ before)
+Reports subject left (Err (Refused refusal)) before after = Makes left (checked_read subject) (Err refusal) × (after ≡ before)
+Reports subject left (Err NoMemory) before after = after ≡ before
+Reports subject left (Err ReadFailed) before after = (before < after) × ReachesInput (checked_read subject)
 
 -- ---- what is written
 
 -- a text that is to be written where this was left to read, and the reader's failures are these before and after
-abbrev pub IsCheckReply : Option (List ℕ) → ℕ → ℕ → List ℕ → Type 0
-IsCheckReply left reads reads_after text =
-    (((findings : Findings) × ReportsOn left findings text) × (reads_after ≡ reads))
-    ⊎ ((((refusal : Refusal) × Makes left rules_read (Err refusal) × (text ≡ refused_line refusal)) × (reads_after ≡ reads))
-    ⊎ (((text ≡ line_of ReadFailed) × (reads < reads_after) × ReachesInput rules_read)
+abbrev pub IsCheckReply : Subject → Option (List ℕ) → ℕ → ℕ → List ℕ → Type 0
+IsCheckReply subject left reads reads_after text =
+    (((findings : Findings) × ReportsOn subject left findings text) × (reads_after ≡ reads))
+    ⊎ ((((refusal : Refusal) × Makes left (checked_read subject) (Err refusal) × (text ≡ refused_line refusal)) × (reads_after ≡ reads))
+    ⊎ (((text ≡ line_of ReadFailed) × (reads < reads_after) × ReachesInput (checked_read subject))
     ⊎ ((text ≡ line_of NoMemory) × (reads_after ≡ reads))))
 
 -- What was left to read, what the writer held before and after, how the check went, the reader's failures before and after, and the
 -- writer's failures before and after. A failed write leaves a prefix of what was to be written; else it is all written.
-abbrev pub Checked : Option (List ℕ) → Option (List ℕ) → Option (List ℕ) → Result Findings JobFault → ℕ → ℕ → ℕ → ℕ → Type 0
-Checked left old new (Ok findings) reads reads_after writes writes_after =
-    ((text : List ℕ) × ReportsOn left findings text × Appends old new text) × (reads_after ≡ reads) × (writes_after ≡ writes)
-Checked left old new (Err (Reported (Refused refusal))) reads reads_after writes writes_after =
-    Makes left rules_read (Err refusal) × Appends old new (refused_line refusal) × (reads_after ≡ reads) × (writes_after ≡ writes)
-Checked left old new (Err (Reported ReadFailed)) reads reads_after writes writes_after =
-    Appends old new (line_of ReadFailed) × (reads < reads_after) × ReachesInput rules_read × (writes_after ≡ writes)
-Checked left old new (Err (Reported NoMemory)) reads reads_after writes writes_after =
+abbrev pub Checked : Subject → Option (List ℕ) → Option (List ℕ) → Option (List ℕ) → Result Findings JobFault → ℕ → ℕ → ℕ → ℕ → Type 0
+Checked subject left old new (Ok findings) reads reads_after writes writes_after =
+    ((text : List ℕ) × ReportsOn subject left findings text × Appends old new text) × (reads_after ≡ reads) × (writes_after ≡ writes)
+Checked subject left old new (Err (Reported (Refused refusal))) reads reads_after writes writes_after =
+    Makes left (checked_read subject) (Err refusal) × Appends old new (refused_line refusal) × (reads_after ≡ reads) × (writes_after ≡ writes)
+Checked subject left old new (Err (Reported ReadFailed)) reads reads_after writes writes_after =
+    Appends old new (line_of ReadFailed) × (reads < reads_after) × ReachesInput (checked_read subject) × (writes_after ≡ writes)
+Checked subject left old new (Err (Reported NoMemory)) reads reads_after writes writes_after =
     Appends old new (line_of NoMemory) × (reads_after ≡ reads) × (writes_after ≡ writes)
-Checked left old new (Err WriteFailed) reads reads_after writes writes_after =
-    ((text : List ℕ) × IsCheckReply left reads reads_after text × AppendsFront old new text) × (writes < writes_after)
+Checked subject left old new (Err WriteFailed) reads reads_after writes writes_after =
+    ((text : List ℕ) × IsCheckReply subject left reads reads_after text × AppendsFront old new text) × (writes < writes_after)

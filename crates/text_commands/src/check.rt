@@ -1,17 +1,31 @@
-//! The rules of a policy that never decide.
+//! What is true of a policy whatever is asked: which of its rules never decide, and whether a caller is isolated.
 
 ghost use Rattle.std.specs.Prelude.{◌≡◌, ◌++◌, ◌<◌, ℕ, IfOk, OnOk, decimal};
+ghost use Rattle.dns_names.specs.Spelling.{name_text};
 ghost use Rattle.text_commands.specs.LineFaults.{Gives, GivesOf};
-ghost use Rattle.text_commands.specs.Check.{rules_in, rules_read, id_text, idle_head, idle_line, idle_text, findings_of, IsReport, Reports, Checked};
+ghost use Rattle.text_commands.specs.Check.{rules_in, caller_in, checking_of, checked_read, checking_in, id_text, idle_head, idle_line, idle_text, findings_of, IsReport, right_text, other_text, exposure_line, isolation_line, exposures_of, IsIsolationReport, IsReportOn, Reports, Checked};
 
 use crate::device::{read_input, write_refusal, write_text};
 use crate::line_fault::{JobFault, LineFault};
+use crate::rights::read_caller;
 use dns_master::{Counted, Sink, Source};
-use grant_policy::{IdleRule, Policy, Rule, idle_rules, read_policy};
+use dns_names::Name;
+use grant_policy::{
+    Exposure, Identifier, IdleRule, Policy, Right, Rule, idle_rules, isolation, read_policy,
+};
 use std::alloc::{AllocError, Global};
 use std::io::{Read, Write};
 use std::marker::Brand;
 use std::sync::ledger::{Blank, Ledger};
+
+/// What is checked of a policy.
+#[derive(Clone, Copy)]
+pub enum Subject<'a> {
+    /// Which of its rules never decide.
+    Rules,
+    /// Whether the caller that this word names is isolated.
+    Isolation(&'a str),
+}
 
 /// Whether a check found something.
 #[derive(Clone, Copy, PartialEq, Eq)]
@@ -22,11 +36,28 @@ pub enum Findings {
     Present,
 }
 
+/// A policy to check, and whose isolation, if it is that.
+#[derive(Drop)]
+struct Checking {
+    caller: Option<Identifier>,
+    policy: Policy,
+}
+
 /// What a check found, and the text that tells it.
 #[derive(Drop)]
 struct Report {
     findings: Findings,
     text: Vec<u8>,
+}
+
+/// The caller whose isolation is checked, if it is one.
+fn caller_in(alloc: Global, subject: Subject<'_>) -> Result<Option<Identifier>, LineFault>
+    ensures { Gives (λ caller. caller) result (caller_in subject.entry) }
+{
+    match subject {
+        Subject::Rules => Ok(None),
+        Subject::Isolation(word) => Ok(Some(read_caller(alloc, word)?)),
+    }
 }
 
 /// The policy of a text, whose octets are given back.
@@ -36,12 +67,29 @@ fn policy_in(alloc: Global, text: Vec<u8>) -> Result<Policy, LineFault>
     Ok(read_policy(alloc, &text)?)
 }
 
-/// The policy that a reader gives.
-fn policy_read<R: Source>(alloc: Global, reader: &mut R) -> Result<Policy, LineFault>
-    ensures { GivesOf (λ policy. policy) (R.remaining reader.old) rules_read result (R.failures reader.old) (R.failures reader.new) }
+/// The same, with the caller whose isolation is checked.
+fn checking_of(
+    alloc: Global,
+    caller: Option<Identifier>,
+    text: Vec<u8>,
+) -> Result<Checking, LineFault>
+    ensures { Gives checking_in result (checking_of caller text.items) }
 {
+    let policy = policy_in(alloc, text)?;
+    Ok(Checking { caller, policy })
+}
+
+/// What is checked, of the policy that a reader gives. The refusal of the caller comes before those of the policy.
+fn checked_read<R: Source>(
+    alloc: Global,
+    subject: Subject<'_>,
+    reader: &mut R,
+) -> Result<Checking, LineFault>
+    ensures { GivesOf checking_in (R.remaining reader.old) (checked_read subject.entry) result (R.failures reader.old) (R.failures reader.new) }
+{
+    let caller = caller_in(alloc, subject)?;
     let text = read_input(alloc, reader)?;
-    policy_in(alloc, text)
+    checking_of(alloc, caller, text)
 }
 
 /// Appends a space, and the id of the rule of a place.
@@ -99,8 +147,8 @@ fn findings_of(idle: &[IdleRule]) -> Findings
     }
 }
 
-/// The report on a policy. The only error is out of memory.
-fn report_on(alloc: Global, policy: &Policy) -> Result<Report, AllocError>
+/// The report on the rules of a policy. The only error is out of memory.
+fn rules_report(alloc: Global, policy: &Policy) -> Result<Report, AllocError>
     ensures { IfOk result (λ report. IsReport policy.now report.findings report.text.items) }
 {
     let idle = idle_rules(alloc, policy)?;
@@ -109,24 +157,133 @@ fn report_on(alloc: Global, policy: &Policy) -> Result<Report, AllocError>
     Ok(Report { findings, text })
 }
 
-/// The report on the policy that a reader gives.
-fn report_read<R: Source>(alloc: Global, reader: &mut R) -> Result<Report, LineFault>
-    ensures { Reports (R.remaining reader.old) result (R.failures reader.old) (R.failures reader.new) }
+/// Appends a type, an action and the id of the rule that grants it, with a space before each.
+fn push_right(rules: &[Rule], right: Right, text: &mut Vec<u8>) -> Result<(), AllocError>
+    ensures { OnOk result (text.new.items ≡ text.old.items ++ right_text rules.now right) }
 {
-    let policy = policy_read(alloc, reader)?;
-    Ok(report_on(alloc, &policy)?)
+    text.push(b' ')?;
+    text.extend_from_slice(right.record_type.text().as_bytes())?;
+    text.push(b' ')?;
+    text.extend_from_slice(right.action.text().as_bytes())?;
+    push_id(rules, right.rule, text)
 }
 
-/// Reads a policy, and writes a line for each rule that never decides, in order: `idle`, its place from 0, its id, and the ids of
-/// the rules that take its questions. Otherwise one line tells the refusal of the policy.
+/// Appends a space, and another caller, or `*` for any that no rule names.
+fn push_other(other: &Option<Identifier>, text: &mut Vec<u8>) -> Result<(), AllocError>
+    ensures { OnOk result (text.new.items ≡ text.old.items ++ other_text other.now) }
+{
+    text.push(b' ')?;
+    match other {
+        None => text.extend_from_slice(b"*"),
+        Some(caller) => text.extend_from_slice(caller.as_bytes()),
+    }
+}
+
+/// A word, and a name behind it.
+fn named(alloc: Global, word: &str, name: &Name) -> Result<Vec<u8>, AllocError>
+    ensures { IfOk result (λ text. text.items ≡ word.now ++ name_text name.now) }
+{
+    let line = format!(in alloc; "{word}{name}")?;
+    Vec::from_slice(alloc, line.as_bytes())
+}
+
+/// What tells of an exposure: `soa`, the name, and the right; or `shared`, the name, what the caller may do there, the other
+/// caller, and what that may do.
+fn exposure_line(alloc: Global, rules: &[Rule], exposure: &Exposure) -> Result<Vec<u8>, AllocError>
+    ensures { IfOk result (λ text. text.items ≡ exposure_line rules.now exposure.now) }
+{
+    match exposure {
+        Exposure::Soa { name, right } => {
+            let mut text = named(alloc, "soa ", name)?;
+            push_right(rules, *right, &mut text)?;
+            Ok(text)
+        }
+        Exposure::Shared {
+            name,
+            own,
+            other,
+            theirs,
+        } => {
+            let mut text = named(alloc, "shared ", name)?;
+            push_right(rules, *own, &mut text)?;
+            push_other(other, &mut text)?;
+            push_right(rules, *theirs, &mut text)?;
+            Ok(text)
+        }
+    }
+}
+
+/// What tells whether a caller is isolated.
+fn isolation_line(
+    alloc: Global,
+    rules: &[Rule],
+    found: &Option<Exposure>,
+) -> Result<Vec<u8>, AllocError>
+    ensures { IfOk result (λ text. text.items ≡ isolation_line rules.now found.now) }
+{
+    match found {
+        None => Vec::from_slice(alloc, b"isolated"),
+        Some(exposure) => exposure_line(alloc, rules, exposure),
+    }
+}
+
+/// Whether something keeps a caller from being isolated.
+fn exposures_of(found: &Option<Exposure>) -> Findings
+    ensures { result ≡ exposures_of found.now }
+{
+    match found {
+        None => Findings::Absent,
+        Some(_) => Findings::Present,
+    }
+}
+
+/// The report on the isolation of a caller. The only error is out of memory.
+fn isolation_report(
+    alloc: Global,
+    policy: &Policy,
+    caller: &Identifier,
+) -> Result<Report, AllocError>
+    ensures { IfOk result (λ report. IsIsolationReport policy.now caller.now report.findings report.text.items) }
+{
+    let found = isolation(alloc, policy, caller)?;
+    let mut text = isolation_line(alloc, policy.rules(), &found)?;
+    text.push(b'\n')?;
+    let findings = exposures_of(&found);
+    Ok(Report { findings, text })
+}
+
+/// The report on what is checked. The only error is out of memory.
+fn report_on(alloc: Global, checking: &Checking) -> Result<Report, AllocError>
+    ensures { IfOk result (λ report. IsReportOn (checking_in checking.now) report.findings report.text.items) }
+{
+    match &checking.caller {
+        None => rules_report(alloc, &checking.policy),
+        Some(caller) => isolation_report(alloc, &checking.policy, caller),
+    }
+}
+
+/// The report on the policy that a reader gives.
+fn report_read<R: Source>(
+    alloc: Global,
+    subject: Subject<'_>,
+    reader: &mut R,
+) -> Result<Report, LineFault>
+    ensures { Reports subject.entry (R.remaining reader.old) result (R.failures reader.old) (R.failures reader.new) }
+{
+    let checking = checked_read(alloc, subject, reader)?;
+    Ok(report_on(alloc, &checking)?)
+}
+
+/// Reads a policy, and writes the report on it. Otherwise one line tells the refusal that comes first: of the caller, of the policy.
 fn check_policy<R: Source, W: Sink>(
     alloc: Global,
+    subject: Subject<'_>,
     reader: &mut R,
     writer: &mut W,
 ) -> Result<Findings, JobFault>
-    ensures { Checked (R.remaining reader.old) (W.contents writer.old) (W.contents writer.new) result (R.failures reader.old) (R.failures reader.new) (W.failures writer.old) (W.failures writer.new) }
+    ensures { Checked subject.entry (R.remaining reader.old) (W.contents writer.old) (W.contents writer.new) result (R.failures reader.old) (R.failures reader.new) (W.failures writer.old) (W.failures writer.new) }
 {
-    match report_read(alloc, reader) {
+    match report_read(alloc, subject, reader) {
         Ok(report) => {
             write_text(writer, &report.text)?;
             Ok(report.findings)
@@ -141,6 +298,7 @@ fn check_policy<R: Source, W: Sink>(
 /// The same, with a reader and a writer of std, whose failures are counted; the writer is handed back.
 fn counted<R: Read + Drop, W: Write + Drop, A: Ledger, B: Ledger>(
     alloc: Global,
+    subject: Subject<'_>,
     reader: R,
     writer: W,
     reads: Blank,
@@ -152,24 +310,27 @@ fn counted<R: Read + Drop, W: Write + Drop, A: Ledger, B: Ledger>(
     requires writes_name { writes.name ≡ B.name }
     requires writes_parts { writes.parts ≡ B.parts }
     requires writes_some { 0 < writes.parts }
-    ensures { (failed_reads : ℕ) × (failed_writes : ℕ) × Checked (R.remaining reader) (W.contents writer) (W.contents result.0) result.1 0 failed_reads 0 failed_writes }
+    ensures { (failed_reads : ℕ) × (failed_writes : ℕ) × Checked subject.entry (R.remaining reader) (W.contents writer) (W.contents result.0) result.1 0 failed_reads 0 failed_writes }
 {
     let mut source: Counted<R, A> = Counted::new(reader, reads);
     let mut sink: Counted<W, B> = Counted::new(writer, writes);
-    let outcome = check_policy(alloc, &mut source, &mut sink);
+    let outcome = check_policy(alloc, subject, &mut source, &mut sink);
     (sink.into_inner(), outcome)
 }
 
-/// Checks the policy that a reader of std gives, and hands the writer back. What is written is a line for each rule that never
-/// decides, in order: `idle`, its place from 0, its id, and the ids of the rules that take its questions. Otherwise one line tells
-/// the refusal: that the policy is too large, or what is wrong in it.
+/// Checks the policy that a reader of std gives, and hands the writer back. Of the rules, what is written is a line for each that never
+/// decides, in order: `idle`, its place from 0, its id, and the ids of the rules that take its questions. Of the isolation of a caller
+/// it is `isolated`, or what keeps the caller from that: `soa`, a name, and a type, an action and a rule by which the caller may see
+/// an SOA there; or `shared`, a name, what the caller may do there, another caller or `*` for any that no rule names, and what that one
+/// may do. Otherwise one line tells the refusal that comes first: of the caller, that the policy is too large, or what is wrong in it.
 pub fn do_check<R: Read + Drop, W: Write + Drop>(
     alloc: Global,
+    subject: Subject<'_>,
     reader: R,
     writer: W,
 ) -> (W, Result<Findings, JobFault>)
-    ensures { (failed_reads : ℕ) × (failed_writes : ℕ) × Checked (R.remaining reader) (W.contents writer) (W.contents result.0) result.1 0 failed_reads 0 failed_writes }
+    ensures { (failed_reads : ℕ) × (failed_writes : ℕ) × Checked subject.entry (R.remaining reader) (W.contents writer) (W.contents result.0) result.1 0 failed_reads 0 failed_writes }
 {
     let (reads, writes) = (Blank::new(1), Blank::new(1));
-    counted::<_, _, Brand, Brand>(alloc, reader, writer, reads, writes)
+    counted::<_, _, Brand, Brand>(alloc, subject, reader, writer, reads, writes)
 }

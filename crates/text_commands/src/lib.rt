@@ -27,7 +27,7 @@ mod task;
 
 pub use apply::Apply;
 pub use canon::{Canon, print_zone_in, read_name, read_zone};
-pub use check::{Findings, do_check};
+pub use check::{Findings, Subject, do_check};
 pub use device::{ended, read_input, write_refusal, write_text};
 pub use diff::do_diff;
 pub use diff_fault::DiffFault;

@@ -1,4 +1,4 @@
-use Rattle.text_commands.proofs.check.report_on.Goals as goal
+use Rattle.text_commands.proofs.check.rules_report.Goals as goal
 
 pub returns : goal.returns
 returns c =
