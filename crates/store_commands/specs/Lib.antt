@@ -6,3 +6,4 @@ pub mod Export
 pub mod Migrate
 pub mod Causes
 pub mod Serve
+pub mod Program

@@ -5,6 +5,7 @@ mod cause;
 mod files;
 mod migration;
 mod patience;
+mod program;
 mod serving;
 mod std_streams;
 mod store_file;
@@ -14,6 +15,7 @@ mod zones;
 pub use cause::{Cause, Diagnosis, Remembered, Undiagnosed};
 pub use files::{MachineFiles, StoreFiles};
 pub use migration::migrate;
+pub use program::{Surroundings, do_job, do_words};
 pub use serving::{Connections, serve_connections};
 pub use std_streams::{do_export, do_import, do_migrate, do_serve};
 pub use text_commands::{

@@ -1,6 +1,7 @@
 //! The jobs with readers and writers of std.
 
 ghost use Rattle.std.specs.Prelude.{◌≡◌, ◌<◌};
+ghost use Rattle.store_commands.specs.Program.{Imports, Exports, Migrated};
 
 use crate::files::MachineFiles;
 use crate::migration::migrate;
@@ -31,6 +32,7 @@ fn import_in<R: Read + Drop, W: Write + Drop, A: Ledger, B: Ledger, C: Ledger>(
     requires store_name { store.name ≡ C.name }
     requires store_parts { store.parts ≡ C.parts }
     requires store_some { 0 < store.parts }
+    ensures { Imports (R.remaining streams.0) what.entry.0.origin.now (W.contents streams.1) (W.contents result.0) result.1 }
 {
     let (reader, writer) = streams;
     let mut source: Counted<R, A> = Counted::new(reader, reads);
@@ -51,7 +53,9 @@ pub fn do_import<R: Read + Drop, W: Write + Drop>(
     rt: &HostRuntime,
     what: (StoredZone<'_>, Existing),
     streams: (R, W),
-) -> (W, Result<(), JobFault>) {
+) -> (W, Result<(), JobFault>)
+    ensures { Imports (R.remaining streams.0) what.entry.0.origin.now (W.contents streams.1) (W.contents result.0) result.1 }
+{
     let (reads, writes, store) = (Blank::new(1), Blank::new(1), Blank::new(1));
     import_in::<_, _, Brand, Brand, Brand>(rt, what, streams, reads, writes, store)
 }
@@ -70,6 +74,7 @@ fn export_in<W: Write + Drop, B: Ledger, C: Ledger>(
     requires store_name { store.name ≡ C.name }
     requires store_parts { store.parts ≡ C.parts }
     requires store_some { 0 < store.parts }
+    ensures { Exports what.entry.1 what.entry.0.origin.now (W.contents writer) (W.contents result.0) result.1 }
 {
     let mut sink: Counted<W, B> = Counted::new(writer, writes);
     let (zone, form) = what;
@@ -82,7 +87,9 @@ pub fn do_export<W: Write + Drop>(
     rt: &HostRuntime,
     what: (StoredZone<'_>, ZoneForm),
     writer: W,
-) -> (W, Result<(), JobFault>) {
+) -> (W, Result<(), JobFault>)
+    ensures { Exports what.entry.1 what.entry.0.origin.now (W.contents writer) (W.contents result.0) result.1 }
+{
     let (writes, store) = (Blank::new(1), Blank::new(1));
     export_in::<_, Brand, Brand>(rt, what, writer, writes, store)
 }
@@ -96,6 +103,7 @@ fn migrate_in<W: Write + Drop, B: Ledger>(
     requires name { writes.name ≡ B.name }
     requires parts { writes.parts ≡ B.parts }
     requires some { 0 < writes.parts }
+    ensures { Migrated (W.contents what.entry.1) (W.contents result.0) result.1 }
 {
     let (store, writer) = what;
     let mut sink: Counted<W, B> = Counted::new(writer, writes);
@@ -108,7 +116,9 @@ pub fn do_migrate<W: Write + Drop>(
     rt: &HostRuntime,
     store: &str,
     writer: W,
-) -> (W, Result<(), JobFault>) {
+) -> (W, Result<(), JobFault>)
+    ensures { Migrated (W.contents writer) (W.contents result.0) result.1 }
+{
     migrate_in::<_, Brand>(rt, (store, writer), Blank::new(1))
 }
 

@@ -1,4 +1,4 @@
-use Rattle.zoneoffice.proofs.do_with.Goals as goal
+use Rattle.store_commands.proofs.program.do_with.Goals as goal
 
 pub returns : goal.returns
 returns g c = let done = c.do_task-writer.ensures in (c.do_task-writer.result.1, done.0, done.1, done.2, c.ended.ensures)
