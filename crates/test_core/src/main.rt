@@ -1,38 +1,10 @@
-//! Names, record data, master files, policies, zones, items of updates, JSON bodies, and commands that need no store, by rows: outside
-//! vectors and worked examples, whose wanted values come from the standards, from the formats, or from hand. `section NAME` says what
-//! the rows below are about.
+//! All rows: outside vectors and worked examples, whose wanted values come from the standards, from the formats, or from hand.
+//! `section NAME` says what the rows below are about, and a crate for its rows: `names`, `data` and `files` (`test_dns`); `policies`,
+//! `zones`, `items` and `bodies` (`test_zones`); `tables` and `states` (`test_tables`); `stores` and `stops` (`test_stores`);
+//! `exchanges`, `stored` and `callers` (`test_exchanges`). This crate has the rows of commands that need no store, and of
+//! words.
 //!
-//! `names`, `data` and `files`: of these rows the crate `test_dns` tells.
-//!
-//! `policies`: `policy` reads the document of its body and keeps it, and `many N` that of its body N times, where `#` stands for the
-//! number of each time, from 0. `build` keeps the policy of the rules of its body, a line `ID EFFECT CALLER SCOPE AT TYPES ACTIONS`
-//! each. Of the policy that is kept, `decide CALLER NAME TYPE ACTION` tells the decision, with the rule that made it, and
-//! `rights CALLER NAME` whether the caller has any right there; `idle` prints each rule that never decides with those that take its
-//! questions behind a colon, by their ids. `covers AT NAME` tells which scopes cover the name;
-//! `identifier TEXT` reads an identifier, and `identifiers ONE OTHER` compares two; `effect WORD`, `scope WORD` and
-//! `action WORD` read a word.
-//!
-//! `zones`: `zone ORIGIN` builds the zone of the body's record lines, and the rows below it are about that zone; `build ORIGIN` prints
-//! the zone instead. `tells`, `at NAME`, `set NAME TYPE`, `within NAME` and `report` print what the zone tells, lists and delegates.
-//! `holds` tests the prerequisites of the body, an item a line or with bars between them; `change` prints what its operations
-//! remove and add, `after` the zone after them, an SOA as its serial, and `serial-after` only that. `to ORIGIN` prints the operations
-//! from that zone to the one of the body, as item lines, and the serial of the zone after them. `read` reads such items,
-//! `outside ORIGIN` tells which is the first outside, and `same ITEMS` whether they are those of the line. `delegate ORIGIN CHILD
-//! TTL` prints the operations for the servers of the body, each with its addresses, and `delegate-count` how many there are.
-//! `less N M` and `sum N M` compare and add serials.
-//!
-//! `items`: `items` prints the canonical lines of the items below; `many N LINE` prints how many items a line makes so many times,
-//! before the lines below. `points ORIGIN ITEM` prints what an item asks for, by type number. `policy` reads the policy below, and
-//! `permission CALLER ORIGIN` prints whether it permits the items below, or which of them is denied first and by which rule.
-//!
-//! `bodies`: `update BODY` and `delegation ORIGIN BODY` read a body and print its identifier and a line for each item;
-//! `update-size` and `delegation-size` print how many items it has. The other verbs print the body of a reply:
-//! `reply WORDS` to an update, `id-reused`, `servfail`, `not-auth`, `not-zone`, `granted RULE`, `denied RULE` or `denied` by the
-//! closing default; `records` and `file ORIGIN`, with the items that add the records below; `changes`, with lines
-//! `NUMBER|REMOVED|ADDED` of such items; `delegations`, with lines `CHILD|GLUE SERVER|..`; and `refusals FORMERR REFUSAL` prints the
-//! bodies of two refusals behind each other.
-//!
-//! `commands`: `apply`, `canon ORIGIN`, `canon-relative ORIGIN`, `request ID`, `rights CALLER|NAME|TYPE|ACTION`, `check` and
+//! `commands`: `apply`, `canon ORIGIN`, `canon-relative ORIGIN`, `request ID`, `rights CALLER|NAME|TYPE|ACTION`, `check`, `isolation CALLER` and
 //! `explain NUMBER|FORM` give the body to the command, and print what it prints, and its exit status with the words of the refusal. In front of a command
 //! stands `many`, where each line of the body has before it how often it comes; `pieces N`, where the devices move at most N octets a
 //! call; `reads N COUNT` or `writes N COUNT`, where they do and so many of the calls fail, each in a run of its own.
@@ -47,17 +19,12 @@
 //! A refusal is answered by its number and its line, if it has them, and its words, and in each section `no-memory` prints that one.
 #![tactic(auto)]
 
-mod bodies;
 mod commands;
-mod items;
-mod policies;
-mod refusal;
 mod sections;
 mod words;
-mod zones;
 
 use std::io;
 
 fn main(rt: HostRuntime) -> io::Result<()> {
-    test_rows::run(&rt, &mut sections::Sections::new(rt.alloc()))
+    test_rows::run(&rt, &mut sections::Sections::new(&rt))
 }

@@ -1,10 +1,11 @@
-use crate::items::Items;
-use crate::policies::Policies;
-use crate::zones::Zones;
-use crate::{bodies, commands, words};
+use crate::{commands, words};
 use std::alloc::{AllocError, Global};
 use test_dns::{Records, push_file_answer, push_name_answer};
+use test_exchanges::{Callers, Files, Office};
 use test_rows::{Answers, Row};
+use test_stores::{Stops, Stores};
+use test_tables::{Kept, Tables};
+use test_zones::{Items, Policies, Zones, push_body_answer};
 
 /// What rows are about.
 #[derive(Clone, Copy)]
@@ -16,29 +17,51 @@ enum Section {
     Zones,
     Items,
     Bodies,
+    Tables,
+    States,
+    Stores,
+    Stops,
+    Exchanges,
+    Stored,
+    Callers,
     Commands,
     Words,
 }
 
 /// Answers to rows of the section that is open.
 #[derive(Drop)]
-pub struct Sections {
+pub struct Sections<'a> {
     section: Section,
     records: Records,
     policies: Policies,
     zones: Zones,
     items: Items,
+    tables: Tables,
+    kept: Kept,
+    stores: Stores,
+    stops: Stops,
+    office: Office,
+    files: Files<'a>,
+    callers: Callers<'a>,
 }
 
-impl Sections {
-    /// The section of names is open, with no record ranked, no policy and no zone.
-    pub fn new(alloc: Global) -> Sections {
+impl<'a> Sections<'a> {
+    /// The section of names is open, with no record ranked, no policy, no zone and no store.
+    pub fn new(rt: &'a HostRuntime) -> Sections<'a> {
+        let alloc = rt.alloc();
         Sections {
             section: Section::Names,
             records: Records::new(alloc),
             policies: Policies::new(),
-            zones: Zones { zone: None },
+            zones: Zones::new(),
             items: Items::new(),
+            tables: Tables::new(alloc),
+            kept: Kept::new(alloc),
+            stores: Stores::new(alloc),
+            stops: Stops::new(alloc),
+            office: Office::new(alloc),
+            files: Files::new(rt),
+            callers: Callers::new(rt),
         }
     }
 
@@ -52,6 +75,13 @@ impl Sections {
             b"zones" => Section::Zones,
             b"items" => Section::Items,
             b"bodies" => Section::Bodies,
+            b"tables" => Section::Tables,
+            b"states" => Section::States,
+            b"stores" => Section::Stores,
+            b"stops" => Section::Stops,
+            b"exchanges" => Section::Exchanges,
+            b"stored" => Section::Stored,
+            b"callers" => Section::Callers,
             b"commands" => Section::Commands,
             b"words" => Section::Words,
             _ => return answer.extend_from_slice(b"no such section"),
@@ -60,7 +90,7 @@ impl Sections {
     }
 }
 
-impl Answers for Sections {
+impl Answers for Sections<'_> {
     fn answer(
         &mut self,
         alloc: Global,
@@ -77,7 +107,14 @@ impl Answers for Sections {
             Section::Policies => self.policies.answer(alloc, row, answer),
             Section::Zones => self.zones.answer(alloc, row, answer),
             Section::Items => self.items.answer(alloc, row, answer),
-            Section::Bodies => bodies::push_answer(alloc, row, answer),
+            Section::Bodies => push_body_answer(alloc, row, answer),
+            Section::Tables => self.tables.answer(alloc, row, answer),
+            Section::States => self.kept.answer(alloc, row, answer),
+            Section::Stores => self.stores.answer(alloc, row, answer),
+            Section::Stops => self.stops.answer(alloc, row, answer),
+            Section::Exchanges => self.office.answer(alloc, row, answer),
+            Section::Stored => self.files.answer(alloc, row, answer),
+            Section::Callers => self.callers.answer(alloc, row, answer),
             Section::Commands => commands::push_answer(alloc, row, answer),
             Section::Words => words::push_answer(alloc, row, answer),
         }

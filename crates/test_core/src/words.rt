@@ -72,7 +72,7 @@ fn push_job(alloc: Global, job: &Job<'_>, answer: &mut Vec<u8>) -> Result<(), Al
             origin,
             files,
             form,
-        } => push_diff(origin, files, *form, answer),
+        } => push_diff(origin, files, diff_text(*form), answer),
         Job::Request { id } => push_given("request", id, "", answer),
         Job::Import { zone, existing } => push_zone(
             "import",
@@ -85,6 +85,10 @@ fn push_job(alloc: Global, job: &Job<'_>, answer: &mut Vec<u8>) -> Result<(), Al
         Job::Rights { policy, asked } => push_question(policy, asked, answer),
         Job::Serve { service } => push_service(alloc, service, answer),
         Job::CheckPolicy { policy } => push_given("check policy", policy, "", answer),
+        Job::CheckIsolation { policy, caller } => push_all(
+            &["check isolation (", policy, ") (", caller, ")"],
+            answer,
+        ),
         Job::Explain { number, form } => push_explain(*number, *form, answer),
     }
 }
@@ -97,11 +101,15 @@ fn push_given(word: &str, given: &str, end: &str, answer: &mut Vec<u8>) -> Resul
 fn push_diff(
     origin: &str,
     files: &ZoneFiles<'_>,
-    form: DiffForm,
+    end: &str,
     answer: &mut Vec<u8>,
 ) -> Result<(), AllocError> {
-    push_all(&["diff (", origin, ") (", files.old], answer)?;
-    push_all(&[") (", files.new, ")", diff_text(form)], answer)
+    push_all(
+        &[
+            "diff (", origin, ") (", files.old, ") (", files.new, ")", end,
+        ],
+        answer,
+    )
 }
 
 fn diff_text(form: DiffForm) -> &'static str {

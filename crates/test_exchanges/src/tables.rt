@@ -1,4 +1,4 @@
-//! The tables of a case: in memory, in SQLite over a store in memory and over files of memory, and one that fails.
+//! The tables of a case: in memory, in SQLite over files of memory, and one that fails.
 
 ghost use Rattle.std.specs.Prelude.{◌≡◌, ◌<◌, false};
 
@@ -8,11 +8,11 @@ use anyhow::{Result, anyhow, bail};
 use office_core::{FailTable, MemTable, TableCall, ZoneTable};
 use office_store::{SqlTable, StoreFault};
 use sqlite::{Alter, Connection, Files};
-use sqlite_disk::{Disk, Fuse, Memory};
+use sqlite_disk::Disk;
 use std::alloc::Global;
 use std::marker::Brand;
 use std::sync::ledger::{Blank, Ledger};
-use test_calls::opened;
+use test_stores::{empty_files, opened};
 
 /// What a table answers to some steps, and no more.
 fn answered_by<T: ZoneTable + Drop>(
@@ -78,10 +78,6 @@ fn asked<S: Alter + Drop, L: Ledger>(
     answered(alloc, table, &given.policy(alloc)?, steps)
 }
 
-fn over_sqlite(alloc: Global, given: &Given, steps: &[Step]) -> Result<Told> {
-    over_connection(alloc, given, steps, Connection::open_in_memory(alloc)?)
-}
-
 fn over_files<D: Disk + Drop>(
     alloc: Global,
     given: &Given,
@@ -94,14 +90,6 @@ fn over_files<D: Disk + Drop>(
     }
 }
 
-/// Two empty files of memory: disks that never stop, since stores on such disks are in the program that has these rows anyway.
-fn empty_files(alloc: Global) -> Files<Fuse<Memory>> {
-    Files {
-        log: Fuse::new(Memory::new(alloc), u64::MAX),
-        db: Fuse::new(Memory::new(alloc), u64::MAX),
-    }
-}
-
 /// Appends what each table answers to some steps.
 pub fn push_over_each(
     alloc: Global,
@@ -110,7 +98,6 @@ pub fn push_over_each(
     all: &mut Vec<Told>,
 ) -> Result<()> {
     all.push(over_memory(alloc, given, steps)?)?;
-    all.push(over_sqlite(alloc, given, steps)?)?;
     all.push(over_files(alloc, given, steps, empty_files(alloc))?)?;
     Ok(())
 }

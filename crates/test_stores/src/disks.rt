@@ -2,12 +2,12 @@
 
 use crate::acts::done;
 use crate::deed::Deed;
+use crate::files::{MemoryDisk, opened};
 use anyhow::{Result, anyhow, bail};
 use grant_policy::Policy;
 use sqlite::Files;
 use sqlite_disk::{Crash, Disk, Fuse, Memory};
 use std::alloc::Global;
-use test_calls::opened;
 
 /// What two disks hold: the log of a store, and its database.
 #[derive(Drop)]
@@ -17,7 +17,7 @@ pub struct Held {
 }
 
 /// Two disks, each of which passes some calls.
-type Disks = Files<Fuse<Memory>>;
+pub type Disks = Files<MemoryDisk>;
 
 /// The disk that stops.
 #[derive(Clone, Copy, PartialEq, Eq)]
@@ -70,7 +70,7 @@ impl Stop {
 }
 
 /// A disk with these octets.
-fn disk(alloc: Global, octets: &[u8], calls: u64) -> Result<Fuse<Memory>> {
+fn disk(alloc: Global, octets: &[u8], calls: u64) -> Result<MemoryDisk> {
     let mut memory = Memory::new(alloc);
     memory.write_at(0, octets)?;
     memory.sync()?;
@@ -78,7 +78,7 @@ fn disk(alloc: Global, octets: &[u8], calls: u64) -> Result<Fuse<Memory>> {
 }
 
 /// What a disk holds behind a stop of the machine.
-fn octets_behind(alloc: Global, disk: Fuse<Memory>, loss: Loss) -> Result<Vec<u8>> {
+fn octets_behind(alloc: Global, disk: MemoryDisk, loss: Loss) -> Result<Vec<u8>> {
     let mut disk = disk;
     if loss == Loss::Unsynced {
         disk.crash();
@@ -173,8 +173,28 @@ impl Held {
     }
 
     /// What disks hold with the log copied into the database.
-    pub fn settle(&self, alloc: Global) -> Result<Held> {
-        let disks = settled(alloc, self.disks(alloc, Stop::NEVER)?)?;
+    fn settle(&self, alloc: Global) -> Result<Held> {
+        Held::of(alloc, settled(alloc, self.sound_disks(alloc)?)?)
+    }
+
+    /// Does something to the store on disks that never stop, and copies the log into the database.
+    pub fn act_settled(
+        &self,
+        alloc: Global,
+        policy: &Policy,
+        deed: &Deed,
+    ) -> Result<(Vec<u8>, Held)> {
+        let (told, held) = self.act(alloc, Stop::NEVER, policy, deed)?;
+        Ok((told, held.settle(alloc)?))
+    }
+
+    /// Disks that hold this and never stop.
+    pub fn sound_disks(&self, alloc: Global) -> Result<Disks> {
+        self.disks(alloc, Stop::NEVER)
+    }
+
+    /// What some disks hold.
+    pub fn of(alloc: Global, disks: Disks) -> Result<Held> {
         held_behind(alloc, disks, Loss::Nothing)
     }
 }

@@ -1,11 +1,15 @@
-//! Stores over databases in memory, and on disks that stop, by rows: tables that are made and found, zones that come and go, rows that
+//! Stores over databases in files of memory, and on disks that stop, by rows: tables that are made and found, zones that come and go, rows that
 //! are no state, stores of version 1, and what is found behind each stop. The wanted answers are written by hand, and the rows of a
 //! store by SQL, as any other program would write them.
 //!
 //! Of a store `create` makes the tables, `migrate` takes them from version 1 to version 2, and `sql` runs the script below. All else
 //! finds the table anew: `adopt` tells whether there is one, `import ORIGIN` and `replace ORIGIN` take the zone of the master file
 //! below, `export ORIGIN` and `subtree ORIGIN TOP` print records, `receipt CALLER ID` tells whether there is one, a call of the office
-//! (`test_calls`) is answered, and `look` asks each line below.
+//! is answered, and `look` asks each line below.
+//!
+//! Calls of the office are `update CALLER ID ORIGIN` with item lines, `delegate CALLER ID ORIGIN CHILD TTL` with lines
+//! `SERVER ADDRESS..`, `list CALLER ORIGIN`, `list-within CALLER ORIGIN TOP`, `file CALLER ORIGIN`, `delegations CALLER ORIGIN`,
+//! `changes CALLER ORIGIN FROM` and `rights CALLER NAME TYPE ACTION`. The reply is printed in words.
 //!
 //! `Stores`: `policy` takes its text from the body. `database` makes a database by the script of the body, and what is said above is
 //! done to it. `again` makes it anew, runs the script below too, and looks for the table, or migrates it for `again migrate`.
@@ -19,12 +23,19 @@
 #![tactic(auto)]
 
 mod acts;
+mod calls;
 mod deed;
 mod disks;
+mod files;
+mod replies;
 mod stops;
 mod stores;
 mod told;
 mod trial;
 
+pub use calls::call_of;
+pub use disks::Held;
+pub use files::{empty_files, opened};
+pub use replies::reply_text;
 pub use stops::Stops;
 pub use stores::Stores;

@@ -1,19 +1,18 @@
 //! A store on disks, which rows make, change, and stop.
 
 use crate::deed::Deed;
-use crate::disks::{Held, Loss, Stop, Stopping};
+use crate::disks::{Held, Loss, Stopping};
+use crate::stores::Stores;
 use crate::trial::{Trial, Whole};
 use anyhow::Result;
-use grant_policy::{Policy, read_policy};
 use std::alloc::{AllocError, Global};
 use test_rows::{Answers, Row, push_unanswered};
 
-/// The texts of the policy and of the look, and what the disks hold.
+/// The store, and the text of the look.
 #[derive(Drop)]
 pub struct Stops {
-    policy: Vec<u8>,
     look: Vec<u8>,
-    held: Held,
+    store: Stores,
 }
 
 /// The stops that are gone through, and what is said of each.
@@ -53,68 +52,46 @@ impl Answers for Stops {
 }
 
 impl Stops {
-    /// No policy, no look, and empty files.
+    /// No policy, no look, and empty disks.
     pub fn new(alloc: Global) -> Stops {
         Stops {
-            policy: Vec::new(alloc),
             look: Vec::new(alloc),
-            held: Held::new(alloc),
+            store: Stores::new(alloc),
         }
     }
 
     fn answer_to(&mut self, alloc: Global, row: &Row<'_>, answer: &mut Vec<u8>) -> Result<()> {
         match row.verb {
-            "policy" | "look" => self.take(alloc, row),
+            "policy" => self.store.take_policy(alloc, row),
+            "look" => self.take_look(alloc, row),
             "disks" => self.begin(alloc),
             "stop" => self.stop(alloc, row, answer),
-            _ => self.act(alloc, row, answer),
+            _ => self.store.act(alloc, row, answer),
         }
     }
 
-    /// Takes the policy or the look of a row.
-    fn take(&mut self, alloc: Global, row: &Row<'_>) -> Result<()> {
-        let text = Vec::from_slice(alloc, &row.body)?;
-        match row.verb {
-            "policy" => self.policy = text,
-            _ => self.look = text,
-        }
+    /// Takes the look of a row.
+    fn take_look(&mut self, alloc: Global, row: &Row<'_>) -> Result<()> {
+        self.look = Vec::from_slice(alloc, &row.body)?;
         Ok(())
     }
 
     /// Begins with empty disks.
     fn begin(&mut self, alloc: Global) -> Result<()> {
-        self.held = Held::new(alloc);
+        self.store.held = Held::new(alloc);
         Ok(())
-    }
-
-    /// Does what a row says to the store on the disks.
-    fn act(&mut self, alloc: Global, row: &Row<'_>, answer: &mut Vec<u8>) -> Result<()> {
-        let policy = read_policy(alloc, &self.policy)?;
-        self.act_under(alloc, &policy, &Deed::of(alloc, row)?, answer)
-    }
-
-    fn act_under(
-        &mut self,
-        alloc: Global,
-        policy: &Policy,
-        deed: &Deed,
-        answer: &mut Vec<u8>,
-    ) -> Result<()> {
-        let (told, held) = self.held.act(alloc, Stop::NEVER, policy, deed)?;
-        self.held = held.settle(alloc)?;
-        Ok(answer.extend_from_slice(&told)?)
     }
 
     /// Goes through the stops of what stands behind the first word of a row.
     fn stop(&self, alloc: Global, row: &Row<'_>, answer: &mut Vec<u8>) -> Result<()> {
-        push_trial(alloc, &self.trial(alloc, row)?, &self.held, answer)
+        push_trial(alloc, &self.trial(alloc, row)?, &self.store.held, answer)
     }
 
     fn trial(&self, alloc: Global, row: &Row<'_>) -> Result<Trial> {
         let deed = Deed::behind_verb(alloc, row)?;
         let look = Deed::below(alloc, "look", &self.look)?;
         Ok(Trial {
-            policy: read_policy(alloc, &self.policy)?,
+            policy: self.store.policy(alloc)?,
             deed,
             look,
         })

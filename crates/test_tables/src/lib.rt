@@ -5,7 +5,7 @@
 //! receipt of the items below; both read it again. `read-origin TEXT`, `read-reply WORDS`, `read-record ROW`, `read-receipt ROW` and
 //! `read-changes ORIGIN`, with the rows below, print what is read.
 //!
-//! `new` takes a store in memory without tables, `make VERSION` makes the tables, `sql STATEMENT` runs a statement, and `tables` prints
+//! `new` takes a store without tables, in files of memory, `make VERSION` makes the tables, `sql STATEMENT` runs a statement, and `tables` prints
 //! whether the tables, none or others are there. `write` writes what stands below: `version NUMBER`, `zone ORIGIN`, `add`, `remove`,
 //! `change` and `receipt` with a row. `zone ORIGIN`, `records ORIGIN`, `records-at ORIGIN KEY`, `records-between ORIGIN FROM TO`,
 //! `receipts CALLER ID`, `changes ORIGIN`, `last ORIGIN`, `versions` and `all` print what is answered, in the order of the texts.

@@ -13,17 +13,19 @@ use crate::table_queries::{
 };
 use office_rows::RowFault;
 use office_sql::{RowsFault, has_no_tables, has_tables, make_tables, write};
-use sqlite::{Alter, Connection, MemStore};
+use sqlite::{Alter, Connection, Files};
+use sqlite_disk::Disk;
 use std::alloc::{AllocError, Global};
 use test_rows::{Answers, Row};
+use test_stores::{Held, opened};
 
-/// Answers to rows over a store in memory.
+/// Answers to rows over the store that some disks hold.
 #[derive(Drop)]
-pub struct Tables<S: Alter + Drop> {
-    conn: Connection<S>,
+pub struct Tables {
+    held: Held,
 }
 
-impl Answers for Tables<MemStore> {
+impl Answers for Tables {
     fn answer(
         &mut self,
         alloc: Global,
@@ -37,12 +39,12 @@ impl Answers for Tables<MemStore> {
     }
 }
 
-impl Tables<MemStore> {
-    /// Over a store without tables.
-    pub fn new(alloc: Global) -> Result<Self, AllocError> {
-        Ok(Tables {
-            conn: Connection::open_in_memory(alloc)?,
-        })
+impl Tables {
+    /// Empty disks.
+    pub fn new(alloc: Global) -> Tables {
+        Tables {
+            held: Held::new(alloc),
+        }
     }
 
     fn answer_to(
@@ -52,33 +54,49 @@ impl Tables<MemStore> {
         answer: &mut Vec<u8>,
     ) -> Result<(), Refusal> {
         if row.verb == "new" {
-            self.hold(Connection::open_in_memory(alloc)?);
+            self.held = Held::new(alloc);
             return push("new", answer);
         }
-        self.act(alloc, row, answer)
+        let disks = self.held.sound_disks(alloc).or(Err(Refusal::Columns))?;
+        let (answered, disks) = act(alloc, disks, row, answer);
+        self.held = Held::of(alloc, disks).or(Err(Refusal::Columns))?;
+        answered
     }
 }
 
-impl<S: Alter + Drop> Tables<S> {
-    /// Holds a connection in the place of the last one.
-    fn hold(&mut self, conn: Connection<S>) {
-        self.conn = conn;
+/// Answers a row over the store on some disks, and gives the disks back.
+fn act<D: Disk + Drop>(
+    alloc: Global,
+    disks: Files<D>,
+    row: &Row<'_>,
+    answer: &mut Vec<u8>,
+) -> (Result<(), Refusal>, Files<D>) {
+    match opened(alloc, disks) {
+        Ok(conn) => {
+            let mut conn = conn;
+            let answered = act_on(alloc, &mut conn, row, answer);
+            (answered, conn.into_store().close())
+        }
+        Err(disks) => (Err(Refusal::Columns), disks),
     }
+}
 
-    /// Answers a row over the connection.
-    fn act(&mut self, alloc: Global, row: &Row<'_>, answer: &mut Vec<u8>) -> Result<(), Refusal> {
-        if !self.conn.is_autocommit() {
-            return push("a transaction goes on", answer);
-        }
-        match row.verb {
-            "make" => make(&mut self.conn, row, answer),
-            "write" => write_below(alloc, &mut self.conn, row, answer),
-            "sql" => run(&mut self.conn, row, answer),
-            "tables" => push(tables_of(&self.conn), answer),
-            "no-memory" => Err(Refusal::Store(RowsFault::NoMemory)),
-            "no-memory-row" => Err(Refusal::Row(RowFault::NoMemory)),
-            _ => answer_from(alloc, &mut self.conn, row, answer),
-        }
+/// Answers a row over a connection.
+fn act_on<S: Alter>(
+    alloc: Global,
+    conn: &mut Connection<S>,
+    row: &Row<'_>,
+    answer: &mut Vec<u8>,
+) -> Result<(), Refusal> {
+    if !conn.is_autocommit() {
+        return push("a transaction goes on", answer);
+    }
+    match row.verb {
+        "make" => make(conn, row, answer),
+        "write" => write_below(alloc, conn, row, answer),
+        "sql" => run(conn, row, answer),
+        "tables" => push(tables_of(conn), answer),
+        _ => answer_from(alloc, conn, row, answer),
     }
 }
 
@@ -167,6 +185,8 @@ fn answer_of(alloc: Global, row: &Row<'_>, answer: &mut Vec<u8>) -> Result<(), R
         "read-record" => rows::push_record(alloc, &row.text, answer),
         "read-receipt" => rows::push_receipt(alloc, &row.text, answer),
         "read-changes" => rows::push_changes(alloc, row, answer),
+        "no-memory" => Err(Refusal::Store(RowsFault::NoMemory)),
+        "no-memory-row" => Err(Refusal::Row(RowFault::NoMemory)),
         _ => push("no such verb", answer),
     }
 }

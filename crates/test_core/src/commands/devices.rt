@@ -3,7 +3,9 @@
 use command_line::{QuestionWords, TextForm, ZoneForm};
 use dns_master::Pieces;
 use std::alloc::{AllocError, Global};
-use text_commands::{Apply, Canon, Explain, Findings, JobFault, Request, Task, do_check, do_task};
+use text_commands::{
+    Apply, Canon, Explain, Findings, JobFault, Request, Subject, Task, do_check, do_task,
+};
 
 /// How a device works.
 #[derive(Clone, Copy)]
@@ -55,7 +57,8 @@ impl Command<'_> {
             "request" => self.run_task(alloc, Request { id: words }, reading, writing),
             "rights" => self.run_task(alloc, question(words), reading, writing),
             "explain" => self.run_task(alloc, asked(words), reading, writing),
-            "check" => self.run_check(alloc, reading, writing),
+            "check" => self.run_check(alloc, Subject::Rules, reading, writing),
+            "isolation" => self.run_check(alloc, Subject::Isolation(words), reading, writing),
             _ => no_command(alloc),
         }
     }
@@ -76,12 +79,13 @@ impl Command<'_> {
     fn run_check(
         self,
         alloc: Global,
+        subject: Subject<'_>,
         reading: Manner,
         writing: Manner,
     ) -> Result<Printed, AllocError> {
         let reader = reading.device(Vec::from_slice(alloc, self.input)?);
         let writer = writing.device(Vec::new(alloc));
-        let (page, done) = do_check(alloc, reader, writer);
+        let (page, done) = do_check(alloc, subject, reader, writer);
         Ok((page.octets, done))
     }
 }

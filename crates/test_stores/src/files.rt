@@ -2,8 +2,19 @@
 
 use office_sql::connect;
 use sqlite::{Connection, FileStore, Files, Options};
-use sqlite_disk::Disk;
+use sqlite_disk::{Disk, Fuse, Memory};
 use std::alloc::Global;
+
+/// A disk of memory that can stop.
+pub type MemoryDisk = Fuse<Memory>;
+
+/// Two empty files of memory, on disks that never stop.
+pub fn empty_files(alloc: Global) -> Files<MemoryDisk> {
+    Files {
+        log: Fuse::new(Memory::new(alloc), u64::MAX),
+        db: Fuse::new(Memory::new(alloc), u64::MAX),
+    }
+}
 
 /// A connection to the database of two files, of which few pages are kept; or the files, where it can't be opened.
 pub fn opened<D: Disk + Drop>(

@@ -12,7 +12,11 @@ use test_rows::Row;
 use zone_core::Prerequisite;
 
 /// Appends the answer to a row of bodies.
-pub fn push_answer(alloc: Global, row: &Row<'_>, answer: &mut Vec<u8>) -> Result<(), AllocError> {
+pub fn push_body_answer(
+    alloc: Global,
+    row: &Row<'_>,
+    answer: &mut Vec<u8>,
+) -> Result<(), AllocError> {
     match answer_to(alloc, row, answer) {
         Ok(()) => Ok(()),
         Err(refusal) => answer.extend_from_slice(refusal.text(alloc)?.as_bytes()),

@@ -2,7 +2,7 @@ use Rattle.std.proofs.Common.{◌≡◌, ℕ, List, false, not, sym, ◌∙◌}
 use Rattle.std.proofs.lemmas.Bool.{not-false}
 use Rattle.dns_names.specs.Order.{same_name}
 use Rattle.zone_core.proofs.SetLemmas.{name_is}
-use Rattle.test_core.proofs.zones.differences.push_difference.Goals as goal
+use Rattle.test_zones.proofs.zones.differences.push_difference.Goals as goal
 
 same_origin : (a b : List (List ℕ)) → false ≡ not (same_name a b) → a ≡ b
 same_origin a b e = name_is a b (not-false (same_name a b) (sym e))

@@ -1,6 +1,7 @@
 //! Answers to rows of files.
 
-use crate::office::listening;
+use crate::callers_office::listening;
+use crate::program::push_run;
 use crate::store_file::{execute, found, fresh_path, remove, served, zone_told};
 use anyhow::Result;
 use std::alloc::{AllocError, Global};
@@ -48,6 +49,7 @@ impl<'a> Files<'a> {
             "policy" => write(self.rt, self.policy.as_str(), &row.body),
             "comment" => self.write_comment(&row.text),
             "sql" => execute(self.rt, self.store.as_str(), &row.body),
+            "run" => self.run(row, answer),
             _ => self.push_told(row, answer),
         }
     }
@@ -57,6 +59,23 @@ impl<'a> Files<'a> {
         self.store = fresh_path(self.rt, name, "store")?;
         self.policy = fresh_path(self.rt, name, "policy")?;
         Ok(())
+    }
+
+    /// Appends what the program does with the words of a row, which have bars between them. `STORE` and `POLICY` are the two paths.
+    fn run(&self, row: &Row<'_>, answer: &mut Vec<u8>) -> Result<()> {
+        let mut words = Vec::new(self.rt.alloc());
+        for word in text_of(&row.text).split('|') {
+            words.push(self.word(word))?;
+        }
+        Ok(push_run(self.rt, &words, &row.body, answer)?)
+    }
+
+    fn word<'b>(&'b self, word: &'b str) -> &'b str {
+        match word {
+            "STORE" => self.store.as_str(),
+            "POLICY" => self.policy.as_str(),
+            word => word,
+        }
     }
 
     /// Removes the files.

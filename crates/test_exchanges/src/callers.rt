@@ -2,7 +2,7 @@
 
 ghost use Rattle.std.specs.Prelude.{◌≡◌, ◌<◌};
 
-use crate::office::{listening, policy, table};
+use crate::callers_office::{listening, policy, table};
 use anyhow::{Result, bail};
 use dns_master::Counted;
 use grant_policy::Policy;

@@ -1,4 +1,4 @@
-//! Answers to rows, and rows of one zone.
+//! Answers to rows of zones, and rows of one zone.
 
 mod delegations;
 mod differences;
@@ -23,7 +23,7 @@ use zone_core::{DelegationFault, Zone, ZoneFault};
 /// Answers to rows, and the zone that the last `zone` built.
 #[derive(Drop)]
 pub struct Zones {
-    pub zone: Option<Zone>,
+    zone: Option<Zone>,
 }
 
 impl Answers for Zones {
@@ -41,6 +41,11 @@ impl Answers for Zones {
 }
 
 impl Zones {
+    /// No zone.
+    pub fn new() -> Zones {
+        Zones { zone: None }
+    }
+
     fn answer_to(
         &mut self,
         alloc: Global,
