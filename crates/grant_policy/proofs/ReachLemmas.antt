@@ -172,7 +172,7 @@ IsBefore above reach = IfSome reach (λ name. IsWithin name above)
 not_longer : (name : Labels) (label : List ℕ) → ¬ IsWithin name (label ∷ name)
 not_longer name label (front, e) = omega (arith, ap (λ (x : Labels). length x) e, length-append front (label ∷ name))
 
--- what is within each name is none
+-- a reach that is within every name reaches nothing
 reach_none : (reach : Option Labels) → ((above : Labels) → IsBefore above reach) → reach ≡ None
 reach_none None all = refl
 reach_none (Some name) all = absurd (not_longer name [] (all ([] ∷ name)))

@@ -14,9 +14,9 @@ pub fn footprints_are_asked_in_order()
 
 /// A caller is told what it would be told if nobody else asked anything, as long as what others change is at none of its own names,
 /// those at which the policy grants it something. It must not see the SOA at the origin of a zone, whose serial shows that there
-/// were changes: it has no right on it, or at least may neither list nor check it, and then others may add an SOA there. And it is
-/// told so whatever is asked, where the policy grants no other caller to change records at its own names. So it is told if the
-/// policy isolates it, which `isolation` of `grant_policy` decides.
+/// were changes: it has no right on it, or at least may neither list nor check it, and then others may add an SOA there. Whatever is
+/// asked, the same holds if the policy grants no other caller to change records at its own names, and hence if the policy isolates
+/// it, which `isolation` of `grant_policy` decides.
 pub fn callers_are_alone()
     ensures rights { CallersAreAlone }
     ensures visibility { BlindCallersAreAlone }

@@ -26,11 +26,11 @@ pub trait Surroundings<I: Read + Drop, F: Read + Drop, W: Write + Drop> {
     fn input(&self) -> I
         ensures { I.remaining result ≡ (around self.now).input };
 
-    /// The file of a policy. If there is none, its first read fails.
+    /// The file of a policy. Without one, its first read fails.
     fn policy(&self, path: &str) -> F
         ensures { F.remaining result ≡ (around self.now).policy path.now };
 
-    /// The file of a zone, and standard input where the path is `-`. If there is none, its first read fails.
+    /// The file of a zone, and standard input where the path is `-`. Without one, its first read fails.
     fn zone(&self, path: &str) -> F
         ensures { F.remaining result ≡ (around self.now).zone path.now };
 

@@ -16,7 +16,7 @@ pub trait Answers {
     ) -> Result<(), AllocError>;
 }
 
-/// Appends why there is no answer, where there is none.
+/// Appends nothing to an answer that was made, and otherwise why it was not.
 pub fn push_unanswered<E: Display + Drop>(
     alloc: Global,
     answered: Result<(), E>,

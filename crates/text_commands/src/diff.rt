@@ -101,7 +101,7 @@ impl Task for Diff {
     }
 }
 
-/// The zone of an origin and a reader that gives its master file. Where there is none, a line tells why.
+/// The zone of an origin and a reader that gives its master file. On a failure, a line tells why.
 fn old_zone<R: Source, W: Sink>(
     alloc: Global,
     origin: &str,

@@ -23,6 +23,7 @@ impl Manner {
         fails: 0,
     };
 
+    /// A device that holds these octets and goes this manner.
     pub fn device(self, octets: Vec<u8>) -> Pieces {
         Pieces::new(octets, self.most, self.fails)
     }
