@@ -1,5 +1,5 @@
 -- The items between two zones lead from the one to the other, and are read as they were printed.
-use Rattle.std.proofs.Common.{◌≡◌, ◌∙◌, ap, sym, refl, subst, ℕ, ◌≤◌, List, [], ◌∷◌, ◌++◌, length, Bool, true, false, cond, Option, Some, None, Result, Ok, Err, inl, inr, arith}
+use Rattle.std.proofs.Common.{◌≡◌, ◌∙◌, ap, sym, refl, subst, ℕ, ◌≤◌, List, [], ◌∷◌, ◌++◌, length, Bool, true, false, cond, if◌then◌else◌, Option, Some, None, Result, Ok, Err, inl, inr, arith}
 use Rattle.std.specs.List.{AllByRecursion, filter}
 use Rattle.dns_names.specs.Labels.{IsWithin}
 use Rattle.zone_core.specs.declared.update.Operation.{Operation}
@@ -12,18 +12,22 @@ use Rattle.zone_core.specs.Prerequisites.{verdict, failure}
 use Rattle.zone_core.specs.Met.{AreMet}
 use Rattle.command_line.specs.declared.job.DiffForm.{DiffForm}
 use Rattle.command_line.specs.declared.job.DiffForm.TheVariants.{Bare, Guarded}
-use Rattle.zone_core.specs.Effects.{zone_after}
-use Rattle.zone_core.specs.Differences.{operations, target}
+use Rattle.zone_core.specs.Effects.{effects, serial_advanced, zone_after}
+use Rattle.zone_core.specs.Differences.{operations}
 use Rattle.zone_core.specs.DifferencePromises.{AddsSoaLast, AreWithin}
-use Rattle.zone_core.proofs.ZoneLemmas.{Keys, keys_of}
+use Rattle.zone_core.proofs.ZoneLemmas.{Keys, effects_heir, keys_of}
 use Rattle.zone_core.proofs.ChangedLemmas.{listed}
 use Rattle.zone_core.proofs.MetLemmas.{met_answer}
 use Rattle.zone_core.proofs.UpdateLemmas.{none_outside}
 use Rattle.zone_core.proofs.DiffPromiseLemmas.{operations_lead, operations_soa, operations_within}
 use Rattle.item_lines.proofs.PrintLaws.{update_read}
-use Rattle.text_commands.specs.Apply.{first_unmet, updated, unless, zone_lines, not_met, not_zone}
-use Rattle.text_commands.specs.Diff.{DiffsAreApplied, DiffsAreMet, DiffsLead, prerequisites_in, target_of, update_between, update_in}
-use Rattle.text_commands.proofs.GuardLaws.{each_guard, guards_met}
+use Rattle.text_commands.specs.Apply.{first_unmet, updated, unless, zone_lines}
+use Rattle.text_commands.specs.Diff.{DiffsAreApplied, DiffsAreMadeBeside, DiffsAreMet, DiffsHaveRoom, DiffsLead, DiffsTell, OperationsAreGuarded, OperationsTell, prerequisites_in, target_of, update_between, update_in}
+use Rattle.text_commands.specs.Guards.{changes_set}
+use Rattle.text_commands.specs.GuardPromises.{HaveSameSet}
+use Rattle.text_commands.proofs.GuardLaws.{each_guard, guards_make_room, guards_met, guards_tell}
+use Rattle.text_commands.proofs.OperationLaws.{each_tells, none_asked, none_needed}
+use Rattle.text_commands.proofs.BesideLaws.{made_beside}
 
 -- ---- no more than one SOA is added
 
@@ -94,13 +98,13 @@ module _ (old new : ZoneOf) (is_old : IsZone old) (is_new : IsZone new) (same : 
   are_prerequisites Bare = tt
   are_prerequisites Guarded =
       each_guard old.records new.records ops is_old.kept is_new.kept IsPrerequisite (λ r here. let is = (is_old.kept (key_of r) r here).1 in (is.owner, is.rdata))
-      (λ r here. (is_new.kept (key_of r) r here).1.owner)
+      (λ r here. let owner = (is_new.kept (key_of r) r here).1.owner in (owner, λ t. owner))
 
   test_within : (form : DiffForm) → AllByRecursion (λ p. IsWithin (tested_name p) old.origin) (prerequisites_in form old new ops)
   test_within Bare = tt
   test_within Guarded =
       each_guard old.records new.records ops is_old.kept is_new.kept (λ p. IsWithin (tested_name p) old.origin) (λ r here. is_old.owners r here)
-      (λ r here. subst (λ o. IsWithin r.owner o) same (is_new.owners r here))
+      (λ r here. let owner = subst (λ o. IsWithin r.owner o) same (is_new.owners r here) in (owner, λ t. owner))
 
   are_met : (form : DiffForm) → AreMet old.records (prerequisites_in form old new ops)
   are_met Bare = tt
@@ -134,6 +138,36 @@ diffs_lead old new is_old is_new same = leads old new is_old is_new same
 pub diffs_met : DiffsAreMet
 diffs_met Bare old new is_old is_new = tt
 diffs_met Guarded old new is_old is_new = guards_met old.records new.records (operations old.origin old.records new.records) is_old.kept
+
+pub diffs_tell : DiffsTell
+diffs_tell old new now m =
+    guards_tell old.records new.records now.records (operations old.origin old.records new.records) m.is_old.kept m.is_new.kept m.met
+
+pub diffs_have_room : DiffsHaveRoom
+diffs_have_room old new now m =
+    guards_make_room old.records new.records now.records (operations old.origin old.records new.records) m.is_old.kept m.is_new.kept m.met m.is_new.cnames
+
+pub operations_tell : OperationsTell
+operations_tell old new now m =
+    each_tells old.origin old.records new.records (old_keys old new m.is_old m.is_new m.new_origin) (new_keys old new m.is_old m.is_new m.new_origin) now.records m.met
+
+pub diffs_made_beside : DiffsAreMadeBeside
+diffs_made_beside old new now m r other =
+    let all : List Operation = operations old.origin old.records new.records in
+    let first = old_keys old new m.is_old m.is_new m.new_origin in
+    let second = new_keys old new m.is_old m.is_new m.new_origin in
+    let third = subst (λ o. Keys o now.records) m.now_origin (keys_of now.origin now.records m.is_now) in
+    let inside = within old new m.is_old m.is_new m.new_origin in
+    let few = one_added old.origin old.records _ all (operations_soa old.origin old.records new.records first second) in
+    let heir = effects_heir old.origin now.records third all (are_operations old.origin all inside) (are_within old.origin all inside) few in
+    subst (λ o. HaveSameSet (serial_advanced o now.records (effects o now.records all)) (if changes_set old.records new.records all r then new.records else now.records) r) (sym m.now_origin)
+    (made_beside old.origin old.records new.records now.records first second third m.met heir r other)
+
+pub operations_guarded : OperationsAreGuarded
+operations_guarded old new is_old is_new same = (
+  none_needed old.origin old.records new.records (old_keys old new is_old is_new same) (new_keys old new is_old is_new same),
+  none_asked old.origin old.records new.records (old_keys old new is_old is_new same) (new_keys old new is_old is_new same),
+)
 
 pub diffs_applied : DiffsAreApplied
 diffs_applied form old new is_old is_new same few_tests few =

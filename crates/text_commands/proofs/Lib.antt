@@ -8,6 +8,8 @@ pub mod SendLemmas
 pub mod StepLemmas
 pub mod ExplainLemmas
 pub mod GuardLaws
+pub mod OperationLaws
+pub mod BesideLaws
 pub mod CheckLemmas
 pub mod DiffLaws
 pub mod DiffLemmas

@@ -1,7 +1,11 @@
 -- What `diff` prints: the items that lead from one zone to another of the same origin, and in a form prerequisites before them.
-use Rattle.std.specs.Prelude.{◌≡◌, ℕ, ◌≤◌, List, [], length, Option, Result, Ok, Err}
+use Rattle.std.specs.Prelude.{◌≡◌, ◌≢◌, ◌↔◌, ◌⊎◌, ℕ, ◌≤◌, List, [], length, true, if◌then◌else◌, Option, Result, Ok, Err}
+use Rattle.dns_data.specs.declared.record.Record.{Record}
+use Rattle.dns_data.specs.declared.record_type.RecordType.TheVariants as types
+use Rattle.dns_data.specs.Rdata.{type_of}
 use Rattle.zone_core.specs.declared.update.Operation.{Operation}
 use Rattle.zone_core.specs.declared.update.Prerequisite.{Prerequisite}
+use Rattle.zone_core.specs.Sets.{IsIn}
 use Rattle.zone_core.specs.Zones.{ZoneOf, IsZone}
 use Rattle.zone_core.specs.Updates.{UpdateOf}
 use Rattle.zone_core.specs.Effects.{zone_after}
@@ -19,7 +23,8 @@ use Rattle.text_commands.specs.LineFaults.{◌>>=◌, limited, Makes}
 use Rattle.text_commands.specs.Replies.{Answered}
 use Rattle.text_commands.specs.Canon.{zone_of_file, zone_read}
 use Rattle.text_commands.specs.Apply.{updated, zone_lines}
-use Rattle.text_commands.specs.Guards.{guards_of}
+use Rattle.text_commands.specs.Guards.{changes_set, guards_of}
+use Rattle.text_commands.specs.GuardPromises.{HaveSameSet, HasRoom, IsOfNoSet, IsOfOperation}
 
 -- the prerequisites before operations between two zones, in a form
 abbrev pub prerequisites_in : DiffForm → ZoneOf → ZoneOf → List Operation → List Prerequisite
@@ -88,6 +93,43 @@ DiffsLead = (old new : ZoneOf) → IsZone old → IsZone new → new.origin ≡ 
 -- the prerequisites of a diff are met in the old zone
 abbrev pub DiffsAreMet : Type 0
 DiffsAreMet = (form : DiffForm) (old new : ZoneOf) → IsZone old → IsZone new → AreMet old.records (update_in form old new).prerequisites
+
+-- the prerequisites before the operations from one zone to another are met in a third of their origin
+pub record Meets (old new now : ZoneOf) : Type 0 where
+  pub is_old : IsZone old
+  pub is_new : IsZone new
+  pub is_now : IsZone now
+  pub new_origin : new.origin ≡ old.origin
+  pub now_origin : now.origin ≡ old.origin
+  pub met : AreMet now.records (update_in Guarded old new).prerequisites
+
+-- there, each record set that the operations change has the data that it has in the old zone
+abbrev pub DiffsTell : Type 0
+DiffsTell =
+    (old new now : ZoneOf) → Meets old new now → (r : Record) → IsIn r old.records ⊎ IsIn r new.records
+    → changes_set old.records new.records (update_in Guarded old new).operations r ≡ true → HaveSameSet now.records old.records r
+
+-- and so has the set of each record that an operation adds or deletes
+abbrev pub OperationsTell : Type 0
+OperationsTell = (old new now : ZoneOf) → Meets old new now → (r : Record) → IsOfOperation (update_in Guarded old new).operations r → HaveSameSet now.records old.records r
+
+-- no record is there for which a record of a new set is left out
+abbrev pub DiffsHaveRoom : Type 0
+DiffsHaveRoom = (old new now : ZoneOf) → Meets old new now → (r : Record) → IsIn r new.records → IsOfNoSet old.records r → HasRoom old.records now.records r
+
+-- and so the operations make of each record set that they change what it is in the new zone, and leave each other as it was there; but for
+-- the SOA
+abbrev pub DiffsAreMadeBeside : Type 0
+DiffsAreMadeBeside =
+    (old new now : ZoneOf) → Meets old new now → (r : Record) → type_of r.rdata ≢ types.Soa
+    → HaveSameSet (zone_after now (update_in Guarded old new)).records
+    (if changes_set old.records new.records (update_in Guarded old new).operations r then new.records else now.records) r
+
+-- there are prerequisites exactly where there are operations
+abbrev pub OperationsAreGuarded : Type 0
+OperationsAreGuarded =
+    (old new : ZoneOf) → IsZone old → IsZone new → new.origin ≡ old.origin
+    → ((update_in Guarded old new).prerequisites ≡ []) ↔ ((update_in Guarded old new).operations ≡ [])
 
 -- if there are no more items than an update may have, they are read as the update, and `apply` prints of the old zone the zone to which
 -- the operations lead

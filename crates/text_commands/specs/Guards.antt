@@ -1,13 +1,17 @@
--- Prerequisites under which the record sets that the operations between two zones change are as in the old zone (RFC 2136 section 2.4).
-use Rattle.std.specs.Prelude.{List, [], ◌∷◌, ◌++◌, map, length, Bool, false, not, ◌&&◌, ◌==◌, if◌then◌else◌}
-use Rattle.std.specs.List.{filter, flat_map, list_all, list_any, zip}
+-- The prerequisites before the operations between two zones (RFC 2136 section 2.4): the record sets that change are as in the old zone, and
+-- no record is there for which section 3.4.2.2 leaves out what comes.
+use Rattle.std.specs.Prelude.{ℕ, List, [], ◌∷◌, ◌++◌, map, length, Bool, false, not, ◌&&◌, ◌==◌, if◌then◌else◌, Option, Some, None}
+use Rattle.std.specs.List.{filter, find, flat_map, list_all, list_any, zip}
 use Rattle.dns_data.specs.declared.record.Record.{Record}
+use Rattle.dns_data.specs.declared.record_type.RecordType.{RecordType}
+use Rattle.dns_data.specs.declared.record_type.RecordType.TheVariants as types
 use Rattle.dns_data.specs.Rdata.{type_of}
+use Rattle.dns_data.specs.Types.{kept_types}
 use Rattle.zone_core.specs.declared.update.Operation.{Operation}
 use Rattle.zone_core.specs.declared.update.Prerequisite.{Prerequisite}
-use Rattle.zone_core.specs.declared.update.Prerequisite.TheVariants.{RrsetEquals, RrsetAbsent}
-use Rattle.zone_core.specs.Sets.{Records, key_of, same_key, listing, part, at}
-use Rattle.zone_core.specs.Zones.{is_soa}
+use Rattle.zone_core.specs.declared.update.Prerequisite.TheVariants.{RrsetEquals, RrsetAbsent, NameUnused}
+use Rattle.zone_core.specs.Sets.{Records, key_of, same_key, listing, part, at_name, at}
+use Rattle.zone_core.specs.Zones.{is_soa, is_cname}
 use Rattle.zone_core.specs.Updates.{adds_soa}
 use Rattle.zone_core.specs.Differences.{is_equal}
 
@@ -38,22 +42,61 @@ abbrev pub changes_set : Records → Records → List Operation → Record → B
 changes_set old new ops r =
     if is_soa (key_of r) then list_any adds_soa ops else not (are_equal (set_like old r) (set_like new r))
 
--- the records with which the record sets begin that are there and change, and those with which sets begin that are not there
+-- the records with which the record sets begin that are there and change
 abbrev pub changed_firsts : Records → Records → List Operation → List Record
 changed_firsts old new ops = filter (λ r. is_first old r && changes_set old new ops r) (listing old)
 
-abbrev pub new_firsts : Records → Records → List Record
-new_firsts old new = filter (λ r. is_first new r && (length (set_like old r) == 0)) (listing new)
+-- ---- the sets that come
 
--- ---- their prerequisites
+-- whether no record is at a name
+abbrev pub is_unused : Records → List (List ℕ) → Bool
+is_unused set name = length (listing (part set (at_name name))) == 0
+
+-- whether no record of a type is at a name
+abbrev pub lacks : Records → List (List ℕ) → RecordType → Bool
+lacks set name t = length (listing (part set (at name t))) == 0
+
+-- whether the old zone has no set of a record's owner and type
+abbrev pub is_new : Records → Record → Bool
+is_new old r = lacks old r.owner (type_of r.rdata)
+
+-- the records with which the record sets begin that come
+abbrev pub new_firsts : Records → Records → List Record
+new_firsts old new = filter (λ r. is_first new r && is_new old r) (listing new)
+
+-- whether a record is this one, its TTL not counted
+abbrev pub is_this : Option Record → Record → Bool
+is_this None r = false
+is_this (Some s) r = same_key (key_of s) (key_of r)
+
+-- whether a record is the first at its name of the records of new sets
+abbrev pub comes_first : Records → Records → Record → Bool
+comes_first old new r = is_this (find (is_new old) (listing (part new (at_name r.owner)))) r
+
+-- ---- prerequisites
 
 abbrev pub there : Record → Prerequisite
 there r = RrsetEquals r.owner r.rdata
 
-abbrev pub not_there : Record → Prerequisite
-not_there r = RrsetAbsent r.owner (type_of r.rdata)
+abbrev pub absent : List (List ℕ) → RecordType → Prerequisite
+absent name t = RrsetAbsent name t
 
--- each record set that is there has these data, and each other does not exist; both in record order
+-- The types of which no record may be at the name of a set that comes, if the old zone uses the name (RFC 2136 section 3.4.2.2). A CNAME is
+-- left out beside any other set: all types that the old zone does not have there. Another set is left out beside a CNAME: its own type
+-- and, once for a name, CNAME, unless the old zone has a CNAME there, which goes.
+abbrev pub types_absent : Records → Records → Record → List RecordType
+types_absent old new r =
+    if is_cname (key_of r) then filter (lacks old r.owner) kept_types
+    else (if lacks old r.owner types.Cname && comes_first old new r then type_of r.rdata ∷ types.Cname ∷ [] else type_of r.rdata ∷ [])
+
+-- The prerequisites for a set that comes: that its name is not in use, once for the name, if the old zone does not use it; else that no
+-- record of these types is there.
+abbrev pub not_there : Records → Records → Record → List Prerequisite
+not_there old new r =
+    if is_unused old r.owner then (if comes_first old new r then NameUnused r.owner ∷ [] else [])
+    else map (absent r.owner) (types_absent old new r)
+
+-- that each record set of the old zone that changes has its data, and then those for the sets that come; both in record order
 abbrev pub guards_of : Records → Records → List Operation → List Prerequisite
 guards_of old new ops =
-    flat_map (λ r. map there (set_like old r)) (changed_firsts old new ops) ++ map not_there (new_firsts old new)
+    flat_map (λ r. map there (set_like old r)) (changed_firsts old new ops) ++ flat_map (not_there old new) (new_firsts old new)

@@ -10,6 +10,7 @@ pub mod Rights
 pub mod Explain
 pub mod Check
 pub mod Guards
+pub mod GuardPromises
 pub mod Diff
 pub mod Request
 pub mod RefusalTables

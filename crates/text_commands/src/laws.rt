@@ -2,7 +2,7 @@
 
 ghost use Rattle.std.specs.Prelude.{◌≡◌, ◌↔◌, List, ℕ, Some};
 ghost use Rattle.text_commands.specs.Canon.{ZonesAreReadAgain};
-ghost use Rattle.text_commands.specs.Diff.{DiffsLead, DiffsAreMet, DiffsAreApplied};
+ghost use Rattle.text_commands.specs.Diff.{DiffsLead, DiffsAreMet, DiffsTell, OperationsTell, DiffsHaveRoom, DiffsAreMadeBeside, OperationsAreGuarded, DiffsAreApplied};
 ghost use Rattle.text_commands.specs.Parts.{Parts, IsDivided, divided};
 ghost use Rattle.text_commands.specs.RefusalLaws.{RowsAreOfTheirNumber, NumbersAreApart, TextsArePlain};
 
@@ -24,6 +24,17 @@ pub fn diffs_lead()
     ensures lead { DiffsLead }
     ensures met { DiffsAreMet }
     ensures applied { DiffsAreApplied }
+{}
+
+/// In a zone in which the prerequisites of a diff are met, the operations make of each record set that they change what it is in the new
+/// zone, and leave the others: the sets that change have the data of the old zone, and no record is there for which RFC 2136 section
+/// 3.4.2.2 leaves out what comes. There are prerequisites exactly where there are operations.
+pub fn diffs_are_guarded()
+    ensures told { DiffsTell }
+    ensures acted { OperationsTell }
+    ensures room { DiffsHaveRoom }
+    ensures beside { DiffsAreMadeBeside }
+    ensures bare { OperationsAreGuarded }
 {}
 
 /// The rows of a refusal's number are those of its parts.

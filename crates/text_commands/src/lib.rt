@@ -34,8 +34,8 @@ pub use diff_fault::DiffFault;
 pub use explain::Explain;
 pub use input_file::InputFile;
 pub use laws::{
-    diffs_lead, numbers_are_apart, rows_are_of_their_number, text_is_divided, texts_are_plain,
-    zones_are_read_again,
+    diffs_are_guarded, diffs_lead, numbers_are_apart, rows_are_of_their_number, text_is_divided,
+    texts_are_plain, zones_are_read_again,
 };
 pub use line_fault::{JobFault, LineFault, NO_MEMORY_LINE};
 pub use policy_file::PolicyFile;

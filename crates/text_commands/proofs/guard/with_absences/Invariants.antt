@@ -1,9 +1,8 @@
-use Rattle.std.proofs.Common.{◌≡◌, ◌++◌, map, take, length, ◌&&◌}
-use Rattle.std.specs.Prelude.{◌==◌}
-use Rattle.std.specs.List.{filter}
-use Rattle.text_commands.specs.Guards.{set_like, is_first, not_there}
+use Rattle.std.proofs.Common.{◌≡◌, ◌++◌, take, ◌&&◌}
+use Rattle.std.specs.List.{filter, flat_map}
+use Rattle.text_commands.specs.Guards.{is_first, is_new, not_there}
 use Rattle.text_commands.proofs.guard.with_absences.Given as goal
 
 abbrev pub invariant-loop-record : goal.invariant-loop-record
 invariant-loop-record l =
-    l.guards.items ≡ l.fn.guards.items ++ map not_there (filter (λ r. is_first l.new.records r && (length (set_like l.old.records r) == 0)) (take l.record-index l.record-items))
+    l.guards.items ≡ l.fn.guards.items ++ flat_map (not_there l.old.records l.new.records) (filter (λ r. is_first l.new.records r && is_new l.old.records r) (take l.record-index l.record-items))
