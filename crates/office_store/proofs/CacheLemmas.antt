@@ -1,10 +1,10 @@
 -- The cached zone, and the state that the connection holds.
-use Rattle.std.proofs.Common.{◌≡◌, ◌⊎◌, ℕ, inl, inr, pos, suc, ◌+◌, ◌<◌, ◌≤◌, List, [], ◌∷◌, ◌++◌, length, get_or, add-one, ◌&&◌, bytes_eq, cond, true, false, map, drop, Option, Some, None, option_map, Result, Ok, Err, IfOk, IfSome, IsTrue, IsPermutation, refl, sym, ap, subst, ◌∙◌}
+use Rattle.std.proofs.Common.{◌≡◌, ◌⊎◌, ℕ, inl, inr, pos, suc, ◌+◌, ◌<◌, ◌≤◌, List, [], ◌∷◌, ◌++◌, length, get_or, add-one, ◌&&◌, bytes_eq, cond, true, false, map, drop, take, Option, Some, None, option_map, Result, Ok, Err, IfOk, IfSome, IsTrue, IsPermutation, refl, sym, ap, subst, ◌∙◌}
 use Rattle.std.proofs.Math.Logic.{∥∥₁_map, ∥∥₁_elim}
 use Rattle.std.specs.Coded.{Coded-set, coded_option}
 use Rattle.std.specs.Bool.{Decides}
 use Rattle.std.proofs.lemmas.Bool.Decides.{Decides-and, Decides-like, Decides-eqb}
-use Rattle.std.proofs.Math.Seq.{drop-cons}
+use Rattle.std.proofs.Math.Seq.{drop-cons, take-suc}
 use Rattle.std.proofs.lemmas.List.{map-append, drop_all}
 use Rattle.std.proofs.lemmas.List.Sorted.{IsPermutation-sym, IsPermutation-trans}
 use Rattle.sqlite_trees.proofs.ListLemmas.{IsPermutation-filter}
@@ -220,3 +220,17 @@ one_made zone after all waiting i w within is made so =
 -- with all made
 pub all_made : (zone all : ZoneOf) (waiting : List WaitingChange) (n : ℕ) → length waiting ≤ n → zone_behind zone (drop n waiting) ≡ all → zone ≡ all
 all_made zone all waiting n most so = sym (ap (zone_behind zone) (drop_all n waiting most)) ∙ so
+
+-- ---- records behind changes that wait
+
+-- behind the first of them, so many
+abbrev pub records_behind : Records → List WaitingChange → Records
+records_behind set waiting = records_after set (map (λ w. change_in w.change) waiting)
+
+-- and behind one more
+pub one_further : (set : Records) (waiting : List WaitingChange) (i : ℕ) (w : WaitingChange) → i < length waiting → w ≡ get_or waiting i w
+    → changed (records_behind set (take i waiting)) w.change.removed.items w.change.added.items ≡ records_behind set (take (i + 1) waiting)
+one_further set waiting i w within is =
+    let next : take (i + 1) waiting ≡ take i waiting ++ w ∷ [] = rw add-one (take-suc waiting i w within ∙ ap (λ x. take i waiting ++ x ∷ []) (sym is)) in
+    sym (ap (records_behind set) next ∙ ap (records_after set) (map-append (λ (x : WaitingChange). change_in x.change) (take i waiting) (w ∷ []))
+    ∙ one_more set (map (λ (x : WaitingChange). change_in x.change) (take i waiting)) (change_in w.change))

@@ -5,6 +5,7 @@ pub mod TurnLemmas
 pub mod VersionLemmas
 pub mod ZoneLemmas
 pub mod CacheLemmas
+pub mod SubtreeLemmas
 pub mod AdditionLemmas
 pub mod GoneRowLemmas
 pub mod MigratedZoneLemmas

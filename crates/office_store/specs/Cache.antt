@@ -1,9 +1,10 @@
 -- The zone that a table keeps beside its connection, and the changes of it that wait.
 use Rattle.std.specs.Prelude.{◌≡◌, ℕ, List, [], ◌∷◌, map, if◌then◌else◌, Option, Some, None, option_map}
 use Rattle.sqlite.specs.State.{State as Shown, HasCleanDisk}
+use Rattle.dns_names.specs.Labels.{is_within}
 use Rattle.dns_names.specs.Order.{same_name}
 use Rattle.dns_data.specs.declared.record.Record.{Record}
-use Rattle.zone_core.specs.Sets.{Records, listing, part, within}
+use Rattle.zone_core.specs.Sets.{Records, key_of, same_key, listing, cut, part, put, within}
 use Rattle.zone_core.specs.Zones.{ZoneOf}
 use Rattle.zone_core.specs.Changes.{ChangeOf, change_in, changed}
 use Rattle.office_core.specs.States.{State, zone_at}
@@ -36,6 +37,16 @@ pub record IsSubtreeOf (cached : Option ZoneOf) (origin top : List (List ℕ)) (
   pub is_cached : cached ≡ Some zone
   pub own : zone.origin ≡ origin
   pub records : rs ≡ listing (part zone.records (within top))
+
+-- a set without those of some records that are within a name
+abbrev pub cut_within : List (List ℕ) → List Record → Records → Records
+cut_within top [] set = set
+cut_within top (r ∷ rs) set = cut_within top rs (if is_within r.owner top then cut set (same_key (key_of r)) else set)
+
+-- a set with those of some records that are within a name, each in the place of the same one; of two that are the same the first
+abbrev pub put_within : List (List ℕ) → List Record → Records → Records
+put_within top [] set = set
+put_within top (r ∷ rs) set = if is_within r.owner top then put (put_within top rs set) r else put_within top rs set
 
 -- ---- when it is one of the state
 

@@ -1,9 +1,11 @@
 //! The zone that was read last. It follows the commits: a change of it waits beside it, and is made when the zone is asked for next.
+//! For a subtree it is made among the records there alone, and goes on waiting.
 
 ghost use Rattle.std.specs.Prelude.{◌≡◌, ◌⊎◌, Some, None, IfOk, IfSome, option_map};
 ghost use Rattle.sqlite.specs.Held.{state};
 ghost use Rattle.sqlite.specs.State.{HasCleanDisk};
 ghost use Rattle.zone_core.specs.Sets.{InOrder, listing, part, within};
+ghost use Rattle.zone_core.specs.Zones.{IsZone};
 ghost use Rattle.zone_core.specs.Changes.{change_in};
 ghost use Rattle.office_core.specs.States.{State, subtree_at, zone_at};
 ghost use Rattle.office_core.specs.Tables.{Fits, addition_in, committed};
@@ -15,6 +17,7 @@ ghost use Rattle.office_store.specs.Cache.{FitsCache, IsSubtreeOf, cached_after,
 use crate::batch::commit;
 use crate::queries::check_open;
 use crate::reads::{subtree_at, zone_at};
+use crate::within::changed_within;
 use dns_data::Record;
 use dns_names::Name;
 use office_core::{Addition, Receipt};
@@ -23,8 +26,11 @@ use sqlite::{Alter, Connection};
 use std::alloc::{AllocError, Global};
 use zone_core::{Change, Update, Zone, apply_owned};
 
-/// How many changes wait at most. To make one costs a thirtieth of what it costs to read the zone.
-const MOST_WAITING: usize = 16;
+/// How many changes wait at most. To make so many costs half of what it costs to read the zone.
+const MOST_WAITING: usize = 64;
+
+/// How many records of the zone a change of it passes in the time in which one of its own is put among the records within a name.
+const RECORD_COST: usize = 16;
 
 /// A change of the cached zone that was committed, and the update that made it.
 #[derive(Drop)]
@@ -110,6 +116,38 @@ impl CachedZone {
         }
         Ok(Some(zone))
     }
+
+    /// How many records the waiting changes have.
+    fn waiting_records(&self) -> usize {
+        let mut count = 0_usize;
+        for waiting in &self.waiting {
+            let records = waiting
+                .change
+                .removed
+                .len()
+                .saturating_add(waiting.change.added.len());
+            count = count.saturating_add(records);
+        }
+        count
+    }
+
+    /// Whether few changes wait: to make them among other records costs no more than one change of the zone.
+    fn has_few_waiting(&self) -> bool {
+        self.waiting_records().saturating_mul(RECORD_COST) <= self.zone.records().len()
+    }
+
+    /// Copies of the records within a name, with the waiting changes made among them. The only error is out of memory.
+    fn copied_within(&self, alloc: Global, top: &Name) -> Result<Vec<Record>, AllocError>
+        requires { IsZone self.now.zone }
+        ensures value { IfOk result (λ rs. rs.items ≡ listing (part (current_zone self.now).records (within top.now))) }
+        ensures order { IfOk result (λ rs. InOrder rs.items) }
+    {
+        let mut records = self.zone.copied_within(alloc, top)?;
+        for waiting in &self.waiting {
+            records = changed_within(alloc, records, &waiting.change, top)?;
+        }
+        Ok(records)
+    }
 }
 
 /// Takes the cached zone, if it is the one of an origin, with the waiting changes made. The zone of another origin stays cached.
@@ -149,8 +187,27 @@ fn cached_at(
     Ok(Some(copy))
 }
 
-/// Copies of the cached zone's records within a name, if it is the zone of an origin, with the waiting changes made. The only
-/// error is out of memory.
+/// Copies of the cached zone's records within a name, if it is the zone of an origin and few changes wait, which go on waiting. The
+/// only error is out of memory.
+fn few_changed_within(
+    alloc: Global,
+    cache: &Option<CachedZone>,
+    origin: &Name,
+    top: &Name,
+) -> Result<Option<Vec<Record>>, AllocError>
+    ensures found { IfOk result (λ found. IfSome found (λ rs. IsSubtreeOf (cached_in cache.now) origin.now top.now rs.items)) }
+    ensures order { IfOk result (λ found. IfSome found (λ rs. InOrder rs.items)) }
+{
+    match cache {
+        Some(cached) if cached.zone.origin() == origin && cached.has_few_waiting() => {
+            Ok(Some(cached.copied_within(alloc, top)?))
+        }
+        _ => Ok(None),
+    }
+}
+
+/// Copies of the cached zone's records within a name, if it is the zone of an origin. Where many changes wait, they are made in the
+/// zone. The only error is out of memory.
 fn cached_within(
     alloc: Global,
     cache: &mut Option<CachedZone>,
@@ -161,6 +218,9 @@ fn cached_within(
     ensures order { IfOk result (λ found. IfSome found (λ rs. InOrder rs.items)) }
     ensures kept { (cached_in cache.new ≡ cached_in cache.old) ⊎ (cached_in cache.new ≡ None) }
 {
+    if let Some(records) = few_changed_within(alloc, cache, origin, top)? {
+        return Ok(Some(records));
+    }
     let Some(zone) = taken_at(alloc, cache, origin)? else {
         return Ok(None);
     };

@@ -15,6 +15,7 @@ mod opening;
 mod queries;
 mod reads;
 mod table;
+mod within;
 mod zones;
 
 pub use file::Unopened;
