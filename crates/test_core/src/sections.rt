@@ -1,7 +1,8 @@
-use crate::{commands, words};
 use std::alloc::{AllocError, Global};
+use test_commands::{push_command_answer, push_words_answer};
 use test_dns::{Records, push_file_answer, push_name_answer};
-use test_exchanges::{Callers, Files, Office};
+use test_exchanges::Office;
+use test_program::{Callers, Files};
 use test_rows::{Answers, Row};
 use test_stores::{Stops, Stores};
 use test_tables::{Kept, Tables};
@@ -115,8 +116,8 @@ impl Answers for Sections<'_> {
             Section::Exchanges => self.office.answer(alloc, row, answer),
             Section::Stored => self.files.answer(alloc, row, answer),
             Section::Callers => self.callers.answer(alloc, row, answer),
-            Section::Commands => commands::push_answer(alloc, row, answer),
-            Section::Words => words::push_answer(alloc, row, answer),
+            Section::Commands => push_command_answer(alloc, row, answer),
+            Section::Words => push_words_answer(alloc, row, answer),
         }
     }
 }

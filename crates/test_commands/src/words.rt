@@ -8,7 +8,11 @@ use std::alloc::{AllocError, Global};
 use test_rows::Row;
 
 /// Appends the answer to a row of words.
-pub fn push_answer(alloc: Global, row: &Row<'_>, answer: &mut Vec<u8>) -> Result<(), AllocError> {
+pub fn push_words_answer(
+    alloc: Global,
+    row: &Row<'_>,
+    answer: &mut Vec<u8>,
+) -> Result<(), AllocError> {
     let words = words_of(alloc, &row.text)?;
     push_read(alloc, row.verb, &read_words(alloc, &words), answer)
 }

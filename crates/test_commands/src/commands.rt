@@ -10,7 +10,11 @@ use test_rows::Row;
 use text_commands::{Findings, JobFault, LineFault};
 
 /// Appends the answer to a row of commands.
-pub fn push_answer(alloc: Global, row: &Row<'_>, answer: &mut Vec<u8>) -> Result<(), AllocError> {
+pub fn push_command_answer(
+    alloc: Global,
+    row: &Row<'_>,
+    answer: &mut Vec<u8>,
+) -> Result<(), AllocError> {
     let text = str::from_utf8(&row.text).unwrap_or("");
     match row.verb {
         "many" => push_many(alloc, text, &row.body, answer),
