@@ -5,11 +5,7 @@
 //! Of a store `create` makes the tables, `migrate` takes them from version 1 to version 2, and `sql` runs the script below. All else
 //! finds the table anew: `adopt` tells whether there is one, `import ORIGIN` and `replace ORIGIN` take the zone of the master file
 //! below, `export ORIGIN` and `subtree ORIGIN TOP` print records, `receipt CALLER ID` tells whether there is one, a call of the office
-//! is answered, and `look` asks each line below.
-//!
-//! Calls of the office are `update CALLER ID ORIGIN` with item lines, `delegate CALLER ID ORIGIN CHILD TTL` with lines
-//! `SERVER ADDRESS..`, `list CALLER ORIGIN`, `list-within CALLER ORIGIN TOP`, `file CALLER ORIGIN`, `delegations CALLER ORIGIN`,
-//! `changes CALLER ORIGIN FROM` and `rights CALLER NAME TYPE ACTION`. The reply is printed in words.
+//! (`test_office`) is answered, and `look` asks each line below.
 //!
 //! `Stores`: `policy` takes its text from the body. `database` makes a database by the script of the body, and what is said above is
 //! done to it. `again` makes it anew, runs the script below too, and looks for the table, or migrates it for `again migrate`.
@@ -22,20 +18,13 @@
 //! and whether the same, done behind the stop, is told and found as it is to be.
 #![tactic(auto)]
 
+mod acting;
 mod acts;
-mod calls;
 mod deed;
-mod disks;
-mod files;
-mod replies;
 mod stops;
 mod stores;
 mod told;
 mod trial;
 
-pub use calls::call_of;
-pub use disks::Held;
-pub use files::{empty_files, opened};
-pub use replies::reply_text;
 pub use stops::Stops;
 pub use stores::Stores;

@@ -1,11 +1,11 @@
 //! A store on disks, which rows make, change, and stop.
 
 use crate::deed::Deed;
-use crate::disks::{Held, Loss, Stopping};
 use crate::stores::Stores;
 use crate::trial::{Trial, Whole};
 use anyhow::Result;
 use std::alloc::{AllocError, Global};
+use test_office::{Held, Loss, Stopping};
 use test_rows::{Answers, Row, push_unanswered};
 
 /// The store, and the text of the look.

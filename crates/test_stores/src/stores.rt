@@ -1,10 +1,11 @@
 //! A database, which rows make, change and look at.
 
+use crate::acting::act_settled;
 use crate::deed::Deed;
-use crate::disks::Held;
 use anyhow::Result;
 use grant_policy::{Policy, read_policy};
 use std::alloc::{AllocError, Global};
+use test_office::Held;
 use test_rows::{Answers, Row, push_unanswered};
 
 /// The texts of the policy and of the script that made a database, and the disks that hold it.
@@ -99,6 +100,6 @@ impl Stores {
     /// What is told of something that is done to the database, and what the disks hold then.
     fn done(&self, alloc: Global, deed: &Deed) -> Result<(Vec<u8>, Held)> {
         let policy = self.policy(alloc)?;
-        self.held.act_settled(alloc, &policy, deed)
+        act_settled(alloc, &self.held, &policy, deed)
     }
 }

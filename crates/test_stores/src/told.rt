@@ -1,8 +1,6 @@
 //! What the table of a store tells.
 
-use crate::calls::{call, identifier, name};
 use crate::deed::Deed;
-use crate::replies::{push_records, reply_text};
 use anyhow::Result;
 use dns_data::Record;
 use dns_master::read_file;
@@ -12,6 +10,7 @@ use office_store::{SqlTable, StoreFault};
 use sqlite::Alter;
 use std::alloc::Global;
 use std::sync::ledger::Ledger;
+use test_office::{call, identifier, name, push_records, reply_text};
 use test_rows::word;
 use zone_core::Zone;
 

@@ -1,10 +1,11 @@
 //! What is found behind stops.
 
+use crate::acting::act;
 use crate::deed::Deed;
-use crate::disks::{Held, Loss, Stop, Stopping};
 use anyhow::{Result, bail};
 use grant_policy::Policy;
 use std::alloc::{AllocError, Global};
+use test_office::{Held, Loss, Stop, Stopping};
 
 /// What is done to a store, and how it is looked at.
 #[derive(Drop)]
@@ -59,11 +60,11 @@ impl Trial {
     }
 
     fn look_at(&self, alloc: Global, held: &Held) -> Result<(Vec<u8>, Held)> {
-        held.act(alloc, Stop::NEVER, &self.policy, &self.look)
+        act(alloc, held, Stop::NEVER, &self.policy, &self.look)
     }
 
     fn act(&self, alloc: Global, held: &Held) -> Result<(Vec<u8>, Held)> {
-        held.act(alloc, Stop::NEVER, &self.policy, &self.deed)
+        act(alloc, held, Stop::NEVER, &self.policy, &self.deed)
     }
 
     /// Sees what is found on disks behind a stop, and that the same can be done then.
@@ -97,7 +98,7 @@ impl Trial {
         stop: Stop,
         seen: &mut Seen,
     ) -> Result<bool> {
-        let (told, left) = held.act(alloc, stop, &self.policy, &self.deed)?;
+        let (told, left) = act(alloc, held, stop, &self.policy, &self.deed)?;
         self.see_left(alloc, whole, left, seen)?;
         kept_if_done(told == whole.told, seen.found)
     }

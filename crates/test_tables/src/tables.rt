@@ -16,8 +16,8 @@ use office_sql::{RowsFault, has_no_tables, has_tables, make_tables, write};
 use sqlite::{Alter, Connection, Files};
 use sqlite_disk::Disk;
 use std::alloc::{AllocError, Global};
+use test_office::{Held, opened};
 use test_rows::{Answers, Row};
-use test_stores::{Held, opened};
 
 /// Answers to rows over the store that some disks hold.
 #[derive(Drop)]

@@ -1,15 +1,12 @@
 //! Disks that stop.
 
-use crate::acts::done;
-use crate::deed::Deed;
 use crate::files::{MemoryDisk, opened};
 use anyhow::{Result, anyhow, bail};
-use grant_policy::Policy;
 use sqlite::Files;
 use sqlite_disk::{Crash, Disk, Fuse, Memory};
 use std::alloc::Global;
 
-/// What two disks hold: the log of a store, and its database.
+/// What two disks hold: the log of a database, and the database.
 #[derive(Drop)]
 pub struct Held {
     log: Vec<u8>,
@@ -86,36 +83,6 @@ fn octets_behind(alloc: Global, disk: MemoryDisk, loss: Loss) -> Result<Vec<u8>>
     Ok(Vec::from_slice(alloc, disk.inner().bytes())?)
 }
 
-/// What two disks hold behind a stop of the machine.
-fn held_behind(alloc: Global, disks: Disks, loss: Loss) -> Result<Held> {
-    let Files { log, db } = disks;
-    let log = octets_behind(alloc, log, loss)?;
-    Ok(Held {
-        log,
-        db: octets_behind(alloc, db, loss)?,
-    })
-}
-
-/// Does something to the store on some disks.
-fn acted<D: Disk + Drop>(
-    alloc: Global,
-    disks: Files<D>,
-    policy: &Policy,
-    deed: &Deed,
-) -> (Result<Vec<u8>>, Files<D>) {
-    match opened(alloc, disks) {
-        Ok(conn) => {
-            let (told, conn) = done(alloc, conn, policy, deed);
-            (told, conn.into_store().close())
-        }
-        Err(disks) => (unopened(alloc), disks),
-    }
-}
-
-fn unopened(alloc: Global) -> Result<Vec<u8>> {
-    Ok(Vec::from_slice(alloc, b"not opened")?)
-}
-
 /// Copies the log into the database.
 fn settled<D: Disk + Drop>(alloc: Global, disks: Files<D>) -> Result<Files<D>> {
     match opened(alloc, disks) {
@@ -150,42 +117,13 @@ impl Held {
         self.log == other.log && self.db == other.db
     }
 
-    fn disks(&self, alloc: Global, stop: Stop) -> Result<Disks> {
+    /// Disks that hold this and stop.
+    pub fn disks(&self, alloc: Global, stop: Stop) -> Result<Disks> {
         let log = disk(alloc, &self.log, stop.log_calls)?;
         Ok(Files {
             log,
             db: disk(alloc, &self.db, stop.database_calls)?,
         })
-    }
-
-    /// Does something to the store on disks that hold this and stop, and tells what is told of it, and what they hold then.
-    pub fn act(
-        &self,
-        alloc: Global,
-        stop: Stop,
-        policy: &Policy,
-        deed: &Deed,
-    ) -> Result<(Vec<u8>, Held)> {
-        let disks = self.disks(alloc, stop)?;
-        let (told, disks) = acted(alloc, disks, policy, deed);
-        let held = held_behind(alloc, disks, stop.loss)?;
-        Ok((told?, held))
-    }
-
-    /// What disks hold with the log copied into the database.
-    fn settle(&self, alloc: Global) -> Result<Held> {
-        Held::of(alloc, settled(alloc, self.sound_disks(alloc)?)?)
-    }
-
-    /// Does something to the store on disks that never stop, and copies the log into the database.
-    pub fn act_settled(
-        &self,
-        alloc: Global,
-        policy: &Policy,
-        deed: &Deed,
-    ) -> Result<(Vec<u8>, Held)> {
-        let (told, held) = self.act(alloc, Stop::NEVER, policy, deed)?;
-        Ok((told, held.settle(alloc)?))
     }
 
     /// Disks that hold this and never stop.
@@ -195,6 +133,21 @@ impl Held {
 
     /// What some disks hold.
     pub fn of(alloc: Global, disks: Disks) -> Result<Held> {
-        held_behind(alloc, disks, Loss::Nothing)
+        Held::behind(alloc, disks, Stop::NEVER)
+    }
+
+    /// What two disks hold behind a stop of the machine.
+    pub fn behind(alloc: Global, disks: Disks, stop: Stop) -> Result<Held> {
+        let Files { log, db } = disks;
+        let log = octets_behind(alloc, log, stop.loss)?;
+        Ok(Held {
+            log,
+            db: octets_behind(alloc, db, stop.loss)?,
+        })
+    }
+
+    /// What disks hold with the log copied into the database.
+    pub fn settle(&self, alloc: Global) -> Result<Held> {
+        Held::of(alloc, settled(alloc, self.sound_disks(alloc)?)?)
     }
 }
