@@ -56,14 +56,16 @@ fn complain<F: Display + Drop>(rt: &HostRuntime, fault: F) {
     }
 }
 
-/// The exit status of a job, after the words that say why it was not done.
-fn ended(rt: &HostRuntime, done: Result<(), JobFault>) -> ExitCode
-    ensures { exit_status result ≡ status_of done }
+/// A writer and the exit status of a job, after the words that say why it was not done.
+fn ended<W: Write + Drop>(rt: &HostRuntime, done: (W, Result<(), JobFault>)) -> (W, ExitCode)
+    ensures writer { result.0 ≡ done.0 }
+    ensures status { exit_status result.1 ≡ status_of done.1 }
 {
+    let (writer, done) = done;
     if let Err(fault) = done {
         complain(rt, fault);
     }
-    status(done)
+    (writer, status(done))
 }
 
 /// Does a task with a reader and a writer, which is handed back.
@@ -75,8 +77,7 @@ fn do_with<T: Task, R: Read + Drop, W: Write + Drop>(
 ) -> (W, ExitCode)
     ensures { EndsTask (R.remaining reader) (T.answer task) (W.contents writer) (W.contents result.0) (exit_status result.1) }
 {
-    let (writer, done) = do_task(rt.alloc(), task, reader, writer);
-    (writer, ended(rt, done))
+    ended(rt, do_task(rt.alloc(), task, reader, writer))
 }
 
 /// The exit status of a check: 0 if it found nothing, else 1, after the words that say why it was not done.
@@ -150,44 +151,29 @@ pub fn do_job<I: Read + Drop, F: Read + Drop, W: Write + Drop, M: Surroundings<I
             origin,
             files,
             form,
-        } => diff_with(
-            rt,
-            origin,
-            form,
-            around.zone(files.old),
-            around.zone(files.new),
-            writer,
-        ),
+        } => {
+            let (old, new) = (around.zone(files.old), around.zone(files.new));
+            diff_with(rt, origin, form, old, new, writer)
+        }
         Job::Request { id } => do_with(rt, Request { id }, around.input(), writer),
         Job::Import { zone, existing } => {
-            let (writer, done) = do_import(rt, (zone, existing), (around.input(), writer));
-            (writer, ended(rt, done))
+            let streams = (around.input(), writer);
+            ended(rt, do_import(rt, (zone, existing), streams))
         }
-        Job::Export { zone, form } => {
-            let (writer, done) = do_export(rt, (zone, form), writer);
-            (writer, ended(rt, done))
-        }
-        Job::Migrate { store } => {
-            let (writer, done) = do_migrate(rt, store, writer);
-            (writer, ended(rt, done))
-        }
+        Job::Export { zone, form } => ended(rt, do_export(rt, (zone, form), writer)),
+        Job::Migrate { store } => ended(rt, do_migrate(rt, store, writer)),
         Job::Rights { policy, asked } => do_with(rt, asked, around.policy(policy), writer),
         Job::CheckPolicy { policy } => {
             check_with(rt, Subject::Rules, around.policy(policy), writer)
         }
-        Job::CheckIsolation { policy, caller } => check_with(
-            rt,
-            Subject::Isolation(caller),
-            around.policy(policy),
-            writer,
-        ),
+        Job::CheckIsolation { policy, caller } => {
+            let subject = Subject::Isolation(caller);
+            check_with(rt, subject, around.policy(policy), writer)
+        }
         Job::Explain { number, form } => {
             do_with(rt, Explain { number, form }, around.input(), writer)
         }
-        Job::Serve { service } => {
-            let (writer, done) = do_serve(rt, service, writer);
-            (writer, ended(rt, done))
-        }
+        Job::Serve { service } => ended(rt, do_serve(rt, service, writer)),
     }
 }
 

@@ -1,4 +1,4 @@
 use Rattle.store_commands.proofs.program.do_with.Goals as goal
 
 pub returns : goal.returns
-returns g c = let done = c.do_task-writer.ensures in (c.do_task-writer.result.1, done.0, done.1, done.2, c.ended.ensures)
+returns g c = let done = c.do_task.ensures in (c.do_task.result.1, done.0, done.1, rw c.ended.ensures.writer done.2, c.ended.ensures.status)
