@@ -6,7 +6,8 @@ ghost use Rattle.sqlite.specs.State.{HasCleanDisk};
 ghost use Rattle.office_core.specs.States.{State};
 ghost use Rattle.office_sql.specs.Holds.{Keeps};
 ghost use Rattle.office_rows.specs.StoreFaults.{IsFailure};
-ghost use Rattle.office_store.specs.Holds.{HoldsState};
+ghost use Rattle.office_rows.specs.declared.store_fault.StoreFault.TheVariants.{WrongVersion};
+ghost use Rattle.office_store.specs.Holds.{HoldsState, HasVersion};
 ghost use Rattle.office_store.specs.Turns.{Turns};
 ghost use Rattle.office_store.specs.Zones.{imported, with_imported};
 
@@ -34,6 +35,24 @@ pub fn adopt<S: Alter + Drop, L: Ledger>(
     match SqlTable::<S, L>::adopt(alloc, conn, blank) {
         Ok(table) => Ok(table),
         Err(refused) => Err((refused.fault, refused.conn)),
+    }
+}
+
+/// The same, by what it tells of the version.
+pub fn adopt_of_version<S: Alter + Drop, L: Ledger>(
+    alloc: Global,
+    conn: Connection<S>,
+    blank: Blank,
+) -> Result<SqlTable<S, L>, (StoreFault, Connection<S>)>
+    requires alone { conn.in_transaction ≡ false }
+    requires name { blank.name ≡ L.name }
+    requires parts { blank.parts ≡ L.parts }
+    requires some { 0 < blank.parts }
+    ensures { IfErr result (λ refused. HasCleanDisk (state S.Store refused.1) → refused.0 ≡ WrongVersion → ¬ HasVersion (state S.Store conn)) }
+{
+    match SqlTable::<S, L>::adopt(alloc, conn, blank) {
+        Ok(adopted) => Ok(adopted),
+        Err(it) => Err((it.fault, it.conn)),
     }
 }
 
