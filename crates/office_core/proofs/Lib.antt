@@ -16,6 +16,7 @@ mod SubtreeLemmas
 pub mod ToldLemmas
 pub mod MovedLemmas
 pub mod MadeLemmas
+pub mod PlanLemmas
 pub mod PromiseLemmas
 pub mod CallLemmas
 pub mod AnswerLemmas

@@ -29,13 +29,13 @@ module _ (o : Option Place) (d : Option DenialOf) (v : Option Failed) where
   abbrev first_of_three : Option UpdateReply
   first_of_three = option_or (option_map replies.NotZone o) (option_or (option_map refused_by d) (option_map replies.Failed v))
 
-none_applies : (o : Option Place) (d : Option DenialOf) (v : Option Failed) → first_of_three o d v ≡ None → (o ≡ None) × (d ≡ None) × (v ≡ None)
+pub none_applies : (o : Option Place) (d : Option DenialOf) (v : Option Failed) → first_of_three o d v ≡ None → (o ≡ None) × (d ≡ None) × (v ≡ None)
 none_applies None None None e = (refl, refl, refl)
 none_applies None None (Some f) e = absurd cc
 none_applies None (Some d) v e = absurd cc
 none_applies (Some p) d v e = absurd cc
 
-never_made : (o : Option Place) (d : Option DenialOf) (v : Option Failed) → first_of_three o d v ≡ Some replies.NoError → ⊥
+pub never_made : (o : Option Place) (d : Option DenialOf) (v : Option Failed) → first_of_three o d v ≡ Some replies.NoError → ⊥
 never_made None None None e = cc
 never_made None None (Some f) e = cc
 never_made None (Some d) v e = cc

@@ -7,6 +7,7 @@ pub mod States
 pub mod Machine
 pub mod Tables
 pub mod Steps
+pub mod Plans
 pub mod Bookmarks
 pub mod Runs
 pub mod Isolation

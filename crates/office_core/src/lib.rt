@@ -34,3 +34,4 @@ pub use runs::run;
 pub use steps::{step, step_with_bookmarks};
 pub use table::ZoneTable;
 pub use table_fault::{StepFault, TableFault};
+pub use update::plan;

@@ -8,6 +8,8 @@ ghost use Rattle.office_core.specs.States.{State};
 ghost use Rattle.office_core.specs.Tables.{Counts, addition_in};
 ghost use Rattle.office_core.specs.Machine.{again, answered, updated, refusal, zone_refusal};
 ghost use Rattle.office_core.specs.Steps.{CountsStep, IsAnswer, Takes, LeavesTurn, Commits, Makes, MakesAt, held_in, addition_of};
+ghost use Rattle.office_core.specs.Plans.{Plans};
+ghost use Rattle.office_core.specs.declared.reply.UpdateReply.TheVariants.{NoError};
 
 use crate::permission::denied;
 use crate::receipt::{Addition, Receipt};
@@ -156,6 +158,25 @@ fn made_at(
         Some(zone) => made(alloc, policy, caller, &zone, update),
         None => Ok((UpdateReply::NotAuth, None)),
     }
+}
+
+/// What the office would answer to an update of a zone, and what it would change, if it is made and changes something. The only error
+/// is out of memory.
+pub fn plan(
+    alloc: Global,
+    policy: &Policy,
+    caller: &Identifier,
+    zone: &Zone,
+    update: &Update,
+) -> Result<(UpdateReply, Option<Change>), AllocError>
+    // An office that holds the zone, and to which the caller has sent no update under the identifier, answers so, and notes this change.
+    ensures step { IfOk result (λ r. Plans policy.now caller.now zone.now update.now r.0 (option_map change_in r.1)) }
+    // The same by a definition that computes.
+    ensures exact { IfOk result (λ r. Makes zone.now update.now (zone_refusal policy.now caller.now zone.now.origin update.now (held_in zone.now)) r.0 (option_map change_in r.1)) }
+    // An update that is made acts within the zone.
+    ensures inside { IfOk result (λ r. r.0 ≡ NoError → ActsWithin zone.now.origin update.now) }
+{
+    made(alloc, policy, caller, zone, update)
 }
 
 /// The reply to an update of a zone, and what it changes, if it is made and changes something. The only error is out of memory.
