@@ -55,8 +55,8 @@ impl<R: Source, W: Sink> Stream<R, W> for Apart {
     }
 }
 
-/// Writes all octets, in as many pieces as the writer takes. A write that failed is the last one.
 // It is not `dns_master::write_all`, since each of its writes is one of the stream's calls.
+/// Writes all octets, in as many pieces as the writer takes. A write that failed is the last one.
 pub(crate) fn write_all<S: Stream<R, W>, R: Source, W: Sink>(
     reader: &mut R,
     writer: &mut W,
