@@ -19,7 +19,7 @@ use Rattle.command_line.specs.declared.job.ZoneForm.TheVariants.{Whole, Relative
 use Rattle.command_line.specs.declared.job.TextForm.{TextForm}
 use Rattle.command_line.specs.declared.job.TextForm.TheVariants.{Plain, Json}
 use Rattle.command_line.specs.PlainForms.{IsNumberGiven, IsPlain, IsValue, IsValueIfGiven, diff_form_words, existing_words, form_words, given, place_words, zone_form_words}
-use Rattle.command_line.specs.Words.{JobOf, apply, canon, diff, request, files_at, imports, export, migrate, rights, serve, check_policy, check_isolation, explain, job_by, job_of, stored_at}
+use Rattle.command_line.specs.Words.{JobOf, apply, canon, diff, request, files_at, imports, export, migrate, rights, plan, serve, check_policy, check_isolation, explain, job_by, job_of, stored_at}
 use Rattle.command_line.proofs.CommandLemmas.{job_of_command, no_words, place_walked, rows_from, rules_of, standing, value_walked}
 
 -- ---- steps
@@ -131,6 +131,12 @@ module _ (p q n t a : Text) (is_p : IsValue p) (is_q : IsValue q) (is_n : IsValu
       option_read command.Rights start argument.Policy p (given argument.Caller q ++ n ∷ t ∷ a ∷ []) is_p refl
       ∙ (option_read command.Rights (valued command.Rights start argument.Policy p) argument.Caller q (n ∷ t ∷ a ∷ []) is_q refl ∙ places_read)
 
+plan_read : (p q : Text) → IsValue p → IsValue q → job_from command.Plan (given argument.Policy p ++ given argument.Caller q) (walk_from start) ≡ Some (plan p q)
+unfolding clap_on_literals
+plan_read p q is_p is_q =
+    option_read command.Plan start argument.Policy p (given argument.Caller q) is_p refl
+    ∙ option_read command.Plan (valued command.Plan start argument.Policy p) argument.Caller q [] is_q refl
+
 module _ (s p l : Text) (is_s : IsValue s) (is_p : IsValue p) (is_l : IsValue l) where
   abbrev served : Held
   served = valued command.Serve (valued command.Serve (valued command.Serve start argument.Store s) argument.Policy p) argument.Listen l
@@ -222,6 +228,7 @@ plain_read words (export z form) is = ap job_of is.2 ∙ (job_of_command command
 plain_read words (migrate s) is = ap job_of is.1 ∙ (job_of_command command.Migrate _ ∙ migrate_read s is.0)
 plain_read words (rights p q n t a) is =
     ap job_of is.5 ∙ (job_of_command command.Rights _ ∙ rights_read p q n t a is.0 is.1 is.2 is.3 is.4)
+plain_read words (plan p q) is = ap job_of is.2 ∙ (job_of_command command.Plan _ ∙ plan_read p q is.0 is.1)
 plain_read words (serve s p l n w) is =
     ap job_of is.7 ∙ (job_of_command command.Serve _ ∙ (needed_read s p l is.0 is.1 is.2 (is.3 ++ is.5)
     ∙ numbers_read s p l is.0 is.1 is.2 n w is.3 is.5 is.4 is.6))

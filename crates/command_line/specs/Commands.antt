@@ -55,6 +55,7 @@ command_row command.Export = (codes "export", argument.Store ∷ argument.Origin
 command_row command.Migrate = (codes "migrate", argument.Store ∷ [])
 command_row command.Rights =
     (codes "rights", argument.Policy ∷ argument.Caller ∷ argument.Name ∷ argument.Type ∷ argument.Action ∷ [])
+command_row command.Plan = (codes "plan", argument.Policy ∷ argument.Caller ∷ [])
 command_row command.Serve =
     (codes "serve", argument.Store ∷ argument.Policy ∷ argument.Listen ∷ argument.Connections ∷ argument.Patience ∷ [])
 command_row command.Check = (codes "check", argument.Subject ∷ argument.Policy ∷ argument.Isolated ∷ [])
@@ -68,8 +69,8 @@ arguments_of c = (command_row c).1
 
 abbrev pub all_commands : List Command
 all_commands =
-    command.Apply ∷ command.Canon ∷ command.Diff ∷ command.Request ∷ command.Import ∷ command.Export ∷ command.Migrate ∷ command.Rights ∷ command.Serve
-    ∷ command.Check ∷ command.Explain ∷ []
+    command.Apply ∷ command.Canon ∷ command.Diff ∷ command.Request ∷ command.Import ∷ command.Export ∷ command.Migrate ∷ command.Rights ∷ command.Plan
+    ∷ command.Serve ∷ command.Check ∷ command.Explain ∷ []
 
 -- the command that a word names
 abbrev pub command_of : Text → Option Command

@@ -4,7 +4,7 @@ use Rattle.std.specs.Str.{bytes_eq}
 use Rattle.clap.specs.Words.{Text}
 use Rattle.clap.specs.Lexer.{long_of, short_of}
 use Rattle.command_line.specs.Commands.{argument_name}
-use Rattle.command_line.specs.Words.{JobOf, apply, canon, diff, request, imports, export, migrate, rights, serve, check_policy, check_isolation, explain, number_in}
+use Rattle.command_line.specs.Words.{JobOf, apply, canon, diff, request, imports, export, migrate, rights, plan, serve, check_policy, check_isolation, explain, number_in}
 use Rattle.command_line.specs.declared.argument.Argument.{Argument}
 use Rattle.command_line.specs.declared.argument.Argument.TheVariants as argument
 use Rattle.command_line.specs.declared.job.Existing.{Existing}
@@ -76,6 +76,8 @@ IsPlain words (migrate store) = IsValue store × (words ≡ codes "migrate" ∷ 
 IsPlain words (rights policy caller name record_type action) =
     IsValue policy × IsValue caller × IsValue name × IsValue record_type × IsValue action
     × (words ≡ codes "rights" ∷ (given argument.Policy policy ++ given argument.Caller caller ++ name ∷ record_type ∷ action ∷ []))
+IsPlain words (plan policy caller) = IsValue policy × IsValue caller
+    × (words ≡ codes "plan" ∷ (given argument.Policy policy ++ given argument.Caller caller))
 IsPlain words (serve store policy listen connections patience) = IsValue store × IsValue policy × IsValue listen
     × (ns : List Text) × IsNumberGiven argument.Connections connections ns
     × (ws : List Text) × IsNumberGiven argument.Patience patience ws

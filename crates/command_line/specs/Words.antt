@@ -44,6 +44,7 @@ pub data JobOf : Type 0 where
   export : StoredOf → ZoneForm → JobOf
   migrate : (store : Text) → JobOf
   rights : (policy caller name record_type action : Text) → JobOf
+  plan : (policy caller : Text) → JobOf
   serve : (store policy listen : Text) → (connections patience : Option ℕ) → JobOf
   check_policy : (policy : Text) → JobOf
   check_isolation : (policy caller : Text) → JobOf
@@ -64,6 +65,7 @@ asks (job.Import zone existing) = imports (zone_asked zone) existing
 asks (job.Export zone form) = export (zone_asked zone) form
 asks (job.Migrate store) = migrate store.now
 asks (job.Rights policy asked) = rights policy.now asked.caller.now asked.name.now asked.record_type.now asked.action.now
+asks (job.Plan policy caller) = plan policy.now caller.now
 asks (job.Serve service) = serve service.store.now service.policy.now service.listen.now service.connections service.patience
 asks (job.CheckPolicy policy) = check_policy policy.now
 asks (job.CheckIsolation policy caller) = check_isolation policy.now caller.now
@@ -141,6 +143,11 @@ rights_of rows =
     (first_of (argument_name argument.Type) rows)) (first_of (argument_name argument.Name) rows))
     (first_of (argument_name argument.Caller) rows)) (first_of (argument_name argument.Policy) rows)
 
+abbrev pub plan_of : List Row → Option JobOf
+plan_of rows =
+    option_and_then (λ p. option_map (λ c. plan p c) (first_of (argument_name argument.Caller) rows))
+    (first_of (argument_name argument.Policy) rows)
+
 abbrev pub serve_of : List Row → Option JobOf
 serve_of rows =
     option_and_then (λ s. option_and_then (λ p. option_and_then (λ l. option_and_then (λ n. option_map (λ w. serve s p l n w)
@@ -176,6 +183,7 @@ job_by command.Import rows = import_of rows
 job_by command.Export rows = export_of rows
 job_by command.Migrate rows = migrate_of rows
 job_by command.Rights rows = rights_of rows
+job_by command.Plan rows = plan_of rows
 job_by command.Serve rows = serve_of rows
 job_by command.Check rows = check_of rows
 job_by command.Explain rows = Some (explain_of rows)

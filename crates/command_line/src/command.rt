@@ -15,6 +15,7 @@ pub enum Command {
     Export,
     Migrate,
     Rights,
+    Plan,
     Serve,
     Check,
     Explain,
@@ -56,7 +57,7 @@ impl Command {
     ghost use Rattle.command_line.specs.Commands.{command_word, arguments_of, command_of};
 
     /// The commands, in the order of the help.
-    pub const ALL: [Command; 11] = [
+    pub const ALL: [Command; 12] = [
         Command::Apply,
         Command::Canon,
         Command::Diff,
@@ -65,6 +66,7 @@ impl Command {
         Command::Export,
         Command::Migrate,
         Command::Rights,
+        Command::Plan,
         Command::Serve,
         Command::Check,
         Command::Explain,
@@ -134,6 +136,12 @@ impl Command {
                     Argument::Type,
                     Argument::Action,
                 ],
+            ),
+            Command::Plan => Row::new(
+                "plan",
+                "Says what the office would answer to an update of a zone",
+                "Example: zoneoffice plan --policy policy.toml --caller phys < update.txt",
+                &[Argument::Policy, Argument::Caller],
             ),
             Command::Serve => Row::new(
                 "serve",

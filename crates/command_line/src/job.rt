@@ -52,6 +52,13 @@ pub enum Job<'a> {
         /// What is asked.
         asked: QuestionWords<'a>,
     },
+    /// To say what the office would answer to an update of a zone, both read from standard input.
+    Plan {
+        /// The path of the policy.
+        policy: &'a str,
+        /// Who asks.
+        caller: &'a str,
+    },
     /// To answer callers over HTTP.
     Serve {
         /// What is served, and where.

@@ -3,7 +3,7 @@
 ghost use Rattle.std.specs.Prelude.{◌≡◌, [], IfErr, IfOk, map, option_map, Some, is_some, true, codes};
 ghost use Rattle.clap.specs.Words.{app_of, fault_of, first_of, found_of, kind_of, one_of, rows_of, subcommand_rows_of, takes};
 ghost use Rattle.command_line.specs.Commands.{office, argument_name};
-ghost use Rattle.command_line.specs.Words.{asks, JobOf, canon_of, files_asked, files_of, diff_of, request_of, zone_asked, stored_of, import_of, export_of, migrate_of, rights_of, serve_of, checked_of, isolated_of, check_of, explain_of, number_if, existing_of, zone_form_of, diff_form_of, form_of, job_by, job_named, job_met, job_of};
+ghost use Rattle.command_line.specs.Words.{asks, JobOf, canon_of, files_asked, files_of, diff_of, request_of, zone_asked, stored_of, import_of, export_of, migrate_of, rights_of, plan_of, serve_of, checked_of, isolated_of, check_of, explain_of, number_if, existing_of, zone_form_of, diff_form_of, form_of, job_by, job_named, job_met, job_of};
 ghost use Rattle.command_line.specs.PlainForms.{IsPlain};
 ghost use Rattle.command_line.specs.Misuse.{IsReportedAs, IsReported, is_help};
 
@@ -194,6 +194,15 @@ fn rights_in<'a>(matches: &ArgMatches<'a>) -> Option<Job<'a>>
     Some(Job::Rights { policy, asked })
 }
 
+/// The job of the command `plan`.
+fn plan_in<'a>(matches: &ArgMatches<'a>) -> Option<Job<'a>>
+    ensures { option_map asks result ≡ plan_of (rows_of (found_of matches.now)) }
+{
+    let policy = text_at(matches, Argument::Policy)?;
+    let caller = text_at(matches, Argument::Caller)?;
+    Some(Job::Plan { policy, caller })
+}
+
 /// The job of `check policy`.
 fn policy_check_in<'a>(matches: &ArgMatches<'a>) -> Option<Job<'a>>
     ensures { option_map asks result ≡ checked_of (rows_of (found_of matches.now)) }
@@ -244,6 +253,7 @@ fn job_of_command<'a>(command: Command, matches: &ArgMatches<'a>) -> Option<Job<
         Command::Export => export_in(matches),
         Command::Migrate => migrate_in(matches),
         Command::Rights => rights_in(matches),
+        Command::Plan => plan_in(matches),
         Command::Serve => serve_in(matches),
         Command::Check => check_in(matches),
         Command::Explain => Some(explain_in(matches)),
@@ -295,7 +305,7 @@ fn reported(alloc: Global, error: Error) -> WordsFault
 /// `diff --origin NAME [--guard] OLD NEW`; `request --id ID`;
 /// `import --store PATH --origin NAME [--replace]`; `export --store PATH --origin NAME [--relative]`;
 /// `migrate --store PATH`;
-/// `rights --policy PATH --caller CALLER NAME TYPE ACTION`;
+/// `rights --policy PATH --caller CALLER NAME TYPE ACTION`; `plan --policy PATH --caller CALLER`;
 /// `serve --store PATH --policy PATH --listen ADDRESS:PORT [--connections N] [--patience SECONDS]`;
 /// `check policy --policy PATH`; `check isolation --policy PATH --caller CALLER`; and
 /// `explain [NUMBER] [--json]`. The words behind a command may come in any order.

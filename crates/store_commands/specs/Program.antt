@@ -25,14 +25,16 @@ use Rattle.text_commands.specs.Explain.{explain_text}
 use Rattle.text_commands.specs.Replies.{Answered}
 use Rattle.text_commands.specs.Check.{Checked}
 use Rattle.text_commands.specs.Diff.{Differs}
+use Rattle.text_commands.specs.Plan.{IsPlanned}
+use Rattle.text_commands.specs.declared.plan_fault.PlanFault.{PlanFault}
 use Rattle.store_commands.specs.Import.{PutsZones, import_text}
 use Rattle.store_commands.specs.Export.{FindsRecords, export_text}
 use Rattle.store_commands.specs.Migrate.{Migrates}
 
 -- ---- the exit status
 
--- 0 where the job went through, and else 1
-abbrev pub status_of : Result (Unit {0}) JobFault → ℕ
+-- 0 where what was to be done went through, and else 1
+abbrev pub status_of : {F : Type 0} → Result (Unit {0}) F → ℕ
 status_of (Ok done) = 0
 status_of (Err fault) = 1
 
@@ -41,11 +43,6 @@ abbrev pub check_status_of : Result Findings JobFault → ℕ
 check_status_of (Ok Absent) = 0
 check_status_of (Ok Present) = 1
 check_status_of (Err fault) = 1
-
--- 0 where a diff went through, and else 1
-abbrev pub diff_status_of : Result (Unit {0}) DiffFault → ℕ
-diff_status_of (Ok done) = 0
-diff_status_of (Err fault) = 1
 
 -- ---- jobs over a store, with a reader and a writer of std, by what was left to read, what was written before and after, and the outcome
 
@@ -91,7 +88,12 @@ EndsCheck subject left before after status = (outcome : Result Findings JobFault
 -- the same of a diff: at 0 both zones were read, and all items were written
 abbrev pub EndsDiff : DiffForm → List ℕ → Option (List ℕ) → Option (List ℕ) → Option (List ℕ) → Option (List ℕ) → ℕ → Type 0
 EndsDiff form word old_left new_left before after status =
-    (outcome : Result (Unit {0}) DiffFault) × Differs form word old_left new_left before after outcome × (status ≡ diff_status_of outcome)
+    (outcome : Result (Unit {0}) DiffFault) × Differs form word old_left new_left before after outcome × (status ≡ status_of outcome)
+
+-- the same of a plan: at 0 the policy, the zone and its update were read, and all of the answer was written
+abbrev pub EndsPlan : List ℕ → Option (List ℕ) → Option (List ℕ) → Option (List ℕ) → Option (List ℕ) → ℕ → Type 0
+EndsPlan word policy_left input_left before after status =
+    (outcome : Result (Unit {0}) PlanFault) × IsPlanned word policy_left input_left before after outcome × (status ≡ status_of outcome)
 
 -- the same of a job over a store
 abbrev pub EndsJob : (Result (Unit {0}) JobFault → Type 0) → ℕ → Type 0
@@ -107,6 +109,7 @@ JobEnds a (job.Import zone existing) after status = EndsJob (Imports a.input zon
 JobEnds a (job.Export zone form) after status = EndsJob (Exports form zone.origin.now a.output after) status
 JobEnds a (job.Migrate store) after status = EndsJob (Migrated a.output after) status
 JobEnds a (job.Rights policy asked) after status = EndsTask (a.policy policy.now) (rights_text asked) a.output after status
+JobEnds a (job.Plan policy caller) after status = EndsPlan caller.now (a.policy policy.now) a.input a.output after status
 JobEnds a (job.Serve service) after status = EndsJob (λ _. Unit {0}) status
 JobEnds a (job.CheckPolicy policy) after status = EndsCheck Rules (a.policy policy.now) a.output after status
 JobEnds a (job.CheckIsolation policy caller) after status = EndsCheck (Isolation caller) (a.policy policy.now) a.output after status

@@ -2,7 +2,7 @@
 
 ghost use Rattle.std.specs.Prelude.{◌≡◌, ◌≤◌, ℕ, List, map};
 ghost use Rattle.std.specs.Process.{exit_status};
-ghost use Rattle.store_commands.specs.Program.{Around, EndsTask, EndsCheck, EndsDiff, JobEnds, WordsEnd, status_of, check_status_of, diff_status_of};
+ghost use Rattle.store_commands.specs.Program.{Around, EndsTask, EndsCheck, EndsDiff, EndsPlan, JobEnds, WordsEnd, status_of, check_status_of};
 
 use crate::std_streams::{do_export, do_import, do_migrate, do_serve};
 use command_line::{DiffForm, Job, WordsFault, read_words};
@@ -10,8 +10,8 @@ use std::fmt::Display;
 use std::io::{Read, Write};
 use std::process::ExitCode;
 use text_commands::{
-    Apply, Canon, DiffFault, Explain, Findings, JobFault, NO_MEMORY_LINE, Request, Subject, Task,
-    do_check, do_diff, do_task,
+    Apply, Canon, Explain, Findings, JobFault, NO_MEMORY_LINE, Request, Subject, Task, do_check,
+    do_diff, do_plan, do_task,
 };
 
 /// What the program runs in: its standard input and output, the files that words name, and the machine.
@@ -39,16 +39,6 @@ pub trait Surroundings<I: Read + Drop, F: Read + Drop, W: Write + Drop> {
         ensures { W.contents result ≡ (around self.now).output };
 }
 
-/// The exit status of a job: 0 if it went through, else 1.
-fn status(done: Result<(), JobFault>) -> ExitCode
-    ensures { exit_status result ≡ status_of done }
-{
-    match done {
-        Ok(()) => ExitCode::SUCCESS,
-        Err(_) => ExitCode::FAILURE,
-    }
-}
-
 /// Says in words on standard error why a job was not done.
 fn complain<F: Display + Drop>(rt: &HostRuntime, fault: F) {
     if let Ok(words) = format!(in rt.alloc(); "zoneoffice: {fault}") {
@@ -56,16 +46,22 @@ fn complain<F: Display + Drop>(rt: &HostRuntime, fault: F) {
     }
 }
 
-/// A writer and the exit status of a job, after the words that say why it was not done.
-fn ended<W: Write + Drop>(rt: &HostRuntime, done: (W, Result<(), JobFault>)) -> (W, ExitCode)
+/// A writer, and the exit status of what was done with it: 0 if it went through, else 1, after the words that say why it did not.
+fn ended<W: Write + Drop, F: Display + Drop>(
+    rt: &HostRuntime,
+    done: (W, Result<(), F>),
+) -> (W, ExitCode)
     ensures writer { result.0 ≡ done.0 }
     ensures status { exit_status result.1 ≡ status_of done.1 }
 {
     let (writer, done) = done;
-    if let Err(fault) = done {
-        complain(rt, fault);
+    match done {
+        Ok(()) => (writer, ExitCode::SUCCESS),
+        Err(fault) => {
+            complain(rt, fault);
+            (writer, ExitCode::FAILURE)
+        }
     }
-    (writer, status(done))
 }
 
 /// Does a task with a reader and a writer, which is handed back.
@@ -107,19 +103,6 @@ fn check_with<R: Read + Drop, W: Write + Drop>(
     (writer, check_status(rt, done))
 }
 
-/// The exit status of a diff: 0 if it went through, else 1, after the words that say why it did not.
-fn diff_status(rt: &HostRuntime, done: Result<(), DiffFault>) -> ExitCode
-    ensures { exit_status result ≡ diff_status_of done }
-{
-    match done {
-        Ok(()) => ExitCode::SUCCESS,
-        Err(fault) => {
-            complain(rt, fault);
-            ExitCode::FAILURE
-        }
-    }
-}
-
 /// Writes the items that lead from the zone of one reader to that of another, with a writer, which is handed back.
 fn diff_with<R: Read + Drop, S: Read + Drop, W: Write + Drop>(
     rt: &HostRuntime,
@@ -131,8 +114,21 @@ fn diff_with<R: Read + Drop, S: Read + Drop, W: Write + Drop>(
 ) -> (W, ExitCode)
     ensures { EndsDiff form origin.now (R.remaining old) (S.remaining new) (W.contents writer) (W.contents result.0) (exit_status result.1) }
 {
-    let (writer, done) = do_diff(rt.alloc(), origin, form, old, new, writer);
-    (writer, diff_status(rt, done))
+    ended(rt, do_diff(rt.alloc(), origin, form, old, new, writer))
+}
+
+/// Writes what the office would answer to a caller, by the policy of one reader and the update of the other, with a writer, which is
+/// handed back.
+fn plan_with<R: Read + Drop, S: Read + Drop, W: Write + Drop>(
+    rt: &HostRuntime,
+    caller: &str,
+    policy: R,
+    input: S,
+    writer: W,
+) -> (W, ExitCode)
+    ensures { EndsPlan caller.now (R.remaining policy) (S.remaining input) (W.contents writer) (W.contents result.0) (exit_status result.1) }
+{
+    ended(rt, do_plan(rt.alloc(), caller, policy, input, writer))
 }
 
 /// Does a job. The status is 0 if it went through, else 1.
@@ -163,6 +159,10 @@ pub fn do_job<I: Read + Drop, F: Read + Drop, W: Write + Drop, M: Surroundings<I
         Job::Export { zone, form } => ended(rt, do_export(rt, (zone, form), writer)),
         Job::Migrate { store } => ended(rt, do_migrate(rt, store, writer)),
         Job::Rights { policy, asked } => do_with(rt, asked, around.policy(policy), writer),
+        Job::Plan { policy, caller } => {
+            let (policy, input) = (around.policy(policy), around.input());
+            plan_with(rt, caller, policy, input, writer)
+        }
         Job::CheckPolicy { policy } => {
             check_with(rt, Subject::Rules, around.policy(policy), writer)
         }

@@ -2,9 +2,11 @@
 
 mod devices;
 mod diffs;
+mod plans;
 
 use crate::commands::devices::{Command, Manner};
 use crate::commands::diffs::push_diff;
+use crate::commands::plans::push_plan;
 use std::alloc::{AllocError, Global};
 use test_rows::Row;
 use text_commands::{Findings, JobFault, LineFault};
@@ -25,6 +27,7 @@ pub fn push_command_answer(
         "diff" | "edit" | "diff-guarded" | "edit-guarded" | "diff-reads" | "diff-write" => {
             push_diff(alloc, row, answer)
         }
+        "plan" | "plan-reads" | "plan-write" => push_plan(alloc, row, answer),
         "no-memory" => push_status(alloc, Err(JobFault::Reported(LineFault::NoMemory)), answer),
         name => push_run(
             alloc,

@@ -11,6 +11,9 @@
 //! too; `edit ORIGIN` and `edit-guarded` print what `apply` makes of the first and the items; in `diff-reads` the first read of each
 //! file fails, and in `diff-write` the first write.
 //!
+//! `plan CALLER` gives a policy, and behind a line `==` what `apply` reads, to the command; in `plan-reads` the first read of each input fails,
+//! and in `plan-write` the first write.
+//!
 //! `words`: in a row the words of the command line have bars between them, and a verb alone has no words. `job WORDS` prints the job
 //! that they ask for, or `help` or `misused`; `text WORDS` prints what is told where they ask for none.
 #![tactic(auto)]

@@ -87,6 +87,9 @@ fn push_job(alloc: Global, job: &Job<'_>, answer: &mut Vec<u8>) -> Result<(), Al
         Job::Export { zone, form } => push_zone("export", zone, form_text(*form), answer),
         Job::Migrate { store } => push_given("migrate", store, "", answer),
         Job::Rights { policy, asked } => push_question(policy, asked, answer),
+        Job::Plan { policy, caller } => {
+            push_all(&["plan (", policy, ") (", caller, ")"], answer)
+        }
         Job::Serve { service } => push_service(alloc, service, answer),
         Job::CheckPolicy { policy } => push_given("check policy", policy, "", answer),
         Job::CheckIsolation { policy, caller } => push_all(

@@ -43,6 +43,7 @@ pub fn record_of(alloc: Global, text: &str) -> Result<RecordRow, Refusal> {
     Ok(record_in(alloc, (origin, owner), numbers, (rdata, last(key)?))?)
 }
 
+/// The row of a record: its origin and owner, its type and TTL, its data and key.
 pub(crate) fn record_in(
     alloc: Global,
     (origin, owner): (&str, &str),
@@ -79,6 +80,7 @@ fn data_of(text: &str) -> Result<((i64, i64), &str), Refusal> {
     Ok(((number(record_type)?, number(ttl)?), rdata))
 }
 
+/// The row of a change: its origin and owner, its number and side, its type and TTL, its data.
 pub(crate) fn change_in(
     alloc: Global,
     (origin, owner): (&str, &str),
@@ -109,6 +111,7 @@ pub fn receipt_of(alloc: Global, text: &str) -> Result<ReceiptRow, Refusal> {
     Ok(receipt_in(alloc, (caller, id), (origin, reply), request)?)
 }
 
+/// The row of a receipt: its caller and identifier, its origin and reply, its request.
 pub(crate) fn receipt_in(
     alloc: Global,
     (caller, id): (&str, &str),

@@ -3,6 +3,7 @@ pub mod ItemLemmas
 pub mod JobLemmas
 pub mod LineLemmas
 pub mod PartLemmas
+pub mod PlanLemmas
 pub mod ReadAgainLemmas
 pub mod SendLemmas
 pub mod StepLemmas

@@ -13,6 +13,7 @@ pub mod Guards
 pub mod GuardPromises
 pub mod Diff
 pub mod Request
+pub mod Plan
 pub mod RefusalTables
 pub mod RefusalNumbers
 pub mod RefusalTexts

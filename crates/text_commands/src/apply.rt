@@ -21,11 +21,11 @@ use zone_core::{Outcome, Rcode, Update, Zone, ZoneFault, apply_owned, holds};
 
 /// What was read of an input, whose octets are given back.
 #[derive(Drop)]
-struct InputRead {
+pub(crate) struct InputRead {
     /// The records of its master file.
-    records: Vec<Record>,
+    pub(crate) records: Vec<Record>,
     /// Its items, or why they are no update: that is told behind what is wrong with the records.
-    update: Result<Update, LineFault>,
+    pub(crate) update: Result<Update, LineFault>,
 }
 
 /// The name of the root.
@@ -67,7 +67,7 @@ fn read_update(alloc: Global, parts: &InputParts<'_>) -> Result<Update, LineFaul
 }
 
 /// What stands in an input, whose octets are given back.
-fn read_parts(alloc: Global, input: Vec<u8>) -> Result<InputRead, LineFault>
+pub(crate) fn read_parts(alloc: Global, input: Vec<u8>) -> Result<InputRead, LineFault>
     ensures records { Gives (λ read. read.records.items) result (records_in input.items) }
     ensures update { IfOk result (λ read. Gives (λ update. update) read.update (update_in input.items)) }
 {
@@ -90,7 +90,7 @@ fn origin_of(records: &[Record]) -> Option<&Name>
 }
 
 /// The zone of records, whose origin is the owner of the first SOA.
-fn zone_of_records(alloc: Global, records: Vec<Record>) -> Result<Zone, LineFault>
+pub(crate) fn zone_of_records(alloc: Global, records: Vec<Record>) -> Result<Zone, LineFault>
     ensures { Gives (λ zone. zone) result (zone_of_records records.items) }
 {
     let Some(origin) = origin_of(&records) else {

@@ -1,5 +1,5 @@
-//! The commands that need no store, `canon`, `apply`, `diff`, `request`, `rights`, `check policy` and `explain`: each writes its answer to an input, or
-//! one line that says why it has no answer. And what every command shares: its refusals, the one table of all refusals in words, and
+//! The commands that need no store, `canon`, `apply`, `diff`, `request`, `rights`, `plan`, `check` and `explain`: each writes its answer to an
+//! input, or one line that says why it has no answer. And what every command shares: its refusals, the one table of all refusals in words, and
 //! how inputs are read and texts written.
 #![tactic(auto)]
 
@@ -15,6 +15,8 @@ mod input_file;
 mod laws;
 mod line_fault;
 mod parts;
+mod plan;
+mod plan_fault;
 mod policy_file;
 mod refusal;
 mod refusal_number;
@@ -38,6 +40,8 @@ pub use laws::{
     texts_are_plain, zones_are_read_again,
 };
 pub use line_fault::{JobFault, LineFault, NO_MEMORY_LINE};
+pub use plan::do_plan;
+pub use plan_fault::PlanFault;
 pub use policy_file::PolicyFile;
 pub use refusal::{Refusal, RefusalLine};
 pub use refusal_number::{all_rows, explained};

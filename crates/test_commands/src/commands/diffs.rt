@@ -3,6 +3,7 @@
 use crate::commands::devices::Manner;
 use command_line::DiffForm;
 use std::alloc::{AllocError, Global};
+use std::fmt::Display;
 use test_rows::{Row, text_of};
 use text_commands::{Apply, DiffFault, do_diff, do_task};
 
@@ -141,12 +142,13 @@ fn push_run(
 ) -> Result<(), AllocError> {
     let (printed, done) = zones.diff(alloc, manners)?;
     answer.extend_from_slice(&printed)?;
-    push_status(alloc, done, answer)
+    push_outcome(alloc, done, answer)
 }
 
-fn push_status(
+/// Appends the exit status of a command that reads two inputs, and the words of its refusal.
+pub fn push_outcome<F: Display + Drop>(
     alloc: Global,
-    done: Result<(), DiffFault>,
+    done: Result<(), F>,
     answer: &mut Vec<u8>,
 ) -> Result<(), AllocError> {
     match done {

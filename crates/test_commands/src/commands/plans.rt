@@ -1,0 +1,58 @@
+//! What the office would answer to updates.
+
+use crate::commands::devices::Manner;
+use crate::commands::diffs::push_outcome;
+use std::alloc::{AllocError, Global};
+use test_rows::{Row, text_of};
+use text_commands::do_plan;
+
+/// A policy, and a zone with an update of it.
+#[derive(Clone, Copy)]
+struct TwoInputs<'a> {
+    policy: &'a str,
+    update: &'a str,
+}
+
+impl<'a> TwoInputs<'a> {
+    /// The two inputs of a body, with a line `==` between them.
+    fn of(body: &'a [u8]) -> TwoInputs<'a> {
+        let text = text_of(body);
+        let (policy, update) = text.split_once("==\n").unwrap_or((text, ""));
+        TwoInputs { policy, update }
+    }
+}
+
+/// A device whose first call fails.
+const FAILING: Manner = Manner { most: 64, fails: 1 };
+
+/// Appends the answer to a row of a plan: what is printed for the caller; the same where the first read of each input fails; or where the
+/// first write does.
+pub fn push_plan(alloc: Global, row: &Row<'_>, answer: &mut Vec<u8>) -> Result<(), AllocError> {
+    let sound = Manner::SOUND;
+    match row.verb {
+        "plan-reads" => {
+            push_planned(alloc, row, [FAILING, sound, sound], answer)?;
+            answer.push(b'\n')?;
+            push_planned(alloc, row, [sound, FAILING, sound], answer)
+        }
+        "plan-write" => push_planned(alloc, row, [sound, sound, FAILING], answer),
+        _ => push_planned(alloc, row, [sound, sound, sound], answer),
+    }
+}
+
+/// Appends what is printed with devices that work so: for the policy, for the update, and for the answer.
+fn push_planned(
+    alloc: Global,
+    row: &Row<'_>,
+    manners: [Manner; 3],
+    answer: &mut Vec<u8>,
+) -> Result<(), AllocError> {
+    let inputs = TwoInputs::of(&row.body);
+    let [policy, update, writing] = manners;
+    let policy = policy.device(Vec::from_slice(alloc, inputs.policy.as_bytes())?);
+    let update = update.device(Vec::from_slice(alloc, inputs.update.as_bytes())?);
+    let writer = writing.device(Vec::new(alloc));
+    let (page, done) = do_plan(alloc, text_of(&row.text), policy, update, writer);
+    answer.extend_from_slice(&page.octets)?;
+    push_outcome(alloc, done, answer)
+}
