@@ -3,7 +3,7 @@ use test_commands::{push_command_answer, push_words_answer};
 use test_dns::{Records, push_file_answer, push_name_answer};
 use test_exchanges::Office;
 use test_program::{Callers, Files};
-use test_rows::{Answers, Row};
+use test_rows::{Answers, Row, text_of};
 use test_stores::{Stops, Stores};
 use test_tables::{Kept, Tables};
 use test_zones::{Items, Policies, Zones, push_body_answer};
@@ -68,27 +68,34 @@ impl<'a> Sections<'a> {
 
     /// Opens the section of a row.
     fn open(&mut self, row: &Row<'_>, answer: &mut Vec<u8>) -> Result<(), AllocError> {
-        self.section = match row.text.as_slice() {
-            b"names" => Section::Names,
-            b"data" => Section::Data,
-            b"files" => Section::Files,
-            b"policies" => Section::Policies,
-            b"zones" => Section::Zones,
-            b"items" => Section::Items,
-            b"bodies" => Section::Bodies,
-            b"tables" => Section::Tables,
-            b"states" => Section::States,
-            b"stores" => Section::Stores,
-            b"stops" => Section::Stops,
-            b"exchanges" => Section::Exchanges,
-            b"stored" => Section::Stored,
-            b"callers" => Section::Callers,
-            b"commands" => Section::Commands,
-            b"words" => Section::Words,
-            _ => return answer.extend_from_slice(b"no such section"),
-        };
+        match section_of(text_of(&row.text)) {
+            Some(section) => self.section = section,
+            None => return answer.extend_from_slice(b"no such section"),
+        }
         Ok(())
     }
+}
+
+fn section_of(name: &str) -> Option<Section> {
+    Some(match name {
+        "names" => Section::Names,
+        "data" => Section::Data,
+        "files" => Section::Files,
+        "policies" => Section::Policies,
+        "zones" => Section::Zones,
+        "items" => Section::Items,
+        "bodies" => Section::Bodies,
+        "tables" => Section::Tables,
+        "states" => Section::States,
+        "stores" => Section::Stores,
+        "stops" => Section::Stops,
+        "exchanges" => Section::Exchanges,
+        "stored" => Section::Stored,
+        "callers" => Section::Callers,
+        "commands" => Section::Commands,
+        "words" => Section::Words,
+        _ => return None,
+    })
 }
 
 impl Answers for Sections<'_> {
