@@ -1,8 +1,9 @@
+use crate::callers::Callers;
+use crate::stored::Files;
 use std::alloc::{AllocError, Global};
 use test_commands::{push_command_answer, push_words_answer};
 use test_dns::{Records, push_file_answer, push_name_answer};
 use test_exchanges::Office;
-use test_program::{Callers, Files};
 use test_rows::{Answers, Row, text_of};
 use test_stores::{Stops, Stores};
 use test_tables::{Kept, Tables};
