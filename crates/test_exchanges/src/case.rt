@@ -8,8 +8,8 @@ use crate::tables::{over_failing, push_over_each};
 use anyhow::{Result, bail};
 use office_core::{Call, TableCall};
 use std::alloc::Global;
-use test_office::call_of;
 use test_rows::Row;
+use test_zones::call_of;
 
 /// What a case asks.
 #[derive(Drop)]

@@ -5,7 +5,7 @@ use anyhow::Result;
 use grant_policy::Policy;
 use office_core::{Call, ZoneTable, run};
 use std::alloc::Global;
-use test_office::reply_text;
+use test_zones::reply_text;
 
 /// What a table is asked: by a stream, or by calls one after the other.
 #[derive(Drop)]

@@ -12,7 +12,7 @@ use sqlite_disk::Disk;
 use std::alloc::Global;
 use std::marker::Brand;
 use std::sync::ledger::{Blank, Ledger};
-use test_office::{empty_files, opened};
+use test_tables::{empty_files, opened};
 
 /// What a table answers to some steps, and no more.
 fn answered_by<T: ZoneTable + Drop>(

@@ -7,7 +7,7 @@ use grant_policy::Policy;
 use sqlite::Files;
 use sqlite_disk::Disk;
 use std::alloc::Global;
-use test_office::{Held, Stop, opened};
+use test_tables::{Held, Stop, opened};
 
 /// Does something to the store on some disks.
 fn acted<D: Disk + Drop>(

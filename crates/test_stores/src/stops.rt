@@ -5,8 +5,8 @@ use crate::stores::Stores;
 use crate::trial::{Trial, Whole};
 use anyhow::Result;
 use std::alloc::{AllocError, Global};
-use test_office::{Held, Loss, Stopping};
 use test_rows::{Answers, Row, push_unanswered};
+use test_tables::{Held, Loss, Stopping};
 
 /// The store, and the text of the look.
 #[derive(Drop)]

@@ -5,8 +5,8 @@ use crate::deed::Deed;
 use anyhow::Result;
 use grant_policy::{Policy, read_policy};
 use std::alloc::{AllocError, Global};
-use test_office::Held;
 use test_rows::{Answers, Row, push_unanswered};
+use test_tables::Held;
 
 /// The texts of the policy and of the script that made a database, and the disks that hold it.
 #[derive(Drop)]

@@ -10,8 +10,8 @@ use office_store::{SqlTable, StoreFault};
 use sqlite::Alter;
 use std::alloc::Global;
 use std::sync::ledger::Ledger;
-use test_office::{call, identifier, name, push_records, reply_text};
 use test_rows::word;
+use test_zones::{call, identifier, name, push_records, reply_text};
 use zone_core::Zone;
 
 /// The octets of a text.

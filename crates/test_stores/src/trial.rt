@@ -5,7 +5,7 @@ use crate::deed::Deed;
 use anyhow::{Result, bail};
 use grant_policy::Policy;
 use std::alloc::{AllocError, Global};
-use test_office::{Held, Loss, Stop, Stopping};
+use test_tables::{Held, Loss, Stop, Stopping};
 
 /// What is done to a store, and how it is looked at.
 #[derive(Drop)]

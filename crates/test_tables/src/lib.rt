@@ -19,10 +19,15 @@
 //! `addition NUMBER REPLY` prints what is written for an update of the items that lines `item` say, whose change lines `gone` and
 //! `come` say; `new-zone` for the zone of the records of the body; and `replacement NUMBER` for that of lines `new` in the place of
 //! that of lines `old`.
+//!
+//! Databases, here and in the crates above, are in files of memory, on disks that can stop at any of their calls and lose what was not
+//! synced.
 #![tactic(auto)]
 
 mod batch;
 mod columns;
+mod disks;
+mod files;
 mod refusal;
 mod replies;
 mod rows;
@@ -30,5 +35,7 @@ mod states;
 mod table_queries;
 mod tables;
 
+pub use disks::{Disks, Held, Loss, Stop, Stopping};
+pub use files::{empty_files, opened};
 pub use states::Kept;
 pub use tables::Tables;

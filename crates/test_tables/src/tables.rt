@@ -4,6 +4,8 @@ ghost use Rattle.std.specs.Prelude.{◌≡◌, false};
 
 use crate::batch::batch_of;
 use crate::columns::text_of;
+use crate::disks::Held;
+use crate::files::opened;
 use crate::refusal::Refusal;
 use crate::replies::push_reply;
 use crate::rows;
@@ -16,7 +18,6 @@ use office_sql::{RowsFault, has_no_tables, has_tables, make_tables, write};
 use sqlite::{Alter, Connection, Files};
 use sqlite_disk::Disk;
 use std::alloc::{AllocError, Global};
-use test_office::{Held, opened};
 use test_rows::{Answers, Row};
 
 /// Answers to rows over the store that some disks hold.

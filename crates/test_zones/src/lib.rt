@@ -1,4 +1,4 @@
-//! Rows of policies, zones, items of updates and JSON bodies: worked examples, whose wanted values come from the standards, from the
+//! Rows of policies, zones, items of updates, JSON bodies, and calls of the office in words: worked examples, whose wanted values come from the standards, from the
 //! formats, or from hand.
 //!
 //! `policies`: `policy` reads the document of its body and keeps it, and `many N` that of its body N times, where `#` stands for the
@@ -29,16 +29,25 @@
 //! `NUMBER|REMOVED|ADDED` of such items; `delegations`, with lines `CHILD|GLUE SERVER|..`; and `refusals FORMERR REFUSAL` prints the
 //! bodies of two refusals behind each other.
 //!
+//! Calls of the office, which the crates above ask of their tables: `update CALLER ID ORIGIN` with item lines,
+//! `delegate CALLER ID ORIGIN CHILD TTL` with lines `SERVER ADDRESS..`, `list CALLER ORIGIN`, `list-within CALLER ORIGIN TOP`,
+//! `file CALLER ORIGIN`, `delegations CALLER ORIGIN`, `changes CALLER ORIGIN FROM` and `rights CALLER NAME TYPE ACTION`. The reply is
+//! printed in words.
+//!
 //! A refusal is answered by its number and its line, if it has them, and its words, and in each section `no-memory` prints that one.
 #![tactic(auto)]
 
 mod bodies;
+mod calls;
 mod items;
 mod policies;
 mod refusal;
+mod replies;
 mod zones;
 
 pub use bodies::push_body_answer;
+pub use calls::{call, call_of, identifier, name};
 pub use items::Items;
 pub use policies::Policies;
+pub use replies::{push_records, reply_text};
 pub use zones::Zones;
