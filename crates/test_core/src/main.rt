@@ -1,7 +1,7 @@
 //! All rows: outside vectors and worked examples, whose wanted values come from the standards, from the formats, or from hand.
 //! `section NAME` says what the rows below are about, and a crate for its rows: `names`, `data` and `files` (`test_dns`); `policies`,
-//! `zones`, `items` and `bodies` (`test_zones`); `tables` and `states` (`test_tables`); `stores` and `stops` (`test_stores`);
-//! `exchanges` (`test_exchanges`); `commands` and `words` (`test_commands`). This crate has the rows of what the program does with a store
+//! `zones`, `items` and `bodies` (`test_zones`); `tables` and `states` (`test_tables`); `stores`, `stops` and `exchanges`
+//! (`test_office`); `commands` and `words` (`test_commands`). This crate has the rows of what the program does with a store
 //! in a file, and of what it answers over sockets: they wait for the last of its libraries, as all rows do.
 //!
 //! `stored`: stores and policies in files. `files NAME` begins with a store and a policy that have no files, whose paths end in that

@@ -3,9 +3,8 @@ use crate::stored::Files;
 use std::alloc::{AllocError, Global};
 use test_commands::{push_command_answer, push_words_answer};
 use test_dns::{Records, push_file_answer, push_name_answer};
-use test_exchanges::Office;
+use test_office::{Office, Stops, Stores};
 use test_rows::{Answers, Row, text_of};
-use test_stores::{Stops, Stores};
 use test_tables::{Kept, Tables};
 use test_zones::{Items, Policies, Zones, push_body_answer};
 

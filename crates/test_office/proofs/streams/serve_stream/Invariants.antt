@@ -1,4 +1,4 @@
-use Rattle.test_exchanges.proofs.streams.serve_stream.Given as goal
+use Rattle.test_office.proofs.streams.serve_stream.Given as goal
 
 abbrev pub ghosts-served-R-Ledger : goal.ghosts-served-R-Ledger
 ghosts-served-R-Ledger g a = record { name = a.reads.name; parts = a.reads.parts }
