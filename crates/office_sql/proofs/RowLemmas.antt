@@ -15,10 +15,6 @@ pub never_bad : (e : Error) → fault_of e ≡ BadRow → ⊥
 never_bad (SqliteFailure OutOfMemory) h = absurd cc
 never_bad _ h = absurd cc
 
-pub read_more : {X : Type 0} (f : X → Row) (rows : List Row) (got : List X) (i : ℕ) (row : Row) (x : X) → i < length rows → row ≡ get_or rows i row → row ≡ f x → take i rows ≡ map f got
-    → take (i + 1) rows ≡ map f (got ++ x ∷ [])
-read_more f rows got i row x low is same so_far = take_more rows i row low ∙ ap (λ r. take i rows ++ r ∷ []) (sym is ∙ same) ∙ ap (λ l. l ++ f x ∷ []) so_far ∙ sym (map-append f got (x ∷ []))
-
 -- a row among rows that are all stored is stored
 pub stored_at : {X : Type 0} (f : X → Row) (P : Row → Type 0) (xs : List X) (i : ℕ) (row : Row) → i < length (map f xs) → row ≡ get_or (map f xs) i row → AllByRecursion P (map f xs) → (x : X) × (row ≡ f x) × P row
 stored_at f P [] i row low is all = absurd (omega arith)

@@ -146,14 +146,15 @@ impl FromRow for ChangeRow {
     }
 }
 
-/// The rows of an answer, each read. `BadRow` comes where one of them is no such row.
-pub(crate) fn read_rows<T: FromRow>(alloc: Global, rows: &[Row]) -> Result<Vec<T>, RowsFault>
-    ensures found { IfOk result (λ xs. (rows.now ≡ map T.FromRow.stored xs.items) × AllByRecursion IsReadableRow rows.now) }
-    ensures bad { result ≡ Err BadRow → (xs : List T) → rows.now ≡ map T.FromRow.stored xs → AllByRecursion IsReadableRow rows.now → ⊥ }
+/// The rows of an answer, each read. A row goes as soon as it is read, so that not all of them are held twice. `BadRow` comes where one
+/// of them is no such row.
+pub(crate) fn read_rows<T: FromRow>(alloc: Global, rows: Vec<Row>) -> Result<Vec<T>, RowsFault>
+    ensures found { IfOk result (λ xs. (rows.items ≡ map T.FromRow.stored xs.items) × AllByRecursion IsReadableRow rows.items) }
+    ensures bad { result ≡ Err BadRow → (xs : List T) → rows.items ≡ map T.FromRow.stored xs → AllByRecursion IsReadableRow rows.items → ⊥ }
 {
     let mut read = Vec::new(alloc);
     for row in rows {
-        read.push(T::read(row)?)?;
+        read.push(T::read(&row)?)?;
     }
     Ok(read)
 }

@@ -76,5 +76,5 @@ pub(crate) fn ask<S: Alter, T: FromRow>(
     ensures bad { HasCleanDisk (state S.Store conn.new) → result ≡ Err BadRow → (rows : _) × (mid : _) × Shown sql.now (bound params.now) (state S.Store (record conn.old { in_transaction = true })) (state S.Store mid) rows × ((xs : List T) → rows ≡ map T.FromRow.stored xs → AllByRecursion IsReadableRow rows → ⊥) }
 {
     let rows = fetch_open(conn, sql, params)?;
-    read_rows(alloc, &rows)
+    read_rows(alloc, rows)
 }

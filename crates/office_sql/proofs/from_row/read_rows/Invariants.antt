@@ -1,10 +1,10 @@
-use Rattle.std.proofs.Common.{◌≡◌, map, take}
+use Rattle.std.proofs.Common.{◌≡◌, map}
 use Rattle.std.specs.List.{AllByRecursion}
 use Rattle.office_sql.specs.Stores.{IsReadableRow}
 use Rattle.office_sql.proofs.from_row.read_rows.Given as goal
 
 abbrev pub invariant-loop-row : goal.invariant-loop-row
 invariant-loop-row g l = record {
-  same : take l.row-index l.rows ≡ map g.T.FromRow.stored l.read.items;
-  readable : AllByRecursion IsReadableRow (take l.row-index l.rows);
+  same : l.yielded ≡ map g.T.FromRow.stored l.read.items;
+  readable : AllByRecursion IsReadableRow l.yielded;
 }
