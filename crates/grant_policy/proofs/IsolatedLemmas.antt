@@ -88,7 +88,7 @@ rule_of_grant rules caller name t a g =
     (by.number, record { rule = by.rule; first = by.is_first; grants = by.effect })
 
 -- names that are alike are decided alike
-decision_alike : (rules : List Rule) (caller : List ℕ) (t : RecordType) (a : Action) (name other : List (List ℕ)) → AreAlike rules name other → decision (question caller name t a) rules ≡ decision (question caller other t a) rules
+pub decision_alike : (rules : List Rule) (caller : List ℕ) (t : RecordType) (a : Action) (name other : List (List ℕ)) → AreAlike rules name other → decision (question caller name t a) rules ≡ decision (question caller other t a) rules
 decision_alike [] caller t a name other alike = refl
 decision_alike (rule ∷ rules) caller t a name other alike =
     ap

@@ -23,3 +23,5 @@ pub mod IdleLemmas
 pub mod ClaimLemmas
 pub mod EntryRightLemmas
 pub mod IsolatedLemmas
+mod NameRightLemmas
+mod NameGroupLemmas

@@ -1,7 +1,7 @@
 -- Pairs of a type and an action as bits.
-use Rattle.std.proofs.Common.{◌≡◌, ◌⊎◌, inl, inr, ℕ, zero, suc, ◌+◌, ◌-◌, ◌*◌, ◌/◌, ◌%◌, ◌^◌, ◌<◌, ◌≤◌, Bool, true, false, ◌&&◌, ◌||◌, not, eqb, ltb, min, max, get_or, refl, sym, ap, ◌∙◌, ⊎_elim, arith, lit<, lit≤, bit_and, bit_or, w64}
+use Rattle.std.proofs.Common.{◌≡◌, ◌≢◌, ◌⊎◌, inl, inr, ℕ, zero, suc, ◌+◌, ◌-◌, ◌*◌, ◌/◌, ◌%◌, ◌^◌, ◌<◌, ◌≤◌, Bool, true, false, ◌&&◌, ◌||◌, not, eqb, ltb, min, max, get_or, refl, sym, ap, ◌∙◌, ⊎_elim, arith, lit<, lit≤, bit_and, bit_or, w64}
 use Rattle.std.specs.Int.{bit_at, trailing_zeros}
-use Rattle.std.proofs.lemmas.Bool.{cases_lt, cases_eq, and_parts, and_from, and_left, and_right, eq-eqb, eqb-true, lt-ltb, le-ltb}
+use Rattle.std.proofs.lemmas.Bool.{both_ways, false≢true, false_from_ne_true, cases_lt, cases_eq, and_parts, and_from, and_left, and_right, eq-eqb, eqb-true, lt-ltb, le-ltb}
 use Rattle.std.proofs.lemmas.Nat.{or_lt, and_le_l, pow_pos}
 use Rattle.std.proofs.lemmas.Nat.Bits.{bit_at_and, bit_at_or, bit_at_not, bit_at-lt, bit_at-zero, bit_at_above, bit_at_set_same, bit_at_set_other, bit_at-trailing_zeros}
 use Rattle.std.proofs.Math.Nat.{pow-suc, mod-le}
@@ -13,7 +13,7 @@ use Rattle.dns_data.proofs.KeptLaws.{place_is_low, place_of_type, type_at_place}
 use Rattle.grant_policy.specs.declared.action.Action.{Action}
 use Rattle.grant_policy.specs.declared.action.Action.TheVariants as actions
 use Rattle.grant_policy.specs.Words.{all_actions}
-use Rattle.grant_policy.specs.Points.{action_place, pairs, pair_number, type_at, action_at, has_point, Meet, IsInBoth}
+use Rattle.grant_policy.specs.Points.{action_place, pairs, pair_number, type_at, action_at, has_point, Meet, IsInBoth, Differ}
 
 -- ---- places
 
@@ -208,3 +208,46 @@ same_bits test n bits lt are says = record {
 
 pub all_bits : (test : RecordType → Action → Bool) (n bits : ℕ) → n ≡ pairs → AreBits test n bits → (t : RecordType) (a : Action) → has_point bits t a ≡ test t a
 all_bits test n bits e are t a = are.pairs t a ∙ ap (λ (b : Bool). b && test t a) (lt-ltb (pair_number t a) n (omega (arith, e, pair_low t a)))
+
+-- ---- no pair
+
+-- a set has no pair where it does not meet itself
+pub empty_from : (x : ℕ) (b : Bool) → (b ≡ true → Meet x x) → (Meet x x → b ≡ true) → (not b ≡ true → (t : RecordType) (a : Action) → has_point x t a ≡ false) × (((t : RecordType) (a : Action) → has_point x t a ≡ false) → not b ≡ true)
+empty_from x true there back = (λ e. absurd (false≢true e), λ none. let m = there refl in absurd (both_ways (has_point x m.record_type m.action) (none m.record_type m.action) m.in_one))
+empty_from x false there back = (λ e t a. false_from_ne_true (has_point x t a) (λ has. absurd (false≢true (back (record { record_type = t; action = a; in_one = has; in_other = has })))), λ none. refl)
+
+-- ---- sets that differ
+
+apart_here : (p q : Bool) → ((p && not q) || (q && not p)) ≡ true → p ≢ q
+apart_here true true e same = false≢true e
+apart_here true false e same = false≢true (sym same)
+apart_here false true e same = false≢true same
+apart_here false false e same = false≢true e
+
+same_here : (p q : Bool) → ((p && not q) || (q && not p)) ≡ false → p ≡ q
+same_here true true e = refl
+same_here true false e = absurd (false≢true (sym e))
+same_here false true e = absurd (false≢true (sym e))
+same_here false false e = refl
+
+-- the pairs of one set that are not in the other, of both sets
+abbrev pub AreApart : ℕ → ℕ → ℕ → Type 0
+AreApart x y apart = (t : RecordType) (a : Action) → has_point apart t a ≡ ((has_point x t a && not (has_point y t a)) || (has_point y t a && not (has_point x t a)))
+
+pub differ_from : (x y apart : ℕ) → AreApart x y apart → Meet apart apart → Differ x y
+differ_from x y apart are m = record { record_type = m.record_type; action = m.action; differ = apart_here (has_point x m.record_type m.action) (has_point y m.record_type m.action) (sym (are m.record_type m.action) ∙ m.in_one) }
+
+pub same_from : (x y apart : ℕ) → AreApart x y apart → (Meet apart apart → ⊥) → (t : RecordType) (a : Action) → has_point x t a ≡ has_point y t a
+same_from x y apart are none t a =
+    same_here (has_point x t a) (has_point y t a)
+    (sym (are t a) ∙ false_from_ne_true (has_point apart t a) (λ has. none (record { record_type = t; action = a; in_one = has; in_other = has })))
+
+pub both_parts : (x y less more apart : ℕ)
+    → ((t : RecordType) (a : Action) → has_point less t a ≡ (has_point x t a && not (has_point y t a)))
+    → ((t : RecordType) (a : Action) → has_point more t a ≡ (has_point y t a && not (has_point x t a)))
+    → ((t : RecordType) (a : Action) → has_point apart t a ≡ (has_point less t a || has_point more t a))
+    → AreApart x y apart
+both_parts x y less more apart one other both t a =
+    both t a
+    ∙ ap (λ (b : Bool). b || has_point more t a) (one t a)
+    ∙ ap (λ (b : Bool). (has_point x t a && not (has_point y t a)) || b) (other t a)

@@ -1,5 +1,5 @@
 -- Grants are where the reaches of the granting rules are.
-use Rattle.std.proofs.Common.{◌≡◌, ◌⊎◌, ℕ, suc, ◌+◌, ◌<◌, ◌≤◌, List, [], ◌∷◌, ◌++◌, length, drop, get_or, Bool, true, false, cond, ◌&&◌, Option, Some, None, IfSome, inl, inr, ⊎_elim, refl, sym, ap, subst, ◌∙◌, arith, append-nil, length-append}
+use Rattle.std.proofs.Common.{◌≡◌, ◌⊎◌, ℕ, suc, ◌+◌, ◌<◌, ◌≤◌, List, [], ◌∷◌, length, drop, get_or, Bool, true, false, cond, ◌&&◌, Option, Some, None, IfSome, inl, inr, ⊎_elim, refl, sym, ap, subst, ◌∙◌, arith, append-nil, length-append}
 use Rattle.std.specs.List.{All}
 use Rattle.std.proofs.lemmas.List.Elements.{All-nil, All-cons, All-head, All-tail, All-drop}
 use Rattle.std.proofs.Math.Seq.{drop-cons}
@@ -16,7 +16,7 @@ use Rattle.grant_policy.specs.declared.scope.Scope.TheVariants.{Name, Subtree, B
 use Rattle.grant_policy.specs.Scopes.{Covers, covers}
 use Rattle.grant_policy.specs.Rules.{Question, matches, is_of, has, same_type, same_action}
 use Rattle.grant_policy.specs.Decisions.{decided, decision, effect_by, is_granted}
-use Rattle.grant_policy.specs.Reach.{AreWithin, GrantsWithin, GrantsNowhere, IsReach, IsCommonAncestor, IsWidened, is_grant, grants_to, reach_at, reach_of}
+use Rattle.grant_policy.specs.Reach.{AreWithin, IsReach, IsWidened, is_grant, grants_to, reach_at, reach_of}
 use Rattle.grant_policy.proofs.ScopeLemmas.{is_within-Decides, covers-Decides}
 use Rattle.grant_policy.proofs.RepresentativeLemmas.{within_self, within_trans, within_cons}
 

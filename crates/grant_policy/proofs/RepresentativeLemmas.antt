@@ -64,7 +64,7 @@ within_self name = ([], refl)
 pub within_trans : (a b c : List (List ℕ)) → IsWithin a b → IsWithin b c → IsWithin a c
 within_trans a b c (f, e) (g, h) = (f ++ g, e ∙ ap (λ (l : List (List ℕ)). f ++ l) h ∙ sym (append_assoc f g c))
 
-within_longer : (a b : List (List ℕ)) → IsWithin a b → length b ≤ length a
+pub within_longer : (a b : List (List ℕ)) → IsWithin a b → length b ≤ length a
 within_longer a b (f, e) = omega (arith, ap (length {A = List ℕ}) e, length-append f b)
 
 -- a name within another is that one, or has it behind a first label
@@ -89,12 +89,12 @@ top_name (label ∷ front) top is = top_name front top (record { labels = is.lab
 -- ---- the nearest rule
 
 -- the nearest name at or above a name that a rule has, or the root
-record IsNearest (rules : List Rule) (name top : List (List ℕ)) : Type 0 where
-  within : IsWithin name top
-  at : (top ≡ []) ⊎ ((rule : Rule) × Contains rules rule × (rule.at ≡ top))
-  nearest : (rule : Rule) → Contains rules rule → IsWithin name rule.at → IsWithin top rule.at
+pub record IsNearest (rules : List Rule) (name top : List (List ℕ)) : Type 0 where
+  pub within : IsWithin name top
+  pub at : (top ≡ []) ⊎ ((rule : Rule) × Contains rules rule × (rule.at ≡ top))
+  pub nearest : (rule : Rule) → Contains rules rule → IsWithin name rule.at → IsWithin top rule.at
 
-nearest : (rules : List Rule) (name : List (List ℕ)) → (top : List (List ℕ)) × IsNearest rules name top
+pub nearest : (rules : List Rule) (name : List (List ℕ)) → (top : List (List ℕ)) × IsNearest rules name top
 nearest rules [] = ([], record { within = within_self []; at = inl refl; nearest = λ rule in' w. w })
 nearest rules (label ∷ name) =
     ⊎_elim
@@ -128,7 +128,7 @@ alike_rule Name at name other n o there back = covers_both Name at name other (�
 alike_rule Subtree at name other n o there back = covers_both Subtree at name other there back
 alike_rule Below at name other n o there back = covers_both Below at name other (λ c. (there c.0, o)) (λ c. (back c.0, n))
 
-below_alike : (rules : List Rule) (label : List ℕ) (front top child : List (List ℕ)) → IsNearest rules ((label ∷ front) ++ top) top → IsFreeBelow rules top child → AreAlike rules ((label ∷ front) ++ top) child
+pub below_alike : (rules : List Rule) (label : List ℕ) (front top child : List (List ℕ)) → IsNearest rules ((label ∷ front) ++ top) top → IsFreeBelow rules top child → AreAlike rules ((label ∷ front) ++ top) child
 below_alike rules label front top child near free rule in' =
     let name : List (List ℕ) = (label ∷ front) ++ top in
     let above : IsWithin child top = (free.label ∷ [], free.is) in
@@ -143,7 +143,7 @@ below_alike rules label front top child near free rule in' =
     (λ (up : IsWithin top rule.at). within_trans name top rule.at near.within up)
     (within_cons free.label top rule.at (subst (λ (n : List (List ℕ)). IsWithin n rule.at) free.is w)))
 
-none_below : (rules : List Rule) (label : List ℕ) (front top : List (List ℕ)) → IsNearest rules ((label ∷ front) ++ top) top → IsName ((label ∷ front) ++ top) → ((x : List ℕ) → IsName (x ∷ top) → ¬ IsFree rules (x ∷ top)) → ⊥
+pub none_below : (rules : List Rule) (label : List ℕ) (front top : List (List ℕ)) → IsNearest rules ((label ∷ front) ++ top) top → IsName ((label ∷ front) ++ top) → ((x : List ℕ) → IsName (x ∷ top) → ¬ IsFree rules (x ∷ top)) → ⊥
 none_below rules label front top near is none =
     let name : List (List ℕ) = (label ∷ front) ++ top in
     let l = last_label label front top in

@@ -21,3 +21,5 @@ pub mod Points
 pub mod Claims
 pub mod EntryRights
 pub mod Isolated
+pub mod NameRights
+pub mod NameGroups

@@ -1,5 +1,5 @@
 -- Pairs of a record type and an action, by number: five for each type, one for each action.
-use Rattle.std.specs.Prelude.{ℕ, ◌+◌, ◌*◌, ◌/◌, ◌%◌, Bool, true, ◌&&◌, ◌==◌, ◌≡◌, length, slice_index_or}
+use Rattle.std.specs.Prelude.{ℕ, ◌+◌, ◌*◌, ◌/◌, ◌%◌, Bool, true, ◌&&◌, ◌==◌, ◌≡◌, ◌≢◌, length, slice_index_or}
 use Rattle.std.specs.Int.{bit_at}
 use Rattle.dns_data.specs.declared.record_type.RecordType.{RecordType}
 use Rattle.dns_data.specs.declared.record_type.RecordType.TheVariants.{A}
@@ -49,3 +49,9 @@ pub record Meet (one other : ℕ) : Type 0 where
   pub action : Action
   pub in_one : has_point one record_type action ≡ true
   pub in_other : has_point other record_type action ≡ true
+
+-- some pair is in one of both sets and not in the other
+pub record Differ (one other : ℕ) : Type 0 where
+  pub record_type : RecordType
+  pub action : Action
+  pub differ : has_point one record_type action ≢ has_point other record_type action

@@ -21,6 +21,7 @@ pub enum Action {
 impl Action {
     ghost use Rattle.grant_policy.specs.Words.{action_text, action_of};
     ghost use Rattle.grant_policy.specs.Wanted.{changes};
+    ghost use Rattle.grant_policy.specs.Points.{action_place};
 
     /// The actions that there are.
     pub const ALL: [Action; 5] = [
@@ -42,6 +43,13 @@ impl Action {
             Action::Delete => "delete",
             Action::Delegate => "delegate",
         }
+    }
+
+    /// Its place in `ALL`, from 0.
+    pub(crate) fn place(self) -> usize
+        ensures { result ≡ action_place self }
+    {
+        self as usize
     }
 
     /// Whether it changes records.

@@ -1,9 +1,9 @@
 //! Record types with actions, as sets.
 
-ghost use Rattle.std.specs.Prelude.{◌≡◌, ◌<◌, ◌^◌, ◌&&◌, ◌||◌, not, ◌↔◌, true, false, MatchOption};
+ghost use Rattle.std.specs.Prelude.{◌≡◌, ◌<◌, ◌^◌, ◌&&◌, ◌||◌, not, ◌↔◌, true, false, IsTrue, MatchOption};
 ghost use Rattle.dns_data.specs.declared.record_type.RecordType.{RecordType as TypeOf};
 ghost use Rattle.grant_policy.specs.declared.action.Action.{Action as ActionOf};
-ghost use Rattle.grant_policy.specs.Points.{has_point, names_point, pairs, Meet, IsInBoth, type_at, action_at};
+ghost use Rattle.grant_policy.specs.Points.{has_point, names_point, pairs, Meet, IsInBoth, Differ, type_at, action_at};
 ghost use Rattle.grant_policy.specs.Wanted.{wants};
 
 use crate::action::Action;
@@ -78,6 +78,30 @@ impl Points {
         Points {
             bits: self.bits & !other.bits,
         }
+    }
+
+    /// Whether a pair is in the set.
+    pub(crate) fn include(self, record_type: RecordType, action: Action) -> bool
+        ensures { result ≡ has_point self.bits record_type action }
+    {
+        let number = 5 * record_type.place() + action.place();
+        self.bits >> number & 1 == 1
+    }
+
+    /// Whether no pair is in the set.
+    pub(crate) fn is_empty(self) -> bool
+        ensures { IsTrue result ↔ ((t : TypeOf) (a : ActionOf) → has_point self.bits t a ≡ false) }
+    {
+        !self.meets(self)
+    }
+
+    /// Whether some pair is in one of both sets and not in the other.
+    pub(crate) fn differs(self, other: Points) -> bool
+        ensures some { result ≡ true → Differ self.bits other.bits }
+        ensures none { result ≡ false → (t : TypeOf) (a : ActionOf) → has_point self.bits t a ≡ has_point other.bits t a }
+    {
+        let apart = self.without(other).with(other.without(self));
+        apart.meets(apart)
     }
 
     /// Whether some pair is in both sets.

@@ -26,7 +26,7 @@ pub(crate) fn representatives(alloc: Global, rules: &[Rule]) -> Result<Vec<Name>
 }
 
 /// The root.
-fn root(alloc: Global) -> Result<Name, AllocError>
+pub(crate) fn root(alloc: Global) -> Result<Name, AllocError>
     ensures { IfOk result (λ name. name ≡ []) }
 {
     match Name::read_absolute(alloc, b".") {
@@ -57,7 +57,6 @@ fn add_with_child(
     ensures added { OnOk result (AddsServed rules.now top.now names.old.items names.new.items) }
     ensures name { IsName top.now }
 {
-    let _ = top.labels();
     add_copy(alloc, top, names)?;
     let found = free_child(alloc, rules, top)?;
     let Some(child) = found else {
@@ -68,9 +67,11 @@ fn add_with_child(
 }
 
 /// Adds a copy of a name.
-fn add_copy(alloc: Global, name: &Name, names: &mut Vec<Name>) -> Result<(), AllocError>
-    ensures { OnOk result (names.new.items ≡ names.old.items ++ name.now ∷ []) }
+pub(crate) fn add_copy(alloc: Global, name: &Name, names: &mut Vec<Name>) -> Result<(), AllocError>
+    ensures added { OnOk result (names.new.items ≡ names.old.items ++ name.now ∷ []) }
+    ensures name { IsName name.now }
 {
+    let _ = name.labels();
     let copy = name.try_copy(alloc)?;
     names.push(copy)?;
     Ok(())

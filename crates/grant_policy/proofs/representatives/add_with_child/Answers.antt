@@ -9,7 +9,7 @@ returns-in_default-clause-added c =
     record {
       child = None;
       free = subst (IsFreeChild c.args.rules.now top) c.in_default.is c.in_ok-found.ensures;
-      added = c.in_ok-add_copy.ensures ∙ sym (append-nil (c.args.names.now.items ++ top ∷ []));
+      added = c.in_ok-add_copy.ensures.added ∙ sym (append-nil (c.args.names.now.items ++ top ∷ []));
     }
 
 pub returns-clause-added : goal.returns-clause-added
@@ -18,5 +18,5 @@ returns-clause-added c =
     record {
       child = Some child;
       free = subst (IsFreeChild c.args.rules.now c.args.top.now) c.in-Some.is c.in_ok-found.ensures;
-      added = c.in_ok-push.ensures.items ∙ ap (λ (l : List (List (List ℕ))). l ++ child ∷ []) c.in_ok-add_copy.ensures;
+      added = c.in_ok-push.ensures.items ∙ ap (λ (l : List (List (List ℕ))). l ++ child ∷ []) c.in_ok-add_copy.ensures.added;
     }
