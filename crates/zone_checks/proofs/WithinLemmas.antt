@@ -1,0 +1,92 @@
+-- Names within names.
+use Rattle.std.proofs.Common.{◌≡◌, ◌≢◌, ℕ, ◌≤◌, List, [], ◌∷◌, ◌++◌, length, true, false, not, refl, sym, ap, subst, ◌∙◌, arith, append_assoc, length-append}
+use Rattle.std.specs.declared.cmp.Ordering.{Ordering}
+use Rattle.std.specs.declared.cmp.Ordering.TheVariants.{Less, Equal, Greater}
+use Rattle.std.specs.Bool.{Decides}
+use Rattle.std.specs.Ordering.{is_lt, is_le, is_eq, ordering_index, ordering_reverse}
+use Rattle.std.proofs.lemmas.Bool.{and_parts}
+use Rattle.std.proofs.lemmas.Bool.Decides.{Decides-and, Decides-not}
+use Rattle.dns_names.specs.Labels.{IsWithin, IsBelow, is_within}
+use Rattle.dns_names.specs.Order.{canonical_cmp, canonical_total, same_name}
+use Rattle.dns_names.proofs.NameLemmas.{same_name-Decides, is_within-Decides}
+use Rattle.zone_core.specs.Delegations.{is_below}
+use Rattle.zone_core.proofs.SetLemmas.{name_is}
+
+abbrev pub Name : Type 0
+Name = List (List ℕ)
+
+pub below-Decides : (name top : Name) → Decides (is_below name top) (IsBelow name top)
+below-Decides name top =
+    Decides-and (is_within name top) (not (same_name name top)) (is_within-Decides name top) (Decides-not (same_name name top) (same_name-Decides name top))
+
+-- ---- as facts
+
+pub within_itself : (a : Name) → IsWithin a a
+within_itself a = ([], refl)
+
+pub within_within : (a b c : Name) → IsWithin a b → IsWithin b c → IsWithin a c
+within_within a b c p q = (p.0 ++ q.0, p.1 ∙ ap (λ (x : Name). p.0 ++ x) q.1 ∙ sym (append_assoc p.0 q.0 c))
+
+-- names within each other are one
+pub within_both : (a b : Name) → IsWithin a b → IsWithin b a → a ≡ b
+within_both a b p q = by_front p.0 p.1
+  where
+    longer : length a ≤ length b
+    longer = omega (arith, ap length q.1, length-append q.0 a)
+
+    by_front : (front : Name) → a ≡ front ++ b → a ≡ b
+    by_front [] e = e
+    by_front (l ∷ front) e = absurd (omega (arith, longer, ap length e, length-append front b))
+
+pub below_within : (a b c : Name) → IsBelow a b → IsWithin b c → IsBelow a c
+below_within a b c p q = (within_within a b c p.0 q, λ e. p.1 (within_both a b p.0 (subst (λ (x : Name). IsWithin b x) (sym e) q)))
+
+-- ---- as tests
+
+pub is_within_itself : (a : Name) → is_within a a ≡ true
+is_within_itself a = (is_within-Decides a a).1 (within_itself a)
+
+pub is_within_within : (a b c : Name) → is_within a b ≡ true → is_within b c ≡ true → is_within a c ≡ true
+is_within_within a b c p q = (is_within-Decides a c).1 (within_within a b c ((is_within-Decides a b).0 p) ((is_within-Decides b c).0 q))
+
+pub below_is_within : (a b : Name) → is_below a b ≡ true → is_within a b ≡ true
+below_is_within a b e = (and_parts (is_within a b) (not (same_name a b)) e).0
+
+-- ---- in canonical order
+
+pub before_then : (a b c : Name) → canonical_cmp a b ≡ Less → is_le (canonical_cmp b c) ≡ true → is_le (canonical_cmp a c) ≡ true
+before_then a b c less le = by_order (canonical_cmp b c) refl le
+  where
+    by_order : (o : Ordering) → canonical_cmp b c ≡ o → is_le o ≡ true → is_le (canonical_cmp a c) ≡ true
+    by_order Less e h = rw (canonical_total.trans a b c less e) refl
+    by_order Equal e h = subst (λ (x : Name). is_le (canonical_cmp a x) ≡ true) (name_is b c (ap is_eq e)) (rw less refl)
+    by_order Greater e h = absurd cc
+
+-- what is before is not behind
+pub not_behind : (a b : Name) → canonical_cmp a b ≡ Less → is_lt (canonical_cmp b a) ≡ false
+not_behind a b less = rw (canonical_total.antisymm b a, less) refl
+
+-- what is not at or before is behind
+pub is_behind : (a b : Name) → is_le (canonical_cmp a b) ≡ false → is_lt (canonical_cmp b a) ≡ true
+is_behind a b e = by_order (canonical_cmp a b) e (canonical_total.antisymm b a)
+  where
+    by_order : (o : Ordering) → is_le o ≡ false → canonical_cmp b a ≡ ordering_reverse o → is_lt (canonical_cmp b a) ≡ true
+    by_order Less h f = absurd cc
+    by_order Equal h f = absurd cc
+    by_order Greater h f = rw f refl
+
+-- what is at or before, and another, is before
+pub before_other : (a b : Name) → is_le (canonical_cmp a b) ≡ true → a ≢ b → canonical_cmp a b ≡ Less
+before_other a b le other = by_order (canonical_cmp a b) refl le
+  where
+    by_order : (o : Ordering) → canonical_cmp a b ≡ o → is_le o ≡ true → canonical_cmp a b ≡ Less
+    by_order Less e h = e
+    by_order Equal e h = absurd (other (name_is a b (ap is_eq e)))
+    by_order Greater e h = absurd cc
+
+pub not_above : (o p : Ordering) → p ≡ Equal → ordering_index o ≤ ordering_index p → is_le o ≡ true
+not_above Less p e le = refl
+not_above Equal p e le = refl
+not_above Greater Less e le = absurd cc
+not_above Greater Equal e le = absurd (omega arith)
+not_above Greater Greater e le = absurd cc

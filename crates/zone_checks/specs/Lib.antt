@@ -1,0 +1,4 @@
+pub mod HostNames
+pub mod ZoneRules
+pub mod ZoneTests
+pub mod ZoneFindings
