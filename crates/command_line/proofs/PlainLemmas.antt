@@ -18,8 +18,8 @@ use Rattle.command_line.specs.declared.job.ZoneForm.{ZoneForm}
 use Rattle.command_line.specs.declared.job.ZoneForm.TheVariants.{Whole, Relative}
 use Rattle.command_line.specs.declared.job.TextForm.{TextForm}
 use Rattle.command_line.specs.declared.job.TextForm.TheVariants.{Plain, Json}
-use Rattle.command_line.specs.PlainForms.{IsNumberGiven, IsPlain, IsValue, IsValueIfGiven, diff_form_words, existing_words, form_words, given, place_words, zone_form_words}
-use Rattle.command_line.specs.Words.{JobOf, apply, canon, diff, request, files_at, imports, export, migrate, rights, plan, serve, check_policy, check_isolation, explain, job_by, job_of, stored_at}
+use Rattle.command_line.specs.PlainForms.{IsChoice, IsNumberGiven, IsPlain, IsValue, IsValueIfGiven, choice_words, diff_form_words, existing_words, form_words, given, place_words, zone_form_words}
+use Rattle.command_line.specs.Words.{JobOf, apply, canon, diff, request, files_at, imports, export, migrate, rights, plan, serve, ChoiceOf, by_all, by_only, by_others, check_policy, check_isolation, check_rights, check_zone, explain, job_by, job_of, stored_at}
 use Rattle.command_line.proofs.CommandLemmas.{job_of_command, no_words, place_walked, rows_from, rules_of, standing, value_walked}
 
 -- ---- steps
@@ -180,30 +180,49 @@ option_read_behind : (c : Command) (k : ℕ) (h : Held) (a : Argument) (v : Text
 option_read_behind c k h a v words is found =
     ap (job_from c words) (value_walked (rules_of c) k (argument_name a) v (filled (rule_for a)) h is found)
 
--- what is held after `policy` and the word of the option
-abbrev subject_held : Held
-subject_held = placed command.Check 1 start argument.Subject (codes "policy")
+-- what is held behind the word of the subject
+abbrev subject_held : Text → Held
+subject_held t = placed command.Check 1 start argument.Subject t
 
-abbrev policy_named : Held
-policy_named = (walked (rules_of command.Check) [] (standing 2 subject_held idle) (codes "--" ++ argument_name argument.Policy)).held
+-- what is held after the word of an option, behind words in their places
+abbrev named_behind : ℕ → Held → Argument → Held
+named_behind k h a = (walked (rules_of command.Check) [] (standing k h idle) (codes "--" ++ argument_name a)).held
 
-check_read : (p : Text) → IsValue p → job_from command.Check (codes "policy" ∷ given argument.Policy p) (walk_from start) ≡ Some (check_policy p)
+-- after the value of the first option of a subject, and the word of the second one
+abbrev second_named : Text → Argument → Text → Argument → Held
+second_named t a v b = named_behind 2 (pushed (argument_name a) v (named_behind 2 (subject_held t) a)) b
+
+check_read : (p : Text) → IsValue p → job_from command.Check (codes "policy" ∷ given argument.CheckedPolicy p) (walk_from start) ≡ Some (check_policy p)
 unfolding clap_on_literals
-check_read p is = option_read_behind command.Check 2 policy_named argument.Policy p [] is refl
-
--- what is held after `isolation` and the word of the first option, and after its value and the word of the second
-abbrev isolation_named : Held
-isolation_named = (walked (rules_of command.Check) [] (standing 2 (placed command.Check 1 start argument.Subject (codes "isolation")) idle) (codes "--" ++ argument_name argument.Policy)).held
-
-abbrev isolated_named : Text → Held
-isolated_named p = (walked (rules_of command.Check) [] (standing 2 (pushed (argument_name argument.Policy) p isolation_named) idle) (codes "--" ++ argument_name argument.Isolated)).held
+check_read p is = option_read_behind command.Check 2 (named_behind 2 (subject_held (codes "policy")) argument.CheckedPolicy) argument.CheckedPolicy p [] is refl
 
 isolation_read : (p q : Text) → IsValue p → IsValue q
-    → job_from command.Check (codes "isolation" ∷ (given argument.Policy p ++ given argument.Isolated q)) (walk_from start) ≡ Some (check_isolation p q)
+    → job_from command.Check (codes "isolation" ∷ (given argument.CheckedPolicy p ++ given argument.Isolated q)) (walk_from start) ≡ Some (check_isolation p q)
 unfolding clap_on_literals
 isolation_read p q is_p is_q =
-    option_read_behind command.Check 2 isolation_named argument.Policy p (given argument.Isolated q) is_p refl
-    ∙ option_read_behind command.Check 2 (isolated_named p) argument.Isolated q [] is_q refl
+    option_read_behind command.Check 2 (named_behind 2 (subject_held (codes "isolation")) argument.CheckedPolicy) argument.CheckedPolicy p (given argument.Isolated q) is_p refl
+    ∙ option_read_behind command.Check 2 (second_named (codes "isolation") argument.CheckedPolicy p argument.Isolated) argument.Isolated q [] is_q refl
+
+list_read : (p : Text) (n : Option Text) → IsValue p → IsValueIfGiven n
+    → job_from command.Check (codes "rights" ∷ (place_words n ++ given argument.CheckedPolicy p)) (walk_from start) ≡ Some (check_rights p n)
+unfolding clap_on_literals
+list_read p None is_p is_n =
+    option_read_behind command.Check 2 (named_behind 2 (subject_held (codes "rights")) argument.CheckedPolicy) argument.CheckedPolicy p [] is_p refl
+list_read p (Some n) is_p is_n =
+    place_read command.Check 2 (subject_held (codes "rights")) argument.CheckedName n (given argument.CheckedPolicy p) is_n refl
+    ∙ option_read_behind command.Check 3 (named_behind 3 (placed command.Check 2 (subject_held (codes "rights")) argument.CheckedName n) argument.CheckedPolicy) argument.CheckedPolicy p [] is_p refl
+
+zone_read : (o : Text) (rules : ChoiceOf) → IsValue o → IsChoice rules
+    → job_from command.Check (codes "zone" ∷ (given argument.CheckedOrigin o ++ choice_words rules)) (walk_from start) ≡ Some (check_zone o rules)
+unfolding clap_on_literals
+zone_read o by_all is_o is_r =
+    option_read_behind command.Check 2 (named_behind 2 (subject_held (codes "zone")) argument.CheckedOrigin) argument.CheckedOrigin o [] is_o refl
+zone_read o (by_only r) is_o is_r =
+    option_read_behind command.Check 2 (named_behind 2 (subject_held (codes "zone")) argument.CheckedOrigin) argument.CheckedOrigin o (given argument.Only r) is_o refl
+    ∙ option_read_behind command.Check 2 (second_named (codes "zone") argument.CheckedOrigin o argument.Only) argument.Only r [] is_r refl
+zone_read o (by_others r) is_o is_r =
+    option_read_behind command.Check 2 (named_behind 2 (subject_held (codes "zone")) argument.CheckedOrigin) argument.CheckedOrigin o (given argument.Not r) is_o refl
+    ∙ option_read_behind command.Check 2 (second_named (codes "zone") argument.CheckedOrigin o argument.Not) argument.Not r [] is_r refl
 
 explain_read : (n : Option Text) (form : TextForm) → IsValueIfGiven n
     → job_from command.Explain (place_words n ++ form_words form) (walk_from start) ≡ Some (explain n form)
@@ -234,4 +253,6 @@ plain_read words (serve s p l n w) is =
     ∙ numbers_read s p l is.0 is.1 is.2 n w is.3 is.5 is.4 is.6))
 plain_read words (check_policy p) is = ap job_of is.1 ∙ (job_of_command command.Check _ ∙ check_read p is.0)
 plain_read words (check_isolation p q) is = ap job_of is.2 ∙ (job_of_command command.Check _ ∙ isolation_read p q is.0 is.1)
+plain_read words (check_rights p n) is = ap job_of is.2 ∙ (job_of_command command.Check _ ∙ list_read p n is.0 is.1)
+plain_read words (check_zone o rules) is = ap job_of is.2 ∙ (job_of_command command.Check _ ∙ zone_read o rules is.0 is.1)
 plain_read words (explain n form) is = ap job_of is.1 ∙ (job_of_command command.Explain _ ∙ explain_read n form is.0)

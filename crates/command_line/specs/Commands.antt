@@ -29,7 +29,12 @@ argument_row argument.Connections = (codes "connections", Number)
 argument_row argument.Patience = (codes "patience", Number)
 argument_row argument.Number = (codes "number", OptionalPlace)
 argument_row argument.Subject = (codes "subject", Place)
+argument_row argument.CheckedPolicy = (codes "policy", Optional)
+argument_row argument.CheckedOrigin = (codes "origin", Optional)
+argument_row argument.CheckedName = (codes "name", OptionalPlace)
 argument_row argument.Isolated = (codes "caller", Optional)
+argument_row argument.Only = (codes "only", Optional)
+argument_row argument.Not = (codes "not", Optional)
 argument_row argument.Json = (codes "json", Flag)
 argument_row argument.Guard = (codes "guard", Flag)
 argument_row argument.Old = (codes "old", Place)
@@ -58,7 +63,8 @@ command_row command.Rights =
 command_row command.Plan = (codes "plan", argument.Policy ∷ argument.Caller ∷ [])
 command_row command.Serve =
     (codes "serve", argument.Store ∷ argument.Policy ∷ argument.Listen ∷ argument.Connections ∷ argument.Patience ∷ [])
-command_row command.Check = (codes "check", argument.Subject ∷ argument.Policy ∷ argument.Isolated ∷ [])
+command_row command.Check =
+    (codes "check", argument.Subject ∷ argument.CheckedName ∷ argument.CheckedPolicy ∷ argument.Isolated ∷ argument.CheckedOrigin ∷ argument.Only ∷ argument.Not ∷ [])
 command_row command.Explain = (codes "explain", argument.Number ∷ argument.Json ∷ [])
 
 abbrev pub command_word : Command → Text

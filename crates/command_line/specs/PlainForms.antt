@@ -4,7 +4,7 @@ use Rattle.std.specs.Str.{bytes_eq}
 use Rattle.clap.specs.Words.{Text}
 use Rattle.clap.specs.Lexer.{long_of, short_of}
 use Rattle.command_line.specs.Commands.{argument_name}
-use Rattle.command_line.specs.Words.{JobOf, apply, canon, diff, request, imports, export, migrate, rights, plan, serve, check_policy, check_isolation, explain, number_in}
+use Rattle.command_line.specs.Words.{JobOf, apply, canon, diff, request, imports, export, migrate, rights, plan, serve, ChoiceOf, by_all, by_only, by_others, check_policy, check_isolation, check_rights, check_zone, explain, number_in}
 use Rattle.command_line.specs.declared.argument.Argument.{Argument}
 use Rattle.command_line.specs.declared.argument.Argument.TheVariants as argument
 use Rattle.command_line.specs.declared.job.Existing.{Existing}
@@ -46,6 +46,18 @@ abbrev pub form_words : TextForm → List Text
 form_words Plain = []
 form_words Json = codes "--json" ∷ []
 
+-- `--only RULE` or `--not RULE`, where a zone is not to be checked by all rules
+abbrev pub choice_words : ChoiceOf → List Text
+choice_words by_all = []
+choice_words (by_only rule) = given argument.Only rule
+choice_words (by_others rule) = given argument.Not rule
+
+-- the word of the rule may stand as the value of an option
+abbrev pub IsChoice : ChoiceOf → Type 0
+IsChoice by_all = ⊤
+IsChoice (by_only rule) = IsValue rule
+IsChoice (by_others rule) = IsValue rule
+
 -- a word in its place, where one is given
 abbrev pub place_words : Option Text → List Text
 place_words None = []
@@ -82,7 +94,11 @@ IsPlain words (serve store policy listen connections patience) = IsValue store �
     × (ns : List Text) × IsNumberGiven argument.Connections connections ns
     × (ws : List Text) × IsNumberGiven argument.Patience patience ws
     × (words ≡ codes "serve" ∷ (given argument.Store store ++ given argument.Policy policy ++ given argument.Listen listen ++ ns ++ ws))
-IsPlain words (check_policy policy) = IsValue policy × (words ≡ codes "check" ∷ codes "policy" ∷ given argument.Policy policy)
+IsPlain words (check_policy policy) = IsValue policy × (words ≡ codes "check" ∷ codes "policy" ∷ given argument.CheckedPolicy policy)
 IsPlain words (check_isolation policy caller) = IsValue policy × IsValue caller
-    × (words ≡ codes "check" ∷ codes "isolation" ∷ (given argument.Policy policy ++ given argument.Isolated caller))
+    × (words ≡ codes "check" ∷ codes "isolation" ∷ (given argument.CheckedPolicy policy ++ given argument.Isolated caller))
+IsPlain words (check_rights policy name) = IsValue policy × IsValueIfGiven name
+    × (words ≡ codes "check" ∷ codes "rights" ∷ (place_words name ++ given argument.CheckedPolicy policy))
+IsPlain words (check_zone origin rules) = IsValue origin × IsChoice rules
+    × (words ≡ codes "check" ∷ codes "zone" ∷ (given argument.CheckedOrigin origin ++ choice_words rules))
 IsPlain words (explain number form) = IsValueIfGiven number × (words ≡ codes "explain" ∷ (place_words number ++ form_words form))

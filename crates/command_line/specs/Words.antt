@@ -19,6 +19,8 @@ use Rattle.command_line.specs.declared.job.ZoneForm.{ZoneForm}
 use Rattle.command_line.specs.declared.job.ZoneForm.TheVariants.{Whole, Relative}
 use Rattle.command_line.specs.declared.job.StoredZone.{StoredZone}
 use Rattle.command_line.specs.declared.job.ZoneFiles.{ZoneFiles}
+use Rattle.command_line.specs.declared.job.RuleChoice.{RuleChoice}
+use Rattle.command_line.specs.declared.job.RuleChoice.TheVariants as choice
 use Rattle.command_line.specs.declared.job.Job.{Job}
 use Rattle.command_line.specs.declared.job.Job.TheVariants as job
 
@@ -34,6 +36,12 @@ pub record FilesOf : Type 0 where
   pub old : Text
   pub new : Text
 
+-- by which rules a zone is checked, by their words
+pub data ChoiceOf : Type 0 where
+  by_all : ChoiceOf
+  by_only : (rule : Text) → ChoiceOf
+  by_others : (rule : Text) → ChoiceOf
+
 -- a job, by its words
 pub data JobOf : Type 0 where
   apply : JobOf
@@ -48,6 +56,8 @@ pub data JobOf : Type 0 where
   serve : (store policy listen : Text) → (connections patience : Option ℕ) → JobOf
   check_policy : (policy : Text) → JobOf
   check_isolation : (policy caller : Text) → JobOf
+  check_rights : (policy : Text) → (name : Option Text) → JobOf
+  check_zone : (origin : Text) → ChoiceOf → JobOf
   explain : (number : Option Text) → TextForm → JobOf
 
 abbrev pub zone_asked : StoredZone → StoredOf
@@ -55,6 +65,11 @@ zone_asked zone = record { store = zone.store.now; origin = zone.origin.now }
 
 abbrev pub files_asked : ZoneFiles → FilesOf
 files_asked files = record { old = files.old.now; new = files.new.now }
+
+abbrev pub chosen : RuleChoice → ChoiceOf
+chosen choice.All = by_all
+chosen (choice.Only rule) = by_only rule.now
+chosen (choice.Not rule) = by_others rule.now
 
 abbrev pub asks : Job → JobOf
 asks job.Apply = apply
@@ -69,6 +84,8 @@ asks (job.Plan policy caller) = plan policy.now caller.now
 asks (job.Serve service) = serve service.store.now service.policy.now service.listen.now service.connections service.patience
 asks (job.CheckPolicy policy) = check_policy policy.now
 asks (job.CheckIsolation policy caller) = check_isolation policy.now caller.now
+asks (job.CheckRights policy name) = check_rights policy.now (option_map (λ n. n.now) name)
+asks (job.CheckZone origin rules) = check_zone origin.now (chosen rules)
 asks (job.Explain number form) = explain (option_map (λ n. n.now) number) form
 
 -- ---- what words ask for
@@ -155,17 +172,42 @@ serve_of rows =
     (first_of (argument_name argument.Listen) rows)) (first_of (argument_name argument.Policy) rows)) (first_of (argument_name argument.Store) rows)
 
 abbrev pub checked_of : List Row → Option JobOf
-checked_of rows = option_map (λ p. check_policy p) (first_of (argument_name argument.Policy) rows)
+checked_of rows = option_map (λ p. check_policy p) (first_of (argument_name argument.CheckedPolicy) rows)
 
 abbrev pub isolated_of : List Row → Option JobOf
 isolated_of rows =
     option_and_then (λ p. option_map (λ c. check_isolation p c) (first_of (argument_name argument.Isolated) rows))
-    (first_of (argument_name argument.Policy) rows)
+    (first_of (argument_name argument.CheckedPolicy) rows)
 
--- what is checked is the policy, or the isolation of a caller
+abbrev pub listed_of : List Row → Option JobOf
+listed_of rows =
+    option_map (λ p. check_rights p (first_of (argument_name argument.CheckedName) rows)) (first_of (argument_name argument.CheckedPolicy) rows)
+
+-- not both by one rule only and by all but one
+abbrev pub choice_by : Option Text → Option Text → Option ChoiceOf
+choice_by None None = Some by_all
+choice_by (Some rule) None = Some (by_only rule)
+choice_by None (Some rule) = Some (by_others rule)
+choice_by (Some rule) (Some other) = None
+
+abbrev pub choice_of : List Row → Option ChoiceOf
+choice_of rows = choice_by (first_of (argument_name argument.Only) rows) (first_of (argument_name argument.Not) rows)
+
+abbrev pub linted_of : List Row → Option JobOf
+linted_of rows =
+    option_and_then (λ o. option_map (λ c. check_zone o c) (choice_of rows)) (first_of (argument_name argument.CheckedOrigin) rows)
+
+-- what is checked is the policy, the isolation of a caller, or a zone; or the rights are printed
+abbrev pub check_by : Text → List Row → Option JobOf
+check_by t rows =
+    if bytes_eq t (codes "policy") then checked_of rows
+    else (if bytes_eq t (codes "isolation") then isolated_of rows
+    else (if bytes_eq t (codes "rights") then listed_of rows
+    else (if bytes_eq t (codes "zone") then linted_of rows else None)))
+
 abbrev pub check_if : Option Text → List Row → Option JobOf
 check_if None rows = None
-check_if (Some t) rows = if bytes_eq t (codes "policy") then checked_of rows else (if bytes_eq t (codes "isolation") then isolated_of rows else None)
+check_if (Some t) rows = check_by t rows
 
 abbrev pub check_of : List Row → Option JobOf
 check_of rows = check_if (first_of (argument_name argument.Subject) rows) rows

@@ -157,9 +157,17 @@ impl Command {
             ),
             Command::Check => Row::new(
                 "check",
-                "Finds rules that never decide, or what keeps a caller from being isolated",
+                "Checks a policy, the isolation of a caller, or a zone; or prints who may do what",
                 "Example: zoneoffice check policy --policy policy.toml",
-                &[Argument::Subject, Argument::Policy, Argument::Isolated],
+                &[
+                    Argument::Subject,
+                    Argument::CheckedName,
+                    Argument::CheckedPolicy,
+                    Argument::Isolated,
+                    Argument::CheckedOrigin,
+                    Argument::Only,
+                    Argument::Not,
+                ],
             ),
             Command::Explain => Row::new(
                 "explain",

@@ -76,6 +76,20 @@ pub enum Job<'a> {
         /// Whose isolation it is.
         caller: &'a str,
     },
+    /// To print who may do what, by a policy.
+    CheckRights {
+        /// The path of the policy.
+        policy: &'a str,
+        /// At which name, and by scopes where none is given.
+        name: Option<&'a str>,
+    },
+    /// To find what name servers refuse in a zone that is read from standard input.
+    CheckZone {
+        /// The name of its origin.
+        origin: &'a str,
+        /// By which rules.
+        rules: RuleChoice<'a>,
+    },
     /// To say what the number of a refusal means.
     Explain {
         /// The number, or the code, and all where none is given.
@@ -110,6 +124,17 @@ pub enum DiffForm {
     Bare,
     /// Before them prerequisites: that the record sets that they change are as in the old zone.
     Guarded,
+}
+
+/// By which of the rules a zone is checked.
+#[derive(Clone, Copy, PartialEq, Eq)]
+pub enum RuleChoice<'a> {
+    /// By all of them.
+    All,
+    /// By the rule of this word only.
+    Only(&'a str),
+    /// By all but the rule of this word.
+    Not(&'a str),
 }
 
 /// A zone of a store, as the words of `import` and of `export` name it.

@@ -3,14 +3,15 @@
 ghost use Rattle.std.specs.Prelude.{◌≡◌, [], IfErr, IfOk, map, option_map, Some, is_some, true, codes};
 ghost use Rattle.clap.specs.Words.{app_of, fault_of, first_of, found_of, kind_of, one_of, rows_of, subcommand_rows_of, takes};
 ghost use Rattle.command_line.specs.Commands.{office, argument_name};
-ghost use Rattle.command_line.specs.Words.{asks, JobOf, canon_of, files_asked, files_of, diff_of, request_of, zone_asked, stored_of, import_of, export_of, migrate_of, rights_of, plan_of, serve_of, checked_of, isolated_of, check_of, explain_of, number_if, existing_of, zone_form_of, diff_form_of, form_of, job_by, job_named, job_met, job_of};
+ghost use Rattle.command_line.specs.Words.{asks, chosen, JobOf, canon_of, files_asked, files_of, diff_of, request_of, zone_asked, stored_of, import_of, export_of, migrate_of, rights_of, plan_of, serve_of, checked_of, isolated_of, listed_of, choice_of, linted_of, check_of, explain_of, number_if, existing_of, zone_form_of, diff_form_of, form_of, job_by, job_named, job_met, job_of};
 ghost use Rattle.command_line.specs.PlainForms.{IsPlain};
 ghost use Rattle.command_line.specs.Misuse.{IsReportedAs, IsReported, is_help};
 
 use crate::argument::Argument;
 use crate::command::Command;
 use crate::job::{
-    DiffForm, Existing, Job, QuestionWords, Service, StoredZone, TextForm, ZoneFiles, ZoneForm,
+    DiffForm, Existing, Job, QuestionWords, RuleChoice, Service, StoredZone, TextForm, ZoneFiles,
+    ZoneForm,
 };
 use crate::parser::parser;
 use clap::error::ErrorKind;
@@ -207,7 +208,7 @@ fn plan_in<'a>(matches: &ArgMatches<'a>) -> Option<Job<'a>>
 fn policy_check_in<'a>(matches: &ArgMatches<'a>) -> Option<Job<'a>>
     ensures { option_map asks result ≡ checked_of (rows_of (found_of matches.now)) }
 {
-    let policy = text_at(matches, Argument::Policy)?;
+    let policy = text_at(matches, Argument::CheckedPolicy)?;
     Some(Job::CheckPolicy { policy })
 }
 
@@ -215,9 +216,42 @@ fn policy_check_in<'a>(matches: &ArgMatches<'a>) -> Option<Job<'a>>
 fn isolation_check_in<'a>(matches: &ArgMatches<'a>) -> Option<Job<'a>>
     ensures { option_map asks result ≡ isolated_of (rows_of (found_of matches.now)) }
 {
-    let policy = text_at(matches, Argument::Policy)?;
+    let policy = text_at(matches, Argument::CheckedPolicy)?;
     let caller = text_at(matches, Argument::Isolated)?;
     Some(Job::CheckIsolation { policy, caller })
+}
+
+/// The job of `check rights`.
+fn rights_check_in<'a>(matches: &ArgMatches<'a>) -> Option<Job<'a>>
+    ensures { option_map asks result ≡ listed_of (rows_of (found_of matches.now)) }
+{
+    let policy = text_at(matches, Argument::CheckedPolicy)?;
+    let name = text_at(matches, Argument::CheckedName);
+    Some(Job::CheckRights { policy, name })
+}
+
+/// By which rules a zone is to be checked: not both by one only and by all but one.
+fn choice_at<'a>(matches: &ArgMatches<'a>) -> Option<RuleChoice<'a>>
+    ensures { option_map chosen result ≡ choice_of (rows_of (found_of matches.now)) }
+{
+    match (
+        text_at(matches, Argument::Only),
+        text_at(matches, Argument::Not),
+    ) {
+        (None, None) => Some(RuleChoice::All),
+        (Some(rule), None) => Some(RuleChoice::Only(rule)),
+        (None, Some(rule)) => Some(RuleChoice::Not(rule)),
+        (Some(_), Some(_)) => None,
+    }
+}
+
+/// The job of `check zone`.
+fn zone_check_in<'a>(matches: &ArgMatches<'a>) -> Option<Job<'a>>
+    ensures { option_map asks result ≡ linted_of (rows_of (found_of matches.now)) }
+{
+    let origin = text_at(matches, Argument::CheckedOrigin)?;
+    let rules = choice_at(matches)?;
+    Some(Job::CheckZone { origin, rules })
 }
 
 /// The job of the command `check`.
@@ -227,6 +261,8 @@ fn check_in<'a>(matches: &ArgMatches<'a>) -> Option<Job<'a>>
     match text_at(matches, Argument::Subject) {
         Some("policy") => policy_check_in(matches),
         Some("isolation") => isolation_check_in(matches),
+        Some("rights") => rights_check_in(matches),
+        Some("zone") => zone_check_in(matches),
         _ => None,
     }
 }
@@ -307,7 +343,8 @@ fn reported(alloc: Global, error: Error) -> WordsFault
 /// `migrate --store PATH`;
 /// `rights --policy PATH --caller CALLER NAME TYPE ACTION`; `plan --policy PATH --caller CALLER`;
 /// `serve --store PATH --policy PATH --listen ADDRESS:PORT [--connections N] [--patience SECONDS]`;
-/// `check policy --policy PATH`; `check isolation --policy PATH --caller CALLER`; and
+/// `check policy --policy PATH`; `check isolation --policy PATH --caller CALLER`; `check rights [NAME] --policy PATH`;
+/// `check zone --origin NAME [--only RULE | --not RULE]`; and
 /// `explain [NUMBER] [--json]`. The words behind a command may come in any order.
 /// `Help` comes where they ask for help or the version, and `Misused` where there is a mistake in them.
 pub fn read_words<'a>(alloc: Global, words: &'a [&'a str]) -> Result<Job<'a>, WordsFault>
@@ -333,7 +370,10 @@ pub fn read_words<'a>(alloc: Global, words: &'a [&'a str]) -> Result<Job<'a>, Wo
     if let Some(job) = job_in(&matches) {
         return Ok(job);
     }
-    match command.error(ErrorKind::InvalidValue, "the words name no job") {
+    match command.error(
+        ErrorKind::InvalidValue,
+        "the words name no job: see the example of zoneoffice COMMAND --help",
+    ) {
         Ok(error) => Err(reported(alloc, error)),
         Err(_) => Err(WordsFault::NoMemory),
     }

@@ -3,6 +3,7 @@
 mod devices;
 mod diffs;
 mod plans;
+mod trials;
 
 use crate::commands::devices::{Command, Manner};
 use crate::commands::diffs::push_diff;

@@ -1,8 +1,8 @@
 //! What the words of a command line ask for.
 
 use command_line::{
-    DiffForm, Existing, Job, QuestionWords, Service, StoredZone, TextForm, WordsFault, ZoneFiles,
-    ZoneForm, read_words,
+    DiffForm, Existing, Job, QuestionWords, RuleChoice, Service, StoredZone, TextForm, WordsFault,
+    ZoneFiles, ZoneForm, read_words,
 };
 use std::alloc::{AllocError, Global};
 use test_rows::Row;
@@ -96,7 +96,32 @@ fn push_job(alloc: Global, job: &Job<'_>, answer: &mut Vec<u8>) -> Result<(), Al
             &["check isolation (", policy, ") (", caller, ")"],
             answer,
         ),
+        Job::CheckRights { policy, name } => {
+            push_all(&["check rights (", policy, ")"], answer)?;
+            push_if_given(*name, answer)
+        }
+        Job::CheckZone { origin, rules } => {
+            push_all(&["check zone (", origin, ")"], answer)?;
+            push_choice(*rules, answer)
+        }
         Job::Explain { number, form } => push_explain(*number, *form, answer),
+    }
+}
+
+/// Appends a word, if one is given.
+fn push_if_given(given: Option<&str>, answer: &mut Vec<u8>) -> Result<(), AllocError> {
+    match given {
+        Some(word) => push_all(&[" (", word, ")"], answer),
+        None => Ok(()),
+    }
+}
+
+/// Appends by which rules a zone is checked.
+fn push_choice(rules: RuleChoice<'_>, answer: &mut Vec<u8>) -> Result<(), AllocError> {
+    match rules {
+        RuleChoice::All => Ok(()),
+        RuleChoice::Only(rule) => push_all(&[" only (", rule, ")"], answer),
+        RuleChoice::Not(rule) => push_all(&[" not (", rule, ")"], answer),
     }
 }
 

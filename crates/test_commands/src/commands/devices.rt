@@ -1,11 +1,10 @@
 //! Commands, and the devices that they read and write.
 
+use crate::commands::trials::{Devices, Trial, tried};
 use command_line::{QuestionWords, TextForm, ZoneForm};
-use dns_master::Pieces;
+use dns_master::{Pieces, Sink, Source};
 use std::alloc::{AllocError, Global};
-use text_commands::{
-    Apply, Canon, Explain, Findings, JobFault, Request, Subject, Task, do_check, do_task,
-};
+use text_commands::{Apply, Canon, Explain, Findings, JobFault, Request, Subject, Task, do_check};
 
 /// How a device works.
 #[derive(Clone, Copy)]
@@ -71,10 +70,8 @@ impl Command<'_> {
         reading: Manner,
         writing: Manner,
     ) -> Result<Printed, AllocError> {
-        let reader = reading.device(Vec::from_slice(alloc, self.input)?);
-        let writer = writing.device(Vec::new(alloc));
-        let (page, done) = do_task(alloc, task, reader, writer);
-        Ok((page.octets, found_none(done)))
+        let (printed, done) = tried(alloc, Does(task), self.devices(alloc, reading, writing)?);
+        Ok((printed, found_none(done)))
     }
 
     fn run_check(
@@ -84,10 +81,61 @@ impl Command<'_> {
         reading: Manner,
         writing: Manner,
     ) -> Result<Printed, AllocError> {
-        let reader = reading.device(Vec::from_slice(alloc, self.input)?);
-        let writer = writing.device(Vec::new(alloc));
-        let (page, done) = do_check(alloc, subject, reader, writer);
-        Ok((page.octets, done))
+        Ok(tried(
+            alloc,
+            Checks(subject),
+            self.devices(alloc, reading, writing)?,
+        ))
+    }
+
+    fn devices(
+        self,
+        alloc: Global,
+        reading: Manner,
+        writing: Manner,
+    ) -> Result<Devices, AllocError> {
+        Ok(Devices {
+            first: reading.device(Vec::from_slice(alloc, self.input)?),
+            second: Manner::SOUND.device(Vec::new(alloc)),
+            writer: writing.device(Vec::new(alloc)),
+        })
+    }
+}
+
+/// To do a task.
+#[derive(Drop)]
+pub struct Does<T>(pub T);
+
+impl<T: Task> Trial for Does<T> {
+    type Outcome = Result<(), JobFault>;
+
+    fn run<R: Source, N: Source, W: Sink>(
+        self,
+        alloc: Global,
+        first: &mut R,
+        _second: &mut N,
+        writer: &mut W,
+    ) -> Result<(), JobFault> {
+        let Does(task) = self;
+        task.run(alloc, first, writer)
+    }
+}
+
+/// To check a policy.
+#[derive(Clone, Copy)]
+struct Checks<'a>(Subject<'a>);
+
+impl Trial for Checks<'_> {
+    type Outcome = Result<Findings, JobFault>;
+
+    fn run<R: Source, N: Source, W: Sink>(
+        self,
+        alloc: Global,
+        first: &mut R,
+        _second: &mut N,
+        writer: &mut W,
+    ) -> Result<Findings, JobFault> {
+        do_check(alloc, self.0, first, writer)
     }
 }
 

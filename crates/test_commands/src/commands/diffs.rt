@@ -1,11 +1,13 @@
 //! Diffs of two zones.
 
-use crate::commands::devices::Manner;
+use crate::commands::devices::{Does, Manner};
+use crate::commands::trials::{Devices, Trial, tried};
 use command_line::DiffForm;
+use dns_master::{Sink, Source};
 use std::alloc::{AllocError, Global};
 use std::fmt::Display;
 use test_rows::{Row, text_of};
-use text_commands::{Apply, DiffFault, do_diff, do_task};
+use text_commands::{Apply, DiffFault, do_diff};
 
 /// The master files of two zones of an origin.
 #[derive(Clone, Copy)]
@@ -40,6 +42,24 @@ impl Manners {
     };
 }
 
+/// To write the items between two zones of an origin, in a form.
+#[derive(Clone, Copy)]
+struct Differs<'a>(&'a str, DiffForm);
+
+impl Trial for Differs<'_> {
+    type Outcome = Result<(), DiffFault>;
+
+    fn run<R: Source, N: Source, W: Sink>(
+        self,
+        alloc: Global,
+        first: &mut R,
+        second: &mut N,
+        writer: &mut W,
+    ) -> Result<(), DiffFault> {
+        do_diff(alloc, (self.0, self.1), first, second, writer)
+    }
+}
+
 impl<'a> TwoZones<'a> {
     /// The two files of a body, with a line `--` between them.
     fn of(origin: &'a str, body: &'a [u8]) -> TwoZones<'a> {
@@ -60,9 +80,12 @@ impl<'a> TwoZones<'a> {
         let new = manners
             .new
             .device(Vec::from_slice(alloc, self.new.as_bytes())?);
-        let writer = manners.writing.device(Vec::new(alloc));
-        let (page, done) = do_diff(alloc, self.origin, manners.form, old, new, writer);
-        Ok((page.octets, done))
+        let devices = Devices {
+            first: old,
+            second: new,
+            writer: manners.writing.device(Vec::new(alloc)),
+        };
+        Ok(tried(alloc, Differs(self.origin, manners.form), devices))
     }
 
     /// What `apply` prints of the old zone and the items.
@@ -77,9 +100,12 @@ fn applied(alloc: Global, zone: &[u8], items: &[u8]) -> Result<Vec<u8>, AllocErr
     let mut input = Vec::from_slice(alloc, zone)?;
     input.extend_from_slice(b"--\n")?;
     input.extend_from_slice(items)?;
-    let reader = Manner::SOUND.device(input);
-    let writer = Manner::SOUND.device(Vec::new(alloc));
-    Ok(do_task(alloc, Apply, reader, writer).0.octets)
+    let devices = Devices {
+        first: Manner::SOUND.device(input),
+        second: Manner::SOUND.device(Vec::new(alloc)),
+        writer: Manner::SOUND.device(Vec::new(alloc)),
+    };
+    Ok(tried(alloc, Does(Apply), devices).0)
 }
 
 /// A device whose first call fails.

@@ -2,9 +2,11 @@
 
 use crate::commands::devices::Manner;
 use crate::commands::diffs::push_outcome;
+use crate::commands::trials::{Devices, Trial, tried};
+use dns_master::{Sink, Source};
 use std::alloc::{AllocError, Global};
 use test_rows::{Row, text_of};
-use text_commands::do_plan;
+use text_commands::{PlanFault, do_plan};
 
 /// A policy, and a zone with an update of it.
 #[derive(Clone, Copy)]
@@ -19,6 +21,24 @@ impl<'a> TwoInputs<'a> {
         let text = text_of(body);
         let (policy, update) = text.split_once("==\n").unwrap_or((text, ""));
         TwoInputs { policy, update }
+    }
+}
+
+/// To write what the office would answer to a caller.
+#[derive(Clone, Copy)]
+struct Plans<'a>(&'a str);
+
+impl Trial for Plans<'_> {
+    type Outcome = Result<(), PlanFault>;
+
+    fn run<R: Source, N: Source, W: Sink>(
+        self,
+        alloc: Global,
+        first: &mut R,
+        second: &mut N,
+        writer: &mut W,
+    ) -> Result<(), PlanFault> {
+        do_plan(alloc, self.0, first, second, writer)
     }
 }
 
@@ -49,10 +69,12 @@ fn push_planned(
 ) -> Result<(), AllocError> {
     let inputs = TwoInputs::of(&row.body);
     let [policy, update, writing] = manners;
-    let policy = policy.device(Vec::from_slice(alloc, inputs.policy.as_bytes())?);
-    let update = update.device(Vec::from_slice(alloc, inputs.update.as_bytes())?);
-    let writer = writing.device(Vec::new(alloc));
-    let (page, done) = do_plan(alloc, text_of(&row.text), policy, update, writer);
-    answer.extend_from_slice(&page.octets)?;
+    let devices = Devices {
+        first: policy.device(Vec::from_slice(alloc, inputs.policy.as_bytes())?),
+        second: update.device(Vec::from_slice(alloc, inputs.update.as_bytes())?),
+        writer: writing.device(Vec::new(alloc)),
+    };
+    let (printed, done) = tried(alloc, Plans(text_of(&row.text)), devices);
+    answer.extend_from_slice(&printed)?;
     push_outcome(alloc, done, answer)
 }
