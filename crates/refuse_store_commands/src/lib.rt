@@ -1,20 +1,27 @@
-//! What the contracts of the commands over stores and sockets refuse. The function has the contract of the one of `store_commands` that
-//! it calls; each edit in must-fail makes the call wrong in one idea, and the prover refuses it.
+//! What the contracts of the commands over stores and sockets refuse. A function has the contract of the one of `store_commands` that it
+//! calls; each edit in must-fail makes the call wrong in one idea, and the prover refuses it.
 #![tactic(auto)]
 
 ghost use Rattle.std.specs.Prelude.{List, Option, length};
+ghost use Rattle.std.specs.Process.{exit_status};
+ghost use Rattle.sqlite.specs.Held.{state};
 ghost use Rattle.office_core.specs.States.{State};
 ghost use Rattle.office_wire.specs.Exchange.{Turn};
 ghost use Rattle.office_wire.specs.Serving.{standing};
 ghost use Rattle.office_wire.specs.declared.serve_fault.ServeFault.{ServeFault as FaultOf};
 ghost use Rattle.store_commands.specs.Serve.{AreServed, AreReported, AreTraced, IsSoMany};
+ghost use Rattle.store_commands.specs.Stores.{stores_of};
+ghost use Rattle.store_commands.specs.Program.{JobEnds};
 
-use dns_master::Sink;
+use command_line::Job;
+use dns_master::{Sink, Source};
 use grant_policy::Policy;
 use office_core::ZoneTable;
+use sqlite::Alter;
 use std::alloc::Global;
+use std::process::ExitCode;
 use std::time::Clock;
-use store_commands::{Connections, Diagnosis, JobFault};
+use store_commands::{Connections, Diagnosis, JobFault, StoreFiles, Surroundings};
 
 /// `serve_connections`.
 pub fn serve_connections<T: ZoneTable, D: Diagnosis<T>, C: Clock, W: Sink, E: Sink>(
@@ -30,4 +37,18 @@ pub fn serve_connections<T: ZoneTable, D: Diagnosis<T>, C: Clock, W: Sink, E: Si
     ensures written { (ends : List (Option FaultOf)) × AreReported most ends (W.contents writer.old) (W.contents writer.new) result (W.failures writer.old) (W.failures writer.new) }
 {
     store_commands::serve_connections(alloc, connections, table, policy, most, writer, trace)
+}
+
+/// `do_job`.
+pub fn do_job<
+    M: Surroundings,
+    S: Alter + Drop,
+    P: StoreFiles<S> + Drop,
+    R: Source,
+    W: Sink,
+    E: Sink,
+>(around: &M, files: P, job: Job<'_>, input: &mut R, output: &mut W, trace: &mut E) -> ExitCode
+    ensures { JobEnds (M.around around.now) (stores_of (state S.Store) (P.finds files) (P.refuses files) (P.connects files)) (record { left = R.remaining input.old; before = R.failures input.old; after = R.failures input.new }) (record { old = W.contents output.old; new = W.contents output.new; before = W.failures output.old; after = W.failures output.new }) (record { old = E.contents trace.old; new = E.contents trace.new; before = E.failures trace.old; after = E.failures trace.new }) job.entry (exit_status result) }
+{
+    store_commands::do_job(around, files, job, input, output, trace)
 }

@@ -1,5 +1,6 @@
 -- What is written of a store that refuses something.
 use Rattle.std.proofs.Common.{◌≡◌, inl, inr, ℕ, Bool, List, [], Option, None, Result, Ok, Err, refl, sym, ap, subst, ◌∙◌}
+use Rattle.std.specs.Bool.{⊤}
 use Rattle.sqlite.specs.State.{State as Shown}
 use Rattle.dns_names.specs.Reading.{absolute_name}
 use Rattle.command_line.specs.declared.job.ZoneForm.{ZoneForm}
@@ -43,46 +44,46 @@ puts_by (Refused refusal) is = λ zone. is
 puts_by NoMemory is = λ zone. refl
 puts_by ReadFailed is = absurd is
 
-module _ (left : Option (List ℕ)) (make : List ℕ → Result ZoneOf Refusal) (before after : ℕ) where
+module _ (left : Option (List ℕ)) (make : List ℕ → Result ZoneOf Refusal) (fine failed : Type 0) where
   -- the input is refused, or not read
   pub read_refused : {X Z : Type 0} (view : X → List ℕ) (seen : Z → ZoneOf) (put : ZoneOf → Result (List ℕ) Refusal) (fault : LineFault)
-      → GivesOf seen left make (Err fault) before after → GivesOf view left (λ input. make input >>= put) (Err fault) before after
+      → GivesOf seen left make (Err fault) fine failed → GivesOf view left (λ input. make input >>= put) (Err fault) fine failed
   read_refused view seen put (Refused refusal) given = ((given.0.0, given.0.1, refused_before (make given.0.0) put refusal given.0.2), given.1)
   read_refused view seen put ReadFailed given = (given.0, reached_before make put given.1)
   read_refused view seen put NoMemory given = given
 
   -- the store refuses the zone
-  pub put_refused : {X : Type 0} (view : X → List ℕ) (zone : ZoneOf) (fault : LineFault) → Makes left make (Ok zone) → after ≡ before → IsStoreLine fault
-      → GivesOf view left (λ input. make input >>= put_by fault) (Err fault) before after
-  put_refused view zone (Refused refusal) read fine is =
-      ((read.0, read.1, given_before (make read.0) (λ z. Err refusal) zone read.2), fine)
-  put_refused view zone NoMemory read fine is = fine
-  put_refused view zone ReadFailed read fine is = absurd is
+  pub put_refused : {X : Type 0} (view : X → List ℕ) (zone : ZoneOf) (fault : LineFault) → Makes left make (Ok zone) → fine → IsStoreLine fault
+      → GivesOf view left (λ input. make input >>= put_by fault) (Err fault) fine failed
+  put_refused view zone (Refused refusal) read well is =
+      ((read.0, read.1, given_before (make read.0) (λ z. Err refusal) zone read.2), well)
+  put_refused view zone NoMemory read well is = well
+  put_refused view zone ReadFailed read well is = absurd is
 
   -- the zone was put
-  pub put_told : {X : Type 0} (view : X → List ℕ) (zone : ZoneOf) (line : X) → Makes left make (Ok zone) → after ≡ before → view line ≡ imported_line zone
-      → GivesOf view left (λ input. make input >>= λ z. Ok (imported_line z)) (Ok line) before after
-  put_told view zone line read fine e =
-      ((read.0, read.1, given_before (make read.0) (λ z. Ok (imported_line z)) zone read.2 ∙ ap (λ (l : List ℕ). let made : Result (List ℕ) Refusal = Ok l in made) (sym e)), fine)
+  pub put_told : {X : Type 0} (view : X → List ℕ) (zone : ZoneOf) (line : X) → Makes left make (Ok zone) → fine → view line ≡ imported_line zone
+      → GivesOf view left (λ input. make input >>= λ z. Ok (imported_line z)) (Ok line) fine failed
+  put_told view zone line read well e =
+      ((read.0, read.1, given_before (make read.0) (λ z. Ok (imported_line z)) zone read.2 ∙ ap (λ (l : List ℕ). let made : Result (List ℕ) Refusal = Ok l in made) (sym e)), well)
 
 -- what a store makes of zones, where a zone was imported or not
 pub imported_gives : {C : Type 0} (shows : C → Shown) (left : Option (List ℕ)) (origin : List ℕ) (finds : Bool → Type 0) (refuses : StoreFault → Type 0) (connects : C → Type 0) (existing : Existing)
-    (made : Result (List ℕ) LineFault) (before after : ℕ) → IsImported shows left origin finds refuses connects existing made before after
-    → (put : ZoneOf → Result (List ℕ) Refusal) × PutsZones put × GivesOf {X = List ℕ} (λ line. line) left (import_text origin put) made before after
-imported_gives shows left origin finds refuses connects existing (Ok line) before after is = (
+    (made : Result (List ℕ) LineFault) (fine failed : Type 0) → IsImported shows left origin finds refuses connects existing made fine failed
+    → (put : ZoneOf → Result (List ℕ) Refusal) × PutsZones put × GivesOf {X = List ℕ} (λ line. line) left (import_text origin put) made fine failed
+imported_gives shows left origin finds refuses connects existing (Ok line) fine failed is = (
   (λ z. Ok (imported_line z)),
   (λ z. refl),
-  put_told left (zone_read origin) before after (λ (l : List ℕ). l) is.0 line is.1 is.2 is.4,
+  put_told left (zone_read origin) fine failed (λ (l : List ℕ). l) is.0 line is.1 is.2 is.4,
 )
-imported_gives shows left origin finds refuses connects existing (Err fault) before after (inl unread) =
+imported_gives shows left origin finds refuses connects existing (Err fault) fine failed (inl unread) =
     let put = λ (z : ZoneOf). let told : Result (List ℕ) Refusal = Ok (imported_line z) in told in
-    (put, (λ z. refl), read_refused left (zone_read origin) before after (λ (l : List ℕ). l) (λ (z : ZoneOf). z) put fault unread)
-imported_gives shows left origin finds refuses connects existing (Err fault) before after (inr is) =
+    (put, (λ z. refl), read_refused left (zone_read origin) fine failed (λ (l : List ℕ). l) (λ (z : ZoneOf). z) put fault unread)
+imported_gives shows left origin finds refuses connects existing (Err fault) fine failed (inr is) =
     let named : IsStoreLine fault = elim is.3 [
       | inl none ↦ subst IsStoreLine (sym none) tt
       | inr by ↦ subst IsStoreLine (sym by.1) (line_of_store by.0)
     ] in
-    (put_by fault, puts_by fault named, put_refused left (zone_read origin) before after (λ (l : List ℕ). l) is.0 fault is.1 is.2 named)
+    (put_by fault, puts_by fault named, put_refused left (zone_read origin) fine failed (λ (l : List ℕ). l) is.0 fault is.1 is.2 named)
 
 -- ---- a store that is asked for something, and tells a fault
 
@@ -113,9 +114,9 @@ found_refused view first text a ReadFailed e is = absurd is
 
 -- what is made is written at once, where nothing is read
 pub told_at_once : {X : Type 0} (view : X → List ℕ) (made : Result (List ℕ) Refusal) (fault : LineFault) → Gives view (Err fault) made
-    → GivesOf view None (λ input. made) (Err fault) 0 0
-told_at_once view made (Refused refusal) given = (([], tt, given), refl)
-told_at_once view made NoMemory given = refl
+    → GivesOf view None (λ input. made) (Err fault) ⊤ ⊥
+told_at_once view made (Refused refusal) given = (([], tt, given), tt)
+told_at_once view made NoMemory given = tt
 told_at_once view made ReadFailed given = absurd given
 
 -- what a store holds, where records of it were had or not

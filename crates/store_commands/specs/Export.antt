@@ -1,5 +1,6 @@
 -- What is printed of a zone of a store.
-use Rattle.std.specs.Prelude.{◌≡◌, ◌⊎◌, ℕ, Bool, List, Result, Ok, Err}
+use Rattle.std.specs.Prelude.{◌≡◌, ◌⊎◌, ⊤, ℕ, Bool, List, Option, None, Result, Ok, Err}
+use Rattle.std.specs.Result.{result_map_both}
 use Rattle.dns_names.specs.Reading.{absolute_name}
 use Rattle.dns_data.specs.declared.record.Record.{Record}
 use Rattle.command_line.specs.declared.job.ZoneForm.{ZoneForm}
@@ -9,7 +10,10 @@ use Rattle.sqlite.specs.State.{State as Shown}
 use Rattle.office_rows.specs.declared.store_fault.StoreFault.{StoreFault}
 use Rattle.text_commands.specs.declared.line_fault.LineFault.{LineFault}
 use Rattle.text_commands.specs.LineFaults.{◌>>=◌, of_names, of_store, Gives}
-use Rattle.store_commands.specs.Stores.{IsOfStore, IsHeld}
+use Rattle.text_commands.specs.declared.line_fault.JobFault.{JobFault}
+use Rattle.text_commands.specs.Replies.{Answered}
+use Rattle.store_commands.specs.Reports.{IsShown}
+use Rattle.store_commands.specs.Stores.{StoresOf, IsOfStore, IsHeld}
 
 -- what a store holds of an origin: records, or a refusal of the store
 abbrev pub FindsRecords : Result (List Record) Refusal → Type 0
@@ -28,3 +32,18 @@ IsExported shows view word finds refuses connects (Ok found) =
 IsExported shows view word finds refuses connects (Err fault) =
     Gives {X = List (List ℕ)} (λ origin. origin) (Err fault) (of_names (absolute_name word))
     ⊎ ((origin : List (List ℕ)) × (of_names (absolute_name word) ≡ Ok origin) × ((refusal : StoreFault) × (fault ≡ of_store refusal) × IsHeld shows finds refuses connects view origin (Err refusal)))
+
+-- ---- the job
+
+-- The origin's word, the form, what the writer held before and after, how it went, and the writer's failures before and after: a refusal
+-- of the origin comes before one of the store; and else what is printed is the file of the records that are held.
+abbrev pub ExportWritten : List ℕ → ZoneForm → Option (List ℕ) → Option (List ℕ) → Result (Unit {0}) JobFault → ℕ → ℕ → Type 0
+ExportWritten word form old new result writes writes_after =
+    (held : Result (List Record) Refusal) × FindsRecords held × Answered None (λ _. export_text form word held) old new result ⊤ ⊥ writes writes_after
+
+-- They are those that the store of this path holds; and a refusal is that of the files, of what they hold, or of the table.
+abbrev pub ZoneExported : {C : Type 0} → StoresOf C → List ℕ → List ℕ → ZoneForm → Option (List ℕ) → Option (List ℕ) → Result (Unit {0}) JobFault → ℕ → ℕ → Type 0
+ZoneExported s path word form old new result writes writes_after =
+    (made : Result (List (List ℕ) × List Record) LineFault)
+    × IsExported s.shows (λ records. records) word (s.finds path) (s.refuses path) (s.connects path) made
+    × IsShown (result_map_both (λ found. zone_text_in form found.0 found.1) (λ fault. fault) made) old new result writes writes_after

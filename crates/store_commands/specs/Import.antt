@@ -11,7 +11,10 @@ use Rattle.text_commands.specs.declared.line_fault.LineFault.{LineFault}
 use Rattle.text_commands.specs.declared.line_fault.LineFault.TheVariants.{NoMemory}
 use Rattle.text_commands.specs.LineFaults.{◌>>=◌, Makes, GivesOf, of_store}
 use Rattle.text_commands.specs.Canon.{zone_read}
-use Rattle.store_commands.specs.Stores.{IsOfStore, IsStored}
+use Rattle.text_commands.specs.declared.line_fault.JobFault.{JobFault}
+use Rattle.text_commands.specs.Replies.{Answered}
+use Rattle.store_commands.specs.Reports.{IsReported}
+use Rattle.store_commands.specs.Stores.{StoresOf, IsOfStore, IsStored}
 
 -- its origin, its serial, and how many records it has
 abbrev pub imported_line : ZoneOf → List ℕ
@@ -34,12 +37,28 @@ import_text origin put input = zone_read origin input >>= put
 
 -- ---- the store
 
--- What connections show, what was left to read, the origin's word, what the files say of the path, the answer, and the reader's failures before and after: the
--- zone that was read was put into the store of the path, and this is its line; or no zone was read; or memory ran out for the line; or
--- the store refused the zone that was read.
-abbrev pub IsImported : {C : Type 0} → (C → Shown) → Option (List ℕ) → List ℕ → (Bool → Type 0) → (StoreFault → Type 0) → (C → Type 0) → Existing → Result (List ℕ) LineFault → ℕ → ℕ → Type 0
-IsImported shows left origin finds refuses connects existing (Ok line) before after =
-    (zone : ZoneOf) × Makes left (zone_read origin) (Ok zone) × (after ≡ before) × IsStored shows finds refuses connects existing zone (Ok tt) × (line ≡ imported_line zone)
-IsImported shows left origin finds refuses connects existing (Err fault) before after =
-    GivesOf {X = ZoneOf} (λ zone. zone) left (zone_read origin) (Err fault) before after
-    ⊎ ((zone : ZoneOf) × Makes left (zone_read origin) (Ok zone) × (after ≡ before) × ((fault ≡ NoMemory) ⊎ ((refusal : StoreFault) × (fault ≡ of_store refusal) × IsStored shows finds refuses connects existing zone (Err refusal))))
+-- What connections show, what was left to read, the origin's word, what the files say of the path, the answer, that the input did not
+-- fail, and that it did: the zone that was read was put into the store of the path, and this is its line; or no zone was read; or memory ran
+-- out for the line; or the store refused the zone that was read.
+abbrev pub IsImported : {C : Type 0} → (C → Shown) → Option (List ℕ) → List ℕ → (Bool → Type 0) → (StoreFault → Type 0) → (C → Type 0) → Existing → Result (List ℕ) LineFault → Type 0 → Type 0 → Type 0
+IsImported shows left origin finds refuses connects existing (Ok line) fine failed =
+    (zone : ZoneOf) × Makes left (zone_read origin) (Ok zone) × fine × IsStored shows finds refuses connects existing zone (Ok tt) × (line ≡ imported_line zone)
+IsImported shows left origin finds refuses connects existing (Err fault) fine failed =
+    GivesOf {X = ZoneOf} (λ zone. zone) left (zone_read origin) (Err fault) fine failed
+    ⊎ ((zone : ZoneOf) × Makes left (zone_read origin) (Ok zone) × fine × ((fault ≡ NoMemory) ⊎ ((refusal : StoreFault) × (fault ≡ of_store refusal) × IsStored shows finds refuses connects existing zone (Err refusal))))
+
+-- ---- the job
+
+-- The origin's word, what was left to read, what the writer held before and after, how it went, that the input did not fail, that it did,
+-- and the writer's failures before and after: a refusal of the origin, of the file or of its records comes before one of the store; and
+-- where a zone was put, the line is that of the zone that was read.
+abbrev pub ImportWritten : List ℕ → Option (List ℕ) → Option (List ℕ) → Option (List ℕ) → Result (Unit {0}) JobFault → Type 0 → Type 0 → ℕ → ℕ → Type 0
+ImportWritten origin left old new result fine failed writes writes_after =
+    (put : ZoneOf → Result (List ℕ) Refusal) × PutsZones put × Answered left (import_text origin put) old new result fine failed writes writes_after
+
+-- The zone is put into the store of this path, beside the others or in the place of the one of its origin, whole, by the state that was
+-- there; and a refusal is that of the files, of what they hold, or of the table.
+abbrev pub ZoneStored : {C : Type 0} → StoresOf C → List ℕ → List ℕ → Existing → Option (List ℕ) → Option (List ℕ) → Option (List ℕ) → Result (Unit {0}) JobFault → Type 0 → Type 0 → ℕ → ℕ → Type 0
+ZoneStored s path origin existing left old new result fine failed writes writes_after =
+    (made : Result (List ℕ) LineFault) × IsImported s.shows left origin (s.finds path) (s.refuses path) (s.connects path) existing made fine failed
+    × IsReported made old new result writes writes_after

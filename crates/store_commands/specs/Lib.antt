@@ -1,3 +1,4 @@
+pub mod Around
 pub mod Puts
 pub mod Stores
 pub mod Reports

@@ -1,10 +1,13 @@
 -- What is written of a store that was migrated.
-use Rattle.std.specs.Prelude.{◌≡◌, ℕ, List, ◌∷◌, [], ◌++◌, codes, decimal, Result, Ok, Err}
+use Rattle.std.specs.Prelude.{◌≡◌, ⊤, ℕ, List, ◌∷◌, [], ◌++◌, codes, decimal, Option, None, Result, Ok, Err}
 use Rattle.text_commands.specs.declared.refusal.Refusal.{Refusal}
 use Rattle.office_rows.specs.declared.store_fault.StoreFault.{StoreFault}
 use Rattle.text_commands.specs.declared.line_fault.LineFault.{LineFault}
 use Rattle.text_commands.specs.LineFaults.{of_store}
-use Rattle.store_commands.specs.Stores.{IsOfStore}
+use Rattle.text_commands.specs.declared.line_fault.JobFault.{JobFault}
+use Rattle.text_commands.specs.Replies.{Answered}
+use Rattle.store_commands.specs.Reports.{IsReported}
+use Rattle.store_commands.specs.Stores.{StoresOf, IsOfStore, IsMigratedStore}
 
 -- how many zones that changed
 abbrev pub migrated_line : ℕ → List ℕ
@@ -19,3 +22,16 @@ Migrates (Err refusal) = IsOfStore refusal
 abbrev pub migration_told : Result ℕ StoreFault → Result (List ℕ) LineFault
 migration_told (Ok zones) = Ok (migrated_line zones)
 migration_told (Err fault) = Err (of_store fault)
+
+-- ---- the job
+
+-- what the writer held before and after, how it went, and the writer's failures before and after: the line of a migration is written
+abbrev pub MigrationWritten : Option (List ℕ) → Option (List ℕ) → Result (Unit {0}) JobFault → ℕ → ℕ → Type 0
+MigrationWritten old new result writes writes_after =
+    (made : Result (List ℕ) Refusal) × Migrates made × Answered None (λ _. made) old new result ⊤ ⊥ writes writes_after
+
+-- It is the store of this path; and a refusal is that of the files, or of what they hold.
+abbrev pub StoreMigrated : {C : Type 0} → StoresOf C → List ℕ → Option (List ℕ) → Option (List ℕ) → Result (Unit {0}) JobFault → ℕ → ℕ → Type 0
+StoreMigrated s path old new result writes writes_after =
+    (made : Result ℕ StoreFault) × IsMigratedStore s.shows (s.finds path) (s.refuses path) (s.connects path) made
+    × IsReported (migration_told made) old new result writes writes_after

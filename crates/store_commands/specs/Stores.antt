@@ -37,6 +37,18 @@ IsStoreLine (Refused refusal) = IsOfStore refusal
 IsStoreLine NoMemory = Unit {0}
 IsStoreLine ReadFailed = ⊥
 
+-- ---- the stores of paths
+
+-- What is known of the stores of paths: what a connection to one shows, whether there is a file, why it is refused, and what it connects to.
+pub record StoresOf (C : Type 0) : Type 1 where
+  pub shows : C → Shown
+  pub finds : List ℕ → Bool → Type 0
+  pub refuses : List ℕ → StoreFault → Type 0
+  pub connects : List ℕ → C → Type 0
+
+abbrev pub stores_of : {C : Type 0} → (C → Shown) → (List ℕ → Bool → Type 0) → (List ℕ → StoreFault → Type 0) → (List ℕ → C → Type 0) → StoresOf C
+stores_of shows finds refuses connects = record { shows = shows; finds = finds; refuses = refuses; connects = connects }
+
 -- ---- what a connection shows
 
 -- It was connected to showing found, and shows exactly the state that was there.

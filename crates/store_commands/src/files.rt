@@ -9,7 +9,7 @@ use office_store::StoreFault;
 use sqlite::{Alter, Connection, Error, ErrorCode, File, FileStore, Unknown};
 use std::fs;
 
-/// What looks for the file of a store, and connects to it.
+/// What looks for the file of a store, and connects to it once: a connection uses it up.
 pub trait StoreFiles<S: Alter + Drop> {
     // It tells of a path whether there is a file.
     ghost finds: { Self → List ℕ → Bool → Type 0 };
@@ -25,15 +25,15 @@ pub trait StoreFiles<S: Alter + Drop> {
         ensures found { IfOk result (finds self.now path.now) }
         ensures refused { IfErr result (refuses self.now path.now) };
 
-    /// A connection to the file of a path, which is made where it is not there.
-    fn connect(&self, path: &str) -> Result<Connection<S>, StoreFault>
-        ensures connected { IfOk result (connects self.now path.now) }
+    /// A connection to the file of a path, which is made where it is not there. It is the only one.
+    fn connect(self, path: &str) -> Result<Connection<S>, StoreFault>
+        ensures connected { IfOk result (connects self path.now) }
         ensures alone { IfOk result (λ conn. conn.in_transaction ≡ false) }
-        ensures refused { IfErr result (refuses self.now path.now) };
+        ensures refused { IfErr result (refuses self path.now) };
 }
 
 /// The files of this machine. No contract can say what they hold.
-#[derive(Clone, Copy)]
+#[derive(Drop)]
 pub struct MachineFiles<'a>(pub &'a HostRuntime);
 
 impl StoreFiles<FileStore<File>> for MachineFiles<'_> {
@@ -50,7 +50,7 @@ impl StoreFiles<FileStore<File>> for MachineFiles<'_> {
         }
     }
 
-    fn connect(&self, path: &str) -> Result<Connection<FileStore<File>>, StoreFault> {
+    fn connect(self, path: &str) -> Result<Connection<FileStore<File>>, StoreFault> {
         Ok(connect_at(self.0, path, Unknown)?)
     }
 }

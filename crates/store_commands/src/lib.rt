@@ -6,20 +6,21 @@ mod files;
 mod migration;
 mod patience;
 mod program;
+mod service;
 mod serving;
-mod std_streams;
 mod store_file;
+mod streams;
+mod surroundings;
 mod trace;
 mod zones;
 
 pub use cause::{Cause, Diagnosis, Remembered, Undiagnosed};
 pub use files::{MachineFiles, StoreFiles};
 pub use migration::migrate;
-pub use program::{Surroundings, do_job, do_words};
+pub use program::{do_job, do_words};
+pub use service::serve;
 pub use serving::{Connections, serve_connections};
-pub use std_streams::{do_export, do_import, do_migrate, do_serve};
-pub use text_commands::{
-    Apply, Canon, Explain, JobFault, LineFault, NO_MEMORY_LINE, PolicyFile, Refusal, RefusalLine,
-    Task, do_task, text_is_divided, zones_are_read_again,
-};
+pub use streams::run_words;
+pub use surroundings::Surroundings;
+pub use text_commands::{JobFault, LineFault, NO_MEMORY_LINE, read_path};
 pub use zones::{export, import};

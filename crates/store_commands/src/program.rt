@@ -1,43 +1,25 @@
-//! What the program does with the words of its command line, in surroundings that are handed in.
+//! What the program does with the words of its command line, in surroundings, with files of stores and with streams that are handed in.
 
-ghost use Rattle.std.specs.Prelude.{◌≡◌, ◌≤◌, ℕ, List, map};
+ghost use Rattle.std.specs.Prelude.{◌≡◌, ◌↔◌, ⊤, IsTrue, map, codes};
 ghost use Rattle.std.specs.Process.{exit_status};
-ghost use Rattle.store_commands.specs.Program.{Around, EndsTask, EndsCheck, EndsDiff, EndsPlan, JobEnds, WordsEnd, status_of, check_status_of};
+ghost use Rattle.sqlite.specs.Held.{state};
+ghost use Rattle.store_commands.specs.Stores.{stores_of};
+ghost use Rattle.store_commands.specs.Program.{EndsTask, EndsCheck, DiffersBy, JobEnds, WordsEnd, IsToldWhole, status_of, check_status_of};
 
-use crate::std_streams::{do_export, do_import, do_migrate, do_serve};
-use command_line::{DiffForm, Job, WordsFault, read_words};
+use crate::files::StoreFiles;
+use crate::migration::migrate;
+use crate::service::serve;
+use crate::surroundings::{Ended, NamedFile, Surroundings};
+use crate::zones::{export, import};
+use command_line::{DiffForm, Job, WordsFault, ZoneFiles, read_words};
+use dns_master::{Sink, Source};
+use sqlite::Alter;
 use std::fmt::Display;
-use std::io::{Read, Write};
 use std::process::ExitCode;
 use text_commands::{
-    Apply, Canon, Explain, Findings, JobFault, NO_MEMORY_LINE, Request, Subject, Task, do_check,
-    do_diff, do_plan, do_task,
+    Apply, Canon, DiffFault, Explain, Findings, Input, JobFault, NO_MEMORY_LINE, Request, Subject,
+    Task, do_check, do_diff, do_plan, write_text,
 };
-
-/// What the program runs in: its standard input and output, the files that words name, and the machine.
-pub trait Surroundings<I: Read + Drop, F: Read + Drop, W: Write + Drop> {
-    // What there is to read, and what was written, where it is known.
-    ghost around: { Self → Around };
-
-    /// The machine, whose files hold the stores, and on whose standard error is said why a job was not done.
-    fn machine(&self) -> &HostRuntime;
-
-    /// Standard input.
-    fn input(&self) -> I
-        ensures { I.remaining result ≡ (around self.now).input };
-
-    /// The file of a policy. Without one, its first read fails.
-    fn policy(&self, path: &str) -> F
-        ensures { F.remaining result ≡ (around self.now).policy path.now };
-
-    /// The file of a zone, and standard input where the path is `-`. Without one, its first read fails.
-    fn zone(&self, path: &str) -> F
-        ensures { F.remaining result ≡ (around self.now).zone path.now };
-
-    /// Standard output.
-    fn output(&self) -> W
-        ensures { W.contents result ≡ (around self.now).output };
-}
 
 /// Says in words on standard error why a job was not done.
 fn complain<F: Display + Drop>(rt: &HostRuntime, fault: F) {
@@ -46,34 +28,29 @@ fn complain<F: Display + Drop>(rt: &HostRuntime, fault: F) {
     }
 }
 
-/// A writer, and the exit status of what was done with it: 0 if it went through, else 1, after the words that say why it did not.
-fn ended<W: Write + Drop, F: Display + Drop>(
-    rt: &HostRuntime,
-    done: (W, Result<(), F>),
-) -> (W, ExitCode)
-    ensures writer { result.0 ≡ done.0 }
-    ensures status { exit_status result.1 ≡ status_of done.1 }
+/// The exit status of what was done: 0 if it went through, else 1, after the words that say why it did not.
+fn ended<F: Display + Drop>(rt: &HostRuntime, done: Result<(), F>) -> ExitCode
+    ensures { exit_status result ≡ status_of done }
 {
-    let (writer, done) = done;
     match done {
-        Ok(()) => (writer, ExitCode::SUCCESS),
+        Ok(()) => ExitCode::SUCCESS,
         Err(fault) => {
             complain(rt, fault);
-            (writer, ExitCode::FAILURE)
+            ExitCode::FAILURE
         }
     }
 }
 
-/// Does a task with a reader and a writer, which is handed back.
-fn do_with<T: Task, R: Read + Drop, W: Write + Drop>(
+/// Does a task with an input and a writer.
+fn do_task<T: Task, I: Input, W: Sink>(
     rt: &HostRuntime,
     task: T,
-    reader: R,
-    writer: W,
-) -> (W, ExitCode)
-    ensures { EndsTask (R.remaining reader) (T.answer task) (W.contents writer) (W.contents result.0) (exit_status result.1) }
+    input: &mut I,
+    output: &mut W,
+) -> ExitCode
+    ensures { EndsTask (I.left input.old) (I.fine input.old input.new) (I.failed input.old input.new) (T.answer task) (record { old = W.contents output.old; new = W.contents output.new; before = W.failures output.old; after = W.failures output.new }) (exit_status result) }
 {
-    ended(rt, do_task(rt.alloc(), task, reader, writer))
+    ended(rt, task.run(rt.alloc(), input, output))
 }
 
 /// The exit status of a check: 0 if it found nothing, else 1, after the words that say why it was not done.
@@ -90,98 +67,125 @@ fn check_status(rt: &HostRuntime, done: Result<Findings, JobFault>) -> ExitCode
     }
 }
 
-/// Checks the policy that a reader gives, with a writer, which is handed back.
-fn check_with<R: Read + Drop, W: Write + Drop>(
+/// Checks what an input is, with a writer.
+fn check<I: Input, W: Sink>(
     rt: &HostRuntime,
     subject: Subject<'_>,
-    reader: R,
-    writer: W,
-) -> (W, ExitCode)
-    ensures { EndsCheck subject.entry (R.remaining reader) (W.contents writer) (W.contents result.0) (exit_status result.1) }
+    input: &mut I,
+    output: &mut W,
+) -> ExitCode
+    ensures { EndsCheck subject.entry (I.left input.old) (I.fine input.old input.new) (I.failed input.old input.new) (record { old = W.contents output.old; new = W.contents output.new; before = W.failures output.old; after = W.failures output.new }) (exit_status result) }
 {
-    let (writer, done) = do_check(rt.alloc(), subject, reader, writer);
-    (writer, check_status(rt, done))
+    check_status(rt, do_check(rt.alloc(), subject, input, output))
 }
 
-/// Writes the items that lead from the zone of one reader to that of another, with a writer, which is handed back.
-fn diff_with<R: Read + Drop, S: Read + Drop, W: Write + Drop>(
-    rt: &HostRuntime,
-    origin: &str,
-    form: DiffForm,
-    old: R,
-    new: S,
-    writer: W,
-) -> (W, ExitCode)
-    ensures { EndsDiff form origin.now (R.remaining old) (S.remaining new) (W.contents writer) (W.contents result.0) (exit_status result.1) }
-{
-    ended(rt, do_diff(rt.alloc(), origin, form, old, new, writer))
-}
-
-/// Writes what the office would answer to a caller, by the policy of one reader and the update of the other, with a writer, which is
-/// handed back.
-fn plan_with<R: Read + Drop, S: Read + Drop, W: Write + Drop>(
-    rt: &HostRuntime,
-    caller: &str,
-    policy: R,
-    input: S,
-    writer: W,
-) -> (W, ExitCode)
-    ensures { EndsPlan caller.now (R.remaining policy) (S.remaining input) (W.contents writer) (W.contents result.0) (exit_status result.1) }
-{
-    ended(rt, do_plan(rt.alloc(), caller, policy, input, writer))
-}
-
-/// Does a job. The status is 0 if it went through, else 1.
-pub fn do_job<I: Read + Drop, F: Read + Drop, W: Write + Drop, M: Surroundings<I, F, W>>(
+/// Checks the file of a path, which is a policy.
+fn check_file<M: Surroundings, W: Sink>(
     around: &M,
-    job: Job<'_>,
-) -> (W, ExitCode)
-    // Each job reads its own input and answers to its own words, and the status is 0 exactly where it went through.
-    ensures { JobEnds (M.around around.now) job.entry (W.contents result.0) (exit_status result.1) }
+    subject: Subject<'_>,
+    path: &str,
+    output: &mut W,
+) -> ExitCode
+    ensures { EndsCheck subject.entry ((M.around around.now).file path.now) ⊤ ((M.around around.now).unreadable path.now) (record { old = W.contents output.old; new = W.contents output.new; before = W.failures output.old; after = W.failures output.new }) (exit_status result) }
 {
-    let (rt, writer) = (around.machine(), around.output());
+    let mut file = NamedFile { around, path };
+    check(around.machine(), subject, &mut file, output)
+}
+
+/// Whether a path is standard input.
+fn is_standard(path: &str) -> bool
+    ensures { IsTrue result ↔ (path.now ≡ codes "-") }
+{
+    path == "-"
+}
+
+/// Writes the items between the zones of two files. A path that is `-` is standard input, of which nothing is left for the second file
+/// where the first is it too.
+fn diff<M: Surroundings, R: Source, W: Sink>(
+    around: &M,
+    what: (&str, DiffForm),
+    files: ZoneFiles<'_>,
+    input: &mut R,
+    output: &mut W,
+) -> Result<(), DiffFault>
+    ensures { DiffersBy (M.around around.now) (record { left = R.remaining input.old; before = R.failures input.old; after = R.failures input.new }) what.entry.1 what.entry.0.now files.entry (record { old = W.contents output.old; new = W.contents output.new; before = W.failures output.old; after = W.failures output.new }) result }
+{
+    let alloc = around.machine().alloc();
+    let (mut old, mut new) = (
+        NamedFile {
+            around,
+            path: files.old,
+        },
+        NamedFile {
+            around,
+            path: files.new,
+        },
+    );
+    match (is_standard(files.old), is_standard(files.new)) {
+        (false, false) => do_diff(alloc, what, &mut old, &mut new, output),
+        (false, true) => do_diff(alloc, what, &mut old, input, output),
+        (true, false) => do_diff(alloc, what, input, &mut new, output),
+        (true, true) => do_diff(alloc, what, input, &mut Ended, output),
+    }
+}
+
+/// Does a job, with standard input and output, a trace, and the files of stores. The status is 0 if it went through, else 1.
+pub fn do_job<
+    M: Surroundings,
+    S: Alter + Drop,
+    P: StoreFiles<S> + Drop,
+    R: Source,
+    W: Sink,
+    E: Sink,
+>(around: &M, files: P, job: Job<'_>, input: &mut R, output: &mut W, trace: &mut E) -> ExitCode
+    // Each job reads its own input and answers to its own words, and the status is 0 exactly where it went through.
+    ensures { JobEnds (M.around around.now) (stores_of (state S.Store) (P.finds files) (P.refuses files) (P.connects files)) (record { left = R.remaining input.old; before = R.failures input.old; after = R.failures input.new }) (record { old = W.contents output.old; new = W.contents output.new; before = W.failures output.old; after = W.failures output.new }) (record { old = E.contents trace.old; new = E.contents trace.new; before = E.failures trace.old; after = E.failures trace.new }) job.entry (exit_status result) }
+{
+    let rt = around.machine();
+    let alloc = rt.alloc();
     match job {
-        Job::Apply => do_with(rt, Apply, around.input(), writer),
-        Job::Canon { origin, form } => do_with(rt, Canon { origin, form }, around.input(), writer),
+        Job::Apply => do_task(rt, Apply, input, output),
+        Job::Canon { origin, form } => do_task(rt, Canon { origin, form }, input, output),
         Job::Diff {
             origin,
             files,
             form,
-        } => {
-            let (old, new) = (around.zone(files.old), around.zone(files.new));
-            diff_with(rt, origin, form, old, new, writer)
-        }
-        Job::Request { id } => do_with(rt, Request { id }, around.input(), writer),
+        } => ended(rt, diff(around, (origin, form), files, input, output)),
+        Job::Request { id } => do_task(rt, Request { id }, input, output),
         Job::Import { zone, existing } => {
-            let streams = (around.input(), writer);
-            ended(rt, do_import(rt, (zone, existing), streams))
+            ended(rt, import(alloc, files, (zone, existing), input, output))
         }
-        Job::Export { zone, form } => ended(rt, do_export(rt, (zone, form), writer)),
-        Job::Migrate { store } => ended(rt, do_migrate(rt, store, writer)),
-        Job::Rights { policy, asked } => do_with(rt, asked, around.policy(policy), writer),
-        Job::Plan { policy, caller } => {
-            let (policy, input) = (around.policy(policy), around.input());
-            plan_with(rt, caller, policy, input, writer)
+        Job::Export { zone, form } => ended(rt, export(alloc, files, zone, form, output)),
+        Job::Migrate { store } => ended(rt, migrate(alloc, files, store, output)),
+        Job::Rights {
+            policy: path,
+            asked,
+        } => { do_task(rt, asked, &mut NamedFile { around, path }, output) }
+        Job::Plan {
+            policy: path,
+            caller,
+        } => {
+            let mut policy = NamedFile { around, path };
+            ended(rt, do_plan(alloc, caller, &mut policy, input, output))
         }
-        Job::CheckPolicy { policy } => {
-            check_with(rt, Subject::Rules, around.policy(policy), writer)
-        }
+        Job::CheckPolicy { policy } => check_file(around, Subject::Rules, policy, output),
         Job::CheckIsolation { policy, caller } => {
-            let subject = Subject::Isolation(caller);
-            check_with(rt, subject, around.policy(policy), writer)
+            check_file(around, Subject::Isolation(caller), policy, output)
         }
-        Job::Explain { number, form } => {
-            do_with(rt, Explain { number, form }, around.input(), writer)
+        Job::CheckRights { policy, name } => {
+            check_file(around, Subject::Rights(name), policy, output)
         }
-        Job::Serve { service } => ended(rt, do_serve(rt, service, writer)),
+        Job::CheckZone { origin, rules } => check(rt, Subject::Zone(origin, rules), input, output),
+        Job::Explain { number, form } => do_task(rt, Explain { number, form }, input, output),
+        Job::Serve { service } => ended(rt, serve(around, files, service, output, trace)),
     }
 }
 
 /// Writes a text, and answers whether it went out whole.
-fn told<W: Write>(writer: &mut W, text: &str) -> ExitCode
-    ensures { exit_status result ≤ 1 }
+fn told<W: Sink>(output: &mut W, text: &str) -> ExitCode
+    ensures { IsToldWhole text.now (record { old = W.contents output.old; new = W.contents output.new; before = W.failures output.old; after = W.failures output.new }) (exit_status result) }
 {
-    match writer.write_all(text.as_bytes()) {
+    match write_text(output, text.as_bytes()) {
         Ok(()) => ExitCode::SUCCESS,
         Err(_) => ExitCode::FAILURE,
     }
@@ -189,35 +193,27 @@ fn told<W: Write>(writer: &mut W, text: &str) -> ExitCode
 
 /// Does the job that words ask for. If they ask for help, it is written to standard output, with status 0 if that went through and
 /// else 1; if they ask for no job, what is wrong with them is said on standard error, with status 2.
-pub fn do_words<I: Read + Drop, F: Read + Drop, W: Write + Drop, M: Surroundings<I, F, W>>(
-    around: &M,
-    words: &[&str],
-) -> (W, ExitCode)
-    ensures { WordsEnd (M.around around.now) (map (λ s. s.now) words.now) (W.contents result.0) (exit_status result.1) }
+pub fn do_words<
+    M: Surroundings,
+    S: Alter + Drop,
+    P: StoreFiles<S> + Drop,
+    R: Source,
+    W: Sink,
+    E: Sink,
+>(around: &M, files: P, words: &[&str], input: &mut R, output: &mut W, trace: &mut E) -> ExitCode
+    ensures { WordsEnd (M.around around.now) (stores_of (state S.Store) (P.finds files) (P.refuses files) (P.connects files)) (record { left = R.remaining input.old; before = R.failures input.old; after = R.failures input.new }) (record { old = W.contents output.old; new = W.contents output.new; before = W.failures output.old; after = W.failures output.new }) (record { old = E.contents trace.old; new = E.contents trace.new; before = E.failures trace.old; after = E.failures trace.new }) (map (λ s. s.now) words.now) (exit_status result) }
 {
     let rt = around.machine();
     match read_words(rt.alloc(), words) {
-        Ok(job) => do_job(around, job),
-        Err(WordsFault::Help(text)) => {
-            let mut writer = around.output();
-            let status = told(&mut writer, text.as_str());
-            (writer, status)
-        }
+        Ok(job) => do_job(around, files, job, input, output, trace),
+        Err(WordsFault::Help(text)) => told(output, text.as_str()),
         Err(WordsFault::Misused(text)) => {
             let _ = rt.eprint(text);
-            (around.output(), ExitCode::from(2))
+            ExitCode::from(2)
         }
-        Err(WordsFault::NoMemory) => no_memory(around),
+        Err(WordsFault::NoMemory) => {
+            let _ = told(output, NO_MEMORY_LINE);
+            ExitCode::FAILURE
+        }
     }
-}
-
-/// Writes that there is no memory for the words.
-fn no_memory<I: Read + Drop, F: Read + Drop, W: Write + Drop, M: Surroundings<I, F, W>>(
-    around: &M,
-) -> (W, ExitCode)
-    ensures { exit_status result.1 ≡ 1 }
-{
-    let mut writer = around.output();
-    let _ = told(&mut writer, NO_MEMORY_LINE);
-    (writer, ExitCode::FAILURE)
 }

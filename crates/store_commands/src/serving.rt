@@ -1,62 +1,29 @@
 //! Serving callers over TCP, one connection after the other.
 
-ghost use Rattle.std.specs.Prelude.{◌≡◌, ◌<◌, ◌≤◌, List, Option, length};
+ghost use Rattle.std.specs.Prelude.{◌≡◌, ◌<◌, ◌≤◌, List, Option};
 ghost use Rattle.office_core.specs.Bookmarks.{AreBookmarks};
 ghost use Rattle.office_core.specs.States.{State};
 ghost use Rattle.office_wire.specs.Exchange.{Turn, Run};
 ghost use Rattle.office_wire.specs.Serving.{standing};
 ghost use Rattle.office_wire.specs.Servfails.{AreNoted, servfails};
 ghost use Rattle.office_wire.specs.declared.serve_fault.ServeFault.{ServeFault as FaultOf};
-ghost use Rattle.text_commands.specs.LineFaults.{GivesOf};
 ghost use Rattle.text_commands.specs.Replies.{IsSent};
-ghost use Rattle.store_commands.specs.Serve.{policy_read, connection_line, ended_line, most_of, AreServed, AreTraced, IsTraced, IsSoMany, AreReported};
+ghost use Rattle.store_commands.specs.Serve.{connection_line, ended_line, IsTraced, AreReported, AreServedFrom};
 
-use crate::cause::{Diagnosis, Remembered};
-use crate::files::MachineFiles;
-use crate::patience::{PatientStream, patience_of};
-use crate::store_file::open_store;
+use crate::cause::Diagnosis;
+use crate::patience::PatientStream;
 use crate::trace::{tell_servfails, write_texts};
-use command_line::Service;
-use dns_master::{Counted, DeviceFailed, Sink, Source};
-use grant_policy::{Policy, read_policy};
+use dns_master::{Counted, DeviceFailed, Sink};
+use grant_policy::Policy;
 use itoa::Buffer;
 use office_core::{Bookmarks, ZoneTable};
 use office_wire::{ServeFault, Served};
-use std::alloc::{AllocError, Global};
+use std::alloc::Global;
 use std::marker::Brand;
-use std::net::{SocketAddr, TcpListener, TcpStream};
+use std::net::{TcpListener, TcpStream};
 use std::sync::ledger::{Blank, Ledger};
 use std::time::{Clock, Duration};
-use text_commands::{JobFault, LineFault, PolicyFile, read_input, write_refusal, write_text};
-
-/// The policy that a reader gives.
-fn read_policy_from<R: Source>(alloc: Global, reader: &mut R) -> Result<Policy, LineFault>
-    ensures { GivesOf (λ policy. policy) (R.remaining reader.old) policy_read result (R.failures reader.old) (R.failures reader.new) }
-{
-    let text = read_input(alloc, reader)?;
-    Ok(read_policy(alloc, &text)?)
-}
-
-/// The policy of a path.
-fn policy_of<L: Ledger>(rt: &HostRuntime, path: &str, reads: Blank) -> Result<Policy, LineFault>
-    requires name { reads.name ≡ L.name }
-    requires parts { reads.parts ≡ L.parts }
-    requires some { 0 < reads.parts }
-{
-    let mut source: Counted<PolicyFile, L> = Counted::new(PolicyFile::open(rt, path), reads);
-    read_policy_from(rt.alloc(), &mut source)
-}
-
-/// A listener at an address and a port. `ReadFailed` comes where there can be none.
-fn listener_at(rt: &HostRuntime, listen: &str) -> Result<TcpListener, LineFault> {
-    let Ok(address) = listen.parse::<SocketAddr>() else {
-        return Err(LineFault::ReadFailed);
-    };
-    match TcpListener::bind(rt, address) {
-        Ok(listener) => Ok(listener),
-        Err(_) => Err(LineFault::ReadFailed),
-    }
-}
+use text_commands::{JobFault, LineFault, write_refusal};
 
 /// Serves the requests of a connection, and tells which of them were answered SERVFAIL.
 fn serve_stream<T: ZoneTable, C: Clock, A: Ledger, B: Ledger>(
@@ -80,33 +47,6 @@ fn serve_stream<T: ZoneTable, C: Clock, A: Ledger, B: Ledger>(
     let mut source: Counted<&PatientStream<'_, C>, A> = Counted::new(stream, reads);
     let mut sink: Counted<&PatientStream<'_, C>, B> = Counted::new(stream, writes);
     office_wire::serve_noting(alloc, &mut source, &mut sink, table, policy, bookmarks)
-}
-
-/// What is said on standard error where others than programs of this machine can connect.
-const REACHABLE: &str =
-    "zoneoffice: this is no loopback address, and whoever reaches it may name any caller";
-
-/// Says so where an address is no loopback one.
-fn warn_if_reachable(rt: &HostRuntime, address: SocketAddr) {
-    if !address.ip().is_loopback() {
-        let _ = rt.eprintln(REACHABLE);
-    }
-}
-
-/// The line that tells where the office listens.
-fn listening_text(alloc: Global, address: SocketAddr) -> Result<String, AllocError> {
-    format!(in alloc; "listening {address}\n")
-}
-
-/// A listener at an address and a port, and the line that tells where it listens.
-fn listening_at(rt: &HostRuntime, listen: &str) -> Result<(TcpListener, String), LineFault> {
-    let listener = listener_at(rt, listen)?;
-    let Ok(address) = listener.local_addr() else {
-        return Err(LineFault::ReadFailed);
-    };
-    warn_if_reachable(rt, address);
-    let text = listening_text(rt.alloc(), address)?;
-    Ok((listener, text))
 }
 
 /// Writes the line that reports the fault by which a connection ended. It takes no memory, so running out of memory on one
@@ -222,7 +162,7 @@ pub fn serve_connections<T: ZoneTable, D: Diagnosis<T>, C: Clock, W: Sink, E: Si
     // that take the table from how it stood to how it stands; each is answered by the policy and the state that it found, and what the
     // office promises of calls holds of all of them together, whichever connection each came by. The trace tells of those of these
     // turns that were answered SERVFAIL.
-    ensures served { T.is_honest table.new → (s : State) → T.holds table.old s → (turns : List (List Turn)) × (t : State) × T.holds table.new t × AreServed policy.now (standing s (T.failures table.old)) turns (standing t (T.failures table.new)) × IsSoMany most result (length turns) × AreTraced turns (E.contents trace.old) (E.contents trace.new) (E.failures trace.old) (E.failures trace.new) }
+    ensures served { AreServedFrom T.is_honest T.holds T.failures policy.now most table.old table.new result (E.contents trace.old) (E.contents trace.new) (E.failures trace.old) (E.failures trace.new) }
     // A line is written for each connection that a fault ended, and one where fewer were served than asked for.
     ensures written { (ends : List (Option FaultOf)) × AreReported most ends (W.contents writer.old) (W.contents writer.new) result (W.failures writer.old) (W.failures writer.new) }
     // A store that has kept its word had kept it before.
@@ -238,76 +178,4 @@ pub fn serve_connections<T: ZoneTable, D: Diagnosis<T>, C: Clock, W: Sink, E: Si
         }
     }
     Ok(())
-}
-
-/// Serves connections from a table: it listens, tells where, and serves as many as the words say.
-fn serve_table<T: ZoneTable, D: Diagnosis<T>, W: Sink, E: Sink>(
-    rt: &HostRuntime,
-    service: Service<'_>,
-    policy: &Policy,
-    table: &mut T,
-    diagnosis: &D,
-    writer: &mut W,
-    trace: &mut E,
-) -> Result<(), JobFault>
-    ensures served { T.is_honest table.new → (s : State) → T.holds table.old s → (turns : List (List Turn)) × (t : State) × T.holds table.new t × AreServed policy.now (standing s (T.failures table.old)) turns (standing t (T.failures table.new)) × IsSoMany (most_of service.entry) result (length turns) × AreTraced turns (E.contents trace.old) (E.contents trace.new) (E.failures trace.old) (E.failures trace.new) }
-    ensures honest { T.is_honest table.new → T.is_honest table.old }
-{
-    let alloc = rt.alloc();
-    let (listener, listening) = match listening_at(rt, service.listen) {
-        Ok(listening) => listening,
-        Err(fault) => return write_refusal(alloc, writer, fault),
-    };
-    write_text(writer, listening.as_bytes())?;
-    let connections = Connections {
-        listener: &listener,
-        clock: rt,
-        patience: patience_of(service.patience),
-        diagnosis,
-    };
-    let most = service.connections.unwrap_or(u64::MAX);
-    serve_connections(alloc, &connections, table, policy, most, writer, trace)
-}
-
-/// Serves connections from a table that was opened for it.
-fn serve_opened<T: ZoneTable + Drop, D: Diagnosis<T>, W: Sink, E: Sink>(
-    rt: &HostRuntime,
-    service: Service<'_>,
-    policy: &Policy,
-    table: T,
-    diagnosis: &D,
-    writer: &mut W,
-    trace: &mut E,
-) -> Result<(), JobFault> {
-    let mut table = table;
-    serve_table(rt, service, policy, &mut table, diagnosis, writer, trace)
-}
-
-/// The job `serve`: reads the policy, opens the store, listens, and serves connections one after the other, so many of them as the
-/// words say. A line tells where it listens, and one tells each connection that ended by a fault; or a line tells the refusal that
-/// comes first: of the policy, of the store, or `ReadFailed` where there can be no listener or a connection cannot be had. A line of
-/// the trace tells of each connection in which requests were answered SERVFAIL.
-pub fn serve<W: Sink, E: Sink, A: Ledger, B: Ledger>(
-    rt: &HostRuntime,
-    service: Service<'_>,
-    reads: Blank,
-    store: Blank,
-    writer: &mut W,
-    trace: &mut E,
-) -> Result<(), JobFault>
-    requires reads_name { reads.name ≡ A.name }
-    requires reads_parts { reads.parts ≡ A.parts }
-    requires reads_some { 0 < reads.parts }
-    requires store_name { store.name ≡ B.name }
-    requires store_parts { store.parts ≡ B.parts }
-    requires store_some { 0 < store.parts }
-{
-    let policy = match policy_of::<A>(rt, service.policy, reads) {
-        Ok(policy) => policy,
-        Err(fault) => return write_refusal(rt.alloc(), writer, fault),
-    };
-    match open_store::<_, B, _>(rt.alloc(), &MachineFiles(rt), service.store, store) {
-        Ok(table) => serve_opened(rt, service, &policy, table, &Remembered, writer, trace),
-        Err(fault) => write_refusal(rt.alloc(), writer, LineFault::from(fault)),
-    }
 }

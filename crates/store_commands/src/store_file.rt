@@ -12,18 +12,18 @@ use std::marker::Brand;
 use std::sync::ledger::{Blank, Ledger};
 
 /// A connection to the file of a path, if there is one; no file is `NoZone`.
-fn found<S: Alter + Drop, P: StoreFiles<S>>(
-    files: &P,
+fn found<S: Alter + Drop, P: StoreFiles<S> + Drop>(
+    files: P,
     path: &str,
 ) -> Result<Connection<S>, StoreFault>
-    ensures connected { IfOk result (P.connects files.now path.now) }
+    ensures connected { IfOk result (P.connects files path.now) }
     ensures alone { IfOk result (λ conn. conn.in_transaction ≡ false) }
-    ensures refused { IfErr result (IsUnfound (P.finds files.now path.now) (P.refuses files.now path.now)) }
+    ensures refused { IfErr result (IsUnfound (P.finds files path.now) (P.refuses files path.now)) }
 {
-    if files.has_file(path)? {
-        files.connect(path)
-    } else {
-        Err(StoreFault::NoZone)
+    match files.has_file(path) {
+        Ok(true) => files.connect(path),
+        Ok(false) => Err(StoreFault::NoZone),
+        Err(fault) => Err(fault),
     }
 }
 
@@ -49,17 +49,17 @@ fn adopted<S: Alter + Drop, L: Ledger>(
 /// The table of the store of a path. Where there is no file none is made: that is `NoZone`. `WrongVersion` comes where the file has
 /// not the tables of this version, `BadRow` where their rows are no state, and `Store` where the file is no database or cannot be
 /// read.
-pub fn open_store<S: Alter + Drop, L: Ledger, P: StoreFiles<S>>(
+pub fn open_store<S: Alter + Drop, L: Ledger, P: StoreFiles<S> + Drop>(
     alloc: Global,
-    files: &P,
+    files: P,
     path: &str,
     blank: Blank,
 ) -> Result<SqlTable<S, L>, StoreFault>
     requires name { blank.name ≡ L.name }
     requires parts { blank.parts ≡ L.parts }
     requires some { 0 < blank.parts }
-    ensures opened { IfOk result (λ table. IsOpened (state S.Store) (P.connects files.now path.now) table.conn) }
-    ensures refused { IfErr result (IsUnopened (state S.Store) (P.finds files.now path.now) (P.refuses files.now path.now) (P.connects files.now path.now)) }
+    ensures opened { IfOk result (λ table. IsOpened (state S.Store) (P.connects files path.now) table.conn) }
+    ensures refused { IfErr result (IsUnopened (state S.Store) (P.finds files path.now) (P.refuses files path.now) (P.connects files path.now)) }
 {
     adopted(alloc, found(files, path)?, blank)
 }
@@ -90,17 +90,17 @@ fn made_or_adopted<S: Alter + Drop, L: Ledger>(
 
 /// The table of the store of a path, which is made where there is no file, or one without tables. The refusals are those of
 /// `open_store`, but for `NoZone`.
-pub fn open_or_make_store<S: Alter + Drop, L: Ledger, P: StoreFiles<S>>(
+pub fn open_or_make_store<S: Alter + Drop, L: Ledger, P: StoreFiles<S> + Drop>(
     alloc: Global,
-    files: &P,
+    files: P,
     path: &str,
     blank: Blank,
 ) -> Result<SqlTable<S, L>, StoreFault>
     requires name { blank.name ≡ L.name }
     requires parts { blank.parts ≡ L.parts }
     requires some { 0 < blank.parts }
-    ensures opened { IfOk result (λ table. IsOpenedOrMade (state S.Store) (P.connects files.now path.now) table.conn) }
-    ensures refused { IfErr result (IsUnopenedOrMade (state S.Store) (P.refuses files.now path.now) (P.connects files.now path.now)) }
+    ensures opened { IfOk result (λ table. IsOpenedOrMade (state S.Store) (P.connects files path.now) table.conn) }
+    ensures refused { IfErr result (IsUnopenedOrMade (state S.Store) (P.refuses files path.now) (P.connects files path.now)) }
 {
     made_or_adopted(alloc, files.connect(path)?, blank)
 }
@@ -119,12 +119,12 @@ fn migrate_tables<S: Alter + Drop>(alloc: Global, conn: Connection<S>) -> Result
 /// none is made: that is `NoZone`. `WrongVersion` comes where the file has not the tables of version 1, `BadRow` where their rows are
 /// none that a program of that version wrote, and `Store` where the file is no database or cannot be read or written. Then the file
 /// is as it was.
-pub fn migrate_store<S: Alter + Drop, P: StoreFiles<S>>(
+pub fn migrate_store<S: Alter + Drop, P: StoreFiles<S> + Drop>(
     alloc: Global,
-    files: &P,
+    files: P,
     path: &str,
 ) -> Result<usize, StoreFault>
-    ensures { IsMigratedStore (state S.Store) (P.finds files.now path.now) (P.refuses files.now path.now) (P.connects files.now path.now) result }
+    ensures { IsMigratedStore (state S.Store) (P.finds files path.now) (P.refuses files path.now) (P.connects files path.now) result }
 {
     migrate_tables(alloc, found(files, path)?)
 }

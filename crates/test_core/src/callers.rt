@@ -3,14 +3,14 @@
 ghost use Rattle.std.specs.Prelude.{◌≡◌, ◌<◌};
 
 use crate::callers_office::{listening, policy, table};
+use crate::client::{begun, push_answered, sent};
 use anyhow::{Result, bail};
 use dns_master::Counted;
 use grant_policy::Policy;
 use office_core::ZoneTable;
 use std::alloc::{AllocError, Global};
-use std::io::{Read, Write};
 use std::marker::Brand;
-use std::net::{Shutdown, TcpListener, TcpStream};
+use std::net::{TcpListener, TcpStream};
 use std::sync::ledger::{Blank, Ledger};
 use std::time::Duration;
 use store_commands::{Connections, JobFault, Undiagnosed, serve_connections};
@@ -99,6 +99,7 @@ impl<'a> Callers<'a> {
         push_served(self.rt, self.listener()?, connections, answer)?;
         for caller in &mut self.callers {
             push_answered(caller, answer)?;
+            answer.push(b'\n')?;
         }
         self.callers.clear();
         Ok(())
@@ -107,28 +108,6 @@ impl<'a> Callers<'a> {
 
 fn number(text: &[u8]) -> Result<u64> {
     Ok(str::from_utf8(text)?.parse()?)
-}
-
-/// A connection to a listener, over which a text was sent.
-fn begun(rt: &HostRuntime, listener: &TcpListener, text: &[u8]) -> Result<TcpStream> {
-    let mut caller = TcpStream::connect(rt, listener.local_addr()?)?;
-    caller.write_all(text)?;
-    Ok(caller)
-}
-
-/// The same, and nothing comes behind it.
-fn sent(rt: &HostRuntime, listener: &TcpListener, text: &[u8]) -> Result<TcpStream> {
-    let caller = begun(rt, listener, text)?;
-    caller.shutdown(Shutdown::Write)?;
-    Ok(caller)
-}
-
-/// Appends what a caller was answered.
-fn push_answered(caller: &mut TcpStream, answer: &mut Vec<u8>) -> Result<()> {
-    answer.extend_from_slice(b"answered: ")?;
-    caller.read_to_end(answer)?;
-    answer.push(b'\n')?;
-    Ok(())
 }
 
 /// Appends what the office tells while it serves so many connections, and its trace.

@@ -1,55 +1,78 @@
 //! What the program does with words, over the files of a row.
 
-ghost use Rattle.std.specs.Prelude.{[], Some, None};
-ghost use Rattle.store_commands.specs.Program.{Around};
+ghost use Rattle.std.specs.Prelude.{⊤, None};
+ghost use Rattle.store_commands.specs.Around.{Around};
 
-use std::alloc::AllocError;
-use std::fs;
+use std::alloc::{AllocError, Global};
+use std::io;
+use std::net::{SocketAddr, TcpListener};
 use std::process::ExitCode;
-use store_commands::{Surroundings, do_words};
-use text_commands::InputFile;
+use store_commands::{LineFault, Surroundings, read_path, run_words};
 
-/// A machine, and octets that are standard input there.
+/// A machine, and a listener at which the program listens in place of where it is told to, if there is one.
 #[derive(Clone, Copy)]
 struct Given<'a> {
     rt: &'a HostRuntime,
-    input: &'a [u8],
+    listener: Option<&'a TcpListener>,
 }
 
-impl<'a> Surroundings<&'a [u8], InputFile, Vec<u8>> for Given<'a> {
-    ghost around = { λ g. record { input = Some g.input.now; policy = λ _. None; zone = λ _. None; output = Some [] } };
+impl Surroundings for Given<'_> {
+    ghost around = { λ _. record { file = λ _. None; unreadable = λ _. ⊤ } };
 
     fn machine(&self) -> &HostRuntime {
         self.rt
     }
 
-    fn input(&self) -> &'a [u8] {
-        self.input
+    fn file(&self, _alloc: Global, path: &str) -> Result<Vec<u8>, LineFault> {
+        read_path(self.rt, path)
     }
 
-    fn policy(&self, path: &str) -> InputFile {
-        InputFile::Named(fs::open(self.rt, path))
-    }
-
-    fn zone(&self, path: &str) -> InputFile {
-        InputFile::open(self.rt, path)
-    }
-
-    fn output(&self) -> Vec<u8> {
-        Vec::new(self.rt.alloc())
+    fn listen(&self, address: SocketAddr) -> io::Result<TcpListener> {
+        match self.listener {
+            Some(listener) => listener.try_clone(),
+            None => TcpListener::bind(self.rt, address),
+        }
     }
 }
 
-/// Appends what the program writes of an input to standard output, and its exit status.
+/// What the program told, its trace, and its exit status.
+#[derive(Drop)]
+pub struct Told {
+    /// What it wrote to standard output.
+    pub output: Vec<u8>,
+    /// What it wrote to its trace.
+    pub trace: Vec<u8>,
+    /// Its exit status.
+    pub status: ExitCode,
+}
+
+/// What the program does with words and an input, at a listener if there is one.
+pub fn told_by<'a>(
+    rt: &'a HostRuntime,
+    listener: Option<&'a TcpListener>,
+    words: &[&str],
+    input: &[u8],
+) -> Told {
+    let streams = (input, Vec::new(rt.alloc()), Vec::new(rt.alloc()));
+    let (output, trace, status) = run_words(&Given { rt, listener }, words, streams);
+    Told {
+        output,
+        trace,
+        status,
+    }
+}
+
+/// Appends what the program writes of an input to standard output and to its trace, and its exit status.
 pub fn push_run(
     rt: &HostRuntime,
     words: &[&str],
     input: &[u8],
     answer: &mut Vec<u8>,
 ) -> Result<(), AllocError> {
-    let (told, status) = do_words(&Given { rt, input }, words);
-    answer.extend_from_slice(&told)?;
-    answer.extend_from_slice(status_text(status).as_bytes())
+    let told = told_by(rt, None, words, input);
+    answer.extend_from_slice(&told.output)?;
+    answer.extend_from_slice(&told.trace)?;
+    answer.extend_from_slice(status_text(told.status).as_bytes())
 }
 
 fn status_text(status: ExitCode) -> &'static str {

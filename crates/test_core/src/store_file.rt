@@ -1,13 +1,10 @@
 //! What is done to a store and a policy in files.
 
-use anyhow::{Result, bail};
-use command_line::{Existing, Service, StoredZone, ZoneForm};
+use anyhow::Result;
 use sqlite::{Alter, Connection};
 use std::alloc::{AllocError, Global};
 use std::path::PathBuf;
 use std::{env, fs, process};
-use store_commands::{do_export, do_import, do_serve};
-use test_rows::Row;
 
 /// A path of this process's own, at which there is no file.
 pub fn fresh_path(rt: &HostRuntime, name: &[u8], kind: &str) -> Result<String> {
@@ -34,41 +31,6 @@ pub fn remove(rt: &HostRuntime, path: &str) -> Result<()> {
         fs::remove_file(rt, path)?;
     }
     Ok(())
-}
-
-/// What a command prints of a zone in a store.
-pub fn zone_told(rt: &HostRuntime, store: &str, row: &Row<'_>) -> Result<Vec<u8>> {
-    let origin = str::from_utf8(&row.text)?;
-    let zone = StoredZone { store, origin };
-    match row.verb {
-        "import" => Ok(imported(rt, zone, Existing::Kept, &row.body)),
-        "replace" => Ok(imported(rt, zone, Existing::Replaced, &row.body)),
-        "export" => Ok(exported(rt, zone, ZoneForm::Whole)),
-        "relative" => Ok(exported(rt, zone, ZoneForm::Relative)),
-        _ => bail!("no such verb"),
-    }
-}
-
-/// What `import` prints.
-fn imported(rt: &HostRuntime, zone: StoredZone<'_>, existing: Existing, file: &[u8]) -> Vec<u8> {
-    do_import(rt, (zone, existing), (file, Vec::new(rt.alloc()))).0
-}
-
-/// What `export` prints in a form.
-fn exported(rt: &HostRuntime, zone: StoredZone<'_>, form: ZoneForm) -> Vec<u8> {
-    do_export(rt, (zone, form), Vec::new(rt.alloc())).0
-}
-
-/// What `serve` prints of a service for no connection.
-pub fn served(rt: &HostRuntime, store: &str, policy: &str, listen: &str) -> Vec<u8> {
-    let service = Service {
-        store,
-        policy,
-        listen,
-        connections: Some(0),
-        patience: None,
-    };
-    do_serve(rt, service, Vec::new(rt.alloc())).0
 }
 
 /// Runs a script on a store.

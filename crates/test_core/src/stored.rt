@@ -1,12 +1,12 @@
 //! Answers to rows of files.
 
 use crate::callers_office::listening;
-use crate::program::push_run;
-use crate::store_file::{execute, found, fresh_path, remove, served, zone_told};
-use anyhow::Result;
+use crate::client::{push_answered, sent};
+use crate::program::{Told, push_run, told_by};
+use crate::store_file::{execute, found, fresh_path, remove};
+use anyhow::{Result, bail};
 use std::alloc::{AllocError, Global};
 use std::fs;
-use store_commands::do_migrate;
 use test_rows::{Answers, Row, push_unanswered, text_of};
 
 /// A store and a policy in files, and the machine that has them.
@@ -50,6 +50,7 @@ impl<'a> Files<'a> {
             "comment" => self.write_comment(&row.text),
             "sql" => execute(self.rt, self.store.as_str(), &row.body),
             "run" => self.run(row, answer),
+            "request" => self.request(row, answer),
             _ => self.push_told(row, answer),
         }
     }
@@ -62,12 +63,37 @@ impl<'a> Files<'a> {
     }
 
     /// Appends what the program does with the words of a row, which have bars between them. `STORE` and `POLICY` are the two paths.
-    fn run(&self, row: &Row<'_>, answer: &mut Vec<u8>) -> Result<()> {
+    fn run<'x>(&'x self, row: &'x Row<'_>, answer: &mut Vec<u8>) -> Result<()> {
+        let words = self.words(text_of(&row.text))?;
+        Ok(push_run(self.rt, &words, &row.body, answer)?)
+    }
+
+    /// Appends what the program does with the words of a row while a client calls it with the body, without the port at which it listens,
+    /// and what the client is answered.
+    fn request<'x>(&'x self, row: &'x Row<'_>, answer: &mut Vec<u8>) -> Result<()> {
+        let words = self.words(text_of(&row.text))?;
+        let listener = listening(self.rt)?;
+        let mut client = sent(self.rt, &listener, &row.body)?;
+        let told = told_by(self.rt, Some(&listener), &words, &[]);
+        answer.extend_from_slice(before_port(&told.output)?.as_bytes())?;
+        answer.extend_from_slice(&told.trace)?;
+        answer.push(b'\n')?;
+        push_answered(&mut client, answer)
+    }
+
+    /// The words of a text, which have bars between them.
+    fn words<'b>(&'b self, text: &'b str) -> Result<Vec<&'b str>> {
         let mut words = Vec::new(self.rt.alloc());
-        for word in text_of(&row.text).split('|') {
+        for word in text.split('|') {
             words.push(self.word(word))?;
         }
-        Ok(push_run(self.rt, &words, &row.body, answer)?)
+        Ok(words)
+    }
+
+    /// What the program writes of words and an input to standard output.
+    fn told_of(&self, words: &[&str], input: &[u8]) -> Vec<u8> {
+        let Told { output, .. } = told_by(self.rt, None, words, input);
+        output
     }
 
     fn word<'b>(&'b self, word: &'b str) -> &'b str {
@@ -100,11 +126,25 @@ impl<'a> Files<'a> {
         match row.verb {
             "look" => self.look(),
             "pages" => self.pages(),
-            "migrate" => Ok(self.migrated()),
-            "serve" => self.served(text_of(&row.text)),
+            "migrate" => Ok(self.told_of(&["migrate", "--store", self.store.as_str()], &[])),
+            "serve" => Ok(self.served(text_of(&row.text))),
             "listens" => self.without_port(text_of(&row.text)),
             "taken" => self.at_taken(),
-            _ => zone_told(self.rt, self.store.as_str(), row),
+            _ => self.zone_told(row),
+        }
+    }
+
+    /// What a command prints of a zone in the store.
+    fn zone_told(&self, row: &Row<'_>) -> Result<Vec<u8>> {
+        let (store, origin) = (self.store.as_str(), text_of(&row.text));
+        let zone = ["--store", store, "--origin", origin];
+        let [a, b, c, d] = zone;
+        match row.verb {
+            "import" => Ok(self.told_of(&["import", a, b, c, d], &row.body)),
+            "replace" => Ok(self.told_of(&["import", "--replace", a, b, c, d], &row.body)),
+            "export" => Ok(self.told_of(&["export", a, b, c, d], &[])),
+            "relative" => Ok(self.told_of(&["export", "--relative", a, b, c, d], &[])),
+            _ => bail!("no such verb"),
         }
     }
 
@@ -113,38 +153,46 @@ impl<'a> Files<'a> {
         spelled(self.rt.alloc(), found(self.rt, self.store.as_str())?)
     }
 
-    /// What `migrate` prints.
-    fn migrated(&self) -> Vec<u8> {
-        do_migrate(self.rt, self.store.as_str(), Vec::new(self.rt.alloc())).0
-    }
-
     /// The octets 16 and 17 of a database are the size of its pages.
     fn pages(&self) -> Result<Vec<u8>> {
         let octets = fs::read(self.rt, self.store.as_str())?;
         Ok(Vec::from_slice(self.rt.alloc(), octets.get(16..18).unwrap_or(&[]))?)
     }
 
-    fn served(&self, listen: &str) -> Result<Vec<u8>> {
+    /// What `serve` prints of a service for no connection.
+    fn served(&self, listen: &str) -> Vec<u8> {
         let (store, policy) = (self.store.as_str(), self.policy.as_str());
-        Ok(served(self.rt, store, policy, listen))
+        let words = [
+            "serve",
+            "--store",
+            store,
+            "--policy",
+            policy,
+            "--listen",
+            listen,
+            "--connections",
+            "0",
+        ];
+        self.told_of(&words, &[])
     }
 
     /// What is told of a service before the port at which it listens.
     fn without_port(&self, listen: &str) -> Result<Vec<u8>> {
-        let told = self.served(listen)?;
-        let text = str::from_utf8(&told)?;
-        spelled(
-            self.rt.alloc(),
-            text.rsplit_once(':').unwrap_or((text, "")).0,
-        )
+        spelled(self.rt.alloc(), before_port(&self.served(listen))?)
     }
 
     /// What is told of a service where another one listens.
     fn at_taken(&self) -> Result<Vec<u8>> {
         let other = listening(self.rt)?;
         let taken = format!(in self.rt.alloc(); "{}", other.local_addr()?)?;
-        self.served(taken.as_str())
+        Ok(self.served(taken.as_str()))
     }
+}
+
+/// What is told before a port.
+fn before_port(told: &[u8]) -> Result<&str> {
+    let text = str::from_utf8(told)?;
+    Ok(text.rsplit_once(':').unwrap_or((text, "")).0)
 }
 
 fn write(rt: &HostRuntime, path: &str, text: &[u8]) -> Result<()> {

@@ -33,10 +33,11 @@ module _ (origin : List (List ℕ)) (zone : ZoneOf) where
 
 -- ---- the second file
 
--- what was answered behind a writer that holds what another held
+-- what was answered behind a writer that stands as another did
 pub answered_behind : (left : Option (List ℕ)) (answer : List ℕ → Result (List ℕ) Refusal) (before old new : Option (List ℕ)) (result done : Result (Unit {0}) JobFault)
-    (reads reads_after writes writes_after : ℕ) → old ≡ before → result ≡ done → Answered left answer old new result reads reads_after writes writes_after
-    → Answered left answer before new done reads reads_after writes writes_after
-answered_behind left answer before old new result done reads reads_after writes writes_after same is answered =
-    subst (λ o. Answered left answer o new done reads reads_after writes writes_after) same
-    (subst (λ r. Answered left answer old new r reads reads_after writes writes_after) is answered)
+    (fine failed : Type 0) (first writes writes_after : ℕ) → old ≡ before → writes ≡ first → result ≡ done → Answered left answer old new result fine failed writes writes_after
+    → Answered left answer before new done fine failed first writes_after
+answered_behind left answer before old new result done fine failed first writes writes_after same count is answered =
+    subst (λ o. Answered left answer o new done fine failed first writes_after) same
+    (subst (λ n. Answered left answer old new done fine failed n writes_after) count
+    (subst (λ r. Answered left answer old new r fine failed writes writes_after) is answered))

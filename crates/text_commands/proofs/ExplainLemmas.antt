@@ -10,8 +10,8 @@ pub unread : {Y : Type 0} (left : Option (List ℕ)) (made found : Result Y Refu
 unread None made found e = ([], tt, e)
 unread (Some rest) made found e = (rest, refl, e)
 
-pub unread_fault : {X Y : Type 0} (view : X → Y) (left : Option (List ℕ)) (made : Result Y Refusal) (fault : LineFault) (reads : ℕ)
-    → Gives view (Err fault) made → GivesOf view left (λ input. made) (Err fault) reads reads
-unread_fault view left made (Refused refusal) reads given = (unread left made (Err refusal) given, refl)
-unread_fault view left made ReadFailed reads given = absurd given
-unread_fault view left made NoMemory reads given = refl
+pub unread_fault : {X Y : Type 0} (view : X → Y) (left : Option (List ℕ)) (made : Result Y Refusal) (fault : LineFault) (fine failed : Type 0) → fine
+    → Gives view (Err fault) made → GivesOf view left (λ input. made) (Err fault) fine failed
+unread_fault view left made (Refused refusal) fine failed well given = (unread left made (Err refusal) given, well)
+unread_fault view left made ReadFailed fine failed well given = absurd given
+unread_fault view left made NoMemory fine failed well given = well

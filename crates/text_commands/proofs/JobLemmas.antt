@@ -43,46 +43,46 @@ module _ (a b c : Option (List ℕ)) (text : List ℕ) (first second third : ℕ
 
 -- ---- jobs
 
-module _ (left : Option (List ℕ)) (answer : List ℕ → Result (List ℕ) Refusal) (old new : Option (List ℕ)) (reads reads_after writes writes_after : ℕ) where
+module _ (left : Option (List ℕ)) (answer : List ℕ → Result (List ℕ) Refusal) (old new : Option (List ℕ)) (fine failed : Type 0) (writes writes_after : ℕ) where
   -- the answer was sent
-  pub answered_sent : (text : List ℕ) → Makes left answer (Ok text) → reads_after ≡ reads → Appends old new text × (writes_after ≡ writes) → Answered left answer old new (Ok tt) reads reads_after writes writes_after
-  answered_sent text makes fine sent = ((text, makes, sent.0), fine, sent.1)
+  pub answered_sent : (text : List ℕ) → Makes left answer (Ok text) → fine → Appends old new text × (writes_after ≡ writes) → Answered left answer old new (Ok tt) fine failed writes writes_after
+  answered_sent text makes well sent = ((text, makes, sent.0), well, sent.1)
 
-  pub answered_front : (text : List ℕ) → Makes left answer (Ok text) → reads_after ≡ reads → AppendsFront old new text × (writes < writes_after) → Answered left answer old new (Err WriteFailed) reads reads_after writes writes_after
-  answered_front text makes fine sent = ((text, inl ((Ok text, makes, refl), fine), sent.0), sent.1)
+  pub answered_front : (text : List ℕ) → Makes left answer (Ok text) → fine → AppendsFront old new text × (writes < writes_after) → Answered left answer old new (Err WriteFailed) fine failed writes writes_after
+  answered_front text makes well sent = ((text, inl ((Ok text, makes, refl), well), sent.0), sent.1)
 
-  pub answered_printed : (text : List ℕ) (result : Result (Unit {0}) JobFault) → Makes left answer (Ok text) → reads_after ≡ reads → IsPrinted old new text result writes writes_after → Answered left answer old new result reads reads_after writes writes_after
-  answered_printed text (Ok done) makes fine wrote = answered_sent text makes fine wrote
-  answered_printed text (Err (Reported NoMemory)) makes fine wrote = ((wrote.0.0, inr (text, makes, wrote.0.1), wrote.0.2), fine, wrote.1)
-  answered_printed text (Err (Reported (Refused refusal))) makes fine wrote = absurd wrote
-  answered_printed text (Err (Reported ReadFailed)) makes fine wrote = absurd wrote
-  answered_printed text (Err WriteFailed) makes fine wrote =
+  pub answered_printed : (text : List ℕ) (result : Result (Unit {0}) JobFault) → Makes left answer (Ok text) → fine → IsPrinted old new text result writes writes_after → Answered left answer old new result fine failed writes writes_after
+  answered_printed text (Ok done) makes well wrote = answered_sent text makes well wrote
+  answered_printed text (Err (Reported NoMemory)) makes well wrote = ((wrote.0.0, inr (text, makes, wrote.0.1), wrote.0.2), well, wrote.1)
+  answered_printed text (Err (Reported (Refused refusal))) makes well wrote = absurd wrote
+  answered_printed text (Err (Reported ReadFailed)) makes well wrote = absurd wrote
+  answered_printed text (Err WriteFailed) makes well wrote =
       let sent = wrote.0.0 in
-      let reply : IsReply left answer reads reads_after sent = elim wrote.0.1 [
-        | inl whole ↦ inl ((Ok text, makes, whole), fine)
-        | inr short ↦ inr (inr (inr (text, makes, short), fine))
+      let reply : IsReply left answer fine failed sent = elim wrote.0.1 [
+        | inl whole ↦ inl ((Ok text, makes, whole), well)
+        | inr short ↦ inr (inr (inr (text, makes, short), well))
       ] in
       ((sent, reply, wrote.0.2), wrote.1)
 
   -- a fault was told by the line of its own, or by that of out of memory
-  own_line : {X : Type 0} (view : X → List ℕ) (fault : LineFault) → GivesOf view left answer (Err fault) reads reads_after → Appends old new (line_of fault) → writes_after ≡ writes → Answered left answer old new (Err (Reported fault)) reads reads_after writes writes_after
-  own_line view (Refused refusal) given line fine = (given.0, line, given.1, fine)
-  own_line view ReadFailed given line fine = (line, given.0, given.1, fine)
-  own_line view NoMemory given line fine = ((line_of NoMemory, inl refl, line), given, fine)
+  own_line : {X : Type 0} (view : X → List ℕ) (fault : LineFault) → GivesOf view left answer (Err fault) fine failed → Appends old new (line_of fault) → writes_after ≡ writes → Answered left answer old new (Err (Reported fault)) fine failed writes writes_after
+  own_line view (Refused refusal) given line well = (given.0, line, given.1, well)
+  own_line view ReadFailed given line well = (line, given.0, given.1, well)
+  own_line view NoMemory given line well = ((line_of NoMemory, inl refl, line), given, well)
 
-  own_front : {X : Type 0} (view : X → List ℕ) (fault : LineFault) → GivesOf view left answer (Err fault) reads reads_after → AppendsFront old new (line_of fault) → writes < writes_after → Answered left answer old new (Err WriteFailed) reads reads_after writes writes_after
-  own_front view (Refused refusal) given front failed = ((line_of (Refused refusal), inl ((Err refusal, given.0, refl), given.1), front), failed)
-  own_front view ReadFailed given front failed = ((line_of ReadFailed, inr (inl (refl, given.0, given.1)), front), failed)
-  own_front view NoMemory given front failed = ((line_of NoMemory, inr (inr (inl refl, given)), front), failed)
+  own_front : {X : Type 0} (view : X → List ℕ) (fault : LineFault) → GivesOf view left answer (Err fault) fine failed → AppendsFront old new (line_of fault) → writes < writes_after → Answered left answer old new (Err WriteFailed) fine failed writes writes_after
+  own_front view (Refused refusal) given front broke = ((line_of (Refused refusal), inl ((Err refusal, given.0, refl), given.1), front), broke)
+  own_front view ReadFailed given front broke = ((line_of ReadFailed, inr (inl (refl, given.0, given.1)), front), broke)
+  own_front view NoMemory given front broke = ((line_of NoMemory, inr (inr (inl refl, given)), front), broke)
 
   -- which fault was told in the place of another
-  told_as : {X : Type 0} (view : X → List ℕ) (fault line : LineFault) → MayWrite fault line → GivesOf view left answer (Err fault) reads reads_after → GivesOf view left answer (Err line) reads reads_after
-  told_as {X} view (Refused refusal) line (inl same) given = subst (λ l. GivesOf {X = X} view left answer (Err l) reads reads_after) (sym same) given
-  told_as {X} view (Refused refusal) line (inr short) given = subst (λ l. GivesOf {X = X} view left answer (Err l) reads reads_after) (sym short) given.1
-  told_as {X} view ReadFailed line same given = subst (λ l. GivesOf {X = X} view left answer (Err l) reads reads_after) (sym same) given
-  told_as {X} view NoMemory line same given = subst (λ l. GivesOf {X = X} view left answer (Err l) reads reads_after) (sym same) given
+  told_as : {X : Type 0} (view : X → List ℕ) (fault line : LineFault) → MayWrite fault line → GivesOf view left answer (Err fault) fine failed → GivesOf view left answer (Err line) fine failed
+  told_as {X} view (Refused refusal) line (inl same) given = subst (λ l. GivesOf {X = X} view left answer (Err l) fine failed) (sym same) given
+  told_as {X} view (Refused refusal) line (inr short) given = subst (λ l. GivesOf {X = X} view left answer (Err l) fine failed) (sym short) given.1
+  told_as {X} view ReadFailed line same given = subst (λ l. GivesOf {X = X} view left answer (Err l) fine failed) (sym same) given
+  told_as {X} view NoMemory line same given = subst (λ l. GivesOf {X = X} view left answer (Err l) fine failed) (sym same) given
 
-  pub answered_told : {X : Type 0} (view : X → List ℕ) (fault : LineFault) (result : Result (Unit {0}) JobFault) → GivesOf view left answer (Err fault) reads reads_after → IsRefusalWritten old new fault result writes writes_after → Answered left answer old new result reads reads_after writes writes_after
+  pub answered_told : {X : Type 0} (view : X → List ℕ) (fault : LineFault) (result : Result (Unit {0}) JobFault) → GivesOf view left answer (Err fault) fine failed → IsRefusalWritten old new fault result writes writes_after → Answered left answer old new result fine failed writes writes_after
   answered_told view fault (Ok done) given wrote = absurd wrote
   answered_told view fault (Err (Reported line)) given wrote = own_line view line (told_as view fault line wrote.0 given) wrote.1 wrote.2
   answered_told view fault (Err WriteFailed) given wrote = own_front view wrote.0.0 (told_as view fault wrote.0.0 wrote.0.1 given) wrote.0.2 wrote.1
@@ -93,8 +93,8 @@ module _ {A : Type 0} (left : Option (List ℕ)) (make : List ℕ → Result A R
   pub text_made : (a : A) → Makes left make (Ok a) → Makes left (λ input. make input >>= λ made. Ok (text made)) (Ok (text a))
   text_made a makes = (makes.0, makes.1, given_before (make makes.0) (λ made. Ok (text made)) a makes.2)
 
-  pub text_refused : {X : Type 0} (view : X → A) (fault : LineFault) (before after : ℕ) → GivesOf view left make (Err fault) before after → GivesOf (λ (t : List ℕ). t) left (λ input. make input >>= λ made. Ok (text made)) (Err fault) before after
-  text_refused view (Refused refusal) before after given =
+  pub text_refused : {X : Type 0} (view : X → A) (fault : LineFault) (fine failed : Type 0) → GivesOf view left make (Err fault) fine failed → GivesOf (λ (t : List ℕ). t) left (λ input. make input >>= λ made. Ok (text made)) (Err fault) fine failed
+  text_refused view (Refused refusal) fine failed given =
       ((given.0.0, given.0.1, refused_before (make given.0.0) (λ made. Ok (text made)) refusal given.0.2), given.1)
-  text_refused view ReadFailed before after given = (given.0, reached_before make (λ made. Ok (text made)) given.1)
-  text_refused view NoMemory before after given = given
+  text_refused view ReadFailed fine failed given = (given.0, reached_before make (λ made. Ok (text made)) given.1)
+  text_refused view NoMemory fine failed given = given

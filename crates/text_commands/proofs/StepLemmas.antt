@@ -42,17 +42,17 @@ reached_behind first make a is reached input more = given_before first (λ b. ma
 
 -- ---- words, the input, and what is made of them
 
-module _ {A X Y : Type 0} (view : X → Y) (left : Option (List ℕ)) (first : Result A Refusal) (next : A → List ℕ → Result Y Refusal) (before after : ℕ) where
+module _ {A X Y : Type 0} (view : X → Y) (left : Option (List ℕ)) (first : Result A Refusal) (next : A → List ℕ → Result Y Refusal) (fine failed : Type 0) where
   -- the words are refused, and nothing was read
-  pub words_refused : {C : Type 0} (seen : C → A) (e : LineFault) → Gives seen (Err e) first → after ≡ before → GivesOf view left (λ input. first >>= λ a. limited input >>= next a) (Err e) before after
-  words_refused seen (Refused refusal) given fine =
+  pub words_refused : {C : Type 0} (seen : C → A) (e : LineFault) → Gives seen (Err e) first → fine → GivesOf view left (λ input. first >>= λ a. limited input >>= next a) (Err e) fine failed
+  words_refused seen (Refused refusal) given well =
       let all = all_left left in
-      ((all.0, all.1, refused_before first (λ a. limited all.0 >>= next a) refusal given), fine)
-  words_refused seen NoMemory given fine = fine
-  words_refused seen ReadFailed given fine = absurd given
+      ((all.0, all.1, refused_before first (λ a. limited all.0 >>= next a) refusal given), well)
+  words_refused seen NoMemory given well = well
+  words_refused seen ReadFailed given well = absurd given
 
   -- the input is refused, or not read
-  pub input_refused : (a : A) (e : LineFault) → first ≡ Ok a → GivesOf (λ (input : Vec ℕ Global). input.items) left limited (Err e) before after → GivesOf view left (λ input. first >>= λ a. limited input >>= next a) (Err e) before after
+  pub input_refused : (a : A) (e : LineFault) → first ≡ Ok a → GivesOf (λ (input : Vec ℕ Global). input.items) left limited (Err e) fine failed → GivesOf view left (λ input. first >>= λ a. limited input >>= next a) (Err e) fine failed
   input_refused a (Refused refusal) is read =
       let input = read.0.0 in
       ((input, read.0.1, given_before first (λ b. limited input >>= next b) a is ∙ refused_before (limited input) (next a) refusal read.0.2), read.1)
@@ -66,8 +66,8 @@ module _ {A X Y : Type 0} (view : X → Y) (left : Option (List ℕ)) (first : R
       let input = read.0 in
       (input, read.1, given_before first (λ b. limited input >>= next b) a is ∙ (given_before (limited input) (next a) text read.2 ∙ e))
 
-  pub made_of : (a : A) (text : List ℕ) (result : Result X LineFault) → first ≡ Ok a → Makes left limited (Ok text) → after ≡ before → Gives view result (next a text) → GivesOf view left (λ input. first >>= λ a. limited input >>= next a) result before after
-  made_of a text (Ok x) is read fine e = (input_given a text (Ok (view x)) is read e, fine)
-  made_of a text (Err (Refused refusal)) is read fine e = (input_given a text (Err refusal) is read e, fine)
-  made_of a text (Err NoMemory) is read fine e = fine
-  made_of a text (Err ReadFailed) is read fine e = absurd e
+  pub made_of : (a : A) (text : List ℕ) (result : Result X LineFault) → first ≡ Ok a → Makes left limited (Ok text) → fine → Gives view result (next a text) → GivesOf view left (λ input. first >>= λ a. limited input >>= next a) result fine failed
+  made_of a text (Ok x) is read well e = (input_given a text (Ok (view x)) is read e, well)
+  made_of a text (Err (Refused refusal)) is read well e = (input_given a text (Err refusal) is read e, well)
+  made_of a text (Err NoMemory) is read well e = well
+  made_of a text (Err ReadFailed) is read well e = absurd e

@@ -1,9 +1,10 @@
--- What `check policy` prints: the rules of a policy that never decide, each with the rules that take its questions. And what
--- `check isolation` prints: that the policy isolates a caller, or what keeps it from that.
-use Rattle.std.specs.Prelude.{◌≡◌, ◌⊎◌, ◌↔◌, ℕ, ◌<◌, List, [], ◌∷◌, ◌++◌, length, map, codes, decimal, Option, Some, None, Result, Ok, Err, IfSome, slice_get}
+-- What `check policy` prints: the rules of a policy that never decide, each with the rules that take its questions. What `check isolation`
+-- prints: that the policy isolates a caller, or what keeps it from that. And which inputs these, `check rights` and `check zone` read.
+use Rattle.std.specs.Prelude.{◌≡◌, ◌⊎◌, ◌↔◌, ℕ, ◌<◌, List, [], ◌∷◌, ◌++◌, length, map, codes, decimal, Option, Some, None, option_map, Result, Ok, Err, IfSome, slice_get}
 use Rattle.std.specs.List.{All, Contains, flat_map}
 use Rattle.std.specs.List.Sorted.{IsStrictlyIncreasing}
 use Rattle.std.specs.Io.KnownBytes.{Appends}
+use Rattle.dns_names.specs.Reading.{absolute_name}
 use Rattle.dns_names.specs.Spelling.{name_text}
 use Rattle.dns_data.specs.Types.{type_text}
 use Rattle.grant_policy.specs.declared.rule.Rule.{Rule}
@@ -18,10 +19,13 @@ use Rattle.grant_policy.specs.declared.idle.IdleRule.{IdleRule}
 use Rattle.grant_policy.specs.Idle.{IsIdle, AreTakers}
 use Rattle.text_commands.specs.declared.check.Findings.{Findings}
 use Rattle.text_commands.specs.declared.check.Findings.TheVariants.{Absent, Present}
+use Rattle.text_commands.specs.declared.check.Asked.{Asked}
+use Rattle.text_commands.specs.declared.check.Asked.TheVariants as asked
 use Rattle.text_commands.specs.declared.check.Checking.{Checking}
+use Rattle.text_commands.specs.declared.check.Checking.TheVariants as checking
 use Rattle.text_commands.specs.declared.check.Report.{Report}
 use Rattle.text_commands.specs.declared.check.Subject.{Subject}
-use Rattle.text_commands.specs.declared.check.Subject.TheVariants.{Rules, Isolation}
+use Rattle.text_commands.specs.declared.check.Subject.TheVariants as subject
 use Rattle.text_commands.specs.declared.refusal.Refusal.{Refusal}
 use Rattle.text_commands.specs.declared.refusal.Refusal.TheVariants.{NoCaller}
 use Rattle.text_commands.specs.declared.line_fault.LineFault.{LineFault}
@@ -29,7 +33,10 @@ use Rattle.text_commands.specs.declared.line_fault.LineFault.TheVariants.{Refuse
 use Rattle.text_commands.specs.declared.line_fault.JobFault.{JobFault}
 use Rattle.text_commands.specs.declared.line_fault.JobFault.TheVariants.{Reported, WriteFailed}
 use Rattle.text_commands.specs.Device.{AppendsFront}
-use Rattle.text_commands.specs.LineFaults.{◌>>=◌, or_refused, limited, of_policies, Makes, ReachesInput}
+use Rattle.text_commands.specs.Canon.{zone_of_file}
+use Rattle.text_commands.specs.ZoneCheck.{filter_of, IsZoneReport}
+use Rattle.text_commands.specs.RightsCheck.{IsRightsText}
+use Rattle.text_commands.specs.LineFaults.{◌>>=◌, or_refused, limited, of_names, of_policies, Makes, ReachesInput}
 use Rattle.text_commands.specs.Refusals.{refused_line}
 use Rattle.text_commands.specs.Replies.{line_of}
 
@@ -39,24 +46,28 @@ use Rattle.text_commands.specs.Replies.{line_of}
 abbrev pub rules_in : List ℕ → Result (List Rule) Refusal
 rules_in text = of_policies (policy_of (document_of text))
 
--- a caller whose isolation is checked, if it is one, and the rules of a policy
-abbrev pub Checked_of : Type 0
-Checked_of = Option (List ℕ) × List Rule
+-- the name that a word is, if one is given
+abbrev pub name_if : Option (List ℕ) → Result (Option (List (List ℕ))) Refusal
+name_if None = Ok None
+name_if (Some word) = of_names (absolute_name word) >>= λ name. Ok (Some name)
 
--- the caller that a word is
-abbrev pub caller_in : Subject → Result (Option (List ℕ)) Refusal
-caller_in Rules = Ok None
-caller_in (Isolation word) = or_refused (identifier_of word.now) NoCaller >>= λ caller. Ok (Some caller)
+-- what words ask for: the rules for a zone are read before its origin
+abbrev pub asked_in : Subject → Result Asked Refusal
+asked_in subject.Rules = Ok asked.Rules
+asked_in (subject.Isolation word) = or_refused (identifier_of word.now) NoCaller >>= λ caller. Ok (asked.Isolation caller)
+asked_in (subject.Rights word) = name_if (option_map (λ w. w.now) word) >>= λ name. Ok (asked.Rights name)
+asked_in (subject.Zone origin rules) = filter_of rules >>= λ filter. of_names (absolute_name origin.now) >>= λ name. Ok (asked.Zone name filter)
 
-abbrev pub checking_of : Option (List ℕ) → List ℕ → Result Checked_of Refusal
-checking_of caller text = rules_in text >>= λ rules. Ok (caller, rules)
+-- what that is in an input: a policy, or the file of a zone
+abbrev pub checking_of : Asked → List ℕ → Result Checking Refusal
+checking_of asked.Rules text = rules_in text >>= λ rules. Ok (checking.Rules rules)
+checking_of (asked.Isolation caller) text = rules_in text >>= λ rules. Ok (checking.Isolation caller rules)
+checking_of (asked.Rights name) text = rules_in text >>= λ rules. Ok (checking.Rights name rules)
+checking_of (asked.Zone origin filter) text = zone_of_file origin text >>= λ zone. Ok (checking.Zone zone filter)
 
--- the word is read first, and then the input
-abbrev pub checked_read : Subject → List ℕ → Result Checked_of Refusal
-checked_read subject input = caller_in subject >>= λ caller. limited input >>= checking_of caller
-
-abbrev pub checking_in : Checking → Checked_of
-checking_in c = (c.caller, c.policy)
+-- the words are read first, and then the input
+abbrev pub checked_read : Subject → List ℕ → Result Checking Refusal
+checked_read subject input = asked_in subject >>= λ wanted. limited input >>= checking_of wanted
 
 -- ---- the report on the rules
 
@@ -123,43 +134,46 @@ IsIsolationReport rules caller findings text =
     (found : Option Exposure) × ((found ≡ None) ↔ IsIsolated rules caller) × IfSome found (IsExposed rules caller)
     × (text ≡ isolation_line rules found ++ 10 ∷ []) × (findings ≡ exposures_of found)
 
--- ---- both
+-- ---- all of them
 
-abbrev pub IsReportOn : Checked_of → Findings → List ℕ → Type 0
-IsReportOn (None, rules) findings text = IsReport rules findings text
-IsReportOn (Some caller, rules) findings text = IsIsolationReport rules caller findings text
+-- what is printed of rights finds nothing
+abbrev pub IsReportOn : Checking → Findings → List ℕ → Type 0
+IsReportOn (checking.Rules rules) findings text = IsReport rules findings text
+IsReportOn (checking.Isolation caller rules) findings text = IsIsolationReport rules caller findings text
+IsReportOn (checking.Rights name rules) findings text = IsRightsText name rules text × (findings ≡ Absent)
+IsReportOn (checking.Zone zone filter) findings text = IsZoneReport zone filter findings text
 
--- the report on the policy that is read
+-- the report on what is read
 abbrev pub ReportsOn : Subject → Option (List ℕ) → Findings → List ℕ → Type 0
-ReportsOn subject left findings text = (made : Checked_of) × Makes left (checked_read subject) (Ok made) × IsReportOn made findings text
+ReportsOn subject left findings text = (made : Checking) × Makes left (checked_read subject) (Ok made) × IsReportOn made findings text
 
--- What was left to read, the answer, and the reader's failures before and after.
-abbrev pub Reports : Subject → Option (List ℕ) → Result Report LineFault → ℕ → ℕ → Type 0
-Reports subject left (Ok report) before after = ReportsOn subject left report.findings report.text.items × (after ≡ before)
-Reports subject left (Err (Refused refusal)) before after = Makes left (checked_read subject) (Err refusal) × (after ≡ before)
-Reports subject left (Err NoMemory) before after = after ≡ before
-Reports subject left (Err ReadFailed) before after = (before < after) × ReachesInput (checked_read subject)
+-- What was left to read, the answer, that the input did not fail, and that it did.
+abbrev pub Reports : Subject → Option (List ℕ) → Result Report LineFault → Type 0 → Type 0 → Type 0
+Reports subject left (Ok report) fine failed = ReportsOn subject left report.findings report.text.items × fine
+Reports subject left (Err (Refused refusal)) fine failed = Makes left (checked_read subject) (Err refusal) × fine
+Reports subject left (Err NoMemory) fine failed = fine
+Reports subject left (Err ReadFailed) fine failed = failed × ReachesInput (checked_read subject)
 
 -- ---- what is written
 
--- a text that is to be written where this was left to read, and the reader's failures are these before and after
-abbrev pub IsCheckReply : Subject → Option (List ℕ) → ℕ → ℕ → List ℕ → Type 0
-IsCheckReply subject left reads reads_after text =
-    (((findings : Findings) × ReportsOn subject left findings text) × (reads_after ≡ reads))
-    ⊎ ((((refusal : Refusal) × Makes left (checked_read subject) (Err refusal) × (text ≡ refused_line refusal)) × (reads_after ≡ reads))
-    ⊎ (((text ≡ line_of ReadFailed) × (reads < reads_after) × ReachesInput (checked_read subject))
-    ⊎ ((text ≡ line_of NoMemory) × (reads_after ≡ reads))))
+-- a text that is to be written where this was left to read, that the input did not fail, and that it did
+abbrev pub IsCheckReply : Subject → Option (List ℕ) → Type 0 → Type 0 → List ℕ → Type 0
+IsCheckReply subject left fine failed text =
+    (((findings : Findings) × ReportsOn subject left findings text) × fine)
+    ⊎ ((((refusal : Refusal) × Makes left (checked_read subject) (Err refusal) × (text ≡ refused_line refusal)) × fine)
+    ⊎ (((text ≡ line_of ReadFailed) × failed × ReachesInput (checked_read subject))
+    ⊎ ((text ≡ line_of NoMemory) × fine)))
 
--- What was left to read, what the writer held before and after, how the check went, the reader's failures before and after, and the
+-- What was left to read, what the writer held before and after, how the check went, that the input did not fail, that it did, and the
 -- writer's failures before and after. A failed write leaves a prefix of what was to be written; else it is all written.
-abbrev pub Checked : Subject → Option (List ℕ) → Option (List ℕ) → Option (List ℕ) → Result Findings JobFault → ℕ → ℕ → ℕ → ℕ → Type 0
-Checked subject left old new (Ok findings) reads reads_after writes writes_after =
-    ((text : List ℕ) × ReportsOn subject left findings text × Appends old new text) × (reads_after ≡ reads) × (writes_after ≡ writes)
-Checked subject left old new (Err (Reported (Refused refusal))) reads reads_after writes writes_after =
-    Makes left (checked_read subject) (Err refusal) × Appends old new (refused_line refusal) × (reads_after ≡ reads) × (writes_after ≡ writes)
-Checked subject left old new (Err (Reported ReadFailed)) reads reads_after writes writes_after =
-    Appends old new (line_of ReadFailed) × (reads < reads_after) × ReachesInput (checked_read subject) × (writes_after ≡ writes)
-Checked subject left old new (Err (Reported NoMemory)) reads reads_after writes writes_after =
-    Appends old new (line_of NoMemory) × (reads_after ≡ reads) × (writes_after ≡ writes)
-Checked subject left old new (Err WriteFailed) reads reads_after writes writes_after =
-    ((text : List ℕ) × IsCheckReply subject left reads reads_after text × AppendsFront old new text) × (writes < writes_after)
+abbrev pub Checked : Subject → Option (List ℕ) → Option (List ℕ) → Option (List ℕ) → Result Findings JobFault → Type 0 → Type 0 → ℕ → ℕ → Type 0
+Checked subject left old new (Ok findings) fine failed writes writes_after =
+    ((text : List ℕ) × ReportsOn subject left findings text × Appends old new text) × fine × (writes_after ≡ writes)
+Checked subject left old new (Err (Reported (Refused refusal))) fine failed writes writes_after =
+    Makes left (checked_read subject) (Err refusal) × Appends old new (refused_line refusal) × fine × (writes_after ≡ writes)
+Checked subject left old new (Err (Reported ReadFailed)) fine failed writes writes_after =
+    Appends old new (line_of ReadFailed) × failed × ReachesInput (checked_read subject) × (writes_after ≡ writes)
+Checked subject left old new (Err (Reported NoMemory)) fine failed writes writes_after =
+    Appends old new (line_of NoMemory) × fine × (writes_after ≡ writes)
+Checked subject left old new (Err WriteFailed) fine failed writes writes_after =
+    ((text : List ℕ) × IsCheckReply subject left fine failed text × AppendsFront old new text) × (writes < writes_after)

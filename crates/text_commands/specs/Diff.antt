@@ -24,6 +24,7 @@ use Rattle.text_commands.specs.Replies.{Answered}
 use Rattle.text_commands.specs.Canon.{zone_of_file, zone_read}
 use Rattle.text_commands.specs.Apply.{updated, zone_lines}
 use Rattle.text_commands.specs.Guards.{changes_set, guards_of}
+use Rattle.text_commands.specs.Inputs.{InputOf}
 use Rattle.text_commands.specs.GuardPromises.{HaveSameSet, HasRoom, IsOfNoSet, IsOfOperation}
 
 -- the prerequisites before operations between two zones, in a form
@@ -54,27 +55,28 @@ diff_text form old input = limited input >>= items_to form old
 abbrev pub old_text : List ℕ → List ℕ → Result (List ℕ) Refusal
 old_text word input = zone_read word input >>= λ zone. Ok []
 
--- The word of the origin, what was left to read of the old zone's file, what the writer held before and after, how it went, the
--- reader's failures before and after, and the writer's failures before and after: the zone that was read, and nothing is written; or
--- its refusal is.
-abbrev pub IsOldRead : List ℕ → Option (List ℕ) → Option (List ℕ) → Option (List ℕ) → Result ZoneOf JobFault → ℕ → ℕ → ℕ → ℕ → Type 0
-IsOldRead word left before after (Ok zone) reads reads_after writes writes_after = Makes left (zone_read word) (Ok zone) × (after ≡ before)
-IsOldRead word left before after (Err fault) reads reads_after writes writes_after =
-    Answered left (old_text word) before after (Err fault) reads reads_after writes writes_after
+-- The word of the origin, what was left to read of the old zone's file, what the writer held before and after, how it went, that the input
+-- did not fail, that it did, and the writer's failures before and after: the zone that was read, and nothing is written; or its refusal is.
+abbrev pub IsOldRead : List ℕ → Option (List ℕ) → Option (List ℕ) → Option (List ℕ) → Result ZoneOf JobFault → Type 0 → Type 0 → ℕ → ℕ → Type 0
+IsOldRead word left before after (Ok zone) fine failed writes writes_after =
+    Makes left (zone_read word) (Ok zone) × fine × (after ≡ before) × (writes_after ≡ writes)
+IsOldRead word left before after (Err fault) fine failed writes writes_after =
+    Answered left (old_text word) before after (Err fault) fine failed writes writes_after
 
 -- what is answered to the new zone's file, where the old zone was read
-abbrev pub IsDiff : DiffForm → List ℕ → Option (List ℕ) → Option (List ℕ) → Option (List ℕ) → Option (List ℕ) → Result (Unit {0}) JobFault → Type 0
-IsDiff form word old_left new_left before after result =
-    (old : ZoneOf) × Makes old_left (zone_read word) (Ok old)
-    × (failed_reads : ℕ) × (failed_writes : ℕ) × Answered new_left (diff_text form old) before after result 0 failed_reads 0 failed_writes
+abbrev pub IsDiff : DiffForm → List ℕ → InputOf → InputOf → Option (List ℕ) → Option (List ℕ) → Result (Unit {0}) JobFault → ℕ → ℕ → Type 0
+IsDiff form word old new before after result writes writes_after =
+    (zone : ZoneOf) × Makes old.left (zone_read word) (Ok zone) × old.fine
+    × Answered new.left (diff_text form zone) before after result new.fine new.failed writes writes_after
 
--- The form, the word of the origin, what was left to read of the old zone's file and of the new one's, what the writer held before and after,
--- and how it went: the old zone was refused, or not read; or else the new one's file was answered.
-abbrev pub Differs : DiffForm → List ℕ → Option (List ℕ) → Option (List ℕ) → Option (List ℕ) → Option (List ℕ) → Result (Unit {0}) DiffFault → Type 0
-Differs form word old_left new_left before after (Err (Old fault)) =
-    (failed_reads : ℕ) × (failed_writes : ℕ) × Answered old_left (old_text word) before after (Err fault) 0 failed_reads 0 failed_writes
-Differs form word old_left new_left before after (Err (New fault)) = IsDiff form word old_left new_left before after (Err fault)
-Differs form word old_left new_left before after (Ok done) = IsDiff form word old_left new_left before after (Ok done)
+-- The form, the word of the origin, what is known of the old zone's file and of the new one's, what the writer held before and after, how
+-- it went, and the writer's failures before and after: the old zone was refused, or not read, and the new one's file was let be; or
+-- else the new one's file was answered.
+abbrev pub Differs : DiffForm → List ℕ → InputOf → InputOf → Option (List ℕ) → Option (List ℕ) → Result (Unit {0}) DiffFault → ℕ → ℕ → Type 0
+Differs form word old new before after (Err (Old fault)) writes writes_after =
+    Answered old.left (old_text word) before after (Err fault) old.fine old.failed writes writes_after × new.fine
+Differs form word old new before after (Err (New fault)) writes writes_after = IsDiff form word old new before after (Err fault) writes writes_after
+Differs form word old new before after (Ok done) writes writes_after = IsDiff form word old new before after (Ok done) writes writes_after
 
 -- ---- where the items lead
 

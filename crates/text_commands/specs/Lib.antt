@@ -1,4 +1,5 @@
 pub mod Device
+pub mod Inputs
 pub mod Refusals
 pub mod LineFaults
 pub mod Replies
@@ -8,6 +9,8 @@ pub mod Apply
 pub mod PartViews
 pub mod Rights
 pub mod Explain
+pub mod ZoneCheck
+pub mod RightsCheck
 pub mod Check
 pub mod Guards
 pub mod GuardPromises

@@ -102,11 +102,11 @@ Makes left make made = (input : List ℕ) × IsAll left input × (make input ≡
 abbrev pub ReachesInput : {Y : Type 0} → (List ℕ → Result Y Refusal) → Type 0
 ReachesInput make = (input : List ℕ) → 4194304 < length input → make input ≡ Err TooLarge
 
--- What was known to be left to read, what is made of it, the answer, seen by view, and the reader's failures before and after:
--- seen so, it is what the definition makes of all that was left, unless the reader failed, before which nothing is refused, or
+-- What was known to be left to read, what is made of it, the answer, seen by view, that the input did not fail, and that it did:
+-- seen so, it is what the definition makes of all that was left, unless the input failed, before which nothing is refused, or
 -- memory ran out.
-abbrev pub GivesOf : {X Y : Type 0} → (X → Y) → Option (List ℕ) → (List ℕ → Result Y Refusal) → Result X LineFault → ℕ → ℕ → Type 0
-GivesOf view left make (Ok x) before after = Makes left make (Ok (view x)) × (after ≡ before)
-GivesOf view left make (Err (Refused refusal)) before after = Makes left make (Err refusal) × (after ≡ before)
-GivesOf view left make (Err NoMemory) before after = after ≡ before
-GivesOf view left make (Err ReadFailed) before after = (before < after) × ReachesInput make
+abbrev pub GivesOf : {X Y : Type 0} → (X → Y) → Option (List ℕ) → (List ℕ → Result Y Refusal) → Result X LineFault → Type 0 → Type 0 → Type 0
+GivesOf view left make (Ok x) fine failed = Makes left make (Ok (view x)) × fine
+GivesOf view left make (Err (Refused refusal)) fine failed = Makes left make (Err refusal) × fine
+GivesOf view left make (Err NoMemory) fine failed = fine
+GivesOf view left make (Err ReadFailed) fine failed = failed × ReachesInput make

@@ -26,6 +26,7 @@ use Rattle.text_commands.specs.LineFaults.{◌>>=◌, or_refused, limited, of_po
 use Rattle.text_commands.specs.Replies.{Answered}
 use Rattle.text_commands.specs.Parts.{divided}
 use Rattle.text_commands.specs.Apply.{zone_of_text, update_behind}
+use Rattle.text_commands.specs.Inputs.{InputOf}
 
 -- ---- who asks
 
@@ -96,24 +97,26 @@ plan_text asker input = limited input >>= plan_behind asker
 abbrev pub asker_text : List ℕ → List ℕ → Result (List ℕ) Refusal
 asker_text word input = asker_read word input >>= λ asker. Ok []
 
--- The word of the caller, what was left to read of the policy, what the writer held before and after, how it went, the reader's failures
--- before and after, and the writer's failures before and after: the caller and the policy that were read, and nothing is written; or
+-- The word of the caller, what was left to read of the policy, what the writer held before and after, how it went, that the input did not
+-- fail, that it did, and the writer's failures before and after: the caller and the policy that were read, and nothing is written; or
 -- their refusal is.
-abbrev pub IsAskerRead : List ℕ → Option (List ℕ) → Option (List ℕ) → Option (List ℕ) → Result Asker JobFault → ℕ → ℕ → ℕ → ℕ → Type 0
-IsAskerRead word left before after (Ok asker) reads reads_after writes writes_after = Makes left (asker_read word) (Ok (asker_in asker)) × (after ≡ before)
-IsAskerRead word left before after (Err fault) reads reads_after writes writes_after =
-    Answered left (asker_text word) before after (Err fault) reads reads_after writes writes_after
+abbrev pub IsAskerRead : List ℕ → Option (List ℕ) → Option (List ℕ) → Option (List ℕ) → Result Asker JobFault → Type 0 → Type 0 → ℕ → ℕ → Type 0
+IsAskerRead word left before after (Ok asker) fine failed writes writes_after =
+    Makes left (asker_read word) (Ok (asker_in asker)) × fine × (after ≡ before) × (writes_after ≡ writes)
+IsAskerRead word left before after (Err fault) fine failed writes writes_after =
+    Answered left (asker_text word) before after (Err fault) fine failed writes writes_after
 
 -- what is answered to the zone and its update, where the policy was read
-abbrev pub IsAnswered : List ℕ → Option (List ℕ) → Option (List ℕ) → Option (List ℕ) → Option (List ℕ) → Result (Unit {0}) JobFault → Type 0
-IsAnswered word policy_left input_left before after result =
-    (asker : AskerOf) × Makes policy_left (asker_read word) (Ok asker)
-    × (failed_reads : ℕ) × (failed_writes : ℕ) × Answered input_left (plan_text asker) before after result 0 failed_reads 0 failed_writes
+abbrev pub IsAnswered : List ℕ → InputOf → InputOf → Option (List ℕ) → Option (List ℕ) → Result (Unit {0}) JobFault → ℕ → ℕ → Type 0
+IsAnswered word policy input before after result writes writes_after =
+    (asker : AskerOf) × Makes policy.left (asker_read word) (Ok asker) × policy.fine
+    × Answered input.left (plan_text asker) before after result input.fine input.failed writes writes_after
 
--- The word of the caller, what was left to read of the policy and of the other input, what the writer held before and after, and how it
--- went: the policy was refused, or not read; or else the input was answered by it.
-abbrev pub IsPlanned : List ℕ → Option (List ℕ) → Option (List ℕ) → Option (List ℕ) → Option (List ℕ) → Result (Unit {0}) PlanFault → Type 0
-IsPlanned word policy_left input_left before after (Err (Policy fault)) =
-    (failed_reads : ℕ) × (failed_writes : ℕ) × Answered policy_left (asker_text word) before after (Err fault) 0 failed_reads 0 failed_writes
-IsPlanned word policy_left input_left before after (Err (Input fault)) = IsAnswered word policy_left input_left before after (Err fault)
-IsPlanned word policy_left input_left before after (Ok done) = IsAnswered word policy_left input_left before after (Ok done)
+-- The word of the caller, what is known of the policy and of the other input, what the writer held before and after, how it went, and the
+-- writer's failures before and after: the policy was refused, or not read, and the other input was let be; or else the input was
+-- answered by it.
+abbrev pub IsPlanned : List ℕ → InputOf → InputOf → Option (List ℕ) → Option (List ℕ) → Result (Unit {0}) PlanFault → ℕ → ℕ → Type 0
+IsPlanned word policy input before after (Err (Policy fault)) writes writes_after =
+    Answered policy.left (asker_text word) before after (Err fault) policy.fine policy.failed writes writes_after × input.fine
+IsPlanned word policy input before after (Err (Input fault)) writes writes_after = IsAnswered word policy input before after (Err fault) writes writes_after
+IsPlanned word policy input before after (Ok done) writes writes_after = IsAnswered word policy input before after (Ok done) writes writes_after

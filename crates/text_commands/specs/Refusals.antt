@@ -16,7 +16,7 @@ use Rattle.grant_policy.specs.declared.policy_fault.PolicyFault.{PolicyFault}
 use Rattle.grant_policy.specs.declared.policy_fault.PolicyFault.TheVariants as of_policy
 use Rattle.grant_policy.specs.Faults.{fault_number as policy_number}
 use Rattle.text_commands.specs.declared.refusal.Refusal.{Refusal}
-use Rattle.text_commands.specs.declared.refusal.Refusal.TheVariants.{Name, TypeNotKept, NoCaller, NoAction, TooLarge, NoDivider, Master, Zone, Policy, Items, Unmet, UnknownNumber, NoIdentifier, BodyTooLarge, Store}
+use Rattle.text_commands.specs.declared.refusal.Refusal.TheVariants.{Name, TypeNotKept, NoCaller, NoAction, NoRule, TooLarge, NoDivider, Master, Zone, Policy, Items, Unmet, UnknownNumber, NoIdentifier, BodyTooLarge, Store}
 
 -- ---- numbers: that of a refusal, and behind it that of the refusal within it
 
@@ -37,6 +37,7 @@ refusal_number (Name fault) = name_number fault
 refusal_number TypeNotKept = 17
 refusal_number NoCaller = 54
 refusal_number NoAction = 54
+refusal_number NoRule = 54
 refusal_number TooLarge = 30
 refusal_number NoDivider = 96
 refusal_number UnknownNumber = 98

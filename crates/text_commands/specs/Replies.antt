@@ -60,24 +60,24 @@ reply (Err refusal) = refused_line refusal
 abbrev pub IsShortReply : Option (List ℕ) → (List ℕ → Result (List ℕ) Refusal) → List ℕ → Type 0
 IsShortReply left answer text = (text ≡ line_of NoMemory) ⊎ ((whole : List ℕ) × Makes left answer (Ok whole) × IsCutShort whole text)
 
--- a text that is to be written where this was left to read, and the reader's failures are these before and after
-abbrev pub IsReply : Option (List ℕ) → (List ℕ → Result (List ℕ) Refusal) → ℕ → ℕ → List ℕ → Type 0
-IsReply left answer reads reads_after text =
-    (((made : Result (List ℕ) Refusal) × Makes left answer made × (text ≡ reply made)) × (reads_after ≡ reads))
-    ⊎ (((text ≡ line_of ReadFailed) × (reads < reads_after) × ReachesInput answer)
-    ⊎ (IsShortReply left answer text × (reads_after ≡ reads)))
+-- a text that is to be written where this was left to read, that the input did not fail, and that it did
+abbrev pub IsReply : Option (List ℕ) → (List ℕ → Result (List ℕ) Refusal) → Type 0 → Type 0 → List ℕ → Type 0
+IsReply left answer fine failed text =
+    (((made : Result (List ℕ) Refusal) × Makes left answer made × (text ≡ reply made)) × fine)
+    ⊎ (((text ≡ line_of ReadFailed) × failed × ReachesInput answer)
+    ⊎ (IsShortReply left answer text × fine))
 
--- What was left to read, what is answered to it, what the writer held before and after, how the job went, the reader's failures
--- before and after, and the writer's failures before and after. A failed write leaves a prefix of what was to be written; else it
--- is all written.
-abbrev pub Answered : Option (List ℕ) → (List ℕ → Result (List ℕ) Refusal) → Option (List ℕ) → Option (List ℕ) → Result (Unit {0}) JobFault → ℕ → ℕ → ℕ → ℕ → Type 0
-Answered left answer old new (Ok done) reads reads_after writes writes_after =
-    ((text : List ℕ) × Makes left answer (Ok text) × Appends old new text) × (reads_after ≡ reads) × (writes_after ≡ writes)
-Answered left answer old new (Err (Reported (Refused refusal))) reads reads_after writes writes_after =
-    Makes left answer (Err refusal) × Appends old new (refused_line refusal) × (reads_after ≡ reads) × (writes_after ≡ writes)
-Answered left answer old new (Err (Reported ReadFailed)) reads reads_after writes writes_after =
-    Appends old new (line_of ReadFailed) × (reads < reads_after) × ReachesInput answer × (writes_after ≡ writes)
-Answered left answer old new (Err (Reported NoMemory)) reads reads_after writes writes_after =
-    ((text : List ℕ) × IsShortReply left answer text × Appends old new text) × (reads_after ≡ reads) × (writes_after ≡ writes)
-Answered left answer old new (Err WriteFailed) reads reads_after writes writes_after =
-    ((text : List ℕ) × IsReply left answer reads reads_after text × AppendsFront old new text) × (writes < writes_after)
+-- What was left to read, what is answered to it, what the writer held before and after, how the job went, that the input did not fail,
+-- that it did, and the writer's failures before and after. A failed write leaves a prefix of what was to be written; else it is all
+-- written.
+abbrev pub Answered : Option (List ℕ) → (List ℕ → Result (List ℕ) Refusal) → Option (List ℕ) → Option (List ℕ) → Result (Unit {0}) JobFault → Type 0 → Type 0 → ℕ → ℕ → Type 0
+Answered left answer old new (Ok done) fine failed writes writes_after =
+    ((text : List ℕ) × Makes left answer (Ok text) × Appends old new text) × fine × (writes_after ≡ writes)
+Answered left answer old new (Err (Reported (Refused refusal))) fine failed writes writes_after =
+    Makes left answer (Err refusal) × Appends old new (refused_line refusal) × fine × (writes_after ≡ writes)
+Answered left answer old new (Err (Reported ReadFailed)) fine failed writes writes_after =
+    Appends old new (line_of ReadFailed) × failed × ReachesInput answer × (writes_after ≡ writes)
+Answered left answer old new (Err (Reported NoMemory)) fine failed writes writes_after =
+    ((text : List ℕ) × IsShortReply left answer text × Appends old new text) × fine × (writes_after ≡ writes)
+Answered left answer old new (Err WriteFailed) fine failed writes writes_after =
+    ((text : List ℕ) × IsReply left answer fine failed text × AppendsFront old new text) × (writes < writes_after)

@@ -7,13 +7,14 @@ ghost use Rattle.text_commands.specs.Replies.{IsPrinted};
 ghost use Rattle.text_commands.specs.PartViews.{parts_in, records_in, update_in};
 ghost use Rattle.text_commands.specs.Apply.{origin_of, zone_of_records, records_of, line_ends, update_behind, first_unmet, zone_lines, updated, text_after, apply_text};
 
-use crate::device::{ended, read_input, write_refusal};
+use crate::device::{ended, write_refusal};
+use crate::input::{Input, read_input};
 use crate::line_fault::{JobFault, LineFault};
 use crate::parts::{InputParts, divided};
 use crate::refusal::Refusal;
 use crate::task::Task;
 use dns_data::{Data, Record};
-use dns_master::{Sink, Source, print_records, read_file};
+use dns_master::{Sink, print_records, read_file};
 use dns_names::Name;
 use item_lines::{ItemsFault, read_items};
 use std::alloc::Global;
@@ -141,8 +142,8 @@ fn zone_after(alloc: Global, input: Vec<u8>) -> Result<Zone, LineFault>
 }
 
 /// The zone that what a reader gives has after its update.
-fn read_updated<R: Source>(alloc: Global, reader: &mut R) -> Result<Zone, LineFault>
-    ensures { GivesOf zone_lines (R.remaining reader.old) apply_text result (R.failures reader.old) (R.failures reader.new) }
+fn read_updated<R: Input>(alloc: Global, reader: &mut R) -> Result<Zone, LineFault>
+    ensures { GivesOf zone_lines (R.left reader.old) apply_text result (R.fine reader.old reader.new) (R.failed reader.old reader.new) }
 {
     let input = read_input(alloc, reader)?;
     zone_after(alloc, input)
@@ -168,7 +169,7 @@ impl Task for Apply {
 
     ghost answer = { λ _. apply_text };
 
-    fn run<R: Source, W: Sink>(
+    fn run<R: Input, W: Sink>(
         self,
         alloc: Global,
         reader: &mut R,

@@ -8,12 +8,13 @@ ghost use Rattle.text_commands.specs.Replies.{IsPrinted};
 ghost use Rattle.text_commands.specs.Canon.{zone_of_file, zone_read, zone_text_in, text_of_zone};
 ghost use Rattle.dns_master.specs.Device.{TextWritten};
 
-use crate::device::{ended, read_input, write_refusal};
+use crate::device::{ended, write_refusal};
+use crate::input::{Input, read_input};
 use crate::line_fault::{JobFault, LineFault};
 use crate::task::Task;
 use command_line::ZoneForm;
 use dns_data::Record;
-use dns_master::{MasterFault, Sink, Source, print_relative_zone, print_zone, read_file};
+use dns_master::{MasterFault, Sink, print_relative_zone, print_zone, read_file};
 use dns_names::Name;
 use std::alloc::Global;
 use zone_core::Zone;
@@ -41,8 +42,8 @@ pub(crate) fn zone_of_file(alloc: Global, origin: Name, text: Vec<u8>) -> Result
 }
 
 /// The zone of a word that is its origin, and a reader that gives its master file.
-pub fn read_zone<R: Source>(alloc: Global, origin: &str, reader: &mut R) -> Result<Zone, LineFault>
-    ensures { GivesOf (λ zone. zone) (R.remaining reader.old) (zone_read origin.now) result (R.failures reader.old) (R.failures reader.new) }
+pub fn read_zone<R: Input>(alloc: Global, origin: &str, reader: &mut R) -> Result<Zone, LineFault>
+    ensures { GivesOf (λ zone. zone) (R.left reader.old) (zone_read origin.now) result (R.fine reader.old reader.new) (R.failed reader.old reader.new) }
 {
     let origin = read_name(alloc, origin)?;
     let text = read_input(alloc, reader)?;
@@ -95,7 +96,7 @@ impl Task for Canon<'_> {
 
     ghost answer = { λ c. canon_text c.form c.origin.now };
 
-    fn run<R: Source, W: Sink>(
+    fn run<R: Input, W: Sink>(
         self,
         alloc: Global,
         reader: &mut R,

@@ -1,30 +1,39 @@
-//! What is true of a policy whatever is asked: which of its rules never decide, and whether a caller is isolated.
+//! What is true of a policy whatever is asked: which of its rules never decide, whether a caller is isolated, and who may do what. And what
+//! is wrong in a zone.
 
-ghost use Rattle.std.specs.Prelude.{◌≡◌, ◌++◌, ◌<◌, ℕ, IfOk, OnOk, decimal};
+ghost use Rattle.std.specs.Prelude.{◌≡◌, ◌++◌, ◌<◌, ℕ, IfOk, OnOk, decimal, option_map};
+ghost use Rattle.text_commands.specs.RightsCheck.{IsRightsText};
 ghost use Rattle.dns_names.specs.Spelling.{name_text};
 ghost use Rattle.text_commands.specs.LineFaults.{Gives, GivesOf};
-ghost use Rattle.text_commands.specs.Check.{rules_in, caller_in, checking_of, checked_read, checking_in, id_text, idle_head, idle_line, idle_text, findings_of, IsReport, right_text, other_text, exposure_line, isolation_line, exposures_of, IsIsolationReport, IsReportOn, Reports, Checked};
+ghost use Rattle.text_commands.specs.Check.{rules_in, name_if, asked_in, checking_of, checked_read, id_text, idle_head, idle_line, idle_text, findings_of, IsReport, right_text, other_text, exposure_line, isolation_line, exposures_of, IsIsolationReport, IsReportOn, Reports, Checked};
 
-use crate::device::{read_input, write_refusal, write_text};
+use crate::canon::{read_name, zone_of_file};
+use crate::device::{write_refusal, write_text};
+use crate::input::{Input, read_input};
 use crate::line_fault::{JobFault, LineFault};
 use crate::rights::read_caller;
-use dns_master::{Counted, Sink, Source};
+use crate::rights_check::rights_list;
+use crate::zone_check::{RuleFilter, filter_of, zone_report};
+use command_line::RuleChoice;
+use dns_master::Sink;
 use dns_names::Name;
 use grant_policy::{
     Exposure, Identifier, IdleRule, Policy, Right, Rule, idle_rules, isolation, read_policy,
 };
 use std::alloc::{AllocError, Global};
-use std::io::{Read, Write};
-use std::marker::Brand;
-use std::sync::ledger::{Blank, Ledger};
+use zone_core::Zone;
 
-/// What is checked of a policy.
+/// What is checked.
 #[derive(Clone, Copy)]
 pub enum Subject<'a> {
     /// Which of its rules never decide.
     Rules,
     /// Whether the caller that this word names is isolated.
     Isolation(&'a str),
+    /// Who may do what, at the name that this word is, or at all names.
+    Rights(Option<&'a str>),
+    /// What other name servers refuse or warn of in the zone of this origin, by these rules.
+    Zone(&'a str, RuleChoice<'a>),
 }
 
 /// Whether a check found something.
@@ -36,27 +45,58 @@ pub enum Findings {
     Present,
 }
 
-/// A policy to check, and whose isolation, if it is that.
+/// What is asked of an input, by words that were read.
 #[derive(Drop)]
-struct Checking {
-    caller: Option<Identifier>,
-    policy: Policy,
+enum Asked {
+    Rules,
+    Isolation(Identifier),
+    Rights(Option<Name>),
+    Zone(Name, RuleFilter),
+}
+
+/// What is checked, of an input that was read.
+#[derive(Drop)]
+enum Checking {
+    Rules(Policy),
+    Isolation(Identifier, Policy),
+    Rights(Option<Name>, Policy),
+    Zone(Zone, RuleFilter),
 }
 
 /// What a check found, and the text that tells it.
 #[derive(Drop)]
-struct Report {
-    findings: Findings,
-    text: Vec<u8>,
+pub(crate) struct Report {
+    pub(crate) findings: Findings,
+    pub(crate) text: Vec<u8>,
 }
 
-/// The caller whose isolation is checked, if it is one.
-fn caller_in(alloc: Global, subject: Subject<'_>) -> Result<Option<Identifier>, LineFault>
-    ensures { Gives (λ caller. caller) result (caller_in subject.entry) }
+/// The name that a word is, if one is given.
+fn name_if(alloc: Global, word: Option<&str>) -> Result<Option<Name>, LineFault>
+    ensures { Gives (λ name. name) result (name_if (option_map (λ w. w.now) word.entry)) }
+{
+    match word {
+        None => Ok(None),
+        Some(word) => Ok(Some(read_name(alloc, word)?)),
+    }
+}
+
+/// The origin and the rules of a zone to check. The refusal of the rules comes first.
+fn zone_asked(alloc: Global, origin: &str, rules: RuleChoice<'_>) -> Result<Asked, LineFault>
+    ensures { Gives (λ wanted. wanted) result (asked_in (Subject.Zone origin.entry rules.entry)) }
+{
+    let filter = filter_of(rules)?;
+    Ok(Asked::Zone(read_name(alloc, origin)?, filter))
+}
+
+/// What words ask for.
+fn asked_in(alloc: Global, subject: Subject<'_>) -> Result<Asked, LineFault>
+    ensures { Gives (λ wanted. wanted) result (asked_in subject.entry) }
 {
     match subject {
-        Subject::Rules => Ok(None),
-        Subject::Isolation(word) => Ok(Some(read_caller(alloc, word)?)),
+        Subject::Rules => Ok(Asked::Rules),
+        Subject::Isolation(word) => Ok(Asked::Isolation(read_caller(alloc, word)?)),
+        Subject::Rights(word) => Ok(Asked::Rights(name_if(alloc, word)?)),
+        Subject::Zone(origin, rules) => zone_asked(alloc, origin, rules),
     }
 }
 
@@ -67,29 +107,31 @@ fn policy_in(alloc: Global, text: Vec<u8>) -> Result<Policy, LineFault>
     Ok(read_policy(alloc, &text)?)
 }
 
-/// The same, with the caller whose isolation is checked.
-fn checking_of(
-    alloc: Global,
-    caller: Option<Identifier>,
-    text: Vec<u8>,
-) -> Result<Checking, LineFault>
-    ensures { Gives checking_in result (checking_of caller text.items) }
+/// What is checked, of the text of an input.
+fn checking_of(alloc: Global, wanted: Asked, text: Vec<u8>) -> Result<Checking, LineFault>
+    ensures { Gives (λ checking. checking) result (checking_of wanted text.items) }
 {
-    let policy = policy_in(alloc, text)?;
-    Ok(Checking { caller, policy })
+    match wanted {
+        Asked::Rules => Ok(Checking::Rules(policy_in(alloc, text)?)),
+        Asked::Isolation(caller) => Ok(Checking::Isolation(caller, policy_in(alloc, text)?)),
+        Asked::Rights(name) => Ok(Checking::Rights(name, policy_in(alloc, text)?)),
+        Asked::Zone(origin, filter) => {
+            Ok(Checking::Zone(zone_of_file(alloc, origin, text)?, filter))
+        }
+    }
 }
 
-/// What is checked, of the policy that a reader gives. The refusal of the caller comes before those of the policy.
-fn checked_read<R: Source>(
+/// What is checked, of what a reader gives. The refusals of the words come before those of the input.
+fn checked_read<R: Input>(
     alloc: Global,
     subject: Subject<'_>,
     reader: &mut R,
 ) -> Result<Checking, LineFault>
-    ensures { GivesOf checking_in (R.remaining reader.old) (checked_read subject.entry) result (R.failures reader.old) (R.failures reader.new) }
+    ensures { GivesOf (λ checking. checking) (R.left reader.old) (checked_read subject.entry) result (R.fine reader.old reader.new) (R.failed reader.old reader.new) }
 {
-    let caller = caller_in(alloc, subject)?;
+    let wanted = asked_in(alloc, subject)?;
     let text = read_input(alloc, reader)?;
-    checking_of(alloc, caller, text)
+    checking_of(alloc, wanted, text)
 }
 
 /// Appends a space, and the id of the rule of a place.
@@ -252,36 +294,53 @@ fn isolation_report(
     Ok(Report { findings, text })
 }
 
+/// What is printed of the rights of callers. The only error is out of memory.
+fn rights_report(alloc: Global, policy: &Policy, name: &Option<Name>) -> Result<Report, AllocError>
+    ensures { IfOk result (λ report. IsRightsText name.now policy.now report.text.items × (report.findings ≡ Findings.Absent)) }
+{
+    let text = rights_list(alloc, policy, name)?;
+    Ok(Report {
+        findings: Findings::Absent,
+        text,
+    })
+}
+
 /// The report on what is checked. The only error is out of memory.
 fn report_on(alloc: Global, checking: &Checking) -> Result<Report, AllocError>
-    ensures { IfOk result (λ report. IsReportOn (checking_in checking.now) report.findings report.text.items) }
+    ensures { IfOk result (λ report. IsReportOn checking.now report.findings report.text.items) }
 {
-    match &checking.caller {
-        None => rules_report(alloc, &checking.policy),
-        Some(caller) => isolation_report(alloc, &checking.policy, caller),
+    match checking {
+        Checking::Rules(policy) => rules_report(alloc, policy),
+        Checking::Isolation(caller, policy) => isolation_report(alloc, policy, caller),
+        Checking::Rights(name, policy) => rights_report(alloc, policy, name),
+        Checking::Zone(zone, rules) => zone_report(alloc, zone, *rules),
     }
 }
 
 /// The report on the policy that a reader gives.
-fn report_read<R: Source>(
+fn report_read<R: Input>(
     alloc: Global,
     subject: Subject<'_>,
     reader: &mut R,
 ) -> Result<Report, LineFault>
-    ensures { Reports subject.entry (R.remaining reader.old) result (R.failures reader.old) (R.failures reader.new) }
+    ensures { Reports subject.entry (R.left reader.old) result (R.fine reader.old reader.new) (R.failed reader.old reader.new) }
 {
     let checking = checked_read(alloc, subject, reader)?;
     Ok(report_on(alloc, &checking)?)
 }
 
-/// Reads a policy, and writes the report on it. Otherwise one line tells the refusal that comes first: of the caller, of the policy.
-fn check_policy<R: Source, W: Sink>(
+/// Checks the policy that an input is. Of the rules, what is written is a line for each that never decides, in order: `idle`, its place
+/// from 0, its id, and the ids of the rules that take its questions. Of the isolation of a caller it is `isolated`, or what keeps the
+/// caller from that: `soa`, a name, and a type, an action and a rule by which the caller may see an SOA there; or `shared`, a name, what
+/// the caller may do there, another caller or `*` for any that no rule names, and what that one may do. Otherwise one line tells the
+/// refusal that comes first: of the caller, that the policy is too large, or what is wrong in it.
+pub fn do_check<R: Input, W: Sink>(
     alloc: Global,
     subject: Subject<'_>,
     reader: &mut R,
     writer: &mut W,
 ) -> Result<Findings, JobFault>
-    ensures { Checked subject.entry (R.remaining reader.old) (W.contents writer.old) (W.contents writer.new) result (R.failures reader.old) (R.failures reader.new) (W.failures writer.old) (W.failures writer.new) }
+    ensures { Checked subject.entry (R.left reader.old) (W.contents writer.old) (W.contents writer.new) result (R.fine reader.old reader.new) (R.failed reader.old reader.new) (W.failures writer.old) (W.failures writer.new) }
 {
     match report_read(alloc, subject, reader) {
         Ok(report) => {
@@ -293,44 +352,4 @@ fn check_policy<R: Source, W: Sink>(
             unreachable!()
         }
     }
-}
-
-/// The same, with a reader and a writer of std, whose failures are counted; the writer is handed back.
-fn counted<R: Read + Drop, W: Write + Drop, A: Ledger, B: Ledger>(
-    alloc: Global,
-    subject: Subject<'_>,
-    reader: R,
-    writer: W,
-    reads: Blank,
-    writes: Blank,
-) -> (W, Result<Findings, JobFault>)
-    requires reads_name { reads.name ≡ A.name }
-    requires reads_parts { reads.parts ≡ A.parts }
-    requires reads_some { 0 < reads.parts }
-    requires writes_name { writes.name ≡ B.name }
-    requires writes_parts { writes.parts ≡ B.parts }
-    requires writes_some { 0 < writes.parts }
-    ensures { (failed_reads : ℕ) × (failed_writes : ℕ) × Checked subject.entry (R.remaining reader) (W.contents writer) (W.contents result.0) result.1 0 failed_reads 0 failed_writes }
-{
-    let mut source: Counted<R, A> = Counted::new(reader, reads);
-    let mut sink: Counted<W, B> = Counted::new(writer, writes);
-    let outcome = check_policy(alloc, subject, &mut source, &mut sink);
-    (sink.into_inner(), outcome)
-}
-
-/// Checks the policy that a reader of std gives, and hands the writer back. Of the rules, what is written is a line for each that never
-/// decides, in order: `idle`, its place from 0, its id, and the ids of the rules that take its questions. Of the isolation of a caller
-/// it is `isolated`, or what keeps the caller from that: `soa`, a name, and a type, an action and a rule by which the caller may see
-/// an SOA there; or `shared`, a name, what the caller may do there, another caller or `*` for any that no rule names, and what that one
-/// may do. Otherwise one line tells the refusal that comes first: of the caller, that the policy is too large, or what is wrong in it.
-pub fn do_check<R: Read + Drop, W: Write + Drop>(
-    alloc: Global,
-    subject: Subject<'_>,
-    reader: R,
-    writer: W,
-) -> (W, Result<Findings, JobFault>)
-    ensures { (failed_reads : ℕ) × (failed_writes : ℕ) × Checked subject.entry (R.remaining reader) (W.contents writer) (W.contents result.0) result.1 0 failed_reads 0 failed_writes }
-{
-    let (reads, writes) = (Blank::new(1), Blank::new(1));
-    counted::<_, _, Brand, Brand>(alloc, subject, reader, writer, reads, writes)
 }

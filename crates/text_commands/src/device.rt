@@ -1,6 +1,6 @@
 //! Reading all of an input, and writing a text or the line of a fault.
 
-ghost use Rattle.std.specs.Prelude.{◌≡◌, ℕ, List, Option, string_bytes, IfOk};
+ghost use Rattle.std.specs.Prelude.{◌≡◌, ◌<◌, ℕ, List, Option, string_bytes, IfOk};
 ghost use Rattle.dns_master.specs.Device.{TextWritten};
 ghost use Rattle.text_commands.specs.LineFaults.{GivesOf, limited};
 ghost use Rattle.text_commands.specs.Refusals.{refused_line};
@@ -12,14 +12,14 @@ use dns_master::{DeviceFailed, MasterFault, Sink, Source, write_all};
 use std::alloc::{AllocError, Global};
 
 /// The most octets of an input.
-const INPUT_MAX: usize = 4_194_304;
+pub(crate) const INPUT_MAX: usize = 4_194_304;
 
 /// How many octets are read at a time.
 const PIECE: usize = 65_536;
 
 /// All octets that a reader gives. More than 4,194,304 are `TooLarge`.
-pub fn read_input<R: Source>(alloc: Global, reader: &mut R) -> Result<Vec<u8>, LineFault>
-    ensures { GivesOf (λ input. input.items) (R.remaining reader.old) limited result (R.failures reader.old) (R.failures reader.new) }
+pub(crate) fn read_device<R: Source>(alloc: Global, reader: &mut R) -> Result<Vec<u8>, LineFault>
+    ensures { GivesOf (λ input. input.items) (R.remaining reader.old) limited result (R.failures reader.new ≡ R.failures reader.old) (R.failures reader.old < R.failures reader.new) }
 {
     let mut input = Vec::new(alloc);
     let mut piece = vec![in alloc; 0u8; PIECE]?;

@@ -6,6 +6,7 @@ ghost use Rattle.text_commands.specs.LineFaults.{Gives};
 ghost use Rattle.text_commands.specs.Explain.{rows_asked, rows_text, explain_made, explain_text};
 
 use crate::device::{write_refusal, write_text};
+use crate::input::Input;
 use crate::line_fault::{JobFault, LineFault};
 use crate::refusal::Refusal;
 use crate::refusal_number::{all_rows, explained};
@@ -13,7 +14,7 @@ use crate::refusal_row::RefusalRow;
 use crate::refusal_text::{json_text, plain_text};
 use crate::task::Task;
 use command_line::TextForm;
-use dns_master::{Sink, Source};
+use dns_master::Sink;
 use std::alloc::{AllocError, Global};
 
 /// The rows of a number that the program prints, and all where none is given.
@@ -60,7 +61,7 @@ pub struct Explain<'a> {
 impl Task for Explain<'_> {
     ghost answer = { λ asked. explain_text (option_map (λ n. n.now) asked.number) asked.form };
 
-    fn run<R: Source, W: Sink>(
+    fn run<R: Input, W: Sink>(
         self,
         alloc: Global,
         _reader: &mut R,

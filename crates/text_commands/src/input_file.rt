@@ -1,33 +1,31 @@
 //! The file of an input.
 
+ghost use Rattle.std.specs.Prelude.{None, ⊤};
+ghost use Rattle.text_commands.specs.LineFaults.{GivesOf, limited};
+
+use crate::device::INPUT_MAX;
+use crate::line_fault::LineFault;
+use crate::refusal::Refusal;
 use std::fs::{self, File};
-use std::io::{self, ErrorKind, Read, Stdin};
+use std::io::{self, ErrorKind, Read};
 
-/// A file that an input is read from, or standard input. A file need not be there: then the first read fails.
-#[derive(Drop)]
-pub enum InputFile {
-    /// Standard input.
-    Standard(Stdin),
-    /// The file of a path.
-    Named(io::Result<File>),
+/// As many octets of a file as tell whether it is too large.
+fn beginning(rt: &HostRuntime, path: &str) -> io::Result<Vec<u8>> {
+    let file: File = fs::open(rt, path)?;
+    let mut octets = Vec::new(rt.alloc());
+    file.take(INPUT_MAX as u64 + 1).read_to_end(&mut octets)?;
+    Ok(octets)
 }
 
-impl InputFile {
-    /// The file of a path, opened to be read, and standard input where the path is `-`.
-    pub fn open(rt: &HostRuntime, path: &str) -> InputFile {
-        if path == "-" {
-            return InputFile::Standard(rt.stdin());
-        }
-        InputFile::Named(fs::open(rt, path))
-    }
-}
-
-impl Read for InputFile {
-    fn read(&mut self, buffer: &mut [u8]) -> io::Result<usize> {
-        match self {
-            InputFile::Standard(input) => input.read(buffer),
-            InputFile::Named(Ok(file)) => file.read(buffer),
-            InputFile::Named(Err(_)) => Err(io::Error::from(ErrorKind::NotFound)),
-        }
+/// All octets of the file of a path. More than 4,194,304 are `TooLarge`, and `ReadFailed` comes where it cannot be opened or read. No
+/// contract can say what it holds.
+pub fn read_path(rt: &HostRuntime, path: &str) -> Result<Vec<u8>, LineFault>
+    ensures { GivesOf (λ octets. octets.items) None limited result ⊤ ⊤ }
+{
+    match beginning(rt, path) {
+        Ok(octets) if octets.len() > INPUT_MAX => Err(LineFault::Refused(Refusal::TooLarge)),
+        Ok(octets) => Ok(octets),
+        Err(fault) if fault.kind() == ErrorKind::OutOfMemory => Err(LineFault::NoMemory),
+        Err(_) => Err(LineFault::ReadFailed),
     }
 }

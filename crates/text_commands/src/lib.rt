@@ -11,13 +11,13 @@ mod diff;
 mod diff_fault;
 mod explain;
 mod guard;
+mod input;
 mod input_file;
 mod laws;
 mod line_fault;
 mod parts;
 mod plan;
 mod plan_fault;
-mod policy_file;
 mod refusal;
 mod refusal_number;
 mod refusal_row;
@@ -25,16 +25,19 @@ mod refusal_table;
 mod refusal_text;
 mod request;
 mod rights;
+mod rights_check;
 mod task;
+mod zone_check;
 
 pub use apply::Apply;
 pub use canon::{Canon, print_zone_in, read_name, read_zone};
 pub use check::{Findings, Subject, do_check};
-pub use device::{ended, read_input, write_refusal, write_text};
+pub use device::{ended, write_refusal, write_text};
 pub use diff::do_diff;
 pub use diff_fault::DiffFault;
 pub use explain::Explain;
-pub use input_file::InputFile;
+pub use input::Input;
+pub use input_file::read_path;
 pub use laws::{
     diffs_are_guarded, diffs_lead, numbers_are_apart, rows_are_of_their_number, text_is_divided,
     texts_are_plain, zones_are_read_again,
@@ -42,10 +45,9 @@ pub use laws::{
 pub use line_fault::{JobFault, LineFault, NO_MEMORY_LINE};
 pub use plan::do_plan;
 pub use plan_fault::PlanFault;
-pub use policy_file::PolicyFile;
 pub use refusal::{Refusal, RefusalLine};
 pub use refusal_number::{all_rows, explained};
 pub use refusal_row::{Kind, NumberPlace, RefusalRow};
 pub use refusal_text::{json_text, plain_text};
 pub use request::Request;
-pub use task::{Task, do_task};
+pub use task::Task;

@@ -8,21 +8,19 @@ ghost use Rattle.text_commands.specs.LineFaults.{Gives, GivesOf};
 ghost use Rattle.text_commands.specs.Plan.{asker_in, asker_of, asker_read, reply_line, signed_lines, change_lines, serial_line, planned, plan_behind, plan_text, IsAskerRead, IsPlanned};
 
 use crate::apply::{InputRead, read_parts, zone_of_records};
-use crate::device::{read_input, write_refusal, write_text};
+use crate::device::{write_refusal, write_text};
+use crate::input::{Input, read_input};
 use crate::line_fault::{JobFault, LineFault};
 use crate::plan_fault::PlanFault;
 use crate::rights::read_caller;
-use crate::task::{Task, do_task};
+use crate::task::Task;
 use dns_data::Record;
-use dns_master::{Counted, Sink, Source};
+use dns_master::Sink;
 use grant_policy::{Identifier, Policy, read_policy};
 use office_core::{UpdateReply, plan};
 use office_rows::reply_words;
 use std::alloc::{AllocError, Global};
 use std::fmt::Write as _;
-use std::io::{Read, Write};
-use std::marker::Brand;
-use std::sync::ledger::{Blank, Ledger};
 use zone_core::{Change, Update, Zone, apply_owned};
 
 /// Who asks, and the policy that decides.
@@ -41,8 +39,8 @@ fn asker_of(alloc: Global, caller: Identifier, text: &[u8]) -> Result<Asker, Lin
 }
 
 /// The caller that a word is, and the policy that a reader gives.
-fn read_asker<R: Source>(alloc: Global, caller: &str, reader: &mut R) -> Result<Asker, LineFault>
-    ensures { GivesOf asker_in (R.remaining reader.old) (asker_read caller.now) result (R.failures reader.old) (R.failures reader.new) }
+fn read_asker<R: Input>(alloc: Global, caller: &str, reader: &mut R) -> Result<Asker, LineFault>
+    ensures { GivesOf asker_in (R.left reader.old) (asker_read caller.now) result (R.fine reader.old reader.new) (R.failed reader.old reader.new) }
 {
     let caller = read_caller(alloc, caller)?;
     let text = read_input(alloc, reader)?;
@@ -117,8 +115,8 @@ fn plan_behind(alloc: Global, asker: &Asker, input: Vec<u8>) -> Result<String, L
 }
 
 /// The same of what a reader gives.
-fn answer<R: Source>(alloc: Global, asker: &Asker, reader: &mut R) -> Result<String, LineFault>
-    ensures { GivesOf string_bytes (R.remaining reader.old) (plan_text (asker_in asker.now)) result (R.failures reader.old) (R.failures reader.new) }
+fn answer<R: Input>(alloc: Global, asker: &Asker, reader: &mut R) -> Result<String, LineFault>
+    ensures { GivesOf string_bytes (R.left reader.old) (plan_text (asker_in asker.now)) result (R.fine reader.old reader.new) (R.failed reader.old reader.new) }
 {
     let input = read_input(alloc, reader)?;
     plan_behind(alloc, asker, input)
@@ -129,7 +127,7 @@ fn answer<R: Source>(alloc: Global, asker: &Asker, reader: &mut R) -> Result<Str
 impl Task for Asker {
     ghost answer = { λ a. plan_text (asker_in a) };
 
-    fn run<R: Source, W: Sink>(
+    fn run<R: Input, W: Sink>(
         self,
         alloc: Global,
         reader: &mut R,
@@ -146,13 +144,13 @@ impl Task for Asker {
 }
 
 /// The caller of a word, and the policy that a reader gives. On a failure, a line tells why.
-fn first_asker<R: Source, W: Sink>(
+fn first_asker<R: Input, W: Sink>(
     alloc: Global,
     caller: &str,
     reader: &mut R,
     writer: &mut W,
 ) -> Result<Asker, JobFault>
-    ensures { IsAskerRead caller.now (R.remaining reader.old) (W.contents writer.old) (W.contents writer.new) result (R.failures reader.old) (R.failures reader.new) (W.failures writer.old) (W.failures writer.new) }
+    ensures { IsAskerRead caller.now (R.left reader.old) (W.contents writer.old) (W.contents writer.new) result (R.fine reader.old reader.new) (R.failed reader.old reader.new) (W.failures writer.old) (W.failures writer.new) }
 {
     match read_asker(alloc, caller, reader) {
         Ok(asker) => Ok(asker),
@@ -163,68 +161,26 @@ fn first_asker<R: Source, W: Sink>(
     }
 }
 
-/// The word of the command line that is the caller.
-#[derive(Clone, Copy)]
-struct CallerWord<'a>(&'a str);
-
-/// The same, with a reader and a writer of std, whose failures are counted; the writer is handed back.
-fn counted<R: Read + Drop, W: Write + Drop, A: Ledger, B: Ledger>(
-    alloc: Global,
-    caller: CallerWord<'_>,
-    reader: R,
-    writer: W,
-    reads: Blank,
-    writes: Blank,
-) -> (W, Result<Asker, JobFault>)
-    requires reads_name { reads.name ≡ A.name }
-    requires reads_parts { reads.parts ≡ A.parts }
-    requires reads_some { 0 < reads.parts }
-    requires writes_name { writes.name ≡ B.name }
-    requires writes_parts { writes.parts ≡ B.parts }
-    requires writes_some { 0 < writes.parts }
-    ensures { (failed_reads : ℕ) × (failed_writes : ℕ) × IsAskerRead caller.entry.0.now (R.remaining reader) (W.contents writer) (W.contents result.0) result.1 0 failed_reads 0 failed_writes }
-{
-    let mut source: Counted<R, A> = Counted::new(reader, reads);
-    let mut sink: Counted<W, B> = Counted::new(writer, writes);
-    let asker = first_asker(alloc, caller.0, &mut source, &mut sink);
-    (sink.into_inner(), asker)
-}
-
-/// The same, with blanks of its own.
-fn read_first<R: Read + Drop, W: Write + Drop>(
+/// Writes what the office would answer to an update of a zone by a caller: the reply in words, as a receipt has it; and of an update that
+/// would be made the records that go, behind `-`, those that come, behind `+`, and the serial. One input is the policy, and another the
+/// master file of the zone, a line `--` and the items. Otherwise one line tells the refusal that comes first: of the caller, that the
+/// policy is too large, of the policy; and of the other input, which is read behind it, that it is too large, that it has no divider, of
+/// the master file, of its records as a zone, of the items.
+pub fn do_plan<R: Input, N: Input, W: Sink>(
     alloc: Global,
     caller: &str,
-    reader: R,
-    writer: W,
-) -> (W, Result<Asker, JobFault>)
-    ensures { (failed_reads : ℕ) × (failed_writes : ℕ) × IsAskerRead caller.now (R.remaining reader) (W.contents writer) (W.contents result.0) result.1 0 failed_reads 0 failed_writes }
+    policy: &mut R,
+    input: &mut N,
+    writer: &mut W,
+) -> Result<(), PlanFault>
+    ensures { IsPlanned caller.now (record { left = R.left policy.old; fine = R.fine policy.old policy.new; failed = R.failed policy.old policy.new }) (record { left = N.left input.old; fine = N.fine input.old input.new; failed = N.failed input.old input.new }) (W.contents writer.old) (W.contents writer.new) result (W.failures writer.old) (W.failures writer.new) }
 {
-    let (reads, writes) = (Blank::new(1), Blank::new(1));
-    counted::<_, _, Brand, Brand>(alloc, CallerWord(caller), reader, writer, reads, writes)
-}
-
-/// Writes what the office would answer to an update of a zone by a caller, and hands the writer back: the reply in words, as a receipt
-/// has it; and of an update that would be made the records that go, behind `-`, those that come, behind `+`, and the serial. One reader
-/// of std gives the policy, and another the master file of the zone, a line `--` and the items. Otherwise one line tells the refusal that
-/// comes first: of the caller, that the policy is too large, of the policy; and of the other input, which is read behind it, that it is
-/// too large, that it has no divider, of the master file, of its records as a zone, of the items.
-pub fn do_plan<R: Read + Drop, S: Read + Drop, W: Write + Drop>(
-    alloc: Global,
-    caller: &str,
-    policy: R,
-    input: S,
-    writer: W,
-) -> (W, Result<(), PlanFault>)
-    ensures { IsPlanned caller.now (R.remaining policy) (S.remaining input) (W.contents writer) (W.contents result.0) result.1 }
-{
-    let (writer, asker) = read_first(alloc, caller, policy, writer);
-    let asker = match asker {
+    let asker = match first_asker(alloc, caller, policy, writer) {
         Ok(asker) => asker,
-        Err(fault) => return (writer, Err(PlanFault::Policy(fault))),
+        Err(fault) => return Err(PlanFault::Policy(fault)),
     };
-    let (writer, done) = do_task(alloc, asker, input, writer);
-    match done {
-        Ok(()) => (writer, Ok(())),
-        Err(fault) => (writer, Err(PlanFault::Input(fault))),
+    match asker.run(alloc, input, writer) {
+        Ok(()) => Ok(()),
+        Err(fault) => Err(PlanFault::Input(fault)),
     }
 }

@@ -28,6 +28,9 @@ pub enum Refusal {
     /// A word of the command line is no action.
     #[error("the action is not one of list, check, add, delete and delegate")]
     NoAction,
+    /// A word of the command line is no rule for zones.
+    #[error("no rule for zones has this name: see zoneoffice check --help")]
+    NoRule,
     /// The input has more than 4,194,304 octets.
     #[error("the input has more than 4194304 octets")]
     TooLarge,
@@ -77,7 +80,7 @@ impl Refusal {
         match self {
             Refusal::Name(fault) => fault.number(),
             Refusal::TypeNotKept => 17,
-            Refusal::NoCaller | Refusal::NoAction => 54,
+            Refusal::NoCaller | Refusal::NoAction | Refusal::NoRule => 54,
             Refusal::TooLarge => 30,
             Refusal::NoDivider => 96,
             Refusal::UnknownNumber => 98,

@@ -382,7 +382,7 @@ pub(crate) static POLICIES: [(&str, Kind, &str, &str, &str, &str); 8] = [
         "54",
         Kind::Whole,
         "bad value",
-        "A value of the policy is not one that its key may have; or a word of the command line is not a caller or not an action.",
+        "A value of the policy is not one that its key may have; or a word of the command line is not a caller, not an action or not a rule for zones.",
         "An effect is grant or deny; a scope is name, subtree or below; an action is list, check, add, delete or delegate; an id or a caller is 1 to 64 letters, digits, hyphens, underscores and dots.",
         "",
     ),

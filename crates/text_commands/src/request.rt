@@ -5,11 +5,12 @@ ghost use Rattle.text_commands.specs.LineFaults.{Gives, GivesOf, of_items};
 ghost use Rattle.text_commands.specs.Request.{identifier_in, body_line, body_of_items, request_text};
 ghost use Rattle.item_lines.specs.Reading.{items_of};
 
-use crate::device::{read_input, write_refusal, write_text};
+use crate::device::{write_refusal, write_text};
+use crate::input::{Input, read_input};
 use crate::line_fault::{JobFault, LineFault};
 use crate::refusal::Refusal;
 use crate::task::Task;
-use dns_master::{Sink, Source};
+use dns_master::Sink;
 use grant_policy::{Identifier, IdentifierFault};
 use item_lines::read_items;
 use office_json::update_text;
@@ -58,8 +59,8 @@ fn body_of_items(alloc: Global, id: &Identifier, items: Vec<u8>) -> Result<Strin
 }
 
 /// The line of the body of the items that a reader gives, under an identifier that is a word.
-fn answer<R: Source>(alloc: Global, word: &str, reader: &mut R) -> Result<String, LineFault>
-    ensures { GivesOf string_bytes (R.remaining reader.old) (request_text word.now) result (R.failures reader.old) (R.failures reader.new) }
+fn answer<R: Input>(alloc: Global, word: &str, reader: &mut R) -> Result<String, LineFault>
+    ensures { GivesOf string_bytes (R.left reader.old) (request_text word.now) result (R.fine reader.old reader.new) (R.failed reader.old reader.new) }
 {
     let id = read_identifier(alloc, word)?;
     let items = read_input(alloc, reader)?;
@@ -78,7 +79,7 @@ pub struct Request<'a> {
 impl Task for Request<'_> {
     ghost answer = { λ r. request_text r.id.now };
 
-    fn run<R: Source, W: Sink>(
+    fn run<R: Input, W: Sink>(
         self,
         alloc: Global,
         reader: &mut R,

@@ -9,13 +9,14 @@ ghost use Rattle.text_commands.specs.LineFaults.{Gives, GivesOf, or_refused};
 ghost use Rattle.text_commands.specs.Rights.{question_in, question_of, verdict_line, decided_by, rights_text};
 
 use crate::canon::read_name;
-use crate::device::{read_input, write_refusal, write_text};
+use crate::device::{write_refusal, write_text};
+use crate::input::{Input, read_input};
 use crate::line_fault::{JobFault, LineFault};
 use crate::refusal::Refusal;
 use crate::task::Task;
 use command_line::QuestionWords;
 use dns_data::RecordType;
-use dns_master::{Sink, Source};
+use dns_master::Sink;
 use dns_names::Name;
 use grant_policy::{Action, Decision, Identifier, IdentifierFault, LookUps, decide, read_policy};
 use std::alloc::{AllocError, Global};
@@ -106,12 +107,12 @@ fn decided_by(alloc: Global, asked: &QuestionRead, text: &[u8]) -> Result<Vec<u8
 }
 
 /// What a policy that a reader gives decides on what words ask, as a line.
-fn answer<R: Source>(
+fn answer<R: Input>(
     alloc: Global,
     words: QuestionWords<'_>,
     policy: &mut R,
 ) -> Result<Vec<u8>, LineFault>
-    ensures { GivesOf (λ line. line.items) (R.remaining policy.old) (rights_text words.entry) result (R.failures policy.old) (R.failures policy.new) }
+    ensures { GivesOf (λ line. line.items) (R.left policy.old) (rights_text words.entry) result (R.fine policy.old policy.new) (R.failed policy.old policy.new) }
 {
     let asked = QuestionRead::of(alloc, words)?;
     let text = read_input(alloc, policy)?;
@@ -124,7 +125,7 @@ fn answer<R: Source>(
 impl Task for QuestionWords<'_> {
     ghost answer = { rights_text };
 
-    fn run<R: Source, W: Sink>(
+    fn run<R: Input, W: Sink>(
         self,
         alloc: Global,
         reader: &mut R,

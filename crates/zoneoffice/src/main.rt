@@ -1,41 +1,33 @@
 //! The program: it does the job that the words of the command line ask for, in this process and with the files of this machine.
 #![tactic(auto)]
 
-ghost use Rattle.std.specs.Prelude.{None};
-ghost use Rattle.store_commands.specs.Program.{Around};
+ghost use Rattle.std.specs.Prelude.{⊤, None};
+ghost use Rattle.store_commands.specs.Around.{Around};
 
 use std::alloc::{AllocError, Global};
-use std::io::{self, ErrorKind, Stdin, Stdout};
+use std::env;
+use std::io::{self, ErrorKind};
+use std::net::{SocketAddr, TcpListener};
 use std::process::ExitCode;
-use std::{env, fs};
-use store_commands::{NO_MEMORY_LINE, Surroundings, do_words};
-use text_commands::InputFile;
+use store_commands::{LineFault, NO_MEMORY_LINE, Surroundings, read_path, run_words};
 
-/// The streams of this process, and the files of this machine. No contract can say what they hold.
+/// This process, and the files of this machine. No contract can say what they hold.
 #[derive(Clone, Copy)]
 struct Process<'a>(&'a HostRuntime);
 
-impl Surroundings<Stdin, InputFile, Stdout> for Process<'_> {
-    ghost around = { λ _. record { input = None; policy = λ _. None; zone = λ _. None; output = None } };
+impl Surroundings for Process<'_> {
+    ghost around = { λ _. record { file = λ _. None; unreadable = λ _. ⊤ } };
 
     fn machine(&self) -> &HostRuntime {
         self.0
     }
 
-    fn input(&self) -> Stdin {
-        self.0.stdin()
+    fn file(&self, _alloc: Global, path: &str) -> Result<Vec<u8>, LineFault> {
+        read_path(self.0, path)
     }
 
-    fn policy(&self, path: &str) -> InputFile {
-        InputFile::Named(fs::open(self.0, path))
-    }
-
-    fn zone(&self, path: &str) -> InputFile {
-        InputFile::open(self.0, path)
-    }
-
-    fn output(&self) -> Stdout {
-        self.0.stdout()
+    fn listen(&self, address: SocketAddr) -> io::Result<TcpListener> {
+        TcpListener::bind(self.0, address)
     }
 }
 
@@ -61,10 +53,16 @@ fn given_words(rt: &HostRuntime) -> io::Result<Vec<String>> {
     Ok(words.collect(rt.alloc())?)
 }
 
+/// Does what words ask for with the streams of this process.
+fn run(rt: &HostRuntime, words: &[&str]) -> ExitCode {
+    let streams = (rt.stdin(), rt.stdout(), rt.stderr());
+    run_words(&Process(rt), words, streams).2
+}
+
 fn main(rt: HostRuntime) -> ExitCode {
     match given_words(&rt) {
         Ok(words) => match borrowed(rt.alloc(), &words) {
-            Ok(words) => do_words(&Process(&rt), &words).1,
+            Ok(words) => run(&rt, &words),
             Err(_) => no_memory(&rt),
         },
         Err(fault) if fault.kind() == ErrorKind::OutOfMemory => no_memory(&rt),

@@ -1,4 +1,5 @@
 use Rattle.std.proofs.Common.{List, ℕ, [], Ok, Err, None, refl}
+use Rattle.std.specs.Bool.{⊤}
 use Rattle.std.proofs.lemmas.Result.{err_from_is_err_and}
 use Rattle.text_commands.specs.LineFaults.{of_store}
 use Rattle.text_commands.proofs.JobLemmas.{answered_sent, answered_front, answered_told}
@@ -10,7 +11,7 @@ pub returns-in_err-tell_migrated-in-Ok-clause-written : goal.returns-in_err-tell
 returns-in_err-tell_migrated-in-Ok-clause-written g c =
     let p = err_from_is_err_and c.from_residual.result c.from_residual.ensures.1 in
     let line = migrated_line c.in-Ok.zones in
-    (Ok line, (c.in-Ok.zones, refl), rw (p.1, p.2) (answered_front None (λ input. Ok line) _ _ 0 0 _ _ line ([], tt, refl) refl c.in_err-tell_migrated-in-Ok.ensures))
+    (Ok line, (c.in-Ok.zones, refl), rw (p.1, p.2) (answered_front None (λ input. Ok line) _ _ ⊤ ⊥ _ _ line ([], tt, refl) tt c.in_err-tell_migrated-in-Ok.ensures))
 
 pub returns-in_err-tell_migrated-in-Ok-clause-migrated : goal.returns-in_err-tell_migrated-in-Ok-clause-migrated
 returns-in_err-tell_migrated-in-Ok-clause-migrated g c =
@@ -20,7 +21,7 @@ returns-in_err-tell_migrated-in-Ok-clause-migrated g c =
 pub returns-in_ok-tell_migrated-in-Ok-clause-written : goal.returns-in_ok-tell_migrated-in-Ok-clause-written
 returns-in_ok-tell_migrated-in-Ok-clause-written g c =
     let line = migrated_line c.in-Ok.zones in
-    (Ok line, (c.in-Ok.zones, refl), answered_sent None (λ input. Ok line) _ _ 0 0 _ _ line ([], tt, refl) refl c.in_ok-tell_migrated-in-Ok.ensures)
+    (Ok line, (c.in-Ok.zones, refl), answered_sent None (λ input. Ok line) _ _ ⊤ ⊥ _ _ line ([], tt, refl) tt c.in_ok-tell_migrated-in-Ok.ensures)
 
 pub returns-in_ok-tell_migrated-in-Ok-clause-migrated : goal.returns-in_ok-tell_migrated-in-Ok-clause-migrated
 returns-in_ok-tell_migrated-in-Ok-clause-migrated g c = (Ok c.in-Ok.zones, c.in-Ok.ensures, c.in_ok-tell_migrated-in-Ok.ensures)
@@ -34,7 +35,7 @@ returns-in-Err-clause-written g c =
     let view = λ (l : List ℕ). l in (
       made,
       migrates_by fault line named (0, refl),
-      answered_told None (λ input. made) _ _ 0 0 _ _ view fault c.write_refusal.result (told_at_once view made fault (migration_refused view line fault named)) (rw c.from.ensures at c.write_refusal.ensures),
+      answered_told None (λ input. made) _ _ ⊤ ⊥ _ _ view fault c.write_refusal.result (told_at_once view made fault (migration_refused view line fault named)) (rw c.from.ensures at c.write_refusal.ensures),
     )
 
 pub returns-in-Err-clause-migrated : goal.returns-in-Err-clause-migrated

@@ -12,5 +12,5 @@ returns-in_err-table g c =
 
 pub returns : goal.returns
 returns g c =
-    held_by (state g.S.Store) (g.P.StoreFiles.finds c.args.files.now c.args.path.now) (g.P.StoreFiles.refuses c.args.files.now c.args.path.now) (g.P.StoreFiles.connects c.args.files.now c.args.path.now) (λ (records : Vec Record Global). records.items) c.args.origin.now c.in_ok-table.table.conn c.records_in.result
+    held_by (state g.S.Store) (g.P.StoreFiles.finds c.args.files c.args.stored.store.now) (g.P.StoreFiles.refuses c.args.files c.args.stored.store.now) (g.P.StoreFiles.connects c.args.files c.args.stored.store.now) (λ (records : Vec Record Global). records.items) c.args.origin.now c.in_ok-table.table.conn c.records_in.result
     c.in_ok-table.ensures.opened c.records_in.ensures

@@ -1,14 +1,12 @@
 use Rattle.text_commands.proofs.DiffLemmas.{answered_behind}
 use Rattle.text_commands.proofs.diff.do_diff.Goals as goal
 
-pub returns-in-Ok-done : goal.returns-in-Ok-done
-returns-in-Ok-done g c =
-    let read = rw c.in-Ok.is at c.read_old-writer.ensures in
-    let done = c.do_task-writer.ensures in
-    (c.in-Ok.old, read.2.0, done.0, done.1, answered_behind _ _ _ _ _ _ _ _ _ _ _ read.2.1 c.in-Ok-done.is done.2)
+pub returns-in-Ok-run : goal.returns-in-Ok-run
+returns-in-Ok-run g c =
+    let read = c.in-Ok.ensures in
+    (c.in-Ok.zone, read.0, read.1, answered_behind _ _ _ _ _ c.run.result _ _ _ _ _ _ read.2 read.3 c.in-Ok-run.is c.run.ensures)
 
-pub returns-in-Err-done : goal.returns-in-Err-done
-returns-in-Err-done g c =
-    let read = rw c.in-Ok.is at c.read_old-writer.ensures in
-    let done = c.do_task-writer.ensures in
-    (c.in-Ok.old, read.2.0, done.0, done.1, answered_behind _ _ _ _ _ _ _ _ _ _ _ read.2.1 c.in-Err-done.is done.2)
+pub returns-in-Err-run : goal.returns-in-Err-run
+returns-in-Err-run g c =
+    let read = c.in-Ok.ensures in
+    (c.in-Ok.zone, read.0, read.1, answered_behind _ _ _ _ _ c.run.result _ _ _ _ _ _ read.2 read.3 c.in-Err-run.is c.run.ensures)

@@ -1,0 +1,15 @@
+use Rattle.std.proofs.lemmas.Result.{err_from_is_err_and}
+use Rattle.text_commands.proofs.CheckLemmas.{checked_front, checked_told}
+use Rattle.text_commands.proofs.check.do_check.Goals as goal
+
+pub returns-in_err-write_text-in-Ok : goal.returns-in_err-write_text-in-Ok
+returns-in_err-write_text-in-Ok g c =
+    let p = err_from_is_err_and c.from_residual.result c.from_residual.ensures.1 in
+    let made = c.in-Ok.ensures in
+    let sent = rw c.deref.ensures.value at c.in_err-write_text-in-Ok.ensures in
+    rw (p.1, p.2) (checked_front c.args.subject _ _ _ _ _ _ _ c.in-Ok.report.findings c.in-Ok.report.text.items made.0 made.1 sent)
+
+pub returns-in_err-write_refusal-in-Err : goal.returns-in_err-write_refusal-in-Err
+returns-in_err-write_refusal-in-Err g c =
+    let p = err_from_is_err_and c.from_residual-in_err-write_refusal-in-Err.result c.from_residual-in_err-write_refusal-in-Err.ensures.1 in
+    rw (p.1, p.2) (checked_told c.args.subject _ _ _ _ _ _ _ c.in-Err.fault _ c.in-Err.ensures c.in_err-write_refusal-in-Err.ensures)
