@@ -1,15 +1,17 @@
 //! Policies.
 
-ghost use Rattle.std.specs.Prelude.{◌≡◌, ◌↔◌, ◌+◌, ◌*◌, ◌≤◌, ◌∷◌, length, count_by, IsTrue, None};
+ghost use Rattle.std.specs.Prelude.{◌≡◌, ◌↔◌, ◌+◌, ◌*◌, ◌≤◌, ◌∷◌, length, count_by, IfOk, IsTrue, None};
 ghost use Rattle.std.specs.Option.{option_copied, option_map_or};
 ghost use Rattle.dns_names.specs.Spelling.{name_text};
 ghost use Rattle.grant_policy.specs.Decisions.{concerns, decided, decision, denied};
+ghost use Rattle.grant_policy.specs.NameRights.{AreRightsAt};
 ghost use Rattle.grant_policy.specs.Scopes.{Covers};
 
 use crate::twins;
 use dns_data::RecordType;
 use dns_names::Name;
-use grant_policy::{Action, Decision, Identifier, LookUps, Policy, Rule, Scope};
+use grant_policy::{Action, Decision, Identifier, LookUps, NameRights, Policy, Rule, Scope};
+use std::alloc::{AllocError, Global};
 
 /// `covers`, beside the texts of both names, and that of the upper one with a dot in front.
 pub fn covers(scope: Scope, at: &Name, name: &Name, _text: &str, _top: &str, _dotted: &str) -> bool
@@ -19,6 +21,13 @@ pub fn covers(scope: Scope, at: &Name, name: &Name, _text: &str, _top: &str, _do
     ensures { IsTrue result ↔ Covers scope at.now name.now }
 {
     grant_policy::covers(scope, at, name)
+}
+
+/// `rights_at`.
+pub fn rights(alloc: Global, policy: &Policy, name: &Name) -> Result<NameRights, AllocError>
+    ensures { IfOk result (λ rights. AreRightsAt policy.now name.now rights) }
+{
+    grant_policy::rights_at(alloc, policy, name)
 }
 
 /// The rule that decides among the rules of a list, by going through them: what `decide` answers is of this rule.

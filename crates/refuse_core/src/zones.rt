@@ -1,12 +1,15 @@
 //! Zones and updates.
 
 ghost use Rattle.std.specs.Prelude.{◌≡◌, IfOk};
+ghost use Rattle.zone_checks.specs.ZoneFindings.{AreFindings};
 ghost use Rattle.zone_core.specs.Effects.{zone_after};
+ghost use Rattle.zone_core.specs.Sets.{listing};
 ghost use Rattle.zone_core.specs.Updates.{ActsWithin};
 ghost use Rattle.zone_core.specs.Zones.{serial_of};
 
 use dns_data::same_record;
 use std::alloc::{AllocError, Global};
+use zone_checks::Finding;
 use zone_core::{Outcome, Update, Zone};
 
 /// `apply`, and the serial of the zone after it.
@@ -20,4 +23,11 @@ pub fn serial_after(
 {
     let outcome = zone_core::apply(alloc, zone, update)?;
     Ok((outcome.zone.serial(), outcome))
+}
+
+/// `findings`.
+pub fn findings(alloc: Global, zone: &Zone) -> Result<Vec<Finding>, AllocError>
+    ensures { IfOk result (λ found. AreFindings zone.now.origin (listing zone.now.records) found.items) }
+{
+    zone_checks::findings(alloc, zone)
 }
