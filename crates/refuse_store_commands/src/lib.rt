@@ -2,14 +2,11 @@
 //! calls; each edit in must-fail makes the call wrong in one idea, and the prover refuses it.
 #![tactic(auto)]
 
-ghost use Rattle.std.specs.Prelude.{List, Option, length};
+ghost use Rattle.std.specs.Prelude.{◌≡◌, ◌+◌, List, Option, length};
 ghost use Rattle.std.specs.Process.{exit_status};
 ghost use Rattle.sqlite.specs.Held.{state};
-ghost use Rattle.office_core.specs.States.{State};
-ghost use Rattle.office_wire.specs.Exchange.{Turn};
-ghost use Rattle.office_wire.specs.Serving.{standing};
 ghost use Rattle.office_wire.specs.declared.serve_fault.ServeFault.{ServeFault as FaultOf};
-ghost use Rattle.store_commands.specs.Serve.{AreServed, AreReported, AreTraced, IsSoMany};
+ghost use Rattle.store_commands.specs.Serve.{AreReported, AreServedFrom};
 ghost use Rattle.store_commands.specs.Stores.{stores_of};
 ghost use Rattle.store_commands.specs.Program.{JobEnds};
 
@@ -17,26 +14,27 @@ use command_line::Job;
 use dns_master::{Sink, Source};
 use grant_policy::Policy;
 use office_core::ZoneTable;
-use sqlite::Alter;
+use sqlite::{Alter, Connection};
 use std::alloc::Global;
 use std::process::ExitCode;
 use std::time::Clock;
-use store_commands::{Connections, Diagnosis, JobFault, StoreFiles, Surroundings};
+use store_commands::{Connections, Diagnosis, JobFault, Listener, StoreFiles, Surroundings};
 
 /// `serve_connections`.
-pub fn serve_connections<T: ZoneTable, D: Diagnosis<T>, C: Clock, W: Sink, E: Sink>(
+pub fn serve_connections<H: Listener, T: ZoneTable, D: Diagnosis<T>, C: Clock, W: Sink, E: Sink>(
     alloc: Global,
-    connections: &Connections<'_, C, D>,
+    from: &Connections<'_, C, D>,
+    listener: &mut H,
     table: &mut T,
     policy: &Policy,
     most: u64,
     writer: &mut W,
     trace: &mut E,
 ) -> Result<(), JobFault>
-    ensures served { T.is_honest table.new → (s : State) → T.holds table.old s → (turns : List (List Turn)) × (t : State) × T.holds table.new t × AreServed policy.now (standing s (T.failures table.old)) turns (standing t (T.failures table.new)) × IsSoMany most result (length turns) × AreTraced turns (E.contents trace.old) (E.contents trace.new) (E.failures trace.old) (E.failures trace.new) }
-    ensures written { (ends : List (Option FaultOf)) × AreReported most ends (W.contents writer.old) (W.contents writer.new) result (W.failures writer.old) (W.failures writer.new) }
+    ensures served { AreServedFrom (T.is_honest table.new) (T.holds table.old) (T.holds table.new) (T.failures table.old) (T.failures table.new) policy.now most result (E.contents trace.old) (E.contents trace.new) (E.failures trace.old) (E.failures trace.new) }
+    ensures written { (ends : List (Option FaultOf)) × AreReported (H.cut listener.old) most ends (W.contents writer.old) (W.contents writer.new) result (W.failures writer.old) (W.failures writer.new) × (H.taken listener.new ≡ H.taken listener.old + length ends) }
 {
-    store_commands::serve_connections(alloc, connections, table, policy, most, writer, trace)
+    store_commands::serve_connections(alloc, from, listener, table, policy, most, writer, trace)
 }
 
 /// `do_job`.
@@ -47,8 +45,15 @@ pub fn do_job<
     R: Source,
     W: Sink,
     E: Sink,
->(around: &M, files: P, job: Job<'_>, input: &mut R, output: &mut W, trace: &mut E) -> ExitCode
-    ensures { JobEnds (M.around around.now) (stores_of (state S.Store) (P.finds files) (P.refuses files) (P.connects files)) (record { left = R.remaining input.old; before = R.failures input.old; after = R.failures input.new }) (record { old = W.contents output.old; new = W.contents output.new; before = W.failures output.old; after = W.failures output.new }) (record { old = E.contents trace.old; new = E.contents trace.new; before = E.failures trace.old; after = E.failures trace.new }) job.entry (exit_status result) }
+>(
+    around: &M,
+    files: P,
+    job: Job<'_>,
+    input: &mut R,
+    output: &mut W,
+    trace: &mut E,
+) -> (Option<Connection<S>>, ExitCode)
+    ensures { JobEnds (M.around around.now) (stores_of (state S.Store) (P.finds files) (P.refuses files) (P.connects files)) (record { left = R.remaining input.old; rest = R.remaining input.new; before = R.failures input.old; after = R.failures input.new }) (record { old = W.contents output.old; new = W.contents output.new; before = W.failures output.old; after = W.failures output.new }) (record { old = E.contents trace.old; new = E.contents trace.new; before = E.failures trace.old; after = E.failures trace.new }) job.entry result.0 (exit_status result.1) }
 {
     store_commands::do_job(around, files, job, input, output, trace)
 }

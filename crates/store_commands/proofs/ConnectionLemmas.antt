@@ -58,26 +58,26 @@ module _ (old mid new : Option (List ℕ)) (ends : List (Option ServeFault)) whe
   told_more end before line = subst (Appends old new) (sym (lines_more ends end)) (Appends-trans old mid new (ended_lines ends) (ended_line end) before line)
 
   -- the writer failed in that line
-  pub told_in_part : (most n : ℕ) (end : Option ServeFault) (before failed after : ℕ) → length ends ≡ n → n < most → Appends old mid (ended_lines ends) → failed ≡ before
-      → AppendsFront mid new (ended_line end) × (failed < after) → AreReported most (ends ++ end ∷ []) old new (Err WriteFailed) before after
-  told_in_part most n end before failed after count more lines fine sent =
+  pub told_in_part : (cut : Type 0) (most n : ℕ) (end : Option ServeFault) (before failed after : ℕ) → length ends ≡ n → n < most → Appends old mid (ended_lines ends) → failed ≡ before
+      → AppendsFront mid new (ended_line end) × (failed < after) → AreReported cut most (ends ++ end ∷ []) old new (Err WriteFailed) before after
+  told_in_part cut most n end before failed after count more lines fine sent =
       let all = length-append ends (end ∷ []) in
       let front = subst (AppendsFront old new) (sym (lines_more ends end)) (front_behind old mid new (ended_lines ends) (ended_line end) lines sent.0) in
       (inl (omega (arith, all, count, more), front), omega (arith, fine, sent.1))
 
   -- no further connection can be had, and that is written
-  pub told_last : (most n : ℕ) (result : Result (Unit {0}) JobFault) (before failed after : ℕ) → length ends ≡ n → n < most → Appends old mid (ended_lines ends) → failed ≡ before
-      → IsRefusalWritten mid new ReadFailed result failed after → AreReported most ends old new result before after
-  told_last most n (Ok done) before failed after count more lines fine wrote = absurd wrote
-  told_last most n (Err (Reported ReadFailed)) before failed after count more lines fine wrote =
-      (omega (arith, count, more), Appends-trans old mid new (ended_lines ends) (line_of ReadFailed) lines wrote.1, wrote.2 ∙ fine)
-  told_last most n (Err (Reported (Refused refusal))) before failed after count more lines fine wrote = absurd (cc wrote.0)
-  told_last most n (Err (Reported NoMemory)) before failed after count more lines fine wrote = absurd (cc wrote.0)
-  told_last most n (Err WriteFailed) before failed after count more lines fine wrote =
+  pub told_last : {cut : Type 0} (most n : ℕ) (result : Result (Unit {0}) JobFault) (before failed after : ℕ) → cut → length ends ≡ n → n < most → Appends old mid (ended_lines ends) → failed ≡ before
+      → IsRefusalWritten mid new ReadFailed result failed after → AreReported cut most ends old new result before after
+  told_last most n (Ok done) before failed after none count more lines fine wrote = absurd wrote
+  told_last most n (Err (Reported ReadFailed)) before failed after none count more lines fine wrote =
+      (none, omega (arith, count, more), Appends-trans old mid new (ended_lines ends) (line_of ReadFailed) lines wrote.1, wrote.2 ∙ fine)
+  told_last most n (Err (Reported (Refused refusal))) before failed after none count more lines fine wrote = absurd (cc wrote.0)
+  told_last most n (Err (Reported NoMemory)) before failed after none count more lines fine wrote = absurd (cc wrote.0)
+  told_last most n (Err WriteFailed) before failed after none count more lines fine wrote =
       let line = wrote.0.0 in
       let same : line ≡ ReadFailed = wrote.0.1 in
       let front = subst (λ l. AppendsFront mid new (line_of l)) same wrote.0.2 in
-      (inr (omega (arith, count, more), front_behind old mid new (ended_lines ends) (line_of ReadFailed) lines front), omega (arith, fine, wrote.1))
+      (inr (none, omega (arith, count, more), front_behind old mid new (ended_lines ends) (line_of ReadFailed) lines front), omega (arith, fine, wrote.1))
 
 -- ---- the trace
 

@@ -1,5 +1,15 @@
 -- What is done in the store of a path, step by step.
-use Rattle.std.proofs.Common.{◌≡◌, ◌⊎◌, inr, ℕ, Bool, List, Result, Ok, Err, IfOk, IfErr, OnErr, ap}
+use Rattle.std.proofs.Common.{◌≡◌, ◌⊎◌, inl, inr, ℕ, Bool, List, Option, Some, Result, Ok, Err, IfOk, IfErr, OnErr, ap, refl}
+use Rattle.std.specs.Result.{result_map_both}
+use Rattle.text_commands.specs.declared.line_fault.JobFault.{JobFault}
+use Rattle.store_commands.specs.Around.{Around}
+use Rattle.store_commands.specs.Serve.{IsServiceTold}
+use Rattle.dns_names.specs.Reading.{absolute_name}
+use Rattle.text_commands.specs.Canon.{zone_read}
+use Rattle.text_commands.specs.declared.line_fault.LineFault.{LineFault}
+use Rattle.text_commands.specs.LineFaults.{Makes, of_names, of_store}
+use Rattle.store_commands.specs.Import.{imported_line, IsPutWithLine, IsImported}
+use Rattle.store_commands.specs.Export.{IsExported}
 use Rattle.dns_data.specs.declared.record.Record.{Record}
 use Rattle.sqlite.specs.State.{State as Shown, HasCleanDisk}
 use Rattle.zone_core.specs.Zones.{ZoneOf}
@@ -12,7 +22,7 @@ use Rattle.office_rows.specs.declared.store_fault.StoreFault.TheVariants.{WrongV
 use Rattle.office_store.specs.Holds.{IsOfVersion}
 use Rattle.office_store.specs.Migration.{HoldsOld, IsMigrated}
 use Rattle.std.specs.Prelude.{pos}
-use Rattle.store_commands.specs.Stores.{IsMigratedTo, IsUnmigrated, IsMigratedStore, IsReached, IsPut, IsStored, IsOpened, IsRead, IsHeld}
+use Rattle.store_commands.specs.Stores.{IsLeft, IsMigratedTo, IsUnmigrated, IsMigratedStore, IsReached, IsPut, IsStored, IsOpened, IsRead, IsHeld}
 
 pub map_ok : {X E : Type 0} {P Q : X → Type 0} (r : Result X E) → ((x : X) → P x → Q x) → IfOk r P → IfOk r Q
 map_ok (Ok x) f p = f x p
@@ -22,41 +32,73 @@ pub map_err : {X E : Type 0} {P Q : E → Type 0} (r : Result X E) → ((e : E) 
 map_err (Ok x) f p = tt
 map_err (Err e) f p = f e p
 
-module _ {C : Type 0} (shows : C → Shown) where
-  pub migrated_to : (found after : C) (r : Result ℕ StoreFault) → (HasCleanDisk (shows after) → IfOk r (IsMigrated (shows found) (shows after)))
-      → IfOk r (λ zones. (then : C) × IsMigratedTo (shows found) (shows then) zones)
-  migrated_to found after (Ok zones) made = (after, made)
-  migrated_to found after (Err fault) made = tt
+-- a connection that is handed back in one way is so in another
+pub left_as : {C : Type 0} {P Q : C → Type 0} (left : Option C) → ((after : C) → P after → Q after) → IsLeft left P → IsLeft left Q
+left_as left f p = (p.0, p.1, f p.0 p.2)
 
-  pub unmigrated : (found after : C) (r : Result ℕ StoreFault) → OnErr r (Keeps (shows found) (shows after))
-      → (HasCleanDisk (shows after) → IfErr r (λ e. (content : ContentOf) → HoldsOld (shows found) content → IsFailure e))
-      → (HasCleanDisk (shows after) → r ≡ Err WrongVersion → ¬ IsOfVersion (pos 1) (shows found))
-      → (HasCleanDisk (shows after) → r ≡ Err BadRow → IsOfVersion (pos 1) (shows found)) → IfErr r (λ e. (e ≡ WrongVersion) ⊎ IsOfRows e)
-      → IfErr r (λ fault. (then : C) × IsUnmigrated (shows found) (shows then) fault)
-  unmigrated found after (Ok zones) keeps good wrong bad named = tt
-  unmigrated found after (Err fault) keeps good wrong bad named = (
-    after,
-    record {
-      keeps = keeps;
-      named = named;
-      good = good;
-      wrong = λ clean same. wrong clean (ap (λ (e : StoreFault). let r : Result ℕ StoreFault = Err e in r) same);
-      bad = λ clean same. bad clean (ap (λ (e : StoreFault). let r : Result ℕ StoreFault = Err e in r) same);
-    },
-  )
+module _ (found after : Shown) where
+  pub migrated_to : (r : Result ℕ StoreFault) → (HasCleanDisk after → IfOk r (IsMigrated found after)) → IfOk r (IsMigratedTo found after)
+  migrated_to (Ok zones) made = made
+  migrated_to (Err fault) made = tt
 
-  module _ (finds : Bool → Type 0) (refuses : StoreFault → Type 0) (connects : C → Type 0) where
-    pub migrated_store : (found : C) (r : Result ℕ StoreFault) → connects found → IfOk r (λ zones. (then : C) × IsMigratedTo (shows found) (shows then) zones)
-        → IfErr r (λ fault. (then : C) × IsUnmigrated (shows found) (shows then) fault) → IsMigratedStore shows finds refuses connects r
-    migrated_store found (Ok zones) connected made refused = (found, made.0, connected, made.1)
-    migrated_store found (Err fault) connected made refused = inr (found, refused.0, connected, refused.1)
+  pub unmigrated : (r : Result ℕ StoreFault) → OnErr r (Keeps found after)
+      → (HasCleanDisk after → IfErr r (λ e. (content : ContentOf) → HoldsOld found content → IsFailure e))
+      → (HasCleanDisk after → r ≡ Err WrongVersion → ¬ IsOfVersion (pos 1) found)
+      → (HasCleanDisk after → r ≡ Err BadRow → IsOfVersion (pos 1) found) → IfErr r (λ e. (e ≡ WrongVersion) ⊎ IsOfRows e)
+      → IfErr r (IsUnmigrated found after)
+  unmigrated (Ok zones) keeps good wrong bad named = tt
+  unmigrated (Err fault) keeps good wrong bad named = record {
+    keeps = keeps;
+    named = named;
+    good = good;
+    wrong = λ clean same. wrong clean (ap (λ (e : StoreFault). let r : Result ℕ StoreFault = Err e in r) same);
+    bad = λ clean same. bad clean (ap (λ (e : StoreFault). let r : Result ℕ StoreFault = Err e in r) same);
+  }
 
-    pub stored_by : (existing : Existing) (zone : ZoneOf) (now : C) (r : Result (Unit {0}) StoreFault) → IsReached shows connects existing now → IsPut shows existing zone now r
-        → IsStored shows finds refuses connects existing zone r
-    stored_by existing zone now (Ok done) reached put = (now, reached, put)
-    stored_by existing zone now (Err fault) reached put = inr (now, reached, put)
+module _ {C : Type 0} (shows : C → Shown) (finds : Bool → Type 0) (refuses : StoreFault → Type 0) (connects : C → Type 0) where
+  pub migrated_store : (found after : C) (r : Result ℕ StoreFault) → connects found → IfOk r (IsMigratedTo (shows found) (shows after))
+      → IfErr r (IsUnmigrated (shows found) (shows after)) → IsMigratedStore shows finds refuses connects (Some after) r
+  migrated_store found after (Ok zones) connected made refused = (found, connected, (after, refl, made))
+  migrated_store found after (Err fault) connected made refused = inr (found, connected, (after, refl, refused))
 
-    pub held_by : {X : Type 0} (view : X → List Record) (origin : List (List ℕ)) (now : C) (r : Result X StoreFault) → IsOpened shows connects now → IsRead shows view origin now r
-        → IsHeld shows finds refuses connects view origin r
-    held_by view origin now (Ok x) opened read = (now, opened, read)
-    held_by view origin now (Err fault) opened read = inr (now, opened, read)
+  pub stored_by : (existing : Existing) (zone : ZoneOf) (now after : C) (r : Result (Unit {0}) StoreFault) → IsReached shows connects existing now
+      → IsPut existing zone (shows now) (shows after) r → IsStored shows finds refuses connects existing zone (Some after) r
+  stored_by existing zone now after (Ok done) reached put = (now, reached, (after, refl, put))
+  stored_by existing zone now after (Err fault) reached put = inr (now, reached, (after, refl, put))
+
+  pub held_by : {X : Type 0} (view : X → List Record) (origin : List (List ℕ)) (now after : C) (r : Result X StoreFault) → IsOpened shows connects now
+      → IsRead view origin (shows now) (shows after) r → IsHeld shows finds refuses connects view origin (Some after) r
+  held_by view origin now after (Ok x) opened read = (now, opened, (after, refl, read))
+  held_by view origin now after (Err fault) opened read = inr (now, opened, (after, refl, read))
+
+  -- a zone was put into the store, or refused, and its line was made before
+  pub put_line : {X : Type 0} (view : X → List ℕ) (existing : Existing) (zone : ZoneOf) (conn : Option C) (done : Result (Unit {0}) StoreFault) (line : X)
+      → view line ≡ imported_line zone → IsStored shows finds refuses connects existing zone conn done
+      → IsPutWithLine shows finds refuses connects existing zone conn (result_map_both view (λ fault. fault) (result_map_both (λ _. line) of_store done))
+  put_line view existing zone conn (Ok done) line e stored = (stored, e)
+  put_line view existing zone conn (Err fault) line e refused = inr (fault, refl, refused)
+
+  pub put_imported : (left : Option (List ℕ)) (origin : List ℕ) (existing : Existing) (zone : ZoneOf) (conn : Option C) (made : Result (List ℕ) LineFault) (fine failed : Type 0)
+      → Makes left (zone_read origin) (Ok zone) → fine → IsPutWithLine shows finds refuses connects existing zone conn made
+      → IsImported shows left origin finds refuses connects existing conn made fine failed
+  put_imported left origin existing zone conn (Ok line) fine failed read well put = (zone, read, well, put)
+  put_imported left origin existing zone conn (Err fault) fine failed read well put = inr (zone, read, well, put)
+
+  pub found_exported : {X : Type 0} (view : X → List Record) (word : List ℕ) (origin : List (List ℕ)) (conn : Option C) (held : Result X StoreFault)
+      → of_names (absolute_name word) ≡ Ok origin → IsHeld shows finds refuses connects view origin conn held
+      → IsExported shows view word finds refuses connects conn (result_map_both (λ records. (origin, records)) of_store held)
+  found_exported view word origin conn (Ok records) e held = (e, held)
+  found_exported view word origin conn (Err fault) e refused = inr (origin, e, (fault, refl, refused))
+
+  pub seen_exported : {X : Type 0} (view : X → List Record) (word : List ℕ) (conn : Option C) (found : Result (List (List ℕ) × X) LineFault)
+      → IsExported shows view word finds refuses connects conn found
+      → IsExported shows (λ records. records) word finds refuses connects conn (result_map_both (λ it. (it.0, view it.1)) (λ fault. fault) found)
+  seen_exported view word conn (Ok found) is = is
+  seen_exported view word conn (Err fault) is = is
+
+-- what a service does where it does nothing, and where connections are served, said in another way
+pub told_as : (a : Around) (listen : List ℕ) (most : ℕ) (old new : Option (List ℕ)) (result : Result (Unit {0}) JobFault) (before after : ℕ) {idle other served others : Type 0}
+    → (idle → other) → (served → others) → IsServiceTold a listen most idle served old new result before after → IsServiceTold a listen most other others old new result before after
+told_as a listen most old new result before after f g (inl refused) = inl (refused.0, refused.1, refused.2, f refused.3)
+told_as a listen most old new result before after f g (inr (address, inl failed)) = inr (address, inl (failed.0, failed.1, failed.2, f failed.3))
+told_as a listen most old new result before after f g (inr (address, inr done)) = inr (address, inr (done.0, done.1, done.2, g done.3))

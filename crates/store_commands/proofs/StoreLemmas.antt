@@ -21,7 +21,13 @@ use Rattle.text_commands.proofs.StepLemmas.{refused_before, given_before, reache
 use Rattle.store_commands.specs.Stores.{IsStoreLine}
 use Rattle.store_commands.specs.Import.{imported_line, PutsZones, import_text, IsImported}
 use Rattle.store_commands.specs.Export.{FindsRecords, export_text, IsExported}
-use Rattle.store_commands.specs.Migrate.{Migrates}
+use Rattle.store_commands.specs.Migrate.{Migrates, migrated_line, migration_told}
+use Rattle.store_commands.specs.Reports.{IsReported, IsShown}
+use Rattle.std.specs.Result.{result_map_both}
+use Rattle.text_commands.specs.declared.line_fault.JobFault.{JobFault}
+use Rattle.text_commands.specs.declared.line_fault.JobFault.TheVariants.{Reported, WriteFailed}
+use Rattle.text_commands.specs.Replies.{Answered}
+use Rattle.text_commands.proofs.JobLemmas.{answered_sent, answered_front, answered_told, answered_printed}
 
 zone_line : (fault : ZoneFault) → IsStoreLine (of_zone fault)
 zone_line zones.NoMemory = tt
@@ -68,22 +74,32 @@ module _ (left : Option (List ℕ)) (make : List ℕ → Result ZoneOf Refusal) 
 
 -- what a store makes of zones, where a zone was imported or not
 pub imported_gives : {C : Type 0} (shows : C → Shown) (left : Option (List ℕ)) (origin : List ℕ) (finds : Bool → Type 0) (refuses : StoreFault → Type 0) (connects : C → Type 0) (existing : Existing)
-    (made : Result (List ℕ) LineFault) (fine failed : Type 0) → IsImported shows left origin finds refuses connects existing made fine failed
+    (conn : Option C) (made : Result (List ℕ) LineFault) (fine failed : Type 0) → IsImported shows left origin finds refuses connects existing conn made fine failed
     → (put : ZoneOf → Result (List ℕ) Refusal) × PutsZones put × GivesOf {X = List ℕ} (λ line. line) left (import_text origin put) made fine failed
-imported_gives shows left origin finds refuses connects existing (Ok line) fine failed is = (
+imported_gives shows left origin finds refuses connects existing conn (Ok line) fine failed is = (
   (λ z. Ok (imported_line z)),
   (λ z. refl),
-  put_told left (zone_read origin) fine failed (λ (l : List ℕ). l) is.0 line is.1 is.2 is.4,
+  put_told left (zone_read origin) fine failed (λ (l : List ℕ). l) is.0 line is.1 is.2 is.3.1,
 )
-imported_gives shows left origin finds refuses connects existing (Err fault) fine failed (inl unread) =
+imported_gives shows left origin finds refuses connects existing conn (Err fault) fine failed (inl unread) =
     let put = λ (z : ZoneOf). let told : Result (List ℕ) Refusal = Ok (imported_line z) in told in
-    (put, (λ z. refl), read_refused left (zone_read origin) fine failed (λ (l : List ℕ). l) (λ (z : ZoneOf). z) put fault unread)
-imported_gives shows left origin finds refuses connects existing (Err fault) fine failed (inr is) =
+    (put, (λ z. refl), read_refused left (zone_read origin) fine failed (λ (l : List ℕ). l) (λ (z : ZoneOf). z) put fault unread.0)
+imported_gives shows left origin finds refuses connects existing conn (Err fault) fine failed (inr is) =
     let named : IsStoreLine fault = elim is.3 [
-      | inl none ↦ subst IsStoreLine (sym none) tt
+      | inl none ↦ subst IsStoreLine (sym none.0) tt
       | inr by ↦ subst IsStoreLine (sym by.1) (line_of_store by.0)
     ] in
     (put_by fault, puts_by fault named, put_refused left (zone_read origin) fine failed (λ (l : List ℕ). l) is.0 fault is.1 is.2 named)
+
+-- what was made of an input is answered to it
+pub reported_answered : (left : Option (List ℕ)) (answer : List ℕ → Result (List ℕ) Refusal) (old new : Option (List ℕ)) (fine failed : Type 0) (writes writes_after : ℕ)
+    (made : Result (List ℕ) LineFault) (result : Result (Unit {0}) JobFault) → GivesOf {X = List ℕ} (λ line. line) left answer made fine failed
+    → IsReported made old new result writes writes_after → Answered left answer old new result fine failed writes writes_after
+reported_answered left answer old new fine failed writes writes_after (Ok text) (Ok done) given wrote = answered_sent left answer old new fine failed writes writes_after text given.0 given.1 wrote
+reported_answered left answer old new fine failed writes writes_after (Ok text) (Err WriteFailed) given wrote = answered_front left answer old new fine failed writes writes_after text given.0 given.1 wrote
+reported_answered left answer old new fine failed writes writes_after (Ok text) (Err (Reported fault)) given wrote = absurd wrote
+reported_answered left answer old new fine failed writes writes_after (Err fault) result given wrote =
+    answered_told left answer old new fine failed writes writes_after (λ (l : List ℕ). l) fault result given wrote
 
 -- ---- a store that is asked for something, and tells a fault
 
@@ -121,14 +137,14 @@ told_at_once view made ReadFailed given = absurd given
 
 -- what a store holds, where records of it were had or not
 pub exported_gives : {C X : Type 0} (form : ZoneForm) (shows : C → Shown) (view : X → List Record) (word : List ℕ) (finds : Bool → Type 0) (refuses : StoreFault → Type 0) (connects : C → Type 0)
-    (made : Result (List (List ℕ) × X) LineFault) → IsExported shows view word finds refuses connects made
+    (conn : Option C) (made : Result (List (List ℕ) × X) LineFault) → IsExported shows view word finds refuses connects conn made
     → (held : Result (List Record) Refusal) × FindsRecords held × Gives (λ found. zone_text_in form found.0 (view found.1)) made (export_text form word held)
-exported_gives form shows view word finds refuses connects (Ok found) is =
+exported_gives form shows view word finds refuses connects conn (Ok found) is =
     (Ok (view found.1), tt, given_before (of_names (absolute_name word)) (λ origin. Ok (zone_text_in form origin (view found.1))) found.0 is.0)
-exported_gives {C} {X} form shows view word finds refuses connects (Err fault) (inl refused) =
+exported_gives {C} {X} form shows view word finds refuses connects conn (Err fault) (inl refused) =
     let none : List Record = [] in
-    (Ok none, tt, word_refused (λ (found : List (List ℕ) × X). zone_text_in form found.0 (view found.1)) (λ (name : List (List ℕ)). name) (of_names (absolute_name word)) _ fault refused)
-exported_gives {C} {X} form shows view word finds refuses connects (Err fault) (inr is) =
+    (Ok none, tt, word_refused (λ (found : List (List ℕ) × X). zone_text_in form found.0 (view found.1)) (λ (name : List (List ℕ)). name) (of_names (absolute_name word)) _ fault refused.0)
+exported_gives {C} {X} form shows view word finds refuses connects conn (Err fault) (inr is) =
     let named = subst IsStoreLine (sym is.2.1) (line_of_store is.2.0) in (
       found_by fault,
       finds_by fault named,
@@ -148,3 +164,31 @@ pub migration_refused : {X : Type 0} (view : X → List ℕ) (line : List ℕ) (
 migration_refused view line (Refused refusal) is = refl
 migration_refused view line NoMemory is = tt
 migration_refused view line ReadFailed is = absurd is
+
+-- ---- what is written
+
+-- the same of a text that takes memory while it is written
+pub shown_answered : {X : Type 0} (view : X → List ℕ) (text : Result (List ℕ) Refusal) (old new : Option (List ℕ)) (writes writes_after : ℕ) (found : Result X LineFault) (result : Result (Unit {0}) JobFault)
+    → Gives view found text → IsShown (result_map_both view (λ fault. fault) found) old new result writes writes_after → Answered None (λ _. text) old new result ⊤ ⊥ writes writes_after
+shown_answered view text old new writes writes_after (Ok x) result given wrote =
+    answered_printed None (λ _. text) old new ⊤ ⊥ writes writes_after (view x) result ([], tt, given) tt wrote
+shown_answered view text old new writes writes_after (Err fault) result given wrote =
+    answered_told None (λ _. text) old new ⊤ ⊥ writes writes_after view fault result (told_at_once view text fault given) wrote
+
+-- what a store made of a migration, and what it reported
+pub migration_gives : (migrated : Result ℕ StoreFault) → (made : Result (List ℕ) Refusal) × Migrates made × Gives {X = List ℕ} (λ line. line) (migration_told migrated) made
+migration_gives (Ok zones) = (Ok (migrated_line zones), (zones, refl), refl)
+migration_gives (Err fault) =
+    let named = line_of_store fault in
+    let line = migrated_line 0 in
+    (made_by (of_store fault) line, migrates_by (of_store fault) line named (0, refl), migration_refused (λ (l : List ℕ). l) line (of_store fault) named)
+
+pub gives_at_once : (text : Result (List ℕ) Refusal) (made : Result (List ℕ) LineFault) → Gives {X = List ℕ} (λ line. line) made text → GivesOf {X = List ℕ} (λ line. line) None (λ _. text) made ⊤ ⊥
+gives_at_once text (Ok line) given = (([], tt, given), tt)
+gives_at_once text (Err fault) given = told_at_once (λ (l : List ℕ). l) text fault given
+
+pub shown_seen : {A B : Type 0} (text : B → List ℕ) (view : A → B) (old new : Option (List ℕ)) (writes writes_after : ℕ) (found : Result A LineFault) (result : Result (Unit {0}) JobFault)
+    → IsShown (result_map_both (λ a. text (view a)) (λ fault. fault) found) old new result writes writes_after
+    → IsShown (result_map_both text (λ fault. fault) (result_map_both view (λ fault. fault) found)) old new result writes writes_after
+shown_seen text view old new writes writes_after (Ok a) result shown = shown
+shown_seen text view old new writes writes_after (Err fault) result shown = shown

@@ -24,14 +24,16 @@ FindsRecords (Err refusal) = IsOfStore refusal
 abbrev pub export_text : ZoneForm → List ℕ → Result (List Record) Refusal → Result (List ℕ) Refusal
 export_text form word held = of_names (absolute_name word) >>= λ origin. held >>= λ records. Ok (zone_text_in form origin records)
 
--- What connections show, what the files say of the path, and the origin with the records that were had: the origin's word is one, and these are the records that
--- the store of the path holds of it; or the word was refused; or the store refused them.
-abbrev pub IsExported : {C X : Type 0} → (C → Shown) → (X → List Record) → List ℕ → (Bool → Type 0) → (StoreFault → Type 0) → (C → Type 0) → Result (List (List ℕ) × X) LineFault → Type 0
-IsExported shows view word finds refuses connects (Ok found) =
-    (of_names (absolute_name word) ≡ Ok found.0) × IsHeld shows finds refuses connects view found.0 (Ok found.1)
-IsExported shows view word finds refuses connects (Err fault) =
-    Gives {X = List (List ℕ)} (λ origin. origin) (Err fault) (of_names (absolute_name word))
-    ⊎ ((origin : List (List ℕ)) × (of_names (absolute_name word) ≡ Ok origin) × ((refusal : StoreFault) × (fault ≡ of_store refusal) × IsHeld shows finds refuses connects view origin (Err refusal)))
+-- What connections show, what the files say of the path, the connection that is handed back, and the origin with the records that were had:
+-- the origin's word is one, and these are the records that the store of the path holds of it; or the word was refused, with no store touched; or
+-- the store refused them.
+abbrev pub IsExported : {C X : Type 0} → (C → Shown) → (X → List Record) → List ℕ → (Bool → Type 0) → (StoreFault → Type 0) → (C → Type 0) → Option C → Result (List (List ℕ) × X) LineFault → Type 0
+IsExported shows view word finds refuses connects conn (Ok found) =
+    (of_names (absolute_name word) ≡ Ok found.0) × IsHeld shows finds refuses connects view found.0 conn (Ok found.1)
+IsExported shows view word finds refuses connects conn (Err fault) =
+    (Gives {X = List (List ℕ)} (λ origin. origin) (Err fault) (of_names (absolute_name word)) × (conn ≡ None))
+    ⊎ ((origin : List (List ℕ)) × (of_names (absolute_name word) ≡ Ok origin)
+    × ((refusal : StoreFault) × (fault ≡ of_store refusal) × IsHeld shows finds refuses connects view origin conn (Err refusal)))
 
 -- ---- the job
 
@@ -41,9 +43,10 @@ abbrev pub ExportWritten : List ℕ → ZoneForm → Option (List ℕ) → Optio
 ExportWritten word form old new result writes writes_after =
     (held : Result (List Record) Refusal) × FindsRecords held × Answered None (λ _. export_text form word held) old new result ⊤ ⊥ writes writes_after
 
--- They are those that the store of this path holds; and a refusal is that of the files, of what they hold, or of the table.
-abbrev pub ZoneExported : {C : Type 0} → StoresOf C → List ℕ → List ℕ → ZoneForm → Option (List ℕ) → Option (List ℕ) → Result (Unit {0}) JobFault → ℕ → ℕ → Type 0
-ZoneExported s path word form old new result writes writes_after =
+-- They are those that the store of this path holds, and it is left as it was; and a refusal is that of the files, of what they hold, or of
+-- the table.
+abbrev pub ZoneExported : {C : Type 0} → StoresOf C → List ℕ → List ℕ → ZoneForm → Option C → Option (List ℕ) → Option (List ℕ) → Result (Unit {0}) JobFault → ℕ → ℕ → Type 0
+ZoneExported s path word form conn old new result writes writes_after =
     (made : Result (List (List ℕ) × List Record) LineFault)
-    × IsExported s.shows (λ records. records) word (s.finds path) (s.refuses path) (s.connects path) made
+    × IsExported s.shows (λ records. records) word (s.finds path) (s.refuses path) (s.connects path) conn made
     × IsShown (result_map_both (λ found. zone_text_in form found.0 found.1) (λ fault. fault) made) old new result writes writes_after

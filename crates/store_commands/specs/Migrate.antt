@@ -30,8 +30,8 @@ abbrev pub MigrationWritten : Option (List ℕ) → Option (List ℕ) → Result
 MigrationWritten old new result writes writes_after =
     (made : Result (List ℕ) Refusal) × Migrates made × Answered None (λ _. made) old new result ⊤ ⊥ writes writes_after
 
--- It is the store of this path; and a refusal is that of the files, or of what they hold.
-abbrev pub StoreMigrated : {C : Type 0} → StoresOf C → List ℕ → Option (List ℕ) → Option (List ℕ) → Result (Unit {0}) JobFault → ℕ → ℕ → Type 0
-StoreMigrated s path old new result writes writes_after =
-    (made : Result ℕ StoreFault) × IsMigratedStore s.shows (s.finds path) (s.refuses path) (s.connects path) made
+-- It is the store of this path, which is left so; and a refusal is that of the files, or of what they hold.
+abbrev pub StoreMigrated : {C : Type 0} → StoresOf C → List ℕ → Option C → Option (List ℕ) → Option (List ℕ) → Result (Unit {0}) JobFault → ℕ → ℕ → Type 0
+StoreMigrated s path conn old new result writes writes_after =
+    (made : Result ℕ StoreFault) × IsMigratedStore s.shows (s.finds path) (s.refuses path) (s.connects path) conn made
     × IsReported (migration_told made) old new result writes writes_after

@@ -1,5 +1,5 @@
 -- What the program does: the job that the words of its command line ask for, in what is around it, and the status with which it ends.
-use Rattle.std.specs.Prelude.{◌≡◌, ◌≢◌, ◌<◌, ◌⊎◌, ⊤, ℕ, List, [], codes, Option, Some, option_map, Result, Ok, Err, string_bytes}
+use Rattle.std.specs.Prelude.{◌≡◌, ◌≢◌, ◌<◌, ◌⊎◌, ⊤, ℕ, List, [], codes, Option, Some, None, option_map, Result, Ok, Err, string_bytes}
 use Rattle.dns_master.specs.declared.device.DeviceFailed.{DeviceFailed}
 use Rattle.command_line.specs.declared.job.Job.{Job}
 use Rattle.command_line.specs.declared.job.Job.TheVariants as job
@@ -36,9 +36,10 @@ use Rattle.store_commands.specs.Serve.{Serves}
 
 -- ---- the streams
 
--- a stream that is read: what was left to read, and its failures before and after
+-- a stream that is read: what was left to read before and after, and its failures before and after
 pub record Reading : Type 0 where
   pub left : Option (List ℕ)
+  pub rest : Option (List ℕ)
   pub before : ℕ
   pub after : ℕ
 
@@ -48,6 +49,10 @@ pub record Writing : Type 0 where
   pub new : Option (List ℕ)
   pub before : ℕ
   pub after : ℕ
+
+-- nothing was read of it
+abbrev pub IsUnread : Reading → Type 0
+IsUnread i = (i.rest ≡ i.left) × (i.after ≡ i.before)
 
 -- nothing was written to it
 abbrev pub IsIdle : Writing → Type 0
@@ -103,32 +108,44 @@ DiffersBy a i form word files o outcome =
 abbrev pub Ends : {F : Type 0} → (Result (Unit {0}) F → Type 0) → ℕ → Type 0
 Ends {F} holds status = (outcome : Result (Unit {0}) F) × holds outcome × (status ≡ status_of outcome)
 
+-- a job that touches no store, and has no trace
+abbrev pub IsAlone : {C : Type 0} → Option C → Writing → Type 0
+IsAlone left t = (left ≡ None) × IsIdle t
+
 -- Each job reads its own input and answers to its own words, and the status is 0 exactly where it went through. What is around, the stores of
--- paths, standard input, standard output, the trace, the job, and the status. Only a service writes to the trace.
-abbrev pub JobEnds : {C : Type 0} → Around → StoresOf C → Reading → Writing → Writing → Job → ℕ → Type 0
-JobEnds a s i o t job.Apply status = IsIdle t × EndsTask i.left (i.after ≡ i.before) (i.before < i.after) apply_text o status
-JobEnds a s i o t (job.Canon origin form) status = IsIdle t × EndsTask i.left (i.after ≡ i.before) (i.before < i.after) (canon_text form origin.now) o status
-JobEnds a s i o t (job.Diff origin files form) status = IsIdle t × Ends (λ outcome. DiffersBy a i form origin.now files o outcome) status
-JobEnds a s i o t (job.Request id) status = IsIdle t × EndsTask i.left (i.after ≡ i.before) (i.before < i.after) (request_text id.now) o status
-JobEnds a s i o t (job.Import zone existing) status =
+-- paths, standard input, standard output, the trace, the job, the connection that is handed back (which shows what is left of the store that
+-- the job reached), and the status. Only a service writes to the trace; and a job whose input is a file or a store reads nothing else.
+abbrev pub JobEnds : {C : Type 0} → Around → StoresOf C → Reading → Writing → Writing → Job → Option C → ℕ → Type 0
+JobEnds a s i o t job.Apply left status = IsAlone left t × EndsTask i.left (i.after ≡ i.before) (i.before < i.after) apply_text o status
+JobEnds a s i o t (job.Canon origin form) left status =
+    IsAlone left t × EndsTask i.left (i.after ≡ i.before) (i.before < i.after) (canon_text form origin.now) o status
+JobEnds a s i o t (job.Diff origin files form) left status = IsAlone left t × Ends (λ outcome. DiffersBy a i form origin.now files o outcome) status
+JobEnds a s i o t (job.Request id) left status = IsAlone left t × EndsTask i.left (i.after ≡ i.before) (i.before < i.after) (request_text id.now) o status
+JobEnds a s i o t (job.Import zone existing) left status =
     IsIdle t × Ends (λ outcome. ImportWritten zone.origin.now i.left o.old o.new outcome (i.after ≡ i.before) (i.before < i.after) o.before o.after
-    × ZoneStored s zone.store.now zone.origin.now existing i.left o.old o.new outcome (i.after ≡ i.before) (i.before < i.after) o.before o.after) status
-JobEnds a s i o t (job.Export zone form) status =
-    IsIdle t × Ends (λ outcome. ExportWritten zone.origin.now form o.old o.new outcome o.before o.after
-    × ZoneExported s zone.store.now zone.origin.now form o.old o.new outcome o.before o.after) status
-JobEnds a s i o t (job.Migrate store) status =
-    IsIdle t × Ends (λ outcome. MigrationWritten o.old o.new outcome o.before o.after × StoreMigrated s store.now o.old o.new outcome o.before o.after) status
-JobEnds a s i o t (job.Rights policy asked) status = IsIdle t × EndsTask (a.file policy.now) ⊤ (a.unreadable policy.now) (rights_text asked) o status
-JobEnds a s i o t (job.Plan policy caller) status =
-    IsIdle t × Ends (λ outcome. IsPlanned caller.now (named a policy.now) (standard i) o.old o.new outcome o.before o.after) status
-JobEnds a s i o t (job.Serve service) status =
-    Ends (λ outcome. Serves a s service o.old o.new outcome o.before o.after t.old t.new t.before t.after) status
-JobEnds a s i o t (job.CheckPolicy policy) status = IsIdle t × EndsCheck Rules (a.file policy.now) ⊤ (a.unreadable policy.now) o status
-JobEnds a s i o t (job.CheckIsolation policy caller) status = IsIdle t × EndsCheck (Isolation caller) (a.file policy.now) ⊤ (a.unreadable policy.now) o status
-JobEnds a s i o t (job.CheckRights policy name) status = IsIdle t × EndsCheck (Rights name) (a.file policy.now) ⊤ (a.unreadable policy.now) o status
-JobEnds a s i o t (job.CheckZone origin rules) status = IsIdle t × EndsCheck (Zone origin rules) i.left (i.after ≡ i.before) (i.before < i.after) o status
-JobEnds a s i o t (job.Explain number form) status =
-    IsIdle t × EndsTask i.left (i.after ≡ i.before) (i.before < i.after) (explain_text (option_map (λ n. n.now) number) form) o status
+    × ZoneStored s zone.store.now zone.origin.now existing i.left left o.old o.new outcome (i.after ≡ i.before) (i.before < i.after) o.before o.after) status
+JobEnds a s i o t (job.Export zone form) left status =
+    IsIdle t × IsUnread i × Ends (λ outcome. ExportWritten zone.origin.now form o.old o.new outcome o.before o.after
+    × ZoneExported s zone.store.now zone.origin.now form left o.old o.new outcome o.before o.after) status
+JobEnds a s i o t (job.Migrate store) left status =
+    IsIdle t × IsUnread i
+    × Ends (λ outcome. MigrationWritten o.old o.new outcome o.before o.after × StoreMigrated s store.now left o.old o.new outcome o.before o.after) status
+JobEnds a s i o t (job.Rights policy asked) left status =
+    IsAlone left t × IsUnread i × EndsTask (a.file policy.now) ⊤ (a.unreadable policy.now) (rights_text asked) o status
+JobEnds a s i o t (job.Plan policy caller) left status =
+    IsAlone left t × Ends (λ outcome. IsPlanned caller.now (named a policy.now) (standard i) o.old o.new outcome o.before o.after) status
+JobEnds a s i o t (job.Serve service) left status =
+    IsUnread i × Ends (λ outcome. Serves a s service left o.old o.new outcome o.before o.after t.old t.new t.before t.after) status
+JobEnds a s i o t (job.CheckPolicy policy) left status =
+    IsAlone left t × IsUnread i × EndsCheck Rules (a.file policy.now) ⊤ (a.unreadable policy.now) o status
+JobEnds a s i o t (job.CheckIsolation policy caller) left status =
+    IsAlone left t × IsUnread i × EndsCheck (Isolation caller) (a.file policy.now) ⊤ (a.unreadable policy.now) o status
+JobEnds a s i o t (job.CheckRights policy name) left status =
+    IsAlone left t × IsUnread i × EndsCheck (Rights name) (a.file policy.now) ⊤ (a.unreadable policy.now) o status
+JobEnds a s i o t (job.CheckZone origin rules) left status =
+    IsAlone left t × EndsCheck (Zone origin rules) i.left (i.after ≡ i.before) (i.before < i.after) o status
+JobEnds a s i o t (job.Explain number form) left status =
+    IsAlone left t × EndsTask i.left (i.after ≡ i.before) (i.before < i.after) (explain_text (option_map (λ n. n.now) number) form) o status
 
 -- ---- words
 
@@ -143,8 +160,9 @@ EndsFault (fault.Help text) o status = IsToldWhole (string_bytes text) o status
 EndsFault (fault.Misused text) o status = IsIdle o × (status ≡ 2)
 EndsFault fault.NoMemory o status = ((told : ℕ) × IsToldWhole (line_of NoMemory) o told) × (status ≡ 1)
 
--- The job that the words ask for is done; or they ask for help, are misused, or there is no memory for them, and nothing is read.
-abbrev pub WordsEnd : {C : Type 0} → Around → StoresOf C → Reading → Writing → Writing → List (List ℕ) → ℕ → Type 0
-WordsEnd a s i o t words status =
-    ((asked : Job) × (job_of words ≡ Some (asks asked)) × JobEnds a s i o t asked status)
-    ⊎ ((refused : WordsFault) × IsReported words refused × EndsFault refused o status × IsIdle t × (i.after ≡ i.before))
+-- The job that the words ask for is done; or they ask for help, are misused, or there is no memory for them, and nothing is read and no store
+-- touched.
+abbrev pub WordsEnd : {C : Type 0} → Around → StoresOf C → Reading → Writing → Writing → List (List ℕ) → Option C → ℕ → Type 0
+WordsEnd a s i o t words left status =
+    ((asked : Job) × (job_of words ≡ Some (asks asked)) × JobEnds a s i o t asked left status)
+    ⊎ ((refused : WordsFault) × IsReported words refused × EndsFault refused o status × IsAlone left t × IsUnread i)

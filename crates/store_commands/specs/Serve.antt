@@ -1,6 +1,8 @@
 -- Serving connections, one after the other, and what is written of one that ended by a fault.
 use Rattle.std.specs.Prelude.{◌≡◌, ◌⊎◌, ⊤, ℕ, ◌<◌, ◌≤◌, List, ◌∷◌, [], ◌++◌, length, codes, decimal, Option, Some, None, Result, Ok, Err, unwrap_or}
 use Rattle.std.specs.Io.KnownBytes.{Appends}
+use Rattle.std.specs.Net.Grammar.{IsSocketText}
+use Rattle.std.specs.declared.net.socket_addr.SocketAddr.{SocketAddr}
 use Rattle.std.specs.List.{flat_map}
 use Rattle.grant_policy.specs.declared.rule.Rule.{Rule}
 use Rattle.grant_policy.specs.Documents.{document_of}
@@ -16,7 +18,7 @@ use Rattle.command_line.specs.declared.job.Service.{Service}
 use Rattle.text_commands.specs.declared.refusal.Refusal.{Refusal}
 use Rattle.text_commands.specs.LineFaults.{◌>>=◌, limited, of_policies, of_store, Makes, GivesOf}
 use Rattle.text_commands.specs.declared.line_fault.LineFault.{LineFault}
-use Rattle.text_commands.specs.declared.line_fault.LineFault.TheVariants.{Refused, ReadFailed}
+use Rattle.text_commands.specs.declared.line_fault.LineFault.TheVariants.{Refused, ReadFailed, NoMemory}
 use Rattle.text_commands.specs.declared.line_fault.JobFault.{JobFault}
 use Rattle.text_commands.specs.declared.line_fault.JobFault.TheVariants.{Reported, WriteFailed}
 use Rattle.text_commands.specs.Device.{AppendsFront}
@@ -26,7 +28,7 @@ use Rattle.office_core.specs.States.{State}
 use Rattle.office_store.specs.Holds.{HoldsState}
 use Rattle.office_wire.specs.Serving.{standing}
 use Rattle.store_commands.specs.Around.{Around}
-use Rattle.store_commands.specs.Stores.{StoresOf, IsOpened, IsUnopened}
+use Rattle.store_commands.specs.Stores.{StoresOf, IsLeft, IsOpened, IsUnopened}
 
 -- what is read of a policy's text: its rules, or a refusal
 abbrev pub policy_read : List ℕ → Result (List Rule) Refusal
@@ -75,15 +77,17 @@ pub record AreServed (rules : List Rule) (c : Standing) (connections : List (Lis
   pub run : Run rules c (joined connections) d
   pub promised : ArePromised rules c.state (joined connections) d.state
 
--- How many connections were asked for, how each ended that was served, what the writer held before and after, the answer, and the
--- writer's failures before and after. A line tells each fault that ended one. Fewer are served only where one cannot be had, which is
+-- That no connection can be had, how many were asked for, how each ended that was served, what the writer held before and after, the answer,
+-- and the writer's failures before and after. A line tells each fault that ended one. Fewer are served only where one cannot be had, which is
 -- told, or where a line cannot be written.
-abbrev pub AreReported : ℕ → List (Option ServeFault) → Option (List ℕ) → Option (List ℕ) → Result (Unit {0}) JobFault → ℕ → ℕ → Type 0
-AreReported most ends old new (Ok done) before after = (length ends ≡ most) × Appends old new (ended_lines ends) × (after ≡ before)
-AreReported most ends old new (Err (Reported ReadFailed)) before after = (length ends < most) × Appends old new (ended_lines ends ++ line_of ReadFailed) × (after ≡ before)
-AreReported most ends old new (Err (Reported fault)) before after = ⊥
-AreReported most ends old new (Err WriteFailed) before after =
-    (((length ends ≤ most) × AppendsFront old new (ended_lines ends)) ⊎ ((length ends < most) × AppendsFront old new (ended_lines ends ++ line_of ReadFailed))) × (before < after)
+abbrev pub AreReported : Type 0 → ℕ → List (Option ServeFault) → Option (List ℕ) → Option (List ℕ) → Result (Unit {0}) JobFault → ℕ → ℕ → Type 0
+AreReported cut most ends old new (Ok done) before after = (length ends ≡ most) × Appends old new (ended_lines ends) × (after ≡ before)
+AreReported cut most ends old new (Err (Reported ReadFailed)) before after =
+    cut × (length ends < most) × Appends old new (ended_lines ends ++ line_of ReadFailed) × (after ≡ before)
+AreReported cut most ends old new (Err (Reported fault)) before after = ⊥
+AreReported cut most ends old new (Err WriteFailed) before after =
+    (((length ends ≤ most) × AppendsFront old new (ended_lines ends)) ⊎ (cut × (length ends < most) × AppendsFront old new (ended_lines ends ++ line_of ReadFailed)))
+    × (before < after)
 
 -- So many connections were served: as many as were asked for, unless one could not be had or a line not be written.
 abbrev pub IsSoMany : ℕ → Result (Unit {0}) JobFault → ℕ → Type 0
@@ -92,60 +96,62 @@ IsSoMany most (Err fault) n = n ≤ most
 
 -- ---- a service
 
--- What a table says of itself, the rules, how many connections were asked for, the table before and after, the answer, what the writer of
--- traces held before and after, and its failures before and after. Whatever connections come: where the store has kept its word, there
--- are turns of all of them, one connection after the other, that take the table from how it stood to how it stands; each is answered by the
--- policy and the state that it found. The trace tells of those of these turns that were answered SERVFAIL.
-abbrev pub AreServedFrom : {T : Type 0} → (T → Type 0) → (T → State → Type 0) → (T → ℕ) → List Rule → ℕ → T → T → Result (Unit {0}) JobFault → Option (List ℕ) → Option (List ℕ) → ℕ → ℕ → Type 0
-AreServedFrom honest holds failures rules most table after result old new fails fails_after =
-    honest after → (s : State) → holds table s → (turns : List (List Turn)) × (t : State) × holds after t
-    × AreServed rules (standing s (failures table)) turns (standing t (failures after)) × IsSoMany most result (length turns) × AreTraced turns old new fails fails_after
+-- That the store has kept its word, the states that the table held before and holds after, its failures before and after, the rules, how many
+-- connections were asked for, the answer, what the writer of traces held before and after, and its failures before and after. Whatever
+-- connections come: where the store has kept its word, there are turns of all of them, one connection after the other, that take the table
+-- from how it stood to how it stands; each is answered by the policy and the state that it found. The trace tells of those of these turns
+-- that were answered SERVFAIL.
+abbrev pub AreServedFrom : Type 0 → (State → Type 0) → (State → Type 0) → ℕ → ℕ → List Rule → ℕ → Result (Unit {0}) JobFault → Option (List ℕ) → Option (List ℕ) → ℕ → ℕ → Type 0
+AreServedFrom honest held holds failures failures_after rules most result old new fails fails_after =
+    honest → (s : State) → held s → (turns : List (List Turn)) × (t : State) × holds t
+    × AreServed rules (standing s failures) turns (standing t failures_after) × IsSoMany most result (length turns) × AreTraced turns old new fails fails_after
 
 -- where it listens
 abbrev pub listening_line : List ℕ → List ℕ
 listening_line address = codes "listening " ++ address ++ 10 ∷ []
 
--- why there is no listener: there can be none, or memory ran out
-abbrev pub IsNoListener : LineFault → Type 0
-IsNoListener (Refused refusal) = ⊥
-IsNoListener fault = Unit {0}
+-- the address is one, and there can be no listener at it
+abbrev pub IsUnheard : Around → List ℕ → Type 0
+IsUnheard a listen = (address : SocketAddr) × IsSocketText listen address × a.unheard address
 
--- How many connections were asked for, the line that tells where it listens, what the writer held before and after, the answer, and the
--- writer's failures before and after: the line is written, and then those of the connections.
-abbrev pub IsToldBehind : ℕ → List ℕ → Option (List ℕ) → Option (List ℕ) → Result (Unit {0}) JobFault → ℕ → ℕ → Type 0
-IsToldBehind most line old new result before after =
-    ((result ≡ Err WriteFailed) × AppendsFront old new line × (before < after))
-    ⊎ ((mid : Option (List ℕ)) × Appends old mid line × (ends : List (Option ServeFault)) × AreReported most ends mid new result before after)
+-- why there is no listener: the word is no address, there can be none at it, or memory ran out
+abbrev pub IsNoListener : Around → List ℕ → LineFault → Type 0
+IsNoListener a listen (Refused refusal) = ⊥
+IsNoListener a listen ReadFailed = ((address : SocketAddr) → ¬ IsSocketText listen address) ⊎ IsUnheard a listen
+IsNoListener a listen NoMemory = Unit {0}
 
--- the line of why there is no listener is written; or the one that tells where it listens, and then those of the connections
-abbrev pub IsServiceTold : ℕ → Option (List ℕ) → Option (List ℕ) → Result (Unit {0}) JobFault → ℕ → ℕ → Type 0
-IsServiceTold most old new result before after =
-    ((fault : LineFault) × IsNoListener fault × IsRefusalWritten old new fault result before after)
-    ⊎ ((address : List ℕ) × IsToldBehind most (listening_line address) old new result before after)
+-- What is around, the word that says where to listen, how many connections are asked for, that nothing was done, that connections were served,
+-- what the writer held before and after, the answer, and the writer's failures before and after. The line of why there is no listener is
+-- written, and nothing is done; or the line that tells where it listens, and then connections were served, and theirs are written.
+abbrev pub IsServiceTold : Around → List ℕ → ℕ → Type 0 → Type 0 → Option (List ℕ) → Option (List ℕ) → Result (Unit {0}) JobFault → ℕ → ℕ → Type 0
+IsServiceTold a listen most idle served old new result before after =
+    ((fault : LineFault) × IsNoListener a listen fault × IsRefusalWritten old new fault result before after × idle)
+    ⊎ ((address : List ℕ) × (((result ≡ Err WriteFailed) × AppendsFront old new (listening_line address) × (before < after) × idle)
+    ⊎ ((mid : Option (List ℕ)) × Appends old mid (listening_line address) × ((ends : List (Option ServeFault)) × AreReported a.cut most ends mid new result before after) × served)))
 
--- What connections show, the rules, how many connections were asked for, what the store showed when it was opened, the answer, what the
--- writer of traces held before and after, and its failures before and after: connections were served from this store.
-abbrev pub IsServedBy : {C : Type 0} → (C → Shown) → List Rule → ℕ → C → Result (Unit {0}) JobFault → Option (List ℕ) → Option (List ℕ) → ℕ → ℕ → Type 0
-IsServedBy {C} shows rules most now result old new fails fails_after =
-    (left : C) × (HasCleanDisk (shows left) → HasCleanDisk (shows now))
-    × (failures : ℕ) × (failures_after : ℕ)
-    × (HasCleanDisk (shows left) → (s : State) → HoldsState (shows now) s → (turns : List (List Turn)) × (t : State) × HoldsState (shows left) t
-    × AreServed rules (standing s failures) turns (standing t failures_after) × IsSoMany most result (length turns) × AreTraced turns old new fails fails_after)
+-- What is around, the words, the rules, what the store showed when it was opened and shows when it is handed back, what the writer held before
+-- and after, the answer, its failures before and after, what the writer of traces held before and after, and its failures before and after:
+-- connections were served from this store by these rules, or it shows what it showed.
+pub record IsServedBy (a : Around) (service : Service) (rules : List Rule) (now after : Shown) (old new : Option (List ℕ)) (result : Result (Unit {0}) JobFault) (writes writes_after : ℕ) (trace trace_after : Option (List ℕ)) (fails fails_after : ℕ) : Type 0 where
+  pub honest : HasCleanDisk after → HasCleanDisk now
+  pub failures : ℕ
+  pub failures_after : ℕ
+  pub told : IsServiceTold a service.listen.now (most_of service) ((after ≡ now) × (trace_after ≡ trace) × (fails_after ≡ fails))
+      (AreServedFrom (HasCleanDisk after) (HoldsState now) (HoldsState after) failures failures_after rules (most_of service) result trace trace_after fails fails_after) old new result writes writes_after
 
--- The stores of paths, the words, the rules, what the writer held before and after, the answer, its failures before and after, what the
--- writer of traces held before and after, and its failures before and after: the store of the path is refused, and that is told; or it is
--- opened, and connections are served from it by these rules.
-abbrev pub BeginsBy : {C : Type 0} → StoresOf C → Service → List Rule → Option (List ℕ) → Option (List ℕ) → Result (Unit {0}) JobFault → ℕ → ℕ → Option (List ℕ) → Option (List ℕ) → ℕ → ℕ → Type 0
-BeginsBy {C} s service rules old new result before after trace trace_after fails fails_after =
-    ((refusal : StoreFault) × IsUnopened s.shows (s.finds service.store.now) (s.refuses service.store.now) (s.connects service.store.now) refusal
+-- The stores of paths, the words, the rules, the connection that is handed back, and the rest as above: the store of the path is refused, and
+-- that is told; or it is opened, and connections are served from it by these rules.
+abbrev pub BeginsBy : {C : Type 0} → Around → StoresOf C → Service → List Rule → Option C → Option (List ℕ) → Option (List ℕ) → Result (Unit {0}) JobFault → ℕ → ℕ → Option (List ℕ) → Option (List ℕ) → ℕ → ℕ → Type 0
+BeginsBy {C} a s service rules left old new result before after trace trace_after fails fails_after =
+    ((refusal : StoreFault) × IsUnopened s.shows (s.finds service.store.now) (s.refuses service.store.now) (s.connects service.store.now) left refusal
     × IsRefusalWritten old new (of_store refusal) result before after × (trace_after ≡ trace) × (fails_after ≡ fails))
-    ⊎ ((now : C) × IsOpened s.shows (s.connects service.store.now) now × IsServedBy s.shows rules (most_of service) now result trace trace_after fails fails_after
-    × IsServiceTold (most_of service) old new result before after)
+    ⊎ ((now : C) × IsOpened s.shows (s.connects service.store.now) now
+    × IsLeft left (λ then. IsServedBy a service rules (s.shows now) (s.shows then) old new result before after trace trace_after fails fails_after))
 
--- The same behind the policy: it is refused, or not read, and that is told; or its rules were read.
-abbrev pub Serves : {C : Type 0} → Around → StoresOf C → Service → Option (List ℕ) → Option (List ℕ) → Result (Unit {0}) JobFault → ℕ → ℕ → Option (List ℕ) → Option (List ℕ) → ℕ → ℕ → Type 0
-Serves a s service old new result before after trace trace_after fails fails_after =
+-- The same behind the policy: it is refused, or not read, and that is told, with no store touched; or its rules were read.
+abbrev pub Serves : {C : Type 0} → Around → StoresOf C → Service → Option C → Option (List ℕ) → Option (List ℕ) → Result (Unit {0}) JobFault → ℕ → ℕ → Option (List ℕ) → Option (List ℕ) → ℕ → ℕ → Type 0
+Serves a s service left old new result before after trace trace_after fails fails_after =
     ((fault : LineFault) × GivesOf {X = List Rule} (λ rules. rules) (a.file service.policy.now) policy_read (Err fault) ⊤ (a.unreadable service.policy.now)
-    × IsRefusalWritten old new fault result before after × (trace_after ≡ trace) × (fails_after ≡ fails))
+    × IsRefusalWritten old new fault result before after × (left ≡ None) × (trace_after ≡ trace) × (fails_after ≡ fails))
     ⊎ ((rules : List Rule) × Makes (a.file service.policy.now) policy_read (Ok rules)
-    × BeginsBy s service rules old new result before after trace trace_after fails fails_after)
+    × BeginsBy a s service rules left old new result before after trace trace_after fails fails_after)

@@ -1,17 +1,18 @@
--- The store of a path: what the files say of the path, and what is opened, made, read, written and migrated there.
-use Rattle.std.specs.Prelude.{◌≡◌, ◌≢◌, ◌⊎◌, ℕ, Bool, false, List, Result, Ok, Err}
+-- The store of a path: what the files say of the path, what is opened, made, read, written and migrated there, and what the connection to it
+-- shows when a command has done with it.
+use Rattle.std.specs.Prelude.{◌≡◌, ◌≢◌, ◌⊎◌, ℕ, Bool, false, List, Option, Some, None, Result, Ok, Err}
 use Rattle.dns_data.specs.declared.record.Record.{Record}
 use Rattle.sqlite.specs.State.{State as Shown, HasCleanDisk}
 use Rattle.zone_core.specs.Zones.{ZoneOf}
 use Rattle.office_core.specs.States.{State}
-use Rattle.office_sql.specs.Holds.{Keeps}
+use Rattle.office_sql.specs.Holds.{Keeps, Leaves}
 use Rattle.office_sql.specs.Tables.{no_schema}
 use Rattle.office_rows.specs.Batches.{nothing_held}
 use Rattle.office_rows.specs.Contents.{ContentOf}
 use Rattle.office_rows.specs.StoreFaults.{IsFailure, IsOfRows, Gives}
 use Rattle.office_rows.specs.declared.store_fault.StoreFault.{StoreFault}
 use Rattle.office_rows.specs.declared.store_fault.StoreFault.TheVariants.{NoZone, WrongVersion, BadRow}
-use Rattle.office_store.specs.Holds.{HoldsState, HasVersion, IsOfVersion, LeavesStates}
+use Rattle.office_store.specs.Holds.{HoldsState, HasNone, HasVersion, IsOfVersion, IsStateIn, LeavesStates}
 use Rattle.office_store.specs.Migration.{HoldsOld, IsMigrated}
 use Rattle.office_store.specs.Queries.{Asked, AsksOnly, Only}
 use Rattle.office_store.specs.Turns.{Turns}
@@ -58,9 +59,10 @@ pub record IsAdopted (found now : Shown) : Type 0 where
   pub only : HasCleanDisk now → Only found now
 
 -- Why it is no store: of a state only that the store failed or memory ran out; else the tables are not those of this version, or their
--- rows are no state.
+-- rows are no state. It shows what it showed.
 pub record IsNoStore (found left : Shown) (fault : StoreFault) : Type 0 where
   pub asked : Asked found left
+  pub keeps : Keeps found left
   pub named : (fault ≡ WrongVersion) ⊎ IsOfRows fault
   pub good : HasCleanDisk left → (s : State) → HoldsState found s → IsFailure fault
   pub wrong : HasCleanDisk left → fault ≡ WrongVersion → ¬ HasVersion found
@@ -73,10 +75,12 @@ pub record IsMade (found now : Shown) : Type 0 where
   pub left : LeavesStates now nothing_held nothing_held
   pub honest : HasCleanDisk now → HasCleanDisk found
 
--- There were none, and they could not be made.
-pub record IsUnmade (found : Shown) (fault : StoreFault) : Type 0 where
+-- There were none, and they could not be made: none is there, and a crash leaves what it left before, or the tables with nothing in them.
+pub record IsUnmade (found left : Shown) (fault : StoreFault) : Type 0 where
   pub bare : ¬ (found.now.schema ≢ no_schema)
   pub failed : IsFailure fault
+  pub none : HasNone left
+  pub crash : Leaves left (λ db. found.may_leave db ⊎ IsStateIn db nothing_held)
 
 -- What was held is held migrated.
 abbrev pub IsMigratedTo : Shown → Shown → ℕ → Type 0
@@ -93,23 +97,23 @@ pub record IsUnmigrated (found after : Shown) (fault : StoreFault) : Type 0 wher
 
 -- ---- what is done there, by what connections show
 
--- there is no store
-abbrev pub IsUnadopted : {C : Type 0} → (C → Shown) → C → StoreFault → Type 0
-IsUnadopted {C} shows found fault = (left : C) × IsNoStore (shows found) (shows left) fault
-
--- The zone is put into the store, or the table's own refusal comes.
-abbrev pub IsPut : {C : Type 0} → (C → Shown) → Existing → ZoneOf → C → Result (Unit {0}) StoreFault → Type 0
-IsPut {C} shows existing zone now result =
-    (after : C) × Turns (shows now) (shows after) result (λ s. with_put existing s zone)
-    × (HasCleanDisk (shows after) → (s : State) → HoldsState (shows now) s → Gives (λ _. zone) result (put_into existing s zone))
+-- The zone is put into the store, or the table's own refusal comes: what the connection showed before and after.
+abbrev pub IsPut : Existing → ZoneOf → Shown → Shown → Result (Unit {0}) StoreFault → Type 0
+IsPut existing zone now after result =
+    Turns now after result (λ s. with_put existing s zone)
+    × (HasCleanDisk after → (s : State) → HoldsState now s → Gives (λ _. zone) result (put_into existing s zone))
 
 -- The records of an origin are read from the store, which stays as it is.
-abbrev pub IsRead : {C X : Type 0} → (C → Shown) → (X → List Record) → List (List ℕ) → C → Result X StoreFault → Type 0
-IsRead {C} shows view origin now result =
-    (after : C) × AsksOnly (shows now) (shows after) result
-    × (HasCleanDisk (shows after) → (s : State) → HoldsState (shows now) s → Gives view result (exported (s.zones origin)))
+abbrev pub IsRead : {X : Type 0} → (X → List Record) → List (List ℕ) → Shown → Shown → Result X StoreFault → Type 0
+IsRead view origin now after result =
+    AsksOnly now after result × (HasCleanDisk after → (s : State) → HoldsState now s → Gives view result (exported (s.zones origin)))
 
--- ---- the store of a path, by what the files say of the path: whether there is a file, why it refuses it, and what it connects to
+-- ---- the store of a path, by what the files say of the path: whether there is a file, why it refuses it, and what it connects to. Behind
+-- each comes the connection that is handed back, if one was made: what it shows is what is left of the store.
+
+-- this connection is handed back
+abbrev pub IsLeft : {C : Type 0} → Option C → (C → Type 0) → Type 0
+IsLeft {C} left is = (after : C) × (left ≡ Some after) × is after
 
 -- there is no file, or the files refuse it
 abbrev pub IsUnfound : (Bool → Type 0) → (StoreFault → Type 0) → StoreFault → Type 0
@@ -119,41 +123,50 @@ IsUnfound finds refuses fault = (finds false × (fault ≡ NoZone)) ⊎ refuses 
 abbrev pub IsOpened : {C : Type 0} → (C → Shown) → (C → Type 0) → C → Type 0
 IsOpened {C} shows connects now = (found : C) × connects found × IsAdopted (shows found) (shows now)
 
-abbrev pub IsUnopened : {C : Type 0} → (C → Shown) → (Bool → Type 0) → (StoreFault → Type 0) → (C → Type 0) → StoreFault → Type 0
-IsUnopened {C} shows finds refuses connects fault = IsUnfound finds refuses fault ⊎ ((found : C) × connects found × IsUnadopted shows found fault)
+-- there is none, so that nothing was connected, or what was connected is no store
+abbrev pub IsUnopened : {C : Type 0} → (C → Shown) → (Bool → Type 0) → (StoreFault → Type 0) → (C → Type 0) → Option C → StoreFault → Type 0
+IsUnopened {C} shows finds refuses connects left fault =
+    (IsUnfound finds refuses fault × (left ≡ None))
+    ⊎ ((found : C) × connects found × IsLeft left (λ after. IsNoStore (shows found) (shows after) fault))
 
 -- one that is made if the path has no store
 abbrev pub IsOpenedOrMade : {C : Type 0} → (C → Shown) → (C → Type 0) → C → Type 0
 IsOpenedOrMade {C} shows connects now = (found : C) × connects found × (IsAdopted (shows found) (shows now) ⊎ IsMade (shows found) (shows now))
 
-abbrev pub IsUnopenedOrMade : {C : Type 0} → (C → Shown) → (StoreFault → Type 0) → (C → Type 0) → StoreFault → Type 0
-IsUnopenedOrMade {C} shows refuses connects fault =
-    refuses fault ⊎ ((found : C) × connects found × (IsUnadopted shows found fault ⊎ IsUnmade (shows found) fault))
+abbrev pub IsUnopenedOrMade : {C : Type 0} → (C → Shown) → (StoreFault → Type 0) → (C → Type 0) → Option C → StoreFault → Type 0
+IsUnopenedOrMade {C} shows refuses connects left fault =
+    (refuses fault × (left ≡ None))
+    ⊎ ((found : C) × connects found × IsLeft left (λ after. IsNoStore (shows found) (shows after) fault ⊎ IsUnmade (shows found) (shows after) fault))
 
 -- one for a zone: where a zone is to be replaced it is there
 abbrev pub IsReached : {C : Type 0} → (C → Shown) → (C → Type 0) → Existing → C → Type 0
 IsReached shows connects Kept now = IsOpenedOrMade shows connects now
 IsReached shows connects Replaced now = IsOpened shows connects now
 
-abbrev pub IsUnreached : {C : Type 0} → (C → Shown) → (Bool → Type 0) → (StoreFault → Type 0) → (C → Type 0) → Existing → StoreFault → Type 0
-IsUnreached shows finds refuses connects Kept fault = IsUnopenedOrMade shows refuses connects fault
-IsUnreached shows finds refuses connects Replaced fault = IsUnopened shows finds refuses connects fault
+abbrev pub IsUnreached : {C : Type 0} → (C → Shown) → (Bool → Type 0) → (StoreFault → Type 0) → (C → Type 0) → Existing → Option C → StoreFault → Type 0
+IsUnreached shows finds refuses connects Kept left fault = IsUnopenedOrMade shows refuses connects left fault
+IsUnreached shows finds refuses connects Replaced left fault = IsUnopened shows finds refuses connects left fault
 
 -- a zone is put into the store of the path, once that is reached
-abbrev pub IsStored : {C : Type 0} → (C → Shown) → (Bool → Type 0) → (StoreFault → Type 0) → (C → Type 0) → Existing → ZoneOf → Result (Unit {0}) StoreFault → Type 0
-IsStored {C} shows finds refuses connects existing zone (Ok done) =
-    (now : C) × IsReached shows connects existing now × IsPut shows existing zone now (Ok done)
-IsStored {C} shows finds refuses connects existing zone (Err fault) =
-    IsUnreached shows finds refuses connects existing fault ⊎ ((now : C) × IsReached shows connects existing now × IsPut shows existing zone now (Err fault))
+abbrev pub IsStored : {C : Type 0} → (C → Shown) → (Bool → Type 0) → (StoreFault → Type 0) → (C → Type 0) → Existing → ZoneOf → Option C → Result (Unit {0}) StoreFault → Type 0
+IsStored {C} shows finds refuses connects existing zone left (Ok done) =
+    (now : C) × IsReached shows connects existing now × IsLeft left (λ after. IsPut existing zone (shows now) (shows after) (Ok done))
+IsStored {C} shows finds refuses connects existing zone left (Err fault) =
+    IsUnreached shows finds refuses connects existing left fault
+    ⊎ ((now : C) × IsReached shows connects existing now × IsLeft left (λ after. IsPut existing zone (shows now) (shows after) (Err fault)))
 
 -- the records of an origin are read from the store of the path, once that is opened
-abbrev pub IsHeld : {C X : Type 0} → (C → Shown) → (Bool → Type 0) → (StoreFault → Type 0) → (C → Type 0) → (X → List Record) → List (List ℕ) → Result X StoreFault → Type 0
-IsHeld {C} shows finds refuses connects view origin (Ok x) = (now : C) × IsOpened shows connects now × IsRead shows view origin now (Ok x)
-IsHeld {C} shows finds refuses connects view origin (Err fault) =
-    IsUnopened shows finds refuses connects fault ⊎ ((now : C) × IsOpened shows connects now × IsRead shows view origin now (Err fault))
+abbrev pub IsHeld : {C X : Type 0} → (C → Shown) → (Bool → Type 0) → (StoreFault → Type 0) → (C → Type 0) → (X → List Record) → List (List ℕ) → Option C → Result X StoreFault → Type 0
+IsHeld {C} {X} shows finds refuses connects view origin left (Ok x) =
+    (now : C) × IsOpened shows connects now × IsLeft left (λ after. IsRead view origin (shows now) (shows after) (Ok x))
+IsHeld {C} {X} shows finds refuses connects view origin left (Err fault) =
+    IsUnopened shows finds refuses connects left fault
+    ⊎ ((now : C) × IsOpened shows connects now × IsLeft left (λ after. IsRead view origin (shows now) (shows after) (Err fault)))
 
 -- the store of the path is migrated from version 1, and so many of its zones were changed
-abbrev pub IsMigratedStore : {C : Type 0} → (C → Shown) → (Bool → Type 0) → (StoreFault → Type 0) → (C → Type 0) → Result ℕ StoreFault → Type 0
-IsMigratedStore {C} shows finds refuses connects (Ok zones) = (found after : C) × connects found × IsMigratedTo (shows found) (shows after) zones
-IsMigratedStore {C} shows finds refuses connects (Err fault) =
-    IsUnfound finds refuses fault ⊎ ((found after : C) × connects found × IsUnmigrated (shows found) (shows after) fault)
+abbrev pub IsMigratedStore : {C : Type 0} → (C → Shown) → (Bool → Type 0) → (StoreFault → Type 0) → (C → Type 0) → Option C → Result ℕ StoreFault → Type 0
+IsMigratedStore {C} shows finds refuses connects left (Ok zones) =
+    (found : C) × connects found × IsLeft left (λ after. IsMigratedTo (shows found) (shows after) zones)
+IsMigratedStore {C} shows finds refuses connects left (Err fault) =
+    (IsUnfound finds refuses fault × (left ≡ None))
+    ⊎ ((found : C) × connects found × IsLeft left (λ after. IsUnmigrated (shows found) (shows after) fault))

@@ -3,6 +3,7 @@
 
 mod cause;
 mod files;
+mod listening;
 mod migration;
 mod patience;
 mod program;
@@ -15,7 +16,9 @@ mod trace;
 mod zones;
 
 pub use cause::{Cause, Diagnosis, Remembered, Undiagnosed};
+pub use dns_master::DeviceFailed;
 pub use files::{MachineFiles, StoreFiles};
+pub use listening::{CountedListener, Listener, heard, listen_at, next_of};
 pub use migration::migrate;
 pub use program::{do_job, do_words};
 pub use service::serve;

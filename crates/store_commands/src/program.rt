@@ -4,7 +4,7 @@ ghost use Rattle.std.specs.Prelude.{◌≡◌, ◌↔◌, ⊤, IsTrue, map, code
 ghost use Rattle.std.specs.Process.{exit_status};
 ghost use Rattle.sqlite.specs.Held.{state};
 ghost use Rattle.store_commands.specs.Stores.{stores_of};
-ghost use Rattle.store_commands.specs.Program.{EndsTask, EndsCheck, DiffersBy, JobEnds, WordsEnd, IsToldWhole, status_of, check_status_of};
+ghost use Rattle.store_commands.specs.Program.{EndsTask, EndsCheck, DiffersBy, JobEnds, EndsFault, WordsEnd, IsToldWhole, status_of, check_status_of};
 
 use crate::files::StoreFiles;
 use crate::migration::migrate;
@@ -13,7 +13,7 @@ use crate::surroundings::{Ended, NamedFile, Surroundings};
 use crate::zones::{export, import};
 use command_line::{DiffForm, Job, WordsFault, ZoneFiles, read_words};
 use dns_master::{Sink, Source};
-use sqlite::Alter;
+use sqlite::{Alter, Connection};
 use std::fmt::Display;
 use std::process::ExitCode;
 use text_commands::{
@@ -108,7 +108,7 @@ fn diff<M: Surroundings, R: Source, W: Sink>(
     input: &mut R,
     output: &mut W,
 ) -> Result<(), DiffFault>
-    ensures { DiffersBy (M.around around.now) (record { left = R.remaining input.old; before = R.failures input.old; after = R.failures input.new }) what.entry.1 what.entry.0.now files.entry (record { old = W.contents output.old; new = W.contents output.new; before = W.failures output.old; after = W.failures output.new }) result }
+    ensures { DiffersBy (M.around around.now) (record { left = R.remaining input.old; rest = R.remaining input.new; before = R.failures input.old; after = R.failures input.new }) what.entry.1 what.entry.0.now files.entry (record { old = W.contents output.old; new = W.contents output.new; before = W.failures output.old; after = W.failures output.new }) result }
 {
     let alloc = around.machine().alloc();
     let (mut old, mut new) = (
@@ -129,7 +129,20 @@ fn diff<M: Surroundings, R: Source, W: Sink>(
     }
 }
 
-/// Does a job, with standard input and output, a trace, and the files of stores. The status is 0 if it went through, else 1.
+/// The connection that a job hands back, if it made one, and the exit status of what was done.
+fn left<S: Alter + Drop, F: Display + Drop>(
+    rt: &HostRuntime,
+    done: (Option<Connection<S>>, Result<(), F>),
+) -> (Option<Connection<S>>, ExitCode)
+    ensures left { result.0 ≡ done.0 }
+    ensures status { exit_status result.1 ≡ status_of done.1 }
+{
+    let (conn, done) = done;
+    (conn, ended(rt, done))
+}
+
+/// Does a job, with standard input and output, a trace, and the files of stores. The status is 0 if it went through, else 1. The
+/// connection to the store that it reached is handed back, if it made one.
 pub fn do_job<
     M: Surroundings,
     S: Alter + Drop,
@@ -137,47 +150,78 @@ pub fn do_job<
     R: Source,
     W: Sink,
     E: Sink,
->(around: &M, files: P, job: Job<'_>, input: &mut R, output: &mut W, trace: &mut E) -> ExitCode
-    // Each job reads its own input and answers to its own words, and the status is 0 exactly where it went through.
-    ensures { JobEnds (M.around around.now) (stores_of (state S.Store) (P.finds files) (P.refuses files) (P.connects files)) (record { left = R.remaining input.old; before = R.failures input.old; after = R.failures input.new }) (record { old = W.contents output.old; new = W.contents output.new; before = W.failures output.old; after = W.failures output.new }) (record { old = E.contents trace.old; new = E.contents trace.new; before = E.failures trace.old; after = E.failures trace.new }) job.entry (exit_status result) }
+>(
+    around: &M,
+    files: P,
+    job: Job<'_>,
+    input: &mut R,
+    output: &mut W,
+    trace: &mut E,
+) -> (Option<Connection<S>>, ExitCode)
+    // Each job reads its own input and answers to its own words, and the status is 0 exactly where it went through; and what the connection
+    // shows that is handed back is what the job left of the store of its path.
+    ensures { JobEnds (M.around around.now) (stores_of (state S.Store) (P.finds files) (P.refuses files) (P.connects files)) (record { left = R.remaining input.old; rest = R.remaining input.new; before = R.failures input.old; after = R.failures input.new }) (record { old = W.contents output.old; new = W.contents output.new; before = W.failures output.old; after = W.failures output.new }) (record { old = E.contents trace.old; new = E.contents trace.new; before = E.failures trace.old; after = E.failures trace.new }) job.entry result.0 (exit_status result.1) }
 {
     let rt = around.machine();
     let alloc = rt.alloc();
     match job {
-        Job::Apply => do_task(rt, Apply, input, output),
-        Job::Canon { origin, form } => do_task(rt, Canon { origin, form }, input, output),
+        Job::Apply => (None, do_task(rt, Apply, input, output)),
+        Job::Canon { origin, form } => (None, do_task(rt, Canon { origin, form }, input, output)),
         Job::Diff {
             origin,
-            files,
+            files: zones,
             form,
-        } => ended(rt, diff(around, (origin, form), files, input, output)),
-        Job::Request { id } => do_task(rt, Request { id }, input, output),
-        Job::Import { zone, existing } => {
-            ended(rt, import(alloc, files, (zone, existing), input, output))
-        }
-        Job::Export { zone, form } => ended(rt, export(alloc, files, zone, form, output)),
-        Job::Migrate { store } => ended(rt, migrate(alloc, files, store, output)),
+        } => (
+            None,
+            ended(rt, diff(around, (origin, form), zones, input, output)),
+        ),
+        Job::Request { id } => (None, do_task(rt, Request { id }, input, output)),
+        Job::Import { zone, existing } => left(
+            rt,
+            import(alloc, files, (zone, existing), input, output),
+        ),
+        Job::Export { zone, form } => left(rt, export(alloc, files, zone, form, output)),
+        Job::Migrate { store } => left(rt, migrate(alloc, files, store, output)),
         Job::Rights {
             policy: path,
             asked,
-        } => { do_task(rt, asked, &mut NamedFile { around, path }, output) }
+        } => {
+            (
+                None,
+                do_task(rt, asked, &mut NamedFile { around, path }, output),
+            )
+        }
         Job::Plan {
             policy: path,
             caller,
         } => {
             let mut policy = NamedFile { around, path };
-            ended(rt, do_plan(alloc, caller, &mut policy, input, output))
+            (
+                None,
+                ended(rt, do_plan(alloc, caller, &mut policy, input, output)),
+            )
         }
-        Job::CheckPolicy { policy } => check_file(around, Subject::Rules, policy, output),
+        Job::CheckPolicy { policy } => (None, check_file(around, Subject::Rules, policy, output)),
         Job::CheckIsolation { policy, caller } => {
-            check_file(around, Subject::Isolation(caller), policy, output)
+            (
+                None,
+                check_file(around, Subject::Isolation(caller), policy, output),
+            )
         }
         Job::CheckRights { policy, name } => {
-            check_file(around, Subject::Rights(name), policy, output)
+            (
+                None,
+                check_file(around, Subject::Rights(name), policy, output),
+            )
         }
-        Job::CheckZone { origin, rules } => check(rt, Subject::Zone(origin, rules), input, output),
-        Job::Explain { number, form } => do_task(rt, Explain { number, form }, input, output),
-        Job::Serve { service } => ended(rt, serve(around, files, service, output, trace)),
+        Job::CheckZone { origin, rules } => {
+            (None, check(rt, Subject::Zone(origin, rules), input, output))
+        }
+        Job::Explain { number, form } => (
+            None,
+            do_task(rt, Explain { number, form }, input, output),
+        ),
+        Job::Serve { service } => left(rt, serve(around, files, service, output, trace)),
     }
 }
 
@@ -191,8 +235,27 @@ fn told<W: Sink>(output: &mut W, text: &str) -> ExitCode
     }
 }
 
+/// Tells why words are no job: the help that they ask for is written to standard output, with status 0 if that went through and else 1;
+/// what is wrong with them is said on standard error, with status 2.
+fn tell_fault<W: Sink>(rt: &HostRuntime, fault: WordsFault, output: &mut W) -> ExitCode
+    ensures { EndsFault fault (record { old = W.contents output.old; new = W.contents output.new; before = W.failures output.old; after = W.failures output.new }) (exit_status result) }
+{
+    match fault {
+        WordsFault::Help(text) => told(output, text.as_str()),
+        WordsFault::Misused(text) => {
+            let _ = rt.eprint(text);
+            ExitCode::from(2)
+        }
+        WordsFault::NoMemory => {
+            let _ = told(output, NO_MEMORY_LINE);
+            ExitCode::FAILURE
+        }
+    }
+}
+
 /// Does the job that words ask for. If they ask for help, it is written to standard output, with status 0 if that went through and
-/// else 1; if they ask for no job, what is wrong with them is said on standard error, with status 2.
+/// else 1; if they ask for no job, what is wrong with them is said on standard error, with status 2. The connection to the store that
+/// the job reached is handed back, if it made one.
 pub fn do_words<
     M: Surroundings,
     S: Alter + Drop,
@@ -200,20 +263,19 @@ pub fn do_words<
     R: Source,
     W: Sink,
     E: Sink,
->(around: &M, files: P, words: &[&str], input: &mut R, output: &mut W, trace: &mut E) -> ExitCode
-    ensures { WordsEnd (M.around around.now) (stores_of (state S.Store) (P.finds files) (P.refuses files) (P.connects files)) (record { left = R.remaining input.old; before = R.failures input.old; after = R.failures input.new }) (record { old = W.contents output.old; new = W.contents output.new; before = W.failures output.old; after = W.failures output.new }) (record { old = E.contents trace.old; new = E.contents trace.new; before = E.failures trace.old; after = E.failures trace.new }) (map (λ s. s.now) words.now) (exit_status result) }
+>(
+    around: &M,
+    files: P,
+    words: &[&str],
+    input: &mut R,
+    output: &mut W,
+    trace: &mut E,
+) -> (Option<Connection<S>>, ExitCode)
+    ensures { WordsEnd (M.around around.now) (stores_of (state S.Store) (P.finds files) (P.refuses files) (P.connects files)) (record { left = R.remaining input.old; rest = R.remaining input.new; before = R.failures input.old; after = R.failures input.new }) (record { old = W.contents output.old; new = W.contents output.new; before = W.failures output.old; after = W.failures output.new }) (record { old = E.contents trace.old; new = E.contents trace.new; before = E.failures trace.old; after = E.failures trace.new }) (map (λ s. s.now) words.now) result.0 (exit_status result.1) }
 {
     let rt = around.machine();
     match read_words(rt.alloc(), words) {
         Ok(job) => do_job(around, files, job, input, output, trace),
-        Err(WordsFault::Help(text)) => told(output, text.as_str()),
-        Err(WordsFault::Misused(text)) => {
-            let _ = rt.eprint(text);
-            ExitCode::from(2)
-        }
-        Err(WordsFault::NoMemory) => {
-            let _ = told(output, NO_MEMORY_LINE);
-            ExitCode::FAILURE
-        }
+        Err(fault) => (None, tell_fault(rt, fault, output)),
     }
 }

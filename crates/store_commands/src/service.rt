@@ -1,13 +1,15 @@
 //! The job `serve`: a policy, a store, and a listener.
 
-ghost use Rattle.std.specs.Prelude.{◌≡◌, ◌<◌, ⊤, ℕ, List, IfErr, IfOk, string_bytes};
+ghost use Rattle.std.specs.Prelude.{◌≡◌, ◌<◌, ⊤, ℕ, List, Option, IfErr, IfOk, string_bytes};
+ghost use Rattle.office_wire.specs.declared.serve_fault.ServeFault.{ServeFault as FaultOf};
 ghost use Rattle.sqlite.specs.Held.{state};
 ghost use Rattle.text_commands.specs.LineFaults.{GivesOf};
 ghost use Rattle.store_commands.specs.Stores.{stores_of};
-ghost use Rattle.store_commands.specs.Serve.{policy_read, most_of, listening_line, IsNoListener, AreServedFrom, IsServiceTold, IsServedBy, BeginsBy, Serves};
+ghost use Rattle.store_commands.specs.Serve.{policy_read, most_of, listening_line, AreReported, IsNoListener, AreServedFrom, IsServiceTold, BeginsBy, Serves};
 
 use crate::cause::{Diagnosis, Remembered};
 use crate::files::StoreFiles;
+use crate::listening::{CountedListener, Listener};
 use crate::patience::patience_of;
 use crate::serving::{Connections, serve_connections};
 use crate::store_file::open_store;
@@ -17,7 +19,7 @@ use dns_master::Sink;
 use grant_policy::{Policy, read_policy};
 use office_core::ZoneTable;
 use office_store::SqlTable;
-use sqlite::Alter;
+use sqlite::{Alter, Connection};
 use std::alloc::{AllocError, Global};
 use std::marker::Brand;
 use std::net::{SocketAddr, TcpListener};
@@ -51,42 +53,75 @@ fn listening_text(alloc: Global, address: SocketAddr) -> Result<String, AllocErr
     format!(in alloc; "listening {address}\n")
 }
 
-/// A listener at an address and a port. `ReadFailed` comes where there can be none.
-fn listener_at<M: Surroundings>(around: &M, listen: &str) -> Result<TcpListener, LineFault>
-    ensures { IfErr result IsNoListener }
+/// A listener at an address and a port, and where it listens. `ReadFailed` comes where there can be none.
+fn listener_at<M: Surroundings>(
+    around: &M,
+    listen: &str,
+) -> Result<(TcpListener, SocketAddr), LineFault>
+    ensures { IfErr result (IsNoListener (M.around around.now) listen.now) }
 {
     let Ok(address) = listen.parse::<SocketAddr>() else {
         return Err(LineFault::ReadFailed);
     };
     match around.listen(address) {
-        Ok(listener) => Ok(listener),
+        Ok(heard) => Ok(heard),
         Err(_) => Err(LineFault::ReadFailed),
     }
 }
 
-/// The line that tells where a listener listens, which is also said on standard error if others can reach it.
-fn told_of(rt: &HostRuntime, listener: &TcpListener) -> Result<String, LineFault>
-    ensures told { IfOk result (λ text. (address : List ℕ) × (string_bytes text ≡ listening_line address)) }
-    ensures refused { IfErr result IsNoListener }
-{
-    let Ok(address) = listener.local_addr() else {
-        return Err(LineFault::ReadFailed);
-    };
-    warn_if_reachable(rt, address);
-    Ok(listening_text(rt.alloc(), address)?)
-}
-
-/// A listener at an address and a port, and the line that tells where it listens.
+/// A listener at an address and a port, and the line that tells where it listens. If others than programs of this machine can reach it,
+/// that is said on standard error.
 fn listening_at<M: Surroundings>(
     around: &M,
     listen: &str,
 ) -> Result<(TcpListener, String), LineFault>
     ensures told { IfOk result (λ listening. (address : List ℕ) × (string_bytes listening.1 ≡ listening_line address)) }
-    ensures refused { IfErr result IsNoListener }
+    ensures refused { IfErr result (IsNoListener (M.around around.now) listen.now) }
 {
-    let listener = listener_at(around, listen)?;
-    let text = told_of(around.machine(), &listener)?;
+    let (listener, address) = listener_at(around, listen)?;
+    let rt = around.machine();
+    warn_if_reachable(rt, address);
+    let text = listening_text(rt.alloc(), address)?;
     Ok((listener, text))
+}
+
+/// Serves connections of a listener from a table, so many as the words say.
+fn serve_listening<M: Surroundings, L: Ledger, T: ZoneTable, D: Diagnosis<T>, W: Sink, E: Sink>(
+    around: &M,
+    listener: &TcpListener,
+    blank: Blank,
+    service: Service<'_>,
+    policy: &Policy,
+    table: &mut T,
+    diagnosis: &D,
+    writer: &mut W,
+    trace: &mut E,
+) -> Result<(), JobFault>
+    requires name { blank.name ≡ L.name }
+    requires parts { blank.parts ≡ L.parts }
+    requires some { 0 < blank.parts }
+    ensures served { AreServedFrom (T.is_honest table.new) (T.holds table.old) (T.holds table.new) (T.failures table.old) (T.failures table.new) policy.now (most_of service.entry) result (E.contents trace.old) (E.contents trace.new) (E.failures trace.old) (E.failures trace.new) }
+    ensures honest { T.is_honest table.new → T.is_honest table.old }
+    ensures written { (ends : List (Option FaultOf)) × AreReported (M.around around.now).cut (most_of service.entry) ends (W.contents writer.old) (W.contents writer.new) result (W.failures writer.old) (W.failures writer.new) }
+{
+    let rt = around.machine();
+    let mut listener: CountedListener<'_, M, L> = CountedListener::new(around, listener, blank);
+    let connections = Connections {
+        clock: rt,
+        patience: patience_of(service.patience),
+        diagnosis,
+    };
+    let most = service.connections.unwrap_or(u64::MAX);
+    serve_connections(
+        rt.alloc(),
+        &connections,
+        &mut listener,
+        table,
+        policy,
+        most,
+        writer,
+        trace,
+    )
 }
 
 /// Serves connections from a table: it listens, tells where, and serves as many as the words say.
@@ -99,28 +134,21 @@ fn serve_table<M: Surroundings, T: ZoneTable, D: Diagnosis<T>, W: Sink, E: Sink>
     writer: &mut W,
     trace: &mut E,
 ) -> Result<(), JobFault>
-    ensures served { AreServedFrom T.is_honest T.holds T.failures policy.now (most_of service.entry) table.old table.new result (E.contents trace.old) (E.contents trace.new) (E.failures trace.old) (E.failures trace.new) }
+    ensures told { IsServiceTold (M.around around.now) service.entry.listen.now (most_of service.entry) ((table.new ≡ table.old) × (E.contents trace.new ≡ E.contents trace.old) × (E.failures trace.new ≡ E.failures trace.old)) (AreServedFrom (T.is_honest table.new) (T.holds table.old) (T.holds table.new) (T.failures table.old) (T.failures table.new) policy.now (most_of service.entry) result (E.contents trace.old) (E.contents trace.new) (E.failures trace.old) (E.failures trace.new)) (W.contents writer.old) (W.contents writer.new) result (W.failures writer.old) (W.failures writer.new) }
     ensures honest { T.is_honest table.new → T.is_honest table.old }
-    ensures told { IsServiceTold (most_of service.entry) (W.contents writer.old) (W.contents writer.new) result (W.failures writer.old) (W.failures writer.new) }
 {
-    let rt = around.machine();
-    let alloc = rt.alloc();
     let (listener, listening) = match listening_at(around, service.listen) {
         Ok(listening) => listening,
-        Err(fault) => return write_refusal(alloc, writer, fault),
+        Err(fault) => return write_refusal(around.machine().alloc(), writer, fault),
     };
     write_text(writer, listening.as_bytes())?;
-    let connections = Connections {
-        listener: &listener,
-        clock: rt,
-        patience: patience_of(service.patience),
-        diagnosis,
-    };
-    let most = service.connections.unwrap_or(u64::MAX);
-    serve_connections(alloc, &connections, table, policy, most, writer, trace)
+    let blank = Blank::new(1);
+    serve_listening::<M, Brand, T, D, W, E>(
+        around, &listener, blank, service, policy, table, diagnosis, writer, trace,
+    )
 }
 
-/// Serves connections from a table that was opened for it.
+/// Serves connections from a table that was opened for it, and hands it back.
 fn serve_opened<M: Surroundings, T: ZoneTable + Drop, D: Diagnosis<T>, W: Sink, E: Sink>(
     around: &M,
     service: Service<'_>,
@@ -129,17 +157,19 @@ fn serve_opened<M: Surroundings, T: ZoneTable + Drop, D: Diagnosis<T>, W: Sink, 
     diagnosis: &D,
     writer: &mut W,
     trace: &mut E,
-) -> Result<(), JobFault>
-    ensures served { (after : T) × (T.is_honest after → T.is_honest table) × AreServedFrom T.is_honest T.holds T.failures policy.now (most_of service.entry) table after result (E.contents trace.old) (E.contents trace.new) (E.failures trace.old) (E.failures trace.new) }
-    ensures told { IsServiceTold (most_of service.entry) (W.contents writer.old) (W.contents writer.new) result (W.failures writer.old) (W.failures writer.new) }
+) -> (T, Result<(), JobFault>)
+    ensures told { IsServiceTold (M.around around.now) service.entry.listen.now (most_of service.entry) ((result.0 ≡ table) × (E.contents trace.new ≡ E.contents trace.old) × (E.failures trace.new ≡ E.failures trace.old)) (AreServedFrom (T.is_honest result.0) (T.holds table) (T.holds result.0) (T.failures table) (T.failures result.0) policy.now (most_of service.entry) result.1 (E.contents trace.old) (E.contents trace.new) (E.failures trace.old) (E.failures trace.new)) (W.contents writer.old) (W.contents writer.new) result.1 (W.failures writer.old) (W.failures writer.new) }
+    ensures honest { T.is_honest result.0 → T.is_honest table }
 {
     let mut table = table;
-    serve_table(
+    let done = serve_table(
         around, service, policy, &mut table, diagnosis, writer, trace,
-    )
+    );
+    (table, done)
 }
 
-/// Opens the store, listens, and serves connections by a policy that was read.
+/// Opens the store, listens, and serves connections by a policy that was read. The connection to the store is handed back, if one was
+/// made.
 fn serve_by<M: Surroundings, S: Alter + Drop, P: StoreFiles<S> + Drop, L: Ledger, W: Sink, E: Sink>(
     around: &M,
     files: P,
@@ -148,34 +178,49 @@ fn serve_by<M: Surroundings, S: Alter + Drop, P: StoreFiles<S> + Drop, L: Ledger
     blank: Blank,
     writer: &mut W,
     trace: &mut E,
-) -> Result<(), JobFault>
+) -> (Option<Connection<S>>, Result<(), JobFault>)
     requires name { blank.name ≡ L.name }
     requires parts { blank.parts ≡ L.parts }
     requires some { 0 < blank.parts }
-    ensures { BeginsBy (stores_of (state S.Store) (P.finds files) (P.refuses files) (P.connects files)) service.entry policy.now (W.contents writer.old) (W.contents writer.new) result (W.failures writer.old) (W.failures writer.new) (E.contents trace.old) (E.contents trace.new) (E.failures trace.old) (E.failures trace.new) }
+    ensures { BeginsBy (M.around around.now) (stores_of (state S.Store) (P.finds files) (P.refuses files) (P.connects files)) service.entry policy.now result.0 (W.contents writer.old) (W.contents writer.new) result.1 (W.failures writer.old) (W.failures writer.new) (E.contents trace.old) (E.contents trace.new) (E.failures trace.old) (E.failures trace.new) }
 {
     let alloc = around.machine().alloc();
     let opened: Result<SqlTable<S, L>, _> = open_store(alloc, files, service.store, blank);
     match opened {
-        Ok(table) => serve_opened(around, service, policy, table, &Remembered, writer, trace),
-        Err(fault) => write_refusal(alloc, writer, LineFault::from(fault)),
+        Ok(table) => {
+            let (table, done) = serve_opened(
+                around,
+                service,
+                policy,
+                table,
+                &Remembered,
+                writer,
+                trace,
+            );
+            (Some(table.into_connection()), done)
+        }
+        Err(unreached) => {
+            let fault = LineFault::from(unreached.fault);
+            (unreached.conn, write_refusal(alloc, writer, fault))
+        }
     }
 }
 
 /// The job `serve`: reads the policy, opens the store, listens, and serves connections one after the other, so many of them as the
 /// words say. A line tells where it listens, and one tells each connection that ended by a fault; or a line tells the refusal that
 /// comes first: of the policy, of the store, or `ReadFailed` where there can be no listener or a connection cannot be had. A line of
-/// the trace tells of each connection in which requests were answered SERVFAIL.
+/// the trace tells of each connection in which requests were answered SERVFAIL. The connection to the store is handed back, if one was
+/// made.
 pub fn serve<M: Surroundings, S: Alter + Drop, P: StoreFiles<S> + Drop, W: Sink, E: Sink>(
     around: &M,
     files: P,
     service: Service<'_>,
     writer: &mut W,
     trace: &mut E,
-) -> Result<(), JobFault>
+) -> (Option<Connection<S>>, Result<(), JobFault>)
     // The line of the first refusal is written, of the policy or of the store of its path; or connections were served from that store by
-    // that policy, as `serve_connections` says, and their lines are written.
-    ensures { Serves (M.around around.now) (stores_of (state S.Store) (P.finds files) (P.refuses files) (P.connects files)) service.entry (W.contents writer.old) (W.contents writer.new) result (W.failures writer.old) (W.failures writer.new) (E.contents trace.old) (E.contents trace.new) (E.failures trace.old) (E.failures trace.new) }
+    // that policy, as `serve_connections` says, which is what the store is left with, and their lines are written.
+    ensures { Serves (M.around around.now) (stores_of (state S.Store) (P.finds files) (P.refuses files) (P.connects files)) service.entry result.0 (W.contents writer.old) (W.contents writer.new) result.1 (W.failures writer.old) (W.failures writer.new) (E.contents trace.old) (E.contents trace.new) (E.failures trace.old) (E.failures trace.new) }
 {
     let alloc = around.machine().alloc();
     match policy_of(around, alloc, service.policy) {
@@ -183,6 +228,6 @@ pub fn serve<M: Surroundings, S: Alter + Drop, P: StoreFiles<S> + Drop, W: Sink,
             let blank = Blank::new(1);
             serve_by::<M, S, P, Brand, W, E>(around, files, service, &policy, blank, writer, trace)
         }
-        Err(fault) => write_refusal(alloc, writer, fault),
+        Err(fault) => (None, write_refusal(alloc, writer, fault)),
     }
 }

@@ -1,6 +1,6 @@
 //! Serving callers over TCP, one connection after the other.
 
-ghost use Rattle.std.specs.Prelude.{◌≡◌, ◌<◌, ◌≤◌, List, Option};
+ghost use Rattle.std.specs.Prelude.{◌≡◌, ◌+◌, ◌<◌, ◌≤◌, List, Option, length};
 ghost use Rattle.office_core.specs.Bookmarks.{AreBookmarks};
 ghost use Rattle.office_core.specs.States.{State};
 ghost use Rattle.office_wire.specs.Exchange.{Turn, Run};
@@ -11,6 +11,7 @@ ghost use Rattle.text_commands.specs.Replies.{IsSent};
 ghost use Rattle.store_commands.specs.Serve.{connection_line, ended_line, IsTraced, AreReported, AreServedFrom};
 
 use crate::cause::Diagnosis;
+use crate::listening::Listener;
 use crate::patience::PatientStream;
 use crate::trace::{tell_servfails, write_texts};
 use dns_master::{Counted, DeviceFailed, Sink};
@@ -20,7 +21,7 @@ use office_core::{Bookmarks, ZoneTable};
 use office_wire::{ServeFault, Served};
 use std::alloc::Global;
 use std::marker::Brand;
-use std::net::{TcpListener, TcpStream};
+use std::net::TcpStream;
 use std::sync::ledger::{Blank, Ledger};
 use std::time::{Clock, Duration};
 use text_commands::{JobFault, LineFault, write_refusal};
@@ -98,11 +99,9 @@ fn serve_connection<T: ZoneTable, D: Diagnosis<T>, C: Clock, W: Sink, E: Sink>(
     }
 }
 
-/// Where connections come from, for how long to wait for their peers, and what tells why a table failed them.
+/// For how long to wait for the peers of connections, and what tells why a table failed them.
 #[derive(Drop)]
 pub struct Connections<'a, C: Clock, D> {
-    /// Where peers connect.
-    pub listener: &'a TcpListener,
     /// What tells the time.
     pub clock: &'a C,
     /// For how long a peer is waited for that sends no request or takes no response, where there is a limit.
@@ -149,9 +148,10 @@ impl<C: Clock, D> Connections<'_, C, D> {
 /// Serves connections one after the other, so many of them. A line tells each that ended by a fault. `ReadFailed` is written where a
 /// connection cannot be had, and `WriteFailed` comes where a line cannot be written. A line of the trace tells of each connection in
 /// which requests were answered SERVFAIL: how many, and why the last of them was.
-pub fn serve_connections<T: ZoneTable, D: Diagnosis<T>, C: Clock, W: Sink, E: Sink>(
+pub fn serve_connections<H: Listener, T: ZoneTable, D: Diagnosis<T>, C: Clock, W: Sink, E: Sink>(
     alloc: Global,
     connections: &Connections<'_, C, D>,
+    listener: &mut H,
     table: &mut T,
     policy: &Policy,
     most: u64,
@@ -162,16 +162,17 @@ pub fn serve_connections<T: ZoneTable, D: Diagnosis<T>, C: Clock, W: Sink, E: Si
     // that take the table from how it stood to how it stands; each is answered by the policy and the state that it found, and what the
     // office promises of calls holds of all of them together, whichever connection each came by. The trace tells of those of these
     // turns that were answered SERVFAIL.
-    ensures served { AreServedFrom T.is_honest T.holds T.failures policy.now most table.old table.new result (E.contents trace.old) (E.contents trace.new) (E.failures trace.old) (E.failures trace.new) }
-    // A line is written for each connection that a fault ended, and one where fewer were served than asked for.
-    ensures written { (ends : List (Option FaultOf)) × AreReported most ends (W.contents writer.old) (W.contents writer.new) result (W.failures writer.old) (W.failures writer.new) }
+    ensures served { AreServedFrom (T.is_honest table.new) (T.holds table.old) (T.holds table.new) (T.failures table.old) (T.failures table.new) policy.now most result (E.contents trace.old) (E.contents trace.new) (E.failures trace.old) (E.failures trace.new) }
+    // Each connection that was taken is served. A line is written for each that a fault ended, and one where fewer were served than asked
+    // for, which comes only where no connection can be had.
+    ensures written { (ends : List (Option FaultOf)) × AreReported (H.cut listener.old) most ends (W.contents writer.old) (W.contents writer.new) result (W.failures writer.old) (W.failures writer.new) × (H.taken listener.new ≡ H.taken listener.old + length ends) }
     // A store that has kept its word had kept it before.
     ensures honest { T.is_honest table.new → T.is_honest table.old }
 {
     let mut bookmarks = Bookmarks::new(alloc);
     'accepted: for _ in 0..most {
-        match connections.listener.accept() {
-            Ok((stream, _)) => {
+        match listener.accept() {
+            Ok(stream) => {
                 connections.serve_one(alloc, &stream, table, policy, &mut bookmarks, writer, trace)?
             }
             Err(_) => return write_refusal(alloc, writer, LineFault::ReadFailed),

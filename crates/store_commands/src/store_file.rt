@@ -1,8 +1,8 @@
 //! The store of a path.
 
 ghost use Rattle.std.specs.Prelude.{◌≡◌, ◌<◌, ◌⊎◌, false, IfOk, IfErr};
-ghost use Rattle.sqlite.specs.Held.{Held, state};
-ghost use Rattle.store_commands.specs.Stores.{IsAdopted, IsUnadopted, IsMade, IsUnmade, IsUnfound, IsOpened, IsUnopened, IsOpenedOrMade, IsUnopenedOrMade, IsMigratedTo, IsUnmigrated, IsMigratedStore};
+ghost use Rattle.sqlite.specs.Held.{state};
+ghost use Rattle.store_commands.specs.Stores.{IsLeft, IsNoStore, IsAdopted, IsMade, IsUnmade, IsUnfound, IsOpened, IsUnopened, IsOpenedOrMade, IsUnopenedOrMade, IsMigratedTo, IsUnmigrated, IsMigratedStore};
 
 use crate::files::StoreFiles;
 use office_store::{SqlTable, StoreFault};
@@ -10,6 +10,13 @@ use sqlite::{Alter, Connection};
 use std::alloc::Global;
 use std::marker::Brand;
 use std::sync::ledger::{Blank, Ledger};
+
+/// Why there is no table of the store of a path, and the connection to it, if one was made.
+#[derive(Drop)]
+pub struct Unreached<S: Alter + Drop> {
+    pub fault: StoreFault,
+    pub conn: Option<Connection<S>>,
+}
 
 /// A connection to the file of a path, if there is one; no file is `NoZone`.
 fn found<S: Alter + Drop, P: StoreFiles<S> + Drop>(
@@ -32,17 +39,20 @@ fn adopted<S: Alter + Drop, L: Ledger>(
     alloc: Global,
     conn: Connection<S>,
     blank: Blank,
-) -> Result<SqlTable<S, L>, StoreFault>
+) -> Result<SqlTable<S, L>, Unreached<S>>
     requires alone { conn.in_transaction ≡ false }
     requires name { blank.name ≡ L.name }
     requires parts { blank.parts ≡ L.parts }
     requires some { 0 < blank.parts }
     ensures opened { IfOk result (λ table. IsAdopted (state S.Store conn) (state S.Store table.conn)) }
-    ensures refused { IfErr result (IsUnadopted (state S.Store) conn) }
+    ensures refused { IfErr result (λ un. IsLeft un.conn (λ after. IsNoStore (state S.Store conn) (state S.Store after) un.fault)) }
 {
     match SqlTable::adopt(alloc, conn, blank) {
         Ok(table) => Ok(table),
-        Err(refused) => Err(refused.fault),
+        Err(refused) => Err(Unreached {
+            fault: refused.fault,
+            conn: Some(refused.conn),
+        }),
     }
 }
 
@@ -54,14 +64,17 @@ pub fn open_store<S: Alter + Drop, L: Ledger, P: StoreFiles<S> + Drop>(
     files: P,
     path: &str,
     blank: Blank,
-) -> Result<SqlTable<S, L>, StoreFault>
+) -> Result<SqlTable<S, L>, Unreached<S>>
     requires name { blank.name ≡ L.name }
     requires parts { blank.parts ≡ L.parts }
     requires some { 0 < blank.parts }
     ensures opened { IfOk result (λ table. IsOpened (state S.Store) (P.connects files path.now) table.conn) }
-    ensures refused { IfErr result (IsUnopened (state S.Store) (P.finds files path.now) (P.refuses files path.now) (P.connects files path.now)) }
+    ensures refused { IfErr result (λ un. IsUnopened (state S.Store) (P.finds files path.now) (P.refuses files path.now) (P.connects files path.now) un.conn un.fault) }
 {
-    adopted(alloc, found(files, path)?, blank)
+    match found(files, path) {
+        Ok(conn) => adopted(alloc, conn, blank),
+        Err(fault) => Err(Unreached { fault, conn: None }),
+    }
 }
 
 /// The table of a connection, which is made in an empty database.
@@ -69,13 +82,13 @@ fn made_or_adopted<S: Alter + Drop, L: Ledger>(
     alloc: Global,
     conn: Connection<S>,
     blank: Blank,
-) -> Result<SqlTable<S, L>, StoreFault>
+) -> Result<SqlTable<S, L>, Unreached<S>>
     requires alone { conn.in_transaction ≡ false }
     requires name { blank.name ≡ L.name }
     requires parts { blank.parts ≡ L.parts }
     requires some { 0 < blank.parts }
     ensures opened { IfOk result (λ table. IsAdopted (state S.Store conn) (state S.Store table.conn) ⊎ IsMade (state S.Store conn) (state S.Store table.conn)) }
-    ensures refused { IfErr result (λ fault. IsUnadopted (state S.Store) conn fault ⊎ IsUnmade (state S.Store conn) fault) }
+    ensures refused { IfErr result (λ un. IsLeft un.conn (λ after. IsNoStore (state S.Store conn) (state S.Store after) un.fault ⊎ IsUnmade (state S.Store conn) (state S.Store after) un.fault)) }
 {
     let refused = match SqlTable::create(conn, blank) {
         Ok(table) => return Ok(table),
@@ -84,7 +97,10 @@ fn made_or_adopted<S: Alter + Drop, L: Ledger>(
     if refused.fault == StoreFault::WrongVersion {
         adopted(alloc, refused.conn, refused.blank)
     } else {
-        Err(refused.fault)
+        Err(Unreached {
+            fault: refused.fault,
+            conn: Some(refused.conn),
+        })
     }
 }
 
@@ -95,36 +111,49 @@ pub fn open_or_make_store<S: Alter + Drop, L: Ledger, P: StoreFiles<S> + Drop>(
     files: P,
     path: &str,
     blank: Blank,
-) -> Result<SqlTable<S, L>, StoreFault>
+) -> Result<SqlTable<S, L>, Unreached<S>>
     requires name { blank.name ≡ L.name }
     requires parts { blank.parts ≡ L.parts }
     requires some { 0 < blank.parts }
     ensures opened { IfOk result (λ table. IsOpenedOrMade (state S.Store) (P.connects files path.now) table.conn) }
-    ensures refused { IfErr result (IsUnopenedOrMade (state S.Store) (P.refuses files path.now) (P.connects files path.now)) }
+    ensures refused { IfErr result (λ un. IsUnopenedOrMade (state S.Store) (P.refuses files path.now) (P.connects files path.now) un.conn un.fault) }
 {
-    made_or_adopted(alloc, files.connect(path)?, blank)
+    match files.connect(path) {
+        Ok(conn) => made_or_adopted(alloc, conn, blank),
+        Err(fault) => Err(Unreached { fault, conn: None }),
+    }
 }
 
 /// Takes the tables of a connection from version 1 to version 2.
-fn migrate_tables<S: Alter + Drop>(alloc: Global, conn: Connection<S>) -> Result<usize, StoreFault>
+fn migrate_tables<S: Alter + Drop>(
+    alloc: Global,
+    conn: Connection<S>,
+) -> (Connection<S>, Result<usize, StoreFault>)
     requires { conn.in_transaction ≡ false }
-    ensures migrated { IfOk result (λ zones. (after : Held S) × IsMigratedTo (state S.Store conn) (state S.Store after) zones) }
-    ensures refused { IfErr result (λ fault. (after : Held S) × IsUnmigrated (state S.Store conn) (state S.Store after) fault) }
+    ensures migrated { IfOk result.1 (IsMigratedTo (state S.Store conn) (state S.Store result.0)) }
+    ensures refused { IfErr result.1 (IsUnmigrated (state S.Store conn) (state S.Store result.0)) }
 {
     let mut conn = conn;
-    SqlTable::<S, Brand>::migrate(alloc, &mut conn)
+    let migrated = SqlTable::<S, Brand>::migrate(alloc, &mut conn);
+    (conn, migrated)
 }
 
 /// Takes the store of a path from version 1 of the tables to version 2, and tells how many zones that changed. Where there is no file
 /// none is made: that is `NoZone`. `WrongVersion` comes where the file has not the tables of version 1, `BadRow` where their rows are
 /// none that a program of that version wrote, and `Store` where the file is no database or cannot be read or written. Then the file
-/// is as it was.
+/// is as it was. The connection is handed back, if one was made.
 pub fn migrate_store<S: Alter + Drop, P: StoreFiles<S> + Drop>(
     alloc: Global,
     files: P,
     path: &str,
-) -> Result<usize, StoreFault>
-    ensures { IsMigratedStore (state S.Store) (P.finds files path.now) (P.refuses files path.now) (P.connects files path.now) result }
+) -> (Option<Connection<S>>, Result<usize, StoreFault>)
+    ensures { IsMigratedStore (state S.Store) (P.finds files path.now) (P.refuses files path.now) (P.connects files path.now) result.0 result.1 }
 {
-    migrate_tables(alloc, found(files, path)?)
+    match found(files, path) {
+        Ok(conn) => {
+            let (conn, migrated) = migrate_tables(alloc, conn);
+            (Some(conn), migrated)
+        }
+        Err(fault) => (None, Err(fault)),
+    }
 }

@@ -43,12 +43,12 @@ fn run_counted<
     let mut output: Counted<O, B> = Counted::new(output, writes);
     let mut trace: Counted<E, C> = Counted::new(trace, traces);
     let files = MachineFiles(around.machine());
-    let status = do_words(around, files, words, &mut input, &mut output, &mut trace);
+    let (_, status) = do_words(around, files, words, &mut input, &mut output, &mut trace);
     (output.into_inner(), trace.into_inner(), status)
 }
 
 /// Does what words ask for, as `do_words` says, with standard input, standard output and a trace of std and the stores of this machine,
-/// and hands back both writers. It has no contract: of streams that do not count their failures one could say only that there are
+/// closes the store that it reached, and hands back both writers. It has no contract: of streams that do not count their failures one could say only that there are
 /// counts.
 pub fn run_words<M: Surroundings, I: Read + Drop, O: Write + Drop, E: Write + Drop>(
     around: &M,

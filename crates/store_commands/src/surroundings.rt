@@ -1,17 +1,17 @@
 //! What is around the program: the machine, and the files that words name.
 
-ghost use Rattle.std.specs.Prelude.{⊤, Some, []};
+ghost use Rattle.std.specs.Prelude.{⊤, Some, [], OnErr};
 ghost use Rattle.text_commands.specs.LineFaults.{GivesOf, limited};
 ghost use Rattle.store_commands.specs.Around.{Around};
 
+use dns_master::DeviceFailed;
 use std::alloc::Global;
-use std::io;
-use std::net::{SocketAddr, TcpListener};
+use std::net::{SocketAddr, TcpListener, TcpStream};
 use text_commands::{Input, LineFault};
 
 /// What the program runs in, beside its streams and the files of stores.
 pub trait Surroundings {
-    // What the files hold that words name.
+    // What the files hold that words name, and when there is no listener and no connection.
     ghost around: { Self → Around };
 
     /// The machine, on whose standard error is said why a job was not done.
@@ -21,8 +21,13 @@ pub trait Surroundings {
     fn file(&self, alloc: Global, path: &str) -> Result<Vec<u8>, LineFault>
         ensures { GivesOf (λ octets. octets.items) ((around self.now).file path.now) limited result ⊤ ((around self.now).unreadable path.now) };
 
-    /// A listener at an address and a port.
-    fn listen(&self, address: SocketAddr) -> io::Result<TcpListener>;
+    /// A listener at an address and a port, and where it listens. An error comes only where there can be none.
+    fn listen(&self, address: SocketAddr) -> Result<(TcpListener, SocketAddr), DeviceFailed>
+        ensures { OnErr result ((around self.now).unheard address) };
+
+    /// The next connection of a listener. An error comes only where none can be had.
+    fn accept(&self, listener: &TcpListener) -> Result<TcpStream, DeviceFailed>
+        ensures { OnErr result ((around self.now).cut) };
 }
 
 /// A file that words name, which is an input.

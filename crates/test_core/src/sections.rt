@@ -1,5 +1,3 @@
-use crate::callers::Callers;
-use crate::stored::Files;
 use std::alloc::{AllocError, Global};
 use test_commands::{push_command_answer, push_words_answer};
 use test_dns::{Records, push_file_answer, push_name_answer};
@@ -23,15 +21,13 @@ enum Section {
     Stores,
     Stops,
     Exchanges,
-    Stored,
-    Callers,
     Commands,
     Words,
 }
 
 /// Answers to rows of the section that is open.
 #[derive(Drop)]
-pub struct Sections<'a> {
+pub struct Sections {
     section: Section,
     records: Records,
     policies: Policies,
@@ -42,14 +38,11 @@ pub struct Sections<'a> {
     stores: Stores,
     stops: Stops,
     office: Office,
-    files: Files<'a>,
-    callers: Callers<'a>,
 }
 
-impl<'a> Sections<'a> {
+impl Sections {
     /// The section of names is open, with no record ranked, no policy, no zone and no store.
-    pub fn new(rt: &'a HostRuntime) -> Sections<'a> {
-        let alloc = rt.alloc();
+    pub fn new(alloc: Global) -> Sections {
         Sections {
             section: Section::Names,
             records: Records::new(alloc),
@@ -61,8 +54,6 @@ impl<'a> Sections<'a> {
             stores: Stores::new(alloc),
             stops: Stops::new(alloc),
             office: Office::new(alloc),
-            files: Files::new(rt),
-            callers: Callers::new(rt),
         }
     }
 
@@ -90,15 +81,13 @@ fn section_of(name: &str) -> Option<Section> {
         "stores" => Section::Stores,
         "stops" => Section::Stops,
         "exchanges" => Section::Exchanges,
-        "stored" => Section::Stored,
-        "callers" => Section::Callers,
         "commands" => Section::Commands,
         "words" => Section::Words,
         _ => return None,
     })
 }
 
-impl Answers for Sections<'_> {
+impl Answers for Sections {
     fn answer(
         &mut self,
         alloc: Global,
@@ -121,8 +110,6 @@ impl Answers for Sections<'_> {
             Section::Stores => self.stores.answer(alloc, row, answer),
             Section::Stops => self.stops.answer(alloc, row, answer),
             Section::Exchanges => self.office.answer(alloc, row, answer),
-            Section::Stored => self.files.answer(alloc, row, answer),
-            Section::Callers => self.callers.answer(alloc, row, answer),
             Section::Commands => push_command_answer(alloc, row, answer),
             Section::Words => push_words_answer(alloc, row, answer),
         }

@@ -7,16 +7,18 @@ ghost use Rattle.store_commands.specs.Around.{Around};
 use std::alloc::{AllocError, Global};
 use std::env;
 use std::io::{self, ErrorKind};
-use std::net::{SocketAddr, TcpListener};
+use std::net::{SocketAddr, TcpListener, TcpStream};
 use std::process::ExitCode;
-use store_commands::{LineFault, NO_MEMORY_LINE, Surroundings, read_path, run_words};
+use store_commands::{
+    DeviceFailed, LineFault, NO_MEMORY_LINE, Surroundings, listen_at, next_of, read_path, run_words,
+};
 
 /// This process, and the files of this machine. No contract can say what they hold.
 #[derive(Clone, Copy)]
 struct Process<'a>(&'a HostRuntime);
 
 impl Surroundings for Process<'_> {
-    ghost around = { λ _. record { file = λ _. None; unreadable = λ _. ⊤ } };
+    ghost around = { λ _. record { file = λ _. None; unreadable = λ _. ⊤; unheard = λ _. ⊤; cut = ⊤ } };
 
     fn machine(&self) -> &HostRuntime {
         self.0
@@ -26,8 +28,12 @@ impl Surroundings for Process<'_> {
         read_path(self.0, path)
     }
 
-    fn listen(&self, address: SocketAddr) -> io::Result<TcpListener> {
-        TcpListener::bind(self.0, address)
+    fn listen(&self, address: SocketAddr) -> Result<(TcpListener, SocketAddr), DeviceFailed> {
+        listen_at(self.0, address)
+    }
+
+    fn accept(&self, listener: &TcpListener) -> Result<TcpStream, DeviceFailed> {
+        next_of(listener)
     }
 }
 

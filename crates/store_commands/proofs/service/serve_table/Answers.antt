@@ -1,19 +1,20 @@
-use Rattle.std.proofs.Common.{[], arith, refl}
+use Rattle.std.proofs.Common.{inl, inr, refl}
 use Rattle.std.proofs.lemmas.Result.{err_from_is_err_and}
-use Rattle.office_wire.specs.Serving.{standing}
-use Rattle.store_commands.specs.Serve.{most_of}
-use Rattle.store_commands.proofs.ConnectionLemmas.{told_many, are_served, traced_none}
 use Rattle.store_commands.proofs.service.serve_table.Goals as goal
 
-pub returns-in-Err-clause-served : goal.returns-in-Err-clause-served
-returns-in-Err-clause-served g c = λ honest s held.
-    let now = standing s (g.T.ZoneTable.failures c.args.table.now) in
-    let none = are_served c.args.policy.now now now [] (g.met.T.ZoneTable.zones c.args.table.now s held) (g.met.T.ZoneTable.receipts c.args.table.now s held) refl in
-    ([], s, held, none, told_many (most_of c.args.service) 0 c.write_refusal.result _ _ c.in-Err.fault _ _ c.write_refusal.ensures (omega arith), traced_none _ _)
+pub returns-in-Err-clause-told : goal.returns-in-Err-clause-told
+returns-in-Err-clause-told g c = inl (c.in-Err.fault, c.in-Err.ensures.refused, c.write_refusal.ensures, (refl, refl, refl))
 
-pub returns-in_err-write_text-clause-served : goal.returns-in_err-write_text-clause-served
-returns-in_err-write_text-clause-served g c = λ honest s held.
-    let now = standing s (g.T.ZoneTable.failures c.args.table.now) in
-    let none = are_served c.args.policy.now now now [] (g.met.T.ZoneTable.zones c.args.table.now s held) (g.met.T.ZoneTable.receipts c.args.table.now s held) refl in
+pub returns-in_err-write_text-clause-told : goal.returns-in_err-write_text-clause-told
+returns-in_err-write_text-clause-told g c =
     let e = err_from_is_err_and c.from_residual.result c.from_residual.ensures.1 in
-    ([], s, held, none, rw e.1 (omega arith), traced_none _ _)
+    let told = c.in-Ok.ensures.told in
+    let sent = rw told.1 at (rw c.as_bytes.ensures.value at c.in_err-write_text.ensures) in
+    rw (e.1, e.2) (inr (told.0, inl (refl, sent.0, sent.1, (refl, refl, refl))))
+
+pub returns-clause-told : goal.returns-clause-told
+returns-clause-told g c =
+    let told = c.in-Ok.ensures.told in
+    let sent = rw told.1 at (rw c.as_bytes.ensures.value at c.in_ok-write_text.ensures) in
+    let e = c.serve_listening.ensures in
+    inr (told.0, inr (_, sent.0, rw sent.1 at e.written, e.served))

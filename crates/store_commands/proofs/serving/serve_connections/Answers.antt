@@ -1,5 +1,5 @@
 use Rattle.std.proofs.KnownBytes.{Appends-nil}
-use Rattle.std.proofs.Common.{◌≡◌, ◌<◌, ◌≤◌, ◌∙◌, [], ◌∷◌, ◌++◌, length, refl, arith}
+use Rattle.std.proofs.Common.{◌≡◌, ◌<◌, ◌≤◌, ◌∙◌, [], ◌∷◌, ◌++◌, length, refl, subst, arith}
 use Rattle.std.proofs.lemmas.Result.{err_from_is_err_and}
 use Rattle.office_wire.specs.Serving.{standing}
 use Rattle.text_commands.specs.declared.line_fault.LineFault.TheVariants.{ReadFailed}
@@ -12,6 +12,8 @@ accepted-init g c = record {
   served = λ honest s held. ([], s, (held, c.new-bookmarks.ensures c.args.policy.now s), refl, refl, traced_none _ _);
   written = ([], refl, Appends-nil _);
   fine = refl;
+  taken = omega arith;
+  same = refl;
 }
 
 pub accepted-preserved : goal.accepted-preserved
@@ -29,6 +31,8 @@ accepted-preserved g c = record {
       let a = c.in_ok-serve_one-in-Ok.ensures.written in
       (p.0 ++ a.0 ∷ [], one_ended p.0 a.0 c.accepted.counter p.1, told_more _ _ _ p.0 a.0 p.2 a.1.0);
   fine = c.in_ok-serve_one-in-Ok.ensures.written.1.1 ∙ c.accepted.invariant.fine;
+  taken = let one = c.in-Ok.ensures.one in let before = c.accepted.invariant.taken in omega (arith, one, before);
+  same = c.in-Ok.ensures.same ∙ c.accepted.invariant.same;
 }
 
 pub returns-in_err-serve_one-in-Ok-clause-served : goal.returns-in_err-serve_one-in-Ok-clause-served
@@ -51,19 +55,35 @@ returns-in_err-serve_one-in-Ok-clause-written g c =
     let a = c.in_err-serve_one-in-Ok.ensures.written in
     let e = err_from_is_err_and c.from_residual.result c.from_residual.ensures.1 in
     let more : c.accepted.counter < c.args.most = let in_range = c.accepted-test.true in omega arith in
-    (p.0 ++ a.0 ∷ [], rw (e.1, e.2) (told_in_part _ _ _ p.0 c.args.most c.accepted.counter a.0 _ _ _ p.1 more p.2 c.accepted.invariant.fine a.1))
+    let one = c.in-Ok.ensures.one in
+    let before = c.accepted.invariant.taken in
+    let count = one_ended p.0 a.0 c.accepted.counter p.1 in (
+      p.0 ++ a.0 ∷ [],
+      rw (e.1, e.2) (told_in_part _ _ _ p.0 (g.H.Listener.cut c.args.listener.now) c.args.most c.accepted.counter a.0 _ _ _ p.1 more p.2 c.accepted.invariant.fine a.1),
+      omega (arith, one, before, count),
+    )
 
 pub returns-in-Err-clause-written : goal.returns-in-Err-clause-written
 returns-in-Err-clause-written g c =
     let p = c.accepted.invariant.written in
     let more : c.accepted.counter < c.args.most = let in_range = c.accepted-test.true in omega arith in
-    (p.0, told_last _ _ _ p.0 c.args.most c.accepted.counter c.write_refusal.result _ _ _ p.1 more p.2 c.accepted.invariant.fine c.write_refusal.ensures)
+    let same = c.accepted.invariant.same in
+    let none = subst (λ (cut : Type 0). cut) same c.in-Err.ensures.failed in
+    let stays = c.in-Err.ensures.none in
+    let before = c.accepted.invariant.taken in
+    let count = p.1 in (
+      p.0,
+      told_last _ _ _ p.0 c.args.most c.accepted.counter c.write_refusal.result _ _ _ none p.1 more p.2 c.accepted.invariant.fine c.write_refusal.ensures,
+      omega (arith, stays, before, count),
+    )
 
 pub returns-clause-written : goal.returns-clause-written
 returns-clause-written g c =
     let p = c.accepted.invariant.written in
     let all : length p.0 ≡ c.args.most = let past = c.accepted-test.false in let ended = c.accepted.auto.counter-end in let count = p.1 in omega arith in
-    (p.0, (all, p.2, c.accepted.invariant.fine))
+    let before = c.accepted.invariant.taken in
+    let count = p.1 in
+    (p.0, (all, p.2, c.accepted.invariant.fine), omega (arith, before, count))
 
 pub returns-in-Err-clause-served : goal.returns-in-Err-clause-served
 returns-in-Err-clause-served g c = λ honest s held.

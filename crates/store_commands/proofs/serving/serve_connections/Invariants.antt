@@ -1,4 +1,4 @@
-use Rattle.std.proofs.Common.{◌≡◌, List, Option, length}
+use Rattle.std.proofs.Common.{◌≡◌, ◌+◌, List, Option, length}
 use Rattle.std.specs.Io.KnownBytes.{Appends}
 use Rattle.office_wire.specs.declared.serve_fault.ServeFault.{ServeFault}
 use Rattle.office_core.specs.Bookmarks.{AreBookmarks}
@@ -16,4 +16,6 @@ invariant-accepted g l = record {
       × AreTraced turns (g.E.Sink.contents l.fn.trace) (g.E.Sink.contents l.trace) (g.E.FaultCount.failures l.fn.trace) (g.E.FaultCount.failures l.trace);
   written : (ends : List (Option ServeFault)) × (length ends ≡ l.counter) × Appends (g.W.Sink.contents l.fn.writer) (g.W.Sink.contents l.writer) (ended_lines ends);
   fine : g.W.FaultCount.failures l.writer ≡ g.W.FaultCount.failures l.fn.writer;
+  taken : g.H.Listener.taken l.listener ≡ g.H.Listener.taken l.fn.listener + l.counter;
+  same : g.H.Listener.cut l.listener ≡ g.H.Listener.cut l.fn.listener;
 }

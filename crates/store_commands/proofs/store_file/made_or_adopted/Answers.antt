@@ -1,8 +1,8 @@
-use Rattle.std.proofs.Common.{◌≡◌, inl, inr, subst, rules}
+use Rattle.std.proofs.Common.{◌≡◌, inl, inr, subst, refl, rules}
 use Rattle.sqlite.specs.Held.{state}
 use Rattle.office_rows.specs.declared.store_fault.StoreFault.TheVariants.{WrongVersion}
-use Rattle.store_commands.specs.Stores.{IsUnadopted}
-use Rattle.store_commands.proofs.FilesLemmas.{map_err}
+use Rattle.store_commands.specs.Stores.{IsNoStore}
+use Rattle.store_commands.proofs.FilesLemmas.{map_err, left_as}
 use Rattle.store_commands.proofs.store_file.made_or_adopted.Goals as goal
 
 pub returns-in-Ok-clause-opened : goal.returns-in-Ok-clause-opened
@@ -14,9 +14,12 @@ pub returns-then-eq-clause-refused : goal.returns-then-eq-clause-refused
 returns-then-eq-clause-refused g c =
     let is : c.in-Err.refused.fault ≡ WrongVersion = search rules in
     let same = c.in-Err.ensures.same is in
-    map_err c.adopted.result (λ fault refused. inl (subst (λ conn. IsUnadopted (state g.S.Store) conn fault) same refused)) c.adopted.ensures.refused
+    map_err c.adopted.result (λ un refused. left_as un.conn (λ after none. inl (subst (λ conn. IsNoStore (state g.S.Store conn) (state g.S.Store after) un.fault) same none)) refused)
+    c.adopted.ensures.refused
 
 pub returns-else-eq-clause-refused : goal.returns-else-eq-clause-refused
 returns-else-eq-clause-refused g c =
+    let e = c.in-Err.ensures in
     let other : ¬ (c.in-Err.refused.fault ≡ WrongVersion) = search rules in
-    inr (record { bare = λ some. other (c.in-Err.ensures.wrong.1 some); failed = elim c.in-Err.ensures.named [ inl is ↦ absurd (other is) | inr failed ↦ failed ] })
+    let failed = elim e.named [ inl is ↦ absurd (other is) | inr failed ↦ failed ] in
+    (c.in-Err.refused.conn, refl, inr (record { bare = λ some. other (e.wrong.1 some); failed = failed; none = e.failed other; crash = e.crash }))

@@ -1,16 +1,13 @@
-use Rattle.std.proofs.Common.{inl, inr}
-use Rattle.std.proofs.lemmas.Result.{err_from_is_err_and}
+use Rattle.std.proofs.Common.{inl, refl, Vec, Global}
+use Rattle.dns_data.specs.declared.record.Record.{Record}
+use Rattle.sqlite.specs.Held.{state}
+use Rattle.store_commands.proofs.FilesLemmas.{found_exported}
 use Rattle.store_commands.proofs.zones.exported.Goals as goal
 
-pub returns-in_err-origin : goal.returns-in_err-origin
-returns-in_err-origin g c =
-    let p = err_from_is_err_and c.from_residual.result c.from_residual.ensures.1 in
-    rw (p.1, p.2) (inl c.in_err-origin.ensures)
+pub returns-in-Ok : goal.returns-in-Ok
+returns-in-Ok g c =
+    rw c.with_origin.ensures (found_exported (state g.S.Store) (g.P.StoreFiles.finds c.args.files c.args.stored.store.now) (g.P.StoreFiles.refuses c.args.files c.args.stored.store.now) (g.P.StoreFiles.connects c.args.files c.args.stored.store.now) (λ (records : Vec Record Global). records.items) c.args.stored.origin.now c.in-Ok.origin c.stored_records.result.0 c.stored_records.result.1
+    c.in-Ok.ensures c.stored_records.ensures)
 
-pub returns-in_err-records : goal.returns-in_err-records
-returns-in_err-records g c =
-    let p = err_from_is_err_and c.from_residual-in_err-records.result c.from_residual-in_err-records.ensures.1 in
-    rw p.1 (inr (c.in_ok-origin.origin, c.in_ok-origin.ensures, (_, p.2, c.in_err-records.ensures)))
-
-pub returns : goal.returns
-returns g c = (c.in_ok-origin.ensures, c.in_ok-records.ensures)
+pub returns-in-Err : goal.returns-in-Err
+returns-in-Err g c = inl (c.in-Err.ensures, refl)

@@ -1,25 +1,16 @@
-use Rattle.std.proofs.Common.{inl, inr}
-use Rattle.std.proofs.lemmas.Result.{err_from_is_err_and}
+use Rattle.std.proofs.Common.{inl, refl}
+use Rattle.std.specs.Prelude.{string_bytes}
+use Rattle.std.specs.Result.{result_map_both}
+use Rattle.sqlite.specs.Held.{state}
+use Rattle.store_commands.proofs.FilesLemmas.{put_imported}
 use Rattle.store_commands.proofs.zones.imported.Goals as goal
 
-pub returns-in_err-zone : goal.returns-in_err-zone
-returns-in_err-zone g c =
-    let p = err_from_is_err_and c.from_residual.result c.from_residual.ensures.1 in
-    rw (p.1, p.2) (inl c.in_err-zone.ensures)
+pub returns-in-Ok : goal.returns-in-Ok
+returns-in-Ok g c =
+    let read = c.in-Ok.ensures in
+    put_imported (state g.S.Store) (g.P.StoreFiles.finds c.args.files c.args.stored.store.now) (g.P.StoreFiles.refuses c.args.files c.args.stored.store.now) (g.P.StoreFiles.connects c.args.files c.args.stored.store.now) (g.R.Input.left c.args.reader.now) c.args.stored.origin.now c.args.existing c.in-Ok.zone
+    c.put_with_line.result.0 (result_map_both string_bytes (λ fault. fault) c.put_with_line.result.1) (g.R.Input.fine c.args.reader.now c.read_zone.new.reader) (g.R.Input.failed c.args.reader.now c.read_zone.new.reader)
+    read.0 read.1 c.put_with_line.ensures
 
-pub returns-in_err-text : goal.returns-in_err-text
-returns-in_err-text g c =
-    let p = err_from_is_err_and c.from_residual-in_err-text.result c.from_residual-in_err-text.ensures.1 in
-    let read = c.in_ok-zone.ensures in
-    rw p.1 (inr (c.in_ok-zone.zone, read.0, read.1, inl p.2))
-
-pub returns-in_err-put_into_store : goal.returns-in_err-put_into_store
-returns-in_err-put_into_store g c =
-    let p = err_from_is_err_and c.from_residual-in_err-put_into_store.result c.from_residual-in_err-put_into_store.ensures.1 in
-    let read = c.in_ok-zone.ensures in
-    rw p.1 (inr (c.in_ok-zone.zone, read.0, read.1, inr (_, p.2, c.in_err-put_into_store.ensures)))
-
-pub returns : goal.returns
-returns g c =
-    let read = c.in_ok-zone.ensures in
-    (c.in_ok-zone.zone, read.0, read.1, c.in_ok-put_into_store.ensures, c.in_ok-text.ensures)
+pub returns-in-Err : goal.returns-in-Err
+returns-in-Err g c = inl (c.in-Err.ensures, refl)

@@ -1,8 +1,12 @@
+use Rattle.std.proofs.Common.{inl}
 use Rattle.sqlite.specs.Held.{state}
 use Rattle.store_commands.proofs.FilesLemmas.{stored_by}
 use Rattle.store_commands.proofs.zones.put_into_store.Goals as goal
 
-pub returns : goal.returns
-returns g c =
-    stored_by (state g.S.Store) (g.P.StoreFiles.finds c.args.files c.args.stored.store.now) (g.P.StoreFiles.refuses c.args.files c.args.stored.store.now) (g.P.StoreFiles.connects c.args.files c.args.stored.store.now) c.args.existing c.args.zone.now c.in_ok-table.table.conn c.put.result
-    c.in_ok-table.ensures.reached c.put.ensures
+pub returns-in-Ok : goal.returns-in-Ok
+returns-in-Ok g c =
+    stored_by (state g.S.Store) (g.P.StoreFiles.finds c.args.files c.args.path.now) (g.P.StoreFiles.refuses c.args.files c.args.path.now) (g.P.StoreFiles.connects c.args.files c.args.path.now) c.args.existing c.args.zone.now c.in-Ok.table.conn c.put_at_last.result.0 c.put_at_last.result.1
+    c.in-Ok.ensures.reached c.put_at_last.ensures
+
+pub returns-in-Err : goal.returns-in-Err
+returns-in-Err g c = inl c.in-Err.ensures.refused

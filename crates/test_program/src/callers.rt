@@ -4,6 +4,7 @@ ghost use Rattle.std.specs.Prelude.{◌≡◌, ◌<◌};
 
 use crate::callers_office::{listening, policy, table};
 use crate::client::{begun, push_answered, sent};
+use crate::program::Given;
 use anyhow::{Result, bail};
 use dns_master::Counted;
 use grant_policy::Policy;
@@ -13,7 +14,7 @@ use std::marker::Brand;
 use std::net::{TcpListener, TcpStream};
 use std::sync::ledger::{Blank, Ledger};
 use std::time::Duration;
-use store_commands::{Connections, JobFault, Undiagnosed, serve_connections};
+use store_commands::{Connections, CountedListener, JobFault, Undiagnosed, serve_connections};
 use test_rows::{Answers, Row, push_unanswered};
 
 /// An office, and those who call it.
@@ -151,19 +152,32 @@ fn served_from<T: ZoneTable>(
     table: &mut T,
     policy: &Policy,
 ) -> Served {
-    let (writes, traces) = (Blank::new(1), Blank::new(1));
-    served_in::<_, Brand, Brand>(rt, listener, connections, table, policy, writes, traces)
+    let (taken, writes, traces) = (Blank::new(1), Blank::new(1), Blank::new(1));
+    served_in::<_, Brand, Brand, Brand>(
+        rt,
+        listener,
+        connections,
+        table,
+        policy,
+        taken,
+        writes,
+        traces,
+    )
 }
 
-fn served_in<T: ZoneTable, A: Ledger, B: Ledger>(
+fn served_in<T: ZoneTable, L: Ledger, A: Ledger, B: Ledger>(
     rt: &HostRuntime,
     listener: &TcpListener,
     connections: u64,
     table: &mut T,
     policy: &Policy,
+    taken: Blank,
     writes: Blank,
     traces: Blank,
 ) -> Served
+    requires taken_name { taken.name ≡ L.name }
+    requires taken_parts { taken.parts ≡ L.parts }
+    requires taken_some { 0 < taken.parts }
     requires writes_name { writes.name ≡ A.name }
     requires writes_parts { writes.parts ≡ A.parts }
     requires writes_some { 0 < writes.parts }
@@ -174,8 +188,9 @@ fn served_in<T: ZoneTable, A: Ledger, B: Ledger>(
     let alloc = rt.alloc();
     let mut sink: Counted<Vec<u8>, A> = Counted::new(Vec::new(alloc), writes);
     let mut trace: Counted<Vec<u8>, B> = Counted::new(Vec::new(alloc), traces);
+    let around = Given { rt, listener: None };
+    let mut listener: CountedListener<'_, _, L> = CountedListener::new(&around, listener, taken);
     let from = Connections {
-        listener,
         clock: rt,
         patience: Some(Duration::from_millis(PATIENCE)),
         diagnosis: &Undiagnosed,
@@ -183,6 +198,7 @@ fn served_in<T: ZoneTable, A: Ledger, B: Ledger>(
     let result = serve_connections(
         alloc,
         &from,
+        &mut listener,
         table,
         policy,
         connections,

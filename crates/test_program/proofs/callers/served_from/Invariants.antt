@@ -1,4 +1,7 @@
-use Rattle.test_core.proofs.callers.served_from.Given as goal
+use Rattle.test_program.proofs.callers.served_from.Given as goal
+
+abbrev pub ghosts-served_in-L-Ledger : goal.ghosts-served_in-L-Ledger
+ghosts-served_in-L-Ledger g a = record { name = a.taken.name; parts = a.taken.parts }
 
 abbrev pub ghosts-served_in-A-Ledger : goal.ghosts-served_in-A-Ledger
 ghosts-served_in-A-Ledger g a = record { name = a.writes.name; parts = a.writes.parts }

@@ -4,20 +4,23 @@ ghost use Rattle.std.specs.Prelude.{⊤, None};
 ghost use Rattle.store_commands.specs.Around.{Around};
 
 use std::alloc::{AllocError, Global};
-use std::io;
-use std::net::{SocketAddr, TcpListener};
+use std::net::{SocketAddr, TcpListener, TcpStream};
 use std::process::ExitCode;
-use store_commands::{LineFault, Surroundings, read_path, run_words};
+use store_commands::{
+    DeviceFailed, LineFault, Surroundings, heard, listen_at, next_of, read_path, run_words,
+};
 
-/// A machine, and a listener at which the program listens in place of where it is told to, if there is one.
+/// A machine, and a listener that the program gets wherever it is to listen, if there is one.
 #[derive(Clone, Copy)]
-struct Given<'a> {
-    rt: &'a HostRuntime,
-    listener: Option<&'a TcpListener>,
+pub struct Given<'a> {
+    /// The machine.
+    pub rt: &'a HostRuntime,
+    /// The listener.
+    pub listener: Option<&'a TcpListener>,
 }
 
 impl Surroundings for Given<'_> {
-    ghost around = { λ _. record { file = λ _. None; unreadable = λ _. ⊤ } };
+    ghost around = { λ _. record { file = λ _. None; unreadable = λ _. ⊤; unheard = λ _. ⊤; cut = ⊤ } };
 
     fn machine(&self) -> &HostRuntime {
         self.rt
@@ -27,11 +30,15 @@ impl Surroundings for Given<'_> {
         read_path(self.rt, path)
     }
 
-    fn listen(&self, address: SocketAddr) -> io::Result<TcpListener> {
+    fn listen(&self, address: SocketAddr) -> Result<(TcpListener, SocketAddr), DeviceFailed> {
         match self.listener {
-            Some(listener) => listener.try_clone(),
-            None => TcpListener::bind(self.rt, address),
+            Some(listener) => heard(listener.try_clone()),
+            None => listen_at(self.rt, address),
         }
+    }
+
+    fn accept(&self, listener: &TcpListener) -> Result<TcpStream, DeviceFailed> {
+        next_of(listener)
     }
 }
 
