@@ -21,10 +21,12 @@ pub enum Job<'a> {
         /// What stands before the items.
         form: DiffForm,
     },
-    /// To print the body of an update that is read from standard input.
+    /// To print the body of an update that is read from standard input, or the bodies of its parts.
     Request {
-        /// The identifier of the update.
+        /// The identifier of the update, or what stands before the numbers of its parts.
         id: &'a str,
+        /// In one body, or in parts.
+        form: RequestForm,
     },
     /// To put a zone that is read from standard input into a store.
     Import {
@@ -39,6 +41,18 @@ pub enum Job<'a> {
         zone: StoredZone<'a>,
         /// In which form it is printed.
         form: ZoneForm,
+    },
+    /// To print the zones of a store.
+    Zones {
+        /// The path of the store.
+        store: &'a str,
+    },
+    /// To print the changes and the receipts of a zone of a store.
+    Log {
+        /// Which zone, and which store.
+        zone: StoredZone<'a>,
+        /// Which of them.
+        choice: LogChoice<'a>,
     },
     /// To take a store from version 1 of the tables to version 2.
     Migrate {
@@ -126,6 +140,26 @@ pub enum DiffForm {
     Guarded,
 }
 
+/// As how many bodies an update is printed.
+#[derive(Clone, Copy, PartialEq, Eq)]
+pub enum RequestForm {
+    /// As one.
+    Whole,
+    /// As many as the limits of one update want.
+    Split,
+}
+
+/// Which of the changes and receipts of a zone are printed.
+#[derive(Clone, Copy, PartialEq, Eq)]
+pub struct LogChoice<'a> {
+    /// From which change on, where a number is given.
+    pub from: Option<u64>,
+    /// Within which name, where one is given.
+    pub name: Option<&'a str>,
+    /// Of which caller the receipts are, where one is given.
+    pub caller: Option<&'a str>,
+}
+
 /// By which of the rules a zone is checked.
 #[derive(Clone, Copy, PartialEq, Eq)]
 pub enum RuleChoice<'a> {
@@ -137,7 +171,7 @@ pub enum RuleChoice<'a> {
     Not(&'a str),
 }
 
-/// A zone of a store, as the words of `import` and of `export` name it.
+/// A zone of a store, as the words of `import`, of `export` and of `log` name it.
 #[derive(Clone, Copy, PartialEq, Eq)]
 pub struct StoredZone<'a> {
     /// The path of the store.
@@ -146,7 +180,7 @@ pub struct StoredZone<'a> {
     pub origin: &'a str,
 }
 
-/// The master files of two zones of one origin. A path that is `-` is standard input.
+/// The master files of two zones of one origin. A path that is `-` is standard input, which words name once at most.
 #[derive(Clone, Copy, PartialEq, Eq)]
 pub struct ZoneFiles<'a> {
     /// The path of the zone as it is.
