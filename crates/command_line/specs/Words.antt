@@ -26,6 +26,10 @@ use Rattle.command_line.specs.declared.job.RuleChoice.{RuleChoice}
 use Rattle.command_line.specs.declared.job.RuleChoice.TheVariants as choice
 use Rattle.command_line.specs.declared.job.Job.{Job}
 use Rattle.command_line.specs.declared.job.Job.TheVariants as job
+use Rattle.command_line.specs.declared.job.TextJob.{TextJob}
+use Rattle.command_line.specs.declared.job.TextJob.TheVariants as text_job
+use Rattle.command_line.specs.declared.job.StoreJob.{StoreJob}
+use Rattle.command_line.specs.declared.job.StoreJob.TheVariants as store_job
 
 -- ---- the jobs
 
@@ -85,24 +89,30 @@ chosen choice.All = by_all
 chosen (choice.Only rule) = by_only rule.now
 chosen (choice.Not rule) = by_others rule.now
 
+abbrev pub asks_text : TextJob → JobOf
+asks_text text_job.Apply = apply
+asks_text (text_job.Canon origin form) = canon origin.now form
+asks_text (text_job.Diff origin files form) = diff origin.now (files_asked files) form
+asks_text (text_job.Request id form) = request id.now form
+asks_text (text_job.Rights policy asked) = rights policy.now asked.caller.now asked.name.now asked.record_type.now asked.action.now
+asks_text (text_job.Plan policy caller) = plan policy.now caller.now
+asks_text (text_job.CheckPolicy policy) = check_policy policy.now
+asks_text (text_job.CheckIsolation policy caller) = check_isolation policy.now caller.now
+asks_text (text_job.CheckRights policy name) = check_rights policy.now (option_map (λ n. n.now) name)
+asks_text (text_job.CheckZone origin rules) = check_zone origin.now (chosen rules)
+asks_text (text_job.Explain number form) = explain (option_map (λ n. n.now) number) form
+
+abbrev pub asks_store : StoreJob → JobOf
+asks_store (store_job.Import zone existing) = imports (zone_asked zone) existing
+asks_store (store_job.Export zone form) = export (zone_asked zone) form
+asks_store (store_job.Zones store) = zones store.now
+asks_store (store_job.Log zone asked) = log (zone_asked zone) (log_asked asked)
+asks_store (store_job.Migrate store) = migrate store.now
+asks_store (store_job.Serve service) = serve service.store.now service.policy.now service.listen.now service.connections service.patience
+
 abbrev pub asks : Job → JobOf
-asks job.Apply = apply
-asks (job.Canon origin form) = canon origin.now form
-asks (job.Diff origin files form) = diff origin.now (files_asked files) form
-asks (job.Request id form) = request id.now form
-asks (job.Import zone existing) = imports (zone_asked zone) existing
-asks (job.Export zone form) = export (zone_asked zone) form
-asks (job.Zones store) = zones store.now
-asks (job.Log zone asked) = log (zone_asked zone) (log_asked asked)
-asks (job.Migrate store) = migrate store.now
-asks (job.Rights policy asked) = rights policy.now asked.caller.now asked.name.now asked.record_type.now asked.action.now
-asks (job.Plan policy caller) = plan policy.now caller.now
-asks (job.Serve service) = serve service.store.now service.policy.now service.listen.now service.connections service.patience
-asks (job.CheckPolicy policy) = check_policy policy.now
-asks (job.CheckIsolation policy caller) = check_isolation policy.now caller.now
-asks (job.CheckRights policy name) = check_rights policy.now (option_map (λ n. n.now) name)
-asks (job.CheckZone origin rules) = check_zone origin.now (chosen rules)
-asks (job.Explain number form) = explain (option_map (λ n. n.now) number) form
+asks (job.Text j) = asks_text j
+asks (job.Store j) = asks_store j
 
 -- ---- what words ask for
 

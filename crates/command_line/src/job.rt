@@ -3,6 +3,15 @@
 /// What the program is to do.
 #[derive(Clone, Copy, PartialEq, Eq)]
 pub enum Job<'a> {
+    /// What needs no store.
+    Text(TextJob<'a>),
+    /// What needs a store.
+    Store(StoreJob<'a>),
+}
+
+/// What the program is to do with texts: standard input and files.
+#[derive(Clone, Copy, PartialEq, Eq)]
+pub enum TextJob<'a> {
     /// To update a zone that is read from standard input.
     Apply,
     /// To print a zone that is read from standard input.
@@ -28,37 +37,6 @@ pub enum Job<'a> {
         /// In one body, or in parts.
         form: RequestForm,
     },
-    /// To put a zone that is read from standard input into a store.
-    Import {
-        /// Which zone, and which store.
-        zone: StoredZone<'a>,
-        /// What becomes of a zone of this origin that is there.
-        existing: Existing,
-    },
-    /// To print a zone of a store.
-    Export {
-        /// Which zone, and which store.
-        zone: StoredZone<'a>,
-        /// In which form it is printed.
-        form: ZoneForm,
-    },
-    /// To print the zones of a store.
-    Zones {
-        /// The path of the store.
-        store: &'a str,
-    },
-    /// To print the changes and the receipts of a zone of a store.
-    Log {
-        /// Which zone, and which store.
-        zone: StoredZone<'a>,
-        /// Which of them.
-        choice: LogChoice<'a>,
-    },
-    /// To take a store from version 1 of the tables to version 2.
-    Migrate {
-        /// The path of the store.
-        store: &'a str,
-    },
     /// To ask a policy.
     Rights {
         /// The path of the policy.
@@ -72,11 +50,6 @@ pub enum Job<'a> {
         policy: &'a str,
         /// Who asks.
         caller: &'a str,
-    },
-    /// To answer callers over HTTP.
-    Serve {
-        /// What is served, and where.
-        service: Service<'a>,
     },
     /// To find the rules of a policy that never decide.
     CheckPolicy {
@@ -110,6 +83,47 @@ pub enum Job<'a> {
         number: Option<&'a str>,
         /// As what it is printed.
         form: TextForm,
+    },
+}
+
+/// What the program is to do with a store.
+#[derive(Clone, Copy, PartialEq, Eq)]
+pub enum StoreJob<'a> {
+    /// To put a zone that is read from standard input into a store.
+    Import {
+        /// Which zone, and which store.
+        zone: StoredZone<'a>,
+        /// What becomes of a zone of this origin that is there.
+        existing: Existing,
+    },
+    /// To print a zone of a store.
+    Export {
+        /// Which zone, and which store.
+        zone: StoredZone<'a>,
+        /// In which form it is printed.
+        form: ZoneForm,
+    },
+    /// To print the zones of a store.
+    Zones {
+        /// The path of the store.
+        store: &'a str,
+    },
+    /// To print the changes and the receipts of a zone of a store.
+    Log {
+        /// Which zone, and which store.
+        zone: StoredZone<'a>,
+        /// Which of them.
+        choice: LogChoice<'a>,
+    },
+    /// To take a store from version 1 of the tables to version 2.
+    Migrate {
+        /// The path of the store.
+        store: &'a str,
+    },
+    /// To answer callers over HTTP.
+    Serve {
+        /// What is served, and where.
+        service: Service<'a>,
     },
 }
 

@@ -10,8 +10,8 @@ ghost use Rattle.command_line.specs.Misuse.{IsReportedAs, IsReported, is_help};
 use crate::argument::Argument;
 use crate::command::Command;
 use crate::job::{
-    DiffForm, Existing, Job, LogChoice, QuestionWords, RequestForm, RuleChoice, Service,
-    StoredZone, TextForm, ZoneFiles, ZoneForm,
+    DiffForm, Existing, Job, LogChoice, QuestionWords, RequestForm, RuleChoice, Service, StoreJob,
+    StoredZone, TextForm, TextJob, ZoneFiles, ZoneForm,
 };
 use crate::parser::parser;
 use clap::error::ErrorKind;
@@ -89,7 +89,7 @@ fn canon_in<'a>(matches: &ArgMatches<'a>) -> Option<Job<'a>>
 {
     let origin = text_at(matches, Argument::Origin)?;
     let form = zone_form_at(matches);
-    Some(Job::Canon { origin, form })
+    Some(Job::Text(TextJob::Canon { origin, form }))
 }
 
 /// The files of two zones, of which one at most is standard input.
@@ -118,11 +118,11 @@ fn diff_in<'a>(matches: &ArgMatches<'a>) -> Option<Job<'a>>
     let origin = text_at(matches, Argument::Origin)?;
     let files = files_at(matches)?;
     let form = diff_form_at(matches);
-    Some(Job::Diff {
+    Some(Job::Text(TextJob::Diff {
         origin,
         files,
         form,
-    })
+    }))
 }
 
 /// The job of the command `request`.
@@ -137,7 +137,7 @@ fn request_in<'a>(matches: &ArgMatches<'a>) -> Option<Job<'a>>
         (None, Some(id)) => (id, RequestForm::Split),
         (None, None) | (Some(_), Some(_)) => return None,
     };
-    Some(Job::Request { id, form })
+    Some(Job::Text(TextJob::Request { id, form }))
 }
 
 /// The zone of a store that words name.
@@ -155,7 +155,7 @@ fn import_in<'a>(matches: &ArgMatches<'a>) -> Option<Job<'a>>
 {
     let zone = zone_at(matches)?;
     let existing = existing_at(matches);
-    Some(Job::Import { zone, existing })
+    Some(Job::Store(StoreJob::Import { zone, existing }))
 }
 
 /// The job of the command `export`.
@@ -164,7 +164,7 @@ fn export_in<'a>(matches: &ArgMatches<'a>) -> Option<Job<'a>>
 {
     let zone = zone_at(matches)?;
     let form = zone_form_at(matches);
-    Some(Job::Export { zone, form })
+    Some(Job::Store(StoreJob::Export { zone, form }))
 }
 
 /// The job of the command `zones`.
@@ -172,7 +172,7 @@ fn zones_in<'a>(matches: &ArgMatches<'a>) -> Option<Job<'a>>
     ensures { option_map asks result ≡ zones_of (rows_of (found_of matches.now)) }
 {
     let store = text_at(matches, Argument::Store)?;
-    Some(Job::Zones { store })
+    Some(Job::Store(StoreJob::Zones { store }))
 }
 
 /// Which changes and receipts words name.
@@ -191,7 +191,7 @@ fn log_in<'a>(matches: &ArgMatches<'a>) -> Option<Job<'a>>
 {
     let zone = zone_at(matches)?;
     let choice = log_choice_at(matches)?;
-    Some(Job::Log { zone, choice })
+    Some(Job::Store(StoreJob::Log { zone, choice }))
 }
 
 /// The job of the command `migrate`.
@@ -199,7 +199,7 @@ fn migrate_in<'a>(matches: &ArgMatches<'a>) -> Option<Job<'a>>
     ensures { option_map asks result ≡ migrate_of (rows_of (found_of matches.now)) }
 {
     let store = text_at(matches, Argument::Store)?;
-    Some(Job::Migrate { store })
+    Some(Job::Store(StoreJob::Migrate { store }))
 }
 
 /// The job of the command `serve`.
@@ -218,7 +218,7 @@ fn serve_in<'a>(matches: &ArgMatches<'a>) -> Option<Job<'a>>
         connections,
         patience,
     };
-    Some(Job::Serve { service })
+    Some(Job::Store(StoreJob::Serve { service }))
 }
 
 /// The job of the command `rights`.
@@ -236,7 +236,7 @@ fn rights_in<'a>(matches: &ArgMatches<'a>) -> Option<Job<'a>>
         record_type,
         action,
     };
-    Some(Job::Rights { policy, asked })
+    Some(Job::Text(TextJob::Rights { policy, asked }))
 }
 
 /// The job of the command `plan`.
@@ -245,7 +245,7 @@ fn plan_in<'a>(matches: &ArgMatches<'a>) -> Option<Job<'a>>
 {
     let policy = text_at(matches, Argument::Policy)?;
     let caller = text_at(matches, Argument::Caller)?;
-    Some(Job::Plan { policy, caller })
+    Some(Job::Text(TextJob::Plan { policy, caller }))
 }
 
 /// The job of `check policy`.
@@ -253,7 +253,7 @@ fn policy_check_in<'a>(matches: &ArgMatches<'a>) -> Option<Job<'a>>
     ensures { option_map asks result ≡ checked_of (rows_of (found_of matches.now)) }
 {
     let policy = text_at(matches, Argument::CheckedPolicy)?;
-    Some(Job::CheckPolicy { policy })
+    Some(Job::Text(TextJob::CheckPolicy { policy }))
 }
 
 /// The job of `check isolation`.
@@ -262,7 +262,7 @@ fn isolation_check_in<'a>(matches: &ArgMatches<'a>) -> Option<Job<'a>>
 {
     let policy = text_at(matches, Argument::CheckedPolicy)?;
     let caller = text_at(matches, Argument::Isolated)?;
-    Some(Job::CheckIsolation { policy, caller })
+    Some(Job::Text(TextJob::CheckIsolation { policy, caller }))
 }
 
 /// The job of `check rights`.
@@ -271,7 +271,7 @@ fn rights_check_in<'a>(matches: &ArgMatches<'a>) -> Option<Job<'a>>
 {
     let policy = text_at(matches, Argument::CheckedPolicy)?;
     let name = text_at(matches, Argument::CheckedName);
-    Some(Job::CheckRights { policy, name })
+    Some(Job::Text(TextJob::CheckRights { policy, name }))
 }
 
 /// By which rules a zone is to be checked: not both by one only and by all but one.
@@ -295,7 +295,7 @@ fn zone_check_in<'a>(matches: &ArgMatches<'a>) -> Option<Job<'a>>
 {
     let origin = text_at(matches, Argument::CheckedOrigin)?;
     let rules = choice_at(matches)?;
-    Some(Job::CheckZone { origin, rules })
+    Some(Job::Text(TextJob::CheckZone { origin, rules }))
 }
 
 /// The job of the command `check`.
@@ -317,7 +317,7 @@ fn explain_in<'a>(matches: &ArgMatches<'a>) -> Job<'a>
 {
     let number = text_at(matches, Argument::Number);
     let form = form_at(matches);
-    Job::Explain { number, form }
+    Job::Text(TextJob::Explain { number, form })
 }
 
 /// The job of a command.
@@ -325,7 +325,7 @@ fn job_of_command<'a>(command: Command, matches: &ArgMatches<'a>) -> Option<Job<
     ensures { option_map asks result ≡ job_by command (rows_of (found_of matches.now)) }
 {
     match command {
-        Command::Apply => Some(Job::Apply),
+        Command::Apply => Some(Job::Text(TextJob::Apply)),
         Command::Canon => canon_in(matches),
         Command::Diff => diff_in(matches),
         Command::Request => request_in(matches),
@@ -356,7 +356,7 @@ fn job_in<'a>(matches: &ArgMatches<'a>) -> Option<Job<'a>>
 {
     match matches.subcommand() {
         Some((word, inner)) => job_named(word, inner),
-        None => Some(Job::Apply),
+        None => Some(Job::Text(TextJob::Apply)),
     }
 }
 
