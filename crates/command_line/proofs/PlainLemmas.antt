@@ -1,5 +1,5 @@
 -- The plain form of each job asks for it.
-use Rattle.std.proofs.Common.{◌≡◌, ◌∙◌, ap, ap₂, refl, ℕ, List, [], ◌∷◌, ◌++◌, Option, Some, None, codes, option_map, inl, inr}
+use Rattle.std.proofs.Common.{◌≡◌, ◌∙◌, ap, ap₂, refl, ℕ, ◌&&◌, false, List, [], ◌∷◌, ◌++◌, Option, Some, None, codes, option_map, inl, inr}
 use Rattle.std.specs.Prelude.{if◌then◌else◌, nat_lt, option_and_then}
 use Rattle.clap.specs.Words.{Text}
 use Rattle.clap.specs.Walk.{Held, Walk, arg_by_id, arg_by_index, idle, most_values, option, pending_count, positional_held, pushed, to_positional, walk_from, nothing_held, walked}
@@ -14,12 +14,14 @@ use Rattle.command_line.specs.declared.job.Existing.{Existing}
 use Rattle.command_line.specs.declared.job.Existing.TheVariants.{Kept, Replaced}
 use Rattle.command_line.specs.declared.job.DiffForm.{DiffForm}
 use Rattle.command_line.specs.declared.job.DiffForm.TheVariants.{Bare, Guarded}
+use Rattle.command_line.specs.declared.job.RequestForm.{RequestForm}
+use Rattle.command_line.specs.declared.job.RequestForm.TheVariants as request_form
 use Rattle.command_line.specs.declared.job.ZoneForm.{ZoneForm}
 use Rattle.command_line.specs.declared.job.ZoneForm.TheVariants.{Whole, Relative}
 use Rattle.command_line.specs.declared.job.TextForm.{TextForm}
 use Rattle.command_line.specs.declared.job.TextForm.TheVariants.{Plain, Json}
-use Rattle.command_line.specs.PlainForms.{IsChoice, IsNumberGiven, IsPlain, IsValue, IsValueIfGiven, choice_words, diff_form_words, existing_words, form_words, given, place_words, zone_form_words}
-use Rattle.command_line.specs.Words.{JobOf, apply, canon, diff, request, files_at, imports, export, migrate, rights, plan, serve, ChoiceOf, by_all, by_only, by_others, check_policy, check_isolation, check_rights, check_zone, explain, job_by, job_of, stored_at}
+use Rattle.command_line.specs.PlainForms.{IsChoice, IsNumberGiven, IsPlain, IsValue, IsValueIfGiven, choice_words, diff_form_words, existing_words, form_words, given, given_if, place_words, request_words, zone_form_words}
+use Rattle.command_line.specs.Words.{JobOf, apply, canon, diff, request, files_at, files_by, is_input, imports, export, zones, log, LogOf, migrate, rights, plan, serve, ChoiceOf, by_all, by_only, by_others, check_policy, check_isolation, check_rights, check_zone, explain, job_by, job_of, stored_at}
 use Rattle.command_line.proofs.CommandLemmas.{job_of_command, no_words, place_walked, rows_from, rules_of, standing, value_walked}
 
 -- ---- steps
@@ -64,7 +66,7 @@ unfolding clap_on_literals
 canon_read o Whole is = option_read command.Canon start argument.Origin o [] is refl
 canon_read o Relative is = option_read command.Canon start argument.Origin o (zone_form_words Relative) is refl
 
-module _ (o old new : Text) (is_o : IsValue o) (is_old : IsValue old) (is_new : IsValue new) where
+module _ (o old new : Text) (is_o : IsValue o) (is_old : IsValue old) (is_new : IsValue new) (one : (is_input old && is_input new) ≡ false) where
   abbrev origin_given : Held
   origin_given = valued command.Diff start argument.Origin o
 
@@ -72,20 +74,70 @@ module _ (o old new : Text) (is_o : IsValue o) (is_old : IsValue old) (is_new : 
   abbrev flagged : Held
   flagged = (walked (rules_of command.Diff) [] (standing 1 origin_given idle) (codes "--" ++ argument_name argument.Guard)).held
 
+  files_read : (form : DiffForm) → option_map (λ f. diff o f form) (files_by old new) ≡ Some (diff o (files_at old new) form)
+  files_read form = rw one refl
+
   diff_read : (form : DiffForm) → job_from command.Diff (given argument.Origin o ++ diff_form_words form ++ old ∷ new ∷ []) (walk_from start) ≡ Some (diff o (files_at old new) form)
   unfolding clap_on_literals
   diff_read Bare =
       option_read command.Diff start argument.Origin o (old ∷ new ∷ []) is_o refl
       ∙ (place_read command.Diff 1 origin_given argument.Old old (new ∷ []) is_old refl
-      ∙ place_read command.Diff 2 (placed command.Diff 1 origin_given argument.Old old) argument.New new [] is_new refl)
+      ∙ (place_read command.Diff 2 (placed command.Diff 1 origin_given argument.Old old) argument.New new [] is_new refl ∙ files_read Bare))
   diff_read Guarded =
       option_read command.Diff start argument.Origin o (diff_form_words Guarded ++ old ∷ new ∷ []) is_o refl
       ∙ (place_read command.Diff 1 flagged argument.Old old (new ∷ []) is_old refl
-      ∙ place_read command.Diff 2 (placed command.Diff 1 flagged argument.Old old) argument.New new [] is_new refl)
+      ∙ (place_read command.Diff 2 (placed command.Diff 1 flagged argument.Old old) argument.New new [] is_new refl ∙ files_read Guarded))
 
-request_read : (i : Text) → IsValue i → job_from command.Request (given argument.Id i) (walk_from start) ≡ Some (request i)
+request_read : (i : Text) (form : RequestForm) → IsValue i → job_from command.Request (request_words form i) (walk_from start) ≡ Some (request i form)
 unfolding clap_on_literals
-request_read i is = option_read command.Request start argument.Id i [] is refl
+request_read i request_form.Whole is = option_read command.Request start argument.Id i [] is refl
+request_read i request_form.Split is = option_read command.Request start argument.Split i [] is refl
+
+zones_read : (s : Text) → IsValue s → job_from command.Zones (given argument.Store s) (walk_from start) ≡ Some (zones s)
+unfolding clap_on_literals
+zones_read s is = option_read command.Zones start argument.Store s [] is refl
+
+module _ (s o : Text) (is_s : IsValue s) (is_o : IsValue o) where
+  abbrev logging : Held
+  logging = valued command.Log (valued command.Log start argument.Store s) argument.Origin o
+
+  abbrev asked_for : Option ℕ → Option Text → Option Text → LogOf
+  asked_for n m q = record { from = n; name = m; caller = q }
+
+  abbrev logged : Option Text → Option Text → Option ℕ → Option JobOf
+  logged m q n = option_map (λ c. log (stored_at s o) c) (option_map (λ x. asked_for x m q) (option_map (λ y. Some y) n))
+
+  choice_read : (n : Option ℕ) (m q : Option Text) (ns : List Text) → IsNumberGiven argument.From n ns → IsValueIfGiven m → IsValueIfGiven q
+      → job_from command.Log (ns ++ given_if argument.Within m ++ given_if argument.Asker q) (standing 1 logging idle) ≡ Some (log (stored_at s o) (asked_for n m q))
+  unfolding clap_on_literals
+  choice_read None None None ns is_n is_m is_q = rw is_n refl
+  choice_read None (Some m) None ns is_n is_m is_q = rw is_n (option_read command.Log logging argument.Within m [] is_m refl)
+  choice_read None None (Some q) ns is_n is_m is_q = rw is_n (option_read command.Log logging argument.Asker q [] is_q refl)
+  choice_read None (Some m) (Some q) ns is_n is_m is_q =
+      rw is_n (option_read command.Log logging argument.Within m (given argument.Asker q) is_m refl
+      ∙ option_read command.Log (valued command.Log logging argument.Within m) argument.Asker q [] is_q refl)
+  choice_read (Some n) None None ns is_n is_m is_q =
+      rw is_n.3 (option_read command.Log logging argument.From is_n.0 [] is_n.1 refl ∙ ap (logged None None) is_n.2)
+  choice_read (Some n) (Some m) None ns is_n is_m is_q =
+      rw is_n.3 (option_read command.Log logging argument.From is_n.0 (given argument.Within m) is_n.1 refl
+      ∙ (option_read command.Log (valued command.Log logging argument.From is_n.0) argument.Within m [] is_m refl ∙ ap (logged (Some m) None) is_n.2))
+  choice_read (Some n) None (Some q) ns is_n is_m is_q =
+      rw is_n.3 (option_read command.Log logging argument.From is_n.0 (given argument.Asker q) is_n.1 refl
+      ∙ (option_read command.Log (valued command.Log logging argument.From is_n.0) argument.Asker q [] is_q refl ∙ ap (logged None (Some q)) is_n.2))
+  choice_read (Some n) (Some m) (Some q) ns is_n is_m is_q =
+      rw is_n.3 (option_read command.Log logging argument.From is_n.0 (given argument.Within m ++ given argument.Asker q) is_n.1 refl
+      ∙ (option_read command.Log (valued command.Log logging argument.From is_n.0) argument.Within m (given argument.Asker q) is_m refl
+      ∙ (option_read command.Log (valued command.Log (valued command.Log logging argument.From is_n.0) argument.Within m) argument.Asker q [] is_q refl
+      ∙ ap (logged (Some m) (Some q)) is_n.2)))
+
+  log_read : (n : Option ℕ) (m q : Option Text) (ns : List Text) → IsNumberGiven argument.From n ns → IsValueIfGiven m → IsValueIfGiven q
+      → job_from command.Log (given argument.Store s ++ given argument.Origin o ++ ns ++ given_if argument.Within m ++ given_if argument.Asker q) (walk_from start)
+      ≡ Some (log (stored_at s o) (asked_for n m q))
+  unfolding clap_on_literals
+  log_read n m q ns is_n is_m is_q =
+      let words = ns ++ given_if argument.Within m ++ given_if argument.Asker q in
+      option_read command.Log start argument.Store s (given argument.Origin o ++ words) is_s refl
+      ∙ (option_read command.Log (valued command.Log start argument.Store s) argument.Origin o words is_o refl ∙ choice_read n m q ns is_n is_m is_q)
 
 migrate_read : (s : Text) → IsValue s → job_from command.Migrate (given argument.Store s) (walk_from start) ≡ Some (migrate s)
 unfolding clap_on_literals
@@ -239,11 +291,14 @@ plain_read words apply (inl none) = ap job_of none ∙ no_words
 plain_read words apply (inr word) = ap job_of word ∙ job_of_command command.Apply []
 plain_read words (canon o form) is = ap job_of is.1 ∙ (job_of_command command.Canon _ ∙ canon_read o form is.0)
 plain_read words (diff o files form) is =
-    ap job_of is.3 ∙ (job_of_command command.Diff _ ∙ diff_read o files.old files.new is.0 is.1 is.2 form)
-plain_read words (request i) is = ap job_of is.1 ∙ (job_of_command command.Request _ ∙ request_read i is.0)
+    ap job_of is.4 ∙ (job_of_command command.Diff _ ∙ diff_read o files.old files.new is.0 is.1 is.2 is.3 form)
+plain_read words (request i form) is = ap job_of is.1 ∙ (job_of_command command.Request _ ∙ request_read i form is.0)
 plain_read words (imports z existing) is =
     ap job_of is.2 ∙ (job_of_command command.Import _ ∙ import_read z.store z.origin existing is.0 is.1)
 plain_read words (export z form) is = ap job_of is.2 ∙ (job_of_command command.Export _ ∙ export_read z.store z.origin form is.0 is.1)
+plain_read words (zones s) is = ap job_of is.1 ∙ (job_of_command command.Zones _ ∙ zones_read s is.0)
+plain_read words (log z asked) is =
+    ap job_of is.6 ∙ (job_of_command command.Log _ ∙ log_read z.store z.origin is.0 is.1 asked.from asked.name asked.caller is.2 is.3 is.4 is.5)
 plain_read words (migrate s) is = ap job_of is.1 ∙ (job_of_command command.Migrate _ ∙ migrate_read s is.0)
 plain_read words (rights p q n t a) is =
     ap job_of is.5 ∙ (job_of_command command.Rights _ ∙ rights_read p q n t a is.0 is.1 is.2 is.3 is.4)

@@ -39,7 +39,11 @@ argument_row argument.Json = (codes "json", Flag)
 argument_row argument.Guard = (codes "guard", Flag)
 argument_row argument.Old = (codes "old", Place)
 argument_row argument.New = (codes "new", Place)
-argument_row argument.Id = (codes "id", Needed)
+argument_row argument.Id = (codes "id", Optional)
+argument_row argument.Split = (codes "split", Optional)
+argument_row argument.From = (codes "from", Number)
+argument_row argument.Within = (codes "name", Optional)
+argument_row argument.Asker = (codes "caller", Optional)
 
 abbrev pub argument_name : Argument → Text
 argument_name a = (argument_row a).0
@@ -54,9 +58,11 @@ abbrev pub command_row : Command → Text × List Argument
 command_row command.Apply = (codes "apply", [])
 command_row command.Canon = (codes "canon", argument.Origin ∷ argument.Relative ∷ [])
 command_row command.Diff = (codes "diff", argument.Origin ∷ argument.Guard ∷ argument.Old ∷ argument.New ∷ [])
-command_row command.Request = (codes "request", argument.Id ∷ [])
+command_row command.Request = (codes "request", argument.Id ∷ argument.Split ∷ [])
 command_row command.Import = (codes "import", argument.Store ∷ argument.Origin ∷ argument.Replace ∷ [])
 command_row command.Export = (codes "export", argument.Store ∷ argument.Origin ∷ argument.Relative ∷ [])
+command_row command.Zones = (codes "zones", argument.Store ∷ [])
+command_row command.Log = (codes "log", argument.Store ∷ argument.Origin ∷ argument.From ∷ argument.Within ∷ argument.Asker ∷ [])
 command_row command.Migrate = (codes "migrate", argument.Store ∷ [])
 command_row command.Rights =
     (codes "rights", argument.Policy ∷ argument.Caller ∷ argument.Name ∷ argument.Type ∷ argument.Action ∷ [])
@@ -75,8 +81,8 @@ arguments_of c = (command_row c).1
 
 abbrev pub all_commands : List Command
 all_commands =
-    command.Apply ∷ command.Canon ∷ command.Diff ∷ command.Request ∷ command.Import ∷ command.Export ∷ command.Migrate ∷ command.Rights ∷ command.Plan
-    ∷ command.Serve ∷ command.Check ∷ command.Explain ∷ []
+    command.Apply ∷ command.Canon ∷ command.Diff ∷ command.Request ∷ command.Import ∷ command.Export ∷ command.Zones ∷ command.Log ∷ command.Migrate
+    ∷ command.Rights ∷ command.Plan ∷ command.Serve ∷ command.Check ∷ command.Explain ∷ []
 
 -- the command that a word names
 abbrev pub command_of : Text → Option Command

@@ -1,16 +1,18 @@
 -- The plain form of each job: the words that ask for it as a manual writes them.
-use Rattle.std.specs.Prelude.{◌≡◌, ◌⊎◌, ⊤, ℕ, false, List, [], ◌∷◌, ◌++◌, Option, Some, None, codes}
+use Rattle.std.specs.Prelude.{◌≡◌, ◌⊎◌, ◌&&◌, ⊤, ℕ, false, List, [], ◌∷◌, ◌++◌, Option, Some, None, codes}
 use Rattle.std.specs.Str.{bytes_eq}
 use Rattle.clap.specs.Words.{Text}
 use Rattle.clap.specs.Lexer.{long_of, short_of}
 use Rattle.command_line.specs.Commands.{argument_name}
-use Rattle.command_line.specs.Words.{JobOf, apply, canon, diff, request, imports, export, migrate, rights, plan, serve, ChoiceOf, by_all, by_only, by_others, check_policy, check_isolation, check_rights, check_zone, explain, number_in}
+use Rattle.command_line.specs.Words.{JobOf, is_input, apply, canon, diff, request, imports, export, zones, log, migrate, rights, plan, serve, ChoiceOf, by_all, by_only, by_others, check_policy, check_isolation, check_rights, check_zone, explain, number_in}
 use Rattle.command_line.specs.declared.argument.Argument.{Argument}
 use Rattle.command_line.specs.declared.argument.Argument.TheVariants as argument
 use Rattle.command_line.specs.declared.job.Existing.{Existing}
 use Rattle.command_line.specs.declared.job.Existing.TheVariants.{Kept, Replaced}
 use Rattle.command_line.specs.declared.job.DiffForm.{DiffForm}
 use Rattle.command_line.specs.declared.job.DiffForm.TheVariants.{Bare, Guarded}
+use Rattle.command_line.specs.declared.job.RequestForm.{RequestForm}
+use Rattle.command_line.specs.declared.job.RequestForm.TheVariants as request_form
 use Rattle.command_line.specs.declared.job.ZoneForm.{ZoneForm}
 use Rattle.command_line.specs.declared.job.ZoneForm.TheVariants.{Whole, Relative}
 use Rattle.command_line.specs.declared.job.TextForm.{TextForm}
@@ -72,18 +74,33 @@ abbrev pub IsNumberGiven : Argument → Option ℕ → List Text → Type 0
 IsNumberGiven a None words = words ≡ []
 IsNumberGiven a (Some n) words = (t : Text) × IsValue t × (number_in t ≡ Some n) × (words ≡ given a t)
 
+-- `--id ID`, or `--split ID` where the update is printed in parts
+abbrev pub request_words : RequestForm → Text → List Text
+request_words request_form.Whole id = given argument.Id id
+request_words request_form.Split id = given argument.Split id
+
+-- `--name VALUE`, where a value is given
+abbrev pub given_if : Argument → Option Text → List Text
+given_if a None = []
+given_if a (Some v) = given a v
+
 -- the words are the plain form of a job: its command, the options with their values in the order of the table, and what stands in
 -- its place
 abbrev pub IsPlain : List Text → JobOf → Type 0
 IsPlain words apply = (words ≡ []) ⊎ (words ≡ codes "apply" ∷ [])
 IsPlain words (canon origin form) = IsValue origin × (words ≡ codes "canon" ∷ (given argument.Origin origin ++ zone_form_words form))
 IsPlain words (diff origin files form) = IsValue origin × IsValue files.old × IsValue files.new
+    × ((is_input files.old && is_input files.new) ≡ false)
     × (words ≡ codes "diff" ∷ (given argument.Origin origin ++ diff_form_words form ++ files.old ∷ files.new ∷ []))
-IsPlain words (request id) = IsValue id × (words ≡ codes "request" ∷ given argument.Id id)
+IsPlain words (request id form) = IsValue id × (words ≡ codes "request" ∷ request_words form id)
 IsPlain words (imports zone existing) = IsValue zone.store × IsValue zone.origin
     × (words ≡ codes "import" ∷ (given argument.Store zone.store ++ given argument.Origin zone.origin ++ existing_words existing))
 IsPlain words (export zone form) = IsValue zone.store × IsValue zone.origin
     × (words ≡ codes "export" ∷ (given argument.Store zone.store ++ given argument.Origin zone.origin ++ zone_form_words form))
+IsPlain words (zones store) = IsValue store × (words ≡ codes "zones" ∷ given argument.Store store)
+IsPlain words (log zone asked) = IsValue zone.store × IsValue zone.origin
+    × (ns : List Text) × IsNumberGiven argument.From asked.from ns × IsValueIfGiven asked.name × IsValueIfGiven asked.caller
+    × (words ≡ codes "log" ∷ (given argument.Store zone.store ++ given argument.Origin zone.origin ++ ns ++ given_if argument.Within asked.name ++ given_if argument.Asker asked.caller))
 IsPlain words (migrate store) = IsValue store × (words ≡ codes "migrate" ∷ given argument.Store store)
 IsPlain words (rights policy caller name record_type action) =
     IsValue policy × IsValue caller × IsValue name × IsValue record_type × IsValue action

@@ -1,5 +1,5 @@
 -- What a command line asks for, by its words behind the program's name.
-use Rattle.std.specs.Prelude.{ℕ, ◌&&◌, ◌^◌, List, length, Option, Some, None, option_map, option_and_then, codes, nat_lt, if◌then◌else◌}
+use Rattle.std.specs.Prelude.{ℕ, ◌&&◌, ◌^◌, Bool, List, length, Option, Some, None, option_map, option_and_then, codes, nat_lt, if◌then◌else◌}
 use Rattle.std.specs.Char.{digit_value}
 use Rattle.std.specs.List.{list_all}
 use Rattle.std.specs.Str.{bytes_eq}
@@ -17,12 +17,19 @@ use Rattle.command_line.specs.declared.job.DiffForm.{DiffForm}
 use Rattle.command_line.specs.declared.job.DiffForm.TheVariants.{Bare, Guarded}
 use Rattle.command_line.specs.declared.job.ZoneForm.{ZoneForm}
 use Rattle.command_line.specs.declared.job.ZoneForm.TheVariants.{Whole, Relative}
+use Rattle.command_line.specs.declared.job.RequestForm.{RequestForm}
+use Rattle.command_line.specs.declared.job.RequestForm.TheVariants as request_form
+use Rattle.command_line.specs.declared.job.LogChoice.{LogChoice}
 use Rattle.command_line.specs.declared.job.StoredZone.{StoredZone}
 use Rattle.command_line.specs.declared.job.ZoneFiles.{ZoneFiles}
 use Rattle.command_line.specs.declared.job.RuleChoice.{RuleChoice}
 use Rattle.command_line.specs.declared.job.RuleChoice.TheVariants as choice
 use Rattle.command_line.specs.declared.job.Job.{Job}
 use Rattle.command_line.specs.declared.job.Job.TheVariants as job
+use Rattle.command_line.specs.declared.job.TextJob.{TextJob}
+use Rattle.command_line.specs.declared.job.TextJob.TheVariants as text_job
+use Rattle.command_line.specs.declared.job.StoreJob.{StoreJob}
+use Rattle.command_line.specs.declared.job.StoreJob.TheVariants as store_job
 
 -- ---- the jobs
 
@@ -36,6 +43,12 @@ pub record FilesOf : Type 0 where
   pub old : Text
   pub new : Text
 
+-- which of the changes and receipts of a zone are printed, by their words
+pub record LogOf : Type 0 where
+  pub from : Option ℕ
+  pub name : Option Text
+  pub caller : Option Text
+
 -- by which rules a zone is checked, by their words
 pub data ChoiceOf : Type 0 where
   by_all : ChoiceOf
@@ -47,9 +60,11 @@ pub data JobOf : Type 0 where
   apply : JobOf
   canon : (origin : Text) → ZoneForm → JobOf
   diff : (origin : Text) → FilesOf → DiffForm → JobOf
-  request : (id : Text) → JobOf
+  request : (id : Text) → RequestForm → JobOf
   imports : StoredOf → Existing → JobOf
   export : StoredOf → ZoneForm → JobOf
+  zones : (store : Text) → JobOf
+  log : StoredOf → LogOf → JobOf
   migrate : (store : Text) → JobOf
   rights : (policy caller name record_type action : Text) → JobOf
   plan : (policy caller : Text) → JobOf
@@ -66,27 +81,38 @@ zone_asked zone = record { store = zone.store.now; origin = zone.origin.now }
 abbrev pub files_asked : ZoneFiles → FilesOf
 files_asked files = record { old = files.old.now; new = files.new.now }
 
+abbrev pub log_asked : LogChoice → LogOf
+log_asked asked = record { from = asked.from; name = option_map (λ n. n.now) asked.name; caller = option_map (λ c. c.now) asked.caller }
+
 abbrev pub chosen : RuleChoice → ChoiceOf
 chosen choice.All = by_all
 chosen (choice.Only rule) = by_only rule.now
 chosen (choice.Not rule) = by_others rule.now
 
+abbrev pub asks_text : TextJob → JobOf
+asks_text text_job.Apply = apply
+asks_text (text_job.Canon origin form) = canon origin.now form
+asks_text (text_job.Diff origin files form) = diff origin.now (files_asked files) form
+asks_text (text_job.Request id form) = request id.now form
+asks_text (text_job.Rights policy asked) = rights policy.now asked.caller.now asked.name.now asked.record_type.now asked.action.now
+asks_text (text_job.Plan policy caller) = plan policy.now caller.now
+asks_text (text_job.CheckPolicy policy) = check_policy policy.now
+asks_text (text_job.CheckIsolation policy caller) = check_isolation policy.now caller.now
+asks_text (text_job.CheckRights policy name) = check_rights policy.now (option_map (λ n. n.now) name)
+asks_text (text_job.CheckZone origin rules) = check_zone origin.now (chosen rules)
+asks_text (text_job.Explain number form) = explain (option_map (λ n. n.now) number) form
+
+abbrev pub asks_store : StoreJob → JobOf
+asks_store (store_job.Import zone existing) = imports (zone_asked zone) existing
+asks_store (store_job.Export zone form) = export (zone_asked zone) form
+asks_store (store_job.Zones store) = zones store.now
+asks_store (store_job.Log zone asked) = log (zone_asked zone) (log_asked asked)
+asks_store (store_job.Migrate store) = migrate store.now
+asks_store (store_job.Serve service) = serve service.store.now service.policy.now service.listen.now service.connections service.patience
+
 abbrev pub asks : Job → JobOf
-asks job.Apply = apply
-asks (job.Canon origin form) = canon origin.now form
-asks (job.Diff origin files form) = diff origin.now (files_asked files) form
-asks (job.Request id) = request id.now
-asks (job.Import zone existing) = imports (zone_asked zone) existing
-asks (job.Export zone form) = export (zone_asked zone) form
-asks (job.Migrate store) = migrate store.now
-asks (job.Rights policy asked) = rights policy.now asked.caller.now asked.name.now asked.record_type.now asked.action.now
-asks (job.Plan policy caller) = plan policy.now caller.now
-asks (job.Serve service) = serve service.store.now service.policy.now service.listen.now service.connections service.patience
-asks (job.CheckPolicy policy) = check_policy policy.now
-asks (job.CheckIsolation policy caller) = check_isolation policy.now caller.now
-asks (job.CheckRights policy name) = check_rights policy.now (option_map (λ n. n.now) name)
-asks (job.CheckZone origin rules) = check_zone origin.now (chosen rules)
-asks (job.Explain number form) = explain (option_map (λ n. n.now) number) form
+asks (job.Text j) = asks_text j
+asks (job.Store j) = asks_store j
 
 -- ---- what words ask for
 
@@ -127,16 +153,30 @@ canon_of rows = option_map (λ o. canon o (zone_form_of (first_of (argument_name
 abbrev pub files_at : Text → Text → FilesOf
 files_at old new = record { old = old; new = new }
 
+abbrev pub is_input : Text → Bool
+is_input path = bytes_eq path (codes "-")
+
+-- standard input, `-`, is one file: not the two of them
+abbrev pub files_by : Text → Text → Option FilesOf
+files_by old new = if is_input old && is_input new then None else Some (files_at old new)
+
 abbrev pub files_of : List Row → Option FilesOf
-files_of rows = option_and_then (λ o. option_map (λ n. files_at o n) (first_of (argument_name argument.New) rows)) (first_of (argument_name argument.Old) rows)
+files_of rows = option_and_then (λ o. option_and_then (λ n. files_by o n) (first_of (argument_name argument.New) rows)) (first_of (argument_name argument.Old) rows)
 
 abbrev pub diff_of : List Row → Option JobOf
 diff_of rows =
     option_and_then (λ o. option_map (λ f. diff o f (diff_form_of (first_of (argument_name argument.Guard) rows))) (files_of rows))
     (first_of (argument_name argument.Origin) rows)
 
+-- as one body under an identifier, or as several under those that begin so: not both, and not none of the two
+abbrev pub request_by : Option Text → Option Text → Option JobOf
+request_by (Some id) None = Some (request id request_form.Whole)
+request_by None (Some id) = Some (request id request_form.Split)
+request_by None None = None
+request_by (Some id) (Some other) = None
+
 abbrev pub request_of : List Row → Option JobOf
-request_of rows = option_map (λ i. request i) (first_of (argument_name argument.Id) rows)
+request_of rows = request_by (first_of (argument_name argument.Id) rows) (first_of (argument_name argument.Split) rows)
 
 abbrev pub stored_at : Text → Text → StoredOf
 stored_at store origin = record { store = store; origin = origin }
@@ -149,6 +189,18 @@ import_of rows = option_map (λ z. imports z (existing_of (first_of (argument_na
 
 abbrev pub export_of : List Row → Option JobOf
 export_of rows = option_map (λ z. export z (zone_form_of (first_of (argument_name argument.Relative) rows))) (stored_of rows)
+
+abbrev pub zones_of : List Row → Option JobOf
+zones_of rows = option_map (λ s. zones s) (first_of (argument_name argument.Store) rows)
+
+abbrev pub log_choice : Option ℕ → List Row → LogOf
+log_choice from rows = record { from = from; name = first_of (argument_name argument.Within) rows; caller = first_of (argument_name argument.Asker) rows }
+
+abbrev pub log_choice_of : List Row → Option LogOf
+log_choice_of rows = option_map (λ n. log_choice n rows) (number_if (one_of (argument_name argument.From) rows))
+
+abbrev pub log_of : List Row → Option JobOf
+log_of rows = option_and_then (λ z. option_map (λ c. log z c) (log_choice_of rows)) (stored_of rows)
 
 abbrev pub migrate_of : List Row → Option JobOf
 migrate_of rows = option_map (λ s. migrate s) (first_of (argument_name argument.Store) rows)
@@ -223,6 +275,8 @@ job_by command.Diff rows = diff_of rows
 job_by command.Request rows = request_of rows
 job_by command.Import rows = import_of rows
 job_by command.Export rows = export_of rows
+job_by command.Zones rows = zones_of rows
+job_by command.Log rows = log_of rows
 job_by command.Migrate rows = migrate_of rows
 job_by command.Rights rows = rights_of rows
 job_by command.Plan rows = plan_of rows

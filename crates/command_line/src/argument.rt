@@ -35,6 +35,10 @@ pub enum Argument {
     Old,
     New,
     Id,
+    Split,
+    From,
+    Within,
+    Asker,
 }
 
 /// How an argument is written.
@@ -165,7 +169,31 @@ impl Argument {
                 Form::Place,
                 "The file of the zone as it is to be, or -",
             ),
-            Argument::Id => Row::new("id", Form::Needed, "The identifier of the update"),
+            Argument::Id => Row::new(
+                "id",
+                Form::Optional,
+                "The identifier of the update; this or --split is needed",
+            ),
+            Argument::Split => Row::new(
+                "split",
+                Form::Optional,
+                "Before the numbers of the updates, as many as the limits want",
+            ),
+            Argument::From => Row::new(
+                "from",
+                Form::Number,
+                "Only the changes from this number on",
+            ),
+            Argument::Within => Row::new(
+                "name",
+                Form::Optional,
+                "Only what is at this name or below it",
+            ),
+            Argument::Asker => Row::new(
+                "caller",
+                Form::Optional,
+                "Only the receipts of this caller",
+            ),
         }
     }
 

@@ -13,6 +13,8 @@ pub enum Command {
     Request,
     Import,
     Export,
+    Zones,
+    Log,
     Migrate,
     Rights,
     Plan,
@@ -57,13 +59,15 @@ impl Command {
     ghost use Rattle.command_line.specs.Commands.{command_word, arguments_of, command_of};
 
     /// The commands, in the order of the help.
-    pub const ALL: [Command; 12] = [
+    pub const ALL: [Command; 14] = [
         Command::Apply,
         Command::Canon,
         Command::Diff,
         Command::Request,
         Command::Import,
         Command::Export,
+        Command::Zones,
+        Command::Log,
         Command::Migrate,
         Command::Rights,
         Command::Plan,
@@ -103,9 +107,9 @@ impl Command {
             ),
             Command::Request => Row::new(
                 "request",
-                "Prints the body of an update, for the HTTP service",
+                "Prints the body of an update, or the bodies of its parts, for the HTTP service",
                 "Example: zoneoffice diff --guard --origin example.org. old.zone new.zone | zoneoffice request --id a1",
-                &[Argument::Id],
+                &[Argument::Id, Argument::Split],
             ),
             Command::Import => Row::new(
                 "import",
@@ -118,6 +122,24 @@ impl Command {
                 "Prints a zone of a store",
                 "Example: zoneoffice export --store office.db --origin example.org.",
                 &[Argument::Store, Argument::Origin, Argument::Relative],
+            ),
+            Command::Zones => Row::new(
+                "zones",
+                "Prints the zones of a store",
+                "Example: zoneoffice zones --store office.db",
+                &[Argument::Store],
+            ),
+            Command::Log => Row::new(
+                "log",
+                "Prints the changes of a zone of a store, and the receipts",
+                "Example: zoneoffice log --store office.db --origin example.org. --name www.example.org.",
+                &[
+                    Argument::Store,
+                    Argument::Origin,
+                    Argument::From,
+                    Argument::Within,
+                    Argument::Asker,
+                ],
             ),
             Command::Migrate => Row::new(
                 "migrate",

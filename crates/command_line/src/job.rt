@@ -3,6 +3,15 @@
 /// What the program is to do.
 #[derive(Clone, Copy, PartialEq, Eq)]
 pub enum Job<'a> {
+    /// What needs no store.
+    Text(TextJob<'a>),
+    /// What needs a store.
+    Store(StoreJob<'a>),
+}
+
+/// What the program is to do with texts: standard input and files.
+#[derive(Clone, Copy, PartialEq, Eq)]
+pub enum TextJob<'a> {
     /// To update a zone that is read from standard input.
     Apply,
     /// To print a zone that is read from standard input.
@@ -21,29 +30,12 @@ pub enum Job<'a> {
         /// What stands before the items.
         form: DiffForm,
     },
-    /// To print the body of an update that is read from standard input.
+    /// To print the body of an update that is read from standard input, or the bodies of its parts.
     Request {
-        /// The identifier of the update.
+        /// The identifier of the update, or what stands before the numbers of its parts.
         id: &'a str,
-    },
-    /// To put a zone that is read from standard input into a store.
-    Import {
-        /// Which zone, and which store.
-        zone: StoredZone<'a>,
-        /// What becomes of a zone of this origin that is there.
-        existing: Existing,
-    },
-    /// To print a zone of a store.
-    Export {
-        /// Which zone, and which store.
-        zone: StoredZone<'a>,
-        /// In which form it is printed.
-        form: ZoneForm,
-    },
-    /// To take a store from version 1 of the tables to version 2.
-    Migrate {
-        /// The path of the store.
-        store: &'a str,
+        /// In one body, or in parts.
+        form: RequestForm,
     },
     /// To ask a policy.
     Rights {
@@ -58,11 +50,6 @@ pub enum Job<'a> {
         policy: &'a str,
         /// Who asks.
         caller: &'a str,
-    },
-    /// To answer callers over HTTP.
-    Serve {
-        /// What is served, and where.
-        service: Service<'a>,
     },
     /// To find the rules of a policy that never decide.
     CheckPolicy {
@@ -99,6 +86,47 @@ pub enum Job<'a> {
     },
 }
 
+/// What the program is to do with a store.
+#[derive(Clone, Copy, PartialEq, Eq)]
+pub enum StoreJob<'a> {
+    /// To put a zone that is read from standard input into a store.
+    Import {
+        /// Which zone, and which store.
+        zone: StoredZone<'a>,
+        /// What becomes of a zone of this origin that is there.
+        existing: Existing,
+    },
+    /// To print a zone of a store.
+    Export {
+        /// Which zone, and which store.
+        zone: StoredZone<'a>,
+        /// In which form it is printed.
+        form: ZoneForm,
+    },
+    /// To print the zones of a store.
+    Zones {
+        /// The path of the store.
+        store: &'a str,
+    },
+    /// To print the changes and the receipts of a zone of a store.
+    Log {
+        /// Which zone, and which store.
+        zone: StoredZone<'a>,
+        /// Which of them.
+        choice: LogChoice<'a>,
+    },
+    /// To take a store from version 1 of the tables to version 2.
+    Migrate {
+        /// The path of the store.
+        store: &'a str,
+    },
+    /// To answer callers over HTTP.
+    Serve {
+        /// What is served, and where.
+        service: Service<'a>,
+    },
+}
+
 /// As what a text is printed.
 #[derive(Clone, Copy, PartialEq, Eq)]
 pub enum TextForm {
@@ -126,6 +154,26 @@ pub enum DiffForm {
     Guarded,
 }
 
+/// As how many bodies an update is printed.
+#[derive(Clone, Copy, PartialEq, Eq)]
+pub enum RequestForm {
+    /// As one.
+    Whole,
+    /// As many as the limits of one update want.
+    Split,
+}
+
+/// Which of the changes and receipts of a zone are printed.
+#[derive(Clone, Copy, PartialEq, Eq)]
+pub struct LogChoice<'a> {
+    /// From which change on, where a number is given.
+    pub from: Option<u64>,
+    /// Within which name, where one is given.
+    pub name: Option<&'a str>,
+    /// Of which caller the receipts are, where one is given.
+    pub caller: Option<&'a str>,
+}
+
 /// By which of the rules a zone is checked.
 #[derive(Clone, Copy, PartialEq, Eq)]
 pub enum RuleChoice<'a> {
@@ -137,7 +185,7 @@ pub enum RuleChoice<'a> {
     Not(&'a str),
 }
 
-/// A zone of a store, as the words of `import` and of `export` name it.
+/// A zone of a store, as the words of `import`, of `export` and of `log` name it.
 #[derive(Clone, Copy, PartialEq, Eq)]
 pub struct StoredZone<'a> {
     /// The path of the store.
@@ -146,7 +194,7 @@ pub struct StoredZone<'a> {
     pub origin: &'a str,
 }
 
-/// The master files of two zones of one origin. A path that is `-` is standard input.
+/// The master files of two zones of one origin. A path that is `-` is standard input, which words name once at most.
 #[derive(Clone, Copy, PartialEq, Eq)]
 pub struct ZoneFiles<'a> {
     /// The path of the zone as it is.

@@ -8,7 +8,7 @@ mod parser;
 mod words;
 
 pub use job::{
-    DiffForm, Existing, Job, QuestionWords, RuleChoice, Service, StoredZone, TextForm, ZoneFiles,
-    ZoneForm,
+    DiffForm, Existing, Job, LogChoice, QuestionWords, RequestForm, RuleChoice, Service, StoreJob,
+    StoredZone, TextForm, TextJob, ZoneFiles, ZoneForm,
 };
 pub use words::{WordsFault, read_words};

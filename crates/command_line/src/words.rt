@@ -3,15 +3,15 @@
 ghost use Rattle.std.specs.Prelude.{◌≡◌, [], IfErr, IfOk, map, option_map, Some, is_some, true, codes};
 ghost use Rattle.clap.specs.Words.{app_of, fault_of, first_of, found_of, kind_of, one_of, rows_of, subcommand_rows_of, takes};
 ghost use Rattle.command_line.specs.Commands.{office, argument_name};
-ghost use Rattle.command_line.specs.Words.{asks, chosen, JobOf, canon_of, files_asked, files_of, diff_of, request_of, zone_asked, stored_of, import_of, export_of, migrate_of, rights_of, plan_of, serve_of, checked_of, isolated_of, listed_of, choice_of, linted_of, check_of, explain_of, number_if, existing_of, zone_form_of, diff_form_of, form_of, job_by, job_named, job_met, job_of};
+ghost use Rattle.command_line.specs.Words.{asks, chosen, JobOf, canon_of, files_asked, files_by, files_of, diff_of, request_of, zone_asked, stored_of, import_of, export_of, zones_of, log_asked, log_choice_of, log_of, migrate_of, rights_of, plan_of, serve_of, checked_of, isolated_of, listed_of, choice_of, linted_of, check_of, explain_of, number_if, existing_of, zone_form_of, diff_form_of, form_of, job_by, job_named, job_met, job_of};
 ghost use Rattle.command_line.specs.PlainForms.{IsPlain};
 ghost use Rattle.command_line.specs.Misuse.{IsReportedAs, IsReported, is_help};
 
 use crate::argument::Argument;
 use crate::command::Command;
 use crate::job::{
-    DiffForm, Existing, Job, QuestionWords, RuleChoice, Service, StoredZone, TextForm, ZoneFiles,
-    ZoneForm,
+    DiffForm, Existing, Job, LogChoice, QuestionWords, RequestForm, RuleChoice, Service, StoreJob,
+    StoredZone, TextForm, TextJob, ZoneFiles, ZoneForm,
 };
 use crate::parser::parser;
 use clap::error::ErrorKind;
@@ -89,7 +89,17 @@ fn canon_in<'a>(matches: &ArgMatches<'a>) -> Option<Job<'a>>
 {
     let origin = text_at(matches, Argument::Origin)?;
     let form = zone_form_at(matches);
-    Some(Job::Canon { origin, form })
+    Some(Job::Text(TextJob::Canon { origin, form }))
+}
+
+/// The files of two zones, of which one at most is standard input.
+fn files_by<'a>(old: &'a str, new: &'a str) -> Option<ZoneFiles<'a>>
+    ensures { option_map files_asked result ≡ files_by old.now new.now }
+{
+    if old == "-" && new == "-" {
+        return None;
+    }
+    Some(ZoneFiles { old, new })
 }
 
 /// The files of two zones that words name.
@@ -98,7 +108,7 @@ fn files_at<'a>(matches: &ArgMatches<'a>) -> Option<ZoneFiles<'a>>
 {
     let old = text_at(matches, Argument::Old)?;
     let new = text_at(matches, Argument::New)?;
-    Some(ZoneFiles { old, new })
+    files_by(old, new)
 }
 
 /// The job of the command `diff`.
@@ -108,19 +118,26 @@ fn diff_in<'a>(matches: &ArgMatches<'a>) -> Option<Job<'a>>
     let origin = text_at(matches, Argument::Origin)?;
     let files = files_at(matches)?;
     let form = diff_form_at(matches);
-    Some(Job::Diff {
+    Some(Job::Text(TextJob::Diff {
         origin,
         files,
         form,
-    })
+    }))
 }
 
 /// The job of the command `request`.
 fn request_in<'a>(matches: &ArgMatches<'a>) -> Option<Job<'a>>
     ensures { option_map asks result ≡ request_of (rows_of (found_of matches.now)) }
 {
-    let id = text_at(matches, Argument::Id)?;
-    Some(Job::Request { id })
+    let (id, form) = match (
+        text_at(matches, Argument::Id),
+        text_at(matches, Argument::Split),
+    ) {
+        (Some(id), None) => (id, RequestForm::Whole),
+        (None, Some(id)) => (id, RequestForm::Split),
+        (None, None) | (Some(_), Some(_)) => return None,
+    };
+    Some(Job::Text(TextJob::Request { id, form }))
 }
 
 /// The zone of a store that words name.
@@ -138,7 +155,7 @@ fn import_in<'a>(matches: &ArgMatches<'a>) -> Option<Job<'a>>
 {
     let zone = zone_at(matches)?;
     let existing = existing_at(matches);
-    Some(Job::Import { zone, existing })
+    Some(Job::Store(StoreJob::Import { zone, existing }))
 }
 
 /// The job of the command `export`.
@@ -147,7 +164,34 @@ fn export_in<'a>(matches: &ArgMatches<'a>) -> Option<Job<'a>>
 {
     let zone = zone_at(matches)?;
     let form = zone_form_at(matches);
-    Some(Job::Export { zone, form })
+    Some(Job::Store(StoreJob::Export { zone, form }))
+}
+
+/// The job of the command `zones`.
+fn zones_in<'a>(matches: &ArgMatches<'a>) -> Option<Job<'a>>
+    ensures { option_map asks result ≡ zones_of (rows_of (found_of matches.now)) }
+{
+    let store = text_at(matches, Argument::Store)?;
+    Some(Job::Store(StoreJob::Zones { store }))
+}
+
+/// Which changes and receipts words name.
+fn log_choice_at<'a>(matches: &ArgMatches<'a>) -> Option<LogChoice<'a>>
+    ensures { option_map log_asked result ≡ log_choice_of (rows_of (found_of matches.now)) }
+{
+    let from = number_at(matches, Argument::From)?;
+    let name = text_at(matches, Argument::Within);
+    let caller = text_at(matches, Argument::Asker);
+    Some(LogChoice { from, name, caller })
+}
+
+/// The job of the command `log`.
+fn log_in<'a>(matches: &ArgMatches<'a>) -> Option<Job<'a>>
+    ensures { option_map asks result ≡ log_of (rows_of (found_of matches.now)) }
+{
+    let zone = zone_at(matches)?;
+    let choice = log_choice_at(matches)?;
+    Some(Job::Store(StoreJob::Log { zone, choice }))
 }
 
 /// The job of the command `migrate`.
@@ -155,7 +199,7 @@ fn migrate_in<'a>(matches: &ArgMatches<'a>) -> Option<Job<'a>>
     ensures { option_map asks result ≡ migrate_of (rows_of (found_of matches.now)) }
 {
     let store = text_at(matches, Argument::Store)?;
-    Some(Job::Migrate { store })
+    Some(Job::Store(StoreJob::Migrate { store }))
 }
 
 /// The job of the command `serve`.
@@ -174,7 +218,7 @@ fn serve_in<'a>(matches: &ArgMatches<'a>) -> Option<Job<'a>>
         connections,
         patience,
     };
-    Some(Job::Serve { service })
+    Some(Job::Store(StoreJob::Serve { service }))
 }
 
 /// The job of the command `rights`.
@@ -192,7 +236,7 @@ fn rights_in<'a>(matches: &ArgMatches<'a>) -> Option<Job<'a>>
         record_type,
         action,
     };
-    Some(Job::Rights { policy, asked })
+    Some(Job::Text(TextJob::Rights { policy, asked }))
 }
 
 /// The job of the command `plan`.
@@ -201,7 +245,7 @@ fn plan_in<'a>(matches: &ArgMatches<'a>) -> Option<Job<'a>>
 {
     let policy = text_at(matches, Argument::Policy)?;
     let caller = text_at(matches, Argument::Caller)?;
-    Some(Job::Plan { policy, caller })
+    Some(Job::Text(TextJob::Plan { policy, caller }))
 }
 
 /// The job of `check policy`.
@@ -209,7 +253,7 @@ fn policy_check_in<'a>(matches: &ArgMatches<'a>) -> Option<Job<'a>>
     ensures { option_map asks result ≡ checked_of (rows_of (found_of matches.now)) }
 {
     let policy = text_at(matches, Argument::CheckedPolicy)?;
-    Some(Job::CheckPolicy { policy })
+    Some(Job::Text(TextJob::CheckPolicy { policy }))
 }
 
 /// The job of `check isolation`.
@@ -218,7 +262,7 @@ fn isolation_check_in<'a>(matches: &ArgMatches<'a>) -> Option<Job<'a>>
 {
     let policy = text_at(matches, Argument::CheckedPolicy)?;
     let caller = text_at(matches, Argument::Isolated)?;
-    Some(Job::CheckIsolation { policy, caller })
+    Some(Job::Text(TextJob::CheckIsolation { policy, caller }))
 }
 
 /// The job of `check rights`.
@@ -227,7 +271,7 @@ fn rights_check_in<'a>(matches: &ArgMatches<'a>) -> Option<Job<'a>>
 {
     let policy = text_at(matches, Argument::CheckedPolicy)?;
     let name = text_at(matches, Argument::CheckedName);
-    Some(Job::CheckRights { policy, name })
+    Some(Job::Text(TextJob::CheckRights { policy, name }))
 }
 
 /// By which rules a zone is to be checked: not both by one only and by all but one.
@@ -251,7 +295,7 @@ fn zone_check_in<'a>(matches: &ArgMatches<'a>) -> Option<Job<'a>>
 {
     let origin = text_at(matches, Argument::CheckedOrigin)?;
     let rules = choice_at(matches)?;
-    Some(Job::CheckZone { origin, rules })
+    Some(Job::Text(TextJob::CheckZone { origin, rules }))
 }
 
 /// The job of the command `check`.
@@ -273,7 +317,7 @@ fn explain_in<'a>(matches: &ArgMatches<'a>) -> Job<'a>
 {
     let number = text_at(matches, Argument::Number);
     let form = form_at(matches);
-    Job::Explain { number, form }
+    Job::Text(TextJob::Explain { number, form })
 }
 
 /// The job of a command.
@@ -281,12 +325,14 @@ fn job_of_command<'a>(command: Command, matches: &ArgMatches<'a>) -> Option<Job<
     ensures { option_map asks result ≡ job_by command (rows_of (found_of matches.now)) }
 {
     match command {
-        Command::Apply => Some(Job::Apply),
+        Command::Apply => Some(Job::Text(TextJob::Apply)),
         Command::Canon => canon_in(matches),
         Command::Diff => diff_in(matches),
         Command::Request => request_in(matches),
         Command::Import => import_in(matches),
         Command::Export => export_in(matches),
+        Command::Zones => zones_in(matches),
+        Command::Log => log_in(matches),
         Command::Migrate => migrate_in(matches),
         Command::Rights => rights_in(matches),
         Command::Plan => plan_in(matches),
@@ -310,7 +356,16 @@ fn job_in<'a>(matches: &ArgMatches<'a>) -> Option<Job<'a>>
 {
     match matches.subcommand() {
         Some((word, inner)) => job_named(word, inner),
-        None => Some(Job::Apply),
+        None => Some(Job::Text(TextJob::Apply)),
+    }
+}
+
+/// What is wrong with words that name no job, though clap takes them.
+fn mistake_in(matches: &ArgMatches<'_>) -> &'static str {
+    match matches.subcommand() {
+        Some(("diff", _)) => "only one of OLD and NEW can be -, which is standard input",
+        Some(("request", _)) => "one of --id and --split is needed, and only one of them",
+        _ => "the words name no job: see the example of zoneoffice COMMAND --help",
     }
 }
 
@@ -338,9 +393,9 @@ fn reported(alloc: Global, error: Error) -> WordsFault
 }
 
 /// The job that the words behind the program's name ask for: none or `apply`; `canon --origin NAME [--relative]`;
-/// `diff --origin NAME [--guard] OLD NEW`; `request --id ID`;
-/// `import --store PATH --origin NAME [--replace]`; `export --store PATH --origin NAME [--relative]`;
-/// `migrate --store PATH`;
+/// `diff --origin NAME [--guard] OLD NEW`, where only one of the two can be `-`; `request (--id ID | --split ID)`;
+/// `import --store PATH --origin NAME [--replace]`; `export --store PATH --origin NAME [--relative]`; `zones --store PATH`;
+/// `log --store PATH --origin NAME [--from N] [--name NAME] [--caller CALLER]`; `migrate --store PATH`;
 /// `rights --policy PATH --caller CALLER NAME TYPE ACTION`; `plan --policy PATH --caller CALLER`;
 /// `serve --store PATH --policy PATH --listen ADDRESS:PORT [--connections N] [--patience SECONDS]`;
 /// `check policy --policy PATH`; `check isolation --policy PATH --caller CALLER`; `check rights [NAME] --policy PATH`;
@@ -370,10 +425,7 @@ pub fn read_words<'a>(alloc: Global, words: &'a [&'a str]) -> Result<Job<'a>, Wo
     if let Some(job) = job_in(&matches) {
         return Ok(job);
     }
-    match command.error(
-        ErrorKind::InvalidValue,
-        "the words name no job: see the example of zoneoffice COMMAND --help",
-    ) {
+    match command.error(ErrorKind::InvalidValue, mistake_in(&matches)) {
         Ok(error) => Err(reported(alloc, error)),
         Err(_) => Err(WordsFault::NoMemory),
     }
