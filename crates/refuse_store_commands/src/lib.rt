@@ -10,7 +10,7 @@ ghost use Rattle.store_commands.specs.Serve.{AreReported, AreServedFrom};
 ghost use Rattle.store_commands.specs.Stores.{stores_of};
 ghost use Rattle.store_commands.specs.Program.{JobEnds};
 
-use command_line::Job;
+use command_line::{Job, StoreJob};
 use dns_master::{Sink, Source};
 use grant_policy::Policy;
 use office_core::ZoneTable;

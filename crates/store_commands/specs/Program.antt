@@ -3,6 +3,10 @@ use Rattle.std.specs.Prelude.{◌≡◌, ◌≢◌, ◌<◌, ◌⊎◌, ⊤, ℕ
 use Rattle.dns_master.specs.declared.device.DeviceFailed.{DeviceFailed}
 use Rattle.command_line.specs.declared.job.Job.{Job}
 use Rattle.command_line.specs.declared.job.Job.TheVariants as job
+use Rattle.command_line.specs.declared.job.TextJob.{TextJob}
+use Rattle.command_line.specs.declared.job.TextJob.TheVariants as text_job
+use Rattle.command_line.specs.declared.job.StoreJob.{StoreJob}
+use Rattle.command_line.specs.declared.job.StoreJob.TheVariants as store_job
 use Rattle.command_line.specs.declared.job.ZoneFiles.{ZoneFiles}
 use Rattle.command_line.specs.declared.job.DiffForm.{DiffForm}
 use Rattle.command_line.specs.declared.words.WordsFault.{WordsFault}
@@ -108,44 +112,47 @@ DiffersBy a i form word files o outcome =
 abbrev pub Ends : {F : Type 0} → (Result (Unit {0}) F → Type 0) → ℕ → Type 0
 Ends {F} holds status = (outcome : Result (Unit {0}) F) × holds outcome × (status ≡ status_of outcome)
 
+-- A job that needs no store reads its own input and answers to its own words, and the status is 0 exactly where it went through, and a check
+-- found nothing. What is around, standard input, standard output, the job, and the status. A job whose input is a file reads nothing else.
+abbrev pub TextJobEnds : Around → Reading → Writing → TextJob → ℕ → Type 0
+TextJobEnds a i o text_job.Apply status = EndsTask i.left (i.after ≡ i.before) (i.before < i.after) apply_text o status
+TextJobEnds a i o (text_job.Canon origin form) status = EndsTask i.left (i.after ≡ i.before) (i.before < i.after) (canon_text form origin.now) o status
+TextJobEnds a i o (text_job.Diff origin files form) status = Ends (λ outcome. DiffersBy a i form origin.now files o outcome) status
+TextJobEnds a i o (text_job.Request id form) status = EndsTask i.left (i.after ≡ i.before) (i.before < i.after) (request_text form id.now) o status
+TextJobEnds a i o (text_job.Rights policy asked) status = IsUnread i × EndsTask (a.file policy.now) ⊤ (a.unreadable policy.now) (rights_text asked) o status
+TextJobEnds a i o (text_job.Plan policy caller) status =
+    Ends (λ outcome. IsPlanned caller.now (named a policy.now) (standard i) o.old o.new outcome o.before o.after) status
+TextJobEnds a i o (text_job.CheckPolicy policy) status = IsUnread i × EndsCheck Rules (a.file policy.now) ⊤ (a.unreadable policy.now) o status
+TextJobEnds a i o (text_job.CheckIsolation policy caller) status =
+    IsUnread i × EndsCheck (Isolation caller) (a.file policy.now) ⊤ (a.unreadable policy.now) o status
+TextJobEnds a i o (text_job.CheckRights policy name) status = IsUnread i × EndsCheck (Rights name) (a.file policy.now) ⊤ (a.unreadable policy.now) o status
+TextJobEnds a i o (text_job.CheckZone origin rules) status = EndsCheck (Zone origin rules) i.left (i.after ≡ i.before) (i.before < i.after) o status
+TextJobEnds a i o (text_job.Explain number form) status =
+    EndsTask i.left (i.after ≡ i.before) (i.before < i.after) (explain_text (option_map (λ n. n.now) number) form) o status
+
+-- A job with a store answers to its own words, and the status is 0 exactly where it went through. What is around, the stores of paths, standard
+-- input, standard output, the trace, the job, the connection that is handed back (which shows what is left of the store that the job reached),
+-- and the status. Only an import reads standard input, and only a service writes to the trace.
+abbrev pub StoreJobEnds : {C : Type 0} → Around → StoresOf C → Reading → Writing → Writing → StoreJob → Option C → ℕ → Type 0
+StoreJobEnds a s i o t (store_job.Import zone existing) left status =
+    IsIdle t × Ends (λ outcome. ImportWritten zone.origin.now i.left o.old o.new outcome (i.after ≡ i.before) (i.before < i.after) o.before o.after
+    × ZoneStored s zone.store.now zone.origin.now existing i.left left o.old o.new outcome (i.after ≡ i.before) (i.before < i.after) o.before o.after) status
+StoreJobEnds a s i o t (store_job.Export zone form) left status =
+    IsIdle t × IsUnread i × Ends (λ outcome. ExportWritten zone.origin.now form o.old o.new outcome o.before o.after
+    × ZoneExported s zone.store.now zone.origin.now form left o.old o.new outcome o.before o.after) status
+StoreJobEnds a s i o t (store_job.Migrate store) left status =
+    IsIdle t × IsUnread i
+    × Ends (λ outcome. MigrationWritten o.old o.new outcome o.before o.after × StoreMigrated s store.now left o.old o.new outcome o.before o.after) status
+StoreJobEnds a s i o t (store_job.Serve service) left status =
+    IsUnread i × Ends (λ outcome. Serves a s service left o.old o.new outcome o.before o.after t.old t.new t.before t.after) status
+
 -- a job that touches no store, and has no trace
 abbrev pub IsAlone : {C : Type 0} → Option C → Writing → Type 0
 IsAlone left t = (left ≡ None) × IsIdle t
 
--- Each job reads its own input and answers to its own words, and the status is 0 exactly where it went through. What is around, the stores of
--- paths, standard input, standard output, the trace, the job, the connection that is handed back (which shows what is left of the store that
--- the job reached), and the status. Only a service writes to the trace; and a job whose input is a file or a store reads nothing else.
 abbrev pub JobEnds : {C : Type 0} → Around → StoresOf C → Reading → Writing → Writing → Job → Option C → ℕ → Type 0
-JobEnds a s i o t job.Apply left status = IsAlone left t × EndsTask i.left (i.after ≡ i.before) (i.before < i.after) apply_text o status
-JobEnds a s i o t (job.Canon origin form) left status =
-    IsAlone left t × EndsTask i.left (i.after ≡ i.before) (i.before < i.after) (canon_text form origin.now) o status
-JobEnds a s i o t (job.Diff origin files form) left status = IsAlone left t × Ends (λ outcome. DiffersBy a i form origin.now files o outcome) status
-JobEnds a s i o t (job.Request id) left status = IsAlone left t × EndsTask i.left (i.after ≡ i.before) (i.before < i.after) (request_text id.now) o status
-JobEnds a s i o t (job.Import zone existing) left status =
-    IsIdle t × Ends (λ outcome. ImportWritten zone.origin.now i.left o.old o.new outcome (i.after ≡ i.before) (i.before < i.after) o.before o.after
-    × ZoneStored s zone.store.now zone.origin.now existing i.left left o.old o.new outcome (i.after ≡ i.before) (i.before < i.after) o.before o.after) status
-JobEnds a s i o t (job.Export zone form) left status =
-    IsIdle t × IsUnread i × Ends (λ outcome. ExportWritten zone.origin.now form o.old o.new outcome o.before o.after
-    × ZoneExported s zone.store.now zone.origin.now form left o.old o.new outcome o.before o.after) status
-JobEnds a s i o t (job.Migrate store) left status =
-    IsIdle t × IsUnread i
-    × Ends (λ outcome. MigrationWritten o.old o.new outcome o.before o.after × StoreMigrated s store.now left o.old o.new outcome o.before o.after) status
-JobEnds a s i o t (job.Rights policy asked) left status =
-    IsAlone left t × IsUnread i × EndsTask (a.file policy.now) ⊤ (a.unreadable policy.now) (rights_text asked) o status
-JobEnds a s i o t (job.Plan policy caller) left status =
-    IsAlone left t × Ends (λ outcome. IsPlanned caller.now (named a policy.now) (standard i) o.old o.new outcome o.before o.after) status
-JobEnds a s i o t (job.Serve service) left status =
-    IsUnread i × Ends (λ outcome. Serves a s service left o.old o.new outcome o.before o.after t.old t.new t.before t.after) status
-JobEnds a s i o t (job.CheckPolicy policy) left status =
-    IsAlone left t × IsUnread i × EndsCheck Rules (a.file policy.now) ⊤ (a.unreadable policy.now) o status
-JobEnds a s i o t (job.CheckIsolation policy caller) left status =
-    IsAlone left t × IsUnread i × EndsCheck (Isolation caller) (a.file policy.now) ⊤ (a.unreadable policy.now) o status
-JobEnds a s i o t (job.CheckRights policy name) left status =
-    IsAlone left t × IsUnread i × EndsCheck (Rights name) (a.file policy.now) ⊤ (a.unreadable policy.now) o status
-JobEnds a s i o t (job.CheckZone origin rules) left status =
-    IsAlone left t × EndsCheck (Zone origin rules) i.left (i.after ≡ i.before) (i.before < i.after) o status
-JobEnds a s i o t (job.Explain number form) left status =
-    IsAlone left t × EndsTask i.left (i.after ≡ i.before) (i.before < i.after) (explain_text (option_map (λ n. n.now) number) form) o status
+JobEnds a s i o t (job.Text j) left status = IsAlone left t × TextJobEnds a i o j status
+JobEnds a s i o t (job.Store j) left status = StoreJobEnds a s i o t j left status
 
 -- ---- words
 

@@ -20,7 +20,7 @@ pub use dns_master::DeviceFailed;
 pub use files::{MachineFiles, StoreFiles};
 pub use listening::{CountedListener, Listener, heard, listen_at, next_of};
 pub use migration::migrate;
-pub use program::{do_job, do_words};
+pub use program::{do_job, do_store_job, do_text_job, do_words};
 pub use service::serve;
 pub use serving::{Connections, serve_connections};
 pub use streams::run_words;

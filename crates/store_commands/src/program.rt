@@ -4,14 +4,14 @@ ghost use Rattle.std.specs.Prelude.{◌≡◌, ◌↔◌, ⊤, IsTrue, map, code
 ghost use Rattle.std.specs.Process.{exit_status};
 ghost use Rattle.sqlite.specs.Held.{state};
 ghost use Rattle.store_commands.specs.Stores.{stores_of};
-ghost use Rattle.store_commands.specs.Program.{EndsTask, EndsCheck, DiffersBy, JobEnds, EndsFault, WordsEnd, IsToldWhole, status_of, check_status_of};
+ghost use Rattle.store_commands.specs.Program.{EndsTask, EndsCheck, DiffersBy, TextJobEnds, StoreJobEnds, JobEnds, EndsFault, WordsEnd, IsToldWhole, status_of, check_status_of};
 
 use crate::files::StoreFiles;
 use crate::migration::migrate;
 use crate::service::serve;
 use crate::surroundings::{Ended, NamedFile, Surroundings};
 use crate::zones::{export, import};
-use command_line::{DiffForm, Job, WordsFault, ZoneFiles, read_words};
+use command_line::{DiffForm, Job, StoreJob, TextJob, WordsFault, ZoneFiles, read_words};
 use dns_master::{Sink, Source};
 use sqlite::{Alter, Connection};
 use std::fmt::Display;
@@ -141,8 +141,98 @@ fn left<S: Alter + Drop, F: Display + Drop>(
     (conn, ended(rt, done))
 }
 
-/// Does a job, with standard input and output, a trace, and the files of stores. The status is 0 if it went through, else 1. The
-/// connection to the store that it reached is handed back, if it made one.
+/// Does a job that needs no store, with standard input and output. The status is 0 if it went through, and a check found nothing; else
+/// 1.
+pub fn do_text_job<M: Surroundings, R: Source, W: Sink>(
+    around: &M,
+    job: TextJob<'_>,
+    input: &mut R,
+    output: &mut W,
+) -> ExitCode
+    // Each job reads its own input and answers to its own words.
+    ensures { TextJobEnds (M.around around.now) (record { left = R.remaining input.old; rest = R.remaining input.new; before = R.failures input.old; after = R.failures input.new }) (record { old = W.contents output.old; new = W.contents output.new; before = W.failures output.old; after = W.failures output.new }) job.entry (exit_status result) }
+{
+    let rt = around.machine();
+    match job {
+        TextJob::Apply => do_task(rt, Apply, input, output),
+        TextJob::Canon { origin, form } => do_task(rt, Canon { origin, form }, input, output),
+        TextJob::Diff {
+            origin,
+            files,
+            form,
+        } => ended(rt, diff(around, (origin, form), files, input, output)),
+        TextJob::Request { id, form } => do_task(rt, Request { id, form }, input, output),
+        TextJob::Rights {
+            policy: path,
+            asked,
+        } => do_task(rt, asked, &mut NamedFile { around, path }, output),
+        TextJob::Plan {
+            policy: path,
+            caller,
+        } => {
+            let mut policy = NamedFile { around, path };
+            ended(rt, do_plan(rt.alloc(), caller, &mut policy, input, output))
+        }
+        TextJob::CheckPolicy { policy } => check_file(around, Subject::Rules, policy, output),
+        TextJob::CheckIsolation { policy, caller } => {
+            check_file(around, Subject::Isolation(caller), policy, output)
+        }
+        TextJob::CheckRights { policy, name } => {
+            check_file(around, Subject::Rights(name), policy, output)
+        }
+        TextJob::CheckZone { origin, rules } => {
+            check(rt, Subject::Zone(origin, rules), input, output)
+        }
+        TextJob::Explain { number, form } => do_task(rt, Explain { number, form }, input, output),
+    }
+}
+
+/// The connection that a job hands back, if it made one, and the exit status of what was done.
+fn left<S: Alter + Drop, F: Display + Drop>(
+    rt: &HostRuntime,
+    done: (Option<Connection<S>>, Result<(), F>),
+) -> (Option<Connection<S>>, ExitCode)
+    ensures left { result.0 ≡ done.0 }
+    ensures status { exit_status result.1 ≡ status_of done.1 }
+{
+    let (conn, done) = done;
+    (conn, ended(rt, done))
+}
+
+/// Does a job with a store, by the files of stores, with standard input and output and a trace. The status is 0 if it went through, else
+/// 1. The connection to the store is handed back, if one was made.
+pub fn do_store_job<
+    M: Surroundings,
+    S: Alter + Drop,
+    P: StoreFiles<S> + Drop,
+    R: Source,
+    W: Sink,
+    E: Sink,
+>(
+    around: &M,
+    files: P,
+    job: StoreJob<'_>,
+    input: &mut R,
+    output: &mut W,
+    trace: &mut E,
+) -> (Option<Connection<S>>, ExitCode)
+    // Each job answers to its own words, and what the connection shows is what it left of the store of its path.
+    ensures { StoreJobEnds (M.around around.now) (stores_of (state S.Store) (P.finds files) (P.refuses files) (P.connects files)) (record { left = R.remaining input.old; rest = R.remaining input.new; before = R.failures input.old; after = R.failures input.new }) (record { old = W.contents output.old; new = W.contents output.new; before = W.failures output.old; after = W.failures output.new }) (record { old = E.contents trace.old; new = E.contents trace.new; before = E.failures trace.old; after = E.failures trace.new }) job.entry result.0 (exit_status result.1) }
+{
+    let rt = around.machine();
+    let alloc = rt.alloc();
+    match job {
+        StoreJob::Import { zone, existing } => {
+            left(rt, import(alloc, files, (zone, existing), input, output))
+        }
+        StoreJob::Export { zone, form } => left(rt, export(alloc, files, zone, form, output)),
+        StoreJob::Migrate { store } => left(rt, migrate(alloc, files, store, output)),
+        StoreJob::Serve { service } => left(rt, serve(around, files, service, output, trace)),
+    }
+}
+
+/// Does a job, with standard input and output, a trace, and the files of stores. The connection to the store that it reached is handed
+/// back, if it made one.
 pub fn do_job<
     M: Surroundings,
     S: Alter + Drop,
@@ -158,70 +248,11 @@ pub fn do_job<
     output: &mut W,
     trace: &mut E,
 ) -> (Option<Connection<S>>, ExitCode)
-    // Each job reads its own input and answers to its own words, and the status is 0 exactly where it went through; and what the connection
-    // shows that is handed back is what the job left of the store of its path.
     ensures { JobEnds (M.around around.now) (stores_of (state S.Store) (P.finds files) (P.refuses files) (P.connects files)) (record { left = R.remaining input.old; rest = R.remaining input.new; before = R.failures input.old; after = R.failures input.new }) (record { old = W.contents output.old; new = W.contents output.new; before = W.failures output.old; after = W.failures output.new }) (record { old = E.contents trace.old; new = E.contents trace.new; before = E.failures trace.old; after = E.failures trace.new }) job.entry result.0 (exit_status result.1) }
 {
-    let rt = around.machine();
-    let alloc = rt.alloc();
     match job {
-        Job::Apply => (None, do_task(rt, Apply, input, output)),
-        Job::Canon { origin, form } => (None, do_task(rt, Canon { origin, form }, input, output)),
-        Job::Diff {
-            origin,
-            files: zones,
-            form,
-        } => (
-            None,
-            ended(rt, diff(around, (origin, form), zones, input, output)),
-        ),
-        Job::Request { id } => (None, do_task(rt, Request { id }, input, output)),
-        Job::Import { zone, existing } => left(
-            rt,
-            import(alloc, files, (zone, existing), input, output),
-        ),
-        Job::Export { zone, form } => left(rt, export(alloc, files, zone, form, output)),
-        Job::Migrate { store } => left(rt, migrate(alloc, files, store, output)),
-        Job::Rights {
-            policy: path,
-            asked,
-        } => {
-            (
-                None,
-                do_task(rt, asked, &mut NamedFile { around, path }, output),
-            )
-        }
-        Job::Plan {
-            policy: path,
-            caller,
-        } => {
-            let mut policy = NamedFile { around, path };
-            (
-                None,
-                ended(rt, do_plan(alloc, caller, &mut policy, input, output)),
-            )
-        }
-        Job::CheckPolicy { policy } => (None, check_file(around, Subject::Rules, policy, output)),
-        Job::CheckIsolation { policy, caller } => {
-            (
-                None,
-                check_file(around, Subject::Isolation(caller), policy, output),
-            )
-        }
-        Job::CheckRights { policy, name } => {
-            (
-                None,
-                check_file(around, Subject::Rights(name), policy, output),
-            )
-        }
-        Job::CheckZone { origin, rules } => {
-            (None, check(rt, Subject::Zone(origin, rules), input, output))
-        }
-        Job::Explain { number, form } => (
-            None,
-            do_task(rt, Explain { number, form }, input, output),
-        ),
-        Job::Serve { service } => left(rt, serve(around, files, service, output, trace)),
+        Job::Text(job) => (None, do_text_job(around, job, input, output)),
+        Job::Store(job) => do_store_job(around, files, job, input, output, trace),
     }
 }
 
