@@ -28,6 +28,7 @@ pub use laws::{
     receipt_rows_are_apart, record_rows_are_apart, states_are_sound, zones_are_listed,
     zones_stand_at_origins,
 };
+pub use ordered::KeptReceipt;
 pub use reads::{changes_behind, changes_of, part_of, receipt_of, records_within, zone_of};
 pub use receipts::{read_receipt, receipt_row};
 pub use records::{read_record, record_row};

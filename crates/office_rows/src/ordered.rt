@@ -16,6 +16,7 @@ use crate::row_fault::RowFault;
 use dns_data::{Record, record_order};
 use dns_names::Name;
 use grant_policy::Identifier;
+use office_core::Receipt;
 use office_sql::{ReceiptRow, RecordRow, ZoneRow};
 use std::alloc::Global;
 use std::cmp::Ordering;
@@ -34,6 +35,17 @@ pub struct ZoneRecord {
 pub(crate) struct ReceiptKey {
     pub(crate) caller: Identifier,
     pub(crate) id: Identifier,
+}
+
+/// A receipt, with the caller and the identifier under which it is kept.
+#[derive(Drop)]
+pub struct KeptReceipt {
+    /// Who sent the update.
+    pub caller: Identifier,
+    /// The identifier that the caller gave it.
+    pub id: Identifier,
+    /// The update, the origin of its zone, and the reply.
+    pub receipt: Receipt,
 }
 
 /// The origin of each row.
