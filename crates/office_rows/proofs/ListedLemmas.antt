@@ -1,5 +1,5 @@
 -- The origins and the receipts of a state, by the rows of all.
-use Rattle.std.proofs.Common.{◌≡◌, ◌≢◌, ℕ, ℤ, Bool, true, false, cond, List, [], ◌∷◌, map, filter, Option, Some, None, is_some, option_map, Result, Ok, IsPermutation, IsSorted, AllPairs, Contains, refl, sym, ap, subst, ◌∙◌, ◌&&◌, ◌||◌, bytes_eq, inl, inr}
+use Rattle.std.proofs.Common.{◌≡◌, ◌≢◌, ℕ, ℤ, Bool, true, false, cond, List, [], ◌∷◌, map, filter, Option, Some, None, is_some, option_map, Result, Ok, IsPermutation, IsSorted, Contains, refl, sym, ap, subst, ◌∙◌, ◌&&◌, ◌||◌, bytes_eq, inl, inr}
 use Rattle.std.proofs.lemmas.Bool.{and_parts, and_from, false_from_ne_true}
 use Rattle.std.proofs.lemmas.List.Sorted.{IsPermutation-sym, IsPermutation-trans}
 use Rattle.std.specs.declared.cmp.Ordering.TheVariants.{Less, Equal}
@@ -21,7 +21,6 @@ use Rattle.office_rows.specs.declared.row_fault.RowFault.{RowFault}
 use Rattle.office_rows.specs.Contents.{ReceiptAt, kept_of, row_of_receipt, IsReceiptAt, held_of, zone_among, receipt_among, AreOfState}
 use Rattle.office_rows.specs.Checks.{AreZoneRows, IsOriginText}
 use Rattle.office_rows.specs.Listed.{AreOriginsOf, OriginsAreOfZones, kept_order, kept_total, kept_among, AreReceiptsOf, ReceiptsAreThose}
-use Rattle.office_rows.specs.Orders.{rises}
 use Rattle.office_rows.specs.RowFaults.{◌>>=◌}
 use Rattle.office_rows.specs.RowReading.{each_read, identifier_in, receipt_in, kept_in}
 use Rattle.office_rows.proofs.ListLemmas.{all_permutation, apart_moved, ascending_from_pairs, pairs_from_ascending, filter_one, found_list, none_moved, one_moved}
@@ -31,7 +30,7 @@ use Rattle.office_rows.proofs.ReceiptReadLemmas.{Differ, is_under, not_both}
 use Rattle.office_rows.proofs.ReceiptRowLaws.{receipt_read}
 use Rattle.office_rows.proofs.ReplyLaws.{identifier_read}
 use Rattle.office_rows.proofs.RowSteps.{ok_is}
-use Rattle.office_rows.proofs.StateChecks.{KeysDiffer, key_at, not_tied, differ_from}
+use Rattle.office_rows.proofs.StateChecks.{key_at, not_tied, differ_from}
 use Rattle.office_rows.proofs.StoredLaws.{each_given}
 use Rattle.office_rows.proofs.ZoneCheckLemmas.{origin_rows, origins_rise, origins_among}
 

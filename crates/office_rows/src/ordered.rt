@@ -11,7 +11,7 @@ ghost use Rattle.office_sql.specs.Rows.{RowsOf};
 ghost use Rattle.office_rows.specs.declared.ordered.KeptReceipt.{KeptReceipt as KeptOf};
 ghost use Rattle.office_rows.specs.Contents.{AreOfState};
 ghost use Rattle.office_rows.specs.Listed.{AreOriginsOf, AreReceiptsOf, kept_order};
-ghost use Rattle.office_rows.specs.RowFaults.{Answers, Reads};
+ghost use Rattle.office_rows.specs.RowFaults.{Answers, Reads, Refuses};
 ghost use Rattle.office_rows.specs.RowReading.{each_read, kept_in};
 ghost use Rattle.office_rows.specs.Checks.{IsOriginText, row_of_record, IsZoneRecord, IsZoneRecordRow, zone_record_order, IsReceiptRow, row_key, receipt_key_order};
 
@@ -194,6 +194,7 @@ fn kept_order(first: &KeptReceipt, second: &KeptReceipt) -> Ordering
 pub fn kept_receipts(alloc: Global, rows: &[ReceiptRow]) -> Result<Vec<KeptReceipt>, RowFault>
     // They are those of all rows, in order.
     ensures found { IfOk result (λ kept. (ks : List KeptOf) × (each_read kept_in rows.now ≡ Ok ks) × IsPermutation ks kept.items × IsSorted kept_order kept.items) }
+    ensures only { IfErr result (λ e. Refuses e (each_read kept_in rows.now)) }
     // The rows of a state, in any order, are read as its receipts, unless memory runs out.
     ensures held { (version : ℤ) (all : RowsOf) (s : State) → AreOfState version all s → IsPermutation all.receipts rows.now → Answers (λ kept. AreReceiptsOf s kept.items) result }
 {
