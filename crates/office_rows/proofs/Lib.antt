@@ -19,6 +19,7 @@ pub mod LaterChangeLaws
 pub mod OriginLaws
 pub mod ZoneCheckLemmas
 pub mod StateChecks
+pub mod ListedLemmas
 pub mod ZoneStepLemmas
 pub mod ListingLemmas
 pub mod RecordLemmas

@@ -1,6 +1,7 @@
 -- Lists in which each element is below the next one.
 use Rattle.std.proofs.Common.{◌≡◌, suc, IsSorted, arith, add-one, true, false, List, [], ◌∷◌, refl, sym, ap, ◌∙◌}
 use Rattle.std.proofs.lemmas.Bool.{and_parts, and_from}
+use Rattle.std.proofs.lemmas.Cmp.{tied_itself}
 use Rattle.std.specs.declared.cmp.Ordering.{Ordering}
 use Rattle.std.specs.declared.cmp.Ordering.TheVariants.{Less, Equal, Greater}
 use Rattle.std.specs.Cmp.{IsTotalOrder}
@@ -38,6 +39,10 @@ module _ {X : Type 0} (cmp : X → X → Ordering) where
     pub rises_up : (xs : List X) → rises cmp xs ≡ true → IsAscending Below xs
     rises_up [] t = tt
     rises_up (x ∷ xs) t = above_up x xs t
+
+    -- what is below is another
+    pub below_other : (x y : X) → Below x y → x ≡ y → ⊥
+    below_other x y less same = let tie : cmp x y ≡ Equal = ap (λ z. cmp z y) same ∙ tied_itself total y in let bad : Less ≡ Equal = sym less ∙ tie in cc
 
     -- a sorted list of which no two tie rises
     from_next : (a b : Ordering) → b ≡ ordering_reverse a → is_lt b ≡ false → (a ≡ Equal → ⊥) → a ≡ Less

@@ -29,7 +29,7 @@ under_parts caller id r t =
     let both = and_parts (bytes_eq r.caller caller) (bytes_eq r.id id) t in
     (bytes_is r.caller caller both.0, bytes_is r.id id both.1)
 
-not_both : (caller id : List ℕ) (a b : ReceiptAt) → Differ a b → is_under caller id a ≡ true → is_under caller id b ≡ false
+pub not_both : (caller id : List ℕ) (a b : ReceiptAt) → Differ a b → is_under caller id a ≡ true → is_under caller id b ≡ false
 not_both caller id a b differ t =
     false_from_ne_true (is_under caller id b)
     (λ also.

@@ -47,15 +47,15 @@ both_tied Equal b e = (refl, e)
 both_tied Greater b e = absurd cc
 
 -- two keys differ
-abbrev KeysDiffer : ReceiptKey → ReceiptKey → Type 0
+abbrev pub KeysDiffer : ReceiptKey → ReceiptKey → Type 0
 KeysDiffer a b = ¬ ((a.caller ≡ b.caller) × (a.id ≡ b.id))
 
-not_tied : (a b : ReceiptKey) → KeysDiffer a b → receipt_key_order a b ≡ Equal → ⊥
+pub not_tied : (a b : ReceiptKey) → KeysDiffer a b → receipt_key_order a b ≡ Equal → ⊥
 not_tied a b differ tie =
     let both = both_tied (slice_cmp nat_cmp a.caller b.caller) (slice_cmp nat_cmp a.id b.id) tie in
     differ (octets_exact a.caller b.caller both.0, octets_exact a.id b.id both.1)
 
-differ_from : (a b : ReceiptKey) → receipt_key_order a b ≡ Less → KeysDiffer a b
+pub differ_from : (a b : ReceiptKey) → receipt_key_order a b ≡ Less → KeysDiffer a b
 differ_from a b less same =
     let callers : slice_cmp nat_cmp a.caller b.caller ≡ Equal = ap (λ x. slice_cmp nat_cmp x b.caller) same.0 ∙ tied_itself nat_list_cmp_total b.caller in
     let ids : slice_cmp nat_cmp a.id b.id ≡ Equal = ap (λ x. slice_cmp nat_cmp x b.id) same.1 ∙ tied_itself nat_list_cmp_total b.id in
@@ -73,7 +73,7 @@ row_is row caller id receipt (wording, e) is =
     (record { caller = caller; id = id; receipt = receipt; wording = wording }, record { caller = is.caller; id = is.id; receipt = is.receipt }, e)
 
 -- the key of a receipt
-abbrev key_at : ReceiptAt → ReceiptKey
+abbrev pub key_at : ReceiptAt → ReceiptKey
 key_at r = row_key (row_of_receipt r)
 
 module _ (rows : List ReceiptRowOf) where

@@ -47,6 +47,11 @@ columns_stored r is =
 -- ---- rows of one kind
 
 module _ {X Y : Type 0} (read : X → Result Y RowFault) where
+  -- rows that are written of things are read as what each of these is read as
+  pub each_given : {Z : Type 0} (f : Z → X) (g : Z → Y) (zs : List Z) → AllByRecursion (λ z. read (f z) ≡ Ok (g z)) zs → each_read read (map f zs) ≡ Ok (map g zs)
+  each_given f g [] all = refl
+  each_given f g (z ∷ zs) all = ap (λ q. q >>= λ y. each_read read (map f zs) >>= λ ys. Ok (y ∷ ys)) all.0 ∙ ap (λ q. q >>= λ ys. Ok (g z ∷ ys)) (each_given f g zs all.1)
+
   -- rows that are written of things are read as these
   pub each_stored : (f : Y → X) (ys : List Y) → AllByRecursion (λ y. read (f y) ≡ Ok y) ys → each_read read (map f ys) ≡ Ok ys
   each_stored f [] all = refl

@@ -3,9 +3,9 @@ use Rattle.std.proofs.Common.{◌≡◌, ◌≢◌, ℕ, zero, suc, ◌+◌, tru
 use Rattle.std.proofs.lemmas.Bool.{and_from}
 use Rattle.std.proofs.lemmas.Cmp.{tied_itself}
 use Rattle.std.proofs.lemmas.List.{map-append, take_at, drop_at, take-append-drop}
-use Rattle.std.proofs.lemmas.List.Sorted.{IsPermutation-refl, IsPermutation-sym, IsPermutation-trans, IsPermutation-append}
+use Rattle.std.proofs.lemmas.List.Sorted.{IsPermutation-refl, IsPermutation-sym, IsPermutation-trans, IsPermutation-append, list_any-IsPermutation}
 use Rattle.std.specs.declared.cmp.Ordering.TheVariants.{Less, Equal}
-use Rattle.std.specs.List.{AllByRecursion, flat_map, position_or_len}
+use Rattle.std.specs.List.{AllByRecursion, flat_map, list_any, position_or_len}
 use Rattle.std.specs.List.Sorted.{IsStrictlySortedBy}
 use Rattle.std.specs.Ordering.{is_eq, nat_cmp, ordering_then}
 use Rattle.sqlite_trees.specs.Tree.{IsAscending}
@@ -35,7 +35,7 @@ use Rattle.office_rows.specs.declared.ordered.ZoneRecord.{ZoneRecord}
 use Rattle.office_rows.specs.Orders.{rises}
 use Rattle.office_rows.specs.Checks.{AreZoneRows, IsOriginText, row_of_record, IsZoneRecord, IsZoneRecordRow, zone_record_order, zone_record_total, records_first, changes_first, AreZonesInTurn}
 use Rattle.office_rows.proofs.ContentLemmas.{Apart, changes_each}
-use Rattle.office_rows.proofs.ListLemmas.{ascending_from_pairs, pairs_from_ascending, all_permutation, moved_back, apart_moved}
+use Rattle.office_rows.proofs.ListLemmas.{list_any-map, ascending_from_pairs, pairs_from_ascending, all_permutation, moved_back, apart_moved}
 use Rattle.office_rows.proofs.NameLemmas.{text_one}
 use Rattle.office_rows.proofs.OrderLemmas.{rises_from, rises_up, sorted_strict}
 use Rattle.office_rows.proofs.ZoneReadLemmas.{records_of_zone}
@@ -274,6 +274,13 @@ module _ (texts : List (List ℕ)) (records : List RecordRowOf) (changes : List 
     pub origins_rise : rises canonical_cmp os ≡ true
     origins_rise =
         rises_from canonical_cmp os (subst (IsAscending (λ a b. canonical_cmp a b ≡ Less)) (sym ordered.origins) (ascending-map (λ a b. canonical_cmp a b ≡ Less) (λ (z : ZoneRows). z.origin) zones ordered.up))
+
+    -- one is among them where it is the origin of a zone
+    pub origins_among : (o : Labels) → list_any (λ name. same_name name o) os ≡ list_any (λ z. same_name z.origin o) are.zones
+    origins_among o =
+        ap (list_any (λ name. same_name name o)) ordered.origins
+        ∙ list_any-map (λ name. same_name name o) (λ (z : ZoneRows). z.origin) zones
+        ∙ sym (list_any-IsPermutation (λ z. same_name z.origin o) are.zones zones ordered.moved)
 
     records_are : (rs : List ZoneRecord) → IsPermutation (map row_of_record rs) records → AllByRecursion IsZoneRecord rs → IsSorted zone_record_order rs → rs ≡ tagged zones
     records_are rs same each sorted =

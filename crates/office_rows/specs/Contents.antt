@@ -17,6 +17,7 @@ use Rattle.office_rows.specs.RecordRows.{record_row}
 use Rattle.office_rows.specs.ReplyWords.{Wording, Current}
 use Rattle.office_rows.specs.ReceiptRows.{receipt_row_in, IsReceipt}
 use Rattle.office_rows.specs.ChangeRows.{changes_rows, IsChange}
+use Rattle.office_rows.specs.declared.ordered.KeptReceipt.{KeptReceipt}
 
 -- a zone as rows have it: its origin, its records in record order, and its changes, the oldest first
 pub record ZoneRows : Type 0 where
@@ -34,6 +35,10 @@ pub record ReceiptAt : Type 0 where
 -- as it is written
 abbrev pub receipt_under : List ℕ → List ℕ → Receipt → ReceiptAt
 receipt_under caller id receipt = record { caller = caller; id = id; receipt = receipt; wording = Current }
+
+-- as it is handed out, in whichever wording its row is
+abbrev pub kept_of : ReceiptAt → KeptReceipt
+kept_of r = record { caller = r.caller; id = r.id; receipt = r.receipt }
 
 pub record ContentOf : Type 0 where
   pub zones : List ZoneRows

@@ -10,4 +10,5 @@ pub mod Orders
 pub mod PartRows
 pub mod States
 pub mod Checks
+pub mod Listed
 pub mod Batches

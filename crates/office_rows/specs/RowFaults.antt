@@ -31,6 +31,11 @@ abbrev pub Reads : {X Y : Type 0} → (X → Y) → Result X RowFault → Result
 Reads view (Ok x) read = read ≡ Ok (view x)
 Reads view (Err e) read = Refuses e read
 
+-- what a call answered is so, and only memory can have run out
+abbrev pub Answers : {X : Type 0} → (X → Type 0) → Result X RowFault → Type 0
+Answers P (Ok x) = P x
+Answers P (Err e) = e ≡ NoMemory
+
 -- ---- the faults of what rows are made of
 
 -- a text that is no name

@@ -33,6 +33,7 @@ use Rattle.office_core.specs.declared.reply.UpdateReply.TheVariants.{NoError, No
 use Rattle.office_sql.specs.Rows.{RecordRowOf, ReceiptRowOf, ChangeRowOf}
 use Rattle.office_rows.specs.ChangeRows.{changed_order, are_of_one, are_numbered, gathered}
 use Rattle.office_rows.specs.declared.changes.ChangedRecord.{ChangedRecord}
+use Rattle.office_rows.specs.declared.ordered.KeptReceipt.{KeptReceipt}
 use Rattle.office_rows.specs.declared.row_fault.RowFault.{RowFault}
 use Rattle.office_rows.specs.declared.row_fault.RowFault.TheVariants.{BadRow}
 use Rattle.office_rows.specs.declared.side.Side.{Side}
@@ -189,6 +190,12 @@ abbrev pub receipt_in : ReceiptRowOf → Result Receipt RowFault
 receipt_in row =
     name_from row.origin >>= λ origin. request_in row.request >>= λ update. reply_in row.reply >>= λ reply.
     Ok (record { origin = origin; update = update; reply = reply })
+
+-- with the caller and the identifier
+abbrev pub kept_in : ReceiptRowOf → Result KeptReceipt RowFault
+kept_in row =
+    identifier_in row.caller >>= λ caller. identifier_in row.id >>= λ id. receipt_in row >>= λ receipt.
+    Ok (record { caller = caller; id = id; receipt = receipt })
 
 -- ---- changes
 

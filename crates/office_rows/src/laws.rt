@@ -3,6 +3,7 @@
 ghost use Rattle.office_rows.specs.ChangeRows.{ChangeRowsAreApart};
 ghost use Rattle.office_rows.specs.ReceiptRows.{ReceiptRowsAreApart};
 ghost use Rattle.office_rows.specs.RecordRows.{RecordRowsAreApart, KeysAreOfRecords};
+ghost use Rattle.office_rows.specs.Listed.{OriginsAreOfZones, ReceiptsAreThose};
 ghost use Rattle.office_rows.specs.States.{ZonesAreListed, ZonesStandAtOrigins, LastNumbersCount, StatesAreSound, OrderDoesNotCount};
 ghost use Rattle.office_rows.specs.Batches.{NewTablesHoldNothing};
 
@@ -31,6 +32,13 @@ pub fn zones_are_listed()
 /// No zone is held of an origin exactly where no record stands at it.
 pub fn zones_stand_at_origins()
     ensures { ZonesStandAtOrigins }
+{}
+
+/// Origins that are listed come once each, and are those of which a zone is held; and receipts that are listed are those that a state
+/// has, each once.
+pub fn lists_are_whole()
+    ensures origins { OriginsAreOfZones }
+    ensures receipts { ReceiptsAreThose }
 {}
 
 /// The last number of a zone's changes is how many they are.

@@ -24,10 +24,11 @@ pub use changes::{ChangedRecord, change_row, change_rows};
 pub use columns::{identifier_text, read_origin};
 pub use gathering::{are_numbered, read_changes, sorted_changes};
 pub use laws::{
-    change_rows_are_apart, last_numbers_count, new_tables_hold_nothing, order_does_not_count,
-    receipt_rows_are_apart, record_rows_are_apart, states_are_sound, zones_are_listed,
-    zones_stand_at_origins,
+    change_rows_are_apart, last_numbers_count, lists_are_whole, new_tables_hold_nothing,
+    order_does_not_count, receipt_rows_are_apart, record_rows_are_apart, states_are_sound,
+    zones_are_listed, zones_stand_at_origins,
 };
+pub use ordered::{KeptReceipt, kept_receipts, origins};
 pub use reads::{changes_behind, changes_of, part_of, receipt_of, records_within, zone_of};
 pub use receipts::{read_receipt, receipt_row};
 pub use records::{read_record, record_row};

@@ -1,21 +1,29 @@
 //! The rows of whole tables, read and put in order.
 
-ghost use Rattle.std.specs.Prelude.{◌≡◌, map, IfOk, IfErr};
+ghost use Rattle.std.specs.Prelude.{◌≡◌, ℤ, List, map, Ok, IfOk, IfErr};
 ghost use Rattle.std.specs.List.{AllByRecursion};
 ghost use Rattle.std.specs.List.Sorted.{IsPermutation, IsSorted};
 ghost use Rattle.dns_names.specs.Labels.{IsName};
 ghost use Rattle.dns_names.specs.Order.{canonical_cmp};
 ghost use Rattle.dns_names.specs.Spelling.{name_text};
+ghost use Rattle.office_core.specs.States.{State};
+ghost use Rattle.office_sql.specs.Rows.{RowsOf};
+ghost use Rattle.office_rows.specs.declared.ordered.KeptReceipt.{KeptReceipt as KeptOf};
+ghost use Rattle.office_rows.specs.Contents.{AreOfState};
+ghost use Rattle.office_rows.specs.Listed.{AreOriginsOf, AreReceiptsOf, kept_order};
+ghost use Rattle.office_rows.specs.RowFaults.{Answers, Reads, Refuses};
+ghost use Rattle.office_rows.specs.RowReading.{each_read, kept_in};
 ghost use Rattle.office_rows.specs.Checks.{IsOriginText, row_of_record, IsZoneRecord, IsZoneRecordRow, zone_record_order, IsReceiptRow, row_key, receipt_key_order};
 
 use crate::ascending::Ordered;
-use crate::columns::read_origin;
-use crate::receipts::read_receipt;
+use crate::columns::{identifier_in, read_origin};
+use crate::receipts::{read_receipt, stored_receipt};
 use crate::records::read_record;
 use crate::row_fault::RowFault;
 use dns_data::{Record, record_order};
 use dns_names::Name;
 use grant_policy::Identifier;
+use office_core::Receipt;
 use office_sql::{ReceiptRow, RecordRow, ZoneRow};
 use std::alloc::Global;
 use std::cmp::Ordering;
@@ -36,6 +44,17 @@ pub(crate) struct ReceiptKey {
     pub(crate) id: Identifier,
 }
 
+/// A receipt, with the caller and the identifier under which it is kept.
+#[derive(Drop)]
+pub struct KeptReceipt {
+    /// Who sent the update.
+    pub caller: Identifier,
+    /// The identifier that the caller gave it.
+    pub id: Identifier,
+    /// The update, the origin of its zone, and the reply.
+    pub receipt: Receipt,
+}
+
 /// The origin of each row.
 fn all_origins(alloc: Global, rows: &[ZoneRow]) -> Result<Vec<Name>, RowFault>
     ensures found { IfOk result (λ os. (map name_text os.items ≡ rows.now) × AllByRecursion IsName os.items) }
@@ -52,6 +71,8 @@ fn all_origins(alloc: Global, rows: &[ZoneRow]) -> Result<Vec<Name>, RowFault>
 pub fn origins(alloc: Global, rows: &[ZoneRow]) -> Result<Vec<Name>, RowFault>
     ensures found { IfOk result (λ os. IsPermutation (map name_text os.items) rows.now × AllByRecursion IsName os.items × IsSorted canonical_cmp os.items) }
     ensures only { AllByRecursion IsOriginText rows.now → IfErr result (λ e. e ≡ RowFault.NoMemory) }
+    // The rows of a state, in any order, are read as the origins of its zones, unless memory runs out.
+    ensures held { (version : ℤ) (all : RowsOf) (s : State) → AreOfState version all s → IsPermutation all.zones rows.now → Answers (λ os. AreOriginsOf s os.items) result }
 {
     let mut origins = all_origins(alloc, rows)?;
     origins.sort_by(|first, second| first.cmp(second))?;
@@ -132,4 +153,52 @@ pub(crate) fn receipts(alloc: Global, rows: &[ReceiptRow]) -> Result<Vec<Receipt
     let mut keys = receipt_keys(alloc, rows)?;
     keys.sort_by(|first, second| receipt_key_order(first, second))?;
     Ok(keys)
+}
+
+/// The receipt of a row that is known to be that of a receipt, with what it is kept under. Its spelling is not looked at.
+fn kept_in(alloc: Global, row: &ReceiptRow) -> Result<KeptReceipt, RowFault>
+    ensures { Reads (λ kept. kept) result (kept_in row.now) }
+{
+    let caller = identifier_in(alloc, row.caller.as_bytes())?;
+    let id = identifier_in(alloc, row.id.as_bytes())?;
+    let receipt = stored_receipt(alloc, row)?;
+    Ok(KeptReceipt {
+        caller,
+        id,
+        receipt,
+    })
+}
+
+/// The receipt of each row.
+fn all_kept(alloc: Global, rows: &[ReceiptRow]) -> Result<Vec<KeptReceipt>, RowFault>
+    ensures { Reads (λ kept. kept.items) result (each_read kept_in rows.now) }
+{
+    let mut kept = Vec::with_capacity(alloc, rows.len())?;
+    for row in rows {
+        kept.push(kept_in(alloc, row)?)?;
+    }
+    Ok(kept)
+}
+
+/// By caller, and then by identifier.
+fn kept_order(first: &KeptReceipt, second: &KeptReceipt) -> Ordering
+    ensures { result ≡ kept_order first.now second.now }
+{
+    first
+        .caller
+        .cmp(&second.caller)
+        .then(first.id.cmp(&second.id))
+}
+
+/// The receipts of rows of `receipts`, by caller, and then by identifier. A row that is not read is `BadRow`.
+pub fn kept_receipts(alloc: Global, rows: &[ReceiptRow]) -> Result<Vec<KeptReceipt>, RowFault>
+    // They are those of all rows, in order.
+    ensures found { IfOk result (λ kept. (ks : List KeptOf) × (each_read kept_in rows.now ≡ Ok ks) × IsPermutation ks kept.items × IsSorted kept_order kept.items) }
+    ensures only { IfErr result (λ e. Refuses e (each_read kept_in rows.now)) }
+    // The rows of a state, in any order, are read as its receipts, unless memory runs out.
+    ensures held { (version : ℤ) (all : RowsOf) (s : State) → AreOfState version all s → IsPermutation all.receipts rows.now → Answers (λ kept. AreReceiptsOf s kept.items) result }
+{
+    let mut kept = all_kept(alloc, rows)?;
+    kept.sort_unstable_by(|first, second| kept_order(first, second));
+    Ok(kept)
 }

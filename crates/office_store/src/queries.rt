@@ -10,6 +10,7 @@ ghost use Rattle.office_core.specs.States.{State};
 ghost use Rattle.office_sql.specs.Rows.{RowsOf};
 ghost use Rattle.office_sql.specs.Holds.{Holds, Keeps, OnlyAsks};
 ghost use Rattle.office_sql.specs.Lookups.{records_of as rows_of, records_at, changes_of as changes_in, changes_from as changes_in_from};
+ghost use Rattle.office_rows.specs.Contents.{AreOfState};
 ghost use Rattle.office_rows.specs.PartRows.{AreRowsAt, rows_within};
 ghost use Rattle.office_rows.specs.StoreFaults.{IsFailure};
 ghost use Rattle.office_store.specs.Holds.{HoldsState};
@@ -18,8 +19,8 @@ ghost use Rattle.office_store.specs.Queries.{AsksOnly, Finds, Stands};
 use dns_names::Name;
 use office_rows::StoreFault;
 use office_sql::{
-    ChangeRow, RecordRow, changes_from, changes_of, has_zone, records_at, records_between,
-    records_of,
+    AllRows, ChangeRow, RecordRow, all_rows, changes_from, changes_of, has_zone, records_at,
+    records_between, records_of,
 };
 use sqlite::{Alter, Connection, Error as StoreError, ErrorCode};
 use std::alloc::Global;
@@ -205,4 +206,18 @@ pub(crate) fn change_rows_behind<S: Alter>(
     };
     let rows = changes_from(alloc, conn, &text, first_behind(count))?;
     Ok(Some(rows))
+}
+
+/// All rows.
+pub(crate) fn state_rows<S: Alter>(
+    alloc: Global,
+    conn: &mut Connection<S>,
+) -> Result<AllRows, StoreFault>
+    ensures found { HasCleanDisk (state S.Store conn.new) → IfOk result (λ all. (s : State) → HoldsState (state S.Store conn.old) s → AreOfState (pos 2) all s) }
+    ensures asks { AsksOnly (state S.Store conn.old) (state S.Store conn.new) result }
+    ensures named { IfErr result IsFailure }
+{
+    check_alone(conn)?;
+    let all = all_rows(alloc, conn)?;
+    Ok(all)
 }

@@ -6,19 +6,21 @@ ghost use Rattle.zone_core.specs.Changes.{change_in};
 ghost use Rattle.sqlite.specs.Held.{state};
 ghost use Rattle.sqlite.specs.State.{HasCleanDisk};
 ghost use Rattle.office_core.specs.States.{State, zone_at, part_at, subtree_at, changes_at};
+ghost use Rattle.office_rows.specs.Listed.{AreOriginsOf, AreReceiptsOf};
 ghost use Rattle.office_rows.specs.StoreFaults.{IsFailure};
 ghost use Rattle.office_store.specs.Holds.{HoldsState};
 ghost use Rattle.office_store.specs.Queries.{AsksOnly};
 
 use crate::queries::{
-    change_rows, change_rows_behind, check_alone, part_rows, subtree_rows, zone_rows,
+    change_rows, change_rows_behind, check_alone, part_rows, state_rows, subtree_rows, zone_rows,
 };
 use dns_data::Record;
 use dns_names::Name;
 use grant_policy::Identifier;
 use office_core::Receipt;
 use office_rows::{
-    StoreFault, changes_of, identifier_text, part_of, receipt_of, records_within, zone_of,
+    KeptReceipt, StoreFault, changes_of, identifier_text, kept_receipts, part_of, receipt_of,
+    records_within, zone_of,
 };
 use office_sql::receipts_of;
 use sqlite::{Alter, Connection};
@@ -126,4 +128,32 @@ pub(crate) fn receipt_at<S: Alter>(
     let rows = receipts_of(alloc, conn, identifier_text(caller), identifier_text(id))?;
     let receipt = receipt_of(alloc, &rows)?;
     Ok(receipt)
+}
+
+/// The origins of all zones, in canonical order.
+pub(crate) fn origins<S: Alter>(
+    alloc: Global,
+    conn: &mut Connection<S>,
+) -> Result<Vec<Name>, StoreFault>
+    ensures answer { HasCleanDisk (state S.Store conn.new) → IfOk result (λ names. (s : State) → HoldsState (state S.Store conn.old) s → AreOriginsOf s names.items) }
+    ensures asks { AsksOnly (state S.Store conn.old) (state S.Store conn.new) result }
+    ensures named { IfErr result IsFailure }
+{
+    let all = state_rows(alloc, conn)?;
+    let names = office_rows::origins(alloc, &all.zones)?;
+    Ok(names)
+}
+
+/// All receipts, by caller, and then by identifier.
+pub(crate) fn receipts<S: Alter>(
+    alloc: Global,
+    conn: &mut Connection<S>,
+) -> Result<Vec<KeptReceipt>, StoreFault>
+    ensures answer { HasCleanDisk (state S.Store conn.new) → IfOk result (λ kept. (s : State) → HoldsState (state S.Store conn.old) s → AreReceiptsOf s kept.items) }
+    ensures asks { AsksOnly (state S.Store conn.old) (state S.Store conn.new) result }
+    ensures named { IfErr result IsFailure }
+{
+    let all = state_rows(alloc, conn)?;
+    let kept = kept_receipts(alloc, &all.receipts)?;
+    Ok(kept)
 }

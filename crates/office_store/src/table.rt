@@ -9,6 +9,7 @@ ghost use Rattle.office_sql.specs.Holds.{Keeps, Leaves};
 ghost use Rattle.office_sql.specs.Tables.{no_schema, IsOffice};
 ghost use Rattle.office_rows.specs.Contents.{ContentOf};
 ghost use Rattle.office_rows.specs.Batches.{nothing_held};
+ghost use Rattle.office_rows.specs.Listed.{AreOriginsOf, AreReceiptsOf};
 ghost use Rattle.office_rows.specs.declared.store_fault.StoreFault.TheVariants.{BadRow, WrongVersion};
 ghost use Rattle.office_rows.specs.StoreFaults.{CountsFailure, CountsCall, Gives, IsFailure, IsOfRows};
 ghost use Rattle.office_store.specs.Holds.{HoldsState, HasNone, HasVersion, IsOfVersion, IsStateIn, LeavesStates};
@@ -21,13 +22,13 @@ ghost use Rattle.office_store.specs.Zones.{exported, if_free, if_later, imported
 use crate::cache::{CachedZone, SubtreeRead, cached_subtree, cached_zone, commit_cached};
 use crate::migration::migrate;
 use crate::opening::{Refused, check_state, make};
-use crate::reads::{changes_at, changes_behind, part_at, receipt_at};
+use crate::reads::{changes_at, changes_behind, origins, part_at, receipt_at, receipts};
 use crate::zones::{export, import, put_zone, replace, take_place};
 use dns_data::Record;
 use dns_names::Name;
 use grant_policy::Identifier;
 use office_core::{Addition, Receipt, TableFault, ZoneTable};
-use office_rows::StoreFault;
+use office_rows::{KeptReceipt, StoreFault};
 use sqlite::{Alter, Connection};
 use std::alloc::Global;
 use std::sync::ledger::{Blank, Book, Ledger, Share};
@@ -305,6 +306,40 @@ impl<S: Alter + Drop, L: Ledger> SqlTable<S, L> {
     {
         match export(alloc, &mut self.conn, origin) {
             Ok(records) => Ok(records),
+            Err(fault) => {
+                self.cache = None;
+                Err(counted(&mut self.book, &mut self.share, fault))
+            }
+        }
+    }
+
+    /// The origins of all zones, in canonical order (RFC 4034 section 6.1). `Store` comes where the store fails, and `NoMemory`
+    /// where memory runs out.
+    pub fn origins(&mut self, alloc: Global) -> Result<Vec<Name>, StoreFault>
+        ensures answer { HasCleanDisk (state S.Store self.new.conn) → IfOk result (λ names. (s : State) → HoldsState (state S.Store self.old.conn) s → AreOriginsOf s names.items) }
+        ensures named { IfErr result IsFailure }
+        ensures asks { AsksOnly (state S.Store self.old.conn) (state S.Store self.new.conn) result }
+        ensures counts { CountsCall self.old.book.total self.new.book.total result }
+    {
+        match origins(alloc, &mut self.conn) {
+            Ok(names) => Ok(names),
+            Err(fault) => {
+                self.cache = None;
+                Err(counted(&mut self.book, &mut self.share, fault))
+            }
+        }
+    }
+
+    /// All receipts, by caller, and then by identifier, in the order of octets. `Store` comes where the store fails, and `NoMemory`
+    /// where memory runs out.
+    pub fn receipts(&mut self, alloc: Global) -> Result<Vec<KeptReceipt>, StoreFault>
+        ensures answer { HasCleanDisk (state S.Store self.new.conn) → IfOk result (λ kept. (s : State) → HoldsState (state S.Store self.old.conn) s → AreReceiptsOf s kept.items) }
+        ensures named { IfErr result IsFailure }
+        ensures asks { AsksOnly (state S.Store self.old.conn) (state S.Store self.new.conn) result }
+        ensures counts { CountsCall self.old.book.total self.new.book.total result }
+    {
+        match receipts(alloc, &mut self.conn) {
+            Ok(kept) => Ok(kept),
             Err(fault) => {
                 self.cache = None;
                 Err(counted(&mut self.book, &mut self.share, fault))

@@ -1,0 +1,11 @@
+use Rattle.std.proofs.Common.{pos, subst, sym, ap, ◌∙◌, IsPermutation}
+use Rattle.std.proofs.lemmas.List.Sorted.{IsPermutation-refl}
+use Rattle.office_sql.specs.Rows.{RowsOf}
+use Rattle.office_store.proofs.reads.origins.Goals as goal
+
+pub returns-clause-answer : goal.returns-clause-answer
+returns-clause-answer g c =
+    λ clean s h.
+    let all = c.in_ok-all.all in
+    let rows = subst (IsPermutation all.zones) (sym (c.deref.ensures.value ∙ ap (λ (x : RowsOf). x.zones) c.all.view_is)) (IsPermutation-refl all.zones) in
+    c.in_ok-names.ensures.held (pos 2) all s (c.in_ok-all.ensures.found clean s h) rows
