@@ -176,6 +176,7 @@ pub(crate) fn change_rows<S: Alter>(
 ) -> Result<Option<Vec<ChangeRow>>, StoreFault>
     ensures found { HasCleanDisk (state S.Store conn.new) → IfOk result (λ found. (s : State) → HoldsState (state S.Store conn.old) s → Finds (λ all rows. IsPermutation (changes_in (name_text origin.now) all.changes) rows.items) s origin.now found) }
     ensures asks { AsksOnly (state S.Store conn.old) (state S.Store conn.new) result }
+    ensures named { IfErr result IsFailure }
 {
     let Some(text) = held_text(alloc, conn, origin)? else {
         return Ok(None);

@@ -89,6 +89,7 @@ pub(crate) fn changes_at<S: Alter>(
 ) -> Result<Option<Vec<Change>>, StoreFault>
     ensures answer { HasCleanDisk (state S.Store conn.new) → IfOk result (λ changes. (s : State) → HoldsState (state S.Store conn.old) s → option_map (λ cs. map change_in cs.items) changes ≡ changes_at s origin.now) }
     ensures asks { AsksOnly (state S.Store conn.old) (state S.Store conn.new) result }
+    ensures named { IfErr result IsFailure }
 {
     let Some(rows) = change_rows(alloc, conn, origin)? else {
         return Ok(None);

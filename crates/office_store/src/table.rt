@@ -1,9 +1,10 @@
 //! The table in SQLite.
 
-ghost use Rattle.std.specs.Prelude.{pos, ◌≡◌, ◌≢◌, ◌↔◌, ◌⊎◌, ◌<◌, false, None, IfOk, IfErr, IsErrAnd, IsTrue, OnErr};
+ghost use Rattle.std.specs.Prelude.{pos, ◌≡◌, ◌≢◌, ◌↔◌, ◌⊎◌, ◌<◌, false, None, IfOk, IfErr, IsErrAnd, IsTrue, OnErr, map, option_map};
 ghost use Rattle.sqlite.specs.Held.{state};
 ghost use Rattle.sqlite.specs.State.{HasCleanDisk};
-ghost use Rattle.office_core.specs.States.{State};
+ghost use Rattle.zone_core.specs.Changes.{change_in};
+ghost use Rattle.office_core.specs.States.{State, zone_at, changes_at as changes_held};
 ghost use Rattle.office_core.specs.Tables.{CountsFault};
 ghost use Rattle.office_sql.specs.Holds.{Keeps, Leaves};
 ghost use Rattle.office_sql.specs.Tables.{no_schema, IsOffice};
@@ -22,7 +23,7 @@ ghost use Rattle.office_store.specs.Zones.{exported, if_free, if_later, imported
 use crate::cache::{CachedZone, SubtreeRead, cached_subtree, cached_zone, commit_cached};
 use crate::migration::migrate;
 use crate::opening::{Refused, check_state, make};
-use crate::reads::{changes_at, changes_behind, origins, part_at, receipt_at, receipts};
+use crate::reads::{changes_at, changes_behind, origins, part_at, receipt_at, receipts, zone_at};
 use crate::zones::{export, import, put_zone, replace, take_place};
 use dns_data::Record;
 use dns_names::Name;
@@ -306,6 +307,43 @@ impl<S: Alter + Drop, L: Ledger> SqlTable<S, L> {
     {
         match export(alloc, &mut self.conn, origin) {
             Ok(records) => Ok(records),
+            Err(fault) => {
+                self.cache = None;
+                Err(counted(&mut self.book, &mut self.share, fault))
+            }
+        }
+    }
+
+    /// The zone of an origin, where there is one. `Store` comes where the store fails, and `NoMemory` where memory runs out.
+    pub fn stored_zone(&mut self, alloc: Global, origin: &Name) -> Result<Option<Zone>, StoreFault>
+        ensures answer { HasCleanDisk (state S.Store self.new.conn) → IfOk result (λ zone. (s : State) → HoldsState (state S.Store self.old.conn) s → zone ≡ zone_at s origin.now) }
+        ensures named { IfErr result IsFailure }
+        ensures asks { AsksOnly (state S.Store self.old.conn) (state S.Store self.new.conn) result }
+        ensures counts { CountsCall self.old.book.total self.new.book.total result }
+    {
+        match zone_at(alloc, &mut self.conn, origin) {
+            Ok(zone) => Ok(zone),
+            Err(fault) => {
+                self.cache = None;
+                Err(counted(&mut self.book, &mut self.share, fault))
+            }
+        }
+    }
+
+    /// The changes of a zone, the oldest first, where there is the zone. `Store` comes where the store fails, and `NoMemory` where
+    /// memory runs out.
+    pub fn stored_changes(
+        &mut self,
+        alloc: Global,
+        origin: &Name,
+    ) -> Result<Option<Vec<Change>>, StoreFault>
+        ensures answer { HasCleanDisk (state S.Store self.new.conn) → IfOk result (λ changes. (s : State) → HoldsState (state S.Store self.old.conn) s → option_map (λ cs. map change_in cs.items) changes ≡ changes_held s origin.now) }
+        ensures named { IfErr result IsFailure }
+        ensures asks { AsksOnly (state S.Store self.old.conn) (state S.Store self.new.conn) result }
+        ensures counts { CountsCall self.old.book.total self.new.book.total result }
+    {
+        match changes_at(alloc, &mut self.conn, origin) {
+            Ok(changes) => Ok(changes),
             Err(fault) => {
                 self.cache = None;
                 Err(counted(&mut self.book, &mut self.share, fault))

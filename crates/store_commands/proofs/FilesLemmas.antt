@@ -22,7 +22,7 @@ use Rattle.office_rows.specs.declared.store_fault.StoreFault.TheVariants.{WrongV
 use Rattle.office_store.specs.Holds.{IsOfVersion}
 use Rattle.office_store.specs.Migration.{HoldsOld, IsMigrated}
 use Rattle.std.specs.Prelude.{pos}
-use Rattle.store_commands.specs.Stores.{IsLeft, IsMigratedTo, IsUnmigrated, IsMigratedStore, IsReached, IsPut, IsStored, IsOpened, IsRead, IsHeld}
+use Rattle.store_commands.specs.Stores.{IsLeft, IsMigratedTo, IsUnmigrated, IsMigratedStore, IsReached, IsPut, IsStored, IsOpened, IsRead, IsGot, IsHeld}
 
 pub map_ok : {X E : Type 0} {P Q : X → Type 0} (r : Result X E) → ((x : X) → P x → Q x) → IfOk r P → IfOk r Q
 map_ok (Ok x) f p = f x p
@@ -66,10 +66,10 @@ module _ {C : Type 0} (shows : C → Shown) (finds : Bool → Type 0) (refuses :
   stored_by existing zone now after (Ok done) reached put = (now, reached, (after, refl, put))
   stored_by existing zone now after (Err fault) reached put = inr (now, reached, (after, refl, put))
 
-  pub held_by : {X : Type 0} (view : X → List Record) (origin : List (List ℕ)) (now after : C) (r : Result X StoreFault) → IsOpened shows connects now
-      → IsRead view origin (shows now) (shows after) r → IsHeld shows finds refuses connects view origin (Some after) r
-  held_by view origin now after (Ok x) opened read = (now, opened, (after, refl, read))
-  held_by view origin now after (Err fault) opened read = inr (now, opened, (after, refl, read))
+  pub got_by : {X : Type 0} (got : Shown → Shown → Result X StoreFault → Type 0) (now after : C) (r : Result X StoreFault) → IsOpened shows connects now
+      → got (shows now) (shows after) r → IsGot shows finds refuses connects got (Some after) r
+  got_by got now after (Ok x) opened read = (now, opened, (after, refl, read))
+  got_by got now after (Err fault) opened read = inr (now, opened, (after, refl, read))
 
   -- a zone was put into the store, or refused, and its line was made before
   pub put_line : {X : Type 0} (view : X → List ℕ) (existing : Existing) (zone : ZoneOf) (conn : Option C) (done : Result (Unit {0}) StoreFault) (line : X)

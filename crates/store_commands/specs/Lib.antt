@@ -6,5 +6,9 @@ pub mod Import
 pub mod Export
 pub mod Migrate
 pub mod Causes
+pub mod Log
+pub mod ZoneList
+pub mod StoreLog
+pub mod StoreList
 pub mod Serve
 pub mod Program

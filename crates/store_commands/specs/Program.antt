@@ -36,6 +36,8 @@ use Rattle.store_commands.specs.Stores.{StoresOf}
 use Rattle.store_commands.specs.Import.{ImportWritten, ZoneStored}
 use Rattle.store_commands.specs.Export.{ExportWritten, ZoneExported}
 use Rattle.store_commands.specs.Migrate.{MigrationWritten, StoreMigrated}
+use Rattle.store_commands.specs.StoreList.{ZonesPrinted}
+use Rattle.store_commands.specs.StoreLog.{LogPrinted}
 use Rattle.store_commands.specs.Serve.{Serves}
 
 -- ---- the streams
@@ -140,6 +142,10 @@ StoreJobEnds a s i o t (store_job.Import zone existing) left status =
 StoreJobEnds a s i o t (store_job.Export zone form) left status =
     IsIdle t × IsUnread i × Ends (λ outcome. ExportWritten zone.origin.now form o.old o.new outcome o.before o.after
     × ZoneExported s zone.store.now zone.origin.now form left o.old o.new outcome o.before o.after) status
+StoreJobEnds a s i o t (store_job.Zones store) left status =
+    IsIdle t × IsUnread i × Ends (λ outcome. ZonesPrinted s store.now left o.old o.new outcome o.before o.after) status
+StoreJobEnds a s i o t (store_job.Log zone choice) left status =
+    IsIdle t × IsUnread i × Ends (λ outcome. LogPrinted s zone.store.now zone.origin.now choice left o.old o.new outcome o.before o.after) status
 StoreJobEnds a s i o t (store_job.Migrate store) left status =
     IsIdle t × IsUnread i
     × Ends (λ outcome. MigrationWritten o.old o.new outcome o.before o.after × StoreMigrated s store.now left o.old o.new outcome o.before o.after) status

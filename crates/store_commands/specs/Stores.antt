@@ -155,13 +155,17 @@ IsStored {C} shows finds refuses connects existing zone left (Err fault) =
     IsUnreached shows finds refuses connects existing left fault
     ⊎ ((now : C) × IsReached shows connects existing now × IsLeft left (λ after. IsPut existing zone (shows now) (shows after) (Err fault)))
 
--- the records of an origin are read from the store of the path, once that is opened
-abbrev pub IsHeld : {C X : Type 0} → (C → Shown) → (Bool → Type 0) → (StoreFault → Type 0) → (C → Type 0) → (X → List Record) → List (List ℕ) → Option C → Result X StoreFault → Type 0
-IsHeld {C} {X} shows finds refuses connects view origin left (Ok x) =
-    (now : C) × IsOpened shows connects now × IsLeft left (λ after. IsRead view origin (shows now) (shows after) (Ok x))
-IsHeld {C} {X} shows finds refuses connects view origin left (Err fault) =
+-- something is read from the store of the path, once that is opened: what is read, by what the connection showed before and after
+abbrev pub IsGot : {C X : Type 0} → (C → Shown) → (Bool → Type 0) → (StoreFault → Type 0) → (C → Type 0) → (Shown → Shown → Result X StoreFault → Type 0) → Option C → Result X StoreFault → Type 0
+IsGot {C} {X} shows finds refuses connects got left (Ok x) =
+    (now : C) × IsOpened shows connects now × IsLeft left (λ after. got (shows now) (shows after) (Ok x))
+IsGot {C} {X} shows finds refuses connects got left (Err fault) =
     IsUnopened shows finds refuses connects left fault
-    ⊎ ((now : C) × IsOpened shows connects now × IsLeft left (λ after. IsRead view origin (shows now) (shows after) (Err fault)))
+    ⊎ ((now : C) × IsOpened shows connects now × IsLeft left (λ after. got (shows now) (shows after) (Err fault)))
+
+-- the records of an origin are read so
+abbrev pub IsHeld : {C X : Type 0} → (C → Shown) → (Bool → Type 0) → (StoreFault → Type 0) → (C → Type 0) → (X → List Record) → List (List ℕ) → Option C → Result X StoreFault → Type 0
+IsHeld {C} {X} shows finds refuses connects view origin left result = IsGot {C} {X} shows finds refuses connects (IsRead view origin) left result
 
 -- the store of the path is migrated from version 1, and so many of its zones were changed
 abbrev pub IsMigratedStore : {C : Type 0} → (C → Shown) → (Bool → Type 0) → (StoreFault → Type 0) → (C → Type 0) → Option C → Result ℕ StoreFault → Type 0

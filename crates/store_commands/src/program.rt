@@ -9,6 +9,8 @@ ghost use Rattle.store_commands.specs.Program.{EndsTask, EndsCheck, DiffersBy, T
 use crate::files::StoreFiles;
 use crate::migration::migrate;
 use crate::service::serve;
+use crate::store_list::zones;
+use crate::store_log::log;
 use crate::surroundings::{Ended, NamedFile, Surroundings};
 use crate::zones::{export, import};
 use command_line::{DiffForm, Job, StoreJob, TextJob, WordsFault, ZoneFiles, read_words};
@@ -226,6 +228,8 @@ pub fn do_store_job<
             left(rt, import(alloc, files, (zone, existing), input, output))
         }
         StoreJob::Export { zone, form } => left(rt, export(alloc, files, zone, form, output)),
+        StoreJob::Zones { store } => left(rt, zones(alloc, files, store, output)),
+        StoreJob::Log { zone, choice } => left(rt, log(alloc, files, zone, choice, output)),
         StoreJob::Migrate { store } => left(rt, migrate(alloc, files, store, output)),
         StoreJob::Serve { service } => left(rt, serve(around, files, service, output, trace)),
     }

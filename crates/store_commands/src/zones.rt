@@ -180,7 +180,7 @@ fn imported<R: Input, S: Alter + Drop, P: StoreFiles<S> + Drop>(
 }
 
 /// Writes the line that was made, or the one of the fault.
-fn report<W: Sink>(
+pub(crate) fn report<W: Sink>(
     alloc: Global,
     writer: &mut W,
     made: Result<String, LineFault>,

@@ -71,7 +71,7 @@ pub(crate) struct Report {
 }
 
 /// The name that a word is, if one is given.
-fn name_if(alloc: Global, word: Option<&str>) -> Result<Option<Name>, LineFault>
+pub fn name_if(alloc: Global, word: Option<&str>) -> Result<Option<Name>, LineFault>
     ensures { Gives (λ name. name) result (name_if (option_map (λ w. w.now) word.entry)) }
 {
     match word {

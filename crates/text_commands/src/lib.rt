@@ -31,7 +31,7 @@ mod zone_check;
 
 pub use apply::Apply;
 pub use canon::{Canon, print_zone_in, read_name, read_zone};
-pub use check::{Findings, Subject, do_check};
+pub use check::{Findings, Subject, do_check, name_if};
 pub use device::{ended, write_refusal, write_text};
 pub use diff::do_diff;
 pub use diff_fault::DiffFault;
@@ -50,4 +50,5 @@ pub use refusal_number::{all_rows, explained};
 pub use refusal_row::{Kind, NumberPlace, RefusalRow};
 pub use refusal_text::{json_text, plain_text};
 pub use request::Request;
+pub use rights::read_caller;
 pub use task::Task;

@@ -31,7 +31,7 @@ struct QuestionRead {
 }
 
 /// The caller that a word is.
-pub(crate) fn read_caller(alloc: Global, word: &str) -> Result<Identifier, LineFault>
+pub fn read_caller(alloc: Global, word: &str) -> Result<Identifier, LineFault>
     ensures { Gives (λ caller. caller) result (or_refused (identifier_of word.now) Refusal.NoCaller) }
 {
     match Identifier::read(alloc, word.as_bytes()) {

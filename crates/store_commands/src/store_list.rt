@@ -1,0 +1,147 @@
+//! The job `zones`: what a store has, printed in a line for each zone.
+
+ghost use Rattle.std.specs.Prelude.{◌≡◌, ◌<◌, IsSome, IfOk, IfErr, string_bytes};
+ghost use Rattle.std.specs.Result.{result_map_both};
+ghost use Rattle.sqlite.specs.Held.{state};
+ghost use Rattle.sqlite.specs.State.{HasCleanDisk};
+ghost use Rattle.office_core.specs.States.{State};
+ghost use Rattle.office_rows.specs.Listed.{AreOriginsOf};
+ghost use Rattle.office_rows.specs.StoreFaults.{IsFailure};
+ghost use Rattle.office_store.specs.Holds.{HoldsState};
+ghost use Rattle.office_store.specs.Queries.{AsksOnly};
+ghost use Rattle.store_commands.specs.Stores.{stores_of, IsGot};
+ghost use Rattle.store_commands.specs.StoreList.{list_in, IsSummary, AreZonesOf, IsListRead, IsListText, ZonesPrinted};
+
+use crate::files::StoreFiles;
+use crate::store_file::open_store;
+use crate::zone_list::{ZoneSummary, zones_text};
+use crate::zones::report;
+use dns_master::Sink;
+use dns_names::Name;
+use office_rows::KeptReceipt;
+use office_store::{SqlTable, StoreFault};
+use sqlite::{Alter, Connection};
+use std::alloc::Global;
+use std::marker::Brand;
+use std::sync::ledger::{Blank, Ledger};
+use text_commands::{JobFault, LineFault};
+
+/// What a store has: its zones, and its receipts.
+#[derive(Drop)]
+pub struct StoreList {
+    pub zones: Vec<ZoneSummary>,
+    pub kept: Vec<KeptReceipt>,
+}
+
+/// What a table has of the zone of an origin. `NoZone` comes where there is none.
+fn summary<S: Alter + Drop, L: Ledger>(
+    alloc: Global,
+    table: &mut SqlTable<S, L>,
+    origin: &Name,
+) -> Result<ZoneSummary, StoreFault>
+    ensures asks { AsksOnly (state S.Store table.old.conn) (state S.Store table.new.conn) result }
+    ensures origin { IfOk result (λ z. z.origin ≡ origin.now) }
+    ensures summary { HasCleanDisk (state S.Store table.new.conn) → IfOk result (λ z. (s : State) → HoldsState (state S.Store table.old.conn) s → IsSummary s z) }
+    ensures failed { HasCleanDisk (state S.Store table.new.conn) → IfErr result (λ e. (s : State) → HoldsState (state S.Store table.old.conn) s → IsSome (s.zones origin.now) → IsFailure e) }
+{
+    let Some(changes) = table.stored_changes(alloc, origin)? else {
+        return Err(StoreFault::NoZone);
+    };
+    let Some(zone) = table.stored_zone(alloc, origin)? else {
+        return Err(StoreFault::NoZone);
+    };
+    Ok(ZoneSummary {
+        origin: origin.try_copy(alloc)?,
+        serial: zone.serial(),
+        records: zone.records().len(),
+        changes: changes.len(),
+    })
+}
+
+/// What a table has of the zones of some origins.
+fn summaries<S: Alter + Drop, L: Ledger>(
+    alloc: Global,
+    table: &mut SqlTable<S, L>,
+    origins: &[Name],
+) -> Result<Vec<ZoneSummary>, StoreFault>
+    ensures asks { AsksOnly (state S.Store table.old.conn) (state S.Store table.new.conn) result }
+    ensures summaries { HasCleanDisk (state S.Store table.new.conn) → IfOk result (λ zones. (s : State) → HoldsState (state S.Store table.old.conn) s → AreOriginsOf s origins.now → AreZonesOf s zones.items) }
+    ensures failed { HasCleanDisk (state S.Store table.new.conn) → IfErr result (λ e. (s : State) → HoldsState (state S.Store table.old.conn) s → AreOriginsOf s origins.now → IsFailure e) }
+{
+    let mut zones = Vec::new(alloc);
+    for origin in origins {
+        zones.push(summary(alloc, table, origin)?)?;
+    }
+    Ok(zones)
+}
+
+/// What a table has.
+fn read_list<S: Alter + Drop, L: Ledger>(
+    alloc: Global,
+    table: &mut SqlTable<S, L>,
+) -> Result<StoreList, StoreFault>
+    ensures { IsListRead (state S.Store table.old.conn) (state S.Store table.new.conn) (result_map_both list_in (λ fault. fault) result) }
+{
+    let origins = table.origins(alloc)?;
+    let zones = summaries(alloc, table, &origins)?;
+    let kept = table.receipts(alloc)?;
+    Ok(StoreList { zones, kept })
+}
+
+/// The same of a table whose connection is then handed back.
+fn read_list_at_last<S: Alter + Drop, L: Ledger>(
+    alloc: Global,
+    table: SqlTable<S, L>,
+) -> (Connection<S>, Result<StoreList, StoreFault>)
+    ensures { IsListRead (state S.Store table.conn) (state S.Store result.0) (result_map_both list_in (λ fault. fault) result.1) }
+{
+    let mut table = table;
+    let all = read_list(alloc, &mut table);
+    (table.into_connection(), all)
+}
+
+/// What the store of a path has. The connection to it is handed back, if one was made.
+fn stored_list<S: Alter + Drop, L: Ledger, P: StoreFiles<S> + Drop>(
+    alloc: Global,
+    files: P,
+    path: &str,
+    blank: Blank,
+) -> (Option<Connection<S>>, Result<StoreList, StoreFault>)
+    requires name { blank.name ≡ L.name }
+    requires parts { blank.parts ≡ L.parts }
+    requires some { 0 < blank.parts }
+    ensures { IsGot (state S.Store) (P.finds files path.now) (P.refuses files path.now) (P.connects files path.now) IsListRead result.0 (result_map_both list_in (λ fault. fault) result.1) }
+{
+    let opened: Result<SqlTable<S, L>, _> = open_store(alloc, files, path, blank);
+    match opened {
+        Ok(table) => {
+            let (conn, all) = read_list_at_last(alloc, table);
+            (Some(conn), all)
+        }
+        Err(unreached) => (unreached.conn, Err(unreached.fault)),
+    }
+}
+
+/// The text of what was read, or the fault that was met.
+fn text_of(alloc: Global, read: Result<StoreList, StoreFault>) -> Result<String, LineFault>
+    ensures { IsListText (result_map_both list_in (λ fault. fault) read) (result_map_both (λ text. string_bytes text) (λ fault. fault) result) }
+{
+    let all = read?;
+    Ok(zones_text(alloc, &all.zones, &all.kept)?)
+}
+
+/// Prints a line for each zone of the store of a path, with its serial and how many records, changes and receipts there are of it; and one
+/// for the receipts of no zone, if there are some. Otherwise a line tells the refusal of the store. The connection to the store is handed
+/// back, if one was made.
+pub fn zones<W: Sink, S: Alter + Drop, P: StoreFiles<S> + Drop>(
+    alloc: Global,
+    files: P,
+    store: &str,
+    writer: &mut W,
+) -> (Option<Connection<S>>, Result<(), JobFault>)
+    ensures { ZonesPrinted (stores_of (state S.Store) (P.finds files) (P.refuses files) (P.connects files)) store.now result.0 (W.contents writer.old) (W.contents writer.new) result.1 (W.failures writer.old) (W.failures writer.new) }
+{
+    let (conn, read) = stored_list::<S, Brand, P>(alloc, files, store, Blank::new(1));
+    let made = text_of(alloc, read);
+    (conn, report(alloc, writer, made))
+}
