@@ -2,3 +2,10 @@ pub mod SendLemmas
 pub mod ConnectionLemmas
 pub mod StoreLemmas
 pub mod FilesLemmas
+pub mod LogLemmas
+pub mod LogLaws
+pub mod ZoneListLemmas
+pub mod ZoneListLaws
+pub mod TextExamples
+pub mod ListLemmas
+pub mod LoggedLemmas

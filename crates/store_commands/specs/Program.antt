@@ -120,7 +120,7 @@ abbrev pub TextJobEnds : Around → Reading → Writing → TextJob → ℕ → 
 TextJobEnds a i o text_job.Apply status = EndsTask i.left (i.after ≡ i.before) (i.before < i.after) apply_text o status
 TextJobEnds a i o (text_job.Canon origin form) status = EndsTask i.left (i.after ≡ i.before) (i.before < i.after) (canon_text form origin.now) o status
 TextJobEnds a i o (text_job.Diff origin files form) status = Ends (λ outcome. DiffersBy a i form origin.now files o outcome) status
-TextJobEnds a i o (text_job.Request id form) status = EndsTask i.left (i.after ≡ i.before) (i.before < i.after) (request_text form id.now) o status
+TextJobEnds a i o (text_job.Request id form) status = EndsTask i.left (i.after ≡ i.before) (i.before < i.after) (request_text id.now) o status
 TextJobEnds a i o (text_job.Rights policy asked) status = IsUnread i × EndsTask (a.file policy.now) ⊤ (a.unreadable policy.now) (rights_text asked) o status
 TextJobEnds a i o (text_job.Plan policy caller) status =
     Ends (λ outcome. IsPlanned caller.now (named a policy.now) (standard i) o.old o.new outcome o.before o.after) status

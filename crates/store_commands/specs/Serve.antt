@@ -129,15 +129,15 @@ IsServiceTold a listen most idle served old new result before after =
     ⊎ ((address : List ℕ) × (((result ≡ Err WriteFailed) × AppendsFront old new (listening_line address) × (before < after) × idle)
     ⊎ ((mid : Option (List ℕ)) × Appends old mid (listening_line address) × ((ends : List (Option ServeFault)) × AreReported a.cut most ends mid new result before after) × served)))
 
--- What is around, the words, the rules, what the store showed when it was opened and shows when it is handed back, what the writer held before
--- and after, the answer, its failures before and after, what the writer of traces held before and after, and its failures before and after:
--- connections were served from this store by these rules, or it shows what it showed.
-pub record IsServedBy (a : Around) (service : Service) (rules : List Rule) (now after : Shown) (old new : Option (List ℕ)) (result : Result (Unit {0}) JobFault) (writes writes_after : ℕ) (trace trace_after : Option (List ℕ)) (fails fails_after : ℕ) : Type 0 where
-  pub honest : HasCleanDisk after → HasCleanDisk now
+-- What connections show, what is around, the words, the rules, the connection to the store when it was opened and when it is handed back, what
+-- the writer held before and after, the answer, its failures before and after, what the writer of traces held before and after, and its
+-- failures before and after: connections were served from this store by these rules, or it is as it was.
+pub record IsServedBy {C : Type 0} (shows : C → Shown) (a : Around) (service : Service) (rules : List Rule) (now after : C) (old new : Option (List ℕ)) (result : Result (Unit {0}) JobFault) (writes writes_after : ℕ) (trace trace_after : Option (List ℕ)) (fails fails_after : ℕ) : Type 0 where
+  pub honest : HasCleanDisk (shows after) → HasCleanDisk (shows now)
   pub failures : ℕ
   pub failures_after : ℕ
   pub told : IsServiceTold a service.listen.now (most_of service) ((after ≡ now) × (trace_after ≡ trace) × (fails_after ≡ fails))
-      (AreServedFrom (HasCleanDisk after) (HoldsState now) (HoldsState after) failures failures_after rules (most_of service) result trace trace_after fails fails_after) old new result writes writes_after
+      (AreServedFrom (HasCleanDisk (shows after)) (HoldsState (shows now)) (HoldsState (shows after)) failures failures_after rules (most_of service) result trace trace_after fails fails_after) old new result writes writes_after
 
 -- The stores of paths, the words, the rules, the connection that is handed back, and the rest as above: the store of the path is refused, and
 -- that is told; or it is opened, and connections are served from it by these rules.
@@ -146,7 +146,7 @@ BeginsBy {C} a s service rules left old new result before after trace trace_afte
     ((refusal : StoreFault) × IsUnopened s.shows (s.finds service.store.now) (s.refuses service.store.now) (s.connects service.store.now) left refusal
     × IsRefusalWritten old new (of_store refusal) result before after × (trace_after ≡ trace) × (fails_after ≡ fails))
     ⊎ ((now : C) × IsOpened s.shows (s.connects service.store.now) now
-    × IsLeft left (λ then. IsServedBy a service rules (s.shows now) (s.shows then) old new result before after trace trace_after fails fails_after))
+    × IsLeft left (λ then. IsServedBy s.shows a service rules now then old new result before after trace trace_after fails fails_after))
 
 -- The same behind the policy: it is refused, or not read, and that is told, with no store touched; or its rules were read.
 abbrev pub Serves : {C : Type 0} → Around → StoresOf C → Service → Option C → Option (List ℕ) → Option (List ℕ) → Result (Unit {0}) JobFault → ℕ → ℕ → Option (List ℕ) → Option (List ℕ) → ℕ → ℕ → Type 0

@@ -165,7 +165,7 @@ IsGot {C} {X} shows finds refuses connects got left (Err fault) =
 
 -- the records of an origin are read so
 abbrev pub IsHeld : {C X : Type 0} → (C → Shown) → (Bool → Type 0) → (StoreFault → Type 0) → (C → Type 0) → (X → List Record) → List (List ℕ) → Option C → Result X StoreFault → Type 0
-IsHeld {C} {X} shows finds refuses connects view origin left result = IsGot {C} {X} shows finds refuses connects (IsRead view origin) left result
+IsHeld {C} {X} shows finds refuses connects view origin left result = IsGot {C = C} {X = X} shows finds refuses connects (IsRead view origin) left result
 
 -- the store of the path is migrated from version 1, and so many of its zones were changed
 abbrev pub IsMigratedStore : {C : Type 0} → (C → Shown) → (Bool → Type 0) → (StoreFault → Type 0) → (C → Type 0) → Option C → Result ℕ StoreFault → Type 0

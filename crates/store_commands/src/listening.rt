@@ -21,7 +21,7 @@ pub trait Listener {
         ensures one { OnOk result (taken self.new ≡ taken self.old + 1) }
         ensures none { OnErr result (taken self.new ≡ taken self.old) }
         ensures failed { OnErr result (cut self.old) }
-        ensures same { cut self.new ≡ cut self.old };
+        ensures same { cut self.new → cut self.old };
 }
 
 /// A listener in what is around the program.

@@ -9,7 +9,7 @@ ghost use Rattle.store_commands.specs.Program.{EndsTask, EndsCheck, DiffersBy, T
 use crate::files::StoreFiles;
 use crate::migration::migrate;
 use crate::service::serve;
-use crate::store_list::zones;
+use crate::store_list::list_zones;
 use crate::store_log::log;
 use crate::surroundings::{Ended, NamedFile, Surroundings};
 use crate::zones::{export, import};
@@ -131,18 +131,6 @@ fn diff<M: Surroundings, R: Source, W: Sink>(
     }
 }
 
-/// The connection that a job hands back, if it made one, and the exit status of what was done.
-fn left<S: Alter + Drop, F: Display + Drop>(
-    rt: &HostRuntime,
-    done: (Option<Connection<S>>, Result<(), F>),
-) -> (Option<Connection<S>>, ExitCode)
-    ensures left { result.0 ≡ done.0 }
-    ensures status { exit_status result.1 ≡ status_of done.1 }
-{
-    let (conn, done) = done;
-    (conn, ended(rt, done))
-}
-
 /// Does a job that needs no store, with standard input and output. The status is 0 if it went through, and a check found nothing; else
 /// 1.
 pub fn do_text_job<M: Surroundings, R: Source, W: Sink>(
@@ -163,7 +151,7 @@ pub fn do_text_job<M: Surroundings, R: Source, W: Sink>(
             files,
             form,
         } => ended(rt, diff(around, (origin, form), files, input, output)),
-        TextJob::Request { id, form } => do_task(rt, Request { id, form }, input, output),
+        TextJob::Request { id, form: _ } => do_task(rt, Request { id }, input, output),
         TextJob::Rights {
             policy: path,
             asked,
@@ -228,7 +216,7 @@ pub fn do_store_job<
             left(rt, import(alloc, files, (zone, existing), input, output))
         }
         StoreJob::Export { zone, form } => left(rt, export(alloc, files, zone, form, output)),
-        StoreJob::Zones { store } => left(rt, zones(alloc, files, store, output)),
+        StoreJob::Zones { store } => left(rt, list_zones(alloc, files, store, output)),
         StoreJob::Log { zone, choice } => left(rt, log(alloc, files, zone, choice, output)),
         StoreJob::Migrate { store } => left(rt, migrate(alloc, files, store, output)),
         StoreJob::Serve { service } => left(rt, serve(around, files, service, output, trace)),

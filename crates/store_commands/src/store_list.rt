@@ -100,8 +100,8 @@ fn read_list_at_last<S: Alter + Drop, L: Ledger>(
     (table.into_connection(), all)
 }
 
-/// What the store of a path has. The connection to it is handed back, if one was made.
-fn stored_list<S: Alter + Drop, L: Ledger, P: StoreFiles<S> + Drop>(
+/// What the store of a path has, by a ledger for the table's failures.
+fn list_by<S: Alter + Drop, L: Ledger, P: StoreFiles<S> + Drop>(
     alloc: Global,
     files: P,
     path: &str,
@@ -122,6 +122,17 @@ fn stored_list<S: Alter + Drop, L: Ledger, P: StoreFiles<S> + Drop>(
     }
 }
 
+/// What the store of a path has. The connection to it is handed back, if one was made.
+fn stored_list<S: Alter + Drop, P: StoreFiles<S> + Drop>(
+    alloc: Global,
+    files: P,
+    path: &str,
+) -> (Option<Connection<S>>, Result<StoreList, StoreFault>)
+    ensures { IsGot (state S.Store) (P.finds files path.now) (P.refuses files path.now) (P.connects files path.now) IsListRead result.0 (result_map_both list_in (λ fault. fault) result.1) }
+{
+    list_by::<S, Brand, P>(alloc, files, path, Blank::new(1))
+}
+
 /// The text of what was read, or the fault that was met.
 fn text_of(alloc: Global, read: Result<StoreList, StoreFault>) -> Result<String, LineFault>
     ensures { IsListText (result_map_both list_in (λ fault. fault) read) (result_map_both (λ text. string_bytes text) (λ fault. fault) result) }
@@ -133,7 +144,7 @@ fn text_of(alloc: Global, read: Result<StoreList, StoreFault>) -> Result<String,
 /// Prints a line for each zone of the store of a path, with its serial and how many records, changes and receipts there are of it; and one
 /// for the receipts of no zone, if there are some. Otherwise a line tells the refusal of the store. The connection to the store is handed
 /// back, if one was made.
-pub fn zones<W: Sink, S: Alter + Drop, P: StoreFiles<S> + Drop>(
+pub fn list_zones<W: Sink, S: Alter + Drop, P: StoreFiles<S> + Drop>(
     alloc: Global,
     files: P,
     store: &str,
@@ -141,7 +152,7 @@ pub fn zones<W: Sink, S: Alter + Drop, P: StoreFiles<S> + Drop>(
 ) -> (Option<Connection<S>>, Result<(), JobFault>)
     ensures { ZonesPrinted (stores_of (state S.Store) (P.finds files) (P.refuses files) (P.connects files)) store.now result.0 (W.contents writer.old) (W.contents writer.new) result.1 (W.failures writer.old) (W.failures writer.new) }
 {
-    let (conn, read) = stored_list::<S, Brand, P>(alloc, files, store, Blank::new(1));
+    let (conn, read) = stored_list(alloc, files, store);
     let made = text_of(alloc, read);
     (conn, report(alloc, writer, made))
 }

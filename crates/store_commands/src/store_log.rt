@@ -43,11 +43,7 @@ fn caller_if(alloc: Global, word: Option<&str>) -> Result<Option<Identifier>, Li
 }
 
 /// What the words of a log ask for. The first refusal is that of the origin, of the name, or of the caller.
-fn log_asked(
-    alloc: Global,
-    origin: &str,
-    choice: LogChoice<'_>,
-) -> Result<LogAsked, LineFault>
+fn log_asked(alloc: Global, origin: &str, choice: LogChoice<'_>) -> Result<LogAsked, LineFault>
     ensures { Gives (λ asked. asked) result (log_asked origin.now choice.entry) }
 {
     Ok(LogAsked {
@@ -86,8 +82,8 @@ fn read_log_at_last<S: Alter + Drop, L: Ledger>(
     (table.into_connection(), log)
 }
 
-/// What the store of a path has of a zone. The connection to it is handed back, if one was made.
-fn stored_log<S: Alter + Drop, L: Ledger, P: StoreFiles<S> + Drop>(
+/// What the store of a path has of a zone, by a ledger for the table's failures.
+fn log_by<S: Alter + Drop, L: Ledger, P: StoreFiles<S> + Drop>(
     alloc: Global,
     files: P,
     path: &str,
@@ -107,6 +103,18 @@ fn stored_log<S: Alter + Drop, L: Ledger, P: StoreFiles<S> + Drop>(
         }
         Err(unreached) => (unreached.conn, Err(unreached.fault)),
     }
+}
+
+/// What the store of a path has of a zone. The connection to it is handed back, if one was made.
+fn stored_log<S: Alter + Drop, P: StoreFiles<S> + Drop>(
+    alloc: Global,
+    files: P,
+    path: &str,
+    origin: &Name,
+) -> (Option<Connection<S>>, Result<ZoneLog, StoreFault>)
+    ensures { IsGot (state S.Store) (P.finds files path.now) (P.refuses files path.now) (P.connects files path.now) (IsLogRead origin.now) result.0 (result_map_both log_in (λ fault. fault) result.1) }
+{
+    log_by::<S, Brand, P>(alloc, files, path, origin, Blank::new(1))
 }
 
 /// The text of what was read, or the fault that was met.
@@ -132,9 +140,7 @@ fn logged<S: Alter + Drop, P: StoreFiles<S> + Drop>(
 {
     match log_asked(alloc, stored.origin, choice) {
         Ok(asked) => {
-            let blank = Blank::new(1);
-            let (conn, read) =
-                stored_log::<S, Brand, P>(alloc, files, stored.store, &asked.origin, blank);
+            let (conn, read) = stored_log(alloc, files, stored.store, &asked.origin);
             (conn, text_of(alloc, &asked, read))
         }
         Err(fault) => (None, Err(fault)),

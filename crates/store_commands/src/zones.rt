@@ -106,8 +106,8 @@ fn reached<S: Alter + Drop, L: Ledger, P: StoreFiles<S> + Drop>(
     }
 }
 
-/// Puts a zone into the store of a path. The connection to it is handed back, if one was made.
-fn put_into_store<S: Alter + Drop, L: Ledger, P: StoreFiles<S> + Drop>(
+/// Puts a zone into the store of a path, by a ledger for the table's failures.
+fn put_by<S: Alter + Drop, L: Ledger, P: StoreFiles<S> + Drop>(
     alloc: Global,
     files: P,
     path: &str,
@@ -130,6 +130,19 @@ fn put_into_store<S: Alter + Drop, L: Ledger, P: StoreFiles<S> + Drop>(
     }
 }
 
+/// Puts a zone into the store of a path. The connection to it is handed back, if one was made.
+fn put_into_store<S: Alter + Drop, P: StoreFiles<S> + Drop>(
+    alloc: Global,
+    files: P,
+    path: &str,
+    zone: &Zone,
+    existing: Existing,
+) -> (Option<Connection<S>>, Result<(), StoreFault>)
+    ensures { IsStored (state S.Store) (P.finds files path.now) (P.refuses files path.now) (P.connects files path.now) existing zone.now result.0 result.1 }
+{
+    put_by::<S, Brand, P>(alloc, files, path, zone, existing, Blank::new(1))
+}
+
 /// Puts a zone into the store of a path, and answers the line that tells of it. The line is made before the zone is put, so that memory
 /// cannot run out after it.
 fn put_with_line<S: Alter + Drop, P: StoreFiles<S> + Drop>(
@@ -143,10 +156,7 @@ fn put_with_line<S: Alter + Drop, P: StoreFiles<S> + Drop>(
 {
     match imported_text(alloc, zone) {
         Ok(text) => {
-            let blank = Blank::new(1);
-            let (conn, done) = put_into_store::<S, Brand, P>(
-                alloc, files, path, zone, existing, blank,
-            );
+            let (conn, done) = put_into_store(alloc, files, path, zone, existing);
             (conn, line_of(done, text))
         }
         Err(_) => (None, Err(LineFault::NoMemory)),
@@ -232,8 +242,8 @@ fn records_in<S: Alter + Drop, L: Ledger>(
     (table.into_connection(), records)
 }
 
-/// The records of a zone of the store of a path. The connection to it is handed back, if one was made.
-fn stored_records<S: Alter + Drop, L: Ledger, P: StoreFiles<S> + Drop>(
+/// The records of a zone of the store of a path, by a ledger for the table's failures.
+fn records_by<S: Alter + Drop, L: Ledger, P: StoreFiles<S> + Drop>(
     alloc: Global,
     files: P,
     path: &str,
@@ -255,6 +265,18 @@ fn stored_records<S: Alter + Drop, L: Ledger, P: StoreFiles<S> + Drop>(
     }
 }
 
+/// The records of a zone of the store of a path. The connection to it is handed back, if one was made.
+fn stored_records<S: Alter + Drop, P: StoreFiles<S> + Drop>(
+    alloc: Global,
+    files: P,
+    path: &str,
+    origin: &Name,
+) -> (Option<Connection<S>>, Result<Vec<Record>, StoreFault>)
+    ensures { IsHeld (state S.Store) (P.finds files path.now) (P.refuses files path.now) (P.connects files path.now) (λ records. records.items) origin.now result.0 result.1 }
+{
+    records_by::<S, Brand, P>(alloc, files, path, origin, Blank::new(1))
+}
+
 /// The origin and the records of a zone of the store of a path. The connection to it is handed back, if one was made.
 fn exported<S: Alter + Drop, P: StoreFiles<S> + Drop>(
     alloc: Global,
@@ -268,13 +290,7 @@ fn exported<S: Alter + Drop, P: StoreFiles<S> + Drop>(
 {
     match read_name(alloc, stored.origin) {
         Ok(origin) => {
-            let (conn, held) = stored_records::<S, Brand, P>(
-                alloc,
-                files,
-                stored.store,
-                &origin,
-                Blank::new(1),
-            );
+            let (conn, held) = stored_records(alloc, files, stored.store, &origin);
             (conn, with_origin(origin, held))
         }
         Err(fault) => (None, Err(fault)),

@@ -1,5 +1,5 @@
 use Rattle.std.proofs.KnownBytes.{Appends-nil}
-use Rattle.std.proofs.Common.{◌≡◌, ◌<◌, ◌≤◌, ◌∙◌, [], ◌∷◌, ◌++◌, length, refl, subst, arith}
+use Rattle.std.proofs.Common.{◌≡◌, ◌<◌, ◌≤◌, ◌∙◌, [], ◌∷◌, ◌++◌, length, refl, arith}
 use Rattle.std.proofs.lemmas.Result.{err_from_is_err_and}
 use Rattle.office_wire.specs.Serving.{standing}
 use Rattle.text_commands.specs.declared.line_fault.LineFault.TheVariants.{ReadFailed}
@@ -13,7 +13,7 @@ accepted-init g c = record {
   written = ([], refl, Appends-nil _);
   fine = refl;
   taken = omega arith;
-  same = refl;
+  same = λ cut. cut;
 }
 
 pub accepted-preserved : goal.accepted-preserved
@@ -32,7 +32,7 @@ accepted-preserved g c = record {
       (p.0 ++ a.0 ∷ [], one_ended p.0 a.0 c.accepted.counter p.1, told_more _ _ _ p.0 a.0 p.2 a.1.0);
   fine = c.in_ok-serve_one-in-Ok.ensures.written.1.1 ∙ c.accepted.invariant.fine;
   taken = let one = c.in-Ok.ensures.one in let before = c.accepted.invariant.taken in omega (arith, one, before);
-  same = c.in-Ok.ensures.same ∙ c.accepted.invariant.same;
+  same = λ cut. c.accepted.invariant.same (c.in-Ok.ensures.same cut);
 }
 
 pub returns-in_err-serve_one-in-Ok-clause-served : goal.returns-in_err-serve_one-in-Ok-clause-served
@@ -67,8 +67,7 @@ pub returns-in-Err-clause-written : goal.returns-in-Err-clause-written
 returns-in-Err-clause-written g c =
     let p = c.accepted.invariant.written in
     let more : c.accepted.counter < c.args.most = let in_range = c.accepted-test.true in omega arith in
-    let same = c.accepted.invariant.same in
-    let none = subst (λ (cut : Type 0). cut) same c.in-Err.ensures.failed in
+    let none = c.accepted.invariant.same c.in-Err.ensures.failed in
     let stays = c.in-Err.ensures.none in
     let before = c.accepted.invariant.taken in
     let count = p.1 in (

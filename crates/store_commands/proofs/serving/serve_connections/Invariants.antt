@@ -17,5 +17,5 @@ invariant-accepted g l = record {
   written : (ends : List (Option ServeFault)) × (length ends ≡ l.counter) × Appends (g.W.Sink.contents l.fn.writer) (g.W.Sink.contents l.writer) (ended_lines ends);
   fine : g.W.FaultCount.failures l.writer ≡ g.W.FaultCount.failures l.fn.writer;
   taken : g.H.Listener.taken l.listener ≡ g.H.Listener.taken l.fn.listener + l.counter;
-  same : g.H.Listener.cut l.listener ≡ g.H.Listener.cut l.fn.listener;
+  same : g.H.Listener.cut l.listener → g.H.Listener.cut l.fn.listener;
 }

@@ -1,6 +1,7 @@
 use Rattle.std.proofs.Common.{◌≡◌, inl, inr, subst, refl, rules}
 use Rattle.sqlite.specs.Held.{state}
 use Rattle.office_rows.specs.declared.store_fault.StoreFault.TheVariants.{WrongVersion}
+use Rattle.office_rows.specs.StoreFaults.{IsFailure}
 use Rattle.store_commands.specs.Stores.{IsNoStore}
 use Rattle.store_commands.proofs.FilesLemmas.{map_err, left_as}
 use Rattle.store_commands.proofs.store_file.made_or_adopted.Goals as goal
@@ -21,5 +22,5 @@ pub returns-else-eq-clause-refused : goal.returns-else-eq-clause-refused
 returns-else-eq-clause-refused g c =
     let e = c.in-Err.ensures in
     let other : ¬ (c.in-Err.refused.fault ≡ WrongVersion) = search rules in
-    let failed = elim e.named [ inl is ↦ absurd (other is) | inr failed ↦ failed ] in
+    let failed : IsFailure c.in-Err.refused.fault = elim e.named [ inl is ↦ absurd (other is) | inr failed ↦ failed ] in
     (c.in-Err.refused.conn, refl, inr (record { bare = λ some. other (e.wrong.1 some); failed = failed; none = e.failed other; crash = e.crash }))
