@@ -16,3 +16,9 @@ pub mod DiffLaws
 pub mod DiffLemmas
 pub mod RefusalNumberLemmas
 pub mod RefusalTableLemmas
+pub mod SlotLemmas
+pub mod FillingLemmas
+pub mod PieceLemmas
+pub mod SplitLemmas
+pub mod SplitLaws
+pub mod SerialLaws
