@@ -20,5 +20,6 @@ pub mod SlotLemmas
 pub mod FillingLemmas
 pub mod PieceLemmas
 pub mod SplitLemmas
+pub mod PartLineLemmas
 pub mod SplitLaws
 pub mod SerialLaws

@@ -60,7 +60,7 @@ put m name q place none =
     (λ t. rw t (option_or_instead (get canonical_cmp m q) (Some place) (subst (λ n. is_some (get canonical_cmp m n) ≡ false) (name_is name q t) none)))
     (λ f. rw f (option_or_none (get canonical_cmp m q)))
 
-length_taken : {X Y : Type 0} (f : X → Y) (xs : List X) (i : ℕ) → i ≤ length xs → length (map f (take i xs)) ≡ i
+pub length_taken : {X Y : Type 0} (f : X → Y) (xs : List X) (i : ℕ) → i ≤ length xs → length (map f (take i xs)) ≡ i
 length_taken f xs zero le = refl
 length_taken f [] (suc i) le = absurd (omega arith)
 length_taken f (x ∷ xs) (suc i) le = ap suc (length_taken f xs i (omega arith))

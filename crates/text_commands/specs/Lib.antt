@@ -21,6 +21,7 @@ pub mod Slots
 pub mod Filling
 pub mod Pieces
 pub mod Split
+pub mod PartLines
 pub mod SplitPromises
 pub mod Plan
 pub mod RefusalTables

@@ -1,10 +1,11 @@
 //! The bodies of the parts of an update, from its items.
 
-ghost use Rattle.std.specs.Prelude.{◌≡◌, ◌<◌, ◌^◌, [], map, IfOk, string_bytes};
+ghost use Rattle.std.specs.Prelude.{◌≡◌, ◌<◌, ◌^◌, ◌++◌, ℕ, List, [], map, IfOk, OnOk, string_bytes};
 ghost use Rattle.text_commands.specs.LineFaults.{Gives, GivesOf};
 ghost use Rattle.text_commands.specs.Request.{identifier_in};
 ghost use Rattle.text_commands.specs.Slots.{lent};
 ghost use Rattle.text_commands.specs.Filling.{lent_operations, part_view};
+ghost use Rattle.text_commands.specs.PartLines.{IsPartLine, ArePartLines};
 ghost use Rattle.text_commands.specs.Split.{numbered, advance, advanced_data, advanced, part_update, part_body, with_body, bodies_behind, split_items, split_text};
 
 use crate::device::{write_refusal, write_text};
@@ -121,7 +122,9 @@ fn part_id(alloc: Global, word: &str, number: usize) -> Result<Identifier, LineF
 /// The line of the body of a part behind so many others.
 fn part_body(alloc: Global, word: &str, before: usize, part: &Part<'_>) -> Result<String, LineFault>
     requires { before < 2 ^ 63 }
-    ensures { Gives string_bytes result (part_body word.now before (part_view part.now)) }
+    ensures exact { Gives string_bytes result (part_body word.now before (part_view part.now)) }
+    // It is read as the part.
+    ensures read { IfOk result (λ line. IsPartLine word.now before (part_view part.now) (string_bytes line)) }
 {
     let id = part_id(alloc, word, before + 1)?;
     let update = part_update(alloc, before, part)?;
@@ -137,7 +140,8 @@ fn push_body(
     part: &Part<'_>,
 ) -> Result<(), LineFault>
     requires { before < 2 ^ 63 }
-    ensures { Gives (λ done. string_bytes text.new) result (with_body word.now before (string_bytes text.old) (part_view part.now)) }
+    ensures exact { Gives (λ done. string_bytes text.new) result (with_body word.now before (string_bytes text.old) (part_view part.now)) }
+    ensures read { OnOk result ((line : List ℕ) × IsPartLine word.now before (part_view part.now) line × (string_bytes text.new ≡ string_bytes text.old ++ line)) }
 {
     let body = part_body(alloc, word, before, part)?;
     text.push_str(body.as_str())?;
@@ -146,7 +150,9 @@ fn push_body(
 
 /// The lines of the bodies of parts.
 fn bodies(alloc: Global, word: &str, parts: &[Part<'_>]) -> Result<String, LineFault>
-    ensures { Gives string_bytes result (bodies_behind word.now 0 [] (map part_view parts.now)) }
+    ensures exact { Gives string_bytes result (bodies_behind word.now 0 [] (map part_view parts.now)) }
+    // Each is read as its part.
+    ensures read { IfOk result (λ text. ArePartLines word.now 0 (map part_view parts.now) (string_bytes text)) }
 {
     let mut text = String::new(alloc);
     for (before, part) in parts.iter().enumerate() {
