@@ -95,16 +95,29 @@ fn push_shapes(
     push_status(alloc, done, answer)
 }
 
-/// Appends the beginning of a body, how many prerequisites and operations it has, and how many octets with its line end.
+/// Appends the beginning of a body, how many prerequisites and operations it has, how many octets with its line end, and the serial of
+/// an SOA in it.
 fn push_shape(alloc: Global, line: &str, answer: &mut Vec<u8>) -> Result<(), AllocError> {
     let head = line.split(',').next().unwrap_or("");
     let tests = line.split("\"test\":").count().saturating_sub(1);
     let operations = line.split("\"op\":").count().saturating_sub(1);
     let octets = line.len().saturating_add(1);
     push(
-        format!(in alloc; "{head} {tests} {operations} {octets}\n")?.as_str(),
+        format!(in alloc; "{head} {tests} {operations} {octets}")?.as_str(),
         answer,
-    )
+    )?;
+    push_serial(line, answer)?;
+    push("\n", answer)
+}
+
+/// Appends the first serial behind which the other numbers of these rows stand.
+fn push_serial(line: &str, answer: &mut Vec<u8>) -> Result<(), AllocError> {
+    let Some((front, _)) = line.split_once(" 3600 600 86400 60") else {
+        return Ok(());
+    };
+    let serial = front.rsplit_once(' ').unwrap_or(("", front)).1;
+    push(" serial ", answer)?;
+    push(serial, answer)
 }
 
 /// Appends a line as often as the number before it says.

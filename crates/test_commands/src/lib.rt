@@ -6,7 +6,7 @@
 //! words of the refusal. In front of a command stands `many`, where each line of the body has before it how often it comes; `pieces N`,
 //! where the devices move at most N octets a call; `reads N COUNT` or `writes N COUNT`, where they do and so many of the calls fail,
 //! each in a run of its own. `shapes COMMAND` has lines as `many`, and
-//! prints of each line the words up to its first comma, how many prerequisites and operations it has, and how many octets. `heads NUMBER|..` prints the first lines of what `explain` prints of each number.
+//! prints of each line the words up to its first comma, how many prerequisites and operations it has, how many octets, and a serial. `heads NUMBER|..` prints the first lines of what `explain` prints of each number.
 //!
 //! `diff ORIGIN` gives two master files, with a line `--` between them, to the command, and `diff-guarded` has it print prerequisites
 //! too; `edit ORIGIN` and `edit-guarded` print what `apply` makes of the first and the items; in `diff-reads` the first read of each
