@@ -21,6 +21,7 @@ pub fn push_command_answer(
     let text = str::from_utf8(&row.text).unwrap_or("");
     match row.verb {
         "many" => push_many(alloc, text, &row.body, answer),
+        "shapes" => push_shapes(alloc, text, &row.body, answer),
         "pieces" => push_pieces(alloc, text, &row.body, answer),
         "reads" => push_reads(alloc, text, &row.body, answer),
         "writes" => push_writes(alloc, text, &row.body, answer),
@@ -59,6 +60,15 @@ fn number(text: &str) -> (usize, &str) {
     (digits.parse::<usize>().unwrap_or(0), rest)
 }
 
+/// The lines of a text, each as often as the number before it says.
+fn counted(alloc: Global, lines: &[u8]) -> Result<Vec<u8>, AllocError> {
+    let mut input = Vec::new(alloc);
+    for line in str::from_utf8(lines).unwrap_or("").lines() {
+        push_counted(line, &mut input)?;
+    }
+    Ok(input)
+}
+
 /// Appends what a command prints of the lines of a text, each as often as the number before it says.
 fn push_many(
     alloc: Global,
@@ -66,11 +76,48 @@ fn push_many(
     lines: &[u8],
     answer: &mut Vec<u8>,
 ) -> Result<(), AllocError> {
-    let mut input = Vec::new(alloc);
-    for line in str::from_utf8(lines).unwrap_or("").lines() {
-        push_counted(line, &mut input)?;
-    }
+    let input = counted(alloc, lines)?;
     push_run(alloc, command(text, &input), Manner::SOUND, answer)
+}
+
+/// Appends the shape of each line that a command prints of such lines, and its exit status.
+fn push_shapes(
+    alloc: Global,
+    text: &str,
+    lines: &[u8],
+    answer: &mut Vec<u8>,
+) -> Result<(), AllocError> {
+    let input = counted(alloc, lines)?;
+    let (printed, done) = command(text, &input).run(alloc, Manner::SOUND, Manner::SOUND)?;
+    for line in str::from_utf8(&printed).unwrap_or("").lines() {
+        push_shape(alloc, line, answer)?;
+    }
+    push_status(alloc, done, answer)
+}
+
+/// Appends the beginning of a body, how many prerequisites and operations it has, how many octets with its line end, and the serial of
+/// an SOA in it.
+fn push_shape(alloc: Global, line: &str, answer: &mut Vec<u8>) -> Result<(), AllocError> {
+    let head = line.split(',').next().unwrap_or("");
+    let tests = line.split("\"test\":").count().saturating_sub(1);
+    let operations = line.split("\"op\":").count().saturating_sub(1);
+    let octets = line.len().saturating_add(1);
+    push(
+        format!(in alloc; "{head} {tests} {operations} {octets}")?.as_str(),
+        answer,
+    )?;
+    push_serial(line, answer)?;
+    push("\n", answer)
+}
+
+/// Appends the first serial behind which the other numbers of these rows stand.
+fn push_serial(line: &str, answer: &mut Vec<u8>) -> Result<(), AllocError> {
+    let Some((front, _)) = line.split_once(" 3600 600 86400 60") else {
+        return Ok(());
+    };
+    let serial = front.rsplit_once(' ').unwrap_or(("", front)).1;
+    push(" serial ", answer)?;
+    push(serial, answer)
 }
 
 /// Appends a line as often as the number before it says.

@@ -1,11 +1,12 @@
 //! Rows of commands that need no store, and of the words of a command line. The wanted answers are written by hand, from the formats
 //! and from worked examples.
 //!
-//! `commands`: `apply`, `canon ORIGIN`, `canon-relative ORIGIN`, `request ID`, `rights CALLER|NAME|TYPE|ACTION`, `check`,
+//! `commands`: `apply`, `canon ORIGIN`, `canon-relative ORIGIN`, `request ID`, `split ID`, `rights CALLER|NAME|TYPE|ACTION`, `check`,
 //! `isolation CALLER` and `explain NUMBER|FORM` give the body to the command, and print what it prints, and its exit status with the
 //! words of the refusal. In front of a command stands `many`, where each line of the body has before it how often it comes; `pieces N`,
 //! where the devices move at most N octets a call; `reads N COUNT` or `writes N COUNT`, where they do and so many of the calls fail,
-//! each in a run of its own. `heads NUMBER|..` prints the first lines of what `explain` prints of each number.
+//! each in a run of its own. `shapes COMMAND` has lines as `many`, and
+//! prints of each line the words up to its first comma, how many prerequisites and operations it has, how many octets, and a serial. `heads NUMBER|..` prints the first lines of what `explain` prints of each number.
 //!
 //! `diff ORIGIN` gives two master files, with a line `--` between them, to the command, and `diff-guarded` has it print prerequisites
 //! too; `edit ORIGIN` and `edit-guarded` print what `apply` makes of the first and the items; in `diff-reads` the first read of each

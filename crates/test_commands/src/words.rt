@@ -1,8 +1,8 @@
 //! What the words of a command line ask for.
 
 use command_line::{
-    DiffForm, Existing, Job, QuestionWords, RuleChoice, Service, StoredZone, TextForm, WordsFault,
-    ZoneFiles, ZoneForm, read_words,
+    DiffForm, Existing, Job, LogChoice, QuestionWords, RequestForm, RuleChoice, Service,
+    StoredZone, TextForm, WordsFault, ZoneFiles, ZoneForm, read_words,
 };
 use std::alloc::{AllocError, Global};
 use test_rows::Row;
@@ -77,7 +77,7 @@ fn push_job(alloc: Global, job: &Job<'_>, answer: &mut Vec<u8>) -> Result<(), Al
             files,
             form,
         } => push_diff(origin, files, diff_text(*form), answer),
-        Job::Request { id } => push_given("request", id, "", answer),
+        Job::Request { id, form } => push_given("request", id, request_text(*form), answer),
         Job::Import { zone, existing } => push_zone(
             "import",
             zone,
@@ -85,6 +85,8 @@ fn push_job(alloc: Global, job: &Job<'_>, answer: &mut Vec<u8>) -> Result<(), Al
             answer,
         ),
         Job::Export { zone, form } => push_zone("export", zone, form_text(*form), answer),
+        Job::Zones { store } => push_given("zones", store, "", answer),
+        Job::Log { zone, choice } => push_log(alloc, zone, choice, answer),
         Job::Migrate { store } => push_given("migrate", store, "", answer),
         Job::Rights { policy, asked } => push_question(policy, asked, answer),
         Job::Plan { policy, caller } => {
@@ -142,6 +144,34 @@ fn push_diff(
         ],
         answer,
     )
+}
+
+fn request_text(form: RequestForm) -> &'static str {
+    match form {
+        RequestForm::Whole => "",
+        RequestForm::Split => " split",
+    }
+}
+
+/// Appends a zone of a store, and which of its changes and receipts are asked for.
+fn push_log(
+    alloc: Global,
+    zone: &StoredZone<'_>,
+    choice: &LogChoice<'_>,
+    answer: &mut Vec<u8>,
+) -> Result<(), AllocError> {
+    push_zone("log", zone, "", answer)?;
+    push_number(alloc, " from ", choice.from, answer)?;
+    push_named(" name", choice.name, answer)?;
+    push_named(" caller", choice.caller, answer)
+}
+
+/// Appends what a word is, and the word, if one is given.
+fn push_named(name: &str, given: Option<&str>, answer: &mut Vec<u8>) -> Result<(), AllocError> {
+    match given {
+        Some(word) => push_all(&[name, " (", word, ")"], answer),
+        None => Ok(()),
+    }
 }
 
 fn diff_text(form: DiffForm) -> &'static str {

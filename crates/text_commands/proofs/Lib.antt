@@ -16,3 +16,10 @@ pub mod DiffLaws
 pub mod DiffLemmas
 pub mod RefusalNumberLemmas
 pub mod RefusalTableLemmas
+pub mod SlotLemmas
+pub mod FillingLemmas
+pub mod PieceLemmas
+pub mod SplitLemmas
+pub mod PartLineLemmas
+pub mod SplitLaws
+pub mod SerialLaws

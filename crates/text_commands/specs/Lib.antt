@@ -16,6 +16,13 @@ pub mod Guards
 pub mod GuardPromises
 pub mod Diff
 pub mod Request
+pub mod Octets
+pub mod Slots
+pub mod Filling
+pub mod Pieces
+pub mod Split
+pub mod PartLines
+pub mod SplitPromises
 pub mod Plan
 pub mod RefusalTables
 pub mod RefusalNumbers

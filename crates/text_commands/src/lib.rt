@@ -10,12 +10,15 @@ mod device;
 mod diff;
 mod diff_fault;
 mod explain;
+mod filling;
 mod guard;
 mod input;
 mod input_file;
 mod laws;
 mod line_fault;
+mod octets;
 mod parts;
+mod pieces;
 mod plan;
 mod plan_fault;
 mod refusal;
@@ -26,6 +29,8 @@ mod refusal_text;
 mod request;
 mod rights;
 mod rights_check;
+mod slots;
+mod split;
 mod task;
 mod zone_check;
 
@@ -39,8 +44,8 @@ pub use explain::Explain;
 pub use input::Input;
 pub use input_file::read_path;
 pub use laws::{
-    diffs_are_guarded, diffs_lead, numbers_are_apart, rows_are_of_their_number, text_is_divided,
-    texts_are_plain, zones_are_read_again,
+    diffs_are_guarded, diffs_lead, numbers_are_apart, rows_are_of_their_number, splits_are_parts,
+    text_is_divided, texts_are_plain, zones_are_read_again,
 };
 pub use line_fault::{JobFault, LineFault, NO_MEMORY_LINE};
 pub use plan::do_plan;
@@ -51,4 +56,5 @@ pub use refusal_row::{Kind, NumberPlace, RefusalRow};
 pub use refusal_text::{json_text, plain_text};
 pub use request::Request;
 pub use rights::read_caller;
+pub use split::Split;
 pub use task::Task;

@@ -21,7 +21,7 @@ use zone_core::Update;
 const BODY_MAX: usize = 65_536;
 
 /// The identifier that a word is.
-fn read_identifier(alloc: Global, word: &str) -> Result<Identifier, LineFault>
+pub(crate) fn read_identifier(alloc: Global, word: &str) -> Result<Identifier, LineFault>
     ensures { Gives (λ id. id) result (identifier_in word.now) }
 {
     match Identifier::read(alloc, word.as_bytes()) {
@@ -32,14 +32,14 @@ fn read_identifier(alloc: Global, word: &str) -> Result<Identifier, LineFault>
 }
 
 /// The update of items, whose octets are given back.
-fn read_update(alloc: Global, items: Vec<u8>) -> Result<Update, LineFault>
+pub(crate) fn read_update(alloc: Global, items: Vec<u8>) -> Result<Update, LineFault>
     ensures { Gives (λ update. update) result (of_items (items_of items.items)) }
 {
     Ok(read_items(alloc, &items)?)
 }
 
 /// A body with a line end behind it, unless it is too long.
-fn body_line(body: String) -> Result<String, LineFault>
+pub(crate) fn body_line(body: String) -> Result<String, LineFault>
     ensures { Gives string_bytes result (body_line (string_bytes body)) }
 {
     let mut line = body;

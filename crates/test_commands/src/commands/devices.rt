@@ -4,7 +4,9 @@ use crate::commands::trials::{Devices, Trial, tried};
 use command_line::{QuestionWords, TextForm, ZoneForm};
 use dns_master::{Pieces, Sink, Source};
 use std::alloc::{AllocError, Global};
-use text_commands::{Apply, Canon, Explain, Findings, JobFault, Request, Subject, Task, do_check};
+use text_commands::{
+    Apply, Canon, Explain, Findings, JobFault, Request, Split, Subject, Task, do_check,
+};
 
 /// How a device works.
 #[derive(Clone, Copy)]
@@ -55,6 +57,7 @@ impl Command<'_> {
                 self.run_task(alloc, canon(words, ZoneForm::Relative), reading, writing)
             }
             "request" => self.run_task(alloc, Request { id: words }, reading, writing),
+            "split" => self.run_task(alloc, Split { id: words }, reading, writing),
             "rights" => self.run_task(alloc, question(words), reading, writing),
             "explain" => self.run_task(alloc, asked(words), reading, writing),
             "check" => self.run_check(alloc, Subject::Rules, reading, writing),

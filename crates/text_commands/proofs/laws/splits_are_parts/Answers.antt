@@ -1,0 +1,9 @@
+use Rattle.text_commands.proofs.SerialLaws.{advances_keep_order}
+use Rattle.text_commands.proofs.SplitLaws.{splits_are_parts}
+use Rattle.text_commands.proofs.laws.splits_are_parts.Goals as goal
+
+pub returns-clause-parts : goal.returns-clause-parts
+returns-clause-parts c = splits_are_parts
+
+pub returns-clause-serials : goal.returns-clause-serials
+returns-clause-serials c = advances_keep_order
