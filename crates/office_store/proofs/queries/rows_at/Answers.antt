@@ -1,4 +1,4 @@
-use Rattle.std.proofs.Common.{◌∷◌, map, take, sym, subst, rules, IsPermutation, arith}
+use Rattle.std.proofs.Common.{◌∷◌, map, subst, rules, IsPermutation, arith}
 use Rattle.std.proofs.lemmas.List.{take_all}
 use Rattle.sqlite.specs.Held.{state}
 use Rattle.sqlite.specs.State.{HasCleanDisk}
