@@ -56,6 +56,18 @@ pub asks_refused : {X E : Type 0} (old new : Shown) (r : Result X E) → IsErr r
 asks_refused old new (Ok x) is asked = absurd cc
 asks_refused old new (Err e) is asked = (asked, λ clean. tt)
 
+-- nothing was asked before the refusal
+pub refused_early : {X E : Type 0} (conn : Shown) (r : Result X E) → IsErr r → AsksOnly conn conn r
+refused_early conn r is = asks_refused conn conn r is (asked_nothing conn)
+
+-- one question was
+pub refused_once : {X E : Type 0} (old new : Shown) (r : Result X E) → IsErr r → OnlyAsks old new → AsksOnly old new r
+refused_once old new r is asks = asks_refused old new r is (asked_once old new asks)
+
+-- one question was answered
+pub answered_once : (old new : Shown) → OnlyAsks old new → (HasCleanDisk new → (rows : RowsOf) → Holds new rows → Holds old rows) → Asked old new × (HasCleanDisk new → Only old new)
+answered_once old new asks back = (asked_once old new asks, λ clean. only_of old new (back clean))
+
 -- what one question leaves is what was shown, whatever the tables are
 pub keeps_once : (old new : Shown) → OnlyAsks old new → Keeps old new
 keeps_once old new asks up = let k = asks.now up in (k.0, k.2, λ settled. k.1 ∙ settled)

@@ -123,10 +123,11 @@ some_stand [] (r ∷ rows) same some none = let e = none_moved (r ∷ rows) same
 some_stand (t ∷ there) (r ∷ rows) same some none = cc
 
 -- the rows at a name and at the first of some others, and at the next
-pub rows_next : (text : List ℕ) (origin name : List (List ℕ)) (names : List (List (List ℕ))) (i : ℕ) (all rows more : List RecordRowOf) → i < length names → name ≡ get_or names i name
-    → AreRowsAt text (map key_of (origin ∷ take i names)) all rows → IsPermutation (records_at text (key_of name) all) more → AreRowsAt text (map key_of (origin ∷ take (i + 1) names)) all (rows ++ more)
-rows_next text origin name names i all rows more low is at same =
+pub rows_next : (text : List ℕ) (origin name : List (List ℕ)) (names : List (List (List ℕ))) (i : ℕ) (all rows more now : List RecordRowOf) → i < length names → name ≡ get_or names i name
+    → AreRowsAt text (map key_of (origin ∷ take i names)) all rows → IsPermutation (records_at text (key_of name) all) more → now ≡ rows ++ more → AreRowsAt text (map key_of (origin ∷ take (i + 1) names)) all now
+rows_next text origin name names i all rows more now low is at same both =
     let next : take (i + 1) names ≡ take i names ++ name ∷ [] = take_more names i name low ∙ ap (λ n. take i names ++ n ∷ []) (sym is) in
     let keys : map key_of (origin ∷ take (i + 1) names) ≡ map key_of (origin ∷ take i names) ++ key_of name ∷ [] =
     ap (λ ns. map key_of (origin ∷ ns)) next ∙ map-append key_of (origin ∷ take i names) (name ∷ []) in
-    subst (λ ks. AreRowsAt text ks all (rows ++ more)) (sym keys) (rows_more text (key_of name) (map key_of (origin ∷ take i names)) all rows more at same)
+    subst (AreRowsAt text (map key_of (origin ∷ take (i + 1) names)) all) (sym both)
+    (subst (λ ks. AreRowsAt text ks all (rows ++ more)) (sym keys) (rows_more text (key_of name) (map key_of (origin ∷ take i names)) all rows more at same))

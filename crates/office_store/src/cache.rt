@@ -17,7 +17,7 @@ ghost use Rattle.office_store.specs.Cache.{FitsCache, IsSubtreeOf, cached_after,
 use crate::batch::commit;
 use crate::queries::check_open;
 use crate::reads::{subtree_at, zone_at};
-use crate::within::changed_within;
+use crate::within::change_within;
 use dns_data::Record;
 use dns_names::Name;
 use office_core::{Addition, Receipt};
@@ -144,7 +144,7 @@ impl CachedZone {
     {
         let mut records = self.zone.copied_within(alloc, top)?;
         for waiting in &self.waiting {
-            records = changed_within(alloc, records, &waiting.change, top)?;
+            change_within(alloc, &mut records, &waiting.change, top)?;
         }
         Ok(records)
     }

@@ -21,6 +21,6 @@ mod zones;
 pub use file::Unopened;
 pub use laws::migrated_zones_are_even;
 pub use migration_rows::{Migration, migration_of};
-pub use office_rows::StoreFault;
+pub use office_rows::{KeptReceipt, StoreFault};
 pub use opening::Refused;
 pub use table::SqlTable;

@@ -4,11 +4,12 @@ use crate::deed::Deed;
 use anyhow::Result;
 use dns_data::Record;
 use dns_master::read_file;
+use dns_names::Name;
 use grant_policy::Policy;
 use office_core::{Call, ZoneTable, step};
-use office_store::{SqlTable, StoreFault};
+use office_store::{KeptReceipt, SqlTable, StoreFault};
 use sqlite::Alter;
-use std::alloc::Global;
+use std::alloc::{AllocError, Global};
 use std::sync::ledger::Ledger;
 use test_rows::word;
 use test_zones::{call, identifier, name, push_records, reply_text};
@@ -73,6 +74,8 @@ fn answered<S: Alter + Drop, L: Ledger>(
     match verb {
         "adopt" => spelled(alloc, "held"),
         "export" => exported(alloc, table, text),
+        "origins" => origins(alloc, table),
+        "receipts" => receipts(alloc, table),
         "subtree" => subtree(alloc, table, text),
         "receipt" => receipt(alloc, table, text),
         _ => asked(alloc, table, policy, verb, text, body),
@@ -146,6 +149,60 @@ fn exported<S: Alter + Drop, L: Ledger>(
 fn records_text(alloc: Global, records: &[Record]) -> Result<Vec<u8>> {
     let mut text = Vec::new(alloc);
     push_records(alloc, "", records, &mut text)?;
+    Ok(text)
+}
+
+/// The origins of all zones, a line each.
+fn origins<S: Alter + Drop, L: Ledger>(
+    alloc: Global,
+    table: &mut SqlTable<S, L>,
+) -> Result<Vec<u8>> {
+    match table.origins(alloc) {
+        Ok(names) => origins_text(alloc, &names),
+        Err(fault) => fault_text(alloc, fault),
+    }
+}
+
+fn origins_text(alloc: Global, names: &[Name]) -> Result<Vec<u8>> {
+    let mut text = Vec::new(alloc);
+    for name in names {
+        let line = name.text(alloc)?;
+        push_line(line.as_str(), &mut text)?;
+    }
+    Ok(text)
+}
+
+/// Appends a line below others.
+fn push_line(line: &str, text: &mut Vec<u8>) -> Result<(), AllocError> {
+    if !text.is_empty() {
+        text.push(b'\n')?;
+    }
+    text.extend_from_slice(line.as_bytes())
+}
+
+/// The caller, the identifier and the origin of each receipt, a line each.
+fn receipts<S: Alter + Drop, L: Ledger>(
+    alloc: Global,
+    table: &mut SqlTable<S, L>,
+) -> Result<Vec<u8>> {
+    match table.receipts(alloc) {
+        Ok(kept) => receipts_text(alloc, &kept),
+        Err(fault) => fault_text(alloc, fault),
+    }
+}
+
+fn receipts_text(alloc: Global, kept: &[KeptReceipt]) -> Result<Vec<u8>> {
+    let mut text = Vec::new(alloc);
+    for one in kept {
+        let (caller, id) = (one.caller.as_bytes(), one.id.as_bytes());
+        let origin = one.receipt.origin.text(alloc)?;
+        let line = format!(in alloc;
+            "{} {} {origin}",
+            str::from_utf8(caller)?,
+            str::from_utf8(id)?
+        )?;
+        push_line(line.as_str(), &mut text)?;
+    }
     Ok(text)
 }
 

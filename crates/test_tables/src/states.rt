@@ -2,10 +2,12 @@
 
 mod batches;
 mod lines;
+mod listed;
 mod reads;
 
 use crate::states::batches::{push_addition, push_new_zone, push_replacement};
 use crate::states::lines::{no_rows, push_row};
+use crate::states::listed::push_listed;
 use crate::states::reads::push_read;
 use anyhow::{Result, bail};
 use office_rows::is_state;
@@ -58,6 +60,7 @@ impl Kept {
             "new-zone" => push_new_zone(alloc, row, answer),
             "replacement" => push_replacement(alloc, row, answer),
             "zone" | "part" | "subtree" | "receipt" | "changes" => push_read(alloc, row, answer),
+            "origins" | "receipts" => push_listed(alloc, row, &self.rows(alloc, row)?, answer),
             _ => bail!("no such verb"),
         }
     }

@@ -1,7 +1,7 @@
 use Rattle.std.proofs.Common.{◌≡◌, true, false, pos, sym, ◌∙◌}
 use Rattle.sqlite.specs.Held.{state}
 use Rattle.office_rows.proofs.StateLaws.{order_does_not_count}
-use Rattle.office_store.proofs.QueryLemmas.{asked_once, only_of}
+use Rattle.office_store.proofs.QueryLemmas.{answered_once, asked_once, refused_once}
 use Rattle.office_store.proofs.opening.check_rows.Goals as goal
 
 pub returns-else-is_one-clause-good : goal.returns-else-is_one-clause-good
@@ -11,7 +11,13 @@ returns-else-is_one-clause-good g c = λ clean s h.
     cc
 
 pub returns-then-is_one-clause-asks : goal.returns-then-is_one-clause-asks
-returns-then-is_one-clause-asks g c =
-    let old = state g.S.Store c.args.conn.now in
-    let new = state g.S.Store c.all_rows.new.conn in
-    (asked_once old new c.all_rows.ensures.asks, λ clean. only_of old new (c.in-Ok.ensures.only clean))
+returns-then-is_one-clause-asks g c = answered_once (state g.S.Store c.args.conn.now) (state g.S.Store c.all_rows.new.conn) c.all_rows.ensures.asks c.in-Ok.ensures.only
+
+pub returns-in_err-is_one-in-Ok-clause-asks : goal.returns-in_err-is_one-in-Ok-clause-asks
+returns-in_err-is_one-in-Ok-clause-asks g c = refused_once (state g.S.Store c.args.conn.now) (state g.S.Store c.all_rows.new.conn) c.from_residual.result c.from_residual.ensures.0 c.all_rows.ensures.asks
+
+pub returns-else-is_one-clause-asks : goal.returns-else-is_one-clause-asks
+returns-else-is_one-clause-asks g c = (asked_once (state g.S.Store c.args.conn.now) (state g.S.Store c.all_rows.new.conn) c.all_rows.ensures.asks, λ clean. tt)
+
+pub returns-in-Err-clause-asks : goal.returns-in-Err-clause-asks
+returns-in-Err-clause-asks g c = (asked_once (state g.S.Store c.args.conn.now) (state g.S.Store c.all_rows.new.conn) c.all_rows.ensures.asks, λ clean. tt)

@@ -23,3 +23,6 @@ returns-clause-found g c =
     found (λ all. IsPermutation (changes_of (name_text c.args.origin.now) all.changes) c.in_ok-rows.rows.items) (state g.S.Store c.args.conn.now) (state g.S.Store c.held_text.new.conn) c.args.origin.now c.held_text.ensures.asks.0
     (rw c.in-Some.is at (c.in_ok-text.ensures.found (c.changes_of.ensures.asks.honest clean)))
     (λ all h. subst (λ t. IsPermutation (changes_of t all.changes) c.in_ok-rows.rows.items) (c.deref.ensures ∙ text) (c.in_ok-rows.ensures.answer clean all h))
+
+pub returns-in_err-text-clause-asks : goal.returns-in_err-text-clause-asks
+returns-in_err-text-clause-asks g c = asks_refused (state g.S.Store c.args.conn.now) (state g.S.Store c.held_text.new.conn) c.from_residual.result c.from_residual.ensures.0 c.held_text.ensures.asks.0

@@ -28,3 +28,6 @@ returns-clause-found g c =
     found (λ all. IsPermutation (changes_from (name_text c.args.origin.now) first all.changes) c.in_ok-rows.rows.items) (state g.S.Store c.args.conn.now) (state g.S.Store c.held_text.new.conn) c.args.origin.now c.held_text.ensures.asks.0
     (rw c.in-Some.is at (c.in_ok-text.ensures.found (c.changes_from.ensures.asks.honest clean)))
     (λ all h. subst (λ t. IsPermutation (changes_from t first all.changes) c.in_ok-rows.rows.items) (c.deref.ensures ∙ text) (rw (to_z-of_z w64 c.first_behind.result fits, c.first_behind.ensures) at (c.in_ok-rows.ensures.answer clean all h)))
+
+pub returns-in_err-text-clause-asks : goal.returns-in_err-text-clause-asks
+returns-in_err-text-clause-asks g c = asks_refused (state g.S.Store c.args.conn.now) (state g.S.Store c.held_text.new.conn) c.from_residual.result c.from_residual.ensures.0 c.held_text.ensures.asks.0

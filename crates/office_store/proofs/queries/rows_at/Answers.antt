@@ -1,4 +1,4 @@
-use Rattle.std.proofs.Common.{◌∷◌, ◌+◌, map, take, sym, subst, rules, IsPermutation, arith}
+use Rattle.std.proofs.Common.{◌∷◌, map, subst, rules, IsPermutation, arith}
 use Rattle.std.proofs.lemmas.List.{take_all}
 use Rattle.sqlite.specs.Held.{state}
 use Rattle.sqlite.specs.State.{HasCleanDisk}
@@ -33,9 +33,14 @@ loop-name-preserved g c =
       found = λ clean all h.
           let early : HasCleanDisk before = asks.honest clean in
           let more = subst (λ k. IsPermutation (records_at c.args.text.now k all.records) c.in_ok-more.more.items) c.key-in-loop-name.ensures.key (c.in_ok-more.ensures.answer clean all (c.loop-name.invariant.asks.same all h)) in
-          subst (λ rs. AreRowsAt c.args.text.now (map key_of (c.args.origin.now ∷ take (c.loop-name.name-index + 1) c.args.names.now)) all.records rs) (sym c.in_ok-append.ensures.items)
-          (rows_next c.args.text.now c.args.origin.now name c.args.names.now c.loop-name.name-index all.records c.loop-name.rows.items c.in_ok-more.more.items (omega arith) c.name-item.is (c.loop-name.invariant.found early all h) more);
+          rows_next c.args.text.now c.args.origin.now name c.args.names.now c.loop-name.name-index all.records c.loop-name.rows.items c.in_ok-more.more.items _ (omega arith) c.name-item.is (c.loop-name.invariant.found early all h) more c.in_ok-append.ensures.items;
     }
+
+pub returns-in_err-more-clause-asks : goal.returns-in_err-more-clause-asks
+returns-in_err-more-clause-asks g c = asks_then (state g.S.Store c.args.conn.now) (state g.S.Store c.loop-name.conn) (state g.S.Store c.records_at-in-loop-name.new.conn) c.loop-name.invariant.asks c.records_at-in-loop-name.ensures.asks
+
+pub returns-in_err-append-clause-asks : goal.returns-in_err-append-clause-asks
+returns-in_err-append-clause-asks g c = asks_then (state g.S.Store c.args.conn.now) (state g.S.Store c.loop-name.conn) (state g.S.Store c.records_at-in-loop-name.new.conn) c.loop-name.invariant.asks c.records_at-in-loop-name.ensures.asks
 
 pub returns-clause-found : goal.returns-clause-found
 returns-clause-found g c =

@@ -1,5 +1,7 @@
 use Rattle.std.proofs.Common.{◌≡◌, pos, Ok, Some, option_map, sym, ap, ◌∙◌, map}
+use Rattle.sqlite.specs.Held.{state}
 use Rattle.zone_core.specs.Changes.{change_in}
+use Rattle.office_store.proofs.QueryLemmas.{asks_refused}
 use Rattle.office_store.proofs.reads.changes_at.Goals as goal
 
 pub returns-in_default-clause-answer : goal.returns-in_default-clause-answer
@@ -13,3 +15,9 @@ returns-clause-answer g c =
     let told : Ok f.2.changes ≡ Ok (map change_in c.in_ok-changes.changes.items) = c.in_ok-changes.ensures.held (pos 2) f.0 s o f.2 f.1 f.3 f.4 in
     let same : f.2.changes ≡ map change_in c.in_ok-changes.changes.items = cc in
     sym (ap (option_map (λ held. held.changes)) f.3 ∙ ap (λ cs. Some cs) same)
+
+pub returns-in_err-rows-clause-asks : goal.returns-in_err-rows-clause-asks
+returns-in_err-rows-clause-asks g c = asks_refused (state g.S.Store c.args.conn.now) (state g.S.Store c.change_rows.new.conn) c.from_residual.result c.from_residual.ensures.0 c.change_rows.ensures.asks.0
+
+pub returns-in_err-changes-clause-asks : goal.returns-in_err-changes-clause-asks
+returns-in_err-changes-clause-asks g c = asks_refused (state g.S.Store c.args.conn.now) (state g.S.Store c.change_rows.new.conn) c.from_residual-in_err-changes.result c.from_residual-in_err-changes.ensures.0 c.change_rows.ensures.asks.0

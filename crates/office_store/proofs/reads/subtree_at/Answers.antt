@@ -1,9 +1,11 @@
 use Rattle.std.proofs.Common.{◌≡◌, pos, Ok, Some, option_map, sym, ap, ◌∙◌, subst, IsPermutation}
+use Rattle.sqlite.specs.Held.{state}
 use Rattle.zone_core.specs.Sets.{listing, part, within}
 use Rattle.office_core.specs.States.{zone_held, zone_at}
 use Rattle.dns_names.specs.Spelling.{name_text}
 use Rattle.office_rows.specs.PartRows.{rows_within}
 use Rattle.office_store.proofs.MigratedZoneLemmas.{order_from}
+use Rattle.office_store.proofs.QueryLemmas.{asks_refused}
 use Rattle.office_store.proofs.reads.subtree_at.Goals as goal
 
 pub returns-in_default-clause-answer : goal.returns-in_default-clause-answer
@@ -24,3 +26,9 @@ returns-clause-answer g c =
 
 pub returns-clause-order : goal.returns-clause-order
 returns-clause-order g c = order_from c.in_ok-records.records.items c.in_ok-records.ensures.found.3
+
+pub returns-in_err-rows-clause-asks : goal.returns-in_err-rows-clause-asks
+returns-in_err-rows-clause-asks g c = asks_refused (state g.S.Store c.args.conn.now) (state g.S.Store c.subtree_rows.new.conn) c.from_residual.result c.from_residual.ensures.0 c.subtree_rows.ensures.asks.0
+
+pub returns-in_err-records-clause-asks : goal.returns-in_err-records-clause-asks
+returns-in_err-records-clause-asks g c = asks_refused (state g.S.Store c.args.conn.now) (state g.S.Store c.subtree_rows.new.conn) c.from_residual-in_err-records.result c.from_residual-in_err-records.ensures.0 c.subtree_rows.ensures.asks.0

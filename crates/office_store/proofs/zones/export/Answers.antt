@@ -1,4 +1,5 @@
 use Rattle.std.proofs.Common.{◌≡◌, pos, Ok, Err, Some, [], option_map, sym, ap, ◌∙◌, subst, IsPermutation}
+use Rattle.sqlite.specs.Held.{state}
 use Rattle.std.proofs.lemmas.Result.{err_from_is_err_and}
 use Rattle.zone_core.specs.Sets.{listing, part, within}
 use Rattle.office_core.specs.States.{zone_held, zone_at}
@@ -7,6 +8,7 @@ use Rattle.office_sql.specs.Lookups.{records_of}
 use Rattle.office_store.specs.Zones.{exported}
 use Rattle.office_store.proofs.FaultLemmas.{gives_nothing}
 use Rattle.office_store.proofs.ZoneLemmas.{all_within}
+use Rattle.office_store.proofs.QueryLemmas.{asks_refused}
 use Rattle.office_store.proofs.zones.export.Goals as goal
 
 pub returns-in_err-rows-clause-answer : goal.returns-in_err-rows-clause-answer
@@ -30,3 +32,9 @@ returns-clause-answer g c =
     let told : Ok (listing (part zone.records (within []))) ≡ Ok c.in_ok-records.records.items = c.in_ok-records.ensures.held (pos 2) f.0 s o [] zone f.1 there rows in
     let same : listing (part zone.records (within [])) ≡ c.in_ok-records.records.items = cc in
     ap exported f.3 ∙ ap (λ r. Ok (listing r)) (sym (all_within f.2.records)) ∙ ap (λ rs. Ok rs) same
+
+pub returns-in_err-rows-clause-asks : goal.returns-in_err-rows-clause-asks
+returns-in_err-rows-clause-asks g c = asks_refused (state g.S.Store c.args.conn.now) (state g.S.Store c.zone_rows.new.conn) c.from_residual.result c.from_residual.ensures.0 c.zone_rows.ensures.asks.0
+
+pub returns-in_err-records-clause-asks : goal.returns-in_err-records-clause-asks
+returns-in_err-records-clause-asks g c = asks_refused (state g.S.Store c.args.conn.now) (state g.S.Store c.zone_rows.new.conn) c.from_residual-in_err-records.result c.from_residual-in_err-records.ensures.0 c.zone_rows.ensures.asks.0

@@ -17,8 +17,8 @@ loop-waiting-preserved c =
     let set = c.args.self.now.zone.records in
     let items = c.deref-waiting-items.result.now in
     let i = c.loop-waiting.waiting-index in
-    subst (λ s. AreRows c.in_ok-records-2.records.items (part s (within c.args.top.now))) (one_further set items i c.waiting-item.result c.loop-waiting-test.true c.waiting-item.is)
-    (c.in_ok-records-2.ensures (records_behind set (take i items)) c.loop-waiting.invariant)
+    subst (λ s. AreRows c.change_within.new.rows.items (part s (within c.args.top.now))) (one_further set items i c.waiting-item.result c.loop-waiting-test.true c.waiting-item.is)
+    (c.in_ok-change_within.ensures (records_behind set (take i items)) c.loop-waiting.invariant)
 
 pub returns-clause-value : goal.returns-clause-value
 returns-clause-value c =

@@ -6,14 +6,14 @@ use Rattle.std.proofs.lemmas.List.Sorted.{IsPartitionPoint-from_clause}
 use Rattle.zone_core.specs.Sets.{record_order}
 use Rattle.zone_core.proofs.RangeLemmas.{rest_is}
 use Rattle.office_store.proofs.SubtreeLemmas.{other, gone_is}
-use Rattle.office_store.proofs.within.without_record.Goals.{After-is_first}
-use Rattle.office_store.proofs.within.without_record.Goals as goal
+use Rattle.office_store.proofs.within.remove_record.Goals.{After-is_first}
+use Rattle.office_store.proofs.within.remove_record.Goals as goal
 
-gone : (c : After-is_first) → filter (other c.args.rr.now) c.args.rows.items
-    ≡ cond c.is_first.result (take c.partition_point-place.result c.args.rows.items ++ drop (c.partition_point-place.result + 1) c.args.rows.items) c.args.rows.items
+gone : (c : After-is_first) → filter (other c.args.rr.now) c.args.rows.now.items
+    ≡ cond c.is_first.result (take c.partition_point-place.result c.args.rows.now.items ++ drop (c.partition_point-place.result + 1) c.args.rows.now.items) c.args.rows.now.items
 gone c =
     let r = c.args.rr.now in
-    let rs = c.args.rows.items in
+    let rs = c.args.rows.now.items in
     let seen = c.deref.result.now in
     let rest = c.deref-2.result.now in
     let i = c.partition_point-place.result in
@@ -24,12 +24,12 @@ gone c =
 
 pub returns-then-not-is_first : goal.returns-then-not-is_first
 returns-then-not-is_first c =
-    let rs = c.args.rows.items in
+    let rs = c.args.rows.now.items in
     let i = c.partition_point-place.result in
     sym (gone (goal.at.returns-then-not-is_first c).After-is_first ∙ ap (λ b. cond b (take i rs ++ drop (i + 1) rs) rs) c.if-not-is_first.true)
 
 pub returns : goal.returns
 returns c =
-    let rs = c.args.rows.items in
+    let rs = c.args.rows.now.items in
     let i = c.partition_point-place.result in
     c.remove.ensures.by_index.2 ∙ sym (gone (goal.at.returns c).After-is_first ∙ ap (λ b. cond b (take i rs ++ drop (i + 1) rs) rs) c.if-not-is_first.false)
