@@ -11,6 +11,10 @@ use std::alloc::Global;
 use std::marker::Brand;
 use std::sync::ledger::{Blank, Ledger};
 
+/// The path of a store.
+#[derive(Clone, Copy)]
+pub struct StorePath<'a>(pub &'a str);
+
 /// Why there is no table of the store of a path, and the connection to it, if one was made.
 #[derive(Drop)]
 pub struct Unreached<S: Alter + Drop> {

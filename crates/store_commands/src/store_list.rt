@@ -1,9 +1,11 @@
 //! The job `zones`: what a store has, printed in a line for each zone.
 
-ghost use Rattle.std.specs.Prelude.{◌≡◌, ◌<◌, IsSome, IfOk, IfErr, string_bytes};
+ghost use Rattle.std.specs.Prelude.{◌≡◌, ◌<◌, IsSome, IfOk, IfErr, length, string_bytes};
 ghost use Rattle.std.specs.Result.{result_map_both};
 ghost use Rattle.sqlite.specs.Held.{state};
 ghost use Rattle.sqlite.specs.State.{HasCleanDisk};
+ghost use Rattle.zone_core.specs.Sets.{listing};
+ghost use Rattle.zone_core.specs.Zones.{serial_of};
 ghost use Rattle.office_core.specs.States.{State};
 ghost use Rattle.office_rows.specs.Listed.{AreOriginsOf};
 ghost use Rattle.office_rows.specs.StoreFaults.{IsFailure};
@@ -13,7 +15,7 @@ ghost use Rattle.store_commands.specs.Stores.{stores_of, IsGot};
 ghost use Rattle.store_commands.specs.StoreList.{list_in, IsSummary, AreZonesOf, IsListRead, IsListText, ZonesPrinted};
 
 use crate::files::StoreFiles;
-use crate::store_file::open_store;
+use crate::store_file::{StorePath, open_store};
 use crate::zone_list::{ZoneSummary, zones_text};
 use crate::zones::report;
 use dns_master::Sink;
@@ -25,12 +27,28 @@ use std::alloc::Global;
 use std::marker::Brand;
 use std::sync::ledger::{Blank, Ledger};
 use text_commands::{JobFault, LineFault};
+use zone_core::{Change, Zone};
 
 /// What a store has: its zones, and its receipts.
 #[derive(Drop)]
 pub struct StoreList {
     pub zones: Vec<ZoneSummary>,
     pub kept: Vec<KeptReceipt>,
+}
+
+/// What there is of a zone with its changes.
+fn summed(origin: Name, zone: &Zone, changes: &[Change]) -> ZoneSummary
+    ensures origin { result.origin ≡ origin }
+    ensures serial { result.serial ≡ serial_of zone.now }
+    ensures records { result.records ≡ length (listing zone.now.records) }
+    ensures changes { result.changes ≡ length changes.now }
+{
+    ZoneSummary {
+        origin,
+        serial: zone.serial(),
+        records: zone.records().len(),
+        changes: changes.len(),
+    }
 }
 
 /// What a table has of the zone of an origin. `NoZone` comes where there is none.
@@ -50,12 +68,7 @@ fn summary<S: Alter + Drop, L: Ledger>(
     let Some(zone) = table.stored_zone(alloc, origin)? else {
         return Err(StoreFault::NoZone);
     };
-    Ok(ZoneSummary {
-        origin: origin.try_copy(alloc)?,
-        serial: zone.serial(),
-        records: zone.records().len(),
-        changes: changes.len(),
-    })
+    Ok(summed(origin.try_copy(alloc)?, &zone, &changes))
 }
 
 /// What a table has of the zones of some origins.
@@ -104,15 +117,15 @@ fn read_list_at_last<S: Alter + Drop, L: Ledger>(
 fn list_by<S: Alter + Drop, L: Ledger, P: StoreFiles<S> + Drop>(
     alloc: Global,
     files: P,
-    path: &str,
+    path: StorePath<'_>,
     blank: Blank,
 ) -> (Option<Connection<S>>, Result<StoreList, StoreFault>)
     requires name { blank.name ≡ L.name }
     requires parts { blank.parts ≡ L.parts }
     requires some { 0 < blank.parts }
-    ensures { IsGot (state S.Store) (P.finds files path.now) (P.refuses files path.now) (P.connects files path.now) IsListRead result.0 (result_map_both list_in (λ fault. fault) result.1) }
+    ensures { IsGot (state S.Store) (P.finds files path.entry.0.now) (P.refuses files path.entry.0.now) (P.connects files path.entry.0.now) IsListRead result.0 (result_map_both list_in (λ fault. fault) result.1) }
 {
-    let opened: Result<SqlTable<S, L>, _> = open_store(alloc, files, path, blank);
+    let opened: Result<SqlTable<S, L>, _> = open_store(alloc, files, path.0, blank);
     match opened {
         Ok(table) => {
             let (conn, all) = read_list_at_last(alloc, table);
@@ -130,7 +143,8 @@ fn stored_list<S: Alter + Drop, P: StoreFiles<S> + Drop>(
 ) -> (Option<Connection<S>>, Result<StoreList, StoreFault>)
     ensures { IsGot (state S.Store) (P.finds files path.now) (P.refuses files path.now) (P.connects files path.now) IsListRead result.0 (result_map_both list_in (λ fault. fault) result.1) }
 {
-    list_by::<S, Brand, P>(alloc, files, path, Blank::new(1))
+    let blank = Blank::new(1);
+    list_by::<S, Brand, P>(alloc, files, StorePath(path), blank)
 }
 
 /// The text of what was read, or the fault that was met.

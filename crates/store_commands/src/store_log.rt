@@ -9,7 +9,7 @@ ghost use Rattle.store_commands.specs.StoreLog.{caller_if, log_asked, log_in, Is
 
 use crate::files::StoreFiles;
 use crate::log_choice::LogAsked;
-use crate::store_file::open_store;
+use crate::store_file::{StorePath, open_store};
 use crate::zone_log::log_text;
 use crate::zones::report;
 use command_line::{LogChoice, StoredZone};
@@ -86,16 +86,16 @@ fn read_log_at_last<S: Alter + Drop, L: Ledger>(
 fn log_by<S: Alter + Drop, L: Ledger, P: StoreFiles<S> + Drop>(
     alloc: Global,
     files: P,
-    path: &str,
+    path: StorePath<'_>,
     origin: &Name,
     blank: Blank,
 ) -> (Option<Connection<S>>, Result<ZoneLog, StoreFault>)
     requires name { blank.name ≡ L.name }
     requires parts { blank.parts ≡ L.parts }
     requires some { 0 < blank.parts }
-    ensures { IsGot (state S.Store) (P.finds files path.now) (P.refuses files path.now) (P.connects files path.now) (IsLogRead origin.now) result.0 (result_map_both log_in (λ fault. fault) result.1) }
+    ensures { IsGot (state S.Store) (P.finds files path.entry.0.now) (P.refuses files path.entry.0.now) (P.connects files path.entry.0.now) (IsLogRead origin.now) result.0 (result_map_both log_in (λ fault. fault) result.1) }
 {
-    let opened: Result<SqlTable<S, L>, _> = open_store(alloc, files, path, blank);
+    let opened: Result<SqlTable<S, L>, _> = open_store(alloc, files, path.0, blank);
     match opened {
         Ok(table) => {
             let (conn, log) = read_log_at_last(alloc, table, origin);
@@ -114,7 +114,8 @@ fn stored_log<S: Alter + Drop, P: StoreFiles<S> + Drop>(
 ) -> (Option<Connection<S>>, Result<ZoneLog, StoreFault>)
     ensures { IsGot (state S.Store) (P.finds files path.now) (P.refuses files path.now) (P.connects files path.now) (IsLogRead origin.now) result.0 (result_map_both log_in (λ fault. fault) result.1) }
 {
-    log_by::<S, Brand, P>(alloc, files, path, origin, Blank::new(1))
+    let blank = Blank::new(1);
+    log_by::<S, Brand, P>(alloc, files, StorePath(path), origin, blank)
 }
 
 /// The text of what was read, or the fault that was met.

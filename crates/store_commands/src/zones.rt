@@ -12,7 +12,7 @@ ghost use Rattle.store_commands.specs.Reports.{IsReported, IsShown};
 ghost use Rattle.store_commands.specs.Export.{IsExported, ExportWritten, ZoneExported};
 
 use crate::files::StoreFiles;
-use crate::store_file::{Unreached, open_or_make_store, open_store};
+use crate::store_file::{StorePath, Unreached, open_or_make_store, open_store};
 use command_line::{Existing, StoredZone, ZoneForm};
 use dns_data::Record;
 use dns_master::Sink;
@@ -110,7 +110,7 @@ fn reached<S: Alter + Drop, L: Ledger, P: StoreFiles<S> + Drop>(
 fn put_by<S: Alter + Drop, L: Ledger, P: StoreFiles<S> + Drop>(
     alloc: Global,
     files: P,
-    path: &str,
+    path: StorePath<'_>,
     zone: &Zone,
     existing: Existing,
     blank: Blank,
@@ -118,9 +118,9 @@ fn put_by<S: Alter + Drop, L: Ledger, P: StoreFiles<S> + Drop>(
     requires name { blank.name ≡ L.name }
     requires parts { blank.parts ≡ L.parts }
     requires some { 0 < blank.parts }
-    ensures { IsStored (state S.Store) (P.finds files path.now) (P.refuses files path.now) (P.connects files path.now) existing zone.now result.0 result.1 }
+    ensures { IsStored (state S.Store) (P.finds files path.entry.0.now) (P.refuses files path.entry.0.now) (P.connects files path.entry.0.now) existing zone.now result.0 result.1 }
 {
-    let reached: Result<SqlTable<S, L>, _> = reached(alloc, files, path, existing, blank);
+    let reached: Result<SqlTable<S, L>, _> = reached(alloc, files, path.0, existing, blank);
     match reached {
         Ok(table) => {
             let (conn, done) = put_at_last(alloc, table, zone, existing);
@@ -140,7 +140,7 @@ fn put_into_store<S: Alter + Drop, P: StoreFiles<S> + Drop>(
 ) -> (Option<Connection<S>>, Result<(), StoreFault>)
     ensures { IsStored (state S.Store) (P.finds files path.now) (P.refuses files path.now) (P.connects files path.now) existing zone.now result.0 result.1 }
 {
-    put_by::<S, Brand, P>(alloc, files, path, zone, existing, Blank::new(1))
+    put_by::<S, Brand, P>(alloc, files, StorePath(path), zone, existing, Blank::new(1))
 }
 
 /// Puts a zone into the store of a path, and answers the line that tells of it. The line is made before the zone is put, so that memory
@@ -246,16 +246,16 @@ fn records_in<S: Alter + Drop, L: Ledger>(
 fn records_by<S: Alter + Drop, L: Ledger, P: StoreFiles<S> + Drop>(
     alloc: Global,
     files: P,
-    path: &str,
+    path: StorePath<'_>,
     origin: &Name,
     blank: Blank,
 ) -> (Option<Connection<S>>, Result<Vec<Record>, StoreFault>)
     requires name { blank.name ≡ L.name }
     requires parts { blank.parts ≡ L.parts }
     requires some { 0 < blank.parts }
-    ensures { IsHeld (state S.Store) (P.finds files path.now) (P.refuses files path.now) (P.connects files path.now) (λ records. records.items) origin.now result.0 result.1 }
+    ensures { IsHeld (state S.Store) (P.finds files path.entry.0.now) (P.refuses files path.entry.0.now) (P.connects files path.entry.0.now) (λ records. records.items) origin.now result.0 result.1 }
 {
-    let opened: Result<SqlTable<S, L>, _> = open_store(alloc, files, path, blank);
+    let opened: Result<SqlTable<S, L>, _> = open_store(alloc, files, path.0, blank);
     match opened {
         Ok(table) => {
             let (conn, records) = records_in(alloc, table, origin);
@@ -274,7 +274,8 @@ fn stored_records<S: Alter + Drop, P: StoreFiles<S> + Drop>(
 ) -> (Option<Connection<S>>, Result<Vec<Record>, StoreFault>)
     ensures { IsHeld (state S.Store) (P.finds files path.now) (P.refuses files path.now) (P.connects files path.now) (λ records. records.items) origin.now result.0 result.1 }
 {
-    records_by::<S, Brand, P>(alloc, files, path, origin, Blank::new(1))
+    let blank = Blank::new(1);
+    records_by::<S, Brand, P>(alloc, files, StorePath(path), origin, blank)
 }
 
 /// The origin and the records of a zone of the store of a path. The connection to it is handed back, if one was made.

@@ -17,10 +17,10 @@ returns-in-Ok g c =
           honest = e.honest;
           failures = table.book.total;
           failures_after = left.book.total;
-          told = told_as _ _ _ _ _ _ _ _ (λ idle. (ap (λ t. t.conn) idle.0, idle.1, idle.2)) (λ served. served) e.told;
+          told = told_as (g.M.Surroundings.around c.args.around.now) _ _ _ _ _ _ _ (λ idle. (ap (λ t. t.conn) idle.0, idle.1, idle.2)) (λ served. served) e.told;
         },
       ),
     )
 
 pub returns-in-Err : goal.returns-in-Err
-returns-in-Err g c = inl (c.in-Err.unreached.fault, c.in-Err.ensures.refused, rw c.from.ensures at c.write_refusal.ensures, refl, refl)
+returns-in-Err g c = inl (c.in-Err.unreached.fault, c.in-Err.ensures.refused, rw c.from-fault.ensures at c.write_refusal.ensures, refl, refl)

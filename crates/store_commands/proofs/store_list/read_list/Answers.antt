@@ -7,7 +7,7 @@ returns-in_err-zones g c =
     let p = err_from_is_err_and c.from_residual-in_err-zones.result c.from_residual-in_err-zones.ensures.1 in
     let o = c.in_ok-origins.ensures in
     let z = c.in_err-zones.ensures in
-    rw (p.1, p.2) ((asked_then _ _ _ o.asks.0 z.asks.0, λ clean. tt), λ clean s held. z.failed clean s (o.asks.0.same s held) (o.answer (z.asks.0.honest clean) s held))
+    rw (p.1, p.2) ((asked_then _ _ _ o.asks.0 z.asks.0, λ clean. tt), λ clean s held. z.failed clean s (o.asks.0.same s held) (rw c.deref.ensures.value (o.answer (z.asks.0.honest clean) s held)))
 
 pub returns-in_err-kept : goal.returns-in_err-kept
 returns-in_err-kept g c =
@@ -31,6 +31,5 @@ returns g c =
       ),
       λ clean s held.
           let mid = k.asks.0.honest clean in
-          let listed = o.answer (z.asks.0.honest mid) s held in
-          (z.summaries mid s (o.asks.0.same s held) listed, k.answer clean s (first.same s held)),
+          (z.summaries mid s (o.asks.0.same s held) (rw c.deref.ensures.value (o.answer (z.asks.0.honest mid) s held)), k.answer clean s (first.same s held)),
     )

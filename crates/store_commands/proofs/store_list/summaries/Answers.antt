@@ -19,12 +19,12 @@ loop-origin-preserved g c =
 
 pub returns-in_err-summary-clause-asks : goal.returns-in_err-summary-clause-asks
 returns-in_err-summary-clause-asks g c =
-    let p = err_from_is_err_and c.from_residual-in_err-summary.result c.from_residual-in_err-summary.ensures.1 in
+    let p = err_from_is_err_and c.from_residual.result c.from_residual.ensures.1 in
     rw p.1 (asked_then _ _ _ c.loop-origin.invariant.asked c.in_err-summary.ensures.asks.0, λ clean. tt)
 
 pub returns-in_err-summary-clause-failed : goal.returns-in_err-summary-clause-failed
 returns-in_err-summary-clause-failed g c = λ clean.
-    let p = err_from_is_err_and c.from_residual-in_err-summary.result c.from_residual-in_err-summary.ensures.1 in
+    let p = err_from_is_err_and c.from_residual.result c.from_residual.ensures.1 in
     let i = c.loop-origin.invariant in
     rw (p.1, p.2) (λ s held are. c.in_err-summary.ensures.failed clean s (i.asked.same s held) (rw c.origin-item.is (is_held s c.args.origins.now c.loop-origin.origin-index _ are c.loop-origin-test.true)))
 

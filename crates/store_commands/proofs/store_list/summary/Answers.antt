@@ -1,4 +1,5 @@
-use Rattle.std.proofs.Common.{refl, sym, ap, rules}
+use Rattle.std.proofs.Common.{◌∙◌, sym}
+use Rattle.std.proofs.lemmas.List.{length-map}
 use Rattle.std.proofs.lemmas.Result.{err_from_is_err_and}
 use Rattle.office_store.proofs.QueryLemmas.{asked_then, only_then}
 use Rattle.store_commands.proofs.ListLemmas.{summary_of}
@@ -29,4 +30,6 @@ returns-clause-summary g c = λ clean s held.
     let f = c.in_ok-zone.ensures in
     let there = (rw c.in-Some-2.is at (f.answer clean)) s (e.asks.0.same s held) in
     let listed = (rw c.in-Some.is at (e.answer (f.asks.0.honest clean))) s held in
-    summary_of s c.args.origin.now _ _ _ c.in_ok-try_copy.ensures there listed (search rules) (search rules) (search rules)
+    let e = c.summed.ensures in
+    let count = rw c.deref.ensures.value at e.changes in
+    summary_of s c.args.origin.now _ _ c.summed.result (e.origin ∙ c.in_ok-try_copy.ensures) there listed e.serial e.records (count ∙ sym (length-map c.in-Some.changes.items))
