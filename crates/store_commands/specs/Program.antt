@@ -9,6 +9,8 @@ use Rattle.command_line.specs.declared.job.StoreJob.{StoreJob}
 use Rattle.command_line.specs.declared.job.StoreJob.TheVariants as store_job
 use Rattle.command_line.specs.declared.job.ZoneFiles.{ZoneFiles}
 use Rattle.command_line.specs.declared.job.DiffForm.{DiffForm}
+use Rattle.command_line.specs.declared.job.RequestForm.{RequestForm}
+use Rattle.command_line.specs.declared.job.RequestForm.TheVariants.{Whole, Split}
 use Rattle.command_line.specs.declared.words.WordsFault.{WordsFault}
 use Rattle.command_line.specs.declared.words.WordsFault.TheVariants as fault
 use Rattle.command_line.specs.Words.{asks, job_of}
@@ -25,6 +27,7 @@ use Rattle.text_commands.specs.Inputs.{InputOf}
 use Rattle.text_commands.specs.Apply.{apply_text}
 use Rattle.text_commands.specs.Canon.{canon_text}
 use Rattle.text_commands.specs.Request.{request_text}
+use Rattle.text_commands.specs.Split.{split_text}
 use Rattle.text_commands.specs.Rights.{rights_text}
 use Rattle.text_commands.specs.Explain.{explain_text}
 use Rattle.text_commands.specs.Replies.{line_of, IsSent, Answered}
@@ -114,13 +117,18 @@ DiffersBy a i form word files o outcome =
 abbrev pub Ends : {F : Type 0} → (Result (Unit {0}) F → Type 0) → ℕ → Type 0
 Ends {F} holds status = (outcome : Result (Unit {0}) F) × holds outcome × (status ≡ status_of outcome)
 
+-- the body of the update of an input, or the bodies of its parts
+abbrev pub requested : RequestForm → List ℕ → List ℕ → Result (List ℕ) Refusal
+requested Whole word = request_text word
+requested Split word = split_text word
+
 -- A job that needs no store reads its own input and answers to its own words, and the status is 0 exactly where it went through, and a check
 -- found nothing. What is around, standard input, standard output, the job, and the status. A job whose input is a file reads nothing else.
 abbrev pub TextJobEnds : Around → Reading → Writing → TextJob → ℕ → Type 0
 TextJobEnds a i o text_job.Apply status = EndsTask i.left (i.after ≡ i.before) (i.before < i.after) apply_text o status
 TextJobEnds a i o (text_job.Canon origin form) status = EndsTask i.left (i.after ≡ i.before) (i.before < i.after) (canon_text form origin.now) o status
 TextJobEnds a i o (text_job.Diff origin files form) status = Ends (λ outcome. DiffersBy a i form origin.now files o outcome) status
-TextJobEnds a i o (text_job.Request id form) status = EndsTask i.left (i.after ≡ i.before) (i.before < i.after) (request_text id.now) o status
+TextJobEnds a i o (text_job.Request id form) status = EndsTask i.left (i.after ≡ i.before) (i.before < i.after) (requested form id.now) o status
 TextJobEnds a i o (text_job.Rights policy asked) status = IsUnread i × EndsTask (a.file policy.now) ⊤ (a.unreadable policy.now) (rights_text asked) o status
 TextJobEnds a i o (text_job.Plan policy caller) status =
     Ends (λ outcome. IsPlanned caller.now (named a policy.now) (standard i) o.old o.new outcome o.before o.after) status

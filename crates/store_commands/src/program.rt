@@ -4,7 +4,7 @@ ghost use Rattle.std.specs.Prelude.{◌≡◌, ◌↔◌, ⊤, IsTrue, map, code
 ghost use Rattle.std.specs.Process.{exit_status};
 ghost use Rattle.sqlite.specs.Held.{state};
 ghost use Rattle.store_commands.specs.Stores.{stores_of};
-ghost use Rattle.store_commands.specs.Program.{EndsTask, EndsCheck, DiffersBy, TextJobEnds, StoreJobEnds, JobEnds, EndsFault, WordsEnd, IsToldWhole, status_of, check_status_of};
+ghost use Rattle.store_commands.specs.Program.{EndsTask, EndsCheck, DiffersBy, requested, TextJobEnds, StoreJobEnds, JobEnds, EndsFault, WordsEnd, IsToldWhole, status_of, check_status_of};
 
 use crate::files::StoreFiles;
 use crate::migration::migrate;
@@ -13,14 +13,16 @@ use crate::store_list::list_zones;
 use crate::store_log::log;
 use crate::surroundings::{Ended, NamedFile, Surroundings};
 use crate::zones::{export, import};
-use command_line::{DiffForm, Job, StoreJob, TextJob, WordsFault, ZoneFiles, read_words};
+use command_line::{
+    DiffForm, Job, RequestForm, StoreJob, TextJob, WordsFault, ZoneFiles, read_words,
+};
 use dns_master::{Sink, Source};
 use sqlite::{Alter, Connection};
 use std::fmt::Display;
 use std::process::ExitCode;
 use text_commands::{
-    Apply, Canon, DiffFault, Explain, Findings, Input, JobFault, NO_MEMORY_LINE, Request, Subject,
-    Task, do_check, do_diff, do_plan, write_text,
+    Apply, Canon, DiffFault, Explain, Findings, Input, JobFault, NO_MEMORY_LINE, Request, Split,
+    Subject, Task, do_check, do_diff, do_plan, write_text,
 };
 
 /// Says in words on standard error why a job was not done.
@@ -131,6 +133,22 @@ fn diff<M: Surroundings, R: Source, W: Sink>(
     }
 }
 
+/// Writes the body of an update, or the bodies of its parts.
+fn request<I: Input, W: Sink>(
+    rt: &HostRuntime,
+    id: &str,
+    form: RequestForm,
+    input: &mut I,
+    output: &mut W,
+) -> ExitCode
+    ensures { EndsTask (I.left input.old) (I.fine input.old input.new) (I.failed input.old input.new) (requested form id.now) (record { old = W.contents output.old; new = W.contents output.new; before = W.failures output.old; after = W.failures output.new }) (exit_status result) }
+{
+    match form {
+        RequestForm::Whole => do_task(rt, Request { id }, input, output),
+        RequestForm::Split => do_task(rt, Split { id }, input, output),
+    }
+}
+
 /// Does a job that needs no store, with standard input and output. The status is 0 if it went through, and a check found nothing; else
 /// 1.
 pub fn do_text_job<M: Surroundings, R: Source, W: Sink>(
@@ -151,7 +169,7 @@ pub fn do_text_job<M: Surroundings, R: Source, W: Sink>(
             files,
             form,
         } => ended(rt, diff(around, (origin, form), files, input, output)),
-        TextJob::Request { id, form: _ } => do_task(rt, Request { id }, input, output),
+        TextJob::Request { id, form } => request(rt, id, form, input, output),
         TextJob::Rights {
             policy: path,
             asked,

@@ -1,8 +1,8 @@
 //! What the words of a command line ask for.
 
 use command_line::{
-    DiffForm, Existing, Job, LogChoice, QuestionWords, RequestForm, RuleChoice, Service,
-    StoredZone, TextForm, WordsFault, ZoneFiles, ZoneForm, read_words,
+    DiffForm, Existing, Job, LogChoice, QuestionWords, RequestForm, RuleChoice, Service, StoreJob,
+    StoredZone, TextForm, TextJob, WordsFault, ZoneFiles, ZoneForm, read_words,
 };
 use std::alloc::{AllocError, Global};
 use test_rows::Row;
@@ -70,43 +70,59 @@ fn text_of(fault: &WordsFault) -> &str {
 /// Appends what a job was told by the words.
 fn push_job(alloc: Global, job: &Job<'_>, answer: &mut Vec<u8>) -> Result<(), AllocError> {
     match job {
-        Job::Apply => push("apply", answer),
-        Job::Canon { origin, form } => push_given("canon", origin, form_text(*form), answer),
-        Job::Diff {
+        Job::Text(job) => push_text_job(job, answer),
+        Job::Store(job) => push_store_job(alloc, job, answer),
+    }
+}
+
+fn push_text_job(job: &TextJob<'_>, answer: &mut Vec<u8>) -> Result<(), AllocError> {
+    match job {
+        TextJob::Apply => push("apply", answer),
+        TextJob::Canon { origin, form } => push_given("canon", origin, form_text(*form), answer),
+        TextJob::Diff {
             origin,
             files,
             form,
         } => push_diff(origin, files, diff_text(*form), answer),
-        Job::Request { id, form } => push_given("request", id, request_text(*form), answer),
-        Job::Import { zone, existing } => push_zone(
+        TextJob::Request { id, form } => push_given("request", id, request_text(*form), answer),
+        TextJob::Rights { policy, asked } => push_question(policy, asked, answer),
+        TextJob::Plan { policy, caller } => {
+            push_all(&["plan (", policy, ") (", caller, ")"], answer)
+        }
+        TextJob::CheckPolicy { policy } => push_given("check policy", policy, "", answer),
+        TextJob::CheckIsolation { policy, caller } => push_all(
+            &["check isolation (", policy, ") (", caller, ")"],
+            answer,
+        ),
+        TextJob::CheckRights { policy, name } => {
+            push_all(&["check rights (", policy, ")"], answer)?;
+            push_if_given(*name, answer)
+        }
+        TextJob::CheckZone { origin, rules } => {
+            push_all(&["check zone (", origin, ")"], answer)?;
+            push_choice(*rules, answer)
+        }
+        TextJob::Explain { number, form } => push_explain(*number, *form, answer),
+    }
+}
+
+fn push_store_job(
+    alloc: Global,
+    job: &StoreJob<'_>,
+    answer: &mut Vec<u8>,
+) -> Result<(), AllocError> {
+    match job {
+        StoreJob::Import { zone, existing } => push_zone(
             "import",
             zone,
             existing_text(*existing),
             answer,
         ),
-        Job::Export { zone, form } => push_zone("export", zone, form_text(*form), answer),
-        Job::Zones { store } => push_given("zones", store, "", answer),
-        Job::Log { zone, choice } => push_log(alloc, zone, choice, answer),
-        Job::Migrate { store } => push_given("migrate", store, "", answer),
-        Job::Rights { policy, asked } => push_question(policy, asked, answer),
-        Job::Plan { policy, caller } => {
-            push_all(&["plan (", policy, ") (", caller, ")"], answer)
-        }
-        Job::Serve { service } => push_service(alloc, service, answer),
-        Job::CheckPolicy { policy } => push_given("check policy", policy, "", answer),
-        Job::CheckIsolation { policy, caller } => push_all(
-            &["check isolation (", policy, ") (", caller, ")"],
-            answer,
-        ),
-        Job::CheckRights { policy, name } => {
-            push_all(&["check rights (", policy, ")"], answer)?;
-            push_if_given(*name, answer)
-        }
-        Job::CheckZone { origin, rules } => {
-            push_all(&["check zone (", origin, ")"], answer)?;
-            push_choice(*rules, answer)
-        }
-        Job::Explain { number, form } => push_explain(*number, *form, answer),
+        StoreJob::Export { zone, form } => push_zone("export", zone, form_text(*form), answer),
+        StoreJob::Zones { store } => push_given("zones", store, "", answer),
+        StoreJob::Log { zone, choice } => push_log(alloc, zone, choice, answer),
+        StoreJob::Migrate { store } => push_given("migrate", store, "", answer),
+        StoreJob::Serve { service } => push_service(alloc, service, answer),
     }
 }
 

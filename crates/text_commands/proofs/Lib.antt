@@ -22,4 +22,5 @@ pub mod PieceLemmas
 pub mod SplitLemmas
 pub mod PartLineLemmas
 pub mod SplitLaws
+pub mod FewItemLaws
 pub mod SerialLaws

@@ -25,7 +25,7 @@ flat_map-append : {X Y : Type 0} (f : X → List Y) (xs ys : List X) → flat_ma
 flat_map-append f [] ys = refl
 flat_map-append f (x ∷ xs) ys = ap (λ l. f x ++ l) (flat_map-append f xs ys) ∙ sym (append_assoc (f x) (flat_map f xs) (flat_map f ys))
 
-all_append : {X : Type 0} (P : X → Type 0) (xs ys : List X) → AllByRecursion P xs → AllByRecursion P ys → AllByRecursion P (xs ++ ys)
+pub all_append : {X : Type 0} (P : X → Type 0) (xs ys : List X) → AllByRecursion P xs → AllByRecursion P ys → AllByRecursion P (xs ++ ys)
 all_append P [] ys all more = more
 all_append P (x ∷ xs) ys all more = (all.0, all_append P xs ys all.1 more)
 
@@ -240,7 +240,7 @@ untouched done rest p e =
     let count : length done ≡ 0 + length (acted_names done) = sym (length-map acted_name done) ∙ plain in
     differ (tested_name p) done (before_first (λ m. same_name m (tested_name p)) 0 (acted_names done) (acted_names rest) (split ∙ ap Some count)))
 
-is_at : (k : ℕ) (o : Option ℕ) → is_place k o ≡ true → o ≡ Some k
+pub is_at : (k : ℕ) (o : Option ℕ) → is_place k o ≡ true → o ≡ Some k
 is_at k None e = absurd cc
 is_at k (Some i) e = ap Some (eqb-true i k e)
 

@@ -1,7 +1,8 @@
 -- What the parts of an update have of it.
-use Rattle.std.specs.Prelude.{◌≡◌, ◌≢◌, ℕ, ◌^◌, ◌<◌, List, [], ◌∷◌, ◌++◌}
-use Rattle.std.specs.List.{AllByRecursion, flat_map}
+use Rattle.std.specs.Prelude.{◌≡◌, ◌≢◌, ℕ, ◌^◌, ◌<◌, ◌≤◌, length, List, [], ◌∷◌, ◌++◌}
+use Rattle.std.specs.List.{AllByRecursion, filter, flat_map}
 use Rattle.std.specs.List.Sorted.{IsPermutation}
+use Rattle.dns_names.specs.Order.{same_name}
 use Rattle.zone_core.specs.declared.update.Prerequisite.{Prerequisite}
 use Rattle.zone_core.specs.declared.update.Operation.{Operation}
 use Rattle.zone_core.specs.Serials.{IsLess, serial_sum}
@@ -26,6 +27,19 @@ pub record IsSplit (tests : List Prerequisite) (operations : List Operation) (pa
 
 abbrev pub SplitsArePartsOf : Type 0
 SplitsArePartsOf = (id : List ℕ) (tests : List Prerequisite) (operations : List Operation) → IsSplit tests operations (split_of id tests operations)
+
+-- at most 64 prerequisites and 256 operations
+abbrev pub HasFewItems : UpdateOf → Type 0
+HasFewItems u = (length u.prerequisites ≤ 64) × (length u.operations ≤ 256)
+
+-- at most 64 prerequisites at each name
+abbrev pub AreFewAtNames : List Prerequisite → Type 0
+AreFewAtNames tests = (name : List (List ℕ)) → length (filter (λ p. same_name name (tested_name p)) tests) ≤ 64
+
+-- then no part has more items than an update may have, however many there are in all
+abbrev pub SplitsHaveFewItems : Type 0
+SplitsHaveFewItems =
+    (id : List ℕ) (tests : List Prerequisite) (operations : List Operation) → AreFewAtNames tests → AllByRecursion HasFewItems (split_of id tests operations)
 
 -- a serial that is greater than another stays so if both are advanced as often (RFC 1982)
 abbrev pub AdvancesKeepOrder : Type 0

@@ -5,12 +5,12 @@ ghost use Rattle.item_lines.specs.Reading.{behind, no_items};
 ghost use Rattle.text_commands.specs.Octets.{sum_up};
 ghost use Rattle.text_commands.specs.Filling.{is_bare, has_room, takes, filled, parts_of, PieceOf, piece_view, part_view};
 
+use crate::request::BODY_MAX;
 use std::alloc::{AllocError, Global};
 use zone_core::{Operation, Prerequisite, Update};
 
-/// The most octets of a part, as they are counted: a body has at most 65,536, and 32 of them are left for its identifier, its serial and
-/// its line end.
-const OCTETS_MAX: u32 = 65_504;
+/// The most octets of a part, as they are counted: 32 of a body's are left for its identifier, its serial and its line end.
+const OCTETS_MAX: usize = BODY_MAX - 32;
 
 /// Items that stay together.
 #[derive(Clone, Copy)]
@@ -67,7 +67,7 @@ impl<'a> Part<'a> {
     pub fn has_room(&self, piece: &Piece<'_, '_>) -> bool
         ensures { result ≡ has_room self.now.octets (part_view self.now) (piece_view piece.now) }
     {
-        let octets = u32::from(self.octets) + u32::from(piece.octets);
+        let octets = usize::from(self.octets) + usize::from(piece.octets);
         let tests = self.tests.len() + piece.tests.len();
         let operations = self.operations.len() + usize::from(piece.operation.is_some());
         octets <= OCTETS_MAX

@@ -4,7 +4,7 @@ ghost use Rattle.std.specs.Prelude.{◌≡◌, ◌↔◌, List, ℕ, Some};
 ghost use Rattle.text_commands.specs.Canon.{ZonesAreReadAgain};
 ghost use Rattle.text_commands.specs.Diff.{DiffsLead, DiffsAreMet, DiffsTell, OperationsTell, DiffsHaveRoom, DiffsAreMadeBeside, OperationsAreGuarded, DiffsAreApplied};
 ghost use Rattle.text_commands.specs.Parts.{Parts, IsDivided, divided};
-ghost use Rattle.text_commands.specs.SplitPromises.{SplitsArePartsOf, AdvancesKeepOrder};
+ghost use Rattle.text_commands.specs.SplitPromises.{SplitsArePartsOf, SplitsHaveFewItems, AdvancesKeepOrder};
 ghost use Rattle.text_commands.specs.RefusalLaws.{RowsAreOfTheirNumber, NumbersAreApart, TextsArePlain};
 
 /// A text is parted at its first line that is a divider, and at no other place.
@@ -39,9 +39,11 @@ pub fn diffs_are_guarded()
 {}
 
 /// The parts of an update have its operations in their order and each of its prerequisites once, and no part before that of a prerequisite
-/// has an operation at its name. A serial that is greater than another stays so if both are advanced as often.
+/// has an operation at its name. If there are at most 64 prerequisites at each name, no part has more items than an update may have. A
+/// serial that is greater than another stays so if both are advanced as often.
 pub fn splits_are_parts()
     ensures parts { SplitsArePartsOf }
+    ensures few { SplitsHaveFewItems }
     ensures serials { AdvancesKeepOrder }
 {}
 

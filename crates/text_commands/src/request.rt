@@ -18,7 +18,7 @@ use std::alloc::Global;
 use zone_core::Update;
 
 /// The most octets of a body that the office reads.
-const BODY_MAX: usize = 65_536;
+pub(crate) const BODY_MAX: usize = 65_536;
 
 /// The identifier that a word is.
 pub(crate) fn read_identifier(alloc: Global, word: &str) -> Result<Identifier, LineFault>

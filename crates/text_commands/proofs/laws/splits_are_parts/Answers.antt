@@ -1,9 +1,13 @@
+use Rattle.text_commands.proofs.FewItemLaws.{splits_have_few_items}
 use Rattle.text_commands.proofs.SerialLaws.{advances_keep_order}
 use Rattle.text_commands.proofs.SplitLaws.{splits_are_parts}
 use Rattle.text_commands.proofs.laws.splits_are_parts.Goals as goal
 
 pub returns-clause-parts : goal.returns-clause-parts
 returns-clause-parts c = splits_are_parts
+
+pub returns-clause-few : goal.returns-clause-few
+returns-clause-few c = splits_have_few_items
 
 pub returns-clause-serials : goal.returns-clause-serials
 returns-clause-serials c = advances_keep_order
