@@ -10,5 +10,5 @@ mod text;
 
 pub use items_fault::ItemsFault;
 pub use laws::items_are_read;
-pub use lines::{entry_items, read_items};
+pub use lines::{ItemLists, entry_items, read_item_lists, read_items};
 pub use text::{items_text, lists_text};

@@ -18,9 +18,11 @@ use zone_core::{Operation, Prerequisite, Update};
 
 /// The items of an update, each list in order.
 #[derive(Drop)]
-struct ItemLists {
-    prerequisites: Vec<Prerequisite>,
-    operations: Vec<Operation>,
+pub struct ItemLists {
+    /// The prerequisites.
+    pub prerequisites: Vec<Prerequisite>,
+    /// The operations.
+    pub operations: Vec<Operation>,
 }
 
 impl ItemLists {
@@ -162,4 +164,12 @@ pub fn read_items(alloc: Global, text: &[u8]) -> Result<Update, ItemsFault>
 {
     reveal_octets(text);
     items_of(alloc, text)
+}
+
+/// Reads item lines as `read_items` does, however many items there are: they need not make an update. The refusals are `BadLine`, as
+/// there, and `NoMemory`.
+pub fn read_item_lists(alloc: Global, text: &[u8]) -> Result<ItemLists, ItemsFault>
+    ensures { Gives lists_view result (lists_of text.now) }
+{
+    lists_of(alloc, text)
 }

@@ -1,15 +1,19 @@
 -- What `request --split` prints: the bodies of as many updates as the limits of one want, of its items.
-use Rattle.std.specs.Prelude.{ℕ, ◌+◌, List, [], ◌∷◌, ◌++◌, map, min, decimal, Result, Ok}
+use Rattle.std.specs.Prelude.{ℕ, ◌+◌, List, [], ◌∷◌, ◌++◌, map, min, decimal, Result, Ok, length, nat_lt, if◌then◌else◌, Err}
+use Rattle.std.specs.List.{filter}
 use Rattle.dns_data.specs.declared.rdata.Data.{Data}
 use Rattle.dns_data.specs.declared.rdata.Data.TheVariants.{Soa}
 use Rattle.zone_core.specs.declared.update.Operation.{Operation}
 use Rattle.zone_core.specs.declared.update.Operation.TheVariants.{Add}
 use Rattle.zone_core.specs.Serials.{serial_sum}
-use Rattle.zone_core.specs.Updates.{UpdateOf, update_of}
-use Rattle.item_lines.specs.Reading.{items_of}
+use Rattle.zone_core.specs.declared.refusals.UpdateFault.TheVariants.{TwoSoa}
+use Rattle.zone_core.specs.Updates.{UpdateOf, adds_soa, update_of}
+use Rattle.item_lines.specs.Reading.{lists_of}
+use Rattle.item_lines.specs.declared.items_fault.ItemsFault.TheVariants.{Update}
 use Rattle.item_lines.specs.Faults.{of_updates}
 use Rattle.office_json.specs.UpdateTexts.{update_text}
 use Rattle.text_commands.specs.declared.refusal.Refusal.{Refusal}
+use Rattle.text_commands.specs.declared.refusal.Refusal.TheVariants.{Items}
 use Rattle.text_commands.specs.LineFaults.{◌>>=◌, limited, of_items}
 use Rattle.text_commands.specs.Request.{body_line, identifier_in}
 use Rattle.text_commands.specs.Pieces.{split_of}
@@ -53,9 +57,17 @@ abbrev pub bodies_behind : List ℕ → ℕ → List ℕ → List UpdateOf → R
 bodies_behind word before text [] = Ok text
 bodies_behind word before text (u ∷ us) = with_body word before text u >>= λ t. bodies_behind word (before + 1) t us
 
+-- the lists of items of which at most one adds an SOA
+abbrev pub with_one_soa : UpdateOf → Result UpdateOf Refusal
+with_one_soa u = if nat_lt 1 (length (filter adds_soa u.operations)) then Err (Items (Update TwoSoa)) else Ok u
+
+-- the lists of items, however many there are
+abbrev pub lists_in : List ℕ → Result UpdateOf Refusal
+lists_in items = of_items (lists_of items) >>= with_one_soa
+
 -- the bodies of the parts of items, which are measured under an identifier
 abbrev pub split_items : List ℕ → List ℕ → List ℕ → Result (List ℕ) Refusal
-split_items word id items = of_items (items_of items) >>= λ u. bodies_behind word 0 [] (split_of id u.prerequisites u.operations)
+split_items word id items = lists_in items >>= λ u. bodies_behind word 0 [] (split_of id u.prerequisites u.operations)
 
 -- the same of a word with which the identifiers begin, and an input that is the items
 abbrev pub split_text : List ℕ → List ℕ → Result (List ℕ) Refusal

@@ -61,7 +61,7 @@ fn are_equal(first: &[Record], second: &[Record]) -> bool
 }
 
 /// Whether an operation adds an SOA.
-fn adds_soa(operation: &Operation) -> bool
+pub(crate) fn adds_soa(operation: &Operation) -> bool
     ensures { result ≡ adds_soa operation.now }
 {
     match operation {

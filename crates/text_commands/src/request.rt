@@ -32,7 +32,7 @@ pub(crate) fn read_identifier(alloc: Global, word: &str) -> Result<Identifier, L
 }
 
 /// The update of items, whose octets are given back.
-pub(crate) fn read_update(alloc: Global, items: Vec<u8>) -> Result<Update, LineFault>
+fn read_update(alloc: Global, items: Vec<u8>) -> Result<Update, LineFault>
     ensures { Gives (λ update. update) result (of_items (items_of items.items)) }
 {
     Ok(read_items(alloc, &items)?)

@@ -1,27 +1,31 @@
 //! The bodies of the parts of an update, from its items.
 
-ghost use Rattle.std.specs.Prelude.{◌≡◌, ◌<◌, ◌^◌, ◌++◌, ℕ, List, [], map, IfOk, OnOk, string_bytes};
+ghost use Rattle.std.specs.Prelude.{◌≡◌, ◌<◌, ◌^◌, ◌++◌, ℕ, List, [], length, map, IfOk, OnOk, string_bytes};
+ghost use Rattle.std.specs.List.{filter};
+ghost use Rattle.zone_core.specs.Updates.{adds_soa};
+ghost use Rattle.item_lines.specs.Views.{lists_view};
 ghost use Rattle.text_commands.specs.LineFaults.{Gives, GivesOf};
 ghost use Rattle.text_commands.specs.Request.{identifier_in};
 ghost use Rattle.text_commands.specs.Slots.{lent};
 ghost use Rattle.text_commands.specs.Filling.{lent_operations, part_view};
 ghost use Rattle.text_commands.specs.PartLines.{IsPartLine, ArePartLines};
-ghost use Rattle.text_commands.specs.Split.{numbered, advance, advanced_data, advanced, part_update, part_body, with_body, bodies_behind, split_items, split_text};
+ghost use Rattle.text_commands.specs.Split.{numbered, advance, advanced_data, advanced, part_update, part_body, with_body, bodies_behind, lists_in, split_items, split_text};
 
 use crate::device::{write_refusal, write_text};
 use crate::filling::Part;
+use crate::guard::adds_soa;
 use crate::input::{Input, read_input};
 use crate::line_fault::{JobFault, LineFault};
 use crate::pieces::split;
-use crate::request::{body_line, read_identifier, read_update};
+use crate::request::{body_line, read_identifier};
 use crate::task::Task;
 use dns_data::{Data, Record, Serial, Soa};
 use dns_master::Sink;
 use grant_policy::Identifier;
-use item_lines::ItemsFault;
+use item_lines::{ItemLists, ItemsFault, read_item_lists};
 use office_json::update_text;
 use std::alloc::{AllocError, Global};
-use zone_core::{Operation, Prerequisite, Update, serial_add};
+use zone_core::{Operation, Prerequisite, Update, UpdateFault, serial_add};
 
 /// The most that is added to a serial (RFC 1982 section 3.1).
 const ADVANCE_MAX: u32 = 0x7fff_ffff;
@@ -161,6 +165,30 @@ fn bodies(alloc: Global, word: &str, parts: &[Part<'_>]) -> Result<String, LineF
     Ok(text)
 }
 
+/// How many operations add an SOA.
+fn soas_added(operations: &[Operation]) -> usize
+    ensures { result ≡ length (filter adds_soa operations.now) }
+{
+    let mut soas = 0;
+    for operation in operations {
+        if adds_soa(operation) {
+            soas += 1;
+        }
+    }
+    soas
+}
+
+/// The prerequisites and the operations of items, however many there are, of which at most one adds an SOA.
+fn read_lists(alloc: Global, items: Vec<u8>) -> Result<ItemLists, LineFault>
+    ensures { Gives lists_view result (lists_in items.items) }
+{
+    let lists = read_item_lists(alloc, &items)?;
+    if soas_added(&lists.operations) > 1 {
+        return Err(LineFault::from(ItemsFault::Update(UpdateFault::TwoSoa)));
+    }
+    Ok(lists)
+}
+
 /// The lines of the bodies of the parts of items, which are measured under an identifier.
 fn split_items(
     alloc: Global,
@@ -170,8 +198,8 @@ fn split_items(
 ) -> Result<String, LineFault>
     ensures { Gives string_bytes result (split_items word.now id.now items.items) }
 {
-    let update = read_update(alloc, items)?;
-    let parts = split(alloc, id, update.prerequisites(), update.operations())?;
+    let lists = read_lists(alloc, items)?;
+    let parts = split(alloc, id, &lists.prerequisites, &lists.operations)?;
     bodies(alloc, word, &parts)
 }
 
