@@ -21,12 +21,12 @@ use Rattle.zone_core.proofs.UpdateLemmas.{none_outside}
 use Rattle.zone_core.proofs.NeedLemmas.{updates_need}
 use Rattle.zone_core.proofs.VersionLemmas.{updates_keep}
 use Rattle.zone_core.proofs.ChangedLemmas.{changes_make, same_sets_are_one}
-use Rattle.office_core.specs.declared.reply.UpdateReply.{UpdateReply}
-use Rattle.office_core.specs.declared.reply.UpdateReply.TheVariants.{NoError, NotAuth, NotZone, Failed as FailedReply}
-use Rattle.office_core.specs.Replies.{to_update}
-use Rattle.office_core.specs.States.{Held, State, AreZones, zone_held, part_at}
-use Rattle.office_core.specs.Machine.{Turn, denied_reply, failed_reply, zone_refusal, refusal, with_change, held_after, hold, keep, answered}
-use Rattle.office_core.specs.Tables.{AdditionOf, held_with, committed, FitsHeld}
+use Rattle.office_state.specs.declared.reply.UpdateReply.{UpdateReply}
+use Rattle.office_state.specs.declared.reply.UpdateReply.TheVariants.{NoError, NotAuth, NotZone, Failed as FailedReply}
+use Rattle.office_state.specs.Replies.{to_update}
+use Rattle.office_state.specs.States.{Held, State, AreZones, zone_held, part_at, hold, keep}
+use Rattle.office_state.specs.Tables.{AdditionOf, held_with, committed, FitsHeld}
+use Rattle.office_core.specs.Machine.{Turn, denied_reply, failed_reply, zone_refusal, refusal, with_change, held_after, answered}
 use Rattle.office_core.specs.Steps.{Commits, held_in, change_made, Makes, MakesAt, addition_of}
 
 same_Some : {T : Type 0} (a b : T) → Some a ≡ Some b → a ≡ b

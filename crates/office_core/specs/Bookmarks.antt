@@ -4,11 +4,11 @@ use Rattle.std.specs.List.{All}
 use Rattle.dns_names.specs.Order.{same_name}
 use Rattle.grant_policy.specs.declared.rule.Rule.{Rule}
 use Rattle.zone_core.specs.Changes.{ChangeOf}
+use Rattle.office_state.specs.States.{Held, State}
 use Rattle.office_core.specs.declared.bookmark.Bookmark.{Bookmark}
 use Rattle.office_core.specs.declared.bookmark.Bookmarks.{Bookmarks}
 use Rattle.office_core.specs.declared.bookmark.Point.{Point}
 use Rattle.office_core.specs.Machine.{seen}
-use Rattle.office_core.specs.States.{Held, State}
 
 -- a point tells how many of a zone's changes come before it, and how many of these a caller sees
 pub record IsPoint (rules : List Rule) (caller : List ℕ) (cs : List ChangeOf) (point : Point) : Type 0 where

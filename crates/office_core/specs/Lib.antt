@@ -1,11 +1,7 @@
 pub mod Footprints
 pub mod Items
 pub mod Permissions
-pub mod Faults
-pub mod Replies
-pub mod States
 pub mod Machine
-pub mod Tables
 pub mod Steps
 pub mod Plans
 pub mod Bookmarks

@@ -1,7 +1,7 @@
 -- The machine: what the office replies to a caller's request, and the state after it. The order of tests is this office's own: a
 -- receipt, the zone, the names, the policy, and only then the prerequisites (RFC 2136 section 3 has these before permission), so
 -- that a denial tells nothing of a zone's records.
-use Rattle.std.specs.Prelude.{ℕ, suc, List, [], ◌∷◌, ◌++◌, Bool, ◌&&◌, nat_le, if◌then◌else◌, Option, Some, None, option_map, bytes_eq}
+use Rattle.std.specs.Prelude.{ℕ, suc, List, [], ◌∷◌, ◌++◌, Bool, ◌&&◌, nat_le, if◌then◌else◌, Option, Some, None, option_map}
 use Rattle.std.specs.List.{filter, flat_map}
 use Rattle.std.specs.Option.{option_or}
 use Rattle.dns_names.specs.Labels.{is_within}
@@ -18,15 +18,15 @@ use Rattle.zone_core.specs.Prerequisites.{verdict}
 use Rattle.zone_core.specs.Effects.{zone_after}
 use Rattle.zone_core.specs.Delegations.{report}
 use Rattle.zone_core.specs.Changes.{ChangeOf, change_between, is_empty}
-use Rattle.office_core.specs.declared.request.Request.{Request}
-use Rattle.office_core.specs.declared.request.Request.TheVariants as requests
-use Rattle.office_core.specs.declared.reply.UpdateReply.{UpdateReply}
-use Rattle.office_core.specs.declared.reply.UpdateReply.TheVariants.{NoError, NotAuth, NotZone, Refused, Failed}
-use Rattle.office_core.specs.declared.receipt.Receipt.{Receipt}
+use Rattle.office_state.specs.declared.request.Request.{Request}
+use Rattle.office_state.specs.declared.request.Request.TheVariants as requests
+use Rattle.office_state.specs.declared.reply.UpdateReply.{UpdateReply}
+use Rattle.office_state.specs.declared.reply.UpdateReply.TheVariants.{NoError, NotAuth, NotZone, Refused, Failed}
+use Rattle.office_state.specs.declared.receipt.Receipt.{Receipt}
+use Rattle.office_state.specs.Replies.{ReplyOf, NumberedOf, to_update, id_reused, not_auth, not_zone, records, file, delegations, changes, right}
+use Rattle.office_state.specs.States.{Held, State, zone_held, hold, keep}
 use Rattle.office_core.specs.Footprints.{footprint}
 use Rattle.office_core.specs.Permissions.{DenialOf, question, first_denial}
-use Rattle.office_core.specs.Replies.{ReplyOf, NumberedOf, to_update, id_reused, not_auth, not_zone, records, file, delegations, changes, right}
-use Rattle.office_core.specs.States.{Held, State, zone_held}
 
 -- ---- what a caller may list
 
@@ -122,16 +122,7 @@ abbrev pub held_after : List (List ℕ) → UpdateOf → Held → Held
 held_after origin update held =
     let after = (zone_after (zone_held origin held) update).records in record { records = after; changes = with_change held.records after held.changes }
 
--- ---- the state after an update
-
--- another thing is held of an origin
-abbrev pub hold : State → List (List ℕ) → Option Held → State
-hold s origin held = record s { zones = λ o. if same_name o origin then held else s.zones o }
-
--- a receipt is kept
-abbrev pub keep : State → List ℕ → List ℕ → Receipt → State
-keep s caller id receipt = record s { receipts = λ c i. if bytes_eq c caller && bytes_eq i id then Some receipt else s.receipts c i }
-
+-- the receipt of an update that is answered so
 abbrev pub receipt : List (List ℕ) → UpdateOf → UpdateReply → Receipt
 receipt origin update reply = record { origin = origin; update = update; reply = reply }
 

@@ -11,16 +11,16 @@ use Rattle.zone_core.specs.Met.{IsFirstUnmet}
 use Rattle.zone_core.specs.Accounts.{IsMadeBy}
 use Rattle.zone_core.specs.Versions.{Advances}
 use Rattle.zone_core.specs.Delegations.{DelegationOf, AreReported}
-use Rattle.office_core.specs.declared.receipt.Receipt.{Receipt}
-use Rattle.office_core.specs.declared.reply.UpdateReply.{UpdateReply}
-use Rattle.office_core.specs.declared.reply.UpdateReply.TheVariants as replies
-use Rattle.office_core.specs.declared.request.Call.{Call}
-use Rattle.office_core.specs.declared.request.Request.{Request}
-use Rattle.office_core.specs.declared.request.Request.TheVariants as requests
+use Rattle.office_state.specs.declared.receipt.Receipt.{Receipt}
+use Rattle.office_state.specs.declared.reply.UpdateReply.{UpdateReply}
+use Rattle.office_state.specs.declared.reply.UpdateReply.TheVariants as replies
+use Rattle.office_state.specs.declared.request.Call.{Call}
+use Rattle.office_state.specs.declared.request.Request.{Request}
+use Rattle.office_state.specs.declared.request.Request.TheVariants as requests
+use Rattle.office_state.specs.Replies.{ReplyOf, to_update, id_reused, records, file, delegations}
+use Rattle.office_state.specs.States.{Held, State, AreZones, AreReceipts, zone_held}
 use Rattle.office_core.specs.Footprints.{footprint}
 use Rattle.office_core.specs.Permissions.{question, IsPermitted, IsFirstDenial}
-use Rattle.office_core.specs.Replies.{ReplyOf, to_update, id_reused, records, file, delegations}
-use Rattle.office_core.specs.States.{Held, State, AreZones, AreReceipts, zone_held}
 use Rattle.office_core.specs.Machine.{receipt}
 use Rattle.office_core.specs.Runs.{Answer, HaveUpdates, state_after, answers}
 use Rattle.office_core.specs.Promises.{IsMade, IsAdvance, HasMoved, IsAskedAndGranted, IsNoted, IsJudged, IsOfZone, TellsList, IsListOf, TellsWithin, TellsChanges, TellsDecision, ZoneIsRight}

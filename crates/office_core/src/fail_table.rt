@@ -1,16 +1,14 @@
 //! A table that fails at chosen calls, for tests.
 
 ghost use Rattle.std.specs.Prelude.{◌≡◌, ◌<◌, OnErr};
+ghost use Rattle.office_state.specs.Tables.{Counts};
 ghost use Rattle.office_core.specs.Memory.{HoldsState};
-ghost use Rattle.office_core.specs.Tables.{Counts};
 
 use crate::memory::MemTable;
-use crate::receipt::{Addition, Receipt};
-use crate::table::ZoneTable;
-use crate::table_fault::TableFault;
 use dns_data::Record;
 use dns_names::Name;
 use grant_policy::Identifier;
+use office_state::{Addition, Receipt, TableFault, ZoneTable};
 use std::alloc::Global;
 use std::sync::ledger::{Blank, Book, Ledger, Share};
 use zone_core::{Change, Zone};

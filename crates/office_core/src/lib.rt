@@ -1,4 +1,4 @@
-//! The machine: what is asked of the office, who may ask it, and what is replied and kept.
+//! The machine: who may ask what of the office, and what is replied and kept, over any table.
 #![tactic(auto)]
 
 mod bookmark;
@@ -9,13 +9,8 @@ mod laws;
 mod memory;
 mod permission;
 mod queries;
-mod receipt;
-mod reply;
-mod request;
 mod runs;
 mod steps;
-mod table;
-mod table_fault;
 mod update;
 
 pub use bookmark::Bookmarks;
@@ -26,12 +21,11 @@ pub use laws::{
     footprints_are_asked_in_order, lists_are_exact,
 };
 pub use memory::MemTable;
+pub use office_state::{
+    Addition, Call, NumberedChange, Receipt, Reply, Request, Right, StepFault, TableFault,
+    UpdateReply, ZoneTable,
+};
 pub use permission::{Denial, denied};
-pub use receipt::{Addition, Receipt};
-pub use reply::{NumberedChange, Reply, Right, UpdateReply};
-pub use request::{Call, Request};
 pub use runs::run;
 pub use steps::{step, step_with_bookmarks};
-pub use table::ZoneTable;
-pub use table_fault::{StepFault, TableFault};
 pub use update::plan;

@@ -12,12 +12,10 @@ ghost use Rattle.zone_core.specs.Zones.{IsZone};
 ghost use Rattle.zone_core.specs.Changes.{change_in};
 ghost use Rattle.office_core.specs.Memory.{state_of, is_of, receipt_in, IsPutAt, HoldsSame, HoldsChange, HasRoomAt, HoldsState};
 
-use crate::receipt::{Addition, Receipt};
-use crate::table::ZoneTable;
-use crate::table_fault::TableFault;
 use dns_data::Record;
 use dns_names::Name;
 use grant_policy::Identifier;
+use office_state::{Addition, Receipt, TableFault, ZoneTable};
 use std::alloc::{AllocError, Global};
 use std::collections::BTreeMap;
 use std::marker::Model;

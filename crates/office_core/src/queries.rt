@@ -5,21 +5,19 @@ ghost use Rattle.std.specs.List.{filter};
 ghost use Rattle.zone_core.specs.Sets.{InOrder, listing};
 ghost use Rattle.zone_core.specs.Changes.{change_in};
 ghost use Rattle.grant_policy.specs.Decisions.{decision};
+ghost use Rattle.office_state.specs.Replies.{reply_of, right_of, numbered_of, right};
+ghost use Rattle.office_state.specs.States.{State};
+ghost use Rattle.office_state.specs.Tables.{Counts};
 ghost use Rattle.office_core.specs.Permissions.{question};
-ghost use Rattle.office_core.specs.Replies.{reply_of, right_of, numbered_of, right};
-ghost use Rattle.office_core.specs.States.{State};
-ghost use Rattle.office_core.specs.Tables.{Counts};
 ghost use Rattle.office_core.specs.Machine.{unchanged, of_zone, may_list, listed, listed_at, list_reply, list_within_reply, file_reply, delegations_reply, changes_reply, if_some, seen, seen_of, numbered};
 ghost use Rattle.office_core.specs.Steps.{IsAnswer, Takes};
 ghost use Rattle.office_core.specs.Bookmarks.{AreBookmarks};
 
 use crate::bookmark::Bookmarks;
-use crate::reply::{NumberedChange, Reply, Right};
-use crate::table::ZoneTable;
-use crate::table_fault::TableFault;
 use dns_data::{Record, RecordType};
 use dns_names::Name;
 use grant_policy::{Action, Decision, Grants, Identifier, LookUps, Policy, decide, reach};
+use office_state::{NumberedChange, Reply, Right, TableFault, ZoneTable};
 use std::alloc::{AllocError, Global};
 use zone_core::{Change, delegation_report};
 

@@ -1,17 +1,15 @@
 //! Runs of the machine.
 
 ghost use Rattle.std.specs.Prelude.{◌≡◌, ◌+◌, IfOk, OnErr, sum_by};
-ghost use Rattle.office_core.specs.States.{State};
+ghost use Rattle.office_state.specs.States.{State};
 ghost use Rattle.office_core.specs.Runs.{IsRun, HasUpdate, HaveUpdates, kept, given, counted_failures};
 ghost use Rattle.office_core.specs.Promises.{CallsAreRight};
 ghost use Rattle.office_core.specs.RightAnswers.{AnswersAreRight};
 ghost use Rattle.office_core.specs.Isolation.{AreAnsweredAlone};
 
-use crate::reply::Reply;
-use crate::request::{Call, Request};
 use crate::steps::step;
-use crate::table::ZoneTable;
 use grant_policy::Policy;
+use office_state::{Call, Reply, Request, ZoneTable};
 use std::alloc::{AllocError, Global};
 
 /// The replies to calls, one after the other. The only error is out of memory for the list of replies, and then no call was

@@ -3,21 +3,18 @@
 ghost use Rattle.std.specs.Prelude.{◌≡◌, ◌++◌, None, Some, IfOk, map, option_map};
 ghost use Rattle.zone_core.specs.Updates.{tested_name, acted_name, IsUpdate, ActsWithin};
 ghost use Rattle.zone_core.specs.Changes.{change_in};
-ghost use Rattle.office_core.specs.Replies.{reply_of};
-ghost use Rattle.office_core.specs.States.{State};
-ghost use Rattle.office_core.specs.Tables.{Counts, addition_in};
+ghost use Rattle.office_state.specs.Replies.{reply_of};
+ghost use Rattle.office_state.specs.States.{State};
+ghost use Rattle.office_state.specs.Tables.{Counts, addition_in};
+ghost use Rattle.office_state.specs.declared.reply.UpdateReply.TheVariants.{NoError};
 ghost use Rattle.office_core.specs.Machine.{again, answered, updated, refusal, zone_refusal};
 ghost use Rattle.office_core.specs.Steps.{CountsStep, IsAnswer, Takes, LeavesTurn, Commits, Makes, MakesAt, held_in, addition_of};
 ghost use Rattle.office_core.specs.Plans.{Plans};
-ghost use Rattle.office_core.specs.declared.reply.UpdateReply.TheVariants.{NoError};
 
 use crate::permission::denied;
-use crate::receipt::{Addition, Receipt};
-use crate::reply::{Reply, UpdateReply};
-use crate::table::ZoneTable;
-use crate::table_fault::{StepFault, TableFault};
 use dns_names::Name;
 use grant_policy::{Identifier, LookUps, Policy};
+use office_state::{Addition, Receipt, Reply, StepFault, TableFault, UpdateReply, ZoneTable};
 use std::alloc::{AllocError, Global};
 use zone_core::{Change, Update, Zone, holds};
 

@@ -13,13 +13,13 @@ use Rattle.zone_core.specs.declared.report.Glue.TheVariants.{Outside, Listed, Un
 use Rattle.zone_core.specs.declared.report.DelegatedServer.{DelegatedServer}
 use Rattle.zone_core.specs.declared.report.Delegation.{Delegation}
 use Rattle.zone_core.specs.Rcodes.{rcode_number, rcode_text, rcode_of}
-use Rattle.office_core.specs.declared.reply.UpdateReply.{UpdateReply}
-use Rattle.office_core.specs.declared.reply.UpdateReply.TheVariants as updates
-use Rattle.office_core.specs.declared.reply.Right.{Right}
-use Rattle.office_core.specs.declared.reply.Right.TheVariants.{Granted, Denied}
-use Rattle.office_core.specs.declared.reply.NumberedChange.{NumberedChange}
-use Rattle.office_core.specs.declared.reply.Reply.{Reply}
-use Rattle.office_core.specs.declared.reply.Reply.TheVariants as replies
+use Rattle.office_state.specs.declared.reply.UpdateReply.{UpdateReply}
+use Rattle.office_state.specs.declared.reply.UpdateReply.TheVariants as updates
+use Rattle.office_state.specs.declared.reply.Right.{Right}
+use Rattle.office_state.specs.declared.reply.Right.TheVariants.{Granted, Denied}
+use Rattle.office_state.specs.declared.reply.NumberedChange.{NumberedChange}
+use Rattle.office_state.specs.declared.reply.Reply.{Reply}
+use Rattle.office_state.specs.declared.reply.Reply.TheVariants as replies
 use Rattle.office_json.specs.Json.{quoted, array, member, object}
 
 -- ---- refusals, codes and places

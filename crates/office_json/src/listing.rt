@@ -11,7 +11,7 @@ use crate::piece::{push_all, push_comma, push_quoted};
 use dns_data::Record;
 use dns_names::Name;
 use itoa::Buffer;
-use office_core::NumberedChange;
+use office_state::NumberedChange;
 use std::alloc::AllocError;
 use std::fmt::Write;
 use zone_core::{DelegatedServer, Delegation, Glue};

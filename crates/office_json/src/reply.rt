@@ -7,7 +7,7 @@ ghost use Rattle.office_json.specs.Replies.{body_of, IsShort, refusal_body, form
 
 use crate::listing::{push_changes, push_delegations, push_file, push_records};
 use crate::short::{push_code, push_form_error, push_refusal, push_right, push_update_reply};
-use office_core::Reply;
+use office_state::Reply;
 use std::alloc::AllocError;
 use zone_core::Rcode;
 

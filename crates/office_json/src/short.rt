@@ -10,7 +10,7 @@ ghost use Rattle.office_json.specs.Replies.{list_text, rule_of, refusal_body, co
 use crate::piece::push_all;
 use grant_policy::Identifier;
 use itoa::Buffer;
-use office_core::{Right, UpdateReply};
+use office_state::{Right, UpdateReply};
 use std::alloc::AllocError;
 use zone_core::{ItemList, Rcode};
 

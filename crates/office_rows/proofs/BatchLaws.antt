@@ -10,9 +10,8 @@ use Rattle.zone_core.specs.Zones.{ZoneOf, IsZone, AreKept}
 use Rattle.zone_core.proofs.RowLemmas.{len_of}
 use Rattle.zone_core.proofs.ChangedLemmas.{changes_make}
 use Rattle.zone_core.specs.Changes.{ChangeOf, change_between, is_empty}
-use Rattle.office_core.specs.States.{Held, State}
-use Rattle.office_core.specs.Machine.{hold, keep}
-use Rattle.office_core.specs.Tables.{AdditionOf, held_with, with_change_of, committed, FitsHeld, FitsChange, Fits}
+use Rattle.office_state.specs.States.{Held, State, hold, keep}
+use Rattle.office_state.specs.Tables.{AdditionOf, held_with, with_change_of, committed, FitsHeld, FitsChange, Fits}
 use Rattle.office_sql.specs.Rows.{BatchOf}
 use Rattle.office_rows.specs.Contents.{row_of_receipt, IsReceiptAt}
 use Rattle.office_rows.specs.Batches.{Leads, IsNext, receipt_at, receipts_batch, change_batch, zone_batch, with_zone, with_zone_replaced, NewTablesHoldNothing}

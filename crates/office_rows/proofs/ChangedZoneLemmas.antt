@@ -12,9 +12,8 @@ use Rattle.zone_core.specs.Sets.{Records, set_of, listing}
 use Rattle.zone_core.specs.Changes.{changed, ChangeOf}
 use Rattle.zone_core.specs.Zones.{IsZone}
 use Rattle.zone_core.proofs.ChangedLemmas.{listed}
-use Rattle.office_core.specs.States.{Held, State}
-use Rattle.office_core.specs.Machine.{hold}
-use Rattle.office_core.specs.Tables.{held_with, FitsHeld}
+use Rattle.office_state.specs.States.{Held, State, hold}
+use Rattle.office_state.specs.Tables.{held_with, FitsHeld}
 use Rattle.office_sql.specs.Rows.{RecordRowOf, ReceiptRowOf, same_key, without}
 use Rattle.office_rows.specs.RecordRows.{record_row}
 use Rattle.office_rows.specs.ChangeRows.{IsChange, change_rows, changes_rows}

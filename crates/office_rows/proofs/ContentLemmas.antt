@@ -14,7 +14,7 @@ use Rattle.zone_core.proofs.SetLemmas.{by_cases, name_is, name_self}
 use Rattle.zone_core.specs.Zones.{ZoneOf}
 use Rattle.zone_core.specs.Views.{zone_in}
 use Rattle.zone_core.specs.Changes.{ChangeOf}
-use Rattle.office_core.specs.States.{Held, State, zone_held, zone_at}
+use Rattle.office_state.specs.States.{Held, State, zone_held, zone_at}
 use Rattle.office_sql.specs.Rows.{RecordRowOf, ChangeRowOf, RowsOf}
 use Rattle.office_sql.specs.Lookups.{records_of, changes_of}
 use Rattle.office_rows.specs.declared.side.Side.{Side}

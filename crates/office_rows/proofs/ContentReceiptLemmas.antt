@@ -5,8 +5,7 @@ use Rattle.std.proofs.lemmas.Bool.{and_from}
 use Rattle.std.proofs.lemmas.Bool as bools
 use Rattle.std.proofs.lemmas.Slice.Eq.{bytes_eq-Decides}
 use Rattle.sqlite_trees.proofs.ListLemmas.{all_weaker}
-use Rattle.office_core.specs.States.{State}
-use Rattle.office_core.specs.Machine.{keep}
+use Rattle.office_state.specs.States.{State, keep}
 use Rattle.office_rows.specs.Contents.{ReceiptAt, receipt_among}
 use Rattle.office_rows.proofs.ListLemmas.{ascending_from_pairs, pairs_from_ascending, none_passes}
 use Rattle.office_rows.proofs.ReceiptReadLemmas.{Differ, is_under}

@@ -7,8 +7,7 @@ use Rattle.sqlite_trees.specs.Tree.{IsAscending}
 use Rattle.sqlite_trees.proofs.ListLemmas.{all-filter, all_weaker, all_both, ascending-filter, filter_all}
 use Rattle.dns_names.specs.Order.{same_name}
 use Rattle.zone_core.proofs.SetLemmas.{by_cases, name_is, name_self, name_other}
-use Rattle.office_core.specs.States.{Held, State}
-use Rattle.office_core.specs.Machine.{hold}
+use Rattle.office_state.specs.States.{Held, State, hold}
 use Rattle.office_rows.specs.Contents.{ZoneRows, zone_among, held_of, IsZoneRows}
 use Rattle.office_rows.proofs.ListLemmas.{turned_first, ascending_from_pairs, pairs_from_ascending, found_passes, none_passes, all_pass}
 use Rattle.office_rows.proofs.ContentLemmas.{Apart}

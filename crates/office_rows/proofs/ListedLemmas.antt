@@ -13,8 +13,8 @@ use Rattle.dns_names.specs.Labels.{IsName}
 use Rattle.dns_names.specs.Order.{canonical_cmp, canonical_total, same_name}
 use Rattle.dns_names.specs.Spelling.{name_text}
 use Rattle.zone_core.proofs.SetLemmas.{name_is, name_self}
-use Rattle.office_core.specs.declared.receipt.Receipt.{Receipt}
-use Rattle.office_core.specs.States.{Held, State}
+use Rattle.office_state.specs.declared.receipt.Receipt.{Receipt}
+use Rattle.office_state.specs.States.{Held, State}
 use Rattle.office_sql.specs.Rows.{ReceiptRowOf, RowsOf}
 use Rattle.office_rows.specs.declared.ordered.KeptReceipt.{KeptReceipt}
 use Rattle.office_rows.specs.declared.row_fault.RowFault.{RowFault}

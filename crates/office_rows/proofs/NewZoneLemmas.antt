@@ -6,7 +6,7 @@ use Rattle.dns_names.specs.Spelling.{name_text}
 use Rattle.zone_core.specs.Sets.{Records, listing, set_of}
 use Rattle.zone_core.specs.Zones.{ZoneOf, IsZone}
 use Rattle.zone_core.proofs.ChangedLemmas.{listed}
-use Rattle.office_core.specs.States.{State}
+use Rattle.office_state.specs.States.{State}
 use Rattle.office_sql.specs.Rows.{without}
 use Rattle.office_rows.specs.RecordRows.{record_row}
 use Rattle.office_rows.specs.Contents.{ZoneRows, zone_records, zone_changes, IsZoneRows}

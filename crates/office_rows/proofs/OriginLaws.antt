@@ -9,7 +9,7 @@ use Rattle.dns_names.specs.Keys.{key_of}
 use Rattle.dns_names.specs.Order.{same_name}
 use Rattle.dns_names.specs.Spelling.{name_text}
 use Rattle.zone_core.proofs.SetLemmas.{by_cases, name_self}
-use Rattle.office_core.specs.States.{Held}
+use Rattle.office_state.specs.States.{Held}
 use Rattle.office_sql.specs.Rows.{RecordRowOf}
 use Rattle.office_sql.specs.Lookups.{records_of, records_at}
 use Rattle.office_rows.specs.RecordRows.{record_row}

@@ -4,7 +4,7 @@ use Rattle.std.proofs.lemmas.Bool.{and_parts, false_from_ne_true}
 use Rattle.std.proofs.lemmas.List.Sorted.{IsPermutation-trans}
 use Rattle.std.specs.Prelude.{option_map, bytes_eq}
 use Rattle.sqlite_keyed.proofs.ListLemmas.{ascending_weaker, filter-map, IsPermutation-filter}
-use Rattle.office_core.specs.States.{State}
+use Rattle.office_state.specs.States.{State}
 use Rattle.office_sql.specs.Rows.{ReceiptRowOf, RowsOf}
 use Rattle.office_sql.specs.Lookups.{receipts_of}
 use Rattle.office_rows.specs.Contents.{ReceiptAt, receipt_among, row_of_receipt, IsReceiptAt, AreOfState}

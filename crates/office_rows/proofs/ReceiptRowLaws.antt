@@ -1,8 +1,10 @@
 -- The rows of receipts: what is written is read, and what is read was written so.
 use Rattle.std.proofs.Common.{◌≡◌, ℕ, List, Result, Ok, sym, ap, subst, ◌∙◌}
 use Rattle.zone_core.specs.Updates.{UpdateOf, IsUpdate}
-use Rattle.office_core.specs.declared.receipt.Receipt.{Receipt}
-use Rattle.office_core.specs.declared.reply.UpdateReply.{UpdateReply}
+use Rattle.office_state.specs.declared.receipt.Receipt.{Receipt}
+use Rattle.office_state.specs.declared.reply.UpdateReply.{UpdateReply}
+use Rattle.office_state.specs.Texts.{update_text}
+use Rattle.office_state.proofs.PrintLaws.{update_read}
 use Rattle.office_sql.specs.Rows.{ReceiptRowOf}
 use Rattle.office_rows.specs.declared.row_fault.RowFault.{RowFault}
 use Rattle.office_rows.specs.Contents.{ReceiptAt, row_of_receipt, IsReceiptAt}
@@ -10,10 +12,8 @@ use Rattle.office_rows.specs.ReceiptRows.{receipt_row, receipt_row_in, IsRowOfRe
 use Rattle.office_rows.specs.ReplyWords.{AreWordsOf}
 use Rattle.office_rows.specs.RowFaults.{◌>>=◌, of_updates_in}
 use Rattle.office_rows.specs.RowReading.{request_in, reply_in, receipt_in}
-use Rattle.item_lines.specs.Texts.{update_text}
 use Rattle.office_rows.proofs.StoredLaws.{name_stored}
 use Rattle.office_rows.proofs.NameLemmas.{text_one}
-use Rattle.item_lines.proofs.PrintLaws.{update_read}
 use Rattle.office_rows.proofs.ReplyLaws.{reply_read, one_reply}
 use Rattle.office_rows.proofs.RowSteps.{ok_is}
 

@@ -25,8 +25,8 @@ use Rattle.zone_core.specs.declared.update.ItemList.{ItemList}
 use Rattle.zone_core.specs.declared.update.ItemList.TheVariants as lists
 use Rattle.zone_core.specs.declared.update.Place.{Place}
 use Rattle.zone_core.specs.Rcodes.{rcode_text, rcode_of}
-use Rattle.office_core.specs.declared.reply.UpdateReply.{UpdateReply}
-use Rattle.office_core.specs.declared.reply.UpdateReply.TheVariants.{NoError, NotAuth, NotZone, Refused, Failed}
+use Rattle.office_state.specs.declared.reply.UpdateReply.{UpdateReply}
+use Rattle.office_state.specs.declared.reply.UpdateReply.TheVariants.{NoError, NotAuth, NotZone, Refused, Failed}
 use Rattle.office_rows.specs.declared.row_fault.RowFault.{RowFault}
 use Rattle.office_rows.specs.declared.row_fault.RowFault.TheVariants.{BadRow}
 use Rattle.office_rows.specs.ReplyWords.{list_word, place_items, denier_item, reply_items, reply_words, Wording, Current, Former, is_by_default, items_in, words_in, AreWordsOf, IsReply}

@@ -12,8 +12,8 @@ use Rattle.sqlite_trees.proofs.ListLemmas.{IsPermutation-same}
 use Rattle.sqlite_keyed.proofs.ListLemmas.{all_weaker, all_map, ascending-map, ascending_from_map, ascending_weaker, map-map}
 use Rattle.sqlite_trees.specs.Tree.{IsAscending}
 use Rattle.dns_names.proofs.KeyLaws.{octets_exact}
-use Rattle.office_core.specs.States.{State}
-use Rattle.office_core.specs.declared.receipt.Receipt.{Receipt}
+use Rattle.office_state.specs.States.{State}
+use Rattle.office_state.specs.declared.receipt.Receipt.{Receipt}
 use Rattle.office_sql.specs.Rows.{ReceiptRowOf, RowsOf}
 use Rattle.office_rows.specs.ReceiptRows.{IsRowOfReceipt}
 use Rattle.office_rows.specs.declared.row_fault.RowFault.{RowFault}

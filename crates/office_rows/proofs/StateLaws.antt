@@ -16,8 +16,8 @@ use Rattle.dns_names.specs.Spelling.{name_text}
 use Rattle.dns_data.specs.declared.record.Record.{Record}
 use Rattle.zone_core.specs.Zones.{IsZone}
 use Rattle.zone_core.proofs.SetLemmas.{by_cases}
-use Rattle.office_core.specs.declared.receipt.Receipt.{Receipt}
-use Rattle.office_core.specs.States.{Held, State, AreZones, AreReceipts, zone_held}
+use Rattle.office_state.specs.declared.receipt.Receipt.{Receipt}
+use Rattle.office_state.specs.States.{Held, State, AreZones, AreReceipts, zone_held}
 use Rattle.zone_core.specs.Updates.{IsUpdate}
 use Rattle.zone_core.specs.Changes.{ChangeOf, is_empty}
 use Rattle.office_sql.specs.Rows.{ChangeRowOf, RowsOf}

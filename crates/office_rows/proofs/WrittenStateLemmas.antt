@@ -4,8 +4,7 @@ use Rattle.std.specs.List.{AllByRecursion, list_any}
 use Rattle.std.proofs.lemmas.List.Sorted.{IsPermutation-sym, IsPermutation-trans, IsPermutation-append_left, IsPermutation-to_front}
 use Rattle.sqlite_trees.proofs.ListLemmas.{IsPermutation-same, IsPermutation-filter}
 use Rattle.dns_names.specs.Spelling.{name_text}
-use Rattle.office_core.specs.States.{State}
-use Rattle.office_core.specs.Machine.{keep}
+use Rattle.office_state.specs.States.{State, keep}
 use Rattle.office_sql.specs.Rows.{BatchOf, ReceiptRowOf, same_key, without, versions_with}
 use Rattle.office_rows.specs.Contents.{ZoneRows, ReceiptAt, zone_records, zone_changes, row_of_receipt, held_of, zone_among, receipt_among, IsZoneRows, IsReceiptAt}
 use Rattle.office_rows.specs.Batches.{Leads, receipts_batch}

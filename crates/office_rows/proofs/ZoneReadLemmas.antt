@@ -43,7 +43,7 @@ use Rattle.zone_core.proofs.RowLemmas.{get-set_of, each_in, in_has, listing-part
 use Rattle.zone_core.proofs.RebuiltLemmas.{zones_are_rebuilt}
 use Rattle.zone_core.proofs.NeedLemmas.{part_is_zone}
 use Rattle.zone_core.proofs.SetLemmas.{name_self}
-use Rattle.office_core.specs.States.{State, zone_at}
+use Rattle.office_state.specs.States.{State, zone_at}
 use Rattle.office_rows.specs.Contents.{AreOfState}
 use Rattle.office_sql.specs.Rows.{RecordRowOf, RowsOf}
 use Rattle.office_sql.specs.Lookups.{is_below, records_of}

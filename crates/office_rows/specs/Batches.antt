@@ -4,9 +4,8 @@ use Rattle.dns_names.specs.Spelling.{name_text}
 use Rattle.zone_core.specs.Sets.{listing}
 use Rattle.zone_core.specs.Zones.{ZoneOf}
 use Rattle.zone_core.specs.Changes.{ChangeOf, change_between}
-use Rattle.office_core.specs.States.{Held, State}
-use Rattle.office_core.specs.Machine.{hold}
-use Rattle.office_core.specs.Tables.{AdditionOf}
+use Rattle.office_state.specs.States.{Held, State, hold}
+use Rattle.office_state.specs.Tables.{AdditionOf}
 use Rattle.office_sql.specs.Rows.{BatchOf, ReceiptRowOf, RowsOf, written}
 use Rattle.office_sql.specs.Holds.{made_rows}
 use Rattle.office_rows.specs.ChangeRows.{change_rows}

@@ -9,8 +9,8 @@ use Rattle.grant_policy.specs.Identifiers.{IsIdentifier}
 use Rattle.zone_core.specs.Sets.{set_of}
 use Rattle.zone_core.specs.Views.{AreOfZone}
 use Rattle.zone_core.specs.Changes.{ChangeOf}
-use Rattle.office_core.specs.declared.receipt.Receipt.{Receipt}
-use Rattle.office_core.specs.States.{Held, State}
+use Rattle.office_state.specs.declared.receipt.Receipt.{Receipt}
+use Rattle.office_state.specs.States.{Held, State}
 use Rattle.office_sql.specs.Rows.{RecordRowOf, ReceiptRowOf, ChangeRowOf, RowsOf}
 use Rattle.office_sql.specs.Holds.{SameRows}
 use Rattle.office_rows.specs.RecordRows.{record_row}

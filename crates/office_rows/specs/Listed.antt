@@ -6,8 +6,8 @@ use Rattle.std.specs.Cmp.{IsTotalOrder, on_total, then_total}
 use Rattle.std.specs.Cmp.Lexicographic.{slice_cmp, nat_list_cmp_total}
 use Rattle.std.specs.Ordering.{nat_cmp, on, then_cmp}
 use Rattle.dns_names.specs.Order.{canonical_cmp, same_name}
-use Rattle.office_core.specs.declared.receipt.Receipt.{Receipt}
-use Rattle.office_core.specs.States.{Held, State}
+use Rattle.office_state.specs.declared.receipt.Receipt.{Receipt}
+use Rattle.office_state.specs.States.{Held, State}
 use Rattle.office_rows.specs.declared.ordered.KeptReceipt.{KeptReceipt}
 use Rattle.office_rows.specs.Orders.{rises}
 

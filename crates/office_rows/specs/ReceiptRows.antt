@@ -3,9 +3,9 @@ use Rattle.std.specs.Prelude.{◌≡◌, ℕ, List}
 use Rattle.dns_names.specs.Labels.{IsName}
 use Rattle.dns_names.specs.Spelling.{name_text}
 use Rattle.zone_core.specs.Updates.{IsUpdate}
-use Rattle.office_core.specs.declared.receipt.Receipt.{Receipt}
+use Rattle.office_state.specs.declared.receipt.Receipt.{Receipt}
+use Rattle.office_state.specs.Texts.{update_text}
 use Rattle.office_sql.specs.Rows.{ReceiptRowOf}
-use Rattle.item_lines.specs.Texts.{update_text}
 use Rattle.office_rows.specs.ReplyWords.{Wording, Current, words_in, IsReply}
 
 -- the receipt of a caller under an identifier: the request by its item lines, and the reply by its words, in a wording

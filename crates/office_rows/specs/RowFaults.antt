@@ -8,8 +8,8 @@ use Rattle.dns_master.specs.declared.master_fault.MasterFault.{MasterFault}
 use Rattle.dns_master.specs.declared.master_fault.MasterFault.TheVariants as masters
 use Rattle.grant_policy.specs.declared.identifier.IdentifierFault.{IdentifierFault}
 use Rattle.grant_policy.specs.declared.identifier.IdentifierFault.TheVariants as identifiers
-use Rattle.item_lines.specs.declared.items_fault.ItemsFault.{ItemsFault}
-use Rattle.item_lines.specs.declared.items_fault.ItemsFault.TheVariants as items
+use Rattle.office_state.specs.declared.items_fault.ItemsFault.{ItemsFault}
+use Rattle.office_state.specs.declared.items_fault.ItemsFault.TheVariants as items
 use Rattle.zone_core.specs.declared.refusals.ZoneFault.{ZoneFault}
 use Rattle.zone_core.specs.declared.refusals.ZoneFault.TheVariants as zones
 use Rattle.office_rows.specs.declared.row_fault.RowFault.{RowFault}

@@ -27,9 +27,10 @@ use Rattle.zone_core.specs.Updates.{UpdateOf, place_in}
 use Rattle.zone_core.specs.Prerequisites.{failed}
 use Rattle.zone_core.specs.Zones.{ZoneOf, built}
 use Rattle.zone_core.specs.Changes.{ChangeOf}
-use Rattle.office_core.specs.declared.receipt.Receipt.{Receipt}
-use Rattle.office_core.specs.declared.reply.UpdateReply.{UpdateReply}
-use Rattle.office_core.specs.declared.reply.UpdateReply.TheVariants.{NoError, NotAuth, NotZone, Refused, Failed}
+use Rattle.office_state.specs.declared.receipt.Receipt.{Receipt}
+use Rattle.office_state.specs.declared.reply.UpdateReply.{UpdateReply}
+use Rattle.office_state.specs.declared.reply.UpdateReply.TheVariants.{NoError, NotAuth, NotZone, Refused, Failed}
+use Rattle.office_state.specs.Reading.{items_of}
 use Rattle.office_sql.specs.Rows.{RecordRowOf, ReceiptRowOf, ChangeRowOf}
 use Rattle.office_rows.specs.ChangeRows.{changed_order, are_of_one, are_numbered, gathered}
 use Rattle.office_rows.specs.declared.changes.ChangedRecord.{ChangedRecord}
@@ -39,7 +40,6 @@ use Rattle.office_rows.specs.declared.row_fault.RowFault.TheVariants.{BadRow}
 use Rattle.office_rows.specs.declared.side.Side.{Side}
 use Rattle.office_rows.specs.declared.side.Side.TheVariants as sides
 use Rattle.office_rows.specs.RowFaults.{◌>>=◌, of_names, of_datas, of_masters, of_updates_in, of_zones, canonical}
-use Rattle.item_lines.specs.Reading.{items_of}
 use Rattle.office_rows.specs.ReplyWords.{list_word}
 
 -- what is found, or that a row is bad

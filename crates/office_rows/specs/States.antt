@@ -4,7 +4,7 @@ use Rattle.std.specs.List.{list_any}
 use Rattle.dns_names.specs.Keys.{key_of}
 use Rattle.dns_names.specs.Labels.{IsName}
 use Rattle.dns_names.specs.Spelling.{name_text}
-use Rattle.office_core.specs.States.{Held, State, AreZones, AreReceipts}
+use Rattle.office_state.specs.States.{Held, State, AreZones, AreReceipts}
 use Rattle.office_sql.specs.Rows.{RowsOf}
 use Rattle.office_sql.specs.Holds.{SameRows}
 use Rattle.office_sql.specs.Lookups.{records_at, changes_of, IsLast}

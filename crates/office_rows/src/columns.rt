@@ -15,7 +15,7 @@ use dns_data::{Data, Item, Record, RecordType, Ttl, read_data};
 use dns_master::tokens;
 use dns_names::Name;
 use grant_policy::Identifier;
-use item_lines::entry_items;
+use office_state::entry_items;
 use std::alloc::Global;
 use std::str;
 

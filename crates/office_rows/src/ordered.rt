@@ -6,7 +6,7 @@ ghost use Rattle.std.specs.List.Sorted.{IsPermutation, IsSorted};
 ghost use Rattle.dns_names.specs.Labels.{IsName};
 ghost use Rattle.dns_names.specs.Order.{canonical_cmp};
 ghost use Rattle.dns_names.specs.Spelling.{name_text};
-ghost use Rattle.office_core.specs.States.{State};
+ghost use Rattle.office_state.specs.States.{State};
 ghost use Rattle.office_sql.specs.Rows.{RowsOf};
 ghost use Rattle.office_rows.specs.declared.ordered.KeptReceipt.{KeptReceipt as KeptOf};
 ghost use Rattle.office_rows.specs.Contents.{AreOfState};
@@ -23,8 +23,8 @@ use crate::row_fault::RowFault;
 use dns_data::{Record, record_order};
 use dns_names::Name;
 use grant_policy::Identifier;
-use office_core::Receipt;
 use office_sql::{ReceiptRow, RecordRow, ZoneRow};
+use office_state::Receipt;
 use std::alloc::Global;
 use std::cmp::Ordering;
 

@@ -11,7 +11,7 @@ ghost use Rattle.zone_core.specs.Sets.{listing, part, within};
 ghost use Rattle.zone_core.specs.Zones.{ZoneOf, built};
 ghost use Rattle.zone_core.specs.Parts.{part_of as zone_part, at_names};
 ghost use Rattle.zone_core.specs.Changes.{change_in};
-ghost use Rattle.office_core.specs.States.{Held, State, zone_at};
+ghost use Rattle.office_state.specs.States.{Held, State, zone_at};
 ghost use Rattle.office_sql.specs.Rows.{RowsOf};
 ghost use Rattle.office_sql.specs.Lookups.{records_of, receipts_of, changes_of as changes_in, changes_from};
 ghost use Rattle.office_rows.specs.Contents.{AreOfState};
@@ -27,8 +27,8 @@ use crate::records::stored_record;
 use crate::row_fault::RowFault;
 use dns_data::{Record, record_order};
 use dns_names::Name;
-use office_core::Receipt;
 use office_sql::{ChangeRow, ReceiptRow, RecordRow};
+use office_state::Receipt;
 use std::alloc::Global;
 use zone_core::{Change, Zone, ZoneFault};
 

@@ -1,7 +1,7 @@
 //! The rows of `receipts`.
 
 ghost use Rattle.std.specs.Prelude.{◌≡◌, ◌↔◌, List, ℕ, true, Ok, IfOk};
-ghost use Rattle.office_core.specs.declared.receipt.Receipt.{Receipt as ReceiptOf};
+ghost use Rattle.office_state.specs.declared.receipt.Receipt.{Receipt as ReceiptOf};
 ghost use Rattle.office_rows.specs.Contents.{ReceiptAt, receipt_under, row_of_receipt, IsReceiptAt};
 ghost use Rattle.office_rows.specs.ReceiptRows.{receipt_row, IsRowOfReceipt, SameButReply, IsReceipt};
 ghost use Rattle.office_rows.specs.ReplyWords.{reply_words, AreWordsOf};
@@ -12,9 +12,8 @@ use crate::columns::{identifier_in, identifier_text, name_from};
 use crate::replies::{are_words_of, reply_in, reply_words, reveal_reply};
 use crate::row_fault::RowFault;
 use grant_policy::Identifier;
-use item_lines::{items_text, read_items};
-use office_core::{Receipt, UpdateReply};
 use office_sql::ReceiptRow;
+use office_state::{Receipt, UpdateReply, items_text, read_items};
 use std::alloc::{AllocError, Global};
 use zone_core::Update;
 

@@ -4,7 +4,7 @@ ghost use Rattle.std.specs.Prelude.{◌≡◌, ◌↔◌, ◌<◌, ◌^◌, ◌�
 ghost use Rattle.std.specs.Str.Parse.{digits_value};
 ghost use Rattle.dns_data.specs.Items.{item_of, item_text};
 ghost use Rattle.dns_data.specs.Numbers.{is_number};
-ghost use Rattle.office_core.specs.declared.reply.UpdateReply.{UpdateReply as ReplyOf};
+ghost use Rattle.office_state.specs.declared.reply.UpdateReply.{UpdateReply as ReplyOf};
 ghost use Rattle.office_rows.specs.ReplyWords.{list_word, denier_item, reply_words, is_by_default, AreWordsOf, IsReply};
 ghost use Rattle.office_rows.specs.RowFaults.{Reads};
 ghost use Rattle.office_rows.specs.RowReading.{code_named, list_named, number_named, reply_alone, reply_with, reply_at, denier_in, denied_by, reply_of, reply_in};
@@ -13,7 +13,7 @@ use crate::columns::{fields_of, identifier_in, identifier_text};
 use crate::row_fault::RowFault;
 use dns_data::{Item, is_number};
 use grant_policy::Identifier;
-use office_core::UpdateReply;
+use office_state::UpdateReply;
 use std::alloc::{AllocError, Global};
 use zone_core::{Failed, ItemList, Place, PrerequisiteCode, Rcode};
 

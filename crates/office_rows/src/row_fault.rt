@@ -6,7 +6,7 @@ use dns_data::DataFault;
 use dns_master::MasterFault;
 use dns_names::NameFault;
 use grant_policy::IdentifierFault;
-use item_lines::ItemsFault;
+use office_state::ItemsFault;
 use std::alloc::{AllocError, AllocFailed};
 use thiserror::Error;
 

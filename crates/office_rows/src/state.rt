@@ -1,7 +1,7 @@
 //! Whether all rows are a state.
 
 ghost use Rattle.std.specs.Prelude.{◌≡◌, ◌↔◌, [], ◌∷◌, true, IfOk};
-ghost use Rattle.office_core.specs.States.{State};
+ghost use Rattle.office_state.specs.States.{State};
 ghost use Rattle.office_rows.specs.Contents.{AreOfState};
 ghost use Rattle.office_rows.specs.Orders.{rises};
 ghost use Rattle.office_rows.specs.Checks.{AreReceiptRows, AreStateRows, Checks, receipt_key_order};

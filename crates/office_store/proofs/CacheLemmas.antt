@@ -22,9 +22,8 @@ use Rattle.zone_core.specs.Zones.{ZoneOf}
 use Rattle.zone_core.specs.Changes.{ChangeOf, change_in, changed}
 use Rattle.zone_core.specs.Views.{zone_in}
 use Rattle.zone_core.proofs.SetLemmas.{by_cases}
-use Rattle.office_core.specs.States.{Held, State, zone_held, zone_at, subtree_at}
-use Rattle.office_core.specs.Machine.{keep}
-use Rattle.office_core.specs.Tables.{AdditionOf, held_with, with_change_of, committed}
+use Rattle.office_state.specs.States.{Held, State, zone_held, zone_at, subtree_at, keep}
+use Rattle.office_state.specs.Tables.{AdditionOf, held_with, with_change_of, committed}
 use Rattle.office_sql.specs.Rows.{RecordRowOf, RowsOf}
 use Rattle.office_sql.specs.Tables.{stored_record}
 use Rattle.office_sql.specs.Lookups.{records_of, records_at}

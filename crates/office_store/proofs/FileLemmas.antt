@@ -6,7 +6,7 @@ use Rattle.sqlite.specs.Effect.{Database}
 use Rattle.sqlite.specs.Files.{AreFoundIn, HoldsDatabase}
 use Rattle.sqlite.specs.Start.{FindsIn}
 use Rattle.sqlite.specs.State.{State as Shown, IsLive, Opens}
-use Rattle.office_core.specs.States.{State}
+use Rattle.office_state.specs.States.{State}
 use Rattle.office_sql.specs.Holds.{AreRows, Keeps, Leaves}
 use Rattle.office_sql.specs.Stores.{Stores}
 use Rattle.office_sql.specs.Tables.{stored_version}

@@ -6,7 +6,7 @@ use Rattle.sqlite.specs.State.{State as Shown, HasCleanDisk, IsUnchanged}
 use Rattle.dns_names.specs.Keys.{key_of}
 use Rattle.dns_names.specs.Labels.{IsName}
 use Rattle.dns_names.specs.Spelling.{name_text}
-use Rattle.office_core.specs.States.{Held, State}
+use Rattle.office_state.specs.States.{Held, State}
 use Rattle.office_sql.specs.Rows.{RowsOf}
 use Rattle.office_sql.specs.Lookups.{records_at}
 use Rattle.office_rows.specs.Contents.{AreOfState}

@@ -2,7 +2,7 @@
 use Rattle.std.proofs.Common.{inl, inr, Result, Ok, Err, OnOk, OnErr}
 use Rattle.std.specs.Result.{IsErr}
 use Rattle.sqlite.specs.State.{State as Shown, HasCleanDisk}
-use Rattle.office_core.specs.States.{State}
+use Rattle.office_state.specs.States.{State}
 use Rattle.office_sql.specs.Rows.{BatchOf}
 use Rattle.office_rows.specs.Batches.{Leads}
 use Rattle.office_store.specs.Holds.{HoldsState, LeavesStates}

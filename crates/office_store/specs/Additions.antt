@@ -1,7 +1,7 @@
 -- What is written for an addition.
 use Rattle.std.specs.Prelude.{◌≡◌, ℕ, suc, List, length, Option, Some, None}
 use Rattle.zone_core.specs.Changes.{ChangeOf}
-use Rattle.office_core.specs.States.{Held, State}
+use Rattle.office_state.specs.States.{Held, State}
 use Rattle.office_sql.specs.Rows.{ReceiptRowOf, BatchOf}
 use Rattle.office_rows.specs.Batches.{change_batch, receipts_batch}
 

@@ -7,8 +7,8 @@ use Rattle.dns_data.specs.declared.record.Record.{Record}
 use Rattle.zone_core.specs.Sets.{Records, key_of, same_key, listing, cut, part, put, within}
 use Rattle.zone_core.specs.Zones.{ZoneOf}
 use Rattle.zone_core.specs.Changes.{ChangeOf, change_in, changed}
-use Rattle.office_core.specs.States.{State, zone_at}
-use Rattle.office_core.specs.Tables.{AdditionOf}
+use Rattle.office_state.specs.States.{State, zone_at}
+use Rattle.office_state.specs.Tables.{AdditionOf}
 use Rattle.office_store.specs.declared.cache.CachedZone.{CachedZone}
 use Rattle.office_store.specs.Holds.{HoldsState}
 

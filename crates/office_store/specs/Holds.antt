@@ -2,7 +2,7 @@
 use Rattle.std.specs.Prelude.{◌≡◌, ◌⊎◌, ℤ, [], ◌∷◌, pos, map, IsTrue}
 use Rattle.sqlite_trees.specs.Tree.{Trees}
 use Rattle.sqlite.specs.State.{State as Shown}
-use Rattle.office_core.specs.States.{State}
+use Rattle.office_state.specs.States.{State}
 use Rattle.office_sql.specs.Rows.{RowsOf}
 use Rattle.office_sql.specs.Tables.{no_schema, IsOffice, stored_version}
 use Rattle.office_sql.specs.Stores.{Stores}

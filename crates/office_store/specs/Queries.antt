@@ -1,7 +1,7 @@
 -- What is asked of a connection that holds a state.
 use Rattle.std.specs.Prelude.{◌≡◌, ◌≢◌, ℕ, List, [], Option, Some, None, Result, OnOk, pos}
 use Rattle.sqlite.specs.State.{State as Shown, HasCleanDisk}
-use Rattle.office_core.specs.States.{Held, State}
+use Rattle.office_state.specs.States.{Held, State}
 use Rattle.office_sql.specs.Rows.{RecordRowOf, RowsOf}
 use Rattle.office_sql.specs.Holds.{Holds, Leaves}
 use Rattle.office_rows.specs.Contents.{AreOfState}

@@ -4,7 +4,7 @@ use Rattle.dns_data.specs.declared.record.Record.{Record}
 use Rattle.zone_core.specs.Sets.{listing}
 use Rattle.zone_core.specs.Serials.{is_less}
 use Rattle.zone_core.specs.Zones.{ZoneOf, built, serial_of}
-use Rattle.office_core.specs.States.{Held, State, zone_held}
+use Rattle.office_state.specs.States.{Held, State, zone_held}
 use Rattle.office_rows.specs.Batches.{with_zone, with_zone_replaced}
 use Rattle.office_rows.specs.declared.store_fault.StoreFault.{StoreFault}
 use Rattle.office_rows.specs.declared.store_fault.StoreFault.TheVariants.{ZoneExists, NoZone, SerialNotGreater}

@@ -4,8 +4,8 @@ ghost use Rattle.std.specs.Prelude.{◌≡◌, ℕ, pos, suc, false, option_map,
 ghost use Rattle.zone_core.specs.Changes.{change_in};
 ghost use Rattle.sqlite.specs.Held.{state};
 ghost use Rattle.sqlite.specs.State.{HasCleanDisk};
-ghost use Rattle.office_core.specs.States.{State};
-ghost use Rattle.office_core.specs.Tables.{Fits, addition_in, committed};
+ghost use Rattle.office_state.specs.States.{State};
+ghost use Rattle.office_state.specs.Tables.{Fits, addition_in, committed};
 ghost use Rattle.office_rows.specs.States.{last_of};
 ghost use Rattle.office_rows.specs.Batches.{Leads, IsNext, receipt_rows};
 ghost use Rattle.office_store.specs.Additions.{Writes};
@@ -16,9 +16,9 @@ ghost use Rattle.office_store.specs.Turns.{Turns};
 
 use crate::queries::check_alone;
 use dns_names::Name;
-use office_core::Addition;
 use office_rows::{StoreFault, addition_batch, receipt_batch};
 use office_sql::{Batch, last_number, write};
+use office_state::Addition;
 use sqlite::{Alter, Connection, Error as StoreError, ErrorCode};
 use std::alloc::Global;
 

@@ -5,7 +5,7 @@ ghost use Rattle.sqlite_trees.specs.Tree.{Trees};
 ghost use Rattle.sqlite.specs.WalFiles.{image_at};
 ghost use Rattle.sqlite.specs.Files.{file_state, HoldsDatabase};
 ghost use Rattle.sqlite.specs.State.{HasCleanDisk};
-ghost use Rattle.office_core.specs.States.{State};
+ghost use Rattle.office_state.specs.States.{State};
 ghost use Rattle.office_sql.specs.Holds.{Leaves};
 ghost use Rattle.office_rows.specs.declared.store_fault.StoreFault.TheVariants.{BadRow, WrongVersion};
 ghost use Rattle.office_rows.specs.StoreFaults.{IsFailure, IsOfRows};

@@ -5,7 +5,7 @@ ghost use Rattle.zone_core.specs.Sets.{InOrder};
 ghost use Rattle.zone_core.specs.Changes.{change_in};
 ghost use Rattle.sqlite.specs.Held.{state};
 ghost use Rattle.sqlite.specs.State.{HasCleanDisk};
-ghost use Rattle.office_core.specs.States.{State, zone_at, part_at, subtree_at, changes_at};
+ghost use Rattle.office_state.specs.States.{State, zone_at, part_at, subtree_at, changes_at};
 ghost use Rattle.office_rows.specs.Listed.{AreOriginsOf, AreReceiptsOf};
 ghost use Rattle.office_rows.specs.StoreFaults.{IsFailure};
 ghost use Rattle.office_store.specs.Holds.{HoldsState};
@@ -17,12 +17,12 @@ use crate::queries::{
 use dns_data::Record;
 use dns_names::Name;
 use grant_policy::Identifier;
-use office_core::Receipt;
 use office_rows::{
     KeptReceipt, StoreFault, changes_of, identifier_text, kept_receipts, part_of, receipt_of,
     records_within, zone_of,
 };
 use office_sql::receipts_of;
+use office_state::Receipt;
 use sqlite::{Alter, Connection};
 use std::alloc::Global;
 use zone_core::{Change, Zone};

@@ -5,7 +5,7 @@ ghost use Rattle.sqlite.specs.Held.{state};
 ghost use Rattle.sqlite.specs.State.{HasCleanDisk};
 ghost use Rattle.zone_core.specs.Sets.{is_same};
 ghost use Rattle.zone_core.specs.Zones.{IsZone};
-ghost use Rattle.office_core.specs.States.{Held, State};
+ghost use Rattle.office_state.specs.States.{Held, State};
 ghost use Rattle.office_rows.specs.StoreFaults.{Gives};
 ghost use Rattle.office_store.specs.Holds.{HoldsState};
 ghost use Rattle.office_store.specs.Queries.{AsksOnly};

@@ -3,17 +3,17 @@ use Rattle.std.proofs.Common.{◌≡◌, ℕ, Bool, true, false, List, Option, S
 use Rattle.std.specs.Prelude.{option_map}
 use Rattle.httparse.specs.Grammar.{RequestHead}
 use Rattle.grant_policy.specs.declared.rule.Rule.{Rule}
-use Rattle.office_core.specs.declared.table_fault.TableFault.TheVariants as faults
-use Rattle.office_core.specs.declared.table_fault.StepFault.TheVariants.{BeforeCommit}
-use Rattle.office_core.specs.declared.receipt.Receipt.{Receipt}
-use Rattle.office_core.specs.declared.reply.UpdateReply.{UpdateReply}
-use Rattle.office_core.specs.declared.request.Call.{Call}
-use Rattle.office_core.specs.declared.request.Request.{Request}
-use Rattle.office_core.specs.declared.request.Request.TheVariants as requests
-use Rattle.office_core.specs.declared.reply.Reply.{Reply}
-use Rattle.office_core.specs.declared.reply.Reply.TheVariants as replies
-use Rattle.office_core.specs.Replies.{to_update, reply_of}
-use Rattle.office_core.specs.States.{State}
+use Rattle.office_state.specs.declared.table_fault.TableFault.TheVariants as faults
+use Rattle.office_state.specs.declared.table_fault.StepFault.TheVariants.{BeforeCommit}
+use Rattle.office_state.specs.declared.receipt.Receipt.{Receipt}
+use Rattle.office_state.specs.declared.reply.UpdateReply.{UpdateReply}
+use Rattle.office_state.specs.declared.request.Call.{Call}
+use Rattle.office_state.specs.declared.request.Request.{Request}
+use Rattle.office_state.specs.declared.request.Request.TheVariants as requests
+use Rattle.office_state.specs.declared.reply.Reply.{Reply}
+use Rattle.office_state.specs.declared.reply.Reply.TheVariants as replies
+use Rattle.office_state.specs.Replies.{to_update, reply_of}
+use Rattle.office_state.specs.States.{State}
 use Rattle.zone_core.specs.Updates.{UpdateOf}
 use Rattle.office_core.specs.Machine.{Turn, step, updated, answered, refusal}
 use Rattle.office_core.specs.Runs.{HasUpdate, turn}

@@ -10,9 +10,9 @@ use Rattle.dns_data.specs.Types.{type_named}
 use Rattle.grant_policy.specs.declared.action.Action.{Action}
 use Rattle.grant_policy.specs.Words.{action_of}
 use Rattle.grant_policy.specs.Reading.{identifier_of}
-use Rattle.office_core.specs.declared.request.Call.{Call}
-use Rattle.office_core.specs.declared.request.Request.{Request}
-use Rattle.office_core.specs.declared.request.Request.TheVariants as requests
+use Rattle.office_state.specs.declared.request.Call.{Call}
+use Rattle.office_state.specs.declared.request.Request.{Request}
+use Rattle.office_state.specs.declared.request.Request.TheVariants as requests
 use Rattle.office_json.specs.declared.body.UpdateBody.{UpdateBody}
 use Rattle.office_json.specs.declared.body_fault.BodyFault.{BodyFault}
 use Rattle.office_json.specs.declared.body_fault.BodyFault.TheVariants as bodies

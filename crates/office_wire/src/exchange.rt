@@ -2,8 +2,8 @@
 
 ghost use Rattle.std.specs.Prelude.{◌≡◌, ◌+◌, length, IsUtf8, OnOk, OnErr};
 ghost use Rattle.httparse.specs.Grammar.{RequestHead};
+ghost use Rattle.office_state.specs.States.{State};
 ghost use Rattle.office_core.specs.Bookmarks.{AreBookmarks};
-ghost use Rattle.office_core.specs.States.{State};
 ghost use Rattle.office_wire.specs.Exchange.{Answers};
 ghost use Rattle.office_wire.specs.Framing.{IsAsked};
 ghost use Rattle.office_wire.specs.Requests.{call_of};

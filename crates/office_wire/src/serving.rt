@@ -2,8 +2,8 @@
 
 ghost use Rattle.std.specs.Prelude.{◌≡◌, ◌+◌, ℕ, List, [], length, OnOk, OnErr};
 ghost use Rattle.std.specs.List.{list_all};
+ghost use Rattle.office_state.specs.States.{State};
 ghost use Rattle.office_core.specs.Bookmarks.{AreBookmarks};
-ghost use Rattle.office_core.specs.States.{State};
 ghost use Rattle.office_wire.specs.Exchange.{Turn, Run, Waits, is_line_end};
 ghost use Rattle.office_wire.specs.Promises.{ArePromised};
 ghost use Rattle.office_wire.specs.Serving.{standing, mark, Leads, IsDone, CountsServed, Finishes};

@@ -1,10 +1,10 @@
 //! One step of the machine.
 
-ghost use Rattle.office_core.specs.States.{State};
+ghost use Rattle.office_state.specs.States.{State};
 ghost use Rattle.office_core.specs.Steps.{Steps, Leaves, CountsReply};
 
 use grant_policy::{Identifier, Policy};
-use office_core::{Reply, Request, StepFault, TableFault, UpdateReply, ZoneTable};
+use office_state::{Reply, Request, StepFault, TableFault, UpdateReply, ZoneTable};
 use std::alloc::Global;
 use zone_core::Failed;
 

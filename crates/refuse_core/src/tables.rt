@@ -1,12 +1,12 @@
 //! What is asked of a table.
 
 ghost use Rattle.std.specs.Prelude.{◌≡◌, None, IfOk, OnOk};
-ghost use Rattle.office_core.specs.States.{State, zone_at};
-ghost use Rattle.office_core.specs.Tables.{Fits, addition_in, committed};
+ghost use Rattle.office_state.specs.States.{State, zone_at};
+ghost use Rattle.office_state.specs.Tables.{Fits, addition_in, committed};
 
 use dns_names::Name;
 use grant_policy::Identifier;
-use office_core::{Addition, Receipt, TableFault, ZoneTable};
+use office_state::{Addition, Receipt, TableFault, ZoneTable};
 use std::alloc::Global;
 use zone_core::{Change, Zone};
 

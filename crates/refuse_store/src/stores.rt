@@ -3,7 +3,7 @@
 ghost use Rattle.std.specs.Prelude.{◌≡◌, ◌<◌, [], false, None, IfErr, OnErr};
 ghost use Rattle.sqlite.specs.Held.{state};
 ghost use Rattle.sqlite.specs.State.{HasCleanDisk};
-ghost use Rattle.office_core.specs.States.{State};
+ghost use Rattle.office_state.specs.States.{State};
 ghost use Rattle.office_sql.specs.Holds.{Keeps};
 ghost use Rattle.office_rows.specs.StoreFaults.{IsFailure};
 ghost use Rattle.office_rows.specs.declared.store_fault.StoreFault.TheVariants.{WrongVersion};

@@ -13,7 +13,7 @@ ghost use Rattle.store_commands.specs.Program.{JobEnds};
 use command_line::{Job, StoreJob};
 use dns_master::{Sink, Source};
 use grant_policy::Policy;
-use office_core::ZoneTable;
+use office_state::ZoneTable;
 use sqlite::{Alter, Connection};
 use std::alloc::Global;
 use std::process::ExitCode;

@@ -1,8 +1,8 @@
 //! Streams of requests.
 
 ghost use Rattle.std.specs.Prelude.{◌≡◌, ◌<◌, ℕ, List, [], Option, Some};
+ghost use Rattle.office_state.specs.States.{State};
 ghost use Rattle.office_core.specs.Bookmarks.{AreBookmarks};
-ghost use Rattle.office_core.specs.States.{State};
 ghost use Rattle.office_wire.specs.Exchange.{Turn, Run};
 ghost use Rattle.office_wire.specs.Serving.{standing, IsDone, CountsServed};
 ghost use Rattle.office_wire.specs.Order.{IsServedInTurn};

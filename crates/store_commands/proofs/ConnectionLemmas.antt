@@ -4,7 +4,7 @@ use Rattle.std.proofs.KnownBytes.{Appends-nil, Appends-trans}
 use Rattle.std.proofs.Common.{◌≡◌, ◌<◌, ◌≤◌, ◌+◌, inl, inr, ◌∙◌, ℕ, List, [], ◌∷◌, ◌++◌, length, Option, Result, Ok, Err, refl, sym, ap, subst, append-nil, append_assoc, length-append, arith}
 use Rattle.std.proofs.lemmas.Grind.{flat_map-append}
 use Rattle.grant_policy.specs.declared.rule.Rule.{Rule}
-use Rattle.office_core.specs.States.{AreZones, AreReceipts}
+use Rattle.office_state.specs.States.{AreZones, AreReceipts}
 use Rattle.office_wire.specs.Exchange.{Turn, Standing, Run}
 use Rattle.office_wire.proofs.JoinLemmas.{run_join}
 use Rattle.office_wire.proofs.PromiseLemmas.{exchanges_run}

@@ -6,7 +6,7 @@ use Rattle.std.specs.List.{AllByRecursion}
 use Rattle.zone_core.specs.Sets.{listing}
 use Rattle.zone_core.specs.Changes.{ChangeOf}
 use Rattle.zone_core.specs.Zones.{ZoneOf, serial_of}
-use Rattle.office_core.specs.States.{Held, State, zone_held, zone_at, changes_at}
+use Rattle.office_state.specs.States.{Held, State, zone_held, zone_at, changes_at}
 use Rattle.store_commands.specs.declared.zone_list.ZoneSummary.{ZoneSummary}
 use Rattle.office_rows.specs.Listed.{AreOriginsOf}
 use Rattle.office_rows.proofs.ListedLemmas.{origins_are_of_zones}

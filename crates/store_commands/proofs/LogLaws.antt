@@ -11,7 +11,7 @@ use Rattle.dns_names.specs.Order.{same_name}
 use Rattle.dns_names.proofs.NameLemmas.{is_within-Decides, same_name-Decides}
 use Rattle.zone_core.specs.Changes.{ChangeOf}
 use Rattle.zone_core.proofs.MetLemmas.{Among, among_of, of_among, any_is, is_any}
-use Rattle.office_core.specs.Replies.{NumberedOf}
+use Rattle.office_state.specs.Replies.{NumberedOf}
 use Rattle.office_core.specs.Machine.{numbered}
 use Rattle.office_rows.specs.declared.ordered.KeptReceipt.{KeptReceipt}
 use Rattle.store_commands.specs.declared.log_choice.LogAsked.{LogAsked}

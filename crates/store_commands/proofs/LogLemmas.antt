@@ -10,7 +10,7 @@ use Rattle.dns_data.specs.declared.record.Record.{Record}
 use Rattle.zone_core.specs.declared.change.Change.{Change}
 use Rattle.zone_core.specs.Changes.{ChangeOf, change_in}
 use Rattle.zone_core.specs.Updates.{UpdateOf, tested_name, acted_name}
-use Rattle.office_core.specs.Replies.{NumberedOf}
+use Rattle.office_state.specs.Replies.{NumberedOf}
 use Rattle.office_core.specs.Machine.{numbered}
 use Rattle.store_commands.specs.Log.{passes, some_within, numbered_as, update_names, change_text}
 

@@ -8,7 +8,7 @@ use Rattle.zone_core.specs.declared.update.Prerequisite.TheVariants.{NameUsed}
 use Rattle.zone_core.specs.declared.update.Operation.TheVariants.{Add, DeleteName}
 use Rattle.zone_core.specs.declared.update.ItemList.TheVariants.{Operations}
 use Rattle.zone_core.specs.Changes.{ChangeOf}
-use Rattle.office_core.specs.declared.reply.UpdateReply.TheVariants.{NoError, Refused}
+use Rattle.office_state.specs.declared.reply.UpdateReply.TheVariants.{NoError, Refused}
 use Rattle.office_rows.specs.declared.ordered.KeptReceipt.{KeptReceipt}
 use Rattle.store_commands.specs.declared.log_choice.LogAsked.{LogAsked}
 use Rattle.store_commands.specs.declared.zone_list.ZoneSummary.{ZoneSummary}

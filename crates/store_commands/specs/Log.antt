@@ -8,9 +8,9 @@ use Rattle.dns_data.specs.declared.record.Record.{Record}
 use Rattle.dns_data.specs.Text.{record_line}
 use Rattle.zone_core.specs.Changes.{ChangeOf}
 use Rattle.zone_core.specs.Updates.{UpdateOf, tested_name, acted_name}
-use Rattle.office_core.specs.Replies.{NumberedOf}
+use Rattle.office_state.specs.Replies.{NumberedOf}
+use Rattle.office_state.specs.Texts.{update_text}
 use Rattle.office_core.specs.Machine.{numbered}
-use Rattle.item_lines.specs.Texts.{update_text}
 use Rattle.office_rows.specs.declared.ordered.KeptReceipt.{KeptReceipt}
 use Rattle.office_rows.specs.ReplyWords.{reply_words}
 use Rattle.store_commands.specs.declared.log_choice.LogAsked.{LogAsked}

@@ -24,7 +24,7 @@ use Rattle.text_commands.specs.declared.line_fault.JobFault.TheVariants.{Reporte
 use Rattle.text_commands.specs.Device.{AppendsFront}
 use Rattle.text_commands.specs.Replies.{line_of, IsRefusalWritten}
 use Rattle.sqlite.specs.State.{State as Shown, HasCleanDisk}
-use Rattle.office_core.specs.States.{State}
+use Rattle.office_state.specs.States.{State}
 use Rattle.office_store.specs.Holds.{HoldsState}
 use Rattle.office_wire.specs.Serving.{standing}
 use Rattle.store_commands.specs.Around.{Around}

@@ -4,7 +4,7 @@ use Rattle.std.specs.List.{AllByRecursion}
 use Rattle.sqlite.specs.State.{State as Shown, HasCleanDisk}
 use Rattle.zone_core.specs.Sets.{listing}
 use Rattle.zone_core.specs.Zones.{serial_of}
-use Rattle.office_core.specs.States.{Held, State, zone_held}
+use Rattle.office_state.specs.States.{Held, State, zone_held}
 use Rattle.office_rows.specs.declared.ordered.KeptReceipt.{KeptReceipt}
 use Rattle.office_rows.specs.declared.store_fault.StoreFault.{StoreFault}
 use Rattle.office_rows.specs.Listed.{AreOriginsOf, AreReceiptsOf}

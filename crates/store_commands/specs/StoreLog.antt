@@ -3,7 +3,7 @@ use Rattle.std.specs.Prelude.{◌≡◌, ◌⊎◌, ℕ, Bool, List, Option, Som
 use Rattle.sqlite.specs.State.{State as Shown, HasCleanDisk}
 use Rattle.dns_names.specs.Reading.{absolute_name}
 use Rattle.zone_core.specs.Changes.{ChangeOf, change_in}
-use Rattle.office_core.specs.States.{State, changes_at}
+use Rattle.office_state.specs.States.{State, changes_at}
 use Rattle.office_rows.specs.declared.ordered.KeptReceipt.{KeptReceipt}
 use Rattle.office_rows.specs.declared.store_fault.StoreFault.{StoreFault}
 use Rattle.office_rows.specs.declared.store_fault.StoreFault.TheVariants.{NoZone}

@@ -4,7 +4,7 @@ use Rattle.std.specs.Prelude.{◌≡◌, ◌≢◌, ◌⊎◌, ℕ, Bool, false,
 use Rattle.dns_data.specs.declared.record.Record.{Record}
 use Rattle.sqlite.specs.State.{State as Shown, HasCleanDisk}
 use Rattle.zone_core.specs.Zones.{ZoneOf}
-use Rattle.office_core.specs.States.{State}
+use Rattle.office_state.specs.States.{State}
 use Rattle.office_sql.specs.Holds.{Keeps, Leaves}
 use Rattle.office_sql.specs.Tables.{no_schema}
 use Rattle.office_rows.specs.Batches.{nothing_held}

@@ -4,7 +4,7 @@ ghost use Rattle.std.specs.Prelude.{◌≡◌, Option, None};
 ghost use Rattle.office_rows.specs.declared.store_fault.StoreFault.{StoreFault as StoreFaultOf};
 ghost use Rattle.store_commands.specs.Causes.{cause_words, cause_of, of_code, of_store};
 
-use office_core::TableFault;
+use office_state::TableFault;
 use office_store::{SqlTable, StoreFault};
 use sqlite::{Alter, Error, ErrorCode};
 use std::sync::ledger::Ledger;

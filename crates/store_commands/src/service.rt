@@ -17,7 +17,7 @@ use crate::surroundings::Surroundings;
 use command_line::Service;
 use dns_master::Sink;
 use grant_policy::{Policy, read_policy};
-use office_core::ZoneTable;
+use office_state::ZoneTable;
 use office_store::SqlTable;
 use sqlite::{Alter, Connection};
 use std::alloc::{AllocError, Global};

@@ -8,8 +8,8 @@ ghost use Rattle.store_commands.specs.Log.{numbered_as, signed_lines, change_tex
 
 use crate::log_choice::LogAsked;
 use dns_data::Record;
-use item_lines::items_text;
 use office_rows::{KeptReceipt, identifier_text, reply_words};
+use office_state::items_text;
 use std::alloc::{AllocError, Global};
 use std::fmt::Write as _;
 use zone_core::Change;

@@ -8,7 +8,7 @@ use crate::program::Given;
 use anyhow::{Result, bail};
 use dns_master::Counted;
 use grant_policy::Policy;
-use office_core::ZoneTable;
+use office_state::ZoneTable;
 use std::alloc::{AllocError, Global};
 use std::marker::Brand;
 use std::net::{TcpListener, TcpStream};

@@ -7,13 +7,12 @@ use crate::refusal::Refusal;
 use dns_data::Record;
 use dns_names::Name;
 use grant_policy::Identifier;
-use item_lines::{items_text, read_items};
-use office_core::Receipt;
 use office_rows::{
     RowFault, change_rows, read_changes, read_origin, read_receipt, read_record, read_reply,
     receipt_row, record_row, reply_words,
 };
 use office_sql::{ReceiptRow, RecordRow};
+use office_state::{Receipt, items_text, read_items};
 use std::alloc::{AllocError, Global};
 use test_rows::{Row, word};
 use zone_core::{Change, Operation, Update};

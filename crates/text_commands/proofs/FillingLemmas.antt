@@ -1,7 +1,7 @@
 -- How parts are filled.
 use Rattle.std.proofs.Common.{◌≡◌, ◌∙◌, ℕ, zero, suc, ◌+◌, ◌<◌, ◌≤◌, List, [], ◌∷◌, ◌++◌, length, get_or, map, drop, true, false, arith, refl, sym, ap, append_assoc}
 use Rattle.zone_core.specs.Updates.{UpdateOf}
-use Rattle.item_lines.specs.Reading.{behind, no_items}
+use Rattle.office_state.specs.Reading.{behind, no_items}
 use Rattle.text_commands.specs.Octets.{sum_up}
 use Rattle.text_commands.specs.Filling.{PieceOf, filled, takes}
 

@@ -11,7 +11,7 @@ use Rattle.zone_core.specs.declared.update.Prerequisite.{Prerequisite}
 use Rattle.zone_core.specs.declared.update.Operation.{Operation}
 use Rattle.zone_core.specs.Updates.{UpdateOf, acted_name, tested_name}
 use Rattle.zone_core.proofs.SetLemmas.{by_cases, name_self}
-use Rattle.item_lines.specs.Reading.{behind, no_items}
+use Rattle.office_state.specs.Reading.{behind, no_items}
 use Rattle.text_commands.specs.Octets.{bare_length, capped, sum_up}
 use Rattle.text_commands.specs.Slots.{acted_names, acted_place, first_at, in_places, is_place, placed_at, tested_names, tested_place, tests_soa, unplaced}
 use Rattle.text_commands.specs.Filling.{PieceOf, filled, has_room, takes}

@@ -11,8 +11,8 @@ use Rattle.zone_core.specs.Updates.{UpdateOf}
 use Rattle.zone_core.specs.Effects.{zone_after}
 use Rattle.zone_core.specs.Met.{AreMet}
 use Rattle.zone_core.specs.Differences.{operations, target}
-use Rattle.item_lines.specs.Reading.{items_of}
-use Rattle.item_lines.specs.Texts.{update_text}
+use Rattle.office_state.specs.Reading.{items_of}
+use Rattle.office_state.specs.Texts.{update_text}
 use Rattle.command_line.specs.declared.job.DiffForm.{DiffForm}
 use Rattle.command_line.specs.declared.job.DiffForm.TheVariants.{Bare, Guarded}
 use Rattle.text_commands.specs.declared.refusal.Refusal.{Refusal}

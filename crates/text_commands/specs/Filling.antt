@@ -3,7 +3,7 @@ use Rattle.std.specs.Prelude.{ℕ, ◌+◌, List, [], ◌∷◌, map, length, Bo
 use Rattle.std.specs.Borrow.{Bor}
 use Rattle.zone_core.specs.declared.update.Operation.{Operation}
 use Rattle.zone_core.specs.Updates.{UpdateOf}
-use Rattle.item_lines.specs.Reading.{behind, no_items}
+use Rattle.office_state.specs.Reading.{behind, no_items}
 use Rattle.text_commands.specs.declared.filling.Piece.{Piece}
 use Rattle.text_commands.specs.declared.filling.Part.{Part}
 use Rattle.text_commands.specs.Octets.{sum_up}

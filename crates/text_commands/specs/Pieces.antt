@@ -4,7 +4,7 @@ use Rattle.std.specs.List.{flat_map, zip}
 use Rattle.zone_core.specs.declared.update.Prerequisite.{Prerequisite}
 use Rattle.zone_core.specs.declared.update.Operation.{Operation}
 use Rattle.zone_core.specs.Updates.{UpdateOf}
-use Rattle.item_lines.specs.Reading.{no_items}
+use Rattle.office_state.specs.Reading.{no_items}
 use Rattle.text_commands.specs.Octets.{bare_length, capped, one_operation, operation_octets, sum_up, tests_octets}
 use Rattle.text_commands.specs.Slots.{acted_place, in_places, tested_place, unplaced}
 use Rattle.text_commands.specs.Filling.{PieceOf, has_room, parts_of}

@@ -8,9 +8,9 @@ use Rattle.zone_core.specs.declared.update.Operation.TheVariants.{Add}
 use Rattle.zone_core.specs.Serials.{serial_sum}
 use Rattle.zone_core.specs.declared.refusals.UpdateFault.TheVariants.{TwoSoa}
 use Rattle.zone_core.specs.Updates.{UpdateOf, adds_soa, update_of}
-use Rattle.item_lines.specs.Reading.{lists_of}
-use Rattle.item_lines.specs.declared.items_fault.ItemsFault.TheVariants.{Update}
-use Rattle.item_lines.specs.Faults.{of_updates}
+use Rattle.office_state.specs.Reading.{lists_of}
+use Rattle.office_state.specs.declared.items_fault.ItemsFault.TheVariants.{Update}
+use Rattle.office_state.specs.ItemFaults.{of_updates}
 use Rattle.office_json.specs.UpdateTexts.{update_text}
 use Rattle.text_commands.specs.declared.refusal.Refusal.{Refusal}
 use Rattle.text_commands.specs.declared.refusal.Refusal.TheVariants.{Items}

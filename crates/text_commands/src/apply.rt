@@ -16,7 +16,7 @@ use crate::task::Task;
 use dns_data::{Data, Record};
 use dns_master::{Sink, print_records, read_file};
 use dns_names::Name;
-use item_lines::{ItemsFault, read_items};
+use office_state::{ItemsFault, read_items};
 use std::alloc::Global;
 use zone_core::{Outcome, Rcode, Update, Zone, ZoneFault, apply_owned, holds};
 

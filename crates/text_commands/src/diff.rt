@@ -13,7 +13,7 @@ use crate::line_fault::{JobFault, LineFault};
 use crate::task::Task;
 use command_line::DiffForm;
 use dns_master::Sink;
-use item_lines::lists_text;
+use office_state::lists_text;
 use std::alloc::{AllocError, Global};
 use zone_core::{Operation, Prerequisite, Zone, operations_between};
 

@@ -1,7 +1,7 @@
 //! How parts of an update are filled: each as far as its limits go.
 
 ghost use Rattle.std.specs.Prelude.{◌≡◌, ◌++◌, ◌∷◌, List, map, IfOk, OnOk};
-ghost use Rattle.item_lines.specs.Reading.{behind, no_items};
+ghost use Rattle.office_state.specs.Reading.{behind, no_items};
 ghost use Rattle.text_commands.specs.Octets.{sum_up};
 ghost use Rattle.text_commands.specs.Filling.{is_bare, has_room, takes, filled, parts_of, PieceOf, piece_view, part_view};
 

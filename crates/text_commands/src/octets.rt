@@ -1,7 +1,7 @@
 //! How many octets the items of an update add to the body that has them.
 
 ghost use Rattle.std.specs.Prelude.{◌≡◌, IfOk};
-ghost use Rattle.item_lines.specs.Reading.{no_items};
+ghost use Rattle.office_state.specs.Reading.{no_items};
 ghost use Rattle.text_commands.specs.Octets.{bare_length, capped, added, one_test, one_operation, test_octets, operation_octets, tests_octets};
 ghost use Rattle.text_commands.specs.Slots.{lent};
 

@@ -3,7 +3,7 @@
 ghost use Rattle.std.specs.Prelude.{string_bytes};
 ghost use Rattle.text_commands.specs.LineFaults.{Gives, GivesOf, of_items};
 ghost use Rattle.text_commands.specs.Request.{identifier_in, body_line, body_of_items, request_text};
-ghost use Rattle.item_lines.specs.Reading.{items_of};
+ghost use Rattle.office_state.specs.Reading.{items_of};
 
 use crate::device::{write_refusal, write_text};
 use crate::input::{Input, read_input};
@@ -12,8 +12,8 @@ use crate::refusal::Refusal;
 use crate::task::Task;
 use dns_master::Sink;
 use grant_policy::{Identifier, IdentifierFault};
-use item_lines::read_items;
 use office_json::update_text;
+use office_state::read_items;
 use std::alloc::Global;
 use zone_core::Update;
 

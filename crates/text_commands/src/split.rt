@@ -3,7 +3,7 @@
 ghost use Rattle.std.specs.Prelude.{◌≡◌, ◌<◌, ◌^◌, ◌++◌, ℕ, List, [], length, map, IfOk, OnOk, string_bytes};
 ghost use Rattle.std.specs.List.{filter};
 ghost use Rattle.zone_core.specs.Updates.{adds_soa};
-ghost use Rattle.item_lines.specs.Views.{lists_view};
+ghost use Rattle.office_state.specs.Views.{lists_view};
 ghost use Rattle.text_commands.specs.LineFaults.{Gives, GivesOf};
 ghost use Rattle.text_commands.specs.Request.{identifier_in};
 ghost use Rattle.text_commands.specs.Slots.{lent};
@@ -22,8 +22,8 @@ use crate::task::Task;
 use dns_data::{Data, Record, Serial, Soa};
 use dns_master::Sink;
 use grant_policy::Identifier;
-use item_lines::{ItemLists, ItemsFault, read_item_lists};
 use office_json::update_text;
+use office_state::{ItemLists, ItemsFault, read_item_lists};
 use std::alloc::{AllocError, Global};
 use zone_core::{Operation, Prerequisite, Update, UpdateFault, serial_add};
 

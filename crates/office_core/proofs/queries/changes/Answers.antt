@@ -1,8 +1,8 @@
 use Rattle.std.proofs.Common.{◌≡◌, map, drop, option_map, Some, ap, sym, subst, ◌∙◌, arith}
 use Rattle.std.proofs.lemmas.List.{length-map}
 use Rattle.zone_core.specs.Changes.{change_in}
-use Rattle.office_core.specs.Replies.{numbered_of}
-use Rattle.office_core.specs.States.{Held}
+use Rattle.office_state.specs.Replies.{numbered_of}
+use Rattle.office_state.specs.States.{Held}
 use Rattle.office_core.proofs.BookmarkLemmas.{ended_at, followed, found_behind, one_held}
 use Rattle.office_core.proofs.queries.changes.Goals as goal
 

@@ -1,7 +1,7 @@
 use Rattle.std.proofs.Common.{◌+◌, ◌++◌, List, length, map, sym, ap, ◌∙◌, arith}
 use Rattle.zone_core.specs.declared.change.Change.{Change}
 use Rattle.zone_core.specs.Changes.{change_in}
-use Rattle.office_core.specs.Replies.{NumberedOf, numbered_of}
+use Rattle.office_state.specs.Replies.{NumberedOf, numbered_of}
 use Rattle.office_core.specs.Machine.{numbered}
 use Rattle.office_core.proofs.NumberLemmas.{from_on, next_numbered}
 use Rattle.office_core.proofs.queries.numbered_from.Goals as goal

@@ -2,8 +2,8 @@ use Rattle.std.proofs.Common.{◌≡◌, ◌+◌, ◌++◌, map, length, nat_le}
 use Rattle.std.specs.List.{filter}
 use Rattle.std.specs.Vec.Iter.{into_iter_items}
 use Rattle.zone_core.specs.Changes.{change_in}
+use Rattle.office_state.specs.Replies.{NumberedOf, numbered_of}
 use Rattle.office_core.specs.Machine.{numbered}
-use Rattle.office_core.specs.Replies.{NumberedOf, numbered_of}
 use Rattle.office_core.proofs.queries.numbered_from.Given as goal
 
 -- those so far, and then those of the changes that are left

@@ -3,8 +3,8 @@ use Rattle.std.specs.Prelude.{MatchOption}
 use Rattle.std.proofs.lemmas.Int.{to_z-of_z}
 use Rattle.zone_core.specs.Changes.{change_in}
 use Rattle.zone_core.specs.declared.change.Change.{Change}
-use Rattle.office_core.specs.States.{State}
-use Rattle.office_core.specs.Tables.{Fits, addition_in, committed}
+use Rattle.office_state.specs.States.{State}
+use Rattle.office_state.specs.Tables.{Fits, addition_in, committed}
 use Rattle.office_sql.specs.Rows.{BatchOf}
 use Rattle.office_rows.specs.Batches.{Leads, IsNext, change_batch, receipt_rows, receipts_batch}
 use Rattle.office_rows.proofs.BatchLaws.{if_number, change_leads}

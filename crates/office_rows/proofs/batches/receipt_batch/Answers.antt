@@ -1,6 +1,6 @@
 use Rattle.std.proofs.Common.{None, map, option_map, string_bytes, ap}
 use Rattle.zone_core.specs.Changes.{change_in}
-use Rattle.office_core.specs.Tables.{addition_in}
+use Rattle.office_state.specs.Tables.{addition_in}
 use Rattle.office_rows.proofs.BatchLaws.{receipt_leads}
 use Rattle.office_rows.proofs.batches.receipt_batch.Goals as goal
 

@@ -1,7 +1,7 @@
 use Rattle.std.proofs.Common.{◌≡◌, pos, Some, w64, ◌∙◌}
 use Rattle.std.proofs.lemmas.Int.{to_z-of_z}
 use Rattle.zone_core.specs.Changes.{ChangeOf, change_in, change_between}
-use Rattle.office_core.specs.States.{Held, State}
+use Rattle.office_state.specs.States.{Held, State}
 use Rattle.office_sql.specs.Rows.{BatchOf}
 use Rattle.office_rows.specs.Batches.{Leads, IsNext, change_batch, with_zone_replaced}
 use Rattle.office_rows.proofs.batches.replacement_batch.Goals as goal

@@ -1,6 +1,6 @@
 use Rattle.std.proofs.Common.{map, drop, ◌+◌, IsPermutation, sym, ap, subst}
 use Rattle.zone_core.specs.Changes.{change_in}
-use Rattle.office_core.specs.States.{Held}
+use Rattle.office_state.specs.States.{Held}
 use Rattle.office_rows.specs.ChangeRows.{IsChange, changes_rows}
 use Rattle.office_rows.proofs.RowSteps.{done, reads_same}
 use Rattle.office_rows.proofs.ContentLemmas.{held_zone, is_held}

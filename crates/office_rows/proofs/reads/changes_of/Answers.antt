@@ -2,7 +2,7 @@ use Rattle.std.proofs.Common.{map, IsPermutation, sym, ap, subst}
 use Rattle.std.proofs.lemmas.List.Sorted.{IsPermutation-trans}
 use Rattle.dns_names.specs.Spelling.{name_text}
 use Rattle.zone_core.specs.Changes.{change_in}
-use Rattle.office_core.specs.States.{Held}
+use Rattle.office_state.specs.States.{Held}
 use Rattle.office_sql.specs.Lookups.{changes_of}
 use Rattle.office_rows.specs.Contents.{zone_changes}
 use Rattle.office_rows.proofs.RowSteps.{done, reads_same}

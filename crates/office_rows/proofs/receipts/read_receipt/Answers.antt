@@ -1,6 +1,6 @@
 use Rattle.std.proofs.Common.{◌≡◌, true, sym, ap, subst, ◌∙◌}
 use Rattle.std.proofs.lemmas.Result.{err_from_is_err_and}
-use Rattle.office_core.specs.declared.receipt.Receipt.{Receipt}
+use Rattle.office_state.specs.declared.receipt.Receipt.{Receipt}
 use Rattle.office_sql.specs.Rows.{ReceiptRowOf}
 use Rattle.office_rows.specs.ReceiptRows.{receipt_row, IsRowOfReceipt}
 use Rattle.office_rows.specs.ReplyWords.{AreWordsOf}

@@ -1,7 +1,7 @@
 use Rattle.std.proofs.Common.{◌≡◌, pos, Ok, Some, option_map, sym, ap, ◌∙◌, subst, IsPermutation}
 use Rattle.sqlite.specs.Held.{state}
 use Rattle.zone_core.specs.Sets.{listing, part, within}
-use Rattle.office_core.specs.States.{zone_held, zone_at}
+use Rattle.office_state.specs.States.{zone_held, zone_at}
 use Rattle.dns_names.specs.Spelling.{name_text}
 use Rattle.office_rows.specs.PartRows.{rows_within}
 use Rattle.office_store.proofs.MigratedZoneLemmas.{order_from}

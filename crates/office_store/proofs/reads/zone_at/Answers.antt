@@ -1,6 +1,6 @@
 use Rattle.std.proofs.Common.{◌≡◌, pos, Ok, Some, option_map, sym, ap, ◌∙◌, subst, IsPermutation}
 use Rattle.sqlite.specs.Held.{state}
-use Rattle.office_core.specs.States.{zone_held, zone_at}
+use Rattle.office_state.specs.States.{zone_held, zone_at}
 use Rattle.dns_names.specs.Spelling.{name_text}
 use Rattle.office_sql.specs.Lookups.{records_of}
 use Rattle.office_store.proofs.QueryLemmas.{asks_refused}

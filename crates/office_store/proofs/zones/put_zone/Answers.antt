@@ -1,7 +1,7 @@
 use Rattle.std.proofs.Common.{◌≡◌, Err, None, sym, ap, subst}
 use Rattle.std.proofs.lemmas.Result.{err_from_is_err_and}
 use Rattle.sqlite.specs.Held.{state}
-use Rattle.office_core.specs.States.{State}
+use Rattle.office_state.specs.States.{State}
 use Rattle.office_rows.specs.Batches.{Leads}
 use Rattle.office_store.specs.Holds.{HoldsState}
 use Rattle.office_store.specs.Zones.{if_free, with_imported}

@@ -1,8 +1,8 @@
 use Rattle.std.proofs.Common.{◌≡◌, ◌+◌, List, Option, length}
 use Rattle.std.specs.Io.KnownBytes.{Appends}
 use Rattle.office_wire.specs.declared.serve_fault.ServeFault.{ServeFault}
+use Rattle.office_state.specs.States.{State}
 use Rattle.office_core.specs.Bookmarks.{AreBookmarks}
-use Rattle.office_core.specs.States.{State}
 use Rattle.office_wire.specs.Exchange.{Turn, Run}
 use Rattle.office_wire.specs.Serving.{standing}
 use Rattle.store_commands.specs.Serve.{ended_lines, joined, AreTraced}

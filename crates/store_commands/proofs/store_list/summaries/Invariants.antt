@@ -2,7 +2,7 @@ use Rattle.std.proofs.Common.{◌≡◌, map, take}
 use Rattle.std.specs.List.{AllByRecursion}
 use Rattle.sqlite.specs.Held.{state}
 use Rattle.sqlite.specs.State.{HasCleanDisk}
-use Rattle.office_core.specs.States.{State}
+use Rattle.office_state.specs.States.{State}
 use Rattle.office_store.specs.Holds.{HoldsState}
 use Rattle.office_store.specs.Queries.{Asked, Only}
 use Rattle.store_commands.specs.declared.zone_list.ZoneSummary.{ZoneSummary}

@@ -1,5 +1,5 @@
 use Rattle.std.specs.Prelude.{string_bytes}
-use Rattle.item_lines.proofs.TextLemmas.{line_all}
+use Rattle.office_state.proofs.TextLemmas.{line_all}
 use Rattle.text_commands.specs.Plan.{signed_line}
 use Rattle.text_commands.proofs.plan.push_signed.Goals as goal
 

@@ -1,8 +1,8 @@
 use Rattle.std.proofs.Common.{sym, subst}
 use Rattle.std.specs.Prelude.{OnOk, OnErr}
+use Rattle.office_state.specs.States.{State}
+use Rattle.office_state.specs.Tables.{Fits, addition_in, committed}
 use Rattle.office_core.specs.Memory.{HoldsState}
-use Rattle.office_core.specs.States.{State}
-use Rattle.office_core.specs.Tables.{Fits, addition_in, committed}
 use Rattle.office_core.proofs.fail_table.FailTableZoneTable.commit.Goals as goal
 
 pub commit-requires : goal.commit-requires

@@ -1,7 +1,7 @@
 use Rattle.std.proofs.Common.{subst}
 use Rattle.std.specs.Prelude.{OnOk}
+use Rattle.office_state.specs.States.{State}
 use Rattle.office_core.specs.Memory.{HoldsState}
-use Rattle.office_core.specs.States.{State}
 use Rattle.office_core.proofs.fail_table.FailTableZoneTable.part.Goals as goal
 
 pub returns-clause-same : goal.returns-clause-same

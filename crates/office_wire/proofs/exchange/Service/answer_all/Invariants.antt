@@ -1,6 +1,6 @@
 use Rattle.std.proofs.Common.{length, ◌≡◌}
+use Rattle.office_state.specs.States.{State}
 use Rattle.office_core.specs.Bookmarks.{AreBookmarks}
-use Rattle.office_core.specs.States.{State}
 use Rattle.office_wire.specs.Order.{moment}
 use Rattle.office_wire.specs.Serving.{mark, IsCurrent}
 use Rattle.office_wire.proofs.exchange.Service.answer_all.Given as goal

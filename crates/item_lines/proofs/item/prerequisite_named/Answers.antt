@@ -1,5 +1,0 @@
-use Rattle.item_lines.proofs.KindLemmas.{prerequisite_same}
-use Rattle.item_lines.proofs.item.prerequisite_named.Goals as goal
-
-pub returns : goal.returns
-returns c = prerequisite_same c.args.word.now c.read.result c.read.ensures

@@ -1,0 +1,9 @@
+pub mod TableFaults
+pub mod Replies
+pub mod States
+pub mod Tables
+pub mod ItemFaults
+pub mod ItemLines
+pub mod Reading
+pub mod Views
+pub mod Texts

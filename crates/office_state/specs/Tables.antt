@@ -1,0 +1,65 @@
+-- What a table is asked to add, and what it tells of its calls.
+use Rattle.std.specs.Prelude.{◌≡◌, ℕ, ◌+◌, List, [], ◌∷◌, ◌++◌, false, Option, Some, None, option_map, Result, Ok, Err}
+use Rattle.zone_core.specs.Changes.{ChangeOf, FitsIn, change_in, changed, is_empty}
+use Rattle.zone_core.specs.Zones.{IsZone}
+use Rattle.office_state.specs.declared.table_fault.TableFault.{TableFault}
+use Rattle.office_state.specs.declared.table_fault.TableFault.TheVariants.{Store, NoMemory}
+use Rattle.office_state.specs.declared.receipt.Receipt.{Receipt}
+use Rattle.office_state.specs.declared.receipt.Addition.{Addition}
+use Rattle.office_state.specs.States.{Held, State, zone_held, hold, keep}
+
+-- ---- additions
+
+-- a receipt of a caller under an identifier, and the change of its zone, where there is one
+pub record AdditionOf : Type 0 where
+  pub caller : List ℕ
+  pub id : List ℕ
+  pub receipt : Receipt
+  pub change : Option ChangeOf
+
+-- what the program sees of an addition
+abbrev pub addition_in : Addition → AdditionOf
+addition_in a = record { caller = a.caller; id = a.id; receipt = a.receipt; change = option_map change_in a.change }
+
+-- what is held with a change made
+abbrev pub held_with : ChangeOf → Held → Held
+held_with c held = record { records = changed held.records c.removed c.added; changes = held.changes ++ c ∷ [] }
+
+-- the state with a change of a zone made
+abbrev pub with_change_of : State → List (List ℕ) → Option ChangeOf → State
+with_change_of s origin None = s
+with_change_of s origin (Some c) = hold s origin (option_map (held_with c) (s.zones origin))
+
+-- the state with an addition made, all of it
+abbrev pub committed : AdditionOf → State → State
+committed a s = keep (with_change_of s a.receipt.origin a.change) a.caller a.id a.receipt
+
+-- ---- which additions can be made
+
+-- a change fits what is held of an origin: it is one, it fits the records, and with it they are a zone
+pub record FitsHeld (origin : List (List ℕ)) (held : Held) (c : ChangeOf) : Type 0 where
+  pub something : is_empty c ≡ false
+  pub records : FitsIn held.records c.removed c.added
+  pub zone : IsZone (zone_held origin (held_with c held))
+
+-- a change fits a state: its zone is there
+abbrev pub FitsChange : State → List (List ℕ) → Option ChangeOf → Type 0
+FitsChange s origin None = Unit {0}
+FitsChange s origin (Some c) = (held : Held) × (s.zones origin ≡ Some held) × FitsHeld origin held c
+
+-- an addition fits a state: the identifier is new to the caller, and the change fits
+pub record Fits (s : State) (a : AdditionOf) : Type 0 where
+  pub fresh : s.receipts a.caller a.id ≡ None
+  pub change : FitsChange s a.receipt.origin a.change
+
+-- ---- the count of failures
+
+-- a call that answers `Store` raises the count by one
+abbrev pub CountsFault : ℕ → ℕ → TableFault → Type 0
+CountsFault before after Store = after ≡ before + 1
+CountsFault before after NoMemory = after ≡ before
+
+-- and no other call does
+abbrev pub Counts : {X : Type 0} → ℕ → ℕ → Result X TableFault → Type 0
+Counts before after (Ok x) = after ≡ before
+Counts before after (Err fault) = CountsFault before after fault

@@ -1,0 +1,25 @@
+//! What callers ask of the office, what it replies and keeps, and the trait of a table that keeps it; and an update as item lines,
+//! each of which is one prerequisite or one operation (RFC 2136 sections 2.4 and 2.5).
+#![tactic(auto)]
+
+mod item;
+mod item_fault;
+mod items_fault;
+mod laws;
+mod lines;
+mod receipt;
+mod reply;
+mod request;
+mod table;
+mod table_fault;
+mod text;
+
+pub use items_fault::ItemsFault;
+pub use laws::items_are_read;
+pub use lines::{ItemLists, entry_items, read_item_lists, read_items};
+pub use receipt::{Addition, Receipt};
+pub use reply::{NumberedChange, Reply, Right, UpdateReply};
+pub use request::{Call, Request};
+pub use table::ZoneTable;
+pub use table_fault::{StepFault, TableFault};
+pub use text::{items_text, lists_text};
