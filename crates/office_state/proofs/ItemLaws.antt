@@ -11,7 +11,7 @@ use Rattle.dns_data.specs.Items.{ItemText, plain}
 use Rattle.dns_data.specs.Numbers.{duration_of}
 use Rattle.dns_data.specs.Types.{IsCalled, type_named}
 use Rattle.dns_data.specs.Rdata.{type_of}
-use Rattle.dns_data.specs.Grammar.{SpellsName, IsNameItem}
+use Rattle.dns_data.specs.Grammar.{SpellsName, IsNameItem, IsData}
 use Rattle.dns_data.specs.Reading.{data_of}
 use Rattle.dns_data.proofs.FieldLaws.{AreBytes}
 use Rattle.dns_data.proofs.NumberLaws.{duration_found, duration_only}
@@ -30,7 +30,7 @@ use Rattle.zone_core.specs.Kinds.{prerequisite_word, operation_word, prerequisit
 use Rattle.office_state.specs.declared.item.UpdateItem.{UpdateItem}
 use Rattle.office_state.specs.declared.item.UpdateItem.TheVariants as items
 use Rattle.office_state.specs.ItemLines.{IsTypeItem, IsTtlItem, IsSetText, IsDatumText, IsRecordText, TestsText, ChangesText, IsItem}
-use Rattle.office_state.specs.Reading.{◌>>?◌, unquoted, name_at, ttl_at, type_at, name_alone, type_alone, set_at, datum_at, record_at, prerequisite_of, operation_of, prerequisite_named, operation_named, operation_item, kind_item, update_item}
+use Rattle.office_state.specs.Reading.{◌>>?◌, unquoted, name_at, ttl_at, type_at, name_alone, type_alone, set_at, data_at, datum_at, record_at, prerequisite_of, operation_of, prerequisite_named, operation_named, operation_item, kind_item, update_item}
 use Rattle.office_state.proofs.KindLemmas.{prerequisite_is, operation_is, no_prerequisite}
 
 abbrev Labels : Type 0
@@ -109,24 +109,43 @@ set_found (owner ∷ kinds) s bytes e =
     let here : IsSetText n.0 t.0 (owner ∷ kinds) = record { owner = owner ∷ []; kind = kinds; items_are = refl; owner_is = name_found owner n.0 bytes.0 n.1; kind_is = type_alone_found kinds t.0 t.1 } in
     subst (λ (x : Labels × RecordType). IsSetText x.0 x.1 (owner ∷ kinds)) (some_same (n.0, t.0) s t.2) here
 
-datum_found : (texts : List ItemText) (d : Labels × Data) → AreBytes texts → datum_at texts ≡ Some d → IsDatumText d.0 d.1 texts
-datum_found [] d bytes e = absurd cc
-datum_found (owner ∷ []) d bytes e = absurd cc
-datum_found (owner ∷ kind ∷ fields) d bytes e =
-    let n = step_some (name_at owner) (λ name. type_at kind >>? λ t. result_ok (data_of t None fields) >>? λ rdata. Some (name, rdata)) d e in
-    let t = step_some (type_at kind) (λ t. result_ok (data_of t None fields) >>? λ rdata. Some (n.0, rdata)) d n.2 in
-    let r = step_some (result_ok (data_of t.0 None fields)) (λ rdata. Some (n.0, rdata)) d t.2 in
-    let f = data_found t.0 None fields r.0 tt bytes.1.1 (ok_of (data_of t.0 None fields) r.0 r.1) in
-    let here : IsDatumText n.0 r.0 (owner ∷ kind ∷ fields) = record {
-      owner = owner ∷ [];
+-- a type and data of it
+record IsTypedText (rdata : Data) (texts : List ItemText) : Type 0 where
+  kind : List ItemText
+  fields : List ItemText
+  texts_are : texts ≡ kind ++ fields
+  kind_is : IsTypeItem (type_of rdata) kind
+  fields_are : IsData None rdata fields
+
+typed_found : (texts : List ItemText) (rdata : Data) → AreBytes texts → data_at texts ≡ Some rdata → IsTypedText rdata texts
+typed_found [] rdata bytes e = absurd cc
+typed_found (kind ∷ fields) rdata bytes e =
+    let t = step_some (type_at kind) (λ t. result_ok (data_of t None fields)) rdata e in
+    let f = data_found t.0 None fields rdata tt bytes.1 (ok_of (data_of t.0 None fields) rdata t.2) in
+    record {
       kind = kind ∷ [];
       fields = fields;
-      items_are = refl;
-      owner_is = name_found owner n.0 bytes.0 n.1;
+      texts_are = refl;
       kind_is = subst (λ (x : RecordType). IsTypeItem x (kind ∷ [])) (sym f.0) (type_found kind t.0 t.1);
       fields_are = f.1;
+    }
+
+datum_found : (texts : List ItemText) (d : Labels × Data) → AreBytes texts → datum_at texts ≡ Some d → IsDatumText d.0 d.1 texts
+datum_found [] d bytes e = absurd cc
+datum_found (owner ∷ typed) d bytes e =
+    let n = step_some (name_at owner) (λ name. data_at typed >>? λ rdata. Some (name, rdata)) d e in
+    let r = step_some (data_at typed) (λ rdata. Some (n.0, rdata)) d n.2 in
+    let f = typed_found typed r.0 bytes.1 r.1 in
+    let here : IsDatumText n.0 r.0 (owner ∷ typed) = record {
+      owner = owner ∷ [];
+      kind = f.kind;
+      fields = f.fields;
+      items_are = ap (λ (l : List ItemText). owner ∷ l) f.texts_are;
+      owner_is = name_found owner n.0 bytes.0 n.1;
+      kind_is = f.kind_is;
+      fields_are = f.fields_are;
     } in
-    subst (λ (x : Labels × Data). IsDatumText x.0 x.1 (owner ∷ kind ∷ fields)) (some_same (n.0, r.0) d r.2) here
+    subst (λ (x : Labels × Data). IsDatumText x.0 x.1 (owner ∷ typed)) (some_same (n.0, r.0) d r.2) here
 
 abbrev record_with : Labels → ℕ → Data → Record
 record_with owner ttl rdata = record { owner = owner; ttl = ttl; rdata = rdata }
@@ -134,25 +153,23 @@ record_with owner ttl rdata = record { owner = owner; ttl = ttl; rdata = rdata }
 record_found : (texts : List ItemText) (r : Record) → AreBytes texts → record_at texts ≡ Some r → IsRecordText r texts
 record_found [] r bytes e = absurd cc
 record_found (owner ∷ []) r bytes e = absurd cc
-record_found (owner ∷ seconds ∷ []) r bytes e = absurd cc
-record_found (owner ∷ seconds ∷ kind ∷ fields) r bytes e =
-    let n = step_some (name_at owner) (λ name. ttl_at seconds >>? λ ttl. type_at kind >>? λ t. result_ok (data_of t None fields) >>? λ rdata. Some (record_with name ttl rdata)) r e in
-    let l = step_some (ttl_at seconds) (λ ttl. type_at kind >>? λ t. result_ok (data_of t None fields) >>? λ rdata. Some (record_with n.0 ttl rdata)) r n.2 in
-    let t = step_some (type_at kind) (λ t. result_ok (data_of t None fields) >>? λ rdata. Some (record_with n.0 l.0 rdata)) r l.2 in
-    let d = step_some (result_ok (data_of t.0 None fields)) (λ rdata. Some (record_with n.0 l.0 rdata)) r t.2 in
-    let f = data_found t.0 None fields d.0 tt bytes.1.1.1 (ok_of (data_of t.0 None fields) d.0 d.1) in
-    let here : IsRecordText (record_with n.0 l.0 d.0) (owner ∷ seconds ∷ kind ∷ fields) = record {
+record_found (owner ∷ seconds ∷ typed) r bytes e =
+    let n = step_some (name_at owner) (λ name. ttl_at seconds >>? λ ttl. data_at typed >>? λ rdata. Some (record_with name ttl rdata)) r e in
+    let l = step_some (ttl_at seconds) (λ ttl. data_at typed >>? λ rdata. Some (record_with n.0 ttl rdata)) r n.2 in
+    let d = step_some (data_at typed) (λ rdata. Some (record_with n.0 l.0 rdata)) r l.2 in
+    let f = typed_found typed d.0 bytes.1.1 d.1 in
+    let here : IsRecordText (record_with n.0 l.0 d.0) (owner ∷ seconds ∷ typed) = record {
       owner = owner ∷ [];
       ttl = seconds ∷ [];
-      kind = kind ∷ [];
-      fields = fields;
-      items_are = refl;
+      kind = f.kind;
+      fields = f.fields;
+      items_are = ap (λ (l : List ItemText). owner ∷ seconds ∷ l) f.texts_are;
       owner_is = name_found owner n.0 bytes.0 n.1;
       ttl_is = ttl_found seconds l.0 l.1;
-      kind_is = subst (λ (x : RecordType). IsTypeItem x (kind ∷ [])) (sym f.0) (type_found kind t.0 t.1);
-      fields_are = f.1;
+      kind_is = f.kind_is;
+      fields_are = f.fields_are;
     } in
-    subst (λ (x : Record). IsRecordText x (owner ∷ seconds ∷ kind ∷ fields)) (some_same (record_with n.0 l.0 d.0) r d.2) here
+    subst (λ (x : Record). IsRecordText x (owner ∷ seconds ∷ typed)) (some_same (record_with n.0 l.0 d.0) r d.2) here
 
 -- ---- and what is in the grammar is read
 
@@ -168,30 +185,31 @@ set_only texts name t h =
     ∙ ap (λ (x : Option Labels). x >>? λ name. type_at (plain k.0) >>? λ t. Some (name, t)) (name_only o.0 name o.2)
     ∙ ap (λ (x : Option RecordType). x >>? λ t. Some (name, t)) (type_only k.0 t k.2)
 
+typed_only : (kind fields : List ItemText) (rdata : Data) → IsTypeItem (type_of rdata) kind → IsData None rdata fields → data_at (kind ++ fields) ≡ Some rdata
+typed_only kind fields rdata k f =
+    ap (λ (l : List ItemText). data_at (l ++ fields)) k.1
+    ∙ ap (λ (x : Option RecordType). x >>? λ t. result_ok (data_of t None fields)) (type_only k.0 (type_of rdata) k.2)
+    ∙ ap result_ok (data_only (type_of rdata) None fields rdata tt refl f)
+
 datum_only : (texts : List ItemText) (name : Labels) (rdata : Data) → IsDatumText name rdata texts → datum_at texts ≡ Some (name, rdata)
 datum_only texts name rdata h =
     let o = h.owner_is in
-    let k = h.kind_is in
-    let t = type_of rdata in
-    let whole : texts ≡ plain o.0 ∷ plain k.0 ∷ h.fields = h.items_are ∙ ap (λ (l : List ItemText). l ++ (h.kind ++ h.fields)) o.1 ∙ ap (λ (l : List ItemText). plain o.0 ∷ (l ++ h.fields)) k.1 in
+    let typed = h.kind ++ h.fields in
+    let whole : texts ≡ plain o.0 ∷ typed = h.items_are ∙ ap (λ (l : List ItemText). l ++ typed) o.1 in
     ap datum_at whole
-    ∙ ap (λ (x : Option Labels). x >>? λ name. type_at (plain k.0) >>? λ t. result_ok (data_of t None h.fields) >>? λ rdata. Some (name, rdata)) (name_only o.0 name o.2)
-    ∙ ap (λ (x : Option RecordType). x >>? λ t. result_ok (data_of t None h.fields) >>? λ rdata. Some (name, rdata)) (type_only k.0 t k.2)
-    ∙ ap (λ r. result_ok r >>? λ rdata. Some (name, rdata)) (data_only t None h.fields rdata tt refl h.fields_are)
+    ∙ ap (λ (x : Option Labels). x >>? λ name. data_at typed >>? λ rdata. Some (name, rdata)) (name_only o.0 name o.2)
+    ∙ ap (λ (x : Option Data). x >>? λ rdata. Some (name, rdata)) (typed_only h.kind h.fields rdata h.kind_is h.fields_are)
 
 record_only : (texts : List ItemText) (r : Record) → IsRecordText r texts → record_at texts ≡ Some r
 record_only texts r h =
     let o = h.owner_is in
     let l = h.ttl_is in
-    let k = h.kind_is in
-    let t = type_of r.rdata in
-    let whole : texts ≡ plain o.0 ∷ plain l.0 ∷ plain k.0 ∷ h.fields =
-    h.items_are ∙ ap (λ (x : List ItemText). x ++ (h.ttl ++ (h.kind ++ h.fields))) o.1 ∙ ap (λ (x : List ItemText). plain o.0 ∷ (x ++ (h.kind ++ h.fields))) l.1 ∙ ap (λ (x : List ItemText). plain o.0 ∷ plain l.0 ∷ (x ++ h.fields)) k.1 in
+    let typed = h.kind ++ h.fields in
+    let whole : texts ≡ plain o.0 ∷ plain l.0 ∷ typed = h.items_are ∙ ap (λ (x : List ItemText). x ++ (h.ttl ++ typed)) o.1 ∙ ap (λ (x : List ItemText). plain o.0 ∷ (x ++ typed)) l.1 in
     ap record_at whole
-    ∙ ap (λ (x : Option Labels). x >>? λ name. ttl_at (plain l.0) >>? λ ttl. type_at (plain k.0) >>? λ t. result_ok (data_of t None h.fields) >>? λ rdata. Some (record_with name ttl rdata)) (name_only o.0 r.owner o.2)
-    ∙ ap (λ (x : Option ℕ). x >>? λ ttl. type_at (plain k.0) >>? λ t. result_ok (data_of t None h.fields) >>? λ rdata. Some (record_with r.owner ttl rdata)) (ttl_only l.0 r.ttl l.2)
-    ∙ ap (λ (x : Option RecordType). x >>? λ t. result_ok (data_of t None h.fields) >>? λ rdata. Some (record_with r.owner r.ttl rdata)) (type_only k.0 t k.2)
-    ∙ ap (λ d. result_ok d >>? λ rdata. Some (record_with r.owner r.ttl rdata)) (data_only t None h.fields r.rdata tt refl h.fields_are)
+    ∙ ap (λ (x : Option Labels). x >>? λ name. ttl_at (plain l.0) >>? λ ttl. data_at typed >>? λ rdata. Some (record_with name ttl rdata)) (name_only o.0 r.owner o.2)
+    ∙ ap (λ (x : Option ℕ). x >>? λ ttl. data_at typed >>? λ rdata. Some (record_with r.owner ttl rdata)) (ttl_only l.0 r.ttl l.2)
+    ∙ ap (λ (x : Option Data). x >>? λ rdata. Some (record_with r.owner r.ttl rdata)) (typed_only h.kind h.fields r.rdata h.kind_is h.fields_are)
 
 -- ---- prerequisites and operations
 

@@ -71,17 +71,20 @@ abbrev pub set_at : List ItemText → Option (List (List ℕ) × RecordType)
 set_at [] = None
 set_at (owner ∷ kinds) = name_at owner >>? λ name. type_alone kinds >>? λ t. Some (name, t)
 
+-- a type and data of it
+abbrev pub data_at : List ItemText → Option Data
+data_at [] = None
+data_at (kind ∷ fields) = type_at kind >>? λ t. result_ok (data_of t None fields)
+
 -- a name, a type and data of it
 abbrev pub datum_at : List ItemText → Option (List (List ℕ) × Data)
-datum_at (owner ∷ kind ∷ fields) =
-    name_at owner >>? λ name. type_at kind >>? λ t. result_ok (data_of t None fields) >>? λ rdata. Some (name, rdata)
-datum_at items = None
+datum_at [] = None
+datum_at (owner ∷ typed) = name_at owner >>? λ name. data_at typed >>? λ rdata. Some (name, rdata)
 
 -- a name, a TTL, a type and data of it
 abbrev pub record_at : List ItemText → Option Record
-record_at (owner ∷ seconds ∷ kind ∷ fields) =
-    name_at owner >>? λ name. ttl_at seconds >>? λ ttl. type_at kind >>? λ t. result_ok (data_of t None fields) >>? λ rdata.
-    Some (record { owner = name; ttl = ttl; rdata = rdata })
+record_at (owner ∷ seconds ∷ typed) =
+    name_at owner >>? λ name. ttl_at seconds >>? λ ttl. data_at typed >>? λ rdata. Some (record { owner = name; ttl = ttl; rdata = rdata })
 record_at items = None
 
 -- ---- items

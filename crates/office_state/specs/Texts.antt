@@ -57,6 +57,18 @@ operation_items op = plain (operation_word (operation_kind op)) ∷ change_items
 
 -- ---- lines
 
+-- a word and a name, with one space between them, and the line's end
+abbrev pub name_line : List ℕ → List (List ℕ) → List ℕ
+name_line word name = items_text (plain word ∷ plain (name_text name) ∷ []) ++ 10 ∷ []
+
+-- a word, a name and a type
+abbrev pub set_line : List ℕ → List (List ℕ) → RecordType → List ℕ
+set_line word name record_type = items_text (plain word ∷ set_items name record_type) ++ 10 ∷ []
+
+-- a word, a name, a type and data of it
+abbrev pub datum_line : List ℕ → List (List ℕ) → Data → List ℕ
+datum_line word name rdata = items_text (plain word ∷ datum_items name rdata) ++ 10 ∷ []
+
 -- the items of a prerequisite with one space between them, and the line's end
 abbrev pub prerequisite_line : Prerequisite → List ℕ
 prerequisite_line p = items_text (prerequisite_items p) ++ 10 ∷ []

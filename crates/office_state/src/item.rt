@@ -3,7 +3,7 @@
 ghost use Rattle.std.specs.Prelude.{◌≡◌, map};
 ghost use Rattle.dns_data.specs.Items.{item_of};
 ghost use Rattle.office_state.specs.ItemFaults.{Tells};
-ghost use Rattle.office_state.specs.Reading.{unquoted, name_at, ttl_at, type_at, name_alone, type_alone, set_at, datum_at, record_at, prerequisite_of, operation_of, prerequisite_named, operation_named, update_item};
+ghost use Rattle.office_state.specs.Reading.{unquoted, name_at, ttl_at, type_at, name_alone, type_alone, set_at, data_at, datum_at, record_at, prerequisite_of, operation_of, prerequisite_named, operation_named, update_item};
 
 use crate::item_fault::ItemFault;
 use dns_data::{Data, Item, Record, RecordType, Ttl, read_data};
@@ -81,30 +81,38 @@ fn read_set(alloc: Global, items: &[Item]) -> Result<(Name, RecordType), ItemFau
     Ok((read_name(alloc, *owner)?, read_type_alone(kinds)?))
 }
 
+/// A type and data of it.
+fn read_typed(alloc: Global, items: &[Item]) -> Result<Data, ItemFault>
+    ensures { Tells (λ rdata. rdata) result (data_at (map item_of items.now)) }
+{
+    let [kind, fields @ ..] = items else {
+        return Err(ItemFault::NoItem);
+    };
+    Ok(read_data(alloc, read_type(*kind)?, fields, None)?)
+}
+
 /// A name, a type and data of it.
 fn read_datum(alloc: Global, items: &[Item]) -> Result<(Name, Data), ItemFault>
     ensures { Tells (λ x. (x.0, x.1)) result (datum_at (map item_of items.now)) }
 {
-    let [owner, kind, fields @ ..] = items else {
+    let [owner, typed @ ..] = items else {
         return Err(ItemFault::NoItem);
     };
-    let owner = read_name(alloc, *owner)?;
-    let record_type = read_type(*kind)?;
-    Ok((owner, read_data(alloc, record_type, fields, None)?))
+    Ok((read_name(alloc, *owner)?, read_typed(alloc, typed)?))
 }
 
 /// A name, a TTL, a type and data of it.
 fn read_record(alloc: Global, items: &[Item]) -> Result<Record, ItemFault>
     ensures { Tells (λ r. r) result (record_at (map item_of items.now)) }
 {
-    let [owner, ttl, kind, fields @ ..] = items else {
+    let [owner, ttl, typed @ ..] = items else {
         return Err(ItemFault::NoItem);
     };
-    let owner = read_name(alloc, *owner)?;
-    let ttl = read_ttl(*ttl)?;
-    let record_type = read_type(*kind)?;
-    let rdata = read_data(alloc, record_type, fields, None)?;
-    Ok(Record { owner, ttl, rdata })
+    Ok(Record {
+        owner: read_name(alloc, *owner)?,
+        ttl: read_ttl(*ttl)?,
+        rdata: read_typed(alloc, typed)?,
+    })
 }
 
 /// A prerequisite of a kind, from the items behind its word.

@@ -2,11 +2,41 @@
 
 ghost use Rattle.std.specs.Prelude.{◌≡◌, ◌++◌, IfOk, OnOk, string_bytes};
 ghost use Rattle.std.specs.List.{flat_map};
-ghost use Rattle.office_state.specs.Texts.{prerequisite_line, operation_line, update_text};
+ghost use Rattle.office_state.specs.Texts.{name_line, set_line, datum_line, prerequisite_line, operation_line, update_text};
 
+use dns_data::{Data, RecordType};
+use dns_names::Name;
 use std::alloc::{AllocError, Global};
 use std::fmt::Write;
 use zone_core::{Operation, Prerequisite, Update};
+
+/// Appends the line of a word and a name. The only error is out of memory.
+fn push_name(text: &mut String, word: &str, name: &Name) -> Result<(), AllocError>
+    ensures { OnOk result (string_bytes text.new ≡ string_bytes text.old ++ name_line word.now name.now) }
+{
+    writeln!(text, "{word} {name}")
+}
+
+/// Appends the line of a word, a name and a type. The only error is out of memory.
+fn push_set(
+    text: &mut String,
+    word: &str,
+    name: &Name,
+    record_type: RecordType,
+) -> Result<(), AllocError>
+    ensures { OnOk result (string_bytes text.new ≡ string_bytes text.old ++ set_line word.now name.now record_type) }
+{
+    let record_type = record_type.text();
+    writeln!(text, "{word} {name} {record_type}")
+}
+
+/// Appends the line of a word, a name, a type and data of it. The only error is out of memory.
+fn push_datum(text: &mut String, word: &str, name: &Name, rdata: &Data) -> Result<(), AllocError>
+    ensures { OnOk result (string_bytes text.new ≡ string_bytes text.old ++ datum_line word.now name.now rdata.now) }
+{
+    let record_type = rdata.record_type().text();
+    writeln!(text, "{word} {name} {record_type} {rdata}")
+}
 
 /// Appends the line of a prerequisite. The only error is out of memory.
 fn push_prerequisite(text: &mut String, prerequisite: &Prerequisite) -> Result<(), AllocError>
@@ -16,15 +46,11 @@ fn push_prerequisite(text: &mut String, prerequisite: &Prerequisite) -> Result<(
     match prerequisite {
         Prerequisite::RrsetExists { name, record_type }
         | Prerequisite::RrsetAbsent { name, record_type } => {
-            let record_type = record_type.text();
-            writeln!(text, "{word} {name} {record_type}")
+            push_set(text, word, name, *record_type)
         }
-        Prerequisite::RrsetEquals { name, rdata } => {
-            let record_type = rdata.record_type().text();
-            writeln!(text, "{word} {name} {record_type} {rdata}")
-        }
+        Prerequisite::RrsetEquals { name, rdata } => push_datum(text, word, name, rdata),
         Prerequisite::NameUsed(name) | Prerequisite::NameUnused(name) => {
-            writeln!(text, "{word} {name}")
+            push_name(text, word, name)
         }
     }
 }
@@ -42,15 +68,9 @@ fn push_operation(text: &mut String, operation: &Operation) -> Result<(), AllocE
             let rdata = &rr.rdata;
             writeln!(text, "{word} {name} {ttl} {record_type} {rdata}")
         }
-        Operation::DeleteRrset { name, record_type } => {
-            let record_type = record_type.text();
-            writeln!(text, "{word} {name} {record_type}")
-        }
-        Operation::DeleteName(name) => writeln!(text, "{word} {name}"),
-        Operation::DeleteRecord { name, rdata } => {
-            let record_type = rdata.record_type().text();
-            writeln!(text, "{word} {name} {record_type} {rdata}")
-        }
+        Operation::DeleteRrset { name, record_type } => push_set(text, word, name, *record_type),
+        Operation::DeleteName(name) => push_name(text, word, name),
+        Operation::DeleteRecord { name, rdata } => push_datum(text, word, name, rdata),
     }
 }
 
