@@ -4,8 +4,6 @@ use Rattle.std.specs.Prelude.{◌≡◌, ◌↔◌, ◌⊎◌, ℕ, ◌+◌, ◌
 use Rattle.std.specs.List.{Contains, filter, flat_map, list_any}
 use Rattle.dns_names.specs.Labels.{IsWithin, is_within}
 use Rattle.dns_names.specs.Order.{same_name}
-use Rattle.dns_data.specs.declared.record.Record.{Record}
-use Rattle.dns_data.specs.Text.{record_line}
 use Rattle.zone_core.specs.Changes.{ChangeOf}
 use Rattle.zone_core.specs.Updates.{UpdateOf, tested_name, acted_name}
 use Rattle.office_state.specs.Replies.{NumberedOf}
@@ -13,6 +11,7 @@ use Rattle.office_state.specs.Texts.{update_text}
 use Rattle.office_core.specs.Machine.{numbered}
 use Rattle.office_rows.specs.declared.ordered.KeptReceipt.{KeptReceipt}
 use Rattle.office_rows.specs.ReplyWords.{reply_words}
+use Rattle.text_commands.specs.Plan.{signed_lines}
 use Rattle.store_commands.specs.declared.log_choice.LogAsked.{LogAsked}
 
 -- ---- what is asked for
@@ -64,13 +63,6 @@ abbrev pub receipts_asked : LogAsked → List KeptReceipt → List KeptReceipt
 receipts_asked asked kept = if asks_receipts asked then filter (asks_receipt asked) kept else []
 
 -- ---- its text
-
--- a record behind a sign
-abbrev pub signed_line : List ℕ → Record → List ℕ
-signed_line sign r = sign ++ 32 ∷ (record_line r ++ 10 ∷ [])
-
-abbrev pub signed_lines : List ℕ → List Record → List ℕ
-signed_lines sign records = flat_map (signed_line sign) records
 
 -- the number of a change, the records that went, and those that came
 abbrev pub change_text : NumberedOf → List ℕ

@@ -4,25 +4,15 @@ ghost use Rattle.std.specs.Prelude.{◌≡◌, ◌++◌, [], ◌∷◌, map, IfO
 ghost use Rattle.std.specs.List.{filter, flat_map};
 ghost use Rattle.zone_core.specs.Changes.{change_in};
 ghost use Rattle.office_core.specs.Machine.{numbered};
-ghost use Rattle.store_commands.specs.Log.{numbered_as, signed_lines, change_text, receipt_line, receipt_text, asks_change, asks_receipt, changes_asked, receipts_asked, log_text};
+ghost use Rattle.store_commands.specs.Log.{numbered_as, change_text, receipt_line, receipt_text, asks_change, asks_receipt, changes_asked, receipts_asked, log_text};
 
 use crate::log_choice::LogAsked;
-use dns_data::Record;
 use office_rows::{KeptReceipt, identifier_text, reply_words};
 use office_state::items_text;
 use std::alloc::{AllocError, Global};
 use std::fmt::Write as _;
+use text_commands::push_signed;
 use zone_core::Change;
-
-/// Appends the lines of records, each behind a sign. The only error is out of memory.
-fn push_signed(text: &mut String, sign: &str, records: &[Record]) -> Result<(), AllocError>
-    ensures { OnOk result (string_bytes text.new ≡ string_bytes text.old ++ signed_lines sign.now records.now) }
-{
-    for record in records {
-        writeln!(text, "{sign} {record}")?;
-    }
-    Ok(())
-}
 
 /// Appends a change with its number: the records that went, and those that came. The only error is out of memory.
 fn push_change(text: &mut String, number: u64, change: &Change) -> Result<(), AllocError>

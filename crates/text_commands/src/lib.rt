@@ -48,7 +48,7 @@ pub use laws::{
     text_is_divided, texts_are_plain, zones_are_read_again,
 };
 pub use line_fault::{JobFault, LineFault, NO_MEMORY_LINE};
-pub use plan::do_plan;
+pub use plan::{do_plan, push_signed};
 pub use plan_fault::PlanFault;
 pub use refusal::{Refusal, RefusalLine};
 pub use refusal_number::{all_rows, explained};

@@ -57,7 +57,7 @@ fn reply_line(alloc: Global, reply: &UpdateReply) -> Result<String, AllocError>
 }
 
 /// Appends the lines of records, each behind a sign. The only error is out of memory.
-fn push_signed(text: &mut String, sign: &str, records: &[Record]) -> Result<(), AllocError>
+pub fn push_signed(text: &mut String, sign: &str, records: &[Record]) -> Result<(), AllocError>
     ensures { OnOk result (string_bytes text.new ≡ string_bytes text.old ++ signed_lines sign.now records.now) }
 {
     for record in records {
