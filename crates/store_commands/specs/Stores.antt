@@ -123,7 +123,7 @@ IsUnfound finds refuses fault = (finds false × (fault ≡ NoZone)) ⊎ refuses 
 abbrev pub IsOpened : {C : Type 0} → (C → Shown) → (C → Type 0) → C → Type 0
 IsOpened {C} shows connects now = (found : C) × connects found × IsAdopted (shows found) (shows now)
 
--- there is none, so that nothing was connected, or what was connected is no store
+-- nothing was connected, or what was connected is not a store
 abbrev pub IsUnopened : {C : Type 0} → (C → Shown) → (Bool → Type 0) → (StoreFault → Type 0) → (C → Type 0) → Option C → StoreFault → Type 0
 IsUnopened {C} shows finds refuses connects left fault =
     (IsUnfound finds refuses fault × (left ≡ None))

@@ -51,7 +51,7 @@ fn summed(origin: Name, zone: &Zone, changes: &[Change]) -> ZoneSummary
     }
 }
 
-/// What a table has of the zone of an origin. `NoZone` comes where there is none.
+/// What a table has of the zone of an origin. `NoZone` comes if the zone is missing.
 fn summary<S: Alter + Drop, L: Ledger>(
     alloc: Global,
     table: &mut SqlTable<S, L>,

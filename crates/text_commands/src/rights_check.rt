@@ -100,7 +100,7 @@ fn caller_lines(alloc: Global, head: &[u8], rights: &Rights) -> Result<Vec<u8>, 
     lines_of(alloc, head, rights, &Action::ALL)
 }
 
-/// Appends lines, or one that says that there are none.
+/// Appends lines, or the one that says that nothing is granted.
 fn push_or_nothing(head: &[u8], lines: &[u8], text: &mut Vec<u8>) -> Result<(), AllocError>
     ensures { OnOk result (text.new.items ≡ text.old.items ++ or_nothing head.now lines.now) }
 {
