@@ -1,5 +1,6 @@
 use Rattle.std.proofs.Common.{◌∙◌, sym}
 use Rattle.std.proofs.lemmas.List.{length-map}
+use Rattle.zone_core.specs.Changes.{change_in}
 use Rattle.std.proofs.lemmas.Result.{err_from_is_err_and}
 use Rattle.office_store.proofs.QueryLemmas.{asked_then, only_then}
 use Rattle.store_commands.proofs.ListLemmas.{summary_of}
@@ -32,4 +33,4 @@ returns-clause-summary g c = λ clean s held.
     let listed = (rw c.in-Some.is at (e.answer (f.asks.0.honest clean))) s held in
     let e = c.summed.ensures in
     let count = rw c.deref.ensures.value at e.changes in
-    summary_of s c.args.origin.now _ _ c.summed.result (e.origin ∙ c.in_ok-try_copy.ensures) there listed e.serial e.records (count ∙ sym (length-map c.in-Some.changes.items))
+    summary_of s c.args.origin.now _ _ c.summed.result (e.origin ∙ c.in_ok-try_copy.ensures) there listed e.serial e.records (count ∙ sym (length-map c.in-Some.changes.items change_in))
