@@ -1,7 +1,7 @@
 //! Zones and updates.
 
 ghost use Rattle.std.specs.Prelude.{◌≡◌, IfOk};
-ghost use Rattle.zone_checks.specs.ZoneFindings.{AreFindings};
+ghost use Rattle.zone_core.specs.ZoneFindings.{AreFindings};
 ghost use Rattle.zone_core.specs.Effects.{zone_after};
 ghost use Rattle.zone_core.specs.Sets.{listing};
 ghost use Rattle.zone_core.specs.Updates.{ActsWithin};
@@ -9,8 +9,7 @@ ghost use Rattle.zone_core.specs.Zones.{serial_of};
 
 use dns_data::same_record;
 use std::alloc::{AllocError, Global};
-use zone_checks::Finding;
-use zone_core::{Outcome, Update, Zone};
+use zone_core::{Finding, Outcome, Update, Zone};
 
 /// `apply`, and the serial of the zone after it.
 pub fn serial_after(
@@ -29,5 +28,5 @@ pub fn serial_after(
 pub fn findings(alloc: Global, zone: &Zone) -> Result<Vec<Finding>, AllocError>
     ensures { IfOk result (λ found. AreFindings zone.now.origin (listing zone.now.records) found.items) }
 {
-    zone_checks::findings(alloc, zone)
+    zone_core::findings(alloc, zone)
 }

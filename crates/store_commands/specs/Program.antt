@@ -104,11 +104,11 @@ EndsCheck subject left fine failed o status = (outcome : Result Findings JobFaul
     × Checked subject left o.old o.new outcome fine failed o.before o.after × (status ≡ check_status_of outcome)
 
 -- The items between the zones of two files: a path that is `-` is standard input, of which nothing is left for the second file where the
--- first is it too.
+-- first is it too. Where neither is, standard input is not read.
 abbrev pub DiffersBy : Around → Reading → DiffForm → List ℕ → ZoneFiles → Writing → Result (Unit {0}) DiffFault → Type 0
 DiffersBy a i form word files o outcome =
     let differs = λ (old new : InputOf). Differs form word old new o.old o.new outcome o.before o.after in
-    ((files.old.now ≢ codes "-") × (files.new.now ≢ codes "-") × differs (named a files.old.now) (named a files.new.now))
+    ((files.old.now ≢ codes "-") × (files.new.now ≢ codes "-") × IsUnread i × differs (named a files.old.now) (named a files.new.now))
     ⊎ (((files.old.now ≢ codes "-") × (files.new.now ≡ codes "-") × differs (named a files.old.now) (standard i))
     ⊎ (((files.old.now ≡ codes "-") × (files.new.now ≢ codes "-") × differs (standard i) (named a files.new.now))
     ⊎ ((files.old.now ≡ codes "-") × (files.new.now ≡ codes "-") × differs (standard i) ended)))
@@ -123,7 +123,8 @@ requested Whole word = request_text word
 requested Split word = split_text word
 
 -- A job that needs no store reads its own input and answers to its own words, and the status is 0 exactly where it went through, and a check
--- found nothing. What is around, standard input, standard output, the job, and the status. A job whose input is a file reads nothing else.
+-- found nothing. What is around, standard input, standard output, the job, and the status. A job whose inputs are files, or that has none, does
+-- not read standard input.
 abbrev pub TextJobEnds : Around → Reading → Writing → TextJob → ℕ → Type 0
 TextJobEnds a i o text_job.Apply status = EndsTask i.left (i.after ≡ i.before) (i.before < i.after) apply_text o status
 TextJobEnds a i o (text_job.Canon origin form) status = EndsTask i.left (i.after ≡ i.before) (i.before < i.after) (canon_text form origin.now) o status
@@ -138,7 +139,7 @@ TextJobEnds a i o (text_job.CheckIsolation policy caller) status =
 TextJobEnds a i o (text_job.CheckRights policy name) status = IsUnread i × EndsCheck (Rights name) (a.file policy.now) ⊤ (a.unreadable policy.now) o status
 TextJobEnds a i o (text_job.CheckZone origin rules) status = EndsCheck (Zone origin rules) i.left (i.after ≡ i.before) (i.before < i.after) o status
 TextJobEnds a i o (text_job.Explain number form) status =
-    EndsTask i.left (i.after ≡ i.before) (i.before < i.after) (explain_text (option_map (λ n. n.now) number) form) o status
+    IsUnread i × EndsTask ended.left ended.fine ended.failed (explain_text (option_map (λ n. n.now) number) form) o status
 
 -- A job with a store answers to its own words, and the status is 0 exactly where it went through. What is around, the stores of paths, standard
 -- input, standard output, the trace, the job, the connection that is handed back (which shows what is left of the store that the job reached),

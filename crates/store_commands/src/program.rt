@@ -191,7 +191,9 @@ pub fn do_text_job<M: Surroundings, R: Source, W: Sink>(
         TextJob::CheckZone { origin, rules } => {
             check(rt, Subject::Zone(origin, rules), input, output)
         }
-        TextJob::Explain { number, form } => do_task(rt, Explain { number, form }, input, output),
+        TextJob::Explain { number, form } => {
+            do_task(rt, Explain { number, form }, &mut Ended, output)
+        }
     }
 }
 

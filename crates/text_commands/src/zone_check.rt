@@ -12,8 +12,7 @@ use crate::refusal::Refusal;
 use command_line::RuleChoice;
 use dns_data::Record;
 use std::alloc::{AllocError, Global};
-use zone_checks::{Finding, ZoneRule, findings};
-use zone_core::Zone;
+use zone_core::{Finding, Zone, ZoneRule, findings};
 
 /// By which rules a zone is checked.
 #[derive(Clone, Copy)]

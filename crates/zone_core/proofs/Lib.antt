@@ -51,3 +51,9 @@ pub mod DiffAddLemmas
 pub mod DiffLeadLemmas
 pub mod DiffSoaLemmas
 pub mod DiffPromiseLemmas
+pub mod BelowLemmas
+pub mod CoverLemmas
+pub mod SurveyLemmas
+pub mod AnswerLemmas
+pub mod AtFaultLemmas
+pub mod FindingLemmas

@@ -1,4 +1,0 @@
-pub mod HostNames
-pub mod ZoneRules
-pub mod ZoneTests
-pub mod ZoneFindings
