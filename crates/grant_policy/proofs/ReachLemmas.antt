@@ -1,6 +1,8 @@
 -- Grants are where the reaches of the granting rules are.
-use Rattle.std.proofs.Common.{◌≡◌, ◌⊎◌, ℕ, suc, ◌+◌, ◌<◌, ◌≤◌, List, [], ◌∷◌, length, drop, get_or, Bool, true, false, cond, ◌&&◌, Option, Some, None, IfSome, inl, inr, ⊎_elim, refl, sym, ap, subst, ◌∙◌, arith, append-nil, length-append}
-use Rattle.std.specs.List.{All}
+use Rattle.std.proofs.Common.{◌≡◌, ◌⊎◌, ℕ, suc, ◌+◌, ◌<◌, ◌≤◌, List, [], ◌∷◌, length, drop, get_or, Bool, true, false, cond, ◌&&◌, ◌||◌, Option, Some, None, IfSome, inl, inr, ⊎_elim, refl, sym, ap, subst, ◌∙◌, arith, append-nil, length-append}
+use Rattle.std.specs.List.{All, list_any}
+use Rattle.std.specs.Option.{option_to_list}
+use Rattle.std.proofs.lemmas.List.Folds.{list_any-append}
 use Rattle.std.proofs.lemmas.List.Elements.{All-nil, All-cons, All-head, All-tail, All-drop}
 use Rattle.std.proofs.Math.Seq.{drop-cons}
 use Rattle.std.proofs.lemmas.List.{drop_all}
@@ -16,7 +18,7 @@ use Rattle.grant_policy.specs.declared.scope.Scope.TheVariants.{Name, Subtree, B
 use Rattle.grant_policy.specs.Scopes.{Covers, covers}
 use Rattle.grant_policy.specs.Rules.{Question, matches, is_of, has, same_type, same_action}
 use Rattle.grant_policy.specs.Decisions.{decided, decision, effect_by, is_granted}
-use Rattle.grant_policy.specs.Reach.{AreWithin, IsReach, IsWidened, is_grant, grants_to, reach_at, reach_of}
+use Rattle.grant_policy.specs.Reach.{AreWithin, IsReach, IsWidened, is_grant, grants_to, reach_at, reach_of, reaches}
 use Rattle.grant_policy.proofs.ScopeLemmas.{is_within-Decides, covers-Decides}
 use Rattle.grant_policy.proofs.RepresentativeLemmas.{within_self, within_trans, within_cons}
 
@@ -300,3 +302,35 @@ module _ (rules : List Rule) (caller : List ℕ) (action : Action) (origin : Lab
         each = all.both top (past_all n top past) (within_self top);
         last = all.last;
       }
+
+-- ---- the reaches of all rules
+
+either : (a b : Bool) → (a ≡ true) ⊎ (b ≡ true) → (a || b) ≡ true
+either true b e = refl
+either false b (inl e) = absurd cc
+either false b (inr e) = e
+
+module _ (asked : Question) (origin : Labels) (inside : IsWithin asked.name origin) where
+  -- whether the name is within one of some names
+  abbrev covered : List Labels → Bool
+  covered tops = list_any (λ top. is_within asked.name top) tops
+
+  covers_own : (reach : Option Labels) → IsIn reach asked.name → covered (option_to_list reach) ≡ true
+  covers_own None w = absurd w
+  covers_own (Some top) w = either (is_within asked.name top) false (inl ((is_within-Decides asked.name top).1 w))
+
+  -- what some rule grants is within a name to which one reaches
+  in_some : (rules : List Rule) → SomeGrants asked rules → covered (reaches asked.caller asked.action origin rules) ≡ true
+  in_some [] some = absurd some
+  in_some (rule ∷ rules) some =
+      let own = option_to_list (reach_of asked.caller asked.action origin rule) in
+      let others = reaches asked.caller asked.action origin rules in
+      list_any-append (λ top. is_within asked.name top) own others
+      ∙ either (covered own) (covered others)
+      (⊎_elim
+      (λ (by : Grants asked rule). inl (covers_own (reach_of asked.caller asked.action origin rule) (in_reach_of asked origin rule by inside)))
+      (λ (later : SomeGrants asked rules). inr (in_some rules later))
+      some)
+
+  pub granted_in_some : (rules : List Rule) → is_granted (decision asked rules) ≡ true → covered (reaches asked.caller asked.action origin rules) ≡ true
+  granted_in_some rules granted = in_some rules (some_grants asked rules granted)

@@ -1,6 +1,7 @@
 -- How far within an origin a policy grants a caller an action.
 use Rattle.std.specs.Prelude.{◌≡◌, ℕ, List, Bool, true, false, ◌&&◌, if◌then◌else◌, Option, Some, None, IfSome}
-use Rattle.std.specs.List.{All}
+use Rattle.std.specs.List.{All, flat_map, list_any}
+use Rattle.std.specs.Option.{option_to_list}
 use Rattle.dns_names.specs.Labels.{IsWithin, is_within}
 use Rattle.dns_data.specs.declared.record_type.RecordType.{RecordType}
 use Rattle.grant_policy.specs.declared.action.Action.{Action}
@@ -75,3 +76,16 @@ pub record ReachNowhere (rules : List Rule) (caller : List ℕ) (action : Action
 abbrev pub IsReach : List Rule → List ℕ → Action → List (List ℕ) → Option (List (List ℕ)) → Type 0
 IsReach rules caller action origin None = ReachNowhere rules caller action origin
 IsReach rules caller action origin (Some top) = ReachTo rules caller action origin top
+
+-- ---- by several names
+
+-- the names to which rules reach within the origin, in their order
+abbrev pub reaches : List ℕ → Action → List (List ℕ) → List Rule → List (List (List ℕ))
+reaches caller action origin rules = flat_map (λ rule. option_to_list (reach_of caller action origin rule)) rules
+
+-- each name within the origin at which the rules grant the caller the action for some type is within one of these
+abbrev pub GrantsWithinSome : List Rule → List ℕ → Action → List (List ℕ) → List (List (List ℕ)) → Type 0
+GrantsWithinSome rules caller action origin tops =
+    (name : List (List ℕ)) (record_type : RecordType) → IsWithin name origin
+    → is_granted (decision (record { caller = caller; name = name; record_type = record_type; action = action }) rules) ≡ true
+    → list_any (λ top. is_within name top) tops ≡ true

@@ -61,7 +61,7 @@ pub use name_groups::{GroupRights, NameGroup, rights_by_group};
 pub use name_rights::{CallerRights, NameRights, rights_at};
 pub use policy::Policy;
 pub use policy_fault::{PolicyFault, PolicyPlace, RuleKey};
-pub use reaching::reach;
+pub use reaching::{reach, reaches};
 pub use rights::Rights;
 pub use rule::Rule;
 pub use scope::{Scope, covers};

@@ -1,8 +1,10 @@
 //! How far the grants of a caller reach.
 
-ghost use Rattle.std.specs.Prelude.{◌≡◌, IfOk};
-ghost use Rattle.std.specs.Option.{option_copied};
-ghost use Rattle.grant_policy.specs.Reach.{IsCommonAncestor, IsReach, IsWidened, grants_to, reach_of};
+ghost use Rattle.std.specs.Prelude.{◌≡◌, ◌++◌, IfOk};
+ghost use Rattle.std.specs.List.Sorted.{IsPermutation, IsSorted};
+ghost use Rattle.std.specs.Option.{option_copied, option_to_list};
+ghost use Rattle.dns_names.specs.Order.{canonical_cmp};
+ghost use Rattle.grant_policy.specs.Reach.{GrantsWithinSome, IsCommonAncestor, IsReach, IsWidened, grants_to, reach_of, reaches};
 
 use crate::action::Action;
 use crate::effect::Effect;
@@ -86,4 +88,44 @@ pub fn reach(
         }
     }
     Ok(so_far)
+}
+
+/// Names, and the one to which a rule reaches within an origin, if it reaches to one. The only error is out of memory.
+fn with_reach(
+    alloc: Global,
+    mut names: Vec<Name>,
+    rule: &Rule,
+    caller: &Identifier,
+    action: Action,
+    origin: &Name,
+) -> Result<Vec<Name>, AllocError>
+    ensures { IfOk result (λ all. all.items ≡ names.items ++ option_to_list (reach_of caller.now action origin.now rule.now)) }
+{
+    if let Some(name) = reach_of(rule, caller, action, origin) {
+        names.push(name.try_copy(alloc)?)?;
+    }
+    Ok(names)
+}
+
+/// The names within an origin to which the grants of the action to the caller reach: each rule that grants it reaches to its own
+/// name, if that is within the origin, or to the origin, if that is within its name. They are in canonical order, and one stands as
+/// often as rules reach to it. The only error is out of memory.
+pub fn reaches(
+    alloc: Global,
+    policy: &Policy,
+    caller: &Identifier,
+    action: Action,
+    origin: &Name,
+) -> Result<Vec<Name>, AllocError>
+    ensures order { IfOk result (λ names. IsSorted canonical_cmp names.items) }
+    ensures names { IfOk result (λ names. IsPermutation (reaches caller.now action origin.now policy.now) names.items) }
+    // What is granted within the origin is granted within one of them.
+    ensures granted { IfOk result (λ names. GrantsWithinSome policy.now caller.now action origin.now names.items) }
+{
+    let mut names = Vec::new(alloc);
+    for rule in policy.rules() {
+        names = with_reach(alloc, names, rule, caller, action, origin)?;
+    }
+    names.sort()?;
+    Ok(names)
 }

@@ -11,7 +11,7 @@ use Rattle.dns_names.specs.Labels.{is_within}
 use Rattle.dns_names.specs.Order.{canonical_cmp}
 use Rattle.zone_core.proofs.MetLemmas.{Among, of_among}
 use Rattle.zone_core.proofs.WithinLemmas.{not_before, between}
-use Rattle.zone_core.specs.ZoneTests.{AreApart}
+use Rattle.zone_core.specs.Outermost.{AreApart}
 use Rattle.zone_core.proofs.BelowLemmas.{Name, before_then, not_behind, is_behind}
 
 -- ---- the first that passes

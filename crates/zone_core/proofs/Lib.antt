@@ -54,6 +54,7 @@ pub mod DiffPromiseLemmas
 pub mod BelowLemmas
 pub mod CoverLemmas
 pub mod SurveyLemmas
+pub mod OutermostLemmas
 pub mod AnswerLemmas
 pub mod AtFaultLemmas
 pub mod FindingLemmas

@@ -20,11 +20,12 @@ use Rattle.zone_core.specs.Delegations.{is_below}
 use Rattle.zone_core.proofs.SetLemmas.{name_is, name_self}
 use Rattle.zone_core.proofs.RangeLemmas.{by_owner}
 use Rattle.zone_core.proofs.MetLemmas.{Among, any_is, is_any}
-use Rattle.zone_core.specs.ZoneTests.{is_cut, is_delegated, is_below_cut, AreApart, AreTopCuts, with_cut}
+use Rattle.zone_core.specs.Outermost.{AreApart}
+use Rattle.zone_core.specs.ZoneTests.{is_cut, is_delegated, is_below_cut, AreTopCuts, with_cut}
 use Rattle.zone_core.proofs.BelowLemmas.{Name, below-Decides, within_both, below_within, is_within_itself, is_within_within, below_is_within, before_other, not_above}
 use Rattle.zone_core.proofs.CoverLemmas.{found_any, found_is, one_of}
 
-no_test : {P : Type 0} (b : Bool) → b ≡ true → b ≡ false → P
+pub no_test : {P : Type 0} (b : Bool) → b ≡ true → b ≡ false → P
 no_test true e f = absurd cc
 no_test false e f = absurd cc
 
@@ -82,11 +83,11 @@ module _ (origin : Name) (rs : List Record) (cuts : List Name) (top : AreTopCuts
 
 -- ---- the cuts that are gathered
 
-or_false : (a : Bool) → (a || false) ≡ a
+pub or_false : (a : Bool) → (a || false) ≡ a
 or_false true = refl
 or_false false = refl
 
-or_kept : (a b : Bool) → (b ≡ true → a ≡ true) → (a || b) ≡ a
+pub or_kept : (a b : Bool) → (b ≡ true → a ≡ true) → (a || b) ≡ a
 or_kept true b f = refl
 or_kept false true f = absurd (let e = f refl in cc)
 or_kept false false f = refl

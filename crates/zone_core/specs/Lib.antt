@@ -22,6 +22,7 @@ pub mod Versions
 pub mod Delegations
 pub mod Differences
 pub mod DifferencePromises
+pub mod Outermost
 pub mod HostNames
 pub mod ZoneRules
 pub mod ZoneTests

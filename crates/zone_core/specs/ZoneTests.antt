@@ -11,6 +11,7 @@ use Rattle.dns_data.specs.declared.record_type.RecordType.TheVariants as types
 use Rattle.dns_data.specs.Rdata.{type_of}
 use Rattle.zone_core.specs.Sets.{key_of, listing, InOrder}
 use Rattle.zone_core.specs.Sets as sets
+use Rattle.zone_core.specs.Outermost.{AreApart}
 use Rattle.zone_core.specs.Delegations.{is_below, server_in}
 use Rattle.zone_core.specs.declared.zone_rule.ZoneRule.{ZoneRule}
 use Rattle.zone_core.specs.declared.zone_rule.ZoneRule.TheVariants.{HostName, AliasTarget, MissingAddress, MissingGlue, BelowCut, DsWithoutNs}
@@ -89,10 +90,6 @@ abbrev pub is_server : List Record → List (List ℕ) → Bool
 is_server rs name = list_any (same_name name) (servers_in rs)
 
 -- ---- what is known of a zone while its records are checked
-
--- names in canonical order, none of which is within another
-abbrev pub AreApart : List (List (List ℕ)) → Type 0
-AreApart names = AllPairs (λ a b. (canonical_cmp a b ≡ Less) × (is_within b a ≡ false)) names
 
 -- the cuts that are below no other
 pub record AreTopCuts (origin : List (List ℕ)) (rs : List Record) (cuts : List (List (List ℕ))) : Type 0 where

@@ -15,6 +15,7 @@ mod kind;
 mod laws;
 mod merge;
 mod outcome;
+mod outermost_names;
 mod prerequisite_code;
 mod rcode;
 mod refusals;
@@ -47,6 +48,7 @@ pub use laws::{
     zones_are_built_of_their_records,
 };
 pub use outcome::{Outcome, apply, apply_owned};
+pub use outermost_names::outermost;
 pub use prerequisite_code::PrerequisiteCode;
 pub use rcode::Rcode;
 pub use refusals::{DelegationFault, UpdateFault, ZoneFault};

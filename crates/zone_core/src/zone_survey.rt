@@ -10,8 +10,10 @@ ghost use Rattle.dns_data.specs.Rdata.{type_of};
 ghost use Rattle.zone_core.specs.Sets.{listing};
 ghost use Rattle.zone_core.specs.Delegations.{is_below, server_in};
 ghost use Rattle.zone_core.specs.ZoneRules.{server_of};
-ghost use Rattle.zone_core.specs.ZoneTests.{is_ns, is_cname, is_ds, is_address, some_type, is_cut, is_delegated, is_below_cut, is_occluded, is_server, AreApart, AreTopCuts, with_cut, AreServers, IsSurvey};
+ghost use Rattle.zone_core.specs.Outermost.{AreApart};
+ghost use Rattle.zone_core.specs.ZoneTests.{is_ns, is_cname, is_ds, is_address, some_type, is_cut, is_delegated, is_below_cut, is_occluded, is_server, AreTopCuts, with_cut, AreServers, IsSurvey};
 
+use crate::outermost_names::is_within_last;
 use crate::zone::Zone;
 use dns_data::{Data, Record, RecordType};
 use dns_names::Name;
@@ -106,18 +108,6 @@ fn is_covered(cuts: &[Name], name: &Name) -> bool
     cut_over(cuts, name).is_some()
 }
 
-/// Whether a name that no cut is behind is at or below one of them, which then is the last.
-fn is_covered_by_last(cuts: &[Name], name: &Name) -> bool
-    requires apart { AreApart cuts.now }
-    requires before { All (λ cut. is_le (canonical_cmp cut name.now) ≡ true) cuts.now }
-    ensures { result ≡ list_any (λ cut. is_within name.now cut) cuts.now }
-{
-    if cuts.is_empty() {
-        return false;
-    }
-    name.is_within(&cuts[cuts.len() - 1])
-}
-
 /// The cuts, and the owner of a record, if that is one more. No cut is behind it.
 fn with_cut(
     alloc: Global,
@@ -129,7 +119,7 @@ fn with_cut(
     requires before { All (λ cut. is_le (canonical_cmp cut rr.now.owner) ≡ true) cuts.items }
     ensures { IfOk result (λ all. all.items ≡ with_cut cuts.items origin.now rr.now) }
 {
-    if is_cut(origin, rr) && !is_covered_by_last(&cuts, &rr.owner) {
+    if is_cut(origin, rr) && !is_within_last(&cuts, &rr.owner) {
         cuts.push(rr.owner.try_copy(alloc)?)?;
     }
     Ok(cuts)

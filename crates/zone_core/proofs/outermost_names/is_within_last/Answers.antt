@@ -1,6 +1,6 @@
 use Rattle.std.proofs.Common.{◌≡◌, ◌<◌, ◌==◌, ℕ, zero, suc, length, false, ◌∙◌, arith}
 use Rattle.zone_core.proofs.CoverLemmas.{by_last}
-use Rattle.zone_core.proofs.zone_survey.is_covered_by_last.Goals as goal
+use Rattle.zone_core.proofs.outermost_names.is_within_last.Goals as goal
 
 some : (n : ℕ) → false ≡ (n == 0) → 0 < n
 some zero e = absurd cc
@@ -9,4 +9,4 @@ some (suc n) e = omega arith
 pub returns : goal.returns
 returns c =
     c.is_within.ensures.value
-    ∙ by_last c.args.cuts.now c.requires.apart c.args.name.now c.index-cuts-cuts.result c.requires.before (some (length c.args.cuts.now) c.if-is_empty.ensures) c.index-cuts-cuts.is
+    ∙ by_last c.args.tops.now c.requires.apart c.args.name.now c.index-tops-tops.result c.requires.before (some (length c.args.tops.now) c.if-is_empty.ensures) c.index-tops-tops.is
