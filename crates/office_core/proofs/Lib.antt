@@ -12,6 +12,7 @@ pub mod CommitLemmas
 pub mod RunLemmas
 pub mod AloneLemmas
 pub mod ListLemmas
+mod SubtreesLemmas
 mod SubtreeLemmas
 pub mod ToldLemmas
 pub mod MovedLemmas

@@ -8,13 +8,16 @@ use Rattle.dns_data.specs.declared.record.Record.{Record}
 use Rattle.dns_data.specs.Rdata.{type_of}
 use Rattle.grant_policy.specs.declared.action.Action.TheVariants as action
 use Rattle.grant_policy.specs.declared.rule.Rule.{Rule}
-use Rattle.grant_policy.specs.Reach.{GrantsNowhere, GrantsWithin}
+use Rattle.grant_policy.specs.Reach.{GrantsNowhere, GrantsWithin, GrantsWithinSome}
+use Rattle.zone_core.specs.Outermost.{AreApart}
 use Rattle.zone_core.specs.Sets.{InOrder, key_of, listing, part, within}
 use Rattle.zone_core.specs.Zones.{IsZone}
 use Rattle.zone_core.proofs.RowLemmas.{InOrder-filter, listed_part}
 use Rattle.zone_core.proofs.ChangedLemmas as changed
 use Rattle.office_state.specs.States.{AreZones, Held, State, zone_held, subtree_at}
 use Rattle.office_core.specs.Machine.{may_list, listed, listed_at}
+use Rattle.office_core.specs.Subtrees.{subtrees, subtrees_at}
+use Rattle.office_core.proofs.SubtreesLemmas.{in_some, subtrees_are}
 use Rattle.office_core.proofs.FootprintLaws.{In}
 use Rattle.office_core.proofs.ListLemmas.{in_listing}
 
@@ -88,6 +91,23 @@ module _ (rules : List Rule) (caller : List ℕ) (origin : List (List ℕ)) wher
           → option_map (λ rs. listed rules caller rs) (option_map (λ zone. listing (part zone.records (within top))) (option_map (zone_held origin) h)) ≡ option_map (λ held. listed rules caller (listing held.records)) h
       of_held None each = refl
       of_held (Some held) each = ap (λ (rs : List Record). Some rs) (listed_within top held (each held refl) reaches)
+
+  listed_within_some : (tops : List (List (List ℕ))) → AreApart tops → (held : Held) → IsZone (zone_held origin held) → GrantsWithinSome rules caller action.List origin tops
+      → listed rules caller (subtrees held.records tops) ≡ listed rules caller (listing held.records)
+  listed_within_some tops apart held zone reaches =
+      let set = held.records in
+      ap (λ (rs : List Record). listed rules caller rs) (subtrees_are set zone.kept tops apart)
+      ∙ twice (may_list rules caller) (in_some tops) (listing set) (λ r i may. reaches r.owner (type_of r.rdata) (zone.owners r ((in_listing set zone.kept r).0 i)) may)
+
+  -- by those within several
+  pub by_subtrees : (s : State) (tops : List (List (List ℕ))) (found : Option (List Record)) → AreZones s → AreApart tops → GrantsWithinSome rules caller action.List origin tops
+      → found ≡ subtrees_at s origin tops → option_map (λ rs. listed rules caller rs) found ≡ listed_at rules caller s origin
+  by_subtrees s tops found zones apart reaches is = ap (option_map (λ rs. listed rules caller rs)) is ∙ of_held (s.zones origin) (zones origin)
+    where
+      of_held : (h : Option Held) → ((held : Held) → h ≡ Some held → IsZone (zone_held origin held))
+          → option_map (λ rs. listed rules caller rs) (option_map (λ zone. subtrees zone.records tops) (option_map (zone_held origin) h)) ≡ option_map (λ held. listed rules caller (listing held.records)) h
+      of_held None each = refl
+      of_held (Some held) each = ap (λ (rs : List Record). Some rs) (listed_within_some tops apart held (each held refl) reaches)
 
 -- ---- what is read
 

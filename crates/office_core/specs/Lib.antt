@@ -1,6 +1,7 @@
 pub mod Footprints
 pub mod Items
 pub mod Permissions
+pub mod Subtrees
 pub mod Machine
 pub mod Steps
 pub mod Plans

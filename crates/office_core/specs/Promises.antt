@@ -138,7 +138,7 @@ MayList rules caller r = IsGranted rules caller r.owner (type_of r.rdata) action
 abbrev pub SeesSome : List Rule → List ℕ → ChangeOf → Type 0
 SeesSome rules caller c = (r : Record) × (Contains c.removed r ⊎ Contains c.added r) × MayList rules caller r
 
--- of some records these are shown to it: those that it may list, in their order, and no other
+-- of some records exactly those that it may list are shown to it, in their order
 abbrev pub AreShown : List Rule → List ℕ → List Record → List Record → Type 0
 AreShown rules caller rs shown = (k : ℕ) (r : Record) → (slice_get shown k ≡ Some r) ↔ IsNth (MayList rules caller) rs k r
 

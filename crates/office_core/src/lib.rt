@@ -11,6 +11,7 @@ mod permission;
 mod queries;
 mod runs;
 mod steps;
+mod subtrees;
 mod update;
 
 pub use bookmark::Bookmarks;

@@ -2,9 +2,12 @@
 
 ghost use Rattle.std.specs.Prelude.{◌≡◌, ◌+◌, ◌++◌, [], ◌∷◌, Some, IfOk, IfSome, map, nat_le, option_map};
 ghost use Rattle.std.specs.List.{filter};
+ghost use Rattle.zone_core.specs.Outermost.{AreApart};
 ghost use Rattle.zone_core.specs.Sets.{InOrder, listing};
 ghost use Rattle.zone_core.specs.Changes.{change_in};
 ghost use Rattle.grant_policy.specs.Decisions.{decision};
+ghost use Rattle.grant_policy.specs.Reach.{GrantsWithinSome};
+ghost use Rattle.grant_policy.specs.declared.action.Action.TheVariants.{List};
 ghost use Rattle.office_state.specs.Replies.{reply_of, right_of, numbered_of, right};
 ghost use Rattle.office_state.specs.States.{State};
 ghost use Rattle.office_state.specs.Tables.{Counts};
@@ -14,15 +17,19 @@ ghost use Rattle.office_core.specs.Steps.{IsAnswer, Takes};
 ghost use Rattle.office_core.specs.Bookmarks.{AreBookmarks};
 
 use crate::bookmark::Bookmarks;
+use crate::subtrees::within_each;
 use dns_data::{Record, RecordType};
 use dns_names::Name;
-use grant_policy::{Action, Decision, Grants, Identifier, LookUps, Policy, decide, reach};
+use grant_policy::{Action, Decision, Grants, Identifier, LookUps, Policy, decide, reach, reaches};
 use office_state::{NumberedChange, Reply, Right, TableFault, ZoneTable};
 use std::alloc::{AllocError, Global};
-use zone_core::{Change, delegation_report};
+use zone_core::{Change, delegation_report, outermost};
 
 /// How many records are each asked about by themselves. For more, to make `Grants` costs less than it saves.
 const FEW_RECORDS: usize = 16;
+
+/// How many names are each read by themselves. For more, what is read is within the last name that all of them are within.
+const FEW_NAMES: usize = 16;
 
 /// Whether a caller may list a record.
 fn may_list(grants: &mut Grants<'_>, rr: &Record) -> bool
@@ -106,6 +113,21 @@ fn listed(
     granted(alloc, &mut grants, records)
 }
 
+/// The outermost names within an origin to which the caller's grants to list reach. The only error is out of memory.
+fn granted_names(
+    alloc: Global,
+    policy: &Policy,
+    caller: &Identifier,
+    origin: &Name,
+) -> Result<Vec<Name>, AllocError>
+    ensures granted { IfOk result (λ tops. GrantsWithinSome policy.now caller.now List origin.now tops.items) }
+    ensures apart { IfOk result (λ tops. AreApart tops.items) }
+{
+    let names = reaches(alloc, policy, caller, Action::List, origin)?;
+    let tops = outermost(alloc, &names)?;
+    Ok(tops)
+}
+
 /// No records, where there is the zone of an origin.
 fn none_of<T: ZoneTable>(
     alloc: Global,
@@ -145,8 +167,8 @@ fn all_of<T: ZoneTable>(
 }
 
 /// Records of a zone that have among them all that the caller may list, where there is the zone. Only those are read that are
-/// within the name to which the caller's grants reach.
-fn reached<T: ZoneTable>(
+/// within the name to which all of the caller's grants reach.
+fn within_reach<T: ZoneTable>(
     alloc: Global,
     table: &mut T,
     policy: &Policy,
@@ -167,6 +189,29 @@ fn reached<T: ZoneTable>(
         return all_of(alloc, table, origin);
     }
     table.subtree(alloc, origin, &top)
+}
+
+/// Records of a zone that have among them all that the caller may list, where there is the zone. Only those are read that are
+/// within the names to which the caller's grants reach; if these are many, within the one that all of them are within.
+fn reached<T: ZoneTable>(
+    alloc: Global,
+    table: &mut T,
+    policy: &Policy,
+    caller: &Identifier,
+    origin: &Name,
+) -> Result<Option<Vec<Record>>, TableFault>
+    ensures answer { T.is_honest table.new → IfOk result (λ found. (s : State) → T.holds table.old s → option_map (λ rs. listed policy.now caller.now rs.items) found ≡ listed_at policy.now caller.now s origin.now) }
+    ensures order { IfOk result (λ found. IfSome found (λ rs. InOrder rs.items)) }
+    ensures same { (s : State) → T.holds table.old s → T.holds table.new s }
+    ensures crash { (s t : State) → T.leaves table.old s t → T.leaves table.new s t }
+    ensures honest { T.is_honest table.new → T.is_honest table.old }
+    ensures counts { Counts (T.failures table.old) (T.failures table.new) result }
+{
+    let tops = granted_names(alloc, policy, caller, origin)?;
+    if tops.len() < 2 || FEW_NAMES < tops.len() {
+        return within_reach(alloc, table, policy, caller, origin);
+    }
+    within_each(alloc, table, origin, &tops)
 }
 
 /// The records of a zone that the caller may list, where there is the zone.

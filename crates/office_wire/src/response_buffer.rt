@@ -192,13 +192,8 @@ impl ResponseBuffer {
         match self.try_put(method, response, closing) {
             Ok(()) => true,
             Err(_) => {
-                self.put_short(
-                    method,
-                    &Response::Replied(Reply::Servfail(StepFault::BeforeCommit(
-                        TableFault::NoMemory,
-                    ))),
-                    closing,
-                );
+                let servfail = Reply::Servfail(StepFault::BeforeCommit(TableFault::NoMemory));
+                self.put_short(method, &Response::Replied(servfail), closing);
                 false
             }
         }
