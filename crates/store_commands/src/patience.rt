@@ -1,7 +1,9 @@
 //! Connections whose peers are waited for, but not for ever.
 
+ghost use Rattle.std.specs.Io.{ReadsAtMost, WritesAtMost};
+
 use std::cell::Cell;
-use std::io::{self, Read, Write};
+use std::io::{self, ErrorKind, Read, Write};
 use std::net::TcpStream;
 use std::time::{Clock, Duration, Instant};
 
@@ -10,6 +12,10 @@ const PATIENCE: u64 = 30;
 
 /// The most seconds that sockets are asked for, some thirty years.
 const PATIENCE_MAX: u64 = 1_000_000_000;
+
+/// How often in a row a read or a write is begun again that a signal has cut short. A process that is stopped and goes on, as for a
+/// backup, has its waits cut short so, where they have a limit (signal(7)).
+const INTERRUPTIONS: u32 = 1_000;
 
 /// What a peer is waited for.
 #[derive(Clone, Copy, PartialEq, Eq)]
@@ -101,17 +107,17 @@ impl<'a, C: Clock> PatientStream<'a, C> {
         });
         Ok(())
     }
-}
 
-impl<C: Clock> Read for &PatientStream<'_, C> {
-    fn read(&mut self, buffer: &mut [u8]) -> io::Result<usize> {
+    /// Reads once. Where nothing is left to wait that is an error.
+    fn read_once(&self, buffer: &mut [u8]) -> io::Result<usize>
+        ensures { ReadsAtMost result buffer.new }
+    {
         let wait = self.to_read();
-        // where nothing is left that is an error
         self.stream.set_read_timeout(wait.left)?;
         let begun = Instant::now(self.clock)?;
         let mut stream = self.stream;
-        let count = stream.read(buffer)?;
-        if wait.awaited == Awaited::Request {
+        let read = stream.read(buffer);
+        if read.is_ok() && wait.awaited == Awaited::Request {
             self.wait.set(Wait {
                 awaited: Awaited::Rest,
                 left: self.patience,
@@ -119,19 +125,52 @@ impl<C: Clock> Read for &PatientStream<'_, C> {
         } else {
             self.note(wait, begun)?;
         }
-        Ok(count)
+        read
+    }
+
+    /// Writes once. Where nothing is left to wait that is an error.
+    fn write_once(&self, bytes: &[u8]) -> io::Result<usize>
+        ensures { WritesAtMost result bytes.now }
+    {
+        let wait = self.to_write();
+        self.stream.set_write_timeout(wait.left)?;
+        let begun = Instant::now(self.clock)?;
+        let mut stream = self.stream;
+        let written = stream.write(bytes);
+        self.note(wait, begun)?;
+        written
+    }
+}
+
+/// Whether a signal has cut a read or a write short.
+fn is_interrupted(done: &io::Result<usize>) -> bool {
+    match done {
+        Ok(_) => false,
+        Err(fault) => fault.kind() == ErrorKind::Interrupted,
+    }
+}
+
+impl<C: Clock> Read for &PatientStream<'_, C> {
+    fn read(&mut self, buffer: &mut [u8]) -> io::Result<usize> {
+        for _ in 0..INTERRUPTIONS {
+            let read = self.read_once(buffer);
+            if !is_interrupted(&read) {
+                return read;
+            }
+        }
+        self.read_once(buffer)
     }
 }
 
 impl<C: Clock> Write for &PatientStream<'_, C> {
     fn write(&mut self, bytes: &[u8]) -> io::Result<usize> {
-        let wait = self.to_write();
-        self.stream.set_write_timeout(wait.left)?;
-        let begun = Instant::now(self.clock)?;
-        let mut stream = self.stream;
-        let count = stream.write(bytes)?;
-        self.note(wait, begun)?;
-        Ok(count)
+        for _ in 0..INTERRUPTIONS {
+            let written = self.write_once(bytes);
+            if !is_interrupted(&written) {
+                return written;
+            }
+        }
+        self.write_once(bytes)
     }
 
     fn flush(&mut self) -> io::Result<()> {
