@@ -12,6 +12,7 @@ pub mod CommitLemmas
 pub mod RunLemmas
 pub mod AloneLemmas
 pub mod ListLemmas
+mod FailTableLemmas
 mod SubtreesLemmas
 mod SubtreeLemmas
 pub mod ToldLemmas

@@ -202,7 +202,7 @@ zones_in_order s origin tops zones apart zone is = of_held (s.zones origin) (zon
 
 -- ---- one name after the other
 
--- the records within the first names, where there is the zone; and no name where there is none
+-- the records within the first names, if the zone is there; else no name was asked for
 abbrev pub AreSoFar : Option ZoneOf → List Labels → List Record → Type 0
 AreSoFar None tops rs = tops ≡ []
 AreSoFar (Some zone) tops rs = rs ≡ subtrees zone.records tops

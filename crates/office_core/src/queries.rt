@@ -10,7 +10,7 @@ ghost use Rattle.grant_policy.specs.Reach.{GrantsWithinSome};
 ghost use Rattle.grant_policy.specs.declared.action.Action.TheVariants.{List};
 ghost use Rattle.office_state.specs.Replies.{reply_of, right_of, numbered_of, right};
 ghost use Rattle.office_state.specs.States.{State};
-ghost use Rattle.office_state.specs.Tables.{Counts};
+ghost use Rattle.office_state.specs.Tables.{ReadsOnly};
 ghost use Rattle.office_core.specs.Permissions.{question};
 ghost use Rattle.office_core.specs.Machine.{unchanged, of_zone, may_list, listed, listed_at, list_reply, list_within_reply, file_reply, delegations_reply, changes_reply, if_some, seen, seen_of, numbered};
 ghost use Rattle.office_core.specs.Steps.{IsAnswer, Takes};
@@ -136,10 +136,7 @@ fn none_of<T: ZoneTable>(
 ) -> Result<Option<Vec<Record>>, TableFault>
     ensures answer { T.is_honest table.new → IfOk result (λ found. (s : State) → T.holds table.old s → option_map (λ rs. rs.items) found ≡ option_map (λ held. []) (s.zones origin.now)) }
     ensures order { IfOk result (λ found. IfSome found (λ rs. InOrder rs.items)) }
-    ensures same { (s : State) → T.holds table.old s → T.holds table.new s }
-    ensures crash { (s t : State) → T.leaves table.old s t → T.leaves table.new s t }
-    ensures honest { T.is_honest table.new → T.is_honest table.old }
-    ensures counts { Counts (T.failures table.old) (T.failures table.new) result }
+    ensures reads { ReadsOnly T.holds T.is_honest T.leaves T.failures table.old table.new result }
 {
     let Some(_part) = table.part(alloc, origin, &[])? else {
         return Ok(None);
@@ -155,10 +152,7 @@ fn all_of<T: ZoneTable>(
 ) -> Result<Option<Vec<Record>>, TableFault>
     ensures answer { T.is_honest table.new → IfOk result (λ found. (s : State) → T.holds table.old s → option_map (λ rs. rs.items) found ≡ option_map (λ held. listing held.records) (s.zones origin.now)) }
     ensures order { IfOk result (λ found. IfSome found (λ rs. InOrder rs.items)) }
-    ensures same { (s : State) → T.holds table.old s → T.holds table.new s }
-    ensures crash { (s t : State) → T.leaves table.old s t → T.leaves table.new s t }
-    ensures honest { T.is_honest table.new → T.is_honest table.old }
-    ensures counts { Counts (T.failures table.old) (T.failures table.new) result }
+    ensures reads { ReadsOnly T.holds T.is_honest T.leaves T.failures table.old table.new result }
 {
     let Some(zone) = table.zone(alloc, origin)? else {
         return Ok(None);
@@ -177,10 +171,7 @@ fn within_reach<T: ZoneTable>(
 ) -> Result<Option<Vec<Record>>, TableFault>
     ensures answer { T.is_honest table.new → IfOk result (λ found. (s : State) → T.holds table.old s → option_map (λ rs. listed policy.now caller.now rs.items) found ≡ listed_at policy.now caller.now s origin.now) }
     ensures order { IfOk result (λ found. IfSome found (λ rs. InOrder rs.items)) }
-    ensures same { (s : State) → T.holds table.old s → T.holds table.new s }
-    ensures crash { (s t : State) → T.leaves table.old s t → T.leaves table.new s t }
-    ensures honest { T.is_honest table.new → T.is_honest table.old }
-    ensures counts { Counts (T.failures table.old) (T.failures table.new) result }
+    ensures reads { ReadsOnly T.holds T.is_honest T.leaves T.failures table.old table.new result }
 {
     let Some(top) = reach(alloc, policy, caller, Action::List, origin)? else {
         return none_of(alloc, table, origin);
@@ -202,10 +193,7 @@ fn reached<T: ZoneTable>(
 ) -> Result<Option<Vec<Record>>, TableFault>
     ensures answer { T.is_honest table.new → IfOk result (λ found. (s : State) → T.holds table.old s → option_map (λ rs. listed policy.now caller.now rs.items) found ≡ listed_at policy.now caller.now s origin.now) }
     ensures order { IfOk result (λ found. IfSome found (λ rs. InOrder rs.items)) }
-    ensures same { (s : State) → T.holds table.old s → T.holds table.new s }
-    ensures crash { (s t : State) → T.leaves table.old s t → T.leaves table.new s t }
-    ensures honest { T.is_honest table.new → T.is_honest table.old }
-    ensures counts { Counts (T.failures table.old) (T.failures table.new) result }
+    ensures reads { ReadsOnly T.holds T.is_honest T.leaves T.failures table.old table.new result }
 {
     let tops = granted_names(alloc, policy, caller, origin)?;
     if tops.len() < 2 || FEW_NAMES < tops.len() {
@@ -224,10 +212,7 @@ fn listed_of<T: ZoneTable>(
 ) -> Result<Option<Vec<Record>>, TableFault>
     ensures answer { T.is_honest table.new → IfOk result (λ found. (s : State) → T.holds table.old s → option_map (λ rs. rs.items) found ≡ listed_at policy.now caller.now s origin.now) }
     ensures order { IfOk result (λ found. IfSome found (λ rs. InOrder rs.items)) }
-    ensures same { (s : State) → T.holds table.old s → T.holds table.new s }
-    ensures crash { (s t : State) → T.leaves table.old s t → T.leaves table.new s t }
-    ensures honest { T.is_honest table.new → T.is_honest table.old }
-    ensures counts { Counts (T.failures table.old) (T.failures table.new) result }
+    ensures reads { ReadsOnly T.holds T.is_honest T.leaves T.failures table.old table.new result }
 {
     let Some(found) = reached(alloc, table, policy, caller, origin)? else {
         return Ok(None);
@@ -245,10 +230,8 @@ pub(crate) fn list<T: ZoneTable>(
     origin: &Name,
 ) -> Result<Reply, TableFault>
     ensures takes { T.is_honest table.new → (s : State) → T.holds table.old s → Takes (T.holds table.new) s (unchanged s (of_zone (s.zones origin.now) (list_reply policy.now caller.now))) result }
-    ensures crash { (s t : State) → T.leaves table.old s t → T.leaves table.new s t }
-    ensures honest { T.is_honest table.new → T.is_honest table.old }
     ensures answers { IfOk result IsAnswer }
-    ensures counts { Counts (T.failures table.old) (T.failures table.new) result }
+    ensures reads { ReadsOnly T.holds T.is_honest T.leaves T.failures table.old table.new result }
 {
     let Some(records) = listed_of(alloc, table, policy, caller, origin)? else {
         return Ok(Reply::NotAuth);
@@ -266,10 +249,8 @@ pub(crate) fn list_within<T: ZoneTable>(
     top: &Name,
 ) -> Result<Reply, TableFault>
     ensures takes { T.is_honest table.new → (s : State) → T.holds table.old s → Takes (T.holds table.new) s (unchanged s (of_zone (s.zones origin.now) (list_within_reply policy.now caller.now origin.now top.now))) result }
-    ensures crash { (s t : State) → T.leaves table.old s t → T.leaves table.new s t }
-    ensures honest { T.is_honest table.new → T.is_honest table.old }
     ensures answers { IfOk result IsAnswer }
-    ensures counts { Counts (T.failures table.old) (T.failures table.new) result }
+    ensures reads { ReadsOnly T.holds T.is_honest T.leaves T.failures table.old table.new result }
 {
     let Some(records) = table.subtree(alloc, origin, top)? else {
         return Ok(Reply::NotAuth);
@@ -290,10 +271,8 @@ pub(crate) fn file<T: ZoneTable>(
     origin: &Name,
 ) -> Result<Reply, TableFault>
     ensures takes { T.is_honest table.new → (s : State) → T.holds table.old s → Takes (T.holds table.new) s (unchanged s (of_zone (s.zones origin.now) (file_reply policy.now caller.now origin.now))) result }
-    ensures crash { (s t : State) → T.leaves table.old s t → T.leaves table.new s t }
-    ensures honest { T.is_honest table.new → T.is_honest table.old }
     ensures answers { IfOk result IsAnswer }
-    ensures counts { Counts (T.failures table.old) (T.failures table.new) result }
+    ensures reads { ReadsOnly T.holds T.is_honest T.leaves T.failures table.old table.new result }
 {
     let Some(records) = listed_of(alloc, table, policy, caller, origin)? else {
         return Ok(Reply::NotAuth);
@@ -311,10 +290,8 @@ pub(crate) fn delegations<T: ZoneTable>(
     origin: &Name,
 ) -> Result<Reply, TableFault>
     ensures takes { T.is_honest table.new → (s : State) → T.holds table.old s → Takes (T.holds table.new) s (unchanged s (of_zone (s.zones origin.now) (delegations_reply policy.now caller.now origin.now))) result }
-    ensures crash { (s t : State) → T.leaves table.old s t → T.leaves table.new s t }
-    ensures honest { T.is_honest table.new → T.is_honest table.old }
     ensures answers { IfOk result IsAnswer }
-    ensures counts { Counts (T.failures table.old) (T.failures table.new) result }
+    ensures reads { ReadsOnly T.holds T.is_honest T.leaves T.failures table.old table.new result }
 {
     let Some(records) = listed_of(alloc, table, policy, caller, origin)? else {
         return Ok(Reply::NotAuth);
@@ -417,10 +394,8 @@ pub(crate) fn changes<T: ZoneTable>(
 ) -> Result<Reply, TableFault>
     ensures takes { T.is_honest table.new → (s : State) → T.holds table.old s → AreBookmarks policy.now s bookmarks.old → Takes (T.holds table.new) s (unchanged s (of_zone (s.zones origin.now) (changes_reply policy.now caller.now from))) result }
     ensures bookmarks { T.is_honest table.new → (s : State) → T.holds table.old s → AreBookmarks policy.now s bookmarks.old → AreBookmarks policy.now s bookmarks.new }
-    ensures crash { (s t : State) → T.leaves table.old s t → T.leaves table.new s t }
-    ensures honest { T.is_honest table.new → T.is_honest table.old }
     ensures answers { IfOk result IsAnswer }
-    ensures counts { Counts (T.failures table.old) (T.failures table.new) result }
+    ensures reads { ReadsOnly T.holds T.is_honest T.leaves T.failures table.old table.new result }
 {
     let began = bookmarks.start(caller, origin, from);
     let Some(behind) = table.changes_behind(alloc, origin, began.read)? else {

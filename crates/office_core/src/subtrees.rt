@@ -4,7 +4,7 @@ ghost use Rattle.std.specs.Prelude.{◌≡◌, ◌↔◌, ◌<◌, ◌++◌, tru
 ghost use Rattle.zone_core.specs.Outermost.{AreApart};
 ghost use Rattle.zone_core.specs.Sets.{InOrder};
 ghost use Rattle.office_state.specs.States.{State};
-ghost use Rattle.office_state.specs.Tables.{Counts};
+ghost use Rattle.office_state.specs.Tables.{ReadsOnly};
 ghost use Rattle.office_core.specs.Subtrees.{subtrees_at};
 
 use dns_data::{Record, record_order};
@@ -51,10 +51,7 @@ pub(crate) fn within_each<T: ZoneTable>(
     ensures answer { T.is_honest table.new → IfOk result (λ found. (s : State) → T.holds table.old s → option_map (λ rs. rs.items) found ≡ subtrees_at s origin.now tops.now) }
     // They are in record order, whatever the store has done.
     ensures order { IfOk result (λ found. IfSome found (λ rs. InOrder rs.items)) }
-    ensures same { (s : State) → T.holds table.old s → T.holds table.new s }
-    ensures crash { (s t : State) → T.leaves table.old s t → T.leaves table.new s t }
-    ensures honest { T.is_honest table.new → T.is_honest table.old }
-    ensures counts { Counts (T.failures table.old) (T.failures table.new) result }
+    ensures reads { ReadsOnly T.holds T.is_honest T.leaves T.failures table.old table.new result }
 {
     let mut all = Vec::new(alloc);
     for top in tops {

@@ -5,7 +5,7 @@ ghost use Rattle.zone_core.specs.Updates.{tested_name, acted_name, IsUpdate, Act
 ghost use Rattle.zone_core.specs.Changes.{change_in};
 ghost use Rattle.office_state.specs.Replies.{reply_of};
 ghost use Rattle.office_state.specs.States.{State};
-ghost use Rattle.office_state.specs.Tables.{Counts, addition_in};
+ghost use Rattle.office_state.specs.Tables.{ReadsOnly, addition_in};
 ghost use Rattle.office_state.specs.declared.reply.UpdateReply.TheVariants.{NoError};
 ghost use Rattle.office_core.specs.Machine.{again, answered, updated, refusal, zone_refusal};
 ghost use Rattle.office_core.specs.Steps.{CountsStep, IsAnswer, Takes, LeavesTurn, Commits, Makes, MakesAt, held_in, addition_of};
@@ -88,10 +88,7 @@ fn prepared<T: ZoneTable>(
 ) -> Result<(UpdateReply, Addition), TableFault>
     requires fresh { T.is_honest table.old → (s : State) → T.holds table.old s → s.receipts caller.now id.now ≡ None }
     ensures commits { T.is_honest table.new → IfOk result (λ r. (s : State) → T.holds table.new s → Commits s (answered s caller.now id.now origin.now update.now (refusal policy.now caller.now origin.now update.now (s.zones origin.now))) (addition_in r.1) r.0) }
-    ensures same { (s : State) → T.holds table.old s → T.holds table.new s }
-    ensures crash { (s t : State) → T.leaves table.old s t → T.leaves table.new s t }
-    ensures honest { T.is_honest table.new → T.is_honest table.old }
-    ensures counts { Counts (T.failures table.old) (T.failures table.new) result }
+    ensures reads { ReadsOnly T.holds T.is_honest T.leaves T.failures table.old table.new result }
 {
     let names = item_names(alloc, update)?;
     let part = table.part(alloc, origin, &names)?;

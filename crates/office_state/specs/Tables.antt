@@ -1,5 +1,5 @@
 -- What a table is asked to add, and what it tells of its calls.
-use Rattle.std.specs.Prelude.{◌≡◌, ℕ, ◌+◌, List, [], ◌∷◌, ◌++◌, false, Option, Some, None, option_map, Result, Ok, Err}
+use Rattle.std.specs.Prelude.{◌≡◌, ℕ, ◌+◌, List, [], ◌∷◌, ◌++◌, false, Option, Some, None, option_map, Result, Ok, Err, OnOk}
 use Rattle.zone_core.specs.Changes.{ChangeOf, FitsIn, change_in, changed, is_empty}
 use Rattle.zone_core.specs.Zones.{IsZone}
 use Rattle.office_state.specs.declared.table_fault.TableFault.{TableFault}
@@ -63,3 +63,15 @@ CountsFault before after NoMemory = after ≡ before
 abbrev pub Counts : {X : Type 0} → ℕ → ℕ → Result X TableFault → Type 0
 Counts before after (Ok x) = after ≡ before
 Counts before after (Err fault) = CountsFault before after fault
+
+-- ---- reads
+
+-- What a call that only reads leaves: what the table held it holds, and where it answers, nothing else; a crash leaves what it left;
+-- a store that has kept its word had kept it before; and the call is counted where it fails.
+abbrev pub ReadsOnly : {A X : Type 0} → (A → State → Type 0) → (A → Type 0) → (A → State → State → Type 0) → (A → ℕ) → A → A → Result X TableFault → Type 0
+ReadsOnly holds is_honest leaves failures old new result =
+    ((s : State) → holds old s → holds new s)
+    × (is_honest new → OnOk result ((s : State) → holds new s → holds old s))
+    × ((s t : State) → leaves old s t → leaves new s t)
+    × (is_honest new → is_honest old)
+    × Counts (failures old) (failures new) result

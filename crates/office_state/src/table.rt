@@ -5,7 +5,7 @@ ghost use Rattle.dns_data.specs.declared.record.Record.{Record};
 ghost use Rattle.zone_core.specs.Sets.{InOrder};
 ghost use Rattle.zone_core.specs.Changes.{change_in};
 ghost use Rattle.office_state.specs.States.{State, AreZones, AreReceipts, zone_at, part_at, subtree_at, changes_at};
-ghost use Rattle.office_state.specs.Tables.{Counts, Fits, addition_in, committed};
+ghost use Rattle.office_state.specs.Tables.{Counts, Fits, ReadsOnly, addition_in, committed};
 
 use crate::receipt::{Addition, Receipt};
 use crate::table_fault::TableFault;
@@ -32,12 +32,7 @@ pub trait ZoneTable {
     /// The zone of an origin, where there is one.
     fn zone(&mut self, alloc: Global, origin: &Name) -> Result<Option<Zone>, TableFault>
         ensures answer { is_honest self.new → IfOk result (λ zone. (s : State) → holds self.old s → zone ≡ zone_at s origin.now) }
-        // It holds what it held; and where it answers, nothing else.
-        ensures same { (s : State) → holds self.old s → holds self.new s }
-        ensures only { is_honest self.new → OnOk result ((s : State) → holds self.new s → holds self.old s) }
-        ensures crash { (s t : State) → leaves self.old s t → leaves self.new s t }
-        ensures honest { is_honest self.new → is_honest self.old }
-        ensures counts { Counts (failures self.old) (failures self.new) result };
+        ensures reads { ReadsOnly holds is_honest leaves failures self.old self.new result };
 
     /// The part of a zone that has its records at the origin and at some names, where there is the zone.
     fn part(
@@ -47,11 +42,7 @@ pub trait ZoneTable {
         names: &[Name],
     ) -> Result<Option<Zone>, TableFault>
         ensures answer { is_honest self.new → IfOk result (λ zone. (s : State) → holds self.old s → zone ≡ part_at s origin.now names.now) }
-        ensures same { (s : State) → holds self.old s → holds self.new s }
-        ensures only { is_honest self.new → OnOk result ((s : State) → holds self.new s → holds self.old s) }
-        ensures crash { (s t : State) → leaves self.old s t → leaves self.new s t }
-        ensures honest { is_honest self.new → is_honest self.old }
-        ensures counts { Counts (failures self.old) (failures self.new) result };
+        ensures reads { ReadsOnly holds is_honest leaves failures self.old self.new result };
 
     /// The records of a zone within a name, in record order, where there is the zone.
     fn subtree(
@@ -63,11 +54,7 @@ pub trait ZoneTable {
         ensures answer { is_honest self.new → IfOk result (λ records. (s : State) → holds self.old s → option_map (λ rs. rs.items) records ≡ subtree_at s origin.now top.now) }
         // They are in record order, whatever the store has done.
         ensures order { IfOk result (λ records. IfSome records (λ rs. InOrder rs.items)) }
-        ensures same { (s : State) → holds self.old s → holds self.new s }
-        ensures only { is_honest self.new → OnOk result ((s : State) → holds self.new s → holds self.old s) }
-        ensures crash { (s t : State) → leaves self.old s t → leaves self.new s t }
-        ensures honest { is_honest self.new → is_honest self.old }
-        ensures counts { Counts (failures self.old) (failures self.new) result };
+        ensures reads { ReadsOnly holds is_honest leaves failures self.old self.new result };
 
     /// The receipt of a caller under an identifier, where there is one.
     fn receipt(
@@ -77,20 +64,12 @@ pub trait ZoneTable {
         id: &Identifier,
     ) -> Result<Option<Receipt>, TableFault>
         ensures answer { is_honest self.new → IfOk result (λ receipt. (s : State) → holds self.old s → receipt ≡ s.receipts caller.now id.now) }
-        ensures same { (s : State) → holds self.old s → holds self.new s }
-        ensures only { is_honest self.new → OnOk result ((s : State) → holds self.new s → holds self.old s) }
-        ensures crash { (s t : State) → leaves self.old s t → leaves self.new s t }
-        ensures honest { is_honest self.new → is_honest self.old }
-        ensures counts { Counts (failures self.old) (failures self.new) result };
+        ensures reads { ReadsOnly holds is_honest leaves failures self.old self.new result };
 
     /// The changes of a zone, the oldest first, where there is the zone.
     fn changes(&mut self, alloc: Global, origin: &Name) -> Result<Option<Vec<Change>>, TableFault>
         ensures answer { is_honest self.new → IfOk result (λ changes. (s : State) → holds self.old s → option_map (λ cs. map change_in cs.items) changes ≡ changes_at s origin.now) }
-        ensures same { (s : State) → holds self.old s → holds self.new s }
-        ensures only { is_honest self.new → OnOk result ((s : State) → holds self.new s → holds self.old s) }
-        ensures crash { (s t : State) → leaves self.old s t → leaves self.new s t }
-        ensures honest { is_honest self.new → is_honest self.old }
-        ensures counts { Counts (failures self.old) (failures self.new) result };
+        ensures reads { ReadsOnly holds is_honest leaves failures self.old self.new result };
 
     /// The changes of a zone behind the first ones, so many, the oldest first, where there is the zone.
     fn changes_behind(
@@ -100,11 +79,7 @@ pub trait ZoneTable {
         count: u32,
     ) -> Result<Option<Vec<Change>>, TableFault>
         ensures answer { is_honest self.new → IfOk result (λ changes. (s : State) → holds self.old s → option_map (λ cs. map change_in cs.items) changes ≡ option_map (λ cs. drop count cs) (changes_at s origin.now)) }
-        ensures same { (s : State) → holds self.old s → holds self.new s }
-        ensures only { is_honest self.new → OnOk result ((s : State) → holds self.new s → holds self.old s) }
-        ensures crash { (s t : State) → leaves self.old s t → leaves self.new s t }
-        ensures honest { is_honest self.new → is_honest self.old }
-        ensures counts { Counts (failures self.old) (failures self.new) result };
+        ensures reads { ReadsOnly holds is_honest leaves failures self.old self.new result };
 
     /// Makes an addition: all of it, or nothing. The caller's identifier is new; a change has some record, its zone is there,
     /// the records that go are in it, those that come are not beside them, and the zone with them is a zone.

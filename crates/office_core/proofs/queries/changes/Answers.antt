@@ -18,7 +18,7 @@ returns-clause-takes g c = λ honest s holds right.
       ap Some
           (followed rules caller s origin c.args.from began found.0 behind (map change_in c.in_ok-seen.seen.items) (map numbered_of c.in_ok-changes.changes.items) start found.1 found.2
           c.in_ok-seen.ensures c.in_ok-changes.ensures),
-      c.in_ok-behind.ensures.same s holds,
+      c.in_ok-behind.ensures.reads.0 s holds,
     )
 
 pub returns-clause-bookmarks : goal.returns-clause-bookmarks

@@ -10,6 +10,7 @@ loop-top-init g c = record {
   order = none_in_order c.new-all.result.items c.new-all.ensures.items;
   so_far = λ honest s holds. subst (AreSoFar (zone_at s c.args.origin.now) []) (sym c.new-all.ensures.items) (so_far_none (zone_at s c.args.origin.now));
   same = λ s holds. holds;
+  only = λ honest s holds. holds;
   crash = λ s t leaves. leaves;
   honest = λ honest. honest;
   counts = refl;
@@ -25,9 +26,10 @@ loop-top-preserved g c = record {
       (zones_in_order s origin tops (g.met.T.ZoneTable.zones c.args.table.now s holds) c.requires.apart)
       (sym (λ k. option_map (λ rs. rs.items) (c.in-Some.is k)) ∙ c.in_ok-more.ensures.answer honest s (c.loop-top.invariant.same s holds))
       c.in_ok-all.ensures.whole
-      (c.loop-top.invariant.so_far (c.subtree.ensures.honest honest) s holds);
-  same = λ s holds. c.subtree.ensures.same s (c.loop-top.invariant.same s holds);
-  crash = λ s t leaves. c.subtree.ensures.crash s t (c.loop-top.invariant.crash s t leaves);
-  honest = λ honest. c.loop-top.invariant.honest (c.subtree.ensures.honest honest);
-  counts = c.in_ok-more.ensures.counts ∙ c.loop-top.invariant.counts;
+      (c.loop-top.invariant.so_far (c.subtree.ensures.reads.3 honest) s holds);
+  same = λ s holds. c.subtree.ensures.reads.0 s (c.loop-top.invariant.same s holds);
+  only = λ honest s holds. c.loop-top.invariant.only (c.subtree.ensures.reads.3 honest) s (c.in_ok-more.ensures.reads.1 honest s holds);
+  crash = λ s t leaves. c.subtree.ensures.reads.2 s t (c.loop-top.invariant.crash s t leaves);
+  honest = λ honest. c.loop-top.invariant.honest (c.subtree.ensures.reads.3 honest);
+  counts = c.in_ok-more.ensures.reads.4 ∙ c.loop-top.invariant.counts;
 }

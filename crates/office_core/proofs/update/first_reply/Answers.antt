@@ -6,17 +6,17 @@ commit-requires g c = record { fits = λ honest s held. let k = c.in_ok-reply.en
 
 pub returns-in-Err-clause-crash : goal.returns-in-Err-clause-crash
 returns-in-Err-clause-crash g c honest s holds leaves =
-    let held = c.prepared.ensures.same s holds in
+    let held = c.prepared.ensures.reads.0 s holds in
     left_by_err s _ _ _ (c.in_ok-reply.ensures.commits (c.commit.ensures.honest honest) s held) (g.T.ZoneTable.leaves c.commit.new.self)
-    (c.in-Err.ensures.crash s held (c.prepared.ensures.crash s s leaves))
+    (c.in-Err.ensures.crash s held (c.prepared.ensures.reads.2 s s leaves))
 
 pub returns-in-Ok-clause-takes : goal.returns-in-Ok-clause-takes
 returns-in-Ok-clause-takes g c honest s holds =
-    let held = c.prepared.ensures.same s holds in
+    let held = c.prepared.ensures.reads.0 s holds in
     taken s _ _ _ (c.in_ok-reply.ensures.commits (c.commit.ensures.honest honest) s held) (g.T.ZoneTable.holds c.commit.new.self) (c.in-Ok.ensures.made honest s held)
 
 pub returns-in-Ok-clause-crash : goal.returns-in-Ok-clause-crash
 returns-in-Ok-clause-crash g c honest s holds leaves =
-    let held = c.prepared.ensures.same s holds in
+    let held = c.prepared.ensures.reads.0 s holds in
     left s _ _ _ (c.in_ok-reply.ensures.commits (c.commit.ensures.honest honest) s held) (g.T.ZoneTable.leaves c.commit.new.self)
-    (c.in-Ok.ensures.kept honest s held (c.prepared.ensures.crash s s leaves))
+    (c.in-Ok.ensures.kept honest s held (c.prepared.ensures.reads.2 s s leaves))

@@ -1,11 +1,5 @@
-use Rattle.std.proofs.Common.{subst}
-use Rattle.std.specs.Prelude.{OnOk}
-use Rattle.office_state.specs.States.{State}
-use Rattle.office_core.specs.Memory.{HoldsState}
+use Rattle.office_core.proofs.FailTableLemmas.{reads_within}
 use Rattle.office_core.proofs.fail_table.FailTableZoneTable.receipt.Goals as goal
 
-pub returns-clause-same : goal.returns-clause-same
-returns-clause-same g c = subst (λ q. (s : State) → HoldsState q s → HoldsState c.receipt.new.self s) c.in_ok-call.ensures.table c.receipt.ensures.same
-
-pub returns-clause-only : goal.returns-clause-only
-returns-clause-only g c = λ u. subst (λ q. OnOk c.receipt.result ((s : State) → HoldsState c.receipt.new.self s → HoldsState q s)) c.in_ok-call.ensures.table (c.receipt.ensures.only u)
+pub returns-clause-reads : goal.returns-clause-reads
+returns-clause-reads g c = reads_within _ _ _ _ _ _ c.in_ok-call.ensures.table c.in_ok-call.ensures.counts c.receipt.ensures.reads
