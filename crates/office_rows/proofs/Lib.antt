@@ -18,6 +18,7 @@ pub mod StateLaws
 pub mod LaterChangeLaws
 pub mod OriginLaws
 pub mod ZoneCheckLemmas
+pub mod TableLaws
 pub mod StateChecks
 pub mod ListedLemmas
 pub mod ZoneStepLemmas

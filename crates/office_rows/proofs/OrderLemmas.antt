@@ -1,5 +1,5 @@
 -- Lists in which each element is below the next one.
-use Rattle.std.proofs.Common.{◌≡◌, suc, IsSorted, arith, add-one, true, false, List, [], ◌∷◌, refl, sym, ap, ◌∙◌}
+use Rattle.std.proofs.Common.{◌≡◌, zero, suc, IsSorted, arith, add-one, true, false, List, [], ◌∷◌, refl, sym, ap, ◌∙◌}
 use Rattle.std.proofs.lemmas.Bool.{and_parts, and_from}
 use Rattle.std.proofs.lemmas.Cmp.{tied_itself}
 use Rattle.std.specs.declared.cmp.Ordering.{Ordering}
@@ -61,3 +61,13 @@ module _ {X : Type 0} (cmp : X → X → Ordering) where
     pub sorted_strict : (xs : List X) → IsSorted cmp xs → IsAscending (λ a b. ¬ (cmp a b ≡ Equal)) xs → IsAscending Below xs
     sorted_strict [] sorted apart = tt
     sorted_strict (x ∷ xs) sorted apart = strict x xs sorted apart
+
+    -- a list that rises is sorted
+    back_less : (a b : Ordering) → b ≡ ordering_reverse a → a ≡ Less → is_lt b ≡ false
+    back_less a b e less = ap is_lt (e ∙ ap ordering_reverse less)
+
+    pub up_sorted : (xs : List X) → IsAscending Below xs → IsSorted cmp xs
+    up_sorted [] up k d p q = absurd (omega arith)
+    up_sorted (x ∷ []) up k d p q = absurd (omega arith)
+    up_sorted (x ∷ y ∷ ys) up zero d p q = back_less (cmp x y) (cmp y x) (total.antisymm y x) up.0.0
+    up_sorted (x ∷ y ∷ ys) up (suc k) d p q = rw add-one (rw add-one at (up_sorted (y ∷ ys) up.1 k d (omega arith) (omega arith)))

@@ -21,7 +21,7 @@ use Rattle.office_rows.specs.declared.row_fault.RowFault.TheVariants.{BadRow, No
 use Rattle.office_rows.specs.Contents.{ReceiptAt, receipt_under, ContentOf, row_of_receipt, IsReceiptAt, held_of, zone_among, receipt_among, AreOfState}
 use Rattle.office_rows.specs.declared.ordered.ReceiptKey.{ReceiptKey}
 use Rattle.office_rows.specs.Orders.{rises}
-use Rattle.office_rows.specs.Checks.{AreReceiptRows, AreStateRows, Checks, IsReceiptRow, row_key, receipt_key_order, receipt_key_total}
+use Rattle.office_rows.specs.Checks.{AreReceiptRows, AreStateRows, StatesAreByTable, Checks, IsReceiptRow, row_key, receipt_key_order, receipt_key_total}
 use Rattle.office_rows.proofs.ListLemmas.{ascending_from_pairs, pairs_from_ascending, all_permutation, chosen, apart_moved, one_moved}
 use Rattle.office_rows.proofs.OrderLemmas.{rises_from, rises_up, sorted_strict}
 use Rattle.office_rows.proofs.ReceiptReadLemmas.{Differ}
@@ -138,3 +138,6 @@ rows_of_state version rows s st = record {
   };
   receipts = record { receipts = st.content.receipts; apart = st.is_content.receipts_apart; each = st.is_content.receipts; same = st.same.receipts };
 }
+
+pub states_are_by_table : StatesAreByTable
+states_are_by_table version rows = (state_of_rows version rows, λ s. rows_of_state version rows s.0 s.1)

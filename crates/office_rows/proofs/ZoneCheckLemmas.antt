@@ -33,7 +33,7 @@ use Rattle.office_rows.proofs.GatheredLaws.{are_gathered}
 use Rattle.office_rows.proofs.RecordRowLaws.{record_rows_are_apart}
 use Rattle.office_rows.specs.declared.ordered.ZoneRecord.{ZoneRecord}
 use Rattle.office_rows.specs.Orders.{rises}
-use Rattle.office_rows.specs.Checks.{AreZoneRows, IsOriginText, row_of_record, IsZoneRecord, IsZoneRecordRow, zone_record_order, zone_record_total, records_first, changes_first, AreZonesInTurn}
+use Rattle.office_rows.specs.Checks.{AreZoneRows, AreOrigins, HasItsRecords, AreRecordsOf, HasItsChanges, AreChangesOf, IsOriginText, row_of_record, IsZoneRecord, IsZoneRecordRow, zone_record_order, zone_record_total, records_first, changes_first, AreInTurn, AreRecordsIn, AreRecordsInTurn, AreChangesIn, AreChangesInTurn}
 use Rattle.office_rows.proofs.ContentLemmas.{Apart, changes_each}
 use Rattle.office_rows.proofs.ListLemmas.{list_any-map, ascending_from_pairs, pairs_from_ascending, all_permutation, moved_back, apart_moved}
 use Rattle.office_rows.proofs.NameLemmas.{text_one}
@@ -72,15 +72,15 @@ pub tag_each : (o : Labels) (rs : List Record) → IsName o → AllByRecursion I
 tag_each o [] named all = tt
 tag_each o (r ∷ rs) named all = (record { origin = named; rr = all.0 }, tag_each o rs named all.1)
 
-tagged_each : (zs : List ZoneRows) → AllByRecursion IsZoneRows zs → AllByRecursion IsZoneRecord (tagged zs)
+tagged_each : (zs : List ZoneRows) → AllByRecursion HasItsRecords zs → AllByRecursion IsZoneRecord (tagged zs)
 tagged_each zs each =
     all-flat_map IsZoneRecord zone_tagged zs
-    (all_weaker IsZoneRows (λ z. AllByRecursion IsZoneRecord (zone_tagged z)) (λ z is. tag_each z.origin z.records is.origin (records_of_zone z.origin z.records is.zone)) zs each)
+    (all_weaker HasItsRecords (λ z. AllByRecursion IsZoneRecord (zone_tagged z)) (λ z is. tag_each z.origin z.records is.origin (records_of_zone z.origin z.records is.zone)) zs each)
 
-entries_each : (zs : List ZoneRows) → AllByRecursion IsZoneRows zs → AllByRecursion IsChanged (all_entries zs)
+entries_each : (zs : List ZoneRows) → AllByRecursion HasItsChanges zs → AllByRecursion IsChanged (all_entries zs)
 entries_each zs each =
     all-flat_map IsChanged zone_entries zs
-    (all_weaker IsZoneRows (λ z. AllByRecursion IsChanged (zone_entries z)) (λ z is. entries_are z.origin 1 z.changes is.origin (omega arith) is.changes) zs each)
+    (all_weaker HasItsChanges (λ z. AllByRecursion IsChanged (zone_entries z)) (λ z is. entries_are z.origin 1 z.changes is.origin (omega arith) is.changes) zs each)
 
 -- their origins
 pub tag_of : (o : Labels) (rs : List Record) → AllByRecursion (λ r. r.origin ≡ o) (map (tag o) rs)
@@ -143,15 +143,15 @@ unfolding IsStrictlySortedBy
 records_up o [] h = tt
 records_up o (r ∷ rs) h = (records_above o r rs h.0, records_up o rs h.1)
 
-tagged_up : (zs : List ZoneRows) → AllByRecursion IsZoneRows zs → IsAscending Before zs → IsAscending RecordBelow (tagged zs)
+tagged_up : (zs : List ZoneRows) → AllByRecursion HasItsRecords zs → IsAscending Before zs → IsAscending RecordBelow (tagged zs)
 tagged_up zs each up =
     zones_up RecordBelow zone_tagged (λ a b before. lists_before RecordBelow (λ x. x.origin) by_origin_record a.origin b.origin (zone_tagged a) (zone_tagged b) before (tag_of a.origin a.records) (tag_of b.origin b.records))
-    zs (all_weaker IsZoneRows (λ z. IsAscending RecordBelow (zone_tagged z)) (λ z is. records_up z.origin z.records is.zone.order) zs each) up
+    zs (all_weaker HasItsRecords (λ z. IsAscending RecordBelow (zone_tagged z)) (λ z is. records_up z.origin z.records is.zone.order) zs each) up
 
-all_entries_up : (zs : List ZoneRows) → AllByRecursion IsZoneRows zs → IsAscending Before zs → IsAscending ChangeBelow (all_entries zs)
+all_entries_up : (zs : List ZoneRows) → AllByRecursion HasItsChanges zs → IsAscending Before zs → IsAscending ChangeBelow (all_entries zs)
 all_entries_up zs each up =
     zones_up ChangeBelow zone_entries (λ a b before. lists_before ChangeBelow (λ x. x.origin) by_origin_change a.origin b.origin (zone_entries a) (zone_entries b) before (entries_of a.origin 1 a.changes) (entries_of b.origin 1 b.changes))
-    zs (all_weaker IsZoneRows (λ z. IsAscending ChangeBelow (zone_entries z)) (λ z is. entries_up z.origin 1 z.changes is.changes) zs each) up
+    zs (all_weaker HasItsChanges (λ z. IsAscending ChangeBelow (zone_entries z)) (λ z is. entries_up z.origin 1 z.changes is.changes) zs each) up
 
 -- ---- those of one origin that stand first
 
@@ -196,22 +196,27 @@ pub untagged : (o : Labels) (rs : List Record) → map (λ r. r.rr) (map (tag o)
 untagged o [] = refl
 untagged o (r ∷ rs) = ap (λ l. r ∷ l) (untagged o rs)
 
-pub in_turn : (zs : List ZoneRows) → AllByRecursion IsZoneRows zs → IsAscending Before zs → AreZonesInTurn (map (λ z. z.origin) zs) (tagged zs) (all_entries zs)
-in_turn [] each up = (refl, refl)
-in_turn (z ∷ zs) each up =
-    let o = z.origin in
-    let own = zone_tagged z in
-    let changes = zone_entries z in
-    let n : length own ≡ records_first o (tagged (z ∷ zs)) = sym (run_is (λ (r : ZoneRecord). r.origin) o own (tagged zs) (tag_of o z.records) (later_apart (λ (r : ZoneRecord). r.origin) zone_tagged (λ x. tag_of x.origin x.records) o zs up.0)) in
-    let m : length changes ≡ changes_first o (all_entries (z ∷ zs)) = sym (run_is (λ (c : ChangedRecord). c.origin) o changes (all_entries zs) (entries_of o 1 z.changes) (later_apart (λ (c : ChangedRecord). c.origin) zone_entries (λ x. entries_of x.origin 1 x.changes) o zs up.0)) in
-    let zone : AreOfZone o (map (λ r. r.rr) (take (records_first o (tagged (z ∷ zs))) (tagged (z ∷ zs)))) =
-    subst (AreOfZone o) (sym (ap (map (λ (r : ZoneRecord). r.rr)) (take_at own (tagged zs) (records_first o (tagged (z ∷ zs))) n) ∙ untagged o z.records)) each.0.zone in
-    let numbered : are_numbered (take (changes_first o (all_entries (z ∷ zs))) (all_entries (z ∷ zs))) ≡ true =
-    ap are_numbered (take_at changes (all_entries zs) (changes_first o (all_entries (z ∷ zs))) m) ∙ entries_numbered o z.changes each.0.origin each.0.changes in (
-      (zone, numbered),
-      subst (λ rs. AreZonesInTurn (map (λ x. x.origin) zs) rs (drop (changes_first o (all_entries (z ∷ zs))) (all_entries (z ∷ zs)))) (sym (drop_at own (tagged zs) (records_first o (tagged (z ∷ zs))) n))
-          (subst (AreZonesInTurn (map (λ x. x.origin) zs) (tagged zs)) (sym (drop_at changes (all_entries zs) (changes_first o (all_entries (z ∷ zs))) m)) (in_turn zs each.1 up.1)),
-    )
+-- what is of zones in the order of their origins is taken in turn
+module _ {X : Type 0} (origin : X → Labels) (f : ZoneRows → List X) (own : (z : ZoneRows) → AllByRecursion (λ x. origin x ≡ z.origin) (f z)) (P : Labels → List X → Type 0) where
+  in_turn : (zs : List ZoneRows) → AllByRecursion (λ z. P z.origin (f z)) zs → IsAscending Before zs → AreInTurn (λ o xs. run origin o xs) P (map (λ z. z.origin) zs) (flat_map f zs)
+  in_turn [] each up = refl
+  in_turn (z ∷ zs) each up =
+      let o = z.origin in
+      let xs = flat_map f (z ∷ zs) in
+      let n : length (f z) ≡ run origin o xs = sym (run_is origin o (f z) (flat_map f zs) (own z) (later_apart origin f own o zs up.0)) in (
+        subst (P o) (sym (take_at (f z) (flat_map f zs) (run origin o xs) n)) each.0,
+        subst (AreInTurn (λ p ys. run origin p ys) P (map (λ x. x.origin) zs)) (sym (drop_at (f z) (flat_map f zs) (run origin o xs) n)) (in_turn zs each.1 up.1),
+      )
+
+pub records_in_turn : (zs : List ZoneRows) → AllByRecursion HasItsRecords zs → IsAscending Before zs → AreRecordsInTurn (map (λ z. z.origin) zs) (tagged zs)
+records_in_turn zs each up =
+    in_turn (λ (r : ZoneRecord). r.origin) zone_tagged (λ z. tag_of z.origin z.records) AreRecordsIn zs
+    (all_weaker HasItsRecords (λ z. AreRecordsIn z.origin (zone_tagged z)) (λ z is. subst (AreOfZone z.origin) (sym (untagged z.origin z.records)) is.zone) zs each) up
+
+pub changes_in_turn : (zs : List ZoneRows) → AllByRecursion HasItsChanges zs → IsAscending Before zs → AreChangesInTurn (map (λ z. z.origin) zs) (all_entries zs)
+changes_in_turn zs each up =
+    in_turn (λ (c : ChangedRecord). c.origin) zone_entries (λ z. entries_of z.origin 1 z.changes) AreChangesIn zs
+    (all_weaker HasItsChanges (λ z. AreChangesIn z.origin (zone_entries z)) (λ z is. entries_numbered z.origin z.changes is.origin is.changes) zs each) up
 
 abbrev pub IsTied : Labels → Labels → Type 0
 IsTied o p = canonical_cmp o p ≡ Equal
@@ -224,6 +229,32 @@ record_one a b is also e =
     let both = record_rows_are_apart a.origin b.origin a.rr b.rr is.origin also.origin is.rr also.rr e in
     ap₂ tag both.0 both.1
 
+-- what was read of the rows of zones, in order
+module _ (zs : List ZoneRows) (up : IsAscending Before zs) where
+  pub records_are : (records : List RecordRowOf) (rs : List ZoneRecord) → AllByRecursion HasItsRecords zs → IsPermutation (flat_map zone_records zs) records
+      → IsPermutation (map row_of_record rs) records → AllByRecursion IsZoneRecord rs → IsSorted zone_record_order rs → rs ≡ tagged zs
+  records_are records rs own rows same each sorted =
+      let back = subst (λ l. IsPermutation l (map row_of_record rs)) (sym (tagged_rows zs)) (IsPermutation-trans (flat_map zone_records zs) records (map row_of_record rs) rows (IsPermutation-sym (map row_of_record rs) records same)) in
+      let moved = moved_back IsZoneRecord row_of_record record_one (tagged zs) rs (tagged_each zs own) each back in
+      sorted_unique zone_record_order zone_record_total (tagged zs) rs (tagged_up zs own up) moved sorted
+
+  pub changes_are : (changes : List ChangeRowOf) (cs : List ChangedRecord) → AllByRecursion HasItsChanges zs → IsPermutation (flat_map zone_changes zs) changes
+      → IsPermutation (map row_of cs) changes → AllByRecursion IsChanged cs → IsSorted changed_order cs → cs ≡ all_entries zs
+  changes_are changes cs own rows same each sorted =
+      let back = subst (λ l. IsPermutation l (map row_of cs)) (sym (entries_all_rows zs)) (IsPermutation-trans (flat_map zone_changes zs) changes (map row_of cs) rows (IsPermutation-sym (map row_of cs) changes same)) in
+      let moved = moved_back IsChanged row_of change_rows_are_apart (all_entries zs) cs (entries_each zs own) each back in
+      sorted_unique changed_order changed_order_total (all_entries zs) cs (all_entries_up zs own up) moved sorted
+
+pub record_rows : (zs : List ZoneRows) (records : List RecordRowOf) → AllByRecursion HasItsRecords zs → IsPermutation (flat_map zone_records zs) records → AllByRecursion IsZoneRecordRow records
+record_rows zs records own same =
+    all_permutation IsZoneRecordRow (flat_map zone_records zs) records same
+    (subst (AllByRecursion IsZoneRecordRow) (tagged_rows zs) (all_map IsZoneRecordRow row_of_record (tagged zs) (all_weaker IsZoneRecord (λ r. IsZoneRecordRow (row_of_record r)) (λ r is. (r, is, refl)) (tagged zs) (tagged_each zs own))))
+
+pub change_rows : (zs : List ZoneRows) (changes : List ChangeRowOf) → AllByRecursion HasItsChanges zs → IsPermutation (flat_map zone_changes zs) changes → AllByRecursion IsChangeRow changes
+change_rows zs changes own same =
+    all_permutation IsChangeRow (flat_map zone_changes zs) changes same
+    (subst (AllByRecursion IsChangeRow) (entries_all_rows zs) (all_map IsChangeRow row_of (all_entries zs) (all_weaker IsChanged (λ c. IsChangeRow (row_of c)) (λ c is. (c, is, refl)) (all_entries zs) (entries_each zs own))))
+
 module _ (texts : List (List ℕ)) (records : List RecordRowOf) (changes : List ChangeRowOf) (are : AreZoneRows texts records changes) where
   -- each row is one
   pub origin_rows : AllByRecursion IsOriginText texts
@@ -231,26 +262,16 @@ module _ (texts : List (List ℕ)) (records : List RecordRowOf) (changes : List 
       all_permutation IsOriginText (map (λ (z : ZoneRows). name_text z.origin) are.zones) texts are.same_origins
       (all_map IsOriginText (λ (z : ZoneRows). name_text z.origin) are.zones (all_weaker IsZoneRows (λ z. IsOriginText (name_text z.origin)) (λ z is. (z.origin, is.origin, refl)) are.zones are.each))
 
-  pub record_rows : AllByRecursion IsZoneRecordRow records
-  record_rows =
-      all_permutation IsZoneRecordRow (flat_map zone_records are.zones) records are.same_records
-      (subst (AllByRecursion IsZoneRecordRow) (tagged_rows are.zones) (all_map IsZoneRecordRow row_of_record (tagged are.zones) (all_weaker IsZoneRecord (λ r. IsZoneRecordRow (row_of_record r)) (λ r is. (r, is, refl)) (tagged are.zones) (tagged_each are.zones are.each))))
-
-  pub change_rows : AllByRecursion IsChangeRow changes
-  change_rows =
-      all_permutation IsChangeRow (flat_map zone_changes are.zones) changes are.same_changes
-      (subst (AllByRecursion IsChangeRow) (entries_all_rows are.zones) (all_map IsChangeRow row_of (all_entries are.zones) (all_weaker IsChanged (λ c. IsChangeRow (row_of c)) (λ c is. (c, is, refl)) (all_entries are.zones) (entries_each are.zones are.each))))
-
   module _ (os : List Labels) (texts_are : IsPermutation (map name_text os) texts) (named : AllByRecursion IsName os) (sorted : IsSorted canonical_cmp os) where
     -- the zones in the order of their origins
-    record InOrderOf : Type 0 where
-      zones : List ZoneRows
-      moved : IsPermutation are.zones zones
-      origins : os ≡ map (λ z. z.origin) zones
-      each : AllByRecursion IsZoneRows zones
-      up : IsAscending Before zones
+    pub record InOrderOf : Type 0 where
+      pub zones : List ZoneRows
+      pub moved : IsPermutation are.zones zones
+      pub origins : os ≡ map (λ z. z.origin) zones
+      pub each : AllByRecursion IsZoneRows zones
+      pub up : IsAscending Before zones
 
-    ordered : InOrderOf
+    pub ordered : InOrderOf
     ordered =
         let all_named = all_map IsName (λ (z : ZoneRows). z.origin) are.zones (all_weaker IsZoneRows (λ z. IsName z.origin) (λ z is. is.origin) are.zones are.each) in
         let texts_same = subst (λ l. IsPermutation l (map name_text os)) (sym (map-map name_text (λ (z : ZoneRows). z.origin) are.zones))
@@ -282,32 +303,6 @@ module _ (texts : List (List ℕ)) (records : List RecordRowOf) (changes : List 
         ∙ list_any-map (λ name. same_name name o) (λ (z : ZoneRows). z.origin) zones
         ∙ sym (list_any-IsPermutation (λ z. same_name z.origin o) are.zones zones ordered.moved)
 
-    records_are : (rs : List ZoneRecord) → IsPermutation (map row_of_record rs) records → AllByRecursion IsZoneRecord rs → IsSorted zone_record_order rs → rs ≡ tagged zones
-    records_are rs same each sorted =
-        let rows = subst (λ l. IsPermutation l (map row_of_record rs)) (sym (tagged_rows zones))
-        (IsPermutation-trans (flat_map zone_records zones) records (map row_of_record rs)
-        (IsPermutation-trans (flat_map zone_records zones) (flat_map zone_records are.zones) records (IsPermutation-flat_map zone_records zones are.zones (IsPermutation-sym are.zones zones ordered.moved)) are.same_records)
-        (IsPermutation-sym (map row_of_record rs) records same)) in
-        let moved = moved_back IsZoneRecord row_of_record record_one (tagged zones) rs (tagged_each zones ordered.each) each rows in
-        sorted_unique zone_record_order zone_record_total (tagged zones) rs (tagged_up zones ordered.each ordered.up) moved sorted
-
-    changes_are : (cs : List ChangedRecord) → IsPermutation (map row_of cs) changes → AllByRecursion IsChanged cs → IsSorted changed_order cs → cs ≡ all_entries zones
-    changes_are cs same each sorted =
-        let rows = subst (λ l. IsPermutation l (map row_of cs)) (sym (entries_all_rows zones))
-        (IsPermutation-trans (flat_map zone_changes zones) changes (map row_of cs)
-        (IsPermutation-trans (flat_map zone_changes zones) (flat_map zone_changes are.zones) changes (IsPermutation-flat_map zone_changes zones are.zones (IsPermutation-sym are.zones zones ordered.moved)) are.same_changes)
-        (IsPermutation-sym (map row_of cs) changes same)) in
-        let moved = moved_back IsChanged row_of change_rows_are_apart (all_entries zones) cs (entries_each zones ordered.each) each rows in
-        sorted_unique changed_order changed_order_total (all_entries zones) cs (all_entries_up zones ordered.each ordered.up) moved sorted
-
-    -- what was read of the rows, in order, is taken zone by zone
-    pub taken_in_turn : (rs : List ZoneRecord) (cs : List ChangedRecord) → IsPermutation (map row_of_record rs) records → AllByRecursion IsZoneRecord rs → IsSorted zone_record_order rs
-        → IsPermutation (map row_of cs) changes → AllByRecursion IsChanged cs → IsSorted changed_order cs → AreZonesInTurn os rs cs
-    taken_in_turn rs cs rows each order change_rows changed change_order =
-        subst (λ l. AreZonesInTurn l rs cs) (sym ordered.origins)
-        (subst (λ l. AreZonesInTurn (map (λ z. z.origin) zones) l cs) (sym (records_are rs rows each order))
-        (subst (AreZonesInTurn (map (λ z. z.origin) zones) (tagged zones)) (sym (changes_are cs change_rows changed change_order)) (in_turn zones ordered.each ordered.up)))
-
 -- ---- what passes is a state's
 
 -- all of one zone are tagged with its origin
@@ -333,14 +328,6 @@ its_changes o (c ∷ cs) named each all numbered =
     let is : found.0 ≡ o = text_one found.0 c.origin found.1 each.0.origin text ∙ all.0 in
     record { changes = all_of_it; each = found.2; rows = subst (λ p. IsPermutation (changes_rows p 1 all_of_it) rows) is found.3 }
 
--- zones that were taken one after the other
-record Taken (os : List Labels) (rs : List ZoneRecord) (cs : List ChangedRecord) : Type 0 where
-  zones : List ZoneRows
-  origins : map (λ z. z.origin) zones ≡ os
-  each : AllByRecursion IsZoneRows zones
-  records : flat_map zone_records zones ≡ map row_of_record rs
-  changes : IsPermutation (flat_map zone_changes zones) (map row_of cs)
-
 pub front_all : {X : Type 0} (P : X → Type 0) (n : ℕ) (xs : List X) → AllByRecursion P xs → AllByRecursion P (take n xs)
 front_all P zero xs all = tt
 front_all P (suc n) [] all = tt
@@ -351,46 +338,80 @@ back_all P zero xs all = all
 back_all P (suc n) [] all = tt
 back_all P (suc n) (x ∷ xs) all = back_all P n xs all.1
 
-taken : (os : List Labels) (rs : List ZoneRecord) (cs : List ChangedRecord) → AllByRecursion IsName os → AllByRecursion IsChanged cs → AreZonesInTurn os rs cs → Taken os rs cs
-taken [] rs cs named changed turn = record {
-  zones = [];
-  origins = refl;
-  each = tt;
-  records = ap (map row_of_record) (sym turn.0);
-  changes = IsPermutation-same [] (map row_of cs) (ap (map row_of) (sym turn.1));
-}
-taken (o ∷ os) rs cs named changed turn =
+-- zones of which the records were taken one after the other
+record RecordsTaken (os : List Labels) (rs : List ZoneRecord) : Type 0 where
+  zones : List ZoneRows
+  origins : map (λ z. z.origin) zones ≡ os
+  each : AllByRecursion HasItsRecords zones
+  rows : flat_map zone_records zones ≡ map row_of_record rs
+
+records_taken : (os : List Labels) (rs : List ZoneRecord) → AllByRecursion IsName os → AreRecordsInTurn os rs → RecordsTaken os rs
+records_taken [] rs named turn = record { zones = []; origins = refl; each = tt; rows = ap (map row_of_record) (sym turn) }
+records_taken (o ∷ os) rs named turn =
     let n = records_first o rs in
-    let m = changes_first o cs in
-    let later = taken os (drop n rs) (drop m cs) named.1 (back_all IsChanged m cs changed) turn.1 in
-    let own = its_changes o (take m cs) named.0 (front_all IsChanged m cs changed) (run_of (λ (c : ChangedRecord). c.origin) o cs) turn.0.1 in
-    let z : ZoneRows = record { origin = o; records = map (λ r. r.rr) (take n rs); changes = own.changes } in
+    let later = records_taken os (drop n rs) named.1 turn.1 in
+    let z : ZoneRows = record { origin = o; records = map (λ r. r.rr) (take n rs); changes = [] } in
     record {
       zones = z ∷ later.zones;
       origins = ap (λ l. o ∷ l) later.origins;
-      each = (record { origin = named.0; zone = turn.0.0; changes = own.each }, later.each);
-      records =
-          ap₂ ◌++◌ (sym (tags_are o (take n rs) (run_of (λ (r : ZoneRecord). r.origin) o rs))) later.records
+      each = (record { origin = named.0; zone = turn.0 }, later.each);
+      rows =
+          ap₂ ◌++◌ (sym (tags_are o (take n rs) (run_of (λ (r : ZoneRecord). r.origin) o rs))) later.rows
           ∙ sym (map-append row_of_record (take n rs) (drop n rs)) ∙ ap (map row_of_record) (take-append-drop n rs);
-      changes =
-          subst (IsPermutation (zone_changes z ++ flat_map zone_changes later.zones)) (sym (map-append row_of (take m cs) (drop m cs)) ∙ ap (map row_of) (take-append-drop m cs))
-          (IsPermutation-append (zone_changes z) (map row_of (take m cs)) (flat_map zone_changes later.zones) (map row_of (drop m cs)) own.rows later.changes);
     }
 
-pub are_zone_rows : (texts : List (List ℕ)) (records : List RecordRowOf) (changes : List ChangeRowOf) (os : List Labels) (rs : List ZoneRecord) (cs : List ChangedRecord)
-    → IsPermutation (map name_text os) texts → AllByRecursion IsName os → rises canonical_cmp os ≡ true
-    → IsPermutation (map row_of_record rs) records → IsPermutation (map row_of cs) changes → AllByRecursion IsChanged cs → AreZonesInTurn os rs cs → AreZoneRows texts records changes
-are_zone_rows texts records changes os rs cs texts_are named rise rows change_rows changed turn =
-    let t = taken os rs cs named changed turn in
-    let up = ascending_from_map (λ a b. canonical_cmp a b ≡ Less) (λ (z : ZoneRows). z.origin) t.zones (subst (IsAscending (λ a b. canonical_cmp a b ≡ Less)) (sym t.origins) (rises_up canonical_cmp canonical_total os rise)) in
+-- zones of which the changes were
+record ChangesTaken (os : List Labels) (cs : List ChangedRecord) : Type 0 where
+  zones : List ZoneRows
+  origins : map (λ z. z.origin) zones ≡ os
+  each : AllByRecursion HasItsChanges zones
+  rows : IsPermutation (flat_map zone_changes zones) (map row_of cs)
+
+changes_taken : (os : List Labels) (cs : List ChangedRecord) → AllByRecursion IsName os → AllByRecursion IsChanged cs → AreChangesInTurn os cs → ChangesTaken os cs
+changes_taken [] cs named changed turn = record { zones = []; origins = refl; each = tt; rows = IsPermutation-same [] (map row_of cs) (ap (map row_of) (sym turn)) }
+changes_taken (o ∷ os) cs named changed turn =
+    let m = changes_first o cs in
+    let later = changes_taken os (drop m cs) named.1 (back_all IsChanged m cs changed) turn.1 in
+    let own = its_changes o (take m cs) named.0 (front_all IsChanged m cs changed) (run_of (λ (c : ChangedRecord). c.origin) o cs) turn.0 in
+    let z : ZoneRows = record { origin = o; records = []; changes = own.changes } in
     record {
-      zones = t.zones;
-      apart = pairs_from_ascending Apart t.zones (ascending_weaker Before Apart apart_by t.zones up);
-      each = t.each;
-      same_origins = subst (λ l. IsPermutation l texts) (ap (map name_text) (sym t.origins) ∙ map-map name_text (λ (z : ZoneRows). z.origin) t.zones) texts_are;
-      same_records = subst (λ l. IsPermutation l records) (sym t.records) rows;
-      same_changes = IsPermutation-trans (flat_map zone_changes t.zones) (map row_of cs) changes t.changes change_rows;
+      zones = z ∷ later.zones;
+      origins = ap (λ l. o ∷ l) later.origins;
+      each = (record { origin = named.0; changes = own.each }, later.each);
+      rows =
+          subst (IsPermutation (zone_changes z ++ flat_map zone_changes later.zones)) (sym (map-append row_of (take m cs) (drop m cs)) ∙ ap (map row_of) (take-append-drop m cs))
+          (IsPermutation-append (zone_changes z) (map row_of (take m cs)) (flat_map zone_changes later.zones) (map row_of (drop m cs)) own.rows later.rows);
     }
-  where
-    apart_by : (a b : ZoneRows) → Before a b → Apart a b
-    apart_by a b before same = let tie : canonical_cmp a.origin b.origin ≡ Equal = ap (λ q. canonical_cmp q b.origin) same ∙ tied_itself canonical_total b.origin in let bad : Less ≡ Equal = sym before ∙ tie in cc
+
+-- ---- table by table
+
+module _ (os : List Labels) (are : AreOrigins os) where
+  origins_up : IsAscending (λ a b. canonical_cmp a b ≡ Less) os
+  origins_up = rises_up canonical_cmp canonical_total os are.order
+
+  zones_before : (zs : List ZoneRows) → map (λ z. z.origin) zs ≡ os → IsAscending Before zs
+  zones_before zs is = ascending_from_map (λ a b. canonical_cmp a b ≡ Less) (λ (z : ZoneRows). z.origin) zs (subst (IsAscending (λ a b. canonical_cmp a b ≡ Less)) (sym is) origins_up)
+
+  module _ (rows : List RecordRowOf) (rs : List ZoneRecord) (same : IsPermutation (map row_of_record rs) rows) where
+    pub records_pass : AllByRecursion IsZoneRecord rs → IsSorted zone_record_order rs → AreRecordsOf os rows → AreRecordsInTurn os rs
+    records_pass each sorted of =
+        let up = zones_before of.zones of.origins_are in
+        subst (λ l. AreRecordsInTurn l rs) of.origins_are
+        (subst (AreRecordsInTurn (map (λ z. z.origin) of.zones)) (sym (records_are of.zones up rows rs of.each of.same same each sorted)) (records_in_turn of.zones of.each up))
+
+    pub are_records_of : AreRecordsInTurn os rs → AreRecordsOf os rows
+    are_records_of turn =
+        let t = records_taken os rs are.each turn in
+        record { zones = t.zones; origins_are = t.origins; each = t.each; same = subst (λ l. IsPermutation l rows) (sym t.rows) same }
+
+  module _ (rows : List ChangeRowOf) (cs : List ChangedRecord) (same : IsPermutation (map row_of cs) rows) (each : AllByRecursion IsChanged cs) where
+    pub changes_pass : IsSorted changed_order cs → AreChangesOf os rows → AreChangesInTurn os cs
+    changes_pass sorted of =
+        let up = zones_before of.zones of.origins_are in
+        subst (λ l. AreChangesInTurn l cs) of.origins_are
+        (subst (AreChangesInTurn (map (λ z. z.origin) of.zones)) (sym (changes_are of.zones up rows cs of.each of.same same each sorted)) (changes_in_turn of.zones of.each up))
+
+    pub are_changes_of : AreChangesInTurn os cs → AreChangesOf os rows
+    are_changes_of turn =
+        let t = changes_taken os cs are.each each turn in
+        record { zones = t.zones; origins_are = t.origins; each = t.each; same = IsPermutation-trans (flat_map zone_changes t.zones) (map row_of cs) rows t.rows same }

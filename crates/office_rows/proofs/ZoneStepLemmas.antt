@@ -1,6 +1,5 @@
 -- One zone after the other: a step of the walk, and its end; and a zone by itself.
 use Rattle.std.proofs.Common.{◌≡◌, ◌↔◌, ℕ, ◌+◌, ◌<◌, ◌≤◌, Bool, true, false, eqb, List, [], ◌∷◌, length, take, drop, get_or, sym, ap, subst, ◌∙◌, ◌&&◌, eqb-true, eq-eqb, Option, Some, None, Result, Ok, Err}
-use Rattle.std.proofs.lemmas.Bool.{and_parts, and_from}
 use Rattle.std.proofs.lemmas.List.{drop_more, drop_all, nil_from_length}
 use Rattle.sqlite_rules.proofs.ListLemmas.{all_from, contains_had}
 use Rattle.zone_core.specs.declared.refusals.ZoneFault.{ZoneFault}
@@ -14,49 +13,42 @@ use Rattle.office_rows.proofs.RowSteps.{ok_is}
 use Rattle.office_rows.specs.RowFaults.{of_zones}
 use Rattle.office_rows.proofs.ZoneReadLemmas.{here, there}
 use Rattle.dns_data.specs.declared.record.Record.{Record}
-use Rattle.office_rows.specs.declared.changes.ChangedRecord.{ChangedRecord}
-use Rattle.office_rows.specs.declared.ordered.ZoneRecord.{ZoneRecord}
-use Rattle.office_rows.specs.Checks.{records_first, changes_first, IsZoneOf, AreZonesInTurn}
+use Rattle.office_rows.specs.Checks.{AreInTurn}
 
 abbrev Labels : Type 0
 Labels = List (List ℕ)
 
-module _ (Whole : Type 0) (origins : List Labels) (i : ℕ) (rs : List ZoneRecord) (cs : List ChangedRecord) (left : AreZonesInTurn (drop i origins) rs cs ↔ Whole) where
-  module _ (o : Labels) (below : i < length origins) (is : o ≡ get_or origins i o) (n m : ℕ) (n_is : n ≡ records_first o rs) (m_is : m ≡ changes_first o cs) where
+module _ {X : Type 0} (first : Labels → List X → ℕ) (P : Labels → List X → Type 0) (Whole : Type 0) (origins : List Labels) (i : ℕ) (xs : List X) (left : AreInTurn first P (drop i origins) xs ↔ Whole) where
+  module _ (o : Labels) (below : i < length origins) (is : o ≡ get_or origins i o) (n : ℕ) (n_is : n ≡ first o xs) where
     -- the next zone, and those behind it
     abbrev Next : Type 0
-    Next = IsZoneOf o (take n rs) (take m cs) × AreZonesInTurn (drop (i + 1) origins) (drop n rs) (drop m cs)
+    Next = P o (take n xs) × AreInTurn first P (drop (i + 1) origins) (drop n xs)
 
     opened : drop i origins ≡ o ∷ drop (i + 1) origins
     opened = drop_more origins i o below ∙ ap (λ p. p ∷ drop (i + 1) origins) (sym is)
 
-    from_next : Next → AreZonesInTurn (drop i origins) rs cs
+    from_next : Next → AreInTurn first P (drop i origins) xs
     from_next next =
-        subst (λ os. AreZonesInTurn os rs cs) (sym opened)
-        (subst (λ k. IsZoneOf o (take k rs) (take (changes_first o cs) cs) × AreZonesInTurn (drop (i + 1) origins) (drop k rs) (drop (changes_first o cs) cs)) n_is
-        (subst (λ k. IsZoneOf o (take n rs) (take k cs) × AreZonesInTurn (drop (i + 1) origins) (drop n rs) (drop k cs)) m_is next))
+        subst (λ os. AreInTurn first P os xs) (sym opened) (subst (λ k. P o (take k xs) × AreInTurn first P (drop (i + 1) origins) (drop k xs)) n_is next)
 
-    to_next : AreZonesInTurn (drop i origins) rs cs → Next
+    to_next : AreInTurn first P (drop i origins) xs → Next
     to_next turn =
-        subst (λ k. IsZoneOf o (take n rs) (take k cs) × AreZonesInTurn (drop (i + 1) origins) (drop n rs) (drop k cs)) (sym m_is)
-        (subst (λ k. IsZoneOf o (take k rs) (take (changes_first o cs) cs) × AreZonesInTurn (drop (i + 1) origins) (drop k rs) (drop (changes_first o cs) cs)) (sym n_is)
-        (subst (λ os. AreZonesInTurn os rs cs) opened turn))
+        subst (λ k. P o (take k xs) × AreInTurn first P (drop (i + 1) origins) (drop k xs)) (sym n_is) (subst (λ os. AreInTurn first P os xs) opened turn)
 
     -- a zone that passes leaves those behind it
-    pub passes : IsZoneOf o (take n rs) (take m cs) → AreZonesInTurn (drop (i + 1) origins) (drop n rs) (drop m cs) ↔ Whole
+    pub passes : P o (take n xs) → AreInTurn first P (drop (i + 1) origins) (drop n xs) ↔ Whole
     passes zone = (λ later. left.0 (from_next (zone, later)), λ whole. (to_next (left.1 whole)).1)
 
     -- one that does not stops all
-    pub stops : ¬ (IsZoneOf o (take n rs) (take m cs)) → (false ≡ true) ↔ Whole
+    pub stops : ¬ (P o (take n xs)) → (false ≡ true) ↔ Whole
     stops none = (λ e. absurd (let bad : false ≡ true = e in cc), λ whole. absurd (none (to_next (left.1 whole)).0))
 
   -- behind the last zone nothing is left
-  pub ends : length origins ≤ i → (a b : Bool) → a ≡ eqb (length rs) 0 → b ≡ eqb (length cs) 0 → ((a && b) ≡ true) ↔ Whole
-  ends past a b a_is b_is =
+  pub ends : length origins ≤ i → (b : Bool) → b ≡ eqb (length xs) 0 → (b ≡ true) ↔ Whole
+  ends past b b_is =
       let none : drop i origins ≡ [] = drop_all i origins past in (
-        λ t. (let both = and_parts a b t in
-            left.0 (subst (λ os. AreZonesInTurn os rs cs) (sym none) (nil_from_length rs (eqb-true (length rs) 0 (sym a_is ∙ both.0)), nil_from_length cs (eqb-true (length cs) 0 (sym b_is ∙ both.1))))),
-        λ whole. (let both = subst (λ os. AreZonesInTurn os rs cs) none (left.1 whole) in and_from a b (a_is ∙ eq-eqb (length rs) 0 (ap length both.0)) (b_is ∙ eq-eqb (length cs) 0 (ap length both.1))),
+        λ t. left.0 (subst (λ os. AreInTurn first P os xs) (sym none) (nil_from_length xs (eqb-true (length xs) 0 (sym b_is ∙ t)))),
+        λ whole. b_is ∙ eq-eqb (length xs) 0 (ap length (subst (λ os. AreInTurn first P os xs) none (left.1 whole))),
       )
 
 -- ---- a zone by itself

@@ -1,5 +1,5 @@
 -- When rows are a state, table by table, and how that is checked: rows are read and put in order, and then taken zone by zone.
-use Rattle.std.specs.Prelude.{◌≡◌, ◌≢◌, ℕ, ℤ, List, [], ◌∷◌, map, take, drop, true, not, Result, Ok, Err}
+use Rattle.std.specs.Prelude.{◌≡◌, ◌≢◌, ◌↔◌, ℕ, ℤ, List, [], ◌∷◌, map, take, drop, true, not, Result, Ok, Err}
 use Rattle.std.specs.List.{AllByRecursion, AllPairs, flat_map, position_or_len}
 use Rattle.std.specs.List.Sorted.{IsPermutation}
 use Rattle.std.specs.declared.cmp.Ordering.{Ordering}
@@ -12,13 +12,15 @@ use Rattle.dns_names.specs.Spelling.{name_text}
 use Rattle.dns_data.specs.Rdata.{IsRecord}
 use Rattle.dns_data.specs.RecordOrder.{record_order, record_order_total}
 use Rattle.zone_core.specs.Views.{AreOfZone}
+use Rattle.office_state.specs.States.{State}
 use Rattle.office_sql.specs.Rows.{RecordRowOf, ReceiptRowOf, ChangeRowOf, RowsOf}
 use Rattle.office_rows.specs.declared.changes.ChangedRecord.{ChangedRecord}
 use Rattle.office_rows.specs.declared.row_fault.RowFault.{RowFault}
 use Rattle.office_rows.specs.declared.row_fault.RowFault.TheVariants.{BadRow, NoMemory}
 use Rattle.office_rows.specs.RecordRows.{record_row}
-use Rattle.office_rows.specs.ChangeRows.{are_numbered}
-use Rattle.office_rows.specs.Contents.{ZoneRows, ReceiptAt, zone_records, zone_changes, row_of_receipt, IsZoneRows, IsReceiptAt}
+use Rattle.office_rows.specs.ChangeRows.{are_numbered, IsChange}
+use Rattle.office_rows.specs.Contents.{ZoneRows, ReceiptAt, zone_records, zone_changes, row_of_receipt, IsZoneRows, IsReceiptAt, AreOfState}
+use Rattle.office_rows.specs.Orders.{rises}
 use Rattle.office_rows.specs.declared.ordered.ReceiptKey.{ReceiptKey}
 use Rattle.office_rows.specs.declared.ordered.ZoneRecord.{ZoneRecord}
 
@@ -33,6 +35,51 @@ pub record AreZoneRows (origins : List (List ℕ)) (records : List RecordRowOf) 
   pub same_records : IsPermutation (flat_map zone_records zones) records
   pub same_changes : IsPermutation (flat_map zone_changes zones) changes
 
+-- names in canonical order, none twice
+pub record AreOrigins (origins : List (List (List ℕ))) : Type 0 where
+  pub each : AllByRecursion IsName origins
+  pub order : rises canonical_cmp origins ≡ true
+
+-- rows are the texts of these origins
+pub record AreOriginRows (origins : List (List (List ℕ))) (rows : List (List ℕ)) : Type 0 where
+  pub are : AreOrigins origins
+  pub same : IsPermutation (map name_text origins) rows
+
+-- the records of a zone are those of its origin
+pub record HasItsRecords (z : ZoneRows) : Type 0 where
+  pub origin : IsName z.origin
+  pub zone : AreOfZone z.origin z.records
+
+-- rows are those of the records of zones of these origins, whatever their changes
+pub record AreRecordsOf (origins : List (List (List ℕ))) (rows : List RecordRowOf) : Type 0 where
+  pub zones : List ZoneRows
+  pub origins_are : map (λ z. z.origin) zones ≡ origins
+  pub each : AllByRecursion HasItsRecords zones
+  pub same : IsPermutation (flat_map zone_records zones) rows
+
+-- the changes of a zone are changes
+pub record HasItsChanges (z : ZoneRows) : Type 0 where
+  pub origin : IsName z.origin
+  pub changes : AllByRecursion IsChange z.changes
+
+-- rows are those of the changes of zones of these origins, whatever their records
+pub record AreChangesOf (origins : List (List (List ℕ))) (rows : List ChangeRowOf) : Type 0 where
+  pub zones : List ZoneRows
+  pub origins_are : map (λ z. z.origin) zones ≡ origins
+  pub each : AllByRecursion HasItsChanges zones
+  pub same : IsPermutation (flat_map zone_changes zones) rows
+
+-- rows of each of the three tables are those of zones of the same origins
+pub record AreRowsByTable (texts : List (List ℕ)) (record_rows : List RecordRowOf) (change_rows : List ChangeRowOf) : Type 0 where
+  pub origins : List (List (List ℕ))
+  pub zones : AreOriginRows origins texts
+  pub records : AreRecordsOf origins record_rows
+  pub changes : AreChangesOf origins change_rows
+
+-- which is so exactly where they are those of zones
+abbrev pub RowsAreByTable : Type 0
+RowsAreByTable = (texts : List (List ℕ)) (records : List RecordRowOf) (changes : List ChangeRowOf) → AreZoneRows texts records changes ↔ AreRowsByTable texts records changes
+
 -- rows are those of receipts of which no two of one caller have one identifier
 pub record AreReceiptRows (rows : List ReceiptRowOf) : Type 0 where
   pub receipts : List ReceiptAt
@@ -45,6 +92,10 @@ pub record AreStateRows (version : ℤ) (rows : RowsOf) : Type 0 where
   pub versions : rows.versions ≡ version ∷ []
   pub zones : AreZoneRows rows.zones rows.records rows.changes
   pub receipts : AreReceiptRows rows.receipts
+
+-- which is so exactly where they are a state
+abbrev pub StatesAreByTable : Type 0
+StatesAreByTable = (version : ℤ) (rows : RowsOf) → AreStateRows version rows ↔ ((s : State) × AreOfState version rows s)
 
 -- a check passes only where this holds, and refuses a row only where it doesn't; out of memory says nothing of it
 abbrev pub Checks : Type 0 → Result (Unit {0}) RowFault → Type 0
@@ -105,13 +156,21 @@ records_first origin records = position_or_len (λ r. not (same_name r.origin or
 abbrev pub changes_first : List (List ℕ) → List ChangedRecord → ℕ
 changes_first origin changes = position_or_len (λ c. not (same_name c.origin origin)) changes
 
--- one zone: its records in record order, and its changes, numbered from 1 without a gap
-abbrev pub IsZoneOf : List (List ℕ) → List ZoneRecord → List ChangedRecord → Type 0
-IsZoneOf origin records changes = AreOfZone origin (map (λ r. r.rr) records) × (are_numbered changes ≡ true)
+-- one zone after the other, each of the next origin, of what stands first; and nothing behind the last
+abbrev pub AreInTurn : {X : Type 0} → (List (List ℕ) → List X → ℕ) → (List (List ℕ) → List X → Type 0) → List (List (List ℕ)) → List X → Type 0
+AreInTurn first P [] xs = xs ≡ []
+AreInTurn first P (origin ∷ origins) xs = P origin (take (first origin xs) xs) × AreInTurn first P origins (drop (first origin xs) xs)
 
--- one zone after the other, each of the next origin, and nothing behind the last
-abbrev pub AreZonesInTurn : List (List (List ℕ)) → List ZoneRecord → List ChangedRecord → Type 0
-AreZonesInTurn [] records changes = (records ≡ []) × (changes ≡ [])
-AreZonesInTurn (origin ∷ origins) records changes =
-    IsZoneOf origin (take (records_first origin records) records) (take (changes_first origin changes) changes)
-    × AreZonesInTurn origins (drop (records_first origin records) records) (drop (changes_first origin changes) changes)
+-- the records of one zone, in record order
+abbrev pub AreRecordsIn : List (List ℕ) → List ZoneRecord → Type 0
+AreRecordsIn origin records = AreOfZone origin (map (λ r. r.rr) records)
+
+abbrev pub AreRecordsInTurn : List (List (List ℕ)) → List ZoneRecord → Type 0
+AreRecordsInTurn = AreInTurn records_first AreRecordsIn
+
+-- the changes of one zone, numbered from 1 without a gap
+abbrev pub AreChangesIn : List (List ℕ) → List ChangedRecord → Type 0
+AreChangesIn origin changes = are_numbered changes ≡ true
+
+abbrev pub AreChangesInTurn : List (List (List ℕ)) → List ChangedRecord → Type 0
+AreChangesInTurn = AreInTurn changes_first AreChangesIn

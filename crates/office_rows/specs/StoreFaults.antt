@@ -39,6 +39,16 @@ of_found (tables.Store cause) = Store cause
 of_found tables.BadRow = BadRow
 of_found tables.NoMemory = NoMemory
 
+-- the same of a row that was read
+abbrev pub of_checked : RowFault → StoreFault
+of_checked rows.BadRow = BadRow
+of_checked rows.NoMemory = NoMemory
+
+-- what a check of rows that somebody else may have written gives
+abbrev pub of_check : {A : Type 0} → Result A RowFault → Result A StoreFault
+of_check (Ok x) = Ok x
+of_check (Err fault) = Err (of_checked fault)
+
 -- an error of the store
 abbrev pub of_store : Error → StoreFault
 of_store error = of_rows (fault_of error)

@@ -93,6 +93,18 @@ fn all_behind(alloc: Global, rows: &[ChangeRow], count: u32) -> Result<Vec<Chang
     Ok(changed)
 }
 
+/// What each row has, which goes as soon as it is read.
+fn each_changed(alloc: Global, rows: Vec<ChangeRow>) -> Result<Vec<ChangedRecord>, RowFault>
+    ensures found { IfOk result (λ cs. (map row_of cs.items ≡ rows.items) × AllByRecursion IsChanged cs.items) }
+    ensures only { AllByRecursion IsChangeRow rows.items → IfErr result (λ e. e ≡ RowFault.NoMemory) }
+{
+    let mut changed = Vec::with_capacity(alloc, rows.len())?;
+    for row in rows {
+        changed.push(read_change(alloc, &row)?)?;
+    }
+    Ok(changed)
+}
+
 /// What each row has.
 fn all_changed(alloc: Global, rows: &[ChangeRow]) -> Result<Vec<ChangedRecord>, RowFault>
     ensures found { IfOk result (λ cs. (map row_of cs.items ≡ rows.now) × AllByRecursion IsChanged cs.items) }
@@ -124,6 +136,18 @@ pub fn sorted_changes(alloc: Global, rows: &[ChangeRow]) -> Result<Vec<ChangedRe
     ensures only { AllByRecursion IsChangeRow rows.now → IfErr result (λ e. e ≡ RowFault.NoMemory) }
 {
     let changed = all_changed(alloc, rows)?;
+    Ok(in_order(changed)?)
+}
+
+/// The same of rows that go as they are read.
+pub(crate) fn changes_in_order(
+    alloc: Global,
+    rows: Vec<ChangeRow>,
+) -> Result<Vec<ChangedRecord>, RowFault>
+    ensures found { IfOk result (λ cs. IsPermutation (map row_of cs.items) rows.items × AllByRecursion IsChanged cs.items × IsSorted changed_order cs.items) }
+    ensures only { AllByRecursion IsChangeRow rows.items → IfErr result (λ e. e ≡ RowFault.NoMemory) }
+{
+    let changed = each_changed(alloc, rows)?;
     Ok(in_order(changed)?)
 }
 

@@ -1,6 +1,7 @@
 //! What the definitions promise. The functions do nothing: their contracts are the laws.
 
 ghost use Rattle.office_rows.specs.ChangeRows.{ChangeRowsAreApart};
+ghost use Rattle.office_rows.specs.Checks.{RowsAreByTable, StatesAreByTable};
 ghost use Rattle.office_rows.specs.ReceiptRows.{ReceiptRowsAreApart};
 ghost use Rattle.office_rows.specs.RecordRows.{RecordRowsAreApart, KeysAreOfRecords};
 ghost use Rattle.office_rows.specs.Listed.{OriginsAreOfZones, ReceiptsAreThose};
@@ -22,6 +23,16 @@ pub fn receipt_rows_are_apart()
 /// A row of `changes` is of one origin, one number, one side and one record.
 pub fn change_rows_are_apart()
     ensures { ChangeRowsAreApart }
+{}
+
+/// Rows are those of a state exactly where the version, the rows of zones and those of receipts are.
+pub fn states_are_by_table()
+    ensures { StatesAreByTable }
+{}
+
+/// Rows are those of zones exactly where the rows of each table are of zones of the same origins.
+pub fn rows_are_by_table()
+    ensures { RowsAreByTable }
 {}
 
 /// A zone is held of an origin exactly where its row is there.

@@ -25,8 +25,8 @@ pub use columns::{identifier_text, read_origin};
 pub use gathering::{are_numbered, read_changes, sorted_changes};
 pub use laws::{
     change_rows_are_apart, last_numbers_count, lists_are_whole, new_tables_hold_nothing,
-    order_does_not_count, receipt_rows_are_apart, record_rows_are_apart, states_are_sound,
-    zones_are_listed, zones_stand_at_origins,
+    order_does_not_count, receipt_rows_are_apart, record_rows_are_apart, rows_are_by_table,
+    states_are_by_table, states_are_sound, zones_are_listed, zones_stand_at_origins,
 };
 pub use ordered::{KeptReceipt, kept_receipts, origins};
 pub use reads::{changes_behind, changes_of, part_of, receipt_of, records_within, zone_of};
@@ -35,5 +35,6 @@ pub use records::{read_record, record_row};
 pub use replies::{read_reply, reply_words};
 pub use row_fault::RowFault;
 pub use side::Side;
-pub use state::is_state;
+pub use state::check_receipts;
 pub use store_fault::StoreFault;
+pub use zones::{check_changes, check_records, checked_origins};

@@ -79,6 +79,27 @@ pub fn origins(alloc: Global, rows: &[ZoneRow]) -> Result<Vec<Name>, RowFault>
     Ok(origins)
 }
 
+/// The record of a row of `records`.
+fn zone_record(alloc: Global, row: &RecordRow) -> Result<ZoneRecord, RowFault>
+    ensures found { IfOk result (λ r. (row.now ≡ row_of_record r) × IsZoneRecord r) }
+    ensures only { IsZoneRecordRow row.now → IfErr result (λ e. e ≡ RowFault.NoMemory) }
+{
+    let (origin, rr) = read_record(alloc, row)?;
+    Ok(ZoneRecord { origin, rr })
+}
+
+/// The record of each row, which goes as soon as it is read.
+fn each_record(alloc: Global, rows: Vec<RecordRow>) -> Result<Vec<ZoneRecord>, RowFault>
+    ensures found { IfOk result (λ rs. (map row_of_record rs.items ≡ rows.items) × AllByRecursion IsZoneRecord rs.items) }
+    ensures only { AllByRecursion IsZoneRecordRow rows.items → IfErr result (λ e. e ≡ RowFault.NoMemory) }
+{
+    let mut records = Vec::with_capacity(alloc, rows.len())?;
+    for row in rows {
+        records.push(zone_record(alloc, &row)?)?;
+    }
+    Ok(records)
+}
+
 /// The record of each row.
 fn all_records(alloc: Global, rows: &[RecordRow]) -> Result<Vec<ZoneRecord>, RowFault>
     ensures found { IfOk result (λ rs. (map row_of_record rs.items ≡ rows.now) × AllByRecursion IsZoneRecord rs.items) }
@@ -108,6 +129,16 @@ pub fn records(alloc: Global, rows: &[RecordRow]) -> Result<Vec<ZoneRecord>, Row
     ensures only { AllByRecursion IsZoneRecordRow rows.now → IfErr result (λ e. e ≡ RowFault.NoMemory) }
 {
     let mut records = all_records(alloc, rows)?;
+    records.sort_by(|first, second| zone_record_order(first, second))?;
+    Ok(records)
+}
+
+/// The same of rows that go as they are read.
+pub(crate) fn read_records(alloc: Global, rows: Vec<RecordRow>) -> Result<Vec<ZoneRecord>, RowFault>
+    ensures found { IfOk result (λ rs. IsPermutation (map row_of_record rs.items) rows.items × AllByRecursion IsZoneRecord rs.items × IsSorted zone_record_order rs.items) }
+    ensures only { AllByRecursion IsZoneRecordRow rows.items → IfErr result (λ e. e ≡ RowFault.NoMemory) }
+{
+    let mut records = each_record(alloc, rows)?;
     records.sort_by(|first, second| zone_record_order(first, second))?;
     Ok(records)
 }

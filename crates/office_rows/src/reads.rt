@@ -85,7 +85,7 @@ fn zone_by(alloc: Global, origin: &Name, rows: &[RecordRow]) -> Result<Zone, Row
 }
 
 /// The zone of an origin, by the rows of its records in any order. Rows that are those of no zone of this origin are `BadRow`. Whether
-/// a row is in the canonical spelling is not asked: `is_state` does that.
+/// a row is in the canonical spelling is not asked: the checks of whole tables do that.
 pub fn zone_of(alloc: Global, origin: &Name, rows: &[RecordRow]) -> Result<Zone, RowFault>
     // What is read is of the origin that was asked for, whatever the rows.
     ensures origin { IfOk result (λ zone. zone.origin ≡ origin.now) }

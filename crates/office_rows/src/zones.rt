@@ -1,15 +1,16 @@
-//! Whether the rows of `zones`, `records` and `changes` are those of zones with their changes.
+//! Whether the rows of `zones`, `records` and `changes` are those of zones with their changes, each table by itself.
 
-ghost use Rattle.std.specs.Prelude.{◌≡◌, ◌↔◌, ◌≤◌, ◌&&◌, ◌==◌, not, true, map, length, IfOk};
+ghost use Rattle.std.specs.Prelude.{◌≡◌, ◌↔◌, ◌≤◌, ◌&&◌, ◌==◌, ℕ, List, not, true, map, length, Err, IfOk};
 ghost use Rattle.std.specs.List.{position};
 ghost use Rattle.dns_names.specs.Order.{canonical_cmp, same_name};
 ghost use Rattle.zone_core.specs.Views.{AreOfZone};
+ghost use Rattle.office_rows.specs.declared.row_fault.RowFault.TheVariants.{BadRow};
 ghost use Rattle.office_rows.specs.Orders.{rises};
-ghost use Rattle.office_rows.specs.Checks.{AreZoneRows, Checks, records_first, changes_first, IsZoneOf, AreZonesInTurn};
+ghost use Rattle.office_rows.specs.Checks.{AreOrigins, AreOriginRows, AreRecordsOf, AreChangesOf, AreRecordsInTurn, AreChangesInTurn, Checks, records_first, changes_first};
 
 use crate::ascending::rise;
 use crate::changes::ChangedRecord;
-use crate::gathering::{are_numbered, sorted_changes};
+use crate::gathering::{are_numbered, changes_in_order};
 use crate::ordered::{self, ZoneRecord};
 use crate::reads::built;
 use crate::row_fault::RowFault;
@@ -18,22 +19,40 @@ use dns_names::Name;
 use office_sql::{ChangeRow, RecordRow, ZoneRow};
 use std::alloc::{AllocError, Global};
 
-/// Checks the rows of `zones`, `records` and `changes`. They are `BadRow` where they are not those of zones with their changes.
-pub(crate) fn check_zones(
-    alloc: Global,
-    zones: &[ZoneRow],
-    records: &[RecordRow],
-    changes: &[ChangeRow],
-) -> Result<(), RowFault>
-    ensures { Checks (AreZoneRows zones.now records.now changes.now) result }
+/// The origins of the rows of `zones`, in canonical order. They are `BadRow` where one is the text of no name in its canonical
+/// spelling, or two are of one name.
+pub fn checked_origins(alloc: Global, rows: Vec<ZoneRow>) -> Result<Vec<Name>, RowFault>
+    ensures found { IfOk result (λ origins. AreOriginRows origins.items rows.items) }
+    ensures bad { result ≡ Err BadRow → (origins : List (List (List ℕ))) → ¬ AreOriginRows origins rows.items }
 {
-    let origins = ordered::origins(alloc, zones)?;
+    let origins = ordered::origins(alloc, &rows)?;
     if !are_apart(&origins) {
         return Err(RowFault::BadRow);
     }
-    let records = ordered::records(alloc, records)?;
-    let changes = sorted_changes(alloc, changes)?;
-    if !are_zones(alloc, &origins, &records, &changes)? {
+    Ok(origins)
+}
+
+/// Checks the rows of `records`, each of which goes as soon as it is read. They are `BadRow` where they are not those of the records
+/// of zones of these origins, which are in canonical order, none twice.
+pub fn check_records(alloc: Global, origins: &[Name], rows: Vec<RecordRow>) -> Result<(), RowFault>
+    requires { AreOrigins origins.now }
+    ensures { Checks (AreRecordsOf origins.now rows.items) result }
+{
+    let records = ordered::read_records(alloc, rows)?;
+    if !are_records_of(alloc, origins, &records)? {
+        return Err(RowFault::BadRow);
+    }
+    Ok(())
+}
+
+/// Checks the rows of `changes`, each of which goes as soon as it is read. They are `BadRow` where they are not those of the changes
+/// of zones of these origins, which are in canonical order, none twice.
+pub fn check_changes(alloc: Global, origins: &[Name], rows: Vec<ChangeRow>) -> Result<(), RowFault>
+    requires { AreOrigins origins.now }
+    ensures { Checks (AreChangesOf origins.now rows.items) result }
+{
+    let changes = changes_in_order(alloc, rows)?;
+    if !are_changes_of(origins, &changes) {
         return Err(RowFault::BadRow);
     }
     Ok(())
@@ -46,27 +65,40 @@ pub fn are_apart(names: &[Name]) -> bool
     rise(names)
 }
 
-/// Whether records and changes are, one after the other, those of zones of these origins, and nothing is left behind the last. The
-/// only error is out of memory.
-fn are_zones(
+/// Whether records are, one after the other, those of zones of these origins, and nothing is left behind the last. The only error is
+/// out of memory.
+fn are_records_of(
     alloc: Global,
     origins: &[Name],
     records: &[ZoneRecord],
-    changes: &[ChangedRecord],
 ) -> Result<bool, AllocError>
-    ensures { IfOk result (λ yes. (yes ≡ true) ↔ AreZonesInTurn origins.now records.now changes.now) }
+    ensures { IfOk result (λ yes. (yes ≡ true) ↔ AreRecordsInTurn origins.now records.now) }
 {
-    let (mut records, mut changes) = (records, changes);
+    let mut left = records;
     for origin in origins {
-        let (own, other) = records.split_at(records_first(origin, records));
-        let (changed, later) = changes.split_at(changes_first(origin, changes));
-        if !is_zone_of(alloc, origin, own, changed)? {
+        let (own, other) = left.split_at(records_first(origin, left));
+        if !is_zone(alloc, origin, own)? {
             return Ok(false);
         }
-        records = other;
-        changes = later;
+        left = other;
     }
-    Ok(records.is_empty() && changes.is_empty())
+    Ok(left.is_empty())
+}
+
+/// Whether what changes have is, one zone after the other, that of the changes of zones of these origins, numbered from 1 in each, and
+/// nothing is left behind the last.
+fn are_changes_of(origins: &[Name], changes: &[ChangedRecord]) -> bool
+    ensures { (result ≡ true) ↔ AreChangesInTurn origins.now changes.now }
+{
+    let mut left = changes;
+    for origin in origins {
+        let (own, other) = left.split_at(changes_first(origin, left));
+        if !are_numbered(own) {
+            return false;
+        }
+        left = other;
+    }
+    left.is_empty()
 }
 
 /// The first of some records that is not of the zone of an origin.
@@ -97,19 +129,6 @@ pub fn changes_first(origin: &Name, changes: &[ChangedRecord]) -> usize
     ensures within { result ≤ length changes.now }
 {
     other_change(origin, changes).unwrap_or(changes.len())
-}
-
-/// Whether records are those of a zone of an origin, in record order, and its changes are numbered. The only error is out of memory.
-fn is_zone_of(
-    alloc: Global,
-    origin: &Name,
-    records: &[ZoneRecord],
-    changes: &[ChangedRecord],
-) -> Result<bool, AllocError>
-    ensures { IfOk result (λ yes. (yes ≡ true) ↔ IsZoneOf origin.now records.now changes.now) }
-{
-    let is_zone = is_zone(alloc, origin, records)?;
-    Ok(is_zone && are_numbered(changes))
 }
 
 /// Whether records are those of a zone of an origin, in record order: the zone that is built of them has them, and no others. The only

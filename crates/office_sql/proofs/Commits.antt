@@ -186,3 +186,15 @@ on_ok (Err e) B h = tt
 pub if_ok_all : {X E : Type 0} (r : Result X E) (A B C : Type 0) (P R Q : X → Type 0) → OnOk r A → OnOk r B → OnOk r C → IfOk r P → IfOk r R → ((x : X) → A → B → C → P x → R x → Q x) → IfOk r Q
 if_ok_all (Ok x) A B C P R Q a b c p q f = f x a b c p q
 if_ok_all (Err e) A B C P R Q a b c p q f = tt
+
+pub if_ok_with : {X E : Type 0} (r : Result X E) (A : Type 0) (P Q : X → Type 0) → OnOk r A → IfOk r P → ((x : X) → A → P x → Q x) → IfOk r Q
+if_ok_with (Ok x) A P Q a p f = f x a p
+if_ok_with (Err e) A P Q a p f = tt
+
+-- rows that are shown by a connection that only asked are held by it, and a crash leaves them
+pub held_now : (old new : State) (rows : RowsOf) → OnlyAsks old new → IsTrue new.is_open → Reads new.now rows → Holds new rows × Leaves new (λ db. AreRows db rows)
+held_now old new rows asks up reads =
+    let settled = asks.settled up in (
+      λ _. (reads, settled),
+      λ clean db may. subst (λ t. AreRows t rows) (ap (λ (d : Database). d.trees) (sym settled) ∙ sym (asks.kept up clean db may)) reads.tables,
+    )

@@ -32,7 +32,7 @@ use Rattle.office_sql.specs.Rows.{RecordRowOf, ReceiptRowOf, ChangeRowOf, RowsOf
 use Rattle.office_sql.specs.declared.layout.Layout.{Layout}
 use Rattle.office_sql.specs.Tables.{layout_in, IsOffice, receipts_tree, changes_tree, meta, zones, records, receipts, changes, meta_columns, zones_columns, records_columns, receipts_columns, changes_columns, office_schema, stored_version, stored_zone, stored_record, stored_receipt, stored_change}
 use Rattle.office_sql.specs.Stores.{AreApart, HasOwnRowid, IsReadableRow, Stores}
-use Rattle.office_sql.specs.Holds.{Reads}
+use Rattle.office_sql.specs.Holds.{HasChanges, HasReceipts, HasRecords, HasZones, Reads}
 use Rattle.sqlite_rules.specs.Edit.{id_in}
 use Rattle.sqlite_rules.proofs.TableLemmas.{int_is}
 use Rattle.office_sql.proofs.Selections.{asked, read_as, shown_1, shown_5, shown_6, shown_7}
@@ -339,3 +339,10 @@ numbers_same (x ∷ xs) (y ∷ ys) e =
     let more : map stored_version xs ≡ map stored_version ys = cc in
     let same = numbers_same xs ys more in
     cc
+
+-- each table has its rows
+pub reads_all : (db : Database) (rows : RowsOf) → Stores (db.trees 0) (map stored_version rows.versions) → HasZones db rows.zones → HasRecords db rows.records → HasReceipts db rows.receipts → HasChanges db rows.changes → Reads db rows
+reads_all db rows versions zones records receipts changes = record {
+  schema = zones.0;
+  tables = record { versions = versions; zones = zones.1; records = records.1; receipts = receipts.1; changes = changes.1 };
+}

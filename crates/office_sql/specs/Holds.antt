@@ -1,9 +1,9 @@
 -- When a connection holds rows, and what a call leaves of them.
-use Rattle.std.specs.Prelude.{◌≡◌, true, false, ℤ, [], ◌∷◌, map, IsTrue, IsPermutation}
+use Rattle.std.specs.Prelude.{◌≡◌, true, false, ℕ, ℤ, List, [], ◌∷◌, map, IsTrue, IsPermutation}
 use Rattle.sqlite_trees.specs.Tree.{Trees}
 use Rattle.sqlite.specs.Effect.{Database, IsDatabase}
 use Rattle.sqlite.specs.State.{State, HasCleanDisk, Survives, KeepsCommit}
-use Rattle.office_sql.specs.Rows.{RowsOf}
+use Rattle.office_sql.specs.Rows.{RecordRowOf, ReceiptRowOf, ChangeRowOf, RowsOf}
 use Rattle.office_sql.specs.declared.layout.Layout.{Layout}
 use Rattle.office_sql.specs.declared.layout.Layout.TheVariants.{IndexAfterRecords}
 use Rattle.office_sql.specs.Tables.{office_schema, layout_in, receipts_tree, changes_tree, stored_version, stored_zone, stored_record, stored_receipt, stored_change}
@@ -29,6 +29,19 @@ HasTables db = db.schema ≡ office_schema (layout_in db.trees)
 pub record Reads (db : Database) (rows : RowsOf) : Type 0 where
   pub schema : HasTables db
   pub tables : AreRows db.trees rows
+
+-- the database has the tables, and in one of them these rows
+abbrev pub HasZones : Database → List (List ℕ) → Type 0
+HasZones db zones = HasTables db × Stores (db.trees 1) (map stored_zone zones)
+
+abbrev pub HasRecords : Database → List RecordRowOf → Type 0
+HasRecords db records = HasTables db × Stores (db.trees 3) (map stored_record records)
+
+abbrev pub HasReceipts : Database → List ReceiptRowOf → Type 0
+HasReceipts db receipts = HasTables db × Stores (db.trees (receipts_tree (layout_in db.trees))) (map stored_receipt receipts)
+
+abbrev pub HasChanges : Database → List ChangeRowOf → Type 0
+HasChanges db changes = HasTables db × Stores (db.trees (changes_tree (layout_in db.trees))) (map stored_change changes)
 
 -- What the connection shows was committed. A connection that is shut shows nothing.
 abbrev pub IsSettled : State → Type 0

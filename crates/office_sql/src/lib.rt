@@ -24,5 +24,5 @@ pub use lookups::{
 pub use path::connect_at;
 pub use rows::{Batch, ChangeRow, ReceiptRow, RecordRow, ZoneRow};
 pub use rows_fault::RowsFault;
-pub use scans::{AllRows, all_changes, all_rows, versions};
+pub use scans::{AllRows, all_changes, all_receipts, all_records, all_rows, all_zones, versions};
 pub use schema::{has_no_tables, has_tables};

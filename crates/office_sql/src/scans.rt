@@ -1,15 +1,15 @@
 //! All rows of the tables, of a store that somebody else may have written.
 
-ghost use Rattle.std.specs.Prelude.{◌≡◌, ◌⊎◌, ◌↔◌, List, [], ℤ, Err, IfOk, OnOk, IsTrue, true, false, map};
+ghost use Rattle.std.specs.Prelude.{◌≡◌, ◌⊎◌, ◌↔◌, List, [], ℤ, Err, IfOk, OnOk, IsTrue, IsPermutation, true, false, map};
 ghost use Rattle.std.specs.List.{AllByRecursion, IsDistinct};
 ghost use Rattle.std.specs.Ordering.{int_eq};
 ghost use Rattle.sqlite.specs.Effect.{IsDatabase};
 ghost use Rattle.sqlite.specs.Held.{state};
 ghost use Rattle.sqlite.specs.State.{HasCleanDisk, Shows, Shown};
 ghost use Rattle.office_sql.specs.Rows.{RowsOf};
-ghost use Rattle.office_sql.specs.Tables.{IsOffice, layout_in, receipts_tree, changes_tree, stored_version, stored_zone, stored_record, stored_receipt, stored_change};
+ghost use Rattle.office_sql.specs.Tables.{IsOffice, stored_version};
 ghost use Rattle.office_sql.specs.Stores.{Stores, IsReadableRow};
-ghost use Rattle.office_sql.specs.Holds.{AreRows, HasTables, Holds, Leaves, OnlyAsks, SameRows};
+ghost use Rattle.office_sql.specs.Holds.{AreRows, HasChanges, HasReceipts, HasRecords, HasZones, Holds, Leaves, OnlyAsks, SameRows};
 ghost use Rattle.office_sql.specs.declared.rows_fault.RowsFault.TheVariants.{BadRow};
 
 use crate::from_row::FromRow;
@@ -104,6 +104,7 @@ fn all<S: Alter, T: FromRow>(
 pub fn versions<S: Alter>(alloc: Global, conn: &mut Connection<S>) -> Result<Vec<i64>, RowsFault>
     requires { conn.old.in_transaction ≡ false }
     ensures found { HasCleanDisk (state S.Store conn.new) → IfOk result (λ xs. IsOffice (state S.Store conn.new).now.schema × Stores ((state S.Store conn.new).now.trees 0) (map stored_version xs.items)) }
+    ensures answer { HasCleanDisk (state S.Store conn.new) → IfOk result (λ xs. (rows : RowsOf) → Holds (state S.Store conn.old) rows → IsPermutation rows.versions xs.items) }
     ensures asks { OnlyAsks (state S.Store conn.old) (state S.Store conn.new) }
     ensures same { HasCleanDisk (state S.Store conn.new) → OnOk result (Shows (state S.Store conn.old) (state S.Store conn.new) (state S.Store conn.old).now (state S.Store conn.old).now false) }
     ensures only { HasCleanDisk (state S.Store conn.new) → OnOk result ((rows : RowsOf) → Holds (state S.Store conn.new) rows → Holds (state S.Store conn.old) rows) }
@@ -117,10 +118,14 @@ pub fn versions<S: Alter>(alloc: Global, conn: &mut Connection<S>) -> Result<Vec
     )
 }
 
-/// All zones.
-fn all_zones<S: Alter>(alloc: Global, conn: &mut Connection<S>) -> Result<Vec<ZoneRow>, RowsFault>
+/// The origins of all zones.
+pub fn all_zones<S: Alter>(
+    alloc: Global,
+    conn: &mut Connection<S>,
+) -> Result<Vec<ZoneRow>, RowsFault>
     requires { conn.old.in_transaction ≡ false }
-    ensures found { HasCleanDisk (state S.Store conn.new) → IfOk result (λ xs. HasTables (state S.Store conn.new).now × Stores ((state S.Store conn.new).now.trees 1) (map stored_zone xs.items)) }
+    ensures found { HasCleanDisk (state S.Store conn.new) → IfOk result (λ xs. HasZones (state S.Store conn.new).now xs.items) }
+    ensures answer { HasCleanDisk (state S.Store conn.new) → IfOk result (λ xs. (rows : RowsOf) → Holds (state S.Store conn.old) rows → IsPermutation rows.zones xs.items) }
     ensures asks { OnlyAsks (state S.Store conn.old) (state S.Store conn.new) }
     ensures same { HasCleanDisk (state S.Store conn.new) → OnOk result (Shows (state S.Store conn.old) (state S.Store conn.new) (state S.Store conn.old).now (state S.Store conn.old).now false) }
     ensures only { HasCleanDisk (state S.Store conn.new) → OnOk result ((rows : RowsOf) → Holds (state S.Store conn.new) rows → Holds (state S.Store conn.old) rows) }
@@ -135,12 +140,13 @@ fn all_zones<S: Alter>(alloc: Global, conn: &mut Connection<S>) -> Result<Vec<Zo
 }
 
 /// The records of all zones.
-fn all_records<S: Alter>(
+pub fn all_records<S: Alter>(
     alloc: Global,
     conn: &mut Connection<S>,
 ) -> Result<Vec<RecordRow>, RowsFault>
     requires { conn.old.in_transaction ≡ false }
-    ensures found { HasCleanDisk (state S.Store conn.new) → IfOk result (λ xs. HasTables (state S.Store conn.new).now × Stores ((state S.Store conn.new).now.trees 3) (map stored_record xs.items)) }
+    ensures found { HasCleanDisk (state S.Store conn.new) → IfOk result (λ xs. HasRecords (state S.Store conn.new).now xs.items) }
+    ensures answer { HasCleanDisk (state S.Store conn.new) → IfOk result (λ xs. (rows : RowsOf) → Holds (state S.Store conn.old) rows → IsPermutation rows.records xs.items) }
     ensures asks { OnlyAsks (state S.Store conn.old) (state S.Store conn.new) }
     ensures same { HasCleanDisk (state S.Store conn.new) → OnOk result (Shows (state S.Store conn.old) (state S.Store conn.new) (state S.Store conn.old).now (state S.Store conn.old).now false) }
     ensures only { HasCleanDisk (state S.Store conn.new) → OnOk result ((rows : RowsOf) → Holds (state S.Store conn.new) rows → Holds (state S.Store conn.old) rows) }
@@ -155,12 +161,13 @@ fn all_records<S: Alter>(
 }
 
 /// All receipts.
-fn all_receipts<S: Alter>(
+pub fn all_receipts<S: Alter>(
     alloc: Global,
     conn: &mut Connection<S>,
 ) -> Result<Vec<ReceiptRow>, RowsFault>
     requires { conn.old.in_transaction ≡ false }
-    ensures found { HasCleanDisk (state S.Store conn.new) → IfOk result (λ xs. HasTables (state S.Store conn.new).now × Stores ((state S.Store conn.new).now.trees (receipts_tree (layout_in (state S.Store conn.new).now.trees))) (map stored_receipt xs.items)) }
+    ensures found { HasCleanDisk (state S.Store conn.new) → IfOk result (λ xs. HasReceipts (state S.Store conn.new).now xs.items) }
+    ensures answer { HasCleanDisk (state S.Store conn.new) → IfOk result (λ xs. (rows : RowsOf) → Holds (state S.Store conn.old) rows → IsPermutation rows.receipts xs.items) }
     ensures asks { OnlyAsks (state S.Store conn.old) (state S.Store conn.new) }
     ensures same { HasCleanDisk (state S.Store conn.new) → OnOk result (Shows (state S.Store conn.old) (state S.Store conn.new) (state S.Store conn.old).now (state S.Store conn.old).now false) }
     ensures only { HasCleanDisk (state S.Store conn.new) → OnOk result ((rows : RowsOf) → Holds (state S.Store conn.new) rows → Holds (state S.Store conn.old) rows) }
@@ -180,7 +187,8 @@ pub fn all_changes<S: Alter>(
     conn: &mut Connection<S>,
 ) -> Result<Vec<ChangeRow>, RowsFault>
     requires { conn.old.in_transaction ≡ false }
-    ensures found { HasCleanDisk (state S.Store conn.new) → IfOk result (λ xs. HasTables (state S.Store conn.new).now × Stores ((state S.Store conn.new).now.trees (changes_tree (layout_in (state S.Store conn.new).now.trees))) (map stored_change xs.items)) }
+    ensures found { HasCleanDisk (state S.Store conn.new) → IfOk result (λ xs. HasChanges (state S.Store conn.new).now xs.items) }
+    ensures answer { HasCleanDisk (state S.Store conn.new) → IfOk result (λ xs. (rows : RowsOf) → Holds (state S.Store conn.old) rows → IsPermutation rows.changes xs.items) }
     ensures asks { OnlyAsks (state S.Store conn.old) (state S.Store conn.new) }
     ensures same { HasCleanDisk (state S.Store conn.new) → OnOk result (Shows (state S.Store conn.old) (state S.Store conn.new) (state S.Store conn.old).now (state S.Store conn.old).now false) }
     ensures only { HasCleanDisk (state S.Store conn.new) → OnOk result ((rows : RowsOf) → Holds (state S.Store conn.new) rows → Holds (state S.Store conn.old) rows) }

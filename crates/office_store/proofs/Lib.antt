@@ -16,3 +16,4 @@ pub mod MigrationWalkLemmas
 pub mod OldZoneRowLemmas
 pub mod MigrationLemmas
 pub mod FileLemmas
+pub mod OpeningLemmas

@@ -10,3 +10,4 @@ pub mod MigratedRecords
 pub mod MigrationSteps
 pub mod Migration
 pub mod Files
+pub mod Opening

@@ -48,7 +48,7 @@ fn zone_steps(
 /// What is written to take the rows of all tables from version 1 to version 2, and how many zones that changes: each set of records has
 /// its least TTL then; the zones in which that changes something have their serial one further (RFC 1982 section 3.1), and one change
 /// more, of the records that go and those that come; and `meta` has version 2. Rows that are not those of a state in tables of version
-/// 1 are `BadRow`: what `is_state` says of others, but for the TTLs of one set.
+/// 1 are `BadRow`: what the checks of an opening say of others, but for the TTLs of one set.
 pub fn migration_of(alloc: Global, rows: &AllRows) -> Result<Migration, RowFault>
     // The rows are those of a content of version 1, and once this is written those of that content migrated. It is the least that is:
     // only what differs goes and comes, of the zones that are changed.

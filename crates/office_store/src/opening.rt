@@ -1,6 +1,6 @@
 //! The making of the tables, and the test whether those that are there hold a state.
 
-ghost use Rattle.std.specs.Prelude.{◌≡◌, ◌≢◌, ◌⊎◌, ◌↔◌, [], ◌∷◌, false, Err, IfErr, OnOk, OnErr};
+ghost use Rattle.std.specs.Prelude.{◌≡◌, ◌≢◌, ◌⊎◌, ◌↔◌, [], ◌∷◌, pos, false, Err, IfOk, IfErr, OnOk, OnErr};
 ghost use Rattle.std.specs.List.Sorted.{IsPermutation};
 ghost use Rattle.sqlite.specs.Held.{state};
 ghost use Rattle.sqlite.specs.State.{HasCleanDisk};
@@ -10,14 +10,20 @@ ghost use Rattle.office_sql.specs.Rows.{RowsOf};
 ghost use Rattle.office_sql.specs.Tables.{no_schema, IsOffice};
 ghost use Rattle.office_rows.specs.Batches.{nothing_held};
 ghost use Rattle.office_rows.specs.declared.store_fault.StoreFault.TheVariants.{BadRow, WrongVersion};
-ghost use Rattle.office_rows.specs.StoreFaults.{IsFailure, IsOfRows, of_found};
+ghost use Rattle.office_rows.specs.StoreFaults.{IsFailure, IsOfRows, of_found, of_check};
+ghost use Rattle.office_rows.specs.Checks.{Checks, AreOrigins, AreRecordsOf, AreChangesOf, AreReceiptRows, AreStateRows};
+ghost use Rattle.office_store.specs.Opening.{IsCheck, IsNow, HasOrigins, VersionIn, OriginsIn, RecordsIn, ChangesIn, ReceiptsIn, StateIn};
 ghost use Rattle.office_store.specs.Holds.{HoldsState, HasNone, HasVersion, IsOfVersion, IsStateIn, LeavesStates};
 ghost use Rattle.office_store.specs.Queries.{Asked, AsksOnly};
 
 use crate::queries::check_open;
+use dns_names::Name;
 use office_rows::state::is_alone;
-use office_rows::{StoreFault, is_state};
-use office_sql::{RowsFault, all_rows, has_no_tables, has_tables, make_tables, versions};
+use office_rows::{RowFault, StoreFault, checked_origins};
+use office_sql::{
+    RowsFault, all_changes, all_receipts, all_records, all_zones, has_no_tables, has_tables,
+    make_tables, versions,
+};
 use sqlite::{Alter, Connection};
 use std::alloc::Global;
 use std::sync::ledger::Blank;
@@ -109,6 +115,105 @@ pub(crate) fn check_version<S: Alter>(
     Ok(())
 }
 
+/// What a check says of rows that somebody else may have written.
+fn of_check<T: Drop>(check: Result<T, RowFault>) -> Result<T, StoreFault>
+    ensures { result ≡ of_check check }
+{
+    match check {
+        Ok(value) => Ok(value),
+        Err(RowFault::BadRow) => Err(StoreFault::BadRow),
+        Err(RowFault::NoMemory) => Err(StoreFault::NoMemory),
+    }
+}
+
+/// Checks rows of `meta`. They are `BadRow` where there is not one, which has the version.
+fn check_versions(versions: &[i64]) -> Result<(), RowFault>
+    ensures { Checks (IsNow versions.now) result }
+{
+    if is_alone(VERSION, versions) {
+        return Ok(());
+    }
+    Err(RowFault::BadRow)
+}
+
+/// Checks the rows of `meta`.
+fn check_meta<S: Alter>(alloc: Global, conn: &mut Connection<S>) -> Result<(), StoreFault>
+    requires { conn.old.in_transaction ≡ false }
+    ensures { IsCheck (state S.Store conn.old) (state S.Store conn.new) result (λ _ db. VersionIn db) (λ rows. IsNow rows.versions) }
+{
+    match versions(alloc, conn) {
+        Ok(rows) => of_check(check_versions(&rows)),
+        Err(fault) => Err(found(fault)),
+    }
+}
+
+/// Checks the rows of `zones`, and reads their origins, in canonical order.
+fn check_zones<S: Alter>(alloc: Global, conn: &mut Connection<S>) -> Result<Vec<Name>, StoreFault>
+    requires { conn.old.in_transaction ≡ false }
+    ensures check { IsCheck (state S.Store conn.old) (state S.Store conn.new) result (λ origins db. OriginsIn origins.items db) (λ rows. HasOrigins rows.zones) }
+    ensures origins { IfOk result (λ origins. AreOrigins origins.items) }
+{
+    match all_zones(alloc, conn) {
+        Ok(rows) => of_check(checked_origins(alloc, rows)),
+        Err(fault) => Err(found(fault)),
+    }
+}
+
+/// Checks the rows of `records`, which are to be of zones of these origins.
+fn check_records<S: Alter>(
+    alloc: Global,
+    conn: &mut Connection<S>,
+    origins: &[Name],
+) -> Result<(), StoreFault>
+    requires alone { conn.old.in_transaction ≡ false }
+    requires origins { AreOrigins origins.now }
+    ensures { IsCheck (state S.Store conn.old) (state S.Store conn.new) result (λ _ db. RecordsIn origins.now db) (λ rows. AreRecordsOf origins.now rows.records) }
+{
+    match all_records(alloc, conn) {
+        Ok(rows) => of_check(office_rows::check_records(alloc, origins, rows)),
+        Err(fault) => Err(found(fault)),
+    }
+}
+
+/// Checks the rows of `changes`, which are to be of zones of these origins.
+fn check_changes<S: Alter>(
+    alloc: Global,
+    conn: &mut Connection<S>,
+    origins: &[Name],
+) -> Result<(), StoreFault>
+    requires alone { conn.old.in_transaction ≡ false }
+    requires origins { AreOrigins origins.now }
+    ensures { IsCheck (state S.Store conn.old) (state S.Store conn.new) result (λ _ db. ChangesIn origins.now db) (λ rows. AreChangesOf origins.now rows.changes) }
+{
+    match all_changes(alloc, conn) {
+        Ok(rows) => of_check(office_rows::check_changes(alloc, origins, rows)),
+        Err(fault) => Err(found(fault)),
+    }
+}
+
+/// Checks the rows of `receipts`.
+fn check_receipts<S: Alter>(alloc: Global, conn: &mut Connection<S>) -> Result<(), StoreFault>
+    requires { conn.old.in_transaction ≡ false }
+    ensures { IsCheck (state S.Store conn.old) (state S.Store conn.new) result (λ _ db. ReceiptsIn db) (λ rows. AreReceiptRows rows.receipts) }
+{
+    match all_receipts(alloc, conn) {
+        Ok(rows) => of_check(office_rows::check_receipts(alloc, &rows)),
+        Err(fault) => Err(found(fault)),
+    }
+}
+
+/// Checks the rows of all tables, one table after the other: the rows of one are gone before the next one is asked for.
+fn check_each<S: Alter>(alloc: Global, conn: &mut Connection<S>) -> Result<(), StoreFault>
+    requires { conn.old.in_transaction ≡ false }
+    ensures { IsCheck (state S.Store conn.old) (state S.Store conn.new) result (λ _ db. StateIn db) (AreStateRows (pos 2)) }
+{
+    check_meta(alloc, conn)?;
+    let origins = check_zones(alloc, conn)?;
+    check_records(alloc, conn, &origins)?;
+    check_changes(alloc, conn, &origins)?;
+    check_receipts(alloc, conn)
+}
+
 /// Tells whether the rows that the connection shows are a state.
 fn check_rows<S: Alter>(alloc: Global, conn: &mut Connection<S>) -> Result<(), StoreFault>
     requires { conn.old.in_transaction ≡ false }
@@ -119,16 +224,7 @@ fn check_rows<S: Alter>(alloc: Global, conn: &mut Connection<S>) -> Result<(), S
     ensures shown { Keeps (state S.Store conn.old) (state S.Store conn.new) }
     ensures ended { conn.new.in_transaction ≡ false }
 {
-    match all_rows(alloc, conn) {
-        Ok(rows) => {
-            let is_one = is_state(alloc, VERSION, &rows)?;
-            if is_one {
-                return Ok(());
-            }
-            Err(StoreFault::BadRow)
-        }
-        Err(fault) => Err(found(fault)),
-    }
+    check_each(alloc, conn)
 }
 
 /// Tells whether the connection shows the tables of this version, with the rows of a state.

@@ -19,8 +19,8 @@ ghost use Rattle.office_store.specs.Queries.{AsksOnly, Finds, Stands};
 use dns_names::Name;
 use office_rows::StoreFault;
 use office_sql::{
-    AllRows, ChangeRow, RecordRow, all_rows, changes_from, changes_of, has_zone, records_at,
-    records_between, records_of,
+    ChangeRow, RecordRow, changes_from, changes_of, has_zone, records_at, records_between,
+    records_of,
 };
 use sqlite::{Alter, Connection, Error as StoreError, ErrorCode};
 use std::alloc::Global;
@@ -207,18 +207,4 @@ pub(crate) fn change_rows_behind<S: Alter>(
     };
     let rows = changes_from(alloc, conn, &text, first_behind(count))?;
     Ok(Some(rows))
-}
-
-/// All rows.
-pub(crate) fn state_rows<S: Alter>(
-    alloc: Global,
-    conn: &mut Connection<S>,
-) -> Result<AllRows, StoreFault>
-    ensures found { HasCleanDisk (state S.Store conn.new) → IfOk result (λ all. (s : State) → HoldsState (state S.Store conn.old) s → AreOfState (pos 2) all s) }
-    ensures asks { AsksOnly (state S.Store conn.old) (state S.Store conn.new) result }
-    ensures named { IfErr result IsFailure }
-{
-    check_alone(conn)?;
-    let all = all_rows(alloc, conn)?;
-    Ok(all)
 }

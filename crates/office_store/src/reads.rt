@@ -12,7 +12,7 @@ ghost use Rattle.office_store.specs.Holds.{HoldsState};
 ghost use Rattle.office_store.specs.Queries.{AsksOnly};
 
 use crate::queries::{
-    change_rows, change_rows_behind, check_alone, part_rows, state_rows, subtree_rows, zone_rows,
+    change_rows, change_rows_behind, check_alone, part_rows, subtree_rows, zone_rows,
 };
 use dns_data::Record;
 use dns_names::Name;
@@ -21,7 +21,7 @@ use office_rows::{
     KeptReceipt, StoreFault, changes_of, identifier_text, kept_receipts, part_of, receipt_of,
     records_within, zone_of,
 };
-use office_sql::receipts_of;
+use office_sql::{all_receipts, all_zones, receipts_of};
 use office_state::Receipt;
 use sqlite::{Alter, Connection};
 use std::alloc::Global;
@@ -140,8 +140,9 @@ pub(crate) fn origins<S: Alter>(
     ensures asks { AsksOnly (state S.Store conn.old) (state S.Store conn.new) result }
     ensures named { IfErr result IsFailure }
 {
-    let all = state_rows(alloc, conn)?;
-    let names = office_rows::origins(alloc, &all.zones)?;
+    check_alone(conn)?;
+    let rows = all_zones(alloc, conn)?;
+    let names = office_rows::origins(alloc, &rows)?;
     Ok(names)
 }
 
@@ -154,7 +155,8 @@ pub(crate) fn receipts<S: Alter>(
     ensures asks { AsksOnly (state S.Store conn.old) (state S.Store conn.new) result }
     ensures named { IfErr result IsFailure }
 {
-    let all = state_rows(alloc, conn)?;
-    let kept = kept_receipts(alloc, &all.receipts)?;
+    check_alone(conn)?;
+    let rows = all_receipts(alloc, conn)?;
+    let kept = kept_receipts(alloc, &rows)?;
     Ok(kept)
 }

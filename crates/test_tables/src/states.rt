@@ -10,7 +10,8 @@ use crate::states::lines::{no_rows, push_row};
 use crate::states::listed::push_listed;
 use crate::states::reads::push_read;
 use anyhow::{Result, bail};
-use office_rows::is_state;
+use office_rows::state::is_alone;
+use office_rows::{RowFault, check_changes, check_receipts, check_records, checked_origins};
 use office_sql::AllRows;
 use std::alloc::{AllocError, Global};
 use test_rows::{Answers, Row, push_unanswered, text_of};
@@ -71,11 +72,11 @@ impl Kept {
     }
 
     fn push_state(&self, alloc: Global, row: &Row<'_>, answer: &mut Vec<u8>) -> Result<()> {
-        push_is_state(alloc, row, &self.rows(alloc, row)?, answer)
+        push_is_state(alloc, row, self.rows(alloc, row)?, answer)
     }
 
     fn push_reversed(&self, alloc: Global, row: &Row<'_>, answer: &mut Vec<u8>) -> Result<()> {
-        push_is_state(alloc, row, &self.reversed(alloc, row)?, answer)
+        push_is_state(alloc, row, self.reversed(alloc, row)?, answer)
     }
 
     /// The rows that are kept, with those of a body behind them, or without those.
@@ -105,12 +106,23 @@ impl Kept {
     }
 }
 
-fn push_is_state(alloc: Global, row: &Row<'_>, rows: &AllRows, answer: &mut Vec<u8>) -> Result<()> {
+/// Checks rows, one table after the other.
+fn check(alloc: Global, version: i64, rows: AllRows) -> Result<(), RowFault> {
+    if !is_alone(version, &rows.versions) {
+        return Err(RowFault::BadRow);
+    }
+    check_receipts(alloc, &rows.receipts)?;
+    let origins = checked_origins(alloc, rows.zones)?;
+    check_records(alloc, &origins, rows.records)?;
+    check_changes(alloc, &origins, rows.changes)
+}
+
+fn push_is_state(alloc: Global, row: &Row<'_>, rows: AllRows, answer: &mut Vec<u8>) -> Result<()> {
     let version = str::from_utf8(&row.text)?.parse()?;
-    let text = if is_state(alloc, version, rows)? {
-        "a state"
-    } else {
-        "no state"
+    let text = match check(alloc, version, rows) {
+        Ok(()) => "a state",
+        Err(RowFault::BadRow) => "no state",
+        Err(RowFault::NoMemory) => bail!("out of memory"),
     };
     Ok(answer.extend_from_slice(text.as_bytes())?)
 }

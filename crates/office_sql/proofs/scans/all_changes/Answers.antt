@@ -5,12 +5,12 @@ use Rattle.office_sql.specs.Tables.{layout_in, changes_tree, stored_change}
 use Rattle.office_sql.specs.Stores.{Stores}
 use Rattle.office_sql.specs.Holds.{HasTables, Reads}
 use Rattle.office_sql.proofs.Queries.{shown_keeps}
-use Rattle.office_sql.proofs.Commits.{if_ok_all, held_before}
+use Rattle.office_sql.proofs.Commits.{if_ok_all, if_ok_with, held_before}
 use Rattle.office_sql.proofs.TransactionParts.{on_part}
 use Rattle.office_sql.proofs.Layouts.{has_tables}
-use Rattle.office_sql.proofs.Selections.{never_bad_rows}
+use Rattle.office_sql.proofs.Selections.{never_bad_rows, one_stored_change}
 use Rattle.office_sql.proofs.Texts.{rowids_changes_text}
-use Rattle.office_sql.proofs.WholeTables.{all_changes, never_bad_changes, shows_all_changes}
+use Rattle.office_sql.proofs.WholeTables.{all_changes, never_bad_changes, shows_all_changes, stored_same}
 use Rattle.office_sql.proofs.scans.all_changes.Goals as goal
 
 pub returns-clause-found : goal.returns-clause-found
@@ -21,6 +21,12 @@ returns-clause-found g c clean =
     let has = has_tables old live.1 live.0 in
     let stores = all_changes (layout_in old.trees) begun (state g.S.Store apart.0) (state g.S.Store shown.0) (state g.S.Store shown.1) apart.1 xs.items has live.1 shown.2 apart.2 apart.3 shown.3 readable in
     subst (λ (d : Database). HasTables d × Stores (d.trees (changes_tree (layout_in d.trees))) (map stored_change xs.items)) (sym same.now_is) (has, stores))
+
+pub returns-clause-answer : goal.returns-clause-answer
+returns-clause-answer g c clean =
+    if_ok_with c.all.result _ _ _ (c.all.ensures.same clean) (returns-clause-found g c clean) (λ xs shows has rows holds.
+    let h = (c.all.ensures.asks.same rows holds shows.is_open).0 in
+    stored_same stored_change one_stored_change _ rows.changes xs.items h.tables.changes has.1)
 
 pub returns-clause-only : goal.returns-clause-only
 returns-clause-only g c clean =

@@ -5,11 +5,11 @@ use Rattle.office_sql.specs.Tables.{stored_version}
 use Rattle.office_sql.specs.Stores.{Stores}
 use Rattle.office_sql.specs.Holds.{Reads}
 use Rattle.office_sql.proofs.Queries.{shown_keeps}
-use Rattle.office_sql.proofs.Commits.{if_ok_all, held_before}
+use Rattle.office_sql.proofs.Commits.{if_ok_all, if_ok_with, held_before}
 use Rattle.office_sql.proofs.TransactionParts.{on_part}
-use Rattle.office_sql.proofs.Selections.{never_bad_rows}
+use Rattle.office_sql.proofs.Selections.{never_bad_rows, one_stored_version}
 use Rattle.office_sql.proofs.Texts.{rowids_meta_text}
-use Rattle.office_sql.proofs.WholeTables.{all_meta, never_bad_meta, shows_all_meta}
+use Rattle.office_sql.proofs.WholeTables.{all_meta, never_bad_meta, shows_all_meta, stored_same}
 use Rattle.office_sql.proofs.scans.versions.Goals as goal
 
 pub returns-clause-found : goal.returns-clause-found
@@ -20,6 +20,12 @@ returns-clause-found g c clean =
       subst (λ (d : Database). Stores (d.trees 0) (map stored_version xs.items)) (sym same.now_is)
           (all_meta live.0.0 begun (state g.S.Store apart.0) (state g.S.Store shown.0) (state g.S.Store shown.1) apart.1 xs.items live.0.1 live.1 shown.2 apart.2 apart.3 shown.3 readable),
     ))
+
+pub returns-clause-answer : goal.returns-clause-answer
+returns-clause-answer g c clean =
+    if_ok_with c.all.result _ _ _ (c.all.ensures.same clean) (returns-clause-found g c clean) (λ xs shows has rows holds.
+    let h = (c.all.ensures.asks.same rows holds shows.is_open).0 in
+    stored_same stored_version one_stored_version _ rows.versions xs.items h.tables.versions has.1)
 
 pub returns-clause-only : goal.returns-clause-only
 returns-clause-only g c clean =

@@ -1,23 +1,22 @@
-use Rattle.std.proofs.Common.{◌≡◌, true, false, pos, sym, ◌∙◌}
 use Rattle.sqlite.specs.Held.{state}
-use Rattle.office_rows.proofs.StateLaws.{order_does_not_count}
-use Rattle.office_store.proofs.QueryLemmas.{answered_once, asked_once, refused_once}
+use Rattle.office_store.proofs.OpeningLemmas.{holds_state, refuses_none, asks_only}
+use Rattle.office_store.proofs.QueryLemmas.{keeps_once}
 use Rattle.office_store.proofs.opening.check_rows.Goals as goal
 
-pub returns-else-is_one-clause-good : goal.returns-else-is_one-clause-good
-returns-else-is_one-clause-good g c = λ clean s h.
-    let one = c.in_ok-is_one-in-Ok.ensures.1 (s, order_does_not_count (pos 2) h.rows c.in-Ok.rows s h.are (c.in-Ok.ensures.answer clean h.rows h.held)) in
-    let both : true ≡ false = sym one ∙ c.if-is_one.false in
-    cc
+pub returns-clause-found : goal.returns-clause-found
+returns-clause-found g c = holds_state (state g.S.Store c.args.conn.now) (state g.S.Store c.check_each.new.conn) c.check_each.result c.check_each.ensures
 
-pub returns-then-is_one-clause-asks : goal.returns-then-is_one-clause-asks
-returns-then-is_one-clause-asks g c = answered_once (state g.S.Store c.args.conn.now) (state g.S.Store c.all_rows.new.conn) c.all_rows.ensures.asks c.in-Ok.ensures.only
+pub returns-clause-good : goal.returns-clause-good
+returns-clause-good g c = refuses_none (state g.S.Store c.args.conn.now) (state g.S.Store c.check_each.new.conn) c.check_each.result c.check_each.ensures
 
-pub returns-in_err-is_one-in-Ok-clause-asks : goal.returns-in_err-is_one-in-Ok-clause-asks
-returns-in_err-is_one-in-Ok-clause-asks g c = refused_once (state g.S.Store c.args.conn.now) (state g.S.Store c.all_rows.new.conn) c.from_residual.result c.from_residual.ensures.0 c.all_rows.ensures.asks
+pub returns-clause-named : goal.returns-clause-named
+returns-clause-named g c = c.check_each.ensures.named
 
-pub returns-else-is_one-clause-asks : goal.returns-else-is_one-clause-asks
-returns-else-is_one-clause-asks g c = (asked_once (state g.S.Store c.args.conn.now) (state g.S.Store c.all_rows.new.conn) c.all_rows.ensures.asks, λ clean. tt)
+pub returns-clause-asks : goal.returns-clause-asks
+returns-clause-asks g c = asks_only (state g.S.Store c.args.conn.now) (state g.S.Store c.check_each.new.conn) c.check_each.result c.check_each.ensures
 
-pub returns-in-Err-clause-asks : goal.returns-in-Err-clause-asks
-returns-in-Err-clause-asks g c = (asked_once (state g.S.Store c.args.conn.now) (state g.S.Store c.all_rows.new.conn) c.all_rows.ensures.asks, λ clean. tt)
+pub returns-clause-shown : goal.returns-clause-shown
+returns-clause-shown g c = keeps_once (state g.S.Store c.args.conn.now) (state g.S.Store c.check_each.new.conn) c.check_each.ensures.asks
+
+pub returns-clause-ended : goal.returns-clause-ended
+returns-clause-ended g c = c.check_each.ensures.asks.ended

@@ -1,0 +1,28 @@
+use Rattle.std.proofs.Common.{ℕ, ℤ, List, map, Result, Ok, Err, sym, ap, subst}
+use Rattle.sqlite.specs.Effect.{Database}
+use Rattle.sqlite.specs.Held.{state}
+use Rattle.office_sql.specs.Rows.{RowsOf}
+use Rattle.office_sql.specs.Rows.{ReceiptRowOf}
+use Rattle.office_sql.specs.Holds.{HasReceipts}
+use Rattle.office_rows.specs.declared.store_fault.StoreFault.{StoreFault}
+use Rattle.office_rows.specs.Checks.{AreReceiptRows, Checks}
+use Rattle.office_store.specs.Opening.{IsCheck, ReceiptsIn}
+use Rattle.office_store.proofs.OpeningLemmas.{checked, unread, passed, was_bad, receipts_moved}
+use Rattle.office_store.proofs.opening.check_receipts.Goals as goal
+
+pub returns-in-Ok : goal.returns-in-Ok
+returns-in-Ok g c =
+    let old = state g.S.Store c.args.conn.now in
+    let new = state g.S.Store c.all_receipts.new.conn in
+    let rows = c.in-Ok.rows.items in
+    let told = subst (λ (l : List ReceiptRowOf). Checks (AreReceiptRows l) c.check_receipts.result) c.deref.ensures.value c.check_receipts.ensures in
+    subst (λ r. IsCheck old new r (λ _ db. ReceiptsIn db) (λ all. AreReceiptRows all.receipts)) (sym c.of_check.ensures)
+    (checked old new c.all_receipts.ensures.asks (λ xs _. AreReceiptRows xs) (HasReceipts) (λ all. all.receipts) (AreReceiptRows) rows c.in-Ok.ensures.same c.in-Ok.ensures.found c.in-Ok.ensures.answer receipts_moved c.check_receipts.result
+    (passed (AreReceiptRows rows) c.check_receipts.result told) (was_bad (AreReceiptRows rows) c.check_receipts.result told))
+
+pub returns-in-Err : goal.returns-in-Err
+returns-in-Err g c =
+    let old = state g.S.Store c.args.conn.now in
+    let new = state g.S.Store c.all_receipts.new.conn in
+    subst (λ (e : StoreFault). IsCheck old new (Err e) (λ _ db. ReceiptsIn db) (λ all. AreReceiptRows all.receipts)) (sym c.found.ensures)
+    (unread old new c.all_receipts.ensures.asks (λ xs _. AreReceiptRows xs) (HasReceipts) (λ all. all.receipts) (AreReceiptRows) c.in-Err.fault (λ clean is. c.in-Err.ensures.bad clean (ap Err is)))
