@@ -1,7 +1,7 @@
 //! What the program is to do.
 
 /// What the program is to do.
-#[derive(Clone, Copy, PartialEq, Eq)]
+#[derive(Clone, Copy)]
 pub enum Job<'a> {
     /// What needs no store.
     Text(TextJob<'a>),
@@ -10,7 +10,7 @@ pub enum Job<'a> {
 }
 
 /// What the program is to do with texts: standard input and files.
-#[derive(Clone, Copy, PartialEq, Eq)]
+#[derive(Clone, Copy)]
 pub enum TextJob<'a> {
     /// To update a zone that is read from standard input.
     Apply,
@@ -87,7 +87,7 @@ pub enum TextJob<'a> {
 }
 
 /// What the program is to do with a store.
-#[derive(Clone, Copy, PartialEq, Eq)]
+#[derive(Clone, Copy)]
 pub enum StoreJob<'a> {
     /// To put a zone that is read from standard input into a store.
     Import {
@@ -128,7 +128,7 @@ pub enum StoreJob<'a> {
 }
 
 /// As what a text is printed.
-#[derive(Clone, Copy, PartialEq, Eq)]
+#[derive(Clone, Copy)]
 pub enum TextForm {
     /// Lines for a person.
     Plain,
@@ -137,7 +137,7 @@ pub enum TextForm {
 }
 
 /// In which form a zone is printed.
-#[derive(Clone, Copy, PartialEq, Eq)]
+#[derive(Clone, Copy)]
 pub enum ZoneForm {
     /// Names, TTLs and classes are written whole.
     Whole,
@@ -146,7 +146,7 @@ pub enum ZoneForm {
 }
 
 /// What a diff prints.
-#[derive(Clone, Copy, PartialEq, Eq)]
+#[derive(Clone, Copy)]
 pub enum DiffForm {
     /// The operations alone.
     Bare,
@@ -155,7 +155,7 @@ pub enum DiffForm {
 }
 
 /// As how many bodies an update is printed.
-#[derive(Clone, Copy, PartialEq, Eq)]
+#[derive(Clone, Copy)]
 pub enum RequestForm {
     /// As one.
     Whole,
@@ -164,7 +164,7 @@ pub enum RequestForm {
 }
 
 /// Which of the changes and receipts of a zone are printed.
-#[derive(Clone, Copy, PartialEq, Eq)]
+#[derive(Clone, Copy)]
 pub struct LogChoice<'a> {
     /// From which change on, where a number is given.
     pub from: Option<u64>,
@@ -175,7 +175,7 @@ pub struct LogChoice<'a> {
 }
 
 /// By which of the rules a zone is checked.
-#[derive(Clone, Copy, PartialEq, Eq)]
+#[derive(Clone, Copy)]
 pub enum RuleChoice<'a> {
     /// By all of them.
     All,
@@ -186,7 +186,7 @@ pub enum RuleChoice<'a> {
 }
 
 /// A zone of a store, as the words of `import`, of `export` and of `log` name it.
-#[derive(Clone, Copy, PartialEq, Eq)]
+#[derive(Clone, Copy)]
 pub struct StoredZone<'a> {
     /// The path of the store.
     pub store: &'a str,
@@ -195,7 +195,7 @@ pub struct StoredZone<'a> {
 }
 
 /// The master files of two zones of one origin. A path that is `-` is standard input, which words name once at most.
-#[derive(Clone, Copy, PartialEq, Eq)]
+#[derive(Clone, Copy)]
 pub struct ZoneFiles<'a> {
     /// The path of the zone as it is.
     pub old: &'a str,
@@ -204,7 +204,7 @@ pub struct ZoneFiles<'a> {
 }
 
 /// What becomes of a zone of a store when one of its origin is imported.
-#[derive(Clone, Copy, PartialEq, Eq)]
+#[derive(Clone, Copy)]
 pub enum Existing {
     /// It stays, and the import is refused.
     Kept,
@@ -213,7 +213,7 @@ pub enum Existing {
 }
 
 /// What is asked of a policy.
-#[derive(Clone, Copy, PartialEq, Eq)]
+#[derive(Clone, Copy)]
 pub struct QuestionWords<'a> {
     /// Who asks.
     pub caller: &'a str,
@@ -226,7 +226,7 @@ pub struct QuestionWords<'a> {
 }
 
 /// What the words of `serve` name.
-#[derive(Clone, Copy, PartialEq, Eq)]
+#[derive(Clone, Copy)]
 pub struct Service<'a> {
     /// The path of the store.
     pub store: &'a str,

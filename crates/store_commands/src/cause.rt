@@ -10,7 +10,7 @@ use sqlite::{Alter, Error, ErrorCode};
 use std::sync::ledger::Ledger;
 
 /// Why a request was answered SERVFAIL.
-#[derive(Clone, Copy, Debug, PartialEq, Eq)]
+#[derive(Clone, Copy)]
 pub enum Cause {
     /// Memory ran out.
     NoMemory,

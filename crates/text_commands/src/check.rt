@@ -37,7 +37,7 @@ pub enum Subject<'a> {
 }
 
 /// Whether a check found something.
-#[derive(Clone, Copy, PartialEq, Eq)]
+#[derive(Clone, Copy)]
 pub enum Findings {
     /// Nothing.
     Absent,

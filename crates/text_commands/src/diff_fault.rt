@@ -5,7 +5,7 @@ use crate::refusal::Refusal;
 use std::fmt::{self, Display, Formatter, Write};
 
 /// Why a diff did not go through, and of which zone's file.
-#[derive(Clone, Copy, Debug, PartialEq, Eq)]
+#[derive(Clone, Copy)]
 pub enum DiffFault {
     /// The origin, or the zone as it is.
     Old(JobFault),

@@ -16,7 +16,7 @@ use thiserror::Error;
 use zone_core::ZoneFault;
 
 /// Why a job has no answer. Each is reported by a line in place of the answer.
-#[derive(Clone, Copy, Debug, PartialEq, Eq, Error)]
+#[derive(Clone, Copy, Debug, Error)]
 pub enum LineFault {
     /// The words or the input are refused.
     #[error("{0}")]
@@ -30,7 +30,7 @@ pub enum LineFault {
 }
 
 /// Why a job did not go through.
-#[derive(Clone, Copy, Debug, PartialEq, Eq, Error)]
+#[derive(Clone, Copy, Debug, Error)]
 pub enum JobFault {
     /// A line told why it has no answer.
     #[error("{0}")]

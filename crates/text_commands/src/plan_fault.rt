@@ -5,7 +5,7 @@ use crate::refusal::Refusal;
 use std::fmt::{self, Display, Formatter, Write};
 
 /// Why a plan did not go through, and of which input.
-#[derive(Clone, Copy, Debug, PartialEq, Eq)]
+#[derive(Clone, Copy)]
 pub enum PlanFault {
     /// The caller, or the policy.
     Policy(JobFault),

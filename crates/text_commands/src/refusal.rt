@@ -14,7 +14,7 @@ use thiserror::Error;
 use zone_core::{Rcode, ZoneFault};
 
 /// Why a job has no answer, however much memory there is and whatever devices do.
-#[derive(Clone, Copy, Debug, PartialEq, Eq, Error)]
+#[derive(Clone, Copy, Debug, Error)]
 pub enum Refusal {
     /// A word of the command line is no absolute name.
     #[error("{0}")]

@@ -5,7 +5,7 @@ ghost use Rattle.std.specs.Prelude.{◌≡◌};
 use crate::refusal_table::Line;
 
 /// A place in a printed number, whose parts have dots between them, as `29.19.1`.
-#[derive(Clone, Copy, PartialEq, Eq)]
+#[derive(Clone, Copy)]
 pub enum NumberPlace {
     /// Its first part.
     Start,
@@ -18,7 +18,7 @@ pub enum NumberPlace {
 }
 
 /// Where a number is printed, and what follows it.
-#[derive(Clone, Copy, PartialEq, Eq)]
+#[derive(Clone, Copy)]
 pub enum Kind {
     /// At the start, with nothing behind it.
     Whole,
