@@ -13,7 +13,7 @@ use Rattle.text_commands.specs.declared.line_fault.JobFault.{JobFault}
 use Rattle.text_commands.specs.declared.line_fault.JobFault.TheVariants.{Reported, WriteFailed}
 use Rattle.text_commands.specs.Device.{AppendsFront}
 use Rattle.text_commands.specs.LineFaults.{◌>>=◌, Makes, GivesOf}
-use Rattle.text_commands.specs.Replies.{line_of, MayWrite, IsRefusalWritten, IsPrinted, IsReply, Answered}
+use Rattle.text_commands.specs.Replies.{line_of, MayWrite, IsAnswerWritten, IsRefusalWritten, IsPrinted, IsReply, Answered}
 use Rattle.text_commands.proofs.StepLemmas.{refused_before, given_before, reached_before}
 
 -- ---- printing
@@ -86,6 +86,13 @@ module _ (left : Option (List ℕ)) (answer : List ℕ → Result (List ℕ) Ref
   answered_told view fault (Ok done) given wrote = absurd wrote
   answered_told view fault (Err (Reported line)) given wrote = own_line view line (told_as view fault line wrote.0 given) wrote.1 wrote.2
   answered_told view fault (Err WriteFailed) given wrote = own_front view wrote.0.0 (told_as view fault wrote.0.0 wrote.0.1 given) wrote.0.2 wrote.1
+
+  -- what was made, or the line of the fault, was written
+  pub answered_written : {X : Type 0} (view : X → List ℕ) (made : Result X LineFault) (result : Result (Unit {0}) JobFault) → GivesOf view left answer made fine failed → IsAnswerWritten view old new made result writes writes_after → Answered left answer old new result fine failed writes writes_after
+  answered_written view (Ok x) (Ok done) given wrote = answered_sent (view x) given.0 given.1 wrote
+  answered_written view (Ok x) (Err (Reported line)) given wrote = absurd wrote
+  answered_written view (Ok x) (Err WriteFailed) given wrote = answered_front (view x) given.0 given.1 wrote
+  answered_written view (Err fault) result given wrote = answered_told view fault result given wrote
 
 -- ---- an answer that is the text of what was made
 

@@ -36,6 +36,14 @@ IsRefusalWritten old new fault (Ok done) before after = ⊥
 IsRefusalWritten old new fault (Err (Reported line)) before after = MayWrite fault line × Appends old new (line_of line) × (after ≡ before)
 IsRefusalWritten old new fault (Err WriteFailed) before after = ((line : LineFault) × MayWrite fault line × AppendsFront old new (line_of line)) × (before < after)
 
+-- What the writer held before and after, what was made, seen by view, the answer, and the writer's failures before and after: what was made
+-- is written, or the line of the fault.
+abbrev pub IsAnswerWritten : {X : Type 0} → (X → List ℕ) → Option (List ℕ) → Option (List ℕ) → Result X LineFault → Result (Unit {0}) JobFault → ℕ → ℕ → Type 0
+IsAnswerWritten view old new (Ok x) (Ok done) before after = Appends old new (view x) × (after ≡ before)
+IsAnswerWritten view old new (Ok x) (Err (Reported line)) before after = ⊥
+IsAnswerWritten view old new (Ok x) (Err WriteFailed) before after = AppendsFront old new (view x) × (before < after)
+IsAnswerWritten view old new (Err fault) result before after = IsRefusalWritten old new fault result before after
+
 -- a prefix of a text, and then the line of out of memory
 abbrev pub IsCutShort : List ℕ → List ℕ → Type 0
 IsCutShort text cut = (n : ℕ) × (n ≤ length text) × (cut ≡ take n text ++ line_of NoMemory)

@@ -4,7 +4,7 @@ ghost use Rattle.std.specs.Prelude.{◌≡◌, ◌<◌, ℕ, List, Option, strin
 ghost use Rattle.dns_master.specs.Device.{TextWritten};
 ghost use Rattle.text_commands.specs.LineFaults.{GivesOf, limited};
 ghost use Rattle.text_commands.specs.Refusals.{refused_line};
-ghost use Rattle.text_commands.specs.Replies.{IsSent, IsRefusalWritten, IsPrinted};
+ghost use Rattle.text_commands.specs.Replies.{IsAnswerWritten, IsSent, IsRefusalWritten, IsPrinted};
 
 use crate::line_fault::{JobFault, LineFault, NO_MEMORY_LINE, READ_FAILED_LINE};
 use crate::refusal::{Refusal, RefusalLine};
@@ -94,5 +94,22 @@ pub fn write_refusal<W: Sink>(
             Err(JobFault::Reported(fault))
         }
         LineFault::NoMemory => tell_no_memory(writer),
+    }
+}
+
+/// Writes the text that was made of an input. On a failure, a line tells why.
+pub(crate) fn write_answer<W: Sink>(
+    alloc: Global,
+    writer: &mut W,
+    answer: Result<String, LineFault>,
+) -> Result<(), JobFault>
+    ensures { IsAnswerWritten string_bytes (W.contents writer.old) (W.contents writer.new) answer result (W.failures writer.old) (W.failures writer.new) }
+{
+    match answer {
+        Ok(text) => {
+            write_text(writer, text.as_bytes())?;
+            Ok(())
+        }
+        Err(fault) => write_refusal(alloc, writer, fault),
     }
 }

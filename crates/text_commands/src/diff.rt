@@ -5,7 +5,7 @@ ghost use Rattle.text_commands.specs.LineFaults.{Gives, GivesOf};
 ghost use Rattle.text_commands.specs.Diff.{prerequisites_in, items_between, items_to, diff_text, IsOldRead, Differs};
 
 use crate::canon::{read_zone, zone_of_file};
-use crate::device::{write_refusal, write_text};
+use crate::device::{write_answer, write_refusal};
 use crate::diff_fault::DiffFault;
 use crate::guard::guards_of;
 use crate::input::{Input, read_input};
@@ -89,13 +89,7 @@ impl Task for Diff {
         reader: &mut R,
         writer: &mut W,
     ) -> Result<(), JobFault> {
-        match answer(alloc, self.form, &self.old, reader) {
-            Ok(text) => {
-                write_text(writer, text.as_bytes())?;
-                Ok(())
-            }
-            Err(fault) => write_refusal(alloc, writer, fault),
-        }
+        write_answer(alloc, writer, answer(alloc, self.form, &self.old, reader))
     }
 }
 

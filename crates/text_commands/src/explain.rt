@@ -5,7 +5,7 @@ ghost use Rattle.text_commands.specs.RefusalNumbers.{row_of};
 ghost use Rattle.text_commands.specs.LineFaults.{Gives};
 ghost use Rattle.text_commands.specs.Explain.{rows_asked, rows_text, explain_made, explain_text};
 
-use crate::device::{write_refusal, write_text};
+use crate::device::write_answer;
 use crate::input::Input;
 use crate::line_fault::{JobFault, LineFault};
 use crate::refusal::Refusal;
@@ -67,12 +67,6 @@ impl Task for Explain<'_> {
         _reader: &mut R,
         writer: &mut W,
     ) -> Result<(), JobFault> {
-        match answer(alloc, self.number, self.form) {
-            Ok(text) => {
-                write_text(writer, text.as_bytes())?;
-                Ok(())
-            }
-            Err(fault) => write_refusal(alloc, writer, fault),
-        }
+        write_answer(alloc, writer, answer(alloc, self.number, self.form))
     }
 }

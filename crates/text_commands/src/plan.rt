@@ -8,7 +8,7 @@ ghost use Rattle.text_commands.specs.LineFaults.{Gives, GivesOf};
 ghost use Rattle.text_commands.specs.Plan.{asker_in, asker_of, asker_read, reply_line, signed_lines, change_lines, serial_line, planned, plan_behind, plan_text, IsAskerRead, IsPlanned};
 
 use crate::apply::{InputRead, read_parts, zone_of_records};
-use crate::device::{write_refusal, write_text};
+use crate::device::{write_answer, write_refusal};
 use crate::input::{Input, read_input};
 use crate::line_fault::{JobFault, LineFault};
 use crate::plan_fault::PlanFault;
@@ -133,13 +133,7 @@ impl Task for Asker {
         reader: &mut R,
         writer: &mut W,
     ) -> Result<(), JobFault> {
-        match answer(alloc, &self, reader) {
-            Ok(text) => {
-                write_text(writer, text.as_bytes())?;
-                Ok(())
-            }
-            Err(fault) => write_refusal(alloc, writer, fault),
-        }
+        write_answer(alloc, writer, answer(alloc, &self, reader))
     }
 }
 

@@ -5,7 +5,7 @@ ghost use Rattle.text_commands.specs.LineFaults.{Gives, GivesOf, of_items};
 ghost use Rattle.text_commands.specs.Request.{identifier_in, body_line, body_of_items, request_text};
 ghost use Rattle.office_state.specs.Reading.{items_of};
 
-use crate::device::{write_refusal, write_text};
+use crate::device::write_answer;
 use crate::input::{Input, read_input};
 use crate::line_fault::{JobFault, LineFault};
 use crate::refusal::Refusal;
@@ -85,12 +85,6 @@ impl Task for Request<'_> {
         reader: &mut R,
         writer: &mut W,
     ) -> Result<(), JobFault> {
-        match answer(alloc, self.id, reader) {
-            Ok(line) => {
-                write_text(writer, line.as_bytes())?;
-                Ok(())
-            }
-            Err(fault) => write_refusal(alloc, writer, fault),
-        }
+        write_answer(alloc, writer, answer(alloc, self.id, reader))
     }
 }

@@ -11,7 +11,7 @@ ghost use Rattle.text_commands.specs.Filling.{lent_operations, part_view};
 ghost use Rattle.text_commands.specs.PartLines.{IsPartLine, ArePartLines};
 ghost use Rattle.text_commands.specs.Split.{numbered, advance, advanced_data, advanced, part_update, part_body, with_body, bodies_behind, lists_in, split_items, split_text};
 
-use crate::device::{write_refusal, write_text};
+use crate::device::write_answer;
 use crate::filling::Part;
 use crate::guard::adds_soa;
 use crate::input::{Input, read_input};
@@ -231,12 +231,6 @@ impl Task for Split<'_> {
         reader: &mut R,
         writer: &mut W,
     ) -> Result<(), JobFault> {
-        match answer(alloc, self.id, reader) {
-            Ok(lines) => {
-                write_text(writer, lines.as_bytes())?;
-                Ok(())
-            }
-            Err(fault) => write_refusal(alloc, writer, fault),
-        }
+        write_answer(alloc, writer, answer(alloc, self.id, reader))
     }
 }

@@ -1,17 +1,7 @@
-use Rattle.std.proofs.Common.{Global}
 use Rattle.std.specs.Prelude.{string_bytes}
-use Rattle.std.proofs.lemmas.Result.{err_from_is_err_and}
 use Rattle.text_commands.specs.Diff.{diff_text}
-use Rattle.text_commands.proofs.JobLemmas.{answered_front, answered_told}
+use Rattle.text_commands.proofs.JobLemmas.{answered_written}
 use Rattle.text_commands.proofs.diff.DiffTask.run.Goals as goal
 
-pub returns-in_err-write_text-in-Ok : goal.returns-in_err-write_text-in-Ok
-returns-in_err-write_text-in-Ok g c =
-    let p = err_from_is_err_and c.from_residual.result c.from_residual.ensures.1 in
-    let made = c.in-Ok.ensures in
-    let sent = rw c.as_bytes.ensures.value at c.in_err-write_text-in-Ok.ensures in
-    rw (p.1, p.2) (answered_front _ (diff_text c.args.self.form c.args.self.old) _ _ _ _ _ _ (string_bytes c.in-Ok.text) made.0 made.1 sent)
-
 pub returns : goal.returns
-returns g c =
-    answered_told _ (diff_text c.args.self.form c.args.self.old) _ _ _ _ _ _ (string_bytes {Z = Global}) c.in-Err.fault c.write_refusal.result c.in-Err.ensures c.write_refusal.ensures
+returns g c = answered_written _ (diff_text c.args.self.form c.args.self.old) _ _ _ _ _ _ string_bytes c.answer.result c.write_answer.result c.answer.ensures c.write_answer.ensures
