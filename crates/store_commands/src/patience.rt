@@ -1,6 +1,8 @@
 //! Connections whose peers are waited for, but not for ever.
 
+ghost use Rattle.std.specs.Prelude.{◌≡◌, ◌↔◌, IsTrue, IsErrAnd};
 ghost use Rattle.std.specs.Io.{ReadsAtMost, WritesAtMost};
+ghost use Rattle.std.specs.IoError.{error_kind};
 
 use std::cell::Cell;
 use std::io::{self, ErrorKind, Read, Write};
@@ -143,7 +145,9 @@ impl<'a, C: Clock> PatientStream<'a, C> {
 }
 
 /// Whether a signal has cut a read or a write short.
-fn is_interrupted(done: &io::Result<usize>) -> bool {
+fn is_interrupted(done: &io::Result<usize>) -> bool
+    ensures { IsTrue result ↔ IsErrAnd done.now (λ e. error_kind e ≡ ErrorKind.Interrupted) }
+{
     match done {
         Ok(_) => false,
         Err(fault) => fault.kind() == ErrorKind::Interrupted,

@@ -3,8 +3,9 @@
 ghost use Rattle.std.specs.Prelude.{◌≡◌, ◌↔◌, ⊤, IsTrue, map, codes};
 ghost use Rattle.std.specs.Process.{exit_status};
 ghost use Rattle.sqlite.specs.Held.{state};
+ghost use Rattle.text_commands.specs.Plan.{IsPlanned};
 ghost use Rattle.store_commands.specs.Stores.{stores_of};
-ghost use Rattle.store_commands.specs.Program.{EndsTask, EndsCheck, DiffersBy, requested, TextJobEnds, StoreJobEnds, JobEnds, EndsFault, WordsEnd, IsToldWhole, status_of, check_status_of};
+ghost use Rattle.store_commands.specs.Program.{Ends, EndsTask, EndsCheck, DiffersBy, named, standard, requested, TextJobEnds, StoreJobEnds, JobEnds, EndsFault, WordsEnd, IsToldWhole, status_of, check_status_of};
 
 use crate::files::StoreFiles;
 use crate::migration::migrate;
@@ -149,6 +150,21 @@ fn request<I: Input, W: Sink>(
     }
 }
 
+/// Writes what an office with the policy of a path would answer a caller, by an input that has a zone and an update.
+fn plan<M: Surroundings, R: Source, W: Sink>(
+    around: &M,
+    path: &str,
+    caller: &str,
+    input: &mut R,
+    output: &mut W,
+) -> ExitCode
+    ensures { Ends (λ outcome. IsPlanned caller.now (named (M.around around.now) path.now) (standard (record { left = R.remaining input.old; rest = R.remaining input.new; before = R.failures input.old; after = R.failures input.new })) (W.contents output.old) (W.contents output.new) outcome (W.failures output.old) (W.failures output.new)) (exit_status result) }
+{
+    let rt = around.machine();
+    let mut policy = NamedFile { around, path };
+    ended(rt, do_plan(rt.alloc(), caller, &mut policy, input, output))
+}
+
 /// Does a job that needs no store, with standard input and output. The status is 0 if it went through, and a check found nothing; else
 /// 1.
 pub fn do_text_job<M: Surroundings, R: Source, W: Sink>(
@@ -174,13 +190,7 @@ pub fn do_text_job<M: Surroundings, R: Source, W: Sink>(
             policy: path,
             asked,
         } => do_task(rt, asked, &mut NamedFile { around, path }, output),
-        TextJob::Plan {
-            policy: path,
-            caller,
-        } => {
-            let mut policy = NamedFile { around, path };
-            ended(rt, do_plan(rt.alloc(), caller, &mut policy, input, output))
-        }
+        TextJob::Plan { policy, caller } => plan(around, policy, caller, input, output),
         TextJob::CheckPolicy { policy } => check_file(around, Subject::Rules, policy, output),
         TextJob::CheckIsolation { policy, caller } => {
             check_file(around, Subject::Isolation(caller), policy, output)
