@@ -1,8 +1,8 @@
 -- The fields of a head (RFC 9110 section 5), and numbers in their values.
-use Rattle.std.specs.Prelude.{ℕ, List, [], ◌∷◌, length, map, Bool, true, false, ◌&&◌, nat_lt, nat_le, if◌then◌else◌, Option, Some, None, bytes_eq}
-use Rattle.std.specs.List.{list_all}
-use Rattle.std.specs.Char.{is_ascii_digit, to_ascii_lowercase}
+use Rattle.std.specs.Prelude.{ℕ, List, [], ◌∷◌, map, Bool, true, false, nat_le, if◌then◌else◌, Option, Some, None, bytes_eq}
+use Rattle.std.specs.Char.{to_ascii_lowercase}
 use Rattle.std.specs.Str.Parse.{digits_value}
+use Rattle.dns_data.specs.Numbers.{is_number}
 use Rattle.httparse.specs.Grammar.{RequestHead}
 use Rattle.httparse.specs.Spans.{name_and_value}
 
@@ -31,10 +31,6 @@ only (v ∷ []) = Some v
 only (v ∷ w ∷ vs) = None
 
 -- ---- numbers
-
--- decimal digits, at least one
-abbrev pub is_number : List ℕ → Bool
-is_number text = nat_lt 0 (length text) && list_all is_ascii_digit text
 
 -- the number of digits, where it is at most so large
 abbrev pub number_up_to : ℕ → List ℕ → Option ℕ

@@ -8,7 +8,8 @@ use Rattle.office_wire.specs.declared.length.Ask.{Ask}
 use Rattle.office_wire.specs.declared.length.Ask.TheVariants.{Body, Refused}
 use Rattle.office_wire.specs.declared.method.Method.{Method}
 use Rattle.office_wire.specs.declared.method.Method.TheVariants.{Get, Post, Head, Other}
-use Rattle.office_wire.specs.Fields.{fields_of, values_of, is_any, is_number, number_up_to}
+use Rattle.dns_data.specs.Numbers.{is_number}
+use Rattle.office_wire.specs.Fields.{fields_of, values_of, is_any, number_up_to}
 
 -- the method of a request (RFC 9110 section 9)
 abbrev pub method_of : List ℕ → Method

@@ -1,30 +1,18 @@
 //! Numbers in decimal digits, however many.
 
 ghost use Rattle.std.specs.Prelude.{◌≡◌, ◌≤◌, ◌==◌, true, length};
-ghost use Rattle.std.specs.Char.{is_ascii_digit};
 ghost use Rattle.std.specs.List.{list_all};
 ghost use Rattle.std.specs.Str.Parse.{digits_value};
-ghost use Rattle.office_wire.specs.Fields.{is_number, number_up_to, number_of};
+ghost use Rattle.dns_data.specs.Numbers.{is_number};
+ghost use Rattle.office_wire.specs.Fields.{number_up_to, number_of};
 
-/// Whether there are only decimal digits.
-fn are_digits(text: &[u8]) -> bool
-    ensures { result ≡ list_all is_ascii_digit text.now }
-{
-    text.iter().all(|octet| octet.is_ascii_digit())
-}
+use dns_data::is_number;
 
 /// Whether there are only zeros.
 fn are_zeros(text: &[u8]) -> bool
     ensures { result ≡ list_all (λ digit. digit == 48) text.now }
 {
     text.iter().all(|digit| *digit == b'0')
-}
-
-/// Whether a text is a number: decimal digits, at least one.
-pub(crate) fn is_number(text: &[u8]) -> bool
-    ensures { result ≡ is_number text.now }
-{
-    !text.is_empty() && are_digits(text)
 }
 
 /// The number of digits, where it is at most so large.

@@ -2,14 +2,16 @@
 
 ghost use Rattle.std.specs.Prelude.{◌≡◌, true, length, map, codes, All};
 ghost use Rattle.httparse.specs.Spans.{header_bytes, IsHeaderWithin};
-ghost use Rattle.office_wire.specs.Fields.{values_of, is_any, is_number};
+ghost use Rattle.dns_data.specs.Numbers.{is_number};
+ghost use Rattle.office_wire.specs.Fields.{values_of, is_any};
 ghost use Rattle.office_wire.specs.Lengths.{are_one_number, ask_by, body_up_to, BodyUpTo};
 ghost use Rattle.office_wire.specs.Fields.{number_up_to};
 
-use crate::digits::{is_number, is_same_number, number_up_to};
+use crate::digits::{is_same_number, number_up_to};
 use crate::field::{has_field, next_value};
 use crate::method::Method;
 use crate::refusal::Refusal;
+use dns_data::is_number;
 use httparse::spans::HeaderSpan;
 
 /// The most octets of a body.

@@ -1,6 +1,7 @@
 use Rattle.std.proofs.Common.{◌≡◌, true, length, map, codes, All}
 use Rattle.httparse.specs.Spans.{header_bytes, IsHeaderWithin}
-use Rattle.office_wire.specs.Fields.{values_of, is_number}
+use Rattle.dns_data.specs.Numbers.{is_number}
+use Rattle.office_wire.specs.Fields.{values_of}
 use Rattle.office_wire.specs.Lengths.{are_one_number}
 use Rattle.office_wire.proofs.length.are_one_number.Given as goal
 
