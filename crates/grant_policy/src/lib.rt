@@ -43,7 +43,7 @@ mod word;
 pub use action::Action;
 pub use callers::Callers;
 pub use deciding::{decide, has_any_right};
-pub use decision::Decision;
+pub use decision::{CLOSING, Decision};
 pub use document::read_policy;
 pub use effect::Effect;
 pub use exposure::{Exposure, Right, isolation};
