@@ -24,7 +24,7 @@ use Rattle.zone_core.specs.declared.update.Prerequisite.{Prerequisite}
 use Rattle.zone_core.specs.declared.update.Prerequisite.TheVariants.{RrsetExists, RrsetEquals, RrsetAbsent, NameUsed, NameUnused}
 use Rattle.zone_core.specs.declared.update.Operation.{Operation}
 use Rattle.zone_core.specs.declared.update.Operation.TheVariants.{Add, DeleteRrset, DeleteName, DeleteRecord}
-use Rattle.zone_core.specs.Kinds.{prerequisite_word, operation_word, prerequisite_kind, operation_kind}
+use Rattle.zone_core.specs.Kinds.{prerequisite_word, operation_word, prerequisite_named, operation_named, prerequisite_kind, operation_kind}
 use Rattle.zone_core.specs.Updates.{UpdateOf, update_of}
 use Rattle.zone_core.specs.declared.refusals.UpdateFault.{UpdateFault}
 use Rattle.office_json.specs.declared.body.UpdateBody.{UpdateBody}
@@ -35,8 +35,8 @@ use Rattle.office_json.specs.Fields.{update_fields, needed_fields, prerequisite_
 use Rattle.office_json.specs.Faults.{◌>>=◌, or_bad, of_names, of_datas, of_updates, of_delegations}
 use Rattle.office_json.specs.Bodies.{json_of, at, has_only, HasOnly, IsText, IsArray, IsArrayOrAbsent, AreItems, IsNameField, IsTypeField, IsTtlField, IsDataField, IsIdField, IsSetBody, IsDatumBody, IsRecordBody, TestsBody, ChangesBody, IsPrerequisiteBody, IsOperationBody, IsUpdateValue, IsUpdateBody, ServerOf, RequestOf, has_colon, SpellsAddress, IsAddressBody, IsServerBody, IsDelegationValue, IsDelegationBody}
 use Rattle.office_json.specs.Delegating.{delegated}
-use Rattle.office_json.specs.Reading.{or_no_json, members_in, known_only, all_there, fields_in, text_in, items_in, items_or_none, id_in, name_in, type_in, ttl_of, ttl_in, data_of_text, data_in, set_in, datum_in, record_in, test_in, change_in, prerequisite_named, operation_named, word_in, prerequisite_kind_in, operation_kind_in, prerequisite_in, operation_in, each, few, body_with, lists_in, update_in, update_of_body, ipv4_in, ipv6_in, address_of, address_in, server_in, RequestBody, request_in, delegation_of_body}
-use Rattle.office_json.proofs.KindLemmas.{prerequisite_is, operation_is}
+use Rattle.office_json.specs.Reading.{or_no_json, members_in, known_only, all_there, fields_in, text_in, items_in, items_or_none, id_in, name_in, type_in, ttl_of, ttl_in, data_of_text, data_in, set_in, datum_in, record_in, test_in, change_in, word_in, prerequisite_kind_in, operation_kind_in, prerequisite_in, operation_in, each, few, body_with, lists_in, update_in, update_of_body, ipv4_in, ipv6_in, address_of, address_in, server_in, RequestBody, request_in, delegation_of_body}
+use Rattle.zone_core.proofs.KindLemmas.{prerequisite_is, operation_is}
 use Rattle.office_json.proofs.DataLemmas.{said_only}
 use Rattle.office_json.proofs.ListLemmas.{as_many, each_only}
 

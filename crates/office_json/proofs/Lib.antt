@@ -5,7 +5,6 @@ pub mod DataTextLemmas
 pub mod DelegationLemmas
 pub mod EscapeLemmas
 pub mod FormLaws
-pub mod KindLemmas
 pub mod ListLemmas
 pub mod ShortLemmas
 pub mod UpdateTextLaws

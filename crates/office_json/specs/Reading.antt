@@ -1,7 +1,7 @@
 -- What a body says, with the refusal that comes first: no JSON; no object, a field that is not asked for, a field that is
 -- missing, a value that is not of its form; too many items; the same of each item in turn; the items as an update.
-use Rattle.std.specs.Prelude.{◌≡◌, ℕ, List, [], ◌∷◌, map, Bool, ◌||◌, ◌&&◌, ◌==◌, nat_lt, nat_le, if◌then◌else◌, Option, Some, None, option_and_then, is_some, Result, Ok, Err, bytes_eq}
-use Rattle.std.specs.List.{find, list_all}
+use Rattle.std.specs.Prelude.{◌≡◌, ℕ, List, [], ◌∷◌, map, Bool, ◌||◌, ◌&&◌, ◌==◌, nat_lt, nat_le, if◌then◌else◌, Option, Some, None, option_and_then, is_some, Result, Ok, Err}
+use Rattle.std.specs.List.{list_all}
 use Rattle.std.specs.Result.{result_ok}
 use Rattle.std.specs.declared.net.ip_addr.IpAddr.{IpAddr}
 use Rattle.std.specs.declared.net.ip_addr.IpAddr.TheVariants.{V4, V6}
@@ -26,7 +26,7 @@ use Rattle.zone_core.specs.declared.update.Prerequisite.{Prerequisite}
 use Rattle.zone_core.specs.declared.update.Prerequisite.TheVariants.{RrsetExists, RrsetEquals, RrsetAbsent, NameUsed, NameUnused}
 use Rattle.zone_core.specs.declared.update.Operation.{Operation}
 use Rattle.zone_core.specs.declared.update.Operation.TheVariants.{Add, DeleteRrset, DeleteName, DeleteRecord}
-use Rattle.zone_core.specs.Kinds.{prerequisite_word, operation_word}
+use Rattle.zone_core.specs.Kinds.{prerequisite_named, operation_named}
 use Rattle.zone_core.specs.Updates.{UpdateOf, update_of}
 use Rattle.office_json.specs.declared.body.UpdateBody.{UpdateBody}
 use Rattle.office_json.specs.declared.body_fault.BodyFault.{BodyFault}
@@ -142,22 +142,6 @@ change_in changes.Add d = record_in d >>= λ r. Ok (Add r)
 change_in changes.DeleteRrset d = set_in d >>= λ s. Ok (DeleteRrset s.0 s.1)
 change_in changes.DeleteName d = name_in field.Name d >>= λ name. Ok (DeleteName name)
 change_in changes.DeleteRecord d = datum_in d >>= λ s. Ok (DeleteRecord s.0 s.1)
-
--- the kinds of prerequisites that there are (RFC 2136 section 2.4)
-abbrev pub prerequisite_kinds : List PrerequisiteKind
-prerequisite_kinds = tests.RrsetExists ∷ tests.RrsetEquals ∷ tests.RrsetAbsent ∷ tests.NameUsed ∷ tests.NameUnused ∷ []
-
--- the kinds of operations that there are (RFC 2136 section 2.5)
-abbrev pub operation_kinds : List OperationKind
-operation_kinds = changes.Add ∷ changes.DeleteRrset ∷ changes.DeleteName ∷ changes.DeleteRecord ∷ []
-
--- the kind of prerequisite that is called so, as it is written
-abbrev pub prerequisite_named : List ℕ → Option PrerequisiteKind
-prerequisite_named word = find (λ kind. bytes_eq (prerequisite_word kind) word) prerequisite_kinds
-
--- the kind of operation that is called so, as it is written
-abbrev pub operation_named : List ℕ → Option OperationKind
-operation_named word = find (λ kind. bytes_eq (operation_word kind) word) operation_kinds
 
 -- the word of an item: an object that has this field, and a text there
 abbrev pub word_in : Field → Data → Result (List ℕ) BodyFault

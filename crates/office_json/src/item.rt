@@ -6,7 +6,7 @@ ghost use Rattle.zone_core.specs.Kinds.{prerequisite_word, operation_word, prere
 ghost use Rattle.office_json.specs.declared.field.Field.TheVariants.{Test, Op};
 ghost use Rattle.office_json.specs.Faults.{Gives};
 ghost use Rattle.office_json.specs.Bodies.{IsText, IsSetBody, IsDatumBody, IsRecordBody, TestsBody, ChangesBody, IsPrerequisiteBody, IsOperationBody, AreItems};
-ghost use Rattle.office_json.specs.Reading.{set_in, datum_in, record_in, test_in, change_in, prerequisite_named, operation_named, prerequisite_kind_in, operation_kind_in, prerequisite_in, operation_in, each};
+ghost use Rattle.office_json.specs.Reading.{set_in, datum_in, record_in, test_in, change_in, prerequisite_kind_in, operation_kind_in, prerequisite_in, operation_in, each};
 
 use crate::body_fault::BodyFault;
 use crate::field::{Field, operation_fields, prerequisite_fields};
@@ -111,27 +111,13 @@ fn read_change(alloc: Global, kind: OperationKind, value: &Value) -> Result<Oper
     }
 }
 
-/// The kind of prerequisite that is called so.
-fn prerequisite_named(word: &[u8]) -> Option<PrerequisiteKind>
-    ensures { result ≡ prerequisite_named word.now }
-{
-    PrerequisiteKind::read(word)
-}
-
-/// The kind of operation that is called so.
-fn operation_named(word: &[u8]) -> Option<OperationKind>
-    ensures { result ≡ operation_named word.now }
-{
-    OperationKind::read(word)
-}
-
 /// The kind of a prerequisite.
 fn read_prerequisite_kind(value: &Value) -> Result<PrerequisiteKind, BodyFault>
     ensures exact { Gives (λ kind. kind) result (prerequisite_kind_in (view value.now)) }
     ensures found { IfOk result (λ kind. IsText Test (prerequisite_word kind) (view value.now)) }
 {
     let word = read_word(value, Field::Test)?;
-    prerequisite_named(word.as_bytes()).ok_or(BodyFault::BadField)
+    PrerequisiteKind::read(word.as_bytes()).ok_or(BodyFault::BadField)
 }
 
 /// The kind of an operation.
@@ -140,7 +126,7 @@ fn read_operation_kind(value: &Value) -> Result<OperationKind, BodyFault>
     ensures found { IfOk result (λ kind. IsText Op (operation_word kind) (view value.now)) }
 {
     let word = read_word(value, Field::Op)?;
-    operation_named(word.as_bytes()).ok_or(BodyFault::BadField)
+    OperationKind::read(word.as_bytes()).ok_or(BodyFault::BadField)
 }
 
 /// A prerequisite.

@@ -26,12 +26,12 @@ use Rattle.zone_core.specs.declared.update.Prerequisite.{Prerequisite}
 use Rattle.zone_core.specs.declared.update.Prerequisite.TheVariants.{RrsetExists, RrsetEquals, RrsetAbsent, NameUsed, NameUnused}
 use Rattle.zone_core.specs.declared.update.Operation.{Operation}
 use Rattle.zone_core.specs.declared.update.Operation.TheVariants.{Add, DeleteRrset, DeleteName, DeleteRecord}
-use Rattle.zone_core.specs.Kinds.{prerequisite_word, operation_word, prerequisite_kind, operation_kind}
+use Rattle.zone_core.specs.Kinds.{prerequisite_word, operation_word, prerequisite_named, operation_named, prerequisite_kind, operation_kind}
 use Rattle.office_state.specs.declared.item.UpdateItem.{UpdateItem}
 use Rattle.office_state.specs.declared.item.UpdateItem.TheVariants as items
 use Rattle.office_state.specs.ItemLines.{IsTypeItem, IsTtlItem, IsSetText, IsDatumText, IsRecordText, TestsText, ChangesText, IsItem}
-use Rattle.office_state.specs.Reading.{◌>>?◌, unquoted, name_at, ttl_at, type_at, name_alone, type_alone, set_at, data_at, datum_at, record_at, prerequisite_of, operation_of, prerequisite_named, operation_named, operation_item, kind_item, update_item}
-use Rattle.office_state.proofs.KindLemmas.{prerequisite_is, operation_is, no_prerequisite}
+use Rattle.office_state.specs.Reading.{◌>>?◌, unquoted, name_at, ttl_at, type_at, name_alone, type_alone, set_at, data_at, datum_at, record_at, prerequisite_of, operation_of, operation_item, kind_item, update_item}
+use Rattle.zone_core.proofs.KindLemmas.{prerequisite_is, operation_is, no_prerequisite}
 
 abbrev Labels : Type 0
 Labels = List (List ℕ)

@@ -1,6 +1,5 @@
 pub mod TextLemmas
 pub mod FieldLemmas
-pub mod KindLemmas
 pub mod GatherLemmas
 pub mod EntryLemmas
 pub mod ItemLaws

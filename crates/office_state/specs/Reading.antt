@@ -1,6 +1,5 @@
 -- The update of a text of item lines, with the refusal that comes first.
-use Rattle.std.specs.Prelude.{ℕ, ◌-◌, List, [], ◌∷◌, ◌++◌, length, map, if◌then◌else◌, Option, Some, None, option_and_then, Result, Ok, Err, bytes_eq}
-use Rattle.std.specs.List.{find}
+use Rattle.std.specs.Prelude.{ℕ, ◌-◌, List, [], ◌∷◌, ◌++◌, length, map, if◌then◌else◌, Option, Some, None, option_and_then, Result, Ok, Err}
 use Rattle.std.specs.Result.{result_ok}
 use Rattle.dns_names.specs.Reading.{absolute_name}
 use Rattle.dns_data.specs.declared.rdata.Data.{Data}
@@ -23,7 +22,7 @@ use Rattle.zone_core.specs.declared.update.Prerequisite.{Prerequisite}
 use Rattle.zone_core.specs.declared.update.Prerequisite.TheVariants.{RrsetExists, RrsetEquals, RrsetAbsent, NameUsed, NameUnused}
 use Rattle.zone_core.specs.declared.update.Operation.{Operation}
 use Rattle.zone_core.specs.declared.update.Operation.TheVariants.{Add, DeleteRrset, DeleteName, DeleteRecord}
-use Rattle.zone_core.specs.Kinds.{prerequisite_word, operation_word}
+use Rattle.zone_core.specs.Kinds.{prerequisite_named, operation_named}
 use Rattle.zone_core.specs.Updates.{UpdateOf, update_of}
 use Rattle.office_state.specs.declared.items_fault.ItemsFault.{ItemsFault}
 use Rattle.office_state.specs.declared.items_fault.ItemsFault.TheVariants.{BadLine}
@@ -103,22 +102,6 @@ operation_of changes.Add texts = record_at texts >>? λ r. Some (Add r)
 operation_of changes.DeleteRrset texts = set_at texts >>? λ s. Some (DeleteRrset s.0 s.1)
 operation_of changes.DeleteName texts = name_alone texts >>? λ name. Some (DeleteName name)
 operation_of changes.DeleteRecord texts = datum_at texts >>? λ d. Some (DeleteRecord d.0 d.1)
-
--- the kinds of prerequisites that there are (RFC 2136 section 2.4)
-abbrev pub prerequisite_kinds : List PrerequisiteKind
-prerequisite_kinds = tests.RrsetExists ∷ tests.RrsetEquals ∷ tests.RrsetAbsent ∷ tests.NameUsed ∷ tests.NameUnused ∷ []
-
--- the kinds of operations that there are (RFC 2136 section 2.5)
-abbrev pub operation_kinds : List OperationKind
-operation_kinds = changes.Add ∷ changes.DeleteRrset ∷ changes.DeleteName ∷ changes.DeleteRecord ∷ []
-
--- the kind of prerequisite that is called so, as it is written
-abbrev pub prerequisite_named : List ℕ → Option PrerequisiteKind
-prerequisite_named word = find (λ kind. bytes_eq (prerequisite_word kind) word) prerequisite_kinds
-
--- the kind of operation that is called so, as it is written
-abbrev pub operation_named : List ℕ → Option OperationKind
-operation_named word = find (λ kind. bytes_eq (operation_word kind) word) operation_kinds
 
 -- an item of a word that names no kind of prerequisite
 abbrev pub operation_item : Option OperationKind → List ItemText → Option UpdateItem

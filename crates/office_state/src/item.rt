@@ -3,7 +3,7 @@
 ghost use Rattle.std.specs.Prelude.{◌≡◌, map};
 ghost use Rattle.dns_data.specs.Items.{item_of};
 ghost use Rattle.office_state.specs.ItemFaults.{Tells};
-ghost use Rattle.office_state.specs.Reading.{unquoted, name_at, ttl_at, type_at, name_alone, type_alone, set_at, data_at, datum_at, record_at, prerequisite_of, operation_of, prerequisite_named, operation_named, update_item};
+ghost use Rattle.office_state.specs.Reading.{unquoted, name_at, ttl_at, type_at, name_alone, type_alone, set_at, data_at, datum_at, record_at, prerequisite_of, operation_of, update_item};
 
 use crate::item_fault::ItemFault;
 use dns_data::{Data, Item, Record, RecordType, Ttl, read_data};
@@ -165,20 +165,6 @@ fn read_operation(
     }
 }
 
-/// The kind of prerequisite that is called so.
-fn prerequisite_named(word: &[u8]) -> Option<PrerequisiteKind>
-    ensures { result ≡ prerequisite_named word.now }
-{
-    PrerequisiteKind::read(word)
-}
-
-/// The kind of operation that is called so.
-fn operation_named(word: &[u8]) -> Option<OperationKind>
-    ensures { result ≡ operation_named word.now }
-{
-    OperationKind::read(word)
-}
-
 /// The item of an update that the items of an entry are.
 pub(crate) fn read_item(alloc: Global, items: &[Item]) -> Result<UpdateItem, ItemFault>
     ensures { Tells (λ item. item) result (update_item (map item_of items.now)) }
@@ -187,10 +173,10 @@ pub(crate) fn read_item(alloc: Global, items: &[Item]) -> Result<UpdateItem, Ite
         return Err(ItemFault::NoItem);
     };
     let word = unquoted(*word)?;
-    if let Some(kind) = prerequisite_named(word) {
+    if let Some(kind) = PrerequisiteKind::read(word) {
         return Ok(UpdateItem::Prerequisite(read_prerequisite(alloc, kind, fields)?));
     }
-    let Some(kind) = operation_named(word) else {
+    let Some(kind) = OperationKind::read(word) else {
         return Err(ItemFault::NoItem);
     };
     Ok(UpdateItem::Operation(read_operation(alloc, kind, fields)?))

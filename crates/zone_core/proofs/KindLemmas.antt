@@ -1,28 +1,43 @@
--- Each kind is found by its word.
-use Rattle.std.proofs.Common.{◌≡◌, [], ◌∷◌, List, Some, refl}
+-- The kinds by their words.
+use Rattle.std.proofs.Common.{◌≡◌, ◌↔◌, ℕ, List, Option, Some, None, refl}
 use Rattle.std.specs.Prelude.{bytes_eq}
 use Rattle.std.specs.List.{find}
+use Rattle.dns_data.proofs.WordLemmas.{by_word}
 use Rattle.zone_core.specs.declared.kind.PrerequisiteKind.{PrerequisiteKind}
 use Rattle.zone_core.specs.declared.kind.PrerequisiteKind.TheVariants.{RrsetExists, RrsetEquals, RrsetAbsent, NameUsed, NameUnused}
 use Rattle.zone_core.specs.declared.kind.OperationKind.{OperationKind}
 use Rattle.zone_core.specs.declared.kind.OperationKind.TheVariants.{Add, DeleteRrset, DeleteName, DeleteRecord}
-use Rattle.zone_core.specs.Kinds.{prerequisite_word, operation_word}
+use Rattle.zone_core.specs.Kinds.{prerequisite_word, operation_word, prerequisite_kinds, operation_kinds, prerequisite_named, operation_named}
 
-abbrev pub prerequisite_kinds : List PrerequisiteKind
-prerequisite_kinds = RrsetExists ∷ RrsetEquals ∷ RrsetAbsent ∷ NameUsed ∷ NameUnused ∷ []
-
-pub prerequisite_own : (k : PrerequisiteKind) → find (λ s. bytes_eq (prerequisite_word s) (prerequisite_word k)) prerequisite_kinds ≡ Some k
+prerequisite_own : (k : PrerequisiteKind) → find (λ s. bytes_eq (prerequisite_word s) (prerequisite_word k)) prerequisite_kinds ≡ Some k
 prerequisite_own RrsetExists = refl
 prerequisite_own RrsetEquals = refl
 prerequisite_own RrsetAbsent = refl
 prerequisite_own NameUsed = refl
 prerequisite_own NameUnused = refl
 
-abbrev pub operation_kinds : List OperationKind
-operation_kinds = Add ∷ DeleteRrset ∷ DeleteName ∷ DeleteRecord ∷ []
-
-pub operation_own : (k : OperationKind) → find (λ s. bytes_eq (operation_word s) (operation_word k)) operation_kinds ≡ Some k
+operation_own : (k : OperationKind) → find (λ s. bytes_eq (operation_word s) (operation_word k)) operation_kinds ≡ Some k
 operation_own Add = refl
 operation_own DeleteRrset = refl
 operation_own DeleteName = refl
 operation_own DeleteRecord = refl
+
+-- a kind is found by its word, and by no other
+pub prerequisite_called : (word : List ℕ) (found : Option PrerequisiteKind) → found ≡ prerequisite_named word → (kind : PrerequisiteKind) → (found ≡ Some kind) ↔ (prerequisite_word kind ≡ word)
+prerequisite_called = by_word prerequisite_word prerequisite_kinds prerequisite_own
+
+pub prerequisite_is : (word : List ℕ) (kind : PrerequisiteKind) → (prerequisite_named word ≡ Some kind) ↔ (prerequisite_word kind ≡ word)
+prerequisite_is word = prerequisite_called word (prerequisite_named word) refl
+
+pub operation_called : (word : List ℕ) (found : Option OperationKind) → found ≡ operation_named word → (kind : OperationKind) → (found ≡ Some kind) ↔ (operation_word kind ≡ word)
+operation_called = by_word operation_word operation_kinds operation_own
+
+pub operation_is : (word : List ℕ) (kind : OperationKind) → (operation_named word ≡ Some kind) ↔ (operation_word kind ≡ word)
+operation_is word = operation_called word (operation_named word) refl
+
+-- the word of an operation names no prerequisite
+pub no_prerequisite : (kind : OperationKind) → prerequisite_named (operation_word kind) ≡ None
+no_prerequisite Add = refl
+no_prerequisite DeleteRrset = refl
+no_prerequisite DeleteName = refl
+no_prerequisite DeleteRecord = refl

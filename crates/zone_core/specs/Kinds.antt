@@ -1,5 +1,6 @@
 -- The kinds of prerequisites and of operations, and what each is called in requests.
-use Rattle.std.specs.Prelude.{ℕ, List, codes}
+use Rattle.std.specs.Prelude.{ℕ, List, [], ◌∷◌, Option, bytes_eq, codes}
+use Rattle.std.specs.List.{find}
 use Rattle.zone_core.specs.declared.kind.PrerequisiteKind.{PrerequisiteKind}
 use Rattle.zone_core.specs.declared.kind.PrerequisiteKind.TheVariants as tests
 use Rattle.zone_core.specs.declared.kind.OperationKind.{OperationKind}
@@ -23,6 +24,22 @@ operation_word changes.Add = codes "add"
 operation_word changes.DeleteRrset = codes "delete-rrset"
 operation_word changes.DeleteName = codes "delete-name"
 operation_word changes.DeleteRecord = codes "delete-record"
+
+-- the kinds of prerequisites that there are (RFC 2136 section 2.4)
+abbrev pub prerequisite_kinds : List PrerequisiteKind
+prerequisite_kinds = tests.RrsetExists ∷ tests.RrsetEquals ∷ tests.RrsetAbsent ∷ tests.NameUsed ∷ tests.NameUnused ∷ []
+
+-- the kinds of operations that there are (RFC 2136 section 2.5)
+abbrev pub operation_kinds : List OperationKind
+operation_kinds = changes.Add ∷ changes.DeleteRrset ∷ changes.DeleteName ∷ changes.DeleteRecord ∷ []
+
+-- the kind of prerequisite that is called so, as it is written
+abbrev pub prerequisite_named : List ℕ → Option PrerequisiteKind
+prerequisite_named word = find (λ kind. bytes_eq (prerequisite_word kind) word) prerequisite_kinds
+
+-- the kind of operation that is called so, as it is written
+abbrev pub operation_named : List ℕ → Option OperationKind
+operation_named word = find (λ kind. bytes_eq (operation_word kind) word) operation_kinds
 
 -- the kind of a prerequisite
 abbrev pub prerequisite_kind : Prerequisite → PrerequisiteKind

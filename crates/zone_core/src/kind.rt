@@ -1,8 +1,7 @@
 //! The kinds of prerequisites and of operations.
 
-ghost use Rattle.std.specs.Prelude.{◌≡◌, ◌↔◌, Some, bytes_eq};
-ghost use Rattle.std.specs.List.{find};
-ghost use Rattle.zone_core.specs.Kinds.{prerequisite_word, operation_word, prerequisite_kind, operation_kind};
+ghost use Rattle.std.specs.Prelude.{◌≡◌, ◌↔◌, Some};
+ghost use Rattle.zone_core.specs.Kinds.{prerequisite_word, operation_word, prerequisite_named, operation_named, prerequisite_kind, operation_kind};
 
 use crate::update::{Operation, Prerequisite};
 
@@ -59,14 +58,15 @@ impl PrerequisiteKind {
 
     /// The kind of this word, which is read only as it is written.
     pub fn read(word: &[u8]) -> Option<PrerequisiteKind>
-        ensures { (kind : PrerequisiteKind) → (result ≡ Some kind) ↔ (prerequisite_word kind ≡ word.now) }
+        ensures exact { result ≡ prerequisite_named word.now }
+        ensures spelled { (kind : PrerequisiteKind) → (result ≡ Some kind) ↔ (prerequisite_word kind ≡ word.now) }
     {
         PrerequisiteKind::called(word)
     }
 
     /// The first of the kinds with this word.
     fn called(word: &[u8]) -> Option<PrerequisiteKind>
-        ensures { result ≡ find (λ kind. bytes_eq (prerequisite_word kind) word.now) PrerequisiteKind.ALL }
+        ensures { result ≡ prerequisite_named word.now }
     {
         PrerequisiteKind::ALL
             .iter()
@@ -98,14 +98,15 @@ impl OperationKind {
 
     /// The kind of this word, which is read only as it is written.
     pub fn read(word: &[u8]) -> Option<OperationKind>
-        ensures { (kind : OperationKind) → (result ≡ Some kind) ↔ (operation_word kind ≡ word.now) }
+        ensures exact { result ≡ operation_named word.now }
+        ensures spelled { (kind : OperationKind) → (result ≡ Some kind) ↔ (operation_word kind ≡ word.now) }
     {
         OperationKind::called(word)
     }
 
     /// The first of the kinds with this word.
     fn called(word: &[u8]) -> Option<OperationKind>
-        ensures { result ≡ find (λ kind. bytes_eq (operation_word kind) word.now) OperationKind.ALL }
+        ensures { result ≡ operation_named word.now }
     {
         OperationKind::ALL
             .iter()

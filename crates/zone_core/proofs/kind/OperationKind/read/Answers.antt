@@ -1,8 +1,5 @@
-use Rattle.dns_data.proofs.WordLemmas.{by_word}
-use Rattle.zone_core.specs.Kinds.{operation_word}
-use Rattle.zone_core.proofs.KindLemmas.{operation_kinds, operation_own}
+use Rattle.zone_core.proofs.KindLemmas.{operation_called}
 use Rattle.zone_core.proofs.kind.OperationKind.read.Goals as goal
 
-pub returns : goal.returns
-returns c =
-    by_word operation_word operation_kinds operation_own c.args.word.now c.called.result c.called.ensures
+pub returns-clause-spelled : goal.returns-clause-spelled
+returns-clause-spelled c = operation_called c.args.word.now c.called.result c.called.ensures

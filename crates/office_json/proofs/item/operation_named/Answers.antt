@@ -1,5 +1,0 @@
-use Rattle.office_json.proofs.KindLemmas.{operation_same}
-use Rattle.office_json.proofs.item.operation_named.Goals as goal
-
-pub returns : goal.returns
-returns c = operation_same c.args.word.now c.read.result c.read.ensures
