@@ -1,5 +1,5 @@
 -- The changes of a zone behind the first ones, and their rows.
-use Rattle.std.proofs.Common.{◌≡◌, ℕ, zero, suc, ◌+◌, ◌-◌, ◌<◌, ◌≤◌, ℤ, pos, Bool, true, false, cond, ◌&&◌, nat_lt, List, [], ◌∷◌, ◌++◌, map, filter, drop, Result, Ok, Err, IsPermutation, IsSorted, refl, sym, ap, ap₂, subst, ◌∙◌, arith, bytes_eq}
+use Rattle.std.proofs.Common.{◌≡◌, ℕ, zero, suc, ◌+◌, ◌-◌, ◌<◌, ◌≤◌, pos, Bool, true, false, cond, List, [], ◌∷◌, ◌++◌, map, filter, drop, Ok, Err, IsPermutation, IsSorted, refl, sym, ap, subst, ◌∙◌, arith, bytes_eq}
 use Rattle.std.proofs.lemmas.Bool.{lt-ltb}
 use Rattle.std.proofs.lemmas.Bool.Decides.{nat_tests}
 use Rattle.std.proofs.lemmas.Int.{ints}
@@ -17,14 +17,13 @@ use Rattle.zone_core.specs.Changes.{ChangeOf}
 use Rattle.office_sql.specs.Rows.{ChangeRowOf}
 use Rattle.office_sql.specs.Lookups.{changes_of, changes_from}
 use Rattle.office_rows.specs.declared.changes.ChangedRecord.{ChangedRecord}
-use Rattle.office_rows.specs.declared.row_fault.RowFault.{RowFault}
 use Rattle.office_rows.specs.declared.row_fault.RowFault.TheVariants.{BadRow}
 use Rattle.office_rows.specs.declared.side.Side.{Side}
 use Rattle.office_rows.specs.declared.side.Side.TheVariants.{Removed, Added}
 use Rattle.office_rows.specs.ChangeRows.{change_row, change_rows, changes_rows, row_of, IsChanged, IsChange, changed_order}
 use Rattle.office_rows.specs.Contents.{ZoneRows, zone_changes}
 use Rattle.office_rows.specs.RowFaults.{◌>>=◌}
-use Rattle.office_rows.specs.RowReading.{changed_in, renumbered, changed_behind, changes_among, each_read}
+use Rattle.office_rows.specs.RowReading.{renumbered, changed_behind, changes_among, each_read}
 use Rattle.office_rows.proofs.ListLemmas.{all_permutation, filter-and}
 use Rattle.office_rows.proofs.RowSteps.{done}
 use Rattle.office_rows.proofs.StoredLaws.{each_stored}

@@ -1,6 +1,6 @@
 -- Columns and rows: what is written is read.
 use Rattle.std.proofs.Common.{◌≡◌, ℕ, zero, suc, ◌+◌, ◌<◌, ◌≤◌, List, [], ◌∷◌, ◌++◌, take, map, length, get_or, None, Result, Ok, Err, refl, sym, ap, ◌∙◌, arith}
-use Rattle.std.proofs.lemmas.List.{take_all}
+use Rattle.std.proofs.lemmas.List.{take_all, map-id}
 use Rattle.std.proofs.Math.Seq.{take-suc}
 use Rattle.std.specs.Prelude.{pos}
 use Rattle.std.specs.List.{AllByRecursion}
@@ -57,7 +57,7 @@ module _ {X Y : Type 0} (read : X → Result Y RowFault) where
   each_stored f [] all = refl
   each_stored f (y ∷ ys) all = ap (λ q. q >>= λ z. each_read read (map f ys) >>= λ zs. Ok (z ∷ zs)) all.0 ∙ ap (λ q. q >>= λ zs. Ok (y ∷ zs)) (each_stored f ys all.1)
 
-  with_one : (front : List X) (x : X) (ys : List Y) (y : Y) → each_read read front ≡ Ok ys → read x ≡ Ok y → each_read read (front ++ x ∷ []) ≡ Ok (ys ++ y ∷ [])
+  pub with_one : (front : List X) (x : X) (ys : List Y) (y : Y) → each_read read front ≡ Ok ys → read x ≡ Ok y → each_read read (front ++ x ∷ []) ≡ Ok (ys ++ y ∷ [])
   with_one [] x ys y e one = ap (λ q. q >>= λ z. Ok (z ∷ [])) one ∙ (let none : [] ≡ ys = cc in ap (λ (l : List Y). Ok (l ++ y ∷ [])) none)
   with_one (w ∷ front) x ys y e one =
       let s = step_ok (read w) (λ z. each_read read front >>= λ zs. Ok (z ∷ zs)) ys e in
@@ -90,6 +90,10 @@ module _ {X Y : Type 0} (read : X → Result Y RowFault) where
   pub each_refused : (e : RowFault) (rows : List X) (i : ℕ) (x : X) (ys : List Y) → i < length rows → x ≡ get_or rows i x → each_read read (take i rows) ≡ Ok ys → Refuses e (read x) → Refuses e (each_read read rows)
   each_refused NoMemory rows i x ys below is front h = tt
   each_refused BadRow rows i x ys below is front h = bad_row rows i x ys below is front h
+
+  -- and so where the rows before it were yielded
+  pub refused_in_turn : (e : RowFault) (rows yielded : List X) (x : X) (ys : List Y) → map (λ y. y) yielded ≡ take (length yielded) rows → (length yielded < length rows) × (x ≡ get_or rows (length yielded) x) → each_read read yielded ≡ Ok ys → Refuses e (read x) → Refuses e (each_read read rows)
+  refused_in_turn e rows yielded x ys so_far turn front h = each_refused e rows (length yielded) x ys turn.0 turn.1 (ap (each_read read) (sym (sym (map-id yielded) ∙ so_far)) ∙ front) h
 
 -- ---- records
 

@@ -9,7 +9,7 @@ use Rattle.std.specs.List.{AllByRecursion, flat_map, list_any, position_or_len}
 use Rattle.std.specs.List.Sorted.{IsStrictlySortedBy}
 use Rattle.std.specs.Ordering.{is_eq, nat_cmp, ordering_then}
 use Rattle.sqlite_trees.specs.Tree.{IsAscending}
-use Rattle.sqlite_trees.proofs.ListLemmas.{IsPermutation-same, IsPermutation-flat_map, pull_back}
+use Rattle.sqlite_trees.proofs.ListLemmas.{IsPermutation-same, pull_back}
 use Rattle.sqlite_keyed.proofs.ListLemmas.{all_of, all_weaker, all_both, all_map, all-append, all-flat_map, ascending-append, ascending-map, ascending_from_map, ascending_weaker, map-map, map-flat_map, flat_map_same_on, test_from_all}
 use Rattle.sqlite_keyed.proofs.SortLemmas.{sorted_unique}
 use Rattle.dns_names.specs.Labels.{IsName}
@@ -35,7 +35,7 @@ use Rattle.office_rows.specs.declared.ordered.ZoneRecord.{ZoneRecord}
 use Rattle.office_rows.specs.Orders.{rises}
 use Rattle.office_rows.specs.Checks.{AreZoneRows, AreOrigins, HasItsRecords, AreRecordsOf, HasItsChanges, AreChangesOf, IsOriginText, row_of_record, IsZoneRecord, IsZoneRecordRow, zone_record_order, zone_record_total, records_first, changes_first, AreInTurn, AreRecordsIn, AreRecordsInTurn, AreChangesIn, AreChangesInTurn}
 use Rattle.office_rows.proofs.ContentLemmas.{Apart, changes_each}
-use Rattle.office_rows.proofs.ListLemmas.{list_any-map, ascending_from_pairs, pairs_from_ascending, all_permutation, moved_back, apart_moved}
+use Rattle.office_rows.proofs.ListLemmas.{list_any-map, ascending_from_pairs, all_permutation, moved_back, apart_moved}
 use Rattle.office_rows.proofs.NameLemmas.{text_one}
 use Rattle.office_rows.proofs.OrderLemmas.{rises_from, rises_up, sorted_strict}
 use Rattle.office_rows.proofs.ZoneReadLemmas.{records_of_zone}

@@ -163,7 +163,7 @@ pub(crate) fn stored_change(alloc: Global, row: &ChangeRow) -> Result<ChangedRec
     })
 }
 
-/// The same behind so many changes, numbered from 1. A number of one of these is `BadRow`.
+/// What a row has, with its change numbered from 1 behind so many changes. A number of one of these is `BadRow`.
 fn renumbered(mut changed: ChangedRecord, count: u32) -> Result<ChangedRecord, RowFault>
     ensures { result ≡ renumbered count changed }
 {

@@ -29,19 +29,19 @@ pub fn read_changes(alloc: Global, rows: Vec<ChangeRow>) -> Result<Vec<Change>, 
     // The rows of the changes of a zone are read as these changes, unless memory runs out.
     ensures only { (origin : List (List ℕ)) (changes : List ChangeOf) → IsName origin → AllByRecursion IsChange changes → IsPermutation (changes_rows origin 1 changes) rows.items → Reads (λ cs. map change_in cs.items) result (Ok changes) }
 {
-    let changed = sorted_changes(alloc, &rows)?;
+    let changed = sorted_changes(alloc, rows)?;
     changes_among(alloc, changed)
 }
 
 /// Reads the rows of the changes of one zone that are known to be those of changes, in any order, as its changes, the oldest first. Their
 /// spelling is not looked at.
-pub(crate) fn stored_changes(alloc: Global, rows: &[ChangeRow]) -> Result<Vec<Change>, RowFault>
+pub(crate) fn stored_changes(alloc: Global, rows: Vec<ChangeRow>) -> Result<Vec<Change>, RowFault>
     // They have what each row says.
-    ensures found { IfOk result (λ cs. AreStoredIn rows.now (map change_in cs.items)) }
+    ensures found { IfOk result (λ cs. AreStoredIn rows.items (map change_in cs.items)) }
     // The rows of the changes of a zone are read as these changes, unless memory runs out.
-    ensures only { (origin : List (List ℕ)) (changes : List ChangeOf) → IsName origin → AllByRecursion IsChange changes → IsPermutation (changes_rows origin 1 changes) rows.now → Reads (λ cs. map change_in cs.items) result (Ok changes) }
+    ensures only { (origin : List (List ℕ)) (changes : List ChangeOf) → IsName origin → AllByRecursion IsChange changes → IsPermutation (changes_rows origin 1 changes) rows.items → Reads (λ cs. map change_in cs.items) result (Ok changes) }
 {
-    let changed = all_stored(alloc, rows)?;
+    let changed = each_stored(alloc, rows)?;
     changes_among(alloc, in_order(changed)?)
 }
 
@@ -49,15 +49,15 @@ pub(crate) fn stored_changes(alloc: Global, rows: &[ChangeRow]) -> Result<Vec<Ch
 /// one of the first ones is `BadRow`.
 pub(crate) fn stored_behind(
     alloc: Global,
-    rows: &[ChangeRow],
+    rows: Vec<ChangeRow>,
     count: u32,
 ) -> Result<Vec<Change>, RowFault>
     // They have what each row says.
-    ensures found { IfOk result (λ cs. AreStoredBehind count rows.now (map change_in cs.items)) }
+    ensures found { IfOk result (λ cs. AreStoredBehind count rows.items (map change_in cs.items)) }
     // The rows of changes with the numbers from there on are read as these changes, unless memory runs out.
-    ensures only { (origin : List (List ℕ)) (changes : List ChangeOf) → IsName origin → AllByRecursion IsChange changes → IsPermutation (changes_rows origin (1 + count) changes) rows.now → Reads (λ cs. map change_in cs.items) result (Ok changes) }
+    ensures only { (origin : List (List ℕ)) (changes : List ChangeOf) → IsName origin → AllByRecursion IsChange changes → IsPermutation (changes_rows origin (1 + count) changes) rows.items → Reads (λ cs. map change_in cs.items) result (Ok changes) }
 {
-    let changed = all_behind(alloc, rows, count)?;
+    let changed = each_behind(alloc, rows, count)?;
     changes_among(alloc, in_order(changed)?)
 }
 
@@ -71,29 +71,33 @@ fn changes_among(alloc: Global, changed: Vec<ChangedRecord>) -> Result<Vec<Chang
     Ok(gathered(alloc, changed)?)
 }
 
-/// What each row has that is known to be that of a change.
-fn all_stored(alloc: Global, rows: &[ChangeRow]) -> Result<Vec<ChangedRecord>, RowFault>
-    ensures { Reads (λ cs. cs.items) result (each_read changed_in rows.now) }
+/// What each row has that is known to be that of a change. A row goes as soon as it is read.
+fn each_stored(alloc: Global, rows: Vec<ChangeRow>) -> Result<Vec<ChangedRecord>, RowFault>
+    ensures { Reads (λ cs. cs.items) result (each_read changed_in rows.items) }
 {
     let mut changed = Vec::with_capacity(alloc, rows.len())?;
     for row in rows {
-        changed.push(stored_change(alloc, row)?)?;
+        changed.push(stored_change(alloc, &row)?)?;
     }
     Ok(changed)
 }
 
-/// What each row has behind so many changes.
-fn all_behind(alloc: Global, rows: &[ChangeRow], count: u32) -> Result<Vec<ChangedRecord>, RowFault>
-    ensures { Reads (λ cs. cs.items) result (each_read (changed_behind count) rows.now) }
+/// What each row has behind so many changes. A row goes as soon as it is read.
+fn each_behind(
+    alloc: Global,
+    rows: Vec<ChangeRow>,
+    count: u32,
+) -> Result<Vec<ChangedRecord>, RowFault>
+    ensures { Reads (λ cs. cs.items) result (each_read (changed_behind count) rows.items) }
 {
     let mut changed = Vec::with_capacity(alloc, rows.len())?;
     for row in rows {
-        changed.push(change_behind(alloc, row, count)?)?;
+        changed.push(change_behind(alloc, &row, count)?)?;
     }
     Ok(changed)
 }
 
-/// What each row has, which goes as soon as it is read.
+/// What each row has. A row goes as soon as it is read.
 fn each_changed(alloc: Global, rows: Vec<ChangeRow>) -> Result<Vec<ChangedRecord>, RowFault>
     ensures found { IfOk result (λ cs. (map row_of cs.items ≡ rows.items) × AllByRecursion IsChanged cs.items) }
     ensures only { AllByRecursion IsChangeRow rows.items → IfErr result (λ e. e ≡ RowFault.NoMemory) }
@@ -101,18 +105,6 @@ fn each_changed(alloc: Global, rows: Vec<ChangeRow>) -> Result<Vec<ChangedRecord
     let mut changed = Vec::with_capacity(alloc, rows.len())?;
     for row in rows {
         changed.push(read_change(alloc, &row)?)?;
-    }
-    Ok(changed)
-}
-
-/// What each row has.
-fn all_changed(alloc: Global, rows: &[ChangeRow]) -> Result<Vec<ChangedRecord>, RowFault>
-    ensures found { IfOk result (λ cs. (map row_of cs.items ≡ rows.now) × AllByRecursion IsChanged cs.items) }
-    ensures only { AllByRecursion IsChangeRow rows.now → IfErr result (λ e. e ≡ RowFault.NoMemory) }
-{
-    let mut changed = Vec::with_capacity(alloc, rows.len())?;
-    for row in rows {
-        changed.push(read_change(alloc, row)?)?;
     }
     Ok(changed)
 }
@@ -130,20 +122,8 @@ fn changed_order(first: &ChangedRecord, second: &ChangedRecord) -> Ordering
 }
 
 /// What rows of `changes` have, of whatever zones: by origin, then by the number of the change, then by side, and then in record order. A
-/// row that is that of no record on a side of a change is `BadRow`.
-pub fn sorted_changes(alloc: Global, rows: &[ChangeRow]) -> Result<Vec<ChangedRecord>, RowFault>
-    ensures found { IfOk result (λ cs. IsPermutation (map row_of cs.items) rows.now × AllByRecursion IsChanged cs.items × IsSorted changed_order cs.items) }
-    ensures only { AllByRecursion IsChangeRow rows.now → IfErr result (λ e. e ≡ RowFault.NoMemory) }
-{
-    let changed = all_changed(alloc, rows)?;
-    Ok(in_order(changed)?)
-}
-
-/// The same of rows that go as they are read.
-pub(crate) fn changes_in_order(
-    alloc: Global,
-    rows: Vec<ChangeRow>,
-) -> Result<Vec<ChangedRecord>, RowFault>
+/// row that is that of no record on a side of a change is `BadRow`. Each goes as soon as it is read.
+pub fn sorted_changes(alloc: Global, rows: Vec<ChangeRow>) -> Result<Vec<ChangedRecord>, RowFault>
     ensures found { IfOk result (λ cs. IsPermutation (map row_of cs.items) rows.items × AllByRecursion IsChanged cs.items × IsSorted changed_order cs.items) }
     ensures only { AllByRecursion IsChangeRow rows.items → IfErr result (λ e. e ≡ RowFault.NoMemory) }
 {

@@ -88,7 +88,7 @@ fn zone_record(alloc: Global, row: &RecordRow) -> Result<ZoneRecord, RowFault>
     Ok(ZoneRecord { origin, rr })
 }
 
-/// The record of each row, which goes as soon as it is read.
+/// The record of each row. A row goes as soon as it is read.
 fn each_record(alloc: Global, rows: Vec<RecordRow>) -> Result<Vec<ZoneRecord>, RowFault>
     ensures found { IfOk result (λ rs. (map row_of_record rs.items ≡ rows.items) × AllByRecursion IsZoneRecord rs.items) }
     ensures only { AllByRecursion IsZoneRecordRow rows.items → IfErr result (λ e. e ≡ RowFault.NoMemory) }
@@ -96,19 +96,6 @@ fn each_record(alloc: Global, rows: Vec<RecordRow>) -> Result<Vec<ZoneRecord>, R
     let mut records = Vec::with_capacity(alloc, rows.len())?;
     for row in rows {
         records.push(zone_record(alloc, &row)?)?;
-    }
-    Ok(records)
-}
-
-/// The record of each row.
-fn all_records(alloc: Global, rows: &[RecordRow]) -> Result<Vec<ZoneRecord>, RowFault>
-    ensures found { IfOk result (λ rs. (map row_of_record rs.items ≡ rows.now) × AllByRecursion IsZoneRecord rs.items) }
-    ensures only { AllByRecursion IsZoneRecordRow rows.now → IfErr result (λ e. e ≡ RowFault.NoMemory) }
-{
-    let mut records = Vec::with_capacity(alloc, rows.len())?;
-    for row in rows {
-        let (origin, rr) = read_record(alloc, row)?;
-        records.push(ZoneRecord { origin, rr })?;
     }
     Ok(records)
 }
@@ -123,18 +110,9 @@ fn zone_record_order(first: &ZoneRecord, second: &ZoneRecord) -> Ordering
         .then(record_order(&first.rr, &second.rr))
 }
 
-/// The records of rows of `records`, by origin, and then in record order.
-pub fn records(alloc: Global, rows: &[RecordRow]) -> Result<Vec<ZoneRecord>, RowFault>
-    ensures found { IfOk result (λ rs. IsPermutation (map row_of_record rs.items) rows.now × AllByRecursion IsZoneRecord rs.items × IsSorted zone_record_order rs.items) }
-    ensures only { AllByRecursion IsZoneRecordRow rows.now → IfErr result (λ e. e ≡ RowFault.NoMemory) }
-{
-    let mut records = all_records(alloc, rows)?;
-    records.sort_by(|first, second| zone_record_order(first, second))?;
-    Ok(records)
-}
-
-/// The same of rows that go as they are read.
-pub(crate) fn read_records(alloc: Global, rows: Vec<RecordRow>) -> Result<Vec<ZoneRecord>, RowFault>
+/// The records of rows of `records`, by origin, and then in record order. A row that is that of no record of a zone is `BadRow`. Each
+/// goes as soon as it is read.
+pub fn records(alloc: Global, rows: Vec<RecordRow>) -> Result<Vec<ZoneRecord>, RowFault>
     ensures found { IfOk result (λ rs. IsPermutation (map row_of_record rs.items) rows.items × AllByRecursion IsZoneRecord rs.items × IsSorted zone_record_order rs.items) }
     ensures only { AllByRecursion IsZoneRecordRow rows.items → IfErr result (λ e. e ≡ RowFault.NoMemory) }
 {
@@ -143,14 +121,14 @@ pub(crate) fn read_records(alloc: Global, rows: Vec<RecordRow>) -> Result<Vec<Zo
     Ok(records)
 }
 
-/// Under what the receipt of each row is kept.
-fn receipt_keys(alloc: Global, rows: &[ReceiptRow]) -> Result<Vec<ReceiptKey>, RowFault>
-    ensures found { IfOk result (λ ks. (ks.items ≡ map row_key rows.now) × AllByRecursion IsReceiptRow rows.now) }
-    ensures only { AllByRecursion IsReceiptRow rows.now → IfErr result (λ e. e ≡ RowFault.NoMemory) }
+/// Under what the receipt of each row is kept. A row goes as soon as it is read.
+fn receipt_keys(alloc: Global, rows: Vec<ReceiptRow>) -> Result<Vec<ReceiptKey>, RowFault>
+    ensures found { IfOk result (λ ks. (ks.items ≡ map row_key rows.items) × AllByRecursion IsReceiptRow rows.items) }
+    ensures only { AllByRecursion IsReceiptRow rows.items → IfErr result (λ e. e ≡ RowFault.NoMemory) }
 {
     let mut keys = Vec::with_capacity(alloc, rows.len())?;
     for row in rows {
-        let (caller, id, _receipt) = read_receipt(alloc, row)?;
+        let (caller, id, _receipt) = read_receipt(alloc, &row)?;
         keys.push(ReceiptKey { caller, id })?;
     }
     Ok(keys)
@@ -176,10 +154,11 @@ impl Ordered for ReceiptKey {
     }
 }
 
-/// Under what the receipts of rows of `receipts` are kept, by caller, and then by identifier.
-pub(crate) fn receipts(alloc: Global, rows: &[ReceiptRow]) -> Result<Vec<ReceiptKey>, RowFault>
-    ensures found { IfOk result (λ ks. IsPermutation (map row_key rows.now) ks.items × AllByRecursion IsReceiptRow rows.now × IsSorted receipt_key_order ks.items) }
-    ensures only { AllByRecursion IsReceiptRow rows.now → IfErr result (λ e. e ≡ RowFault.NoMemory) }
+/// Under what the receipts of rows of `receipts` are kept, by caller, and then by identifier. A row that is that of no receipt is
+/// `BadRow`. Each goes as soon as it is read.
+pub(crate) fn receipts(alloc: Global, rows: Vec<ReceiptRow>) -> Result<Vec<ReceiptKey>, RowFault>
+    ensures found { IfOk result (λ ks. IsPermutation (map row_key rows.items) ks.items × AllByRecursion IsReceiptRow rows.items × IsSorted receipt_key_order ks.items) }
+    ensures only { AllByRecursion IsReceiptRow rows.items → IfErr result (λ e. e ≡ RowFault.NoMemory) }
 {
     let mut keys = receipt_keys(alloc, rows)?;
     keys.sort_by(|first, second| receipt_key_order(first, second))?;

@@ -159,7 +159,7 @@ pub fn changes_of(alloc: Global, rows: Vec<ChangeRow>) -> Result<Vec<Change>, Ro
     // In a state that holds the zone, the rows of its changes are read as these, unless memory runs out.
     ensures held { (version : ℤ) (all : RowsOf) (s : State) (origin : List (List ℕ)) (held : Held) → AreOfState version all s → s.zones origin ≡ Some held → IsPermutation (changes_in (name_text origin) all.changes) rows.items → Reads (λ changes. map change_in changes.items) result (Ok held.changes) }
 {
-    stored_changes(alloc, &rows)
+    stored_changes(alloc, rows)
 }
 
 /// The changes of a zone behind the first ones, so many, the oldest first, by their rows in any order. Rows that are those of no such
@@ -174,5 +174,5 @@ pub fn changes_behind(
     // In a state that holds the zone, the rows of its changes with the numbers from there on are read as these, unless memory runs out.
     ensures held { (version : ℤ) (all : RowsOf) (s : State) (origin : List (List ℕ)) (held : Held) → AreOfState version all s → s.zones origin ≡ Some held → IsPermutation (changes_from (name_text origin) (pos (1 + count)) all.changes) rows.items → Reads (λ changes. map change_in changes.items) result (Ok (drop count held.changes)) }
 {
-    stored_behind(alloc, &rows, count)
+    stored_behind(alloc, rows, count)
 }

@@ -12,7 +12,7 @@ ghost use Rattle.office_rows.specs.RowReading.{code_named, list_named, number_na
 use crate::columns::{fields_of, identifier_in, identifier_text};
 use crate::row_fault::RowFault;
 use dns_data::{Item, is_number};
-use grant_policy::Identifier;
+use grant_policy::{CLOSING, Identifier};
 use office_state::UpdateReply;
 use std::alloc::{AllocError, Global};
 use zone_core::{Failed, ItemList, Place, PrerequisiteCode, Rcode};
@@ -34,9 +34,6 @@ const CODES: [Rcode; 11] = [
 
 /// The lists of an update.
 const LISTS: [ItemList; 2] = [ItemList::Prerequisites, ItemList::Operations];
-
-/// The word of the closing default.
-const CLOSING: &str = "closing";
 
 /// An identifier that is this word, which no rule of a policy has.
 const QUOTED_CLOSING: &str = "\"closing\"";

@@ -20,9 +20,10 @@ pub fn is_alone(version: i64, versions: &[i64]) -> bool
     }
 }
 
-/// Checks the rows of `receipts`. They are `BadRow` where one is that of no receipt, or two of one caller have one identifier.
-pub fn check_receipts(alloc: Global, rows: &[ReceiptRow]) -> Result<(), RowFault>
-    ensures { Checks (AreReceiptRows rows.now) result }
+/// Checks the rows of `receipts`, each of which goes as soon as it is read. They are `BadRow` where one is that of no receipt, or two
+/// of one caller have one identifier.
+pub fn check_receipts(alloc: Global, rows: Vec<ReceiptRow>) -> Result<(), RowFault>
+    ensures { Checks (AreReceiptRows rows.items) result }
 {
     let keys = ordered::receipts(alloc, rows)?;
     if !are_apart(&keys) {

@@ -10,7 +10,7 @@ ghost use Rattle.office_rows.specs.Checks.{AreOrigins, AreOriginRows, AreRecords
 
 use crate::ascending::rise;
 use crate::changes::ChangedRecord;
-use crate::gathering::{are_numbered, changes_in_order};
+use crate::gathering::{are_numbered, sorted_changes};
 use crate::ordered::{self, ZoneRecord};
 use crate::reads::built;
 use crate::row_fault::RowFault;
@@ -38,7 +38,7 @@ pub fn check_records(alloc: Global, origins: &[Name], rows: Vec<RecordRow>) -> R
     requires { AreOrigins origins.now }
     ensures { Checks (AreRecordsOf origins.now rows.items) result }
 {
-    let records = ordered::read_records(alloc, rows)?;
+    let records = ordered::records(alloc, rows)?;
     if !are_records_of(alloc, origins, &records)? {
         return Err(RowFault::BadRow);
     }
@@ -51,7 +51,7 @@ pub fn check_changes(alloc: Global, origins: &[Name], rows: Vec<ChangeRow>) -> R
     requires { AreOrigins origins.now }
     ensures { Checks (AreChangesOf origins.now rows.items) result }
 {
-    let changes = changes_in_order(alloc, rows)?;
+    let changes = sorted_changes(alloc, rows)?;
     if !are_changes_of(origins, &changes) {
         return Err(RowFault::BadRow);
     }

@@ -24,9 +24,9 @@ use std::alloc::Global;
 const OLD_VERSION: i64 = 1;
 
 /// What takes rows to version 2. Rows that are those of no state of version 1 are `BadRow`.
-fn migration_from(alloc: Global, rows: &AllRows) -> Result<Migration, StoreFault>
-    ensures found { IfOk result (λ m. Migrates rows.now m.batch m.zones) }
-    ensures only { IfErr result (λ e. (content : ContentOf) → IsOldContent content → SameRows (rows_of (pos 1) content) rows.now → IsFailure e) }
+fn migration_from(alloc: Global, rows: AllRows) -> Result<Migration, StoreFault>
+    ensures found { IfOk result (λ m. Migrates rows m.batch m.zones) }
+    ensures only { IfErr result (λ e. (content : ContentOf) → IsOldContent content → SameRows (rows_of (pos 1) content) rows → IsFailure e) }
     ensures named { IfErr result IsOfRows }
 {
     match migration_of(alloc, rows) {
@@ -50,7 +50,7 @@ fn read_migration<S: Alter>(
     ensures ended { conn.new.in_transaction ≡ false }
 {
     match all_rows(alloc, conn) {
-        Ok(rows) => migration_from(alloc, &rows),
+        Ok(rows) => migration_from(alloc, rows),
         Err(fault) => Err(found(fault)),
     }
 }

@@ -30,11 +30,11 @@ pub struct Migration {
 fn zone_steps(
     alloc: Global,
     zones: &[ZoneRow],
-    records: &[RecordRow],
-    changes: &[ChangeRow],
+    records: Vec<RecordRow>,
+    changes: Vec<ChangeRow>,
 ) -> Result<MigrationSteps, RowFault>
-    ensures found { IfOk result (λ steps. (are : AreOldZoneRows zones.now records.now changes.now) × AreSteps steps are.zones) }
-    ensures only { AreOldZoneRows zones.now records.now changes.now → IfErr result (λ e. e ≡ RowFault.NoMemory) }
+    ensures found { IfOk result (λ steps. (are : AreOldZoneRows zones.now records.items changes.items) × AreSteps steps are.zones) }
+    ensures only { AreOldZoneRows zones.now records.items changes.items → IfErr result (λ e. e ≡ RowFault.NoMemory) }
 {
     let origins = ordered::origins(alloc, zones)?;
     if !are_apart(&origins) {
@@ -49,18 +49,25 @@ fn zone_steps(
 /// its least TTL then; the zones in which that changes something have their serial one further (RFC 1982 section 3.1), and one change
 /// more, of the records that go and those that come; and `meta` has version 2. Rows that are not those of a state in tables of version
 /// 1 are `BadRow`: what the checks of an opening say of others, but for the TTLs of one set.
-pub fn migration_of(alloc: Global, rows: &AllRows) -> Result<Migration, RowFault>
+pub fn migration_of(alloc: Global, rows: AllRows) -> Result<Migration, RowFault>
     // The rows are those of a content of version 1, and once this is written those of that content migrated. It is the least that is:
     // only what differs goes and comes, of the zones that are changed.
-    ensures found { IfOk result (λ m. Migrates rows.now m.batch m.zones) }
+    ensures found { IfOk result (λ m. Migrates rows m.batch m.zones) }
     // Rows are refused only where they are those of no such content.
-    ensures only { result ≡ Err BadRow → ¬ ((content : ContentOf) × IsOldContent content × SameRows (rows_of (pos 1) content) rows.now) }
+    ensures only { result ≡ Err BadRow → ¬ ((content : ContentOf) × IsOldContent content × SameRows (rows_of (pos 1) content) rows) }
 {
-    if !is_alone(1, &rows.versions) {
+    let AllRows {
+        versions,
+        zones,
+        records,
+        receipts,
+        changes,
+    } = rows;
+    if !is_alone(1, &versions) {
         return Err(RowFault::BadRow);
     }
-    check_receipts(alloc, &rows.receipts)?;
-    let steps = zone_steps(alloc, &rows.zones, &rows.records, &rows.changes)?;
+    check_receipts(alloc, receipts)?;
+    let steps = zone_steps(alloc, &zones, records, changes)?;
     Ok(Migration {
         batch: Batch {
             version: Some(2),

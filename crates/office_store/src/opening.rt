@@ -197,7 +197,7 @@ fn check_receipts<S: Alter>(alloc: Global, conn: &mut Connection<S>) -> Result<(
     ensures { IsCheck (state S.Store conn.old) (state S.Store conn.new) result (λ _ db. ReceiptsIn db) (λ rows. AreReceiptRows rows.receipts) }
 {
     match all_receipts(alloc, conn) {
-        Ok(rows) => of_check(office_rows::check_receipts(alloc, &rows)),
+        Ok(rows) => of_check(office_rows::check_receipts(alloc, rows)),
         Err(fault) => Err(found(fault)),
     }
 }

@@ -1,22 +1,18 @@
-use Rattle.std.proofs.Common.{◌≡◌, ◌++◌, ◌∷◌, [], map, take, sym, ap, subst, ◌∙◌}
+use Rattle.std.proofs.Common.{◌≡◌, ◌++◌, ◌∷◌, [], sym, ap, ◌∙◌}
 use Rattle.std.proofs.lemmas.List.{map-append}
-use Rattle.std.specs.List.{AllByRecursion}
 use Rattle.sqlite_keyed.proofs.ListLemmas.{all-append}
 use Rattle.office_sql.specs.Rows.{ReceiptRowOf}
 use Rattle.office_rows.specs.Checks.{IsReceiptRow, row_key}
-use Rattle.office_rows.proofs.ListLemmas.{front_more}
 use Rattle.office_rows.proofs.StateChecks.{row_is}
 use Rattle.office_rows.proofs.ordered.receipt_keys.Goals as goal
 
 pub loop-row-preserved : goal.loop-row-preserved
 loop-row-preserved c =
     let l = c.loop-row in
-    let rows = c.args.rows.now in
-    let row = c.row-item.result in
+    let row = c.in-Some.row in
     let found = c.in_ok-caller.ensures.found in
-    let more = front_more rows l.row-index row c.loop-row-test.true c.row-item.is in
     let key : record { caller = c.in_ok-caller.caller; id = c.in_ok-caller.id } ≡ row_key row =
     λ k. record { caller = sym (ap (λ (r : ReceiptRowOf). r.caller) found.0.1) k; id = sym (ap (λ (r : ReceiptRowOf). r.id) found.0.1) k } in record {
-      keys = c.in_ok-push.ensures.items ∙ (λ k. l.invariant.keys k ++ key k ∷ []) ∙ sym (map-append row_key (take l.row-index rows) (row ∷ [])) ∙ ap (map row_key) (sym more);
-      each = subst (AllByRecursion IsReceiptRow) (sym more) (all-append IsReceiptRow (take l.row-index rows) (row ∷ []) l.invariant.each (row_is row c.in_ok-caller.caller c.in_ok-caller.id c.in_ok-caller._receipt found.0 found.1, tt));
+      keys = c.in_ok-push.ensures.items ∙ (λ k. l.invariant.keys k ++ key k ∷ []) ∙ sym (map-append row_key l.yielded (row ∷ []));
+      each = all-append IsReceiptRow l.yielded (row ∷ []) l.invariant.each (row_is row c.in_ok-caller.caller c.in_ok-caller.id c.in_ok-caller._receipt found.0 found.1, tt);
     }

@@ -1,7 +1,7 @@
-use Rattle.std.proofs.Common.{map, drop, ◌+◌, IsPermutation, sym, ap, subst}
+use Rattle.std.proofs.Common.{map, drop, sym, ap}
 use Rattle.zone_core.specs.Changes.{change_in}
 use Rattle.office_state.specs.States.{Held}
-use Rattle.office_rows.specs.ChangeRows.{IsChange, changes_rows}
+use Rattle.office_rows.specs.ChangeRows.{IsChange}
 use Rattle.office_rows.proofs.RowSteps.{done, reads_same}
 use Rattle.office_rows.proofs.ContentLemmas.{held_zone, is_held}
 use Rattle.office_rows.proofs.LaterChangeLaws.{later_found, dropped}
@@ -15,4 +15,4 @@ returns-clause-held c = λ version all s o held st e same.
     let count = c.args.count in
     let rows = later_found z o count all.changes c.args.rows.items h.changes same in
     reads_same (λ changes. map change_in changes.items) c.stored_behind.result _ (done (drop count held.changes)) (ap (λ (x : Held). done (drop count x.changes)) (sym found.2))
-    (c.stored_behind.ensures.only z.origin (drop count z.changes) h.is.origin (dropped IsChange count z.changes h.is.changes) (subst (IsPermutation (changes_rows z.origin (1 + count) (drop count z.changes))) (sym c.deref.ensures.value) rows))
+    (c.stored_behind.ensures.only z.origin (drop count z.changes) h.is.origin (dropped IsChange count z.changes h.is.changes) rows)

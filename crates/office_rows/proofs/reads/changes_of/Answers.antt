@@ -1,4 +1,4 @@
-use Rattle.std.proofs.Common.{map, IsPermutation, sym, ap, subst}
+use Rattle.std.proofs.Common.{map, sym, ap}
 use Rattle.std.proofs.lemmas.List.Sorted.{IsPermutation-trans}
 use Rattle.dns_names.specs.Spelling.{name_text}
 use Rattle.zone_core.specs.Changes.{change_in}
@@ -16,4 +16,4 @@ returns-clause-held c = λ version all s o held st e same.
     let h = is_held version all s st o z found.1 in
     let rows = IsPermutation-trans (zone_changes z) (changes_of (name_text o) all.changes) c.args.rows.items h.changes same in
     reads_same (λ changes. map change_in changes.items) c.stored_changes.result _ (done held.changes) (ap (λ (x : Held). done x.changes) (sym found.2))
-    (c.stored_changes.ensures.only z.origin z.changes h.is.origin h.is.changes (subst (IsPermutation (zone_changes z)) (sym c.deref.ensures.value) rows))
+    (c.stored_changes.ensures.only z.origin z.changes h.is.origin h.is.changes rows)

@@ -1,4 +1,4 @@
-use Rattle.std.proofs.Common.{◌≡◌, ◌↔◌, ◌+◌, true, false, List, take, drop, sym, subst, ◌∙◌}
+use Rattle.std.proofs.Common.{◌≡◌, ◌↔◌, ◌+◌, true, false, List, drop, sym, subst, ◌∙◌}
 use Rattle.office_rows.specs.declared.ordered.ZoneRecord.{ZoneRecord}
 use Rattle.office_rows.specs.Checks.{records_first, AreRecordsIn, AreRecordsInTurn}
 use Rattle.office_rows.proofs.ZoneStepLemmas.{passes, stops, ends}

@@ -16,13 +16,13 @@ use Rattle.office_store.proofs.migration_rows.zone_steps.Goals as goal
 pub returns-in_err-origins-clause-only : goal.returns-in_err-origins-clause-only
 returns-in_err-origins-clause-only c = λ are.
     let p = err_from_is_err_and c.from_residual.result c.from_residual.ensures.1 in
-    rw (p.1, p.2) (c.in_err-origins.ensures.only (origin_rows c.args.zones.now c.args.records.now c.args.changes.now are))
+    rw (p.1, p.2) (c.in_err-origins.ensures.only (origin_rows c.args.zones.now c.args.records.items c.args.changes.items are))
 
 pub returns-then-not-are_apart-clause-only : goal.returns-then-not-are_apart-clause-only
 returns-then-not-are_apart-clause-only c = λ are.
     let os = c.in_ok-origins.origins.items in
     let found = c.in_ok-origins.ensures.found in
-    let rise = origins_rise c.args.zones.now c.args.records.now c.args.changes.now are os found.0 found.1 found.2 in
+    let rise = origins_rise c.args.zones.now c.args.records.items c.args.changes.items are os found.0 found.1 found.2 in
     let told : c.are_apart.result ≡ true = c.are_apart.ensures ∙ ap (rises canonical_cmp) c.deref.ensures.value ∙ rise in
     let bad = sym told ∙ c.if-not-are_apart.true in
     absurd cc
@@ -30,12 +30,12 @@ returns-then-not-are_apart-clause-only c = λ are.
 pub returns-in_err-records-clause-only : goal.returns-in_err-records-clause-only
 returns-in_err-records-clause-only c = λ are.
     let p = err_from_is_err_and c.from_residual-in_err-records.result c.from_residual-in_err-records.ensures.1 in
-    rw (p.1, p.2) (c.in_err-records.ensures.only (record_rows c.args.zones.now c.args.records.now c.args.changes.now are))
+    rw (p.1, p.2) (c.in_err-records.ensures.only (record_rows c.args.zones.now c.args.records.items c.args.changes.items are))
 
 pub returns-in_err-changes-clause-only : goal.returns-in_err-changes-clause-only
 returns-in_err-changes-clause-only c = λ are.
     let p = err_from_is_err_and c.from_residual-in_err-changes.result c.from_residual-in_err-changes.ensures.1 in
-    rw (p.1, p.2) (c.in_err-changes.ensures.only (change_rows c.args.zones.now c.args.records.now c.args.changes.now are))
+    rw (p.1, p.2) (c.in_err-changes.ensures.only (change_rows c.args.zones.now c.args.records.items c.args.changes.items are))
 
 joined : (zones : List (List ℕ)) (records : List RecordRowOf) (changes : List ChangeRowOf) (r : Result MigrationSteps RowFault) (T : Type 0) (zs : List ZoneRows)
     → IfOk r (λ s. T) → IfOk r (λ s. AreSteps s zs) → (T → (are : AreOldZoneRows zones records changes) × (are.zones ≡ zs)) → IfOk r (λ s. (are : AreOldZoneRows zones records changes) × AreSteps s are.zones)
@@ -45,8 +45,8 @@ joined zones records changes (Err e) T zs turn steps of = tt
 pub returns-clause-found : goal.returns-clause-found
 returns-clause-found c =
     let zones = c.args.zones.now in
-    let records = c.args.records.now in
-    let changes = c.args.changes.now in
+    let records = c.args.records.items in
+    let changes = c.args.changes.items in
     let os = c.in_ok-origins.origins.items in
     let rs = c.in_ok-records.records.items in
     let cs = c.in_ok-changes.changes.items in
@@ -74,7 +74,7 @@ returns-clause-only c = λ are.
     let found = c.in_ok-origins.ensures.found in
     let records = c.in_ok-records.ensures.found in
     let changes = c.in_ok-changes.ensures.found in
-    let turn = taken_in_turn c.args.zones.now c.args.records.now c.args.changes.now are os found.0 found.1 found.2 rs cs records.0 records.1 records.2 changes.0 changes.1 changes.2 in
+    let turn = taken_in_turn c.args.zones.now c.args.records.items c.args.changes.items are os found.0 found.1 found.2 rs cs records.0 records.1 records.2 changes.0 changes.1 changes.2 in
     c.steps_in_turn.ensures.only
     (subst (λ (l : List (List (List ℕ))). AreOldZonesInTurn l c.deref-3.result.now c.deref-4.result.now) (sym c.deref-2.ensures.value)
     (subst (λ (l : List ZoneRecord). AreOldZonesInTurn os l c.deref-4.result.now) (sym c.deref-3.ensures.value) (subst (λ (l : List ChangedRecord). AreOldZonesInTurn os rs l) (sym c.deref-4.ensures.value) turn)))

@@ -15,7 +15,7 @@ returns-in-Ok g c =
     let old = state g.S.Store c.args.conn.now in
     let new = state g.S.Store c.all_receipts.new.conn in
     let rows = c.in-Ok.rows.items in
-    let told = subst (λ (l : List ReceiptRowOf). Checks (AreReceiptRows l) c.check_receipts.result) c.deref.ensures.value c.check_receipts.ensures in
+    let told = c.check_receipts.ensures in
     subst (λ r. IsCheck old new r (λ _ db. ReceiptsIn db) (λ all. AreReceiptRows all.receipts)) (sym c.of_check.ensures)
     (checked old new c.all_receipts.ensures.asks (λ xs _. AreReceiptRows xs) (HasReceipts) (λ all. all.receipts) (AreReceiptRows) rows c.in-Ok.ensures.same c.in-Ok.ensures.found c.in-Ok.ensures.answer receipts_moved c.check_receipts.result
     (passed (AreReceiptRows rows) c.check_receipts.result told) (was_bad (AreReceiptRows rows) c.check_receipts.result told))
