@@ -179,13 +179,9 @@ module _ (old mid new : State) where
       let now : new.now ≡ old.now = k.2 (settled k.0) in
       (ap (λ (d : Database). d.schema) now ∙ none, k.1 ∙ settled k.0 ∙ sym now)
 
-pub on_ok : {X E : Type 0} (r : Result X E) (B : Type 0) → B → OnOk r B
-on_ok (Ok x) B h = h
-on_ok (Err e) B h = tt
-
-pub if_ok_all : {X E : Type 0} (r : Result X E) (A B C : Type 0) (P R Q : X → Type 0) → OnOk r A → OnOk r B → OnOk r C → IfOk r P → IfOk r R → ((x : X) → A → B → C → P x → R x → Q x) → IfOk r Q
-if_ok_all (Ok x) A B C P R Q a b c p q f = f x a b c p q
-if_ok_all (Err e) A B C P R Q a b c p q f = tt
+pub if_ok_all : {X E : Type 0} (r : Result X E) (A B : Type 0) (P Q : X → Type 0) → OnOk r A → OnOk r B → IfOk r P → ((x : X) → A → B → P x → Q x) → IfOk r Q
+if_ok_all (Ok x) A B P Q a b p f = f x a b p
+if_ok_all (Err e) A B P Q a b p f = tt
 
 pub if_ok_with : {X E : Type 0} (r : Result X E) (A : Type 0) (P Q : X → Type 0) → OnOk r A → IfOk r P → ((x : X) → A → P x → Q x) → IfOk r Q
 if_ok_with (Ok x) A P Q a p f = f x a p

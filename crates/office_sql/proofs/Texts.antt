@@ -1,5 +1,5 @@
 -- What each text of a query means.
-use Rattle.std.proofs.Common.{◌≡◌, true, false, ℕ, pos, negsuc, List, [], ◌∷◌, codes, None, refl}
+use Rattle.std.proofs.Common.{◌≡◌, true, false, ℕ, pos, negsuc, List, [], ◌∷◌, ◌++◌, codes, None, refl}
 use Rattle.sqlite_value.specs.declared.keys.Collation.TheVariants.{Binary}
 use Rattle.sqlite_value.specs.declared.keys.Key.{Key}
 use Rattle.sqlite_value.specs.declared.value.Value.TheVariants.{Null, Int}
@@ -184,23 +184,10 @@ unfolding understood everything
 last_plain IndexAfterRecords = (refl, refl)
 last_plain IndexLast = (refl, refl)
 
-abbrev pub rowids_meta_text : List ℕ
-rowids_meta_text = codes "SELECT rowid FROM meta"
-
-pub rowids_meta_is : (l : Layout) → (command_of (understood (office_schema l) rowids_meta_text) ≡ Select (record { lets = []; body = select_from 0 [] the_rowid }) (codes "rowid" ∷ [])) × (reads_listing (office_schema l) rowids_meta_text ≡ false)
-unfolding understood everything
-rowids_meta_is IndexAfterRecords = (refl, refl)
-rowids_meta_is IndexLast = (refl, refl)
-
-pub rowids_meta_plain : (l : Layout) → IsPlain (understood (office_schema l) rowids_meta_text)
-unfolding understood everything
-rowids_meta_plain IndexAfterRecords = (refl, refl)
-rowids_meta_plain IndexLast = (refl, refl)
-
 abbrev pub all_meta_text : List ℕ
-all_meta_text = codes "SELECT version FROM meta"
+all_meta_text = codes "SELECT rowid, version FROM meta"
 
-pub all_meta_is : (l : Layout) → (command_of (understood (office_schema l) all_meta_text) ≡ Select (record { lets = []; body = select_from 0 [] columns_1 }) (codes "version" ∷ [])) × (reads_listing (office_schema l) all_meta_text ≡ false)
+pub all_meta_is : (l : Layout) → (command_of (understood (office_schema l) all_meta_text) ≡ Select (record { lets = []; body = select_from 0 [] (the_rowid ++ columns_1) }) (codes "rowid" ∷ codes "version" ∷ [])) × (reads_listing (office_schema l) all_meta_text ≡ false)
 unfolding understood everything
 all_meta_is IndexAfterRecords = (refl, refl)
 all_meta_is IndexLast = (refl, refl)
@@ -210,23 +197,10 @@ unfolding understood everything
 all_meta_plain IndexAfterRecords = (refl, refl)
 all_meta_plain IndexLast = (refl, refl)
 
-abbrev pub rowids_zones_text : List ℕ
-rowids_zones_text = codes "SELECT rowid FROM zones"
-
-pub rowids_zones_is : (l : Layout) → (command_of (understood (office_schema l) rowids_zones_text) ≡ Select (record { lets = []; body = select_from 1 [] the_rowid }) (codes "rowid" ∷ [])) × (reads_listing (office_schema l) rowids_zones_text ≡ false)
-unfolding understood everything
-rowids_zones_is IndexAfterRecords = (refl, refl)
-rowids_zones_is IndexLast = (refl, refl)
-
-pub rowids_zones_plain : (l : Layout) → IsPlain (understood (office_schema l) rowids_zones_text)
-unfolding understood everything
-rowids_zones_plain IndexAfterRecords = (refl, refl)
-rowids_zones_plain IndexLast = (refl, refl)
-
 abbrev pub all_zones_text : List ℕ
-all_zones_text = codes "SELECT origin FROM zones"
+all_zones_text = codes "SELECT rowid, origin FROM zones"
 
-pub all_zones_is : (l : Layout) → (command_of (understood (office_schema l) all_zones_text) ≡ Select (record { lets = []; body = select_from 1 [] columns_1 }) (codes "origin" ∷ [])) × (reads_listing (office_schema l) all_zones_text ≡ false)
+pub all_zones_is : (l : Layout) → (command_of (understood (office_schema l) all_zones_text) ≡ Select (record { lets = []; body = select_from 1 [] (the_rowid ++ columns_1) }) (codes "rowid" ∷ codes "origin" ∷ [])) × (reads_listing (office_schema l) all_zones_text ≡ false)
 unfolding understood everything
 all_zones_is IndexAfterRecords = (refl, refl)
 all_zones_is IndexLast = (refl, refl)
@@ -236,23 +210,10 @@ unfolding understood everything
 all_zones_plain IndexAfterRecords = (refl, refl)
 all_zones_plain IndexLast = (refl, refl)
 
-abbrev pub rowids_records_text : List ℕ
-rowids_records_text = codes "SELECT rowid FROM records"
-
-pub rowids_records_is : (l : Layout) → (command_of (understood (office_schema l) rowids_records_text) ≡ Select (record { lets = []; body = select_from 3 [] the_rowid }) (codes "rowid" ∷ [])) × (reads_listing (office_schema l) rowids_records_text ≡ false)
-unfolding understood everything
-rowids_records_is IndexAfterRecords = (refl, refl)
-rowids_records_is IndexLast = (refl, refl)
-
-pub rowids_records_plain : (l : Layout) → IsPlain (understood (office_schema l) rowids_records_text)
-unfolding understood everything
-rowids_records_plain IndexAfterRecords = (refl, refl)
-rowids_records_plain IndexLast = (refl, refl)
-
 abbrev pub all_records_text : List ℕ
-all_records_text = codes "SELECT origin, owner, type, data, ttl, owner_key FROM records"
+all_records_text = codes "SELECT rowid, origin, owner, type, data, ttl, owner_key FROM records"
 
-pub all_records_is : (l : Layout) → (command_of (understood (office_schema l) all_records_text) ≡ Select (record { lets = []; body = select_from 3 [] columns_6 }) (codes "origin" ∷ codes "owner" ∷ codes "type" ∷ codes "data" ∷ codes "ttl" ∷ codes "owner_key" ∷ [])) × (reads_listing (office_schema l) all_records_text ≡ false)
+pub all_records_is : (l : Layout) → (command_of (understood (office_schema l) all_records_text) ≡ Select (record { lets = []; body = select_from 3 [] (the_rowid ++ columns_6) }) (codes "rowid" ∷ codes "origin" ∷ codes "owner" ∷ codes "type" ∷ codes "data" ∷ codes "ttl" ∷ codes "owner_key" ∷ [])) × (reads_listing (office_schema l) all_records_text ≡ false)
 unfolding understood everything
 all_records_is IndexAfterRecords = (refl, refl)
 all_records_is IndexLast = (refl, refl)
@@ -262,23 +223,10 @@ unfolding understood everything
 all_records_plain IndexAfterRecords = (refl, refl)
 all_records_plain IndexLast = (refl, refl)
 
-abbrev pub rowids_receipts_text : List ℕ
-rowids_receipts_text = codes "SELECT rowid FROM receipts"
-
-pub rowids_receipts_is : (l : Layout) → (command_of (understood (office_schema l) rowids_receipts_text) ≡ Select (record { lets = []; body = select_from (receipts_tree l) [] the_rowid }) (codes "rowid" ∷ [])) × (reads_listing (office_schema l) rowids_receipts_text ≡ false)
-unfolding understood everything
-rowids_receipts_is IndexAfterRecords = (refl, refl)
-rowids_receipts_is IndexLast = (refl, refl)
-
-pub rowids_receipts_plain : (l : Layout) → IsPlain (understood (office_schema l) rowids_receipts_text)
-unfolding understood everything
-rowids_receipts_plain IndexAfterRecords = (refl, refl)
-rowids_receipts_plain IndexLast = (refl, refl)
-
 abbrev pub all_receipts_text : List ℕ
-all_receipts_text = codes "SELECT caller, id, origin, request, reply FROM receipts"
+all_receipts_text = codes "SELECT rowid, caller, id, origin, request, reply FROM receipts"
 
-pub all_receipts_is : (l : Layout) → (command_of (understood (office_schema l) all_receipts_text) ≡ Select (record { lets = []; body = select_from (receipts_tree l) [] columns_5 }) (codes "caller" ∷ codes "id" ∷ codes "origin" ∷ codes "request" ∷ codes "reply" ∷ [])) × (reads_listing (office_schema l) all_receipts_text ≡ false)
+pub all_receipts_is : (l : Layout) → (command_of (understood (office_schema l) all_receipts_text) ≡ Select (record { lets = []; body = select_from (receipts_tree l) [] (the_rowid ++ columns_5) }) (codes "rowid" ∷ codes "caller" ∷ codes "id" ∷ codes "origin" ∷ codes "request" ∷ codes "reply" ∷ [])) × (reads_listing (office_schema l) all_receipts_text ≡ false)
 unfolding understood everything
 all_receipts_is IndexAfterRecords = (refl, refl)
 all_receipts_is IndexLast = (refl, refl)
@@ -288,23 +236,10 @@ unfolding understood everything
 all_receipts_plain IndexAfterRecords = (refl, refl)
 all_receipts_plain IndexLast = (refl, refl)
 
-abbrev pub rowids_changes_text : List ℕ
-rowids_changes_text = codes "SELECT rowid FROM changes"
-
-pub rowids_changes_is : (l : Layout) → (command_of (understood (office_schema l) rowids_changes_text) ≡ Select (record { lets = []; body = select_from (changes_tree l) [] the_rowid }) (codes "rowid" ∷ [])) × (reads_listing (office_schema l) rowids_changes_text ≡ false)
-unfolding understood everything
-rowids_changes_is IndexAfterRecords = (refl, refl)
-rowids_changes_is IndexLast = (refl, refl)
-
-pub rowids_changes_plain : (l : Layout) → IsPlain (understood (office_schema l) rowids_changes_text)
-unfolding understood everything
-rowids_changes_plain IndexAfterRecords = (refl, refl)
-rowids_changes_plain IndexLast = (refl, refl)
-
 abbrev pub all_changes_text : List ℕ
-all_changes_text = codes "SELECT origin, number, side, owner, type, data, ttl FROM changes"
+all_changes_text = codes "SELECT rowid, origin, number, side, owner, type, data, ttl FROM changes"
 
-pub all_changes_is : (l : Layout) → (command_of (understood (office_schema l) all_changes_text) ≡ Select (record { lets = []; body = select_from (changes_tree l) [] columns_7 }) (codes "origin" ∷ codes "number" ∷ codes "side" ∷ codes "owner" ∷ codes "type" ∷ codes "data" ∷ codes "ttl" ∷ [])) × (reads_listing (office_schema l) all_changes_text ≡ false)
+pub all_changes_is : (l : Layout) → (command_of (understood (office_schema l) all_changes_text) ≡ Select (record { lets = []; body = select_from (changes_tree l) [] (the_rowid ++ columns_7) }) (codes "rowid" ∷ codes "origin" ∷ codes "number" ∷ codes "side" ∷ codes "owner" ∷ codes "type" ∷ codes "data" ∷ codes "ttl" ∷ [])) × (reads_listing (office_schema l) all_changes_text ≡ false)
 unfolding understood everything
 all_changes_is IndexAfterRecords = (refl, refl)
 all_changes_is IndexLast = (refl, refl)

@@ -1,5 +1,5 @@
 -- All rows of a table.
-use Rattle.std.proofs.Common.{◌≡◌, ℕ, zero, suc, ◌+◌, ◌<◌, ◌≤◌, ℤ, true, false, not, ◌&&◌, ◌||◌, IsTrue, List, [], ◌∷◌, map, filter, drop, length, get_or, codes, None, refl, sym, ap, add-one, subst, ◌∙◌, IsPermutation, arith}
+use Rattle.std.proofs.Common.{◌≡◌, ℕ, zero, suc, ◌+◌, ◌<◌, ◌≤◌, ℤ, true, false, not, ◌&&◌, ◌||◌, IsTrue, List, [], ◌∷◌, ◌++◌, map, filter, drop, length, get_or, None, refl, sym, ap, add-one, subst, ◌∙◌, IsPermutation, arith}
 use Rattle.std.specs.List.{AllByRecursion, IsDistinct}
 use Rattle.std.specs.Ordering.{is_eq, is_lt, int_cmp, int_eq}
 use Rattle.std.proofs.lemmas.Bool.{and_parts}
@@ -9,33 +9,33 @@ use Rattle.std.proofs.lemmas.Int.{ints}
 use Rattle.std.proofs.lemmas.List.MinMax.{ranks_by}
 use Rattle.std.specs.List.Sorted.{IsSorted}
 use Rattle.std.proofs.lemmas.Map.Keys.{IsDistinct-IsPermutation, IsDistinct-from_apart, IsDistinct-cons, IsDistinct-head, IsDistinct-tail}
-use Rattle.std.proofs.lemmas.List.Sorted.{IsPermutation-trans, IsPermutation-sym, sorted_far}
+use Rattle.std.proofs.lemmas.List.Sorted.{IsPermutation-trans, IsPermutation-sym, IsPermutation-map, sorted_far}
 use Rattle.sqlite_value.specs.declared.value.Value.{Value}
 use Rattle.sqlite_value.specs.declared.value.Value.TheVariants.{Int, Null}
 use Rattle.sqlite_value.specs.Order.{Row, column, value_cmp}
 use Rattle.sqlite_value.proofs.OrderLemmas.{value_cmp-Int}
 use Rattle.sqlite_trees.specs.Tree.{Trees, rowid}
 use Rattle.sqlite_trees.specs.View.{is_int}
-use Rattle.sqlite_trees.proofs.ListLemmas.{pull_back, all_both}
+use Rattle.sqlite_trees.proofs.ListLemmas.{pull_back, all_of, all_both, all-map, all_from_map, all-permutation, IsPermutation-same}
 use Rattle.sqlite_schema.specs.declared.schema.Column.{Column}
 use Rattle.sqlite_schema.specs.declared.schema.Constraint.TheVariants.{Datatype, NotNull}
 use Rattle.sqlite_schema.specs.declared.command.Command.TheVariants.{Select}
 use Rattle.sqlite_schema.specs.Rules.{are_typed, are_present, has_computed, passes}
 use Rattle.sqlite_sql.specs.Ops.{is_null}
 use Rattle.sqlite_sql.specs.Program.{overlay}
-use Rattle.sqlite_sql.specs.Query.{IsAnswer}
 use Rattle.sqlite_sql.specs.Term.{Term, eval_all}
 use Rattle.sqlite.specs.Effect.{Database, IsDatabase}
 use Rattle.sqlite.specs.State.{State, Shown}
-use Rattle.sqlite.proofs.Callers.{reads_as}
-use Rattle.office_sql.specs.Rows.{RecordRowOf, ReceiptRowOf, ChangeRowOf, RowsOf}
+use Rattle.sqlite.specs.Listing.{understood, reads_listing}
+use Rattle.sqlite.proofs.Callers.{IsPlain, command_of, reads_as}
+use Rattle.office_sql.specs.Rows.{RowsOf}
 use Rattle.office_sql.specs.declared.layout.Layout.{Layout}
-use Rattle.office_sql.specs.Tables.{layout_in, IsOffice, receipts_tree, changes_tree, meta, zones, records, receipts, changes, meta_columns, zones_columns, records_columns, receipts_columns, changes_columns, office_schema, stored_version, stored_zone, stored_record, stored_receipt, stored_change}
+use Rattle.office_sql.specs.Tables.{layout_in, receipts_tree, changes_tree, meta, zones, records, receipts, changes, meta_columns, zones_columns, records_columns, receipts_columns, changes_columns, office_schema, stored_version, stored_zone, stored_record, stored_receipt, stored_change}
 use Rattle.office_sql.specs.Stores.{AreApart, HasOwnRowid, IsReadableRow, Stores}
 use Rattle.office_sql.specs.Holds.{HasChanges, HasReceipts, HasRecords, HasZones, Reads}
 use Rattle.sqlite_rules.specs.Edit.{id_in}
 use Rattle.sqlite_rules.proofs.TableLemmas.{int_is}
-use Rattle.office_sql.proofs.Selections.{asked, read_as, shown_1, shown_5, shown_6, shown_7}
+use Rattle.office_sql.proofs.Selections.{read_as}
 use Rattle.office_sql.proofs.Effects.{answered}
 use Rattle.office_sql.proofs.StatementLemmas.{plainly, plainly_receipts, plainly_changes}
 use Rattle.office_sql.proofs.Texts as the
@@ -73,156 +73,231 @@ full at (c ∷ cs) row (v ∷ vs) e nn typed present = ap suc (full (at + 1) cs 
 
 -- ---- rowids
 
-numbered : (rows : List Row) (ids : List ℤ) → map (λ (r : Row). rowid r ∷ []) rows ≡ map stored_version ids → AllByRecursion (λ r. IsTrue (is_int (rowid r))) rows
+numbered : (rows : List Row) (ids : List ℤ) → map rowid rows ≡ map Int ids → AllByRecursion (λ r. IsTrue (is_int (rowid r))) rows
 numbered [] ids is = tt
 numbered (r ∷ rows) [] is = absurd cc
 numbered (r ∷ rows) (n ∷ ids) is = let here : rowid r ≡ Int n = cc in (rw here refl, numbered rows ids cc)
 
-differ : (rows : List Row) (ids : List ℤ) (r : Row) (n : ℤ) → rowid r ≡ Int n → map (λ (s : Row). rowid s ∷ []) rows ≡ map stored_version ids → AllByRecursion (λ m. int_eq n m ≡ false) ids → AllByRecursion (HasOwnRowid r) rows
+differ : (rows : List Row) (ids : List ℤ) (r : Row) (n : ℤ) → rowid r ≡ Int n → map rowid rows ≡ map Int ids → AllByRecursion (λ m. int_eq n m ≡ false) ids → AllByRecursion (HasOwnRowid r) rows
 differ [] ids r n here is all = tt
 differ (s ∷ rows) [] r n here is all = absurd cc
 differ (s ∷ rows) (m ∷ ids) r n here is all =
     let there : rowid s ≡ Int m = cc in
     (rw (here, there) (ap is_eq (value_cmp-Int n m) ∙ equal_ints n m ∙ all.0), differ rows ids r n here (cc) all.1)
 
-apart : (rows : List Row) (ids : List ℤ) → map (λ (r : Row). rowid r ∷ []) rows ≡ map stored_version ids → IsDistinct int_eq ids → AreApart rows
+apart : (rows : List Row) (ids : List ℤ) → map rowid rows ≡ map Int ids → IsDistinct int_eq ids → AreApart rows
 apart [] ids is distinct = tt
 apart (r ∷ rows) [] is distinct = absurd cc
 apart (r ∷ rows) (n ∷ ids) is distinct =
     let here : rowid r ≡ Int n = cc in
-    let more : map (λ (s : Row). rowid s ∷ []) rows ≡ map stored_version ids = cc in
+    let more : map rowid rows ≡ map Int ids = cc in
     (differ rows ids r n here more (IsDistinct-head int_eq n ids distinct), apart rows ids more (IsDistinct-tail int_eq n ids distinct))
+
+-- the rowids of rows
+abbrev ids_in : List Row → List ℤ
+ids_in = map (λ (r : Row). id_in (rowid r))
+
+ids_are : (rows : List Row) → AllByRecursion (λ r. IsTrue (is_int (rowid r))) rows → map rowid rows ≡ map Int (ids_in rows)
+ids_are [] h = refl
+ids_are (r ∷ rows) h = let here : rowid r ≡ Int (id_in (rowid r)) = int_is (rowid r) h.0 in let more = ids_are rows h.1 in cc
+
+own_ids : (r : Row) (rows : List Row) → IsTrue (is_int (rowid r)) → AllByRecursion (λ s. IsTrue (is_int (rowid s))) rows → AllByRecursion (HasOwnRowid r) rows → AllByRecursion (λ m. int_eq (id_in (rowid r)) m ≡ false) (ids_in rows)
+own_ids r [] int h d = tt
+own_ids r (s ∷ rows) int h d =
+    let here : rowid r ≡ Int (id_in (rowid r)) = int_is (rowid r) int in
+    let there : rowid s ≡ Int (id_in (rowid s)) = int_is (rowid s) h.0 in
+    (sym (ap is_eq (value_cmp-Int (id_in (rowid r)) (id_in (rowid s))) ∙ equal_ints (id_in (rowid r)) (id_in (rowid s))) ∙ sym (ap (λ v. is_eq (value_cmp v (Int (id_in (rowid s))))) here ∙ refl) ∙ sym (ap (λ v. is_eq (value_cmp (rowid r) v)) there) ∙ d.0, own_ids r rows int h.1 d.1)
+
+distinct_ids : (rows : List Row) → AllByRecursion (λ r. IsTrue (is_int (rowid r))) rows → AreApart rows → IsDistinct int_eq (ids_in rows)
+distinct_ids [] h d = IsDistinct-from_apart int_eq [] (λ i j x low high. absurd (omega arith))
+distinct_ids (r ∷ rows) h d = IsDistinct-cons int_eq (id_in (rowid r)) (ids_in rows) (own_ids r rows h.0 h.1 d.0) (distinct_ids rows h.1 d.1)
+
+pub numbers_same : (xs ys : List ℤ) → map Int xs ≡ map Int ys → xs ≡ ys
+numbers_same [] [] e = refl
+numbers_same [] (y ∷ ys) e = absurd cc
+numbers_same (x ∷ xs) [] e = absurd cc
+numbers_same (x ∷ xs) (y ∷ ys) e =
+    let first : x ≡ y = cc in
+    let more : map Int xs ≡ map Int ys = cc in
+    let same = numbers_same xs ys more in
+    cc
+
+-- rows that were read, with rowids that differ
+pub stores_read : (rows : List Row) (ids : List ℤ) (xs : List Row) → map rowid rows ≡ map Int ids → map (drop 1) rows ≡ xs → AllByRecursion IsReadableRow (map (drop 1) rows) → IsDistinct int_eq ids → Stores rows xs
+stores_read rows ids xs first rest readable distinct = record {
+  apart = apart rows ids first distinct;
+  numbered = numbered rows ids first;
+  same = IsPermutation-same xs (map (drop 1) rows) (sym rest);
+  readable = subst (AllByRecursion IsReadableRow) rest readable;
+}
+
+-- rows that can be read, and rowids that differ
+pub record Read {X : Type 0} (stored : X → Row) (rows : List Row) : Type 0 where
+  pub ids : List ℤ
+  pub values : List X
+  pub first : map rowid rows ≡ map Int ids
+  pub rest : map (drop 1) rows ≡ map stored values
+  pub readable : AllByRecursion IsReadableRow (map (drop 1) rows)
+  pub distinct : IsDistinct int_eq ids
+
+pub read_stored : {X : Type 0} (stored : X → Row) (rows : List Row) (xs : List X) → Stores rows (map stored xs) → Read stored rows
+read_stored stored rows xs h =
+    let it = pull_back stored (map stored xs) (map (drop 1) rows) h.same xs refl in record {
+      ids = ids_in rows;
+      values = it.0;
+      first = ids_are rows h.numbered;
+      rest = it.2;
+      readable = all-permutation IsReadableRow (map stored xs) (map (drop 1) rows) h.same h.readable;
+      distinct = distinct_ids rows h.numbered h.apart;
+    }
+
+-- the order of the rows of a table tells nothing
+stores_permuted : (rows others xs : List Row) → IsPermutation rows others → Stores rows xs → Stores others xs
+stores_permuted rows others xs p h =
+    let ints = all-permutation (λ r. IsTrue (is_int (rowid r))) rows others p h.numbered in
+    let distinct = IsDistinct-IsPermutation int_eq int_eq_equiv.symm (ids_in rows) (ids_in others) (IsPermutation-map (λ (r : Row). id_in (rowid r)) rows others p) (distinct_ids rows h.numbered h.apart) in
+    record {
+      apart = apart others (ids_in others) (ids_are others ints) distinct;
+      numbered = ints;
+      same = IsPermutation-trans _ _ _ h.same (IsPermutation-map (drop 1) rows others p);
+      readable = h.readable;
+    }
+
+-- ---- all that is shown of a table
 
 all_rows : (rows : List Row) → filter (λ (r : Row). true) rows ≡ rows
 all_rows [] = refl
 all_rows (r ∷ rows) = ap (λ l. r ∷ l) (all_rows rows)
 
-as_columns : (columns : List Term) (rows : List Row) → AllByRecursion (λ (r : Row). eval_all columns ([] ∷ r ∷ []) ≡ drop 1 r) rows → map (λ (r : Row). eval_all columns ([] ∷ r ∷ [])) rows ≡ map (drop 1) rows
-as_columns columns [] each = refl
-as_columns columns (r ∷ rows) each = rw (each.0, as_columns columns rows each.1) refl
+-- each row has so many columns after its rowid
+abbrev AreWide : ℕ → List Row → Type 0
+AreWide n = AllByRecursion (λ r. length (drop 1 r) ≡ n)
 
--- what two questions show of a table, one of its rowids and one of its columns, is all that it stores
-module _ (tree : ℕ) (plain_tree : (db : Trees) → overlay db [] tree ≡ db tree) (db : Trees) where
-  numbers_are : (ids : List ℤ) → IsAnswer (select_from tree [] the_rowid) (overlay db []) [] (map stored_version ids)
-      → (them : List ℤ) × IsPermutation ids them × (map (λ (r : Row). rowid r ∷ []) (db tree) ≡ map stored_version them)
-  numbers_are ids a =
-      let shown = answered tree plain_tree [] the_rowid (λ r. true) [] db (map stored_version ids) (λ r. refl) a in
-      let whole = subst (λ l. IsPermutation (map (λ (r : Row). rowid r ∷ []) l) (map stored_version ids)) (all_rows (db tree)) shown in
-      pull_back stored_version (map stored_version ids) (map (λ (r : Row). rowid r ∷ []) (db tree)) (IsPermutation-sym _ _ whole) ids refl
+as_they_are : (columns : List Term) (n : ℕ) → ((r : Row) → length (drop 1 r) ≡ n → eval_all columns ([] ∷ r ∷ []) ≡ r) → (rows : List Row) → AreWide n rows → map (λ (r : Row). eval_all columns ([] ∷ r ∷ [])) rows ≡ rows
+as_they_are columns n whole [] wide = refl
+as_they_are columns n whole (r ∷ rows) wide = rw (whole r wide.0, as_they_are columns n whole rows wide.1) refl
 
-  columns_are : (columns : List Term) (xs : List Row) → AllByRecursion (λ (r : Row). eval_all columns ([] ∷ r ∷ []) ≡ drop 1 r) (db tree)
-      → IsAnswer (select_from tree [] columns) (overlay db []) [] xs → IsPermutation xs (map (drop 1) (db tree))
-  columns_are columns xs each a =
-      let shown = answered tree plain_tree [] columns (λ r. true) [] db xs (λ r. refl) a in
-      let whole = subst (λ l. IsPermutation (map (λ (r : Row). eval_all columns ([] ∷ r ∷ [])) l) xs) (all_rows (db tree)) shown in
-      IsPermutation-sym _ _ (subst (λ l. IsPermutation l xs) (as_columns columns (db tree) each) whole)
+-- a text that shows the rowids of a table and all its columns, n of them
+module _ (l : Layout) (sql : List ℕ) (tree : ℕ) (columns : List Term) (n : ℕ) (names : List (List ℕ)) (plain_tree : (db : Trees) → overlay db [] tree ≡ db tree)
+    (is : (command_of (understood (office_schema l) sql) ≡ Select (record { lets = []; body = select_from tree [] columns }) names) × (reads_listing (office_schema l) sql ≡ false))
+    (plain : IsPlain (understood (office_schema l) sql)) (whole : (r : Row) → length (drop 1 r) ≡ n → eval_all columns ([] ∷ r ∷ []) ≡ r) where
+  rows_shown : (begun mid : State) (rows : List Row) → begun.now.schema ≡ office_schema l → Shown sql [] begun mid rows → AreWide n (begun.now.trees tree) → IsPermutation (begun.now.trees tree) rows
+  rows_shown begun mid rows schema shown wide =
+      let a = (reads_as sql [] begun mid (office_schema l) schema (Select (record { lets = []; body = select_from tree [] columns }) names) is.0 plain is.1 rows shown).answer Null in
+      let it = answered tree plain_tree [] columns (λ r. true) [] begun.now.trees rows (λ r. refl) a in
+      subst (λ rs. IsPermutation rs rows) (ap (map (λ (r : Row). eval_all columns ([] ∷ r ∷ []))) (all_rows (begun.now.trees tree)) ∙ as_they_are columns n whole (begun.now.trees tree) wide) it
 
-  stores_all : (columns : List Term) (ids : List ℤ) (xs : List Row) → AllByRecursion (λ (r : Row). eval_all columns ([] ∷ r ∷ []) ≡ drop 1 r) (db tree)
-      → IsAnswer (select_from tree [] the_rowid) (overlay db []) [] (map stored_version ids) → IsDistinct int_eq ids
-      → IsAnswer (select_from tree [] columns) (overlay db []) [] xs → AllByRecursion IsReadableRow xs → Stores (db tree) xs
-  stores_all columns ids xs each one distinct two readable =
-      let it = numbers_are ids one in record {
-        apart = apart (db tree) it.0 it.2 (IsDistinct-IsPermutation int_eq int_eq_equiv.symm ids it.0 it.1 distinct);
-        numbered = numbered (db tree) it.0 it.2;
-        same = columns_are columns xs each two;
-        readable = readable;
-      }
+  stores_all : (begun mid : State) (rows xs : List Row) → begun.now.schema ≡ office_schema l → AreWide n (begun.now.trees tree) → Shown sql [] begun mid rows → Stores rows xs → Stores (begun.now.trees tree) xs
+  stores_all begun mid rows xs schema wide shown h = stores_permuted rows (begun.now.trees tree) xs (IsPermutation-sym _ _ (rows_shown begun mid rows schema shown wide)) h
 
-whole_1 : (r : Row) → length (drop 1 r) ≡ 1 → eval_all columns_1 ([] ∷ r ∷ []) ≡ drop 1 r
+  -- what is shown of a table of such rows is such rows
+  shows_all : {X : Type 0} (stored : X → Row) → ((x : X) → length (stored x) ≡ n) → (begun mid : State) (rows : List Row) (xs : List X) → begun.now.schema ≡ office_schema l → Stores (begun.now.trees tree) (map stored xs) → Shown sql [] begun mid rows
+      → Stores rows (map stored xs)
+  shows_all stored width begun mid rows xs schema h shown =
+      let db = begun.now.trees tree in
+      let wide = all_from_map (λ v. length v ≡ n) (drop 1) db (all-permutation (λ v. length v ≡ n) (map stored xs) (map (drop 1) db) h.same (all-map (λ v. length v ≡ n) stored xs (all_of (λ x. length (stored x) ≡ n) width xs))) in
+      stores_permuted db rows (map stored xs) (rows_shown begun mid rows schema shown wide) h
+
+whole_1 : (r : Row) → length (drop 1 r) ≡ 1 → eval_all (the_rowid ++ columns_1) ([] ∷ r ∷ []) ≡ r
 whole_1 (v ∷ a ∷ []) len = refl
 whole_1 _ len = absurd (omega arith)
 
-whole_5 : (r : Row) → length (drop 1 r) ≡ 5 → eval_all columns_5 ([] ∷ r ∷ []) ≡ drop 1 r
+whole_5 : (r : Row) → length (drop 1 r) ≡ 5 → eval_all (the_rowid ++ columns_5) ([] ∷ r ∷ []) ≡ r
 whole_5 (v ∷ a ∷ b ∷ c ∷ d ∷ e ∷ []) len = refl
 whole_5 _ len = absurd (omega arith)
 
-whole_6 : (r : Row) → length (drop 1 r) ≡ 6 → eval_all columns_6 ([] ∷ r ∷ []) ≡ drop 1 r
+whole_6 : (r : Row) → length (drop 1 r) ≡ 6 → eval_all (the_rowid ++ columns_6) ([] ∷ r ∷ []) ≡ r
 whole_6 (v ∷ a ∷ b ∷ c ∷ d ∷ e ∷ f ∷ []) len = refl
 whole_6 _ len = absurd (omega arith)
 
-whole_7 : (r : Row) → length (drop 1 r) ≡ 7 → eval_all columns_7 ([] ∷ r ∷ []) ≡ drop 1 r
+whole_7 : (r : Row) → length (drop 1 r) ≡ 7 → eval_all (the_rowid ++ columns_7) ([] ∷ r ∷ []) ≡ r
 whole_7 (v ∷ a ∷ b ∷ c ∷ d ∷ e ∷ f ∷ g ∷ []) len = refl
 whole_7 _ len = absurd (omega arith)
 
 -- the rows of `meta` have their columns
-shape_meta : (l : Layout) (d : Database) → d.schema ≡ office_schema l → IsDatabase d → AllByRecursion (λ (r : Row). eval_all columns_1 ([] ∷ r ∷ []) ≡ drop 1 r) (d.trees 0)
-shape_meta l d is h =
+wide_meta : (l : Layout) (d : Database) → d.schema ≡ office_schema l → IsDatabase d → AreWide 1 (d.trees 0)
+wide_meta l d is h =
     let typed = (subst (λ s. AllByRecursion (λ t. AllByRecursion (λ row. passes Datatype s d.trees t row ≡ true) (d.trees t.tree)) s.tables) is (h.obeys.rules Datatype)).0 in
     let present = (subst (λ s. AllByRecursion (λ t. AllByRecursion (λ row. passes NotNull s d.trees t row ≡ true) (d.trees t.tree)) s.tables) is (h.obeys.rules NotNull)).0 in
-    all_both (λ row. (are_typed None 0 meta_columns (drop 1 row) && has_computed meta row) ≡ true) (λ row. are_present None 0 meta_columns row ≡ true) (λ (r : Row). eval_all columns_1 ([] ∷ r ∷ []) ≡ drop 1 r)
-    (λ row p q. whole_1 row (full 0 meta_columns row (drop 1 row) refl (refl, tt) (and_parts _ _ p).0 q)) (d.trees 0) typed present
+    all_both (λ row. (are_typed None 0 meta_columns (drop 1 row) && has_computed meta row) ≡ true) (λ row. are_present None 0 meta_columns row ≡ true) (λ (r : Row). length (drop 1 r) ≡ 1)
+    (λ row p q. full 0 meta_columns row (drop 1 row) refl (refl, tt) (and_parts _ _ p).0 q) (d.trees 0) typed present
 
-pub all_meta : (l : Layout) (begun mid again end : State) (ids : List ℤ) (xs : List ℤ) → begun.now.schema ≡ office_schema l → IsDatabase begun.now → again.now ≡ begun.now → Shown the.rowids_meta_text [] begun mid (map stored_version ids)
-    → IsDistinct int_eq ids → Shown the.all_meta_text [] again end (map stored_version xs) → AllByRecursion IsReadableRow (map stored_version xs) → Stores (begun.now.trees 0) (map stored_version xs)
-all_meta l begun mid again end ids xs is live same one distinct two readable =
-    let first = (reads_as the.rowids_meta_text [] begun mid (office_schema l) is (Select (record { lets = []; body = select_from 0 [] the_rowid }) _) (the.rowids_meta_is l).0 (the.rowids_meta_plain l) (the.rowids_meta_is l).1 (map stored_version ids) one).answer Null in
-    let is_again : again.now.schema ≡ office_schema l = ap (λ (d : Database). d.schema) same ∙ is in
-    let second = (reads_as the.all_meta_text [] again end (office_schema l) is_again (Select (record { lets = []; body = select_from 0 [] columns_1 }) _) (the.all_meta_is l).0 (the.all_meta_plain l) (the.all_meta_is l).1 (map stored_version xs) two).answer Null in
-    stores_all 0 (plainly 0 refl) begun.now.trees columns_1 ids (map stored_version xs) (shape_meta l begun.now is live) first distinct (subst (λ (d : Database). IsAnswer (select_from 0 [] columns_1) (overlay d.trees []) [] (map stored_version xs)) same second) readable
+pub all_meta : (l : Layout) (begun mid : State) (rows xs : List Row) → begun.now.schema ≡ office_schema l → IsDatabase begun.now → Shown the.all_meta_text [] begun mid rows → Stores rows xs → Stores (begun.now.trees 0) xs
+all_meta l begun mid rows xs is live shown h =
+    stores_all l the.all_meta_text 0 (the_rowid ++ columns_1) 1 _ (plainly 0 refl) (the.all_meta_is l) (the.all_meta_plain l) whole_1 begun mid rows xs is (wide_meta l begun.now is live) shown h
+
+pub shows_all_meta : (begun mid : State) (rows : List Row) (all : RowsOf) → Reads begun.now all → Shown the.all_meta_text [] begun mid rows → Stores rows (map stored_version all.versions)
+shows_all_meta begun mid rows all h shown =
+    let l = layout_in begun.now.trees in
+    shows_all l the.all_meta_text 0 (the_rowid ++ columns_1) 1 _ (plainly 0 refl) (the.all_meta_is l) (the.all_meta_plain l) whole_1 stored_version (λ x. refl) begun mid rows all.versions h.schema h.tables.versions shown
 
 -- the rows of `zones` have their columns
-shape_zones : (l : Layout) (d : Database) → d.schema ≡ office_schema l → IsDatabase d → AllByRecursion (λ (r : Row). eval_all columns_1 ([] ∷ r ∷ []) ≡ drop 1 r) (d.trees 1)
-shape_zones l d is h =
+wide_zones : (l : Layout) (d : Database) → d.schema ≡ office_schema l → IsDatabase d → AreWide 1 (d.trees 1)
+wide_zones l d is h =
     let typed = (subst (λ s. AllByRecursion (λ t. AllByRecursion (λ row. passes Datatype s d.trees t row ≡ true) (d.trees t.tree)) s.tables) is (h.obeys.rules Datatype)).1.0 in
     let present = (subst (λ s. AllByRecursion (λ t. AllByRecursion (λ row. passes NotNull s d.trees t row ≡ true) (d.trees t.tree)) s.tables) is (h.obeys.rules NotNull)).1.0 in
-    all_both (λ row. (are_typed None 0 zones_columns (drop 1 row) && has_computed zones row) ≡ true) (λ row. are_present None 0 zones_columns row ≡ true) (λ (r : Row). eval_all columns_1 ([] ∷ r ∷ []) ≡ drop 1 r)
-    (λ row p q. whole_1 row (full 0 zones_columns row (drop 1 row) refl (refl, tt) (and_parts _ _ p).0 q)) (d.trees 1) typed present
+    all_both (λ row. (are_typed None 0 zones_columns (drop 1 row) && has_computed zones row) ≡ true) (λ row. are_present None 0 zones_columns row ≡ true) (λ (r : Row). length (drop 1 r) ≡ 1)
+    (λ row p q. full 0 zones_columns row (drop 1 row) refl (refl, tt) (and_parts _ _ p).0 q) (d.trees 1) typed present
 
-pub all_zones : (l : Layout) (begun mid again end : State) (ids : List ℤ) (xs : List (List ℕ)) → begun.now.schema ≡ office_schema l → IsDatabase begun.now → again.now ≡ begun.now → Shown the.rowids_zones_text [] begun mid (map stored_version ids)
-    → IsDistinct int_eq ids → Shown the.all_zones_text [] again end (map stored_zone xs) → AllByRecursion IsReadableRow (map stored_zone xs) → Stores (begun.now.trees 1) (map stored_zone xs)
-all_zones l begun mid again end ids xs is live same one distinct two readable =
-    let first = (reads_as the.rowids_zones_text [] begun mid (office_schema l) is (Select (record { lets = []; body = select_from 1 [] the_rowid }) _) (the.rowids_zones_is l).0 (the.rowids_zones_plain l) (the.rowids_zones_is l).1 (map stored_version ids) one).answer Null in
-    let is_again : again.now.schema ≡ office_schema l = ap (λ (d : Database). d.schema) same ∙ is in
-    let second = (reads_as the.all_zones_text [] again end (office_schema l) is_again (Select (record { lets = []; body = select_from 1 [] columns_1 }) _) (the.all_zones_is l).0 (the.all_zones_plain l) (the.all_zones_is l).1 (map stored_zone xs) two).answer Null in
-    stores_all 1 (plainly 1 refl) begun.now.trees columns_1 ids (map stored_zone xs) (shape_zones l begun.now is live) first distinct (subst (λ (d : Database). IsAnswer (select_from 1 [] columns_1) (overlay d.trees []) [] (map stored_zone xs)) same second) readable
+pub all_zones : (l : Layout) (begun mid : State) (rows xs : List Row) → begun.now.schema ≡ office_schema l → IsDatabase begun.now → Shown the.all_zones_text [] begun mid rows → Stores rows xs → Stores (begun.now.trees 1) xs
+all_zones l begun mid rows xs is live shown h =
+    stores_all l the.all_zones_text 1 (the_rowid ++ columns_1) 1 _ (plainly 1 refl) (the.all_zones_is l) (the.all_zones_plain l) whole_1 begun mid rows xs is (wide_zones l begun.now is live) shown h
+
+pub shows_all_zones : (begun mid : State) (rows : List Row) (all : RowsOf) → Reads begun.now all → Shown the.all_zones_text [] begun mid rows → Stores rows (map stored_zone all.zones)
+shows_all_zones begun mid rows all h shown =
+    let l = layout_in begun.now.trees in
+    shows_all l the.all_zones_text 1 (the_rowid ++ columns_1) 1 _ (plainly 1 refl) (the.all_zones_is l) (the.all_zones_plain l) whole_1 stored_zone (λ x. refl) begun mid rows all.zones h.schema h.tables.zones shown
 
 -- the rows of `records` have their columns
-shape_records : (l : Layout) (d : Database) → d.schema ≡ office_schema l → IsDatabase d → AllByRecursion (λ (r : Row). eval_all columns_6 ([] ∷ r ∷ []) ≡ drop 1 r) (d.trees 3)
-shape_records l d is h =
+wide_records : (l : Layout) (d : Database) → d.schema ≡ office_schema l → IsDatabase d → AreWide 6 (d.trees 3)
+wide_records l d is h =
     let typed = (subst (λ s. AllByRecursion (λ t. AllByRecursion (λ row. passes Datatype s d.trees t row ≡ true) (d.trees t.tree)) s.tables) is (h.obeys.rules Datatype)).1.1.0 in
     let present = (subst (λ s. AllByRecursion (λ t. AllByRecursion (λ row. passes NotNull s d.trees t row ≡ true) (d.trees t.tree)) s.tables) is (h.obeys.rules NotNull)).1.1.0 in
-    all_both (λ row. (are_typed None 0 records_columns (drop 1 row) && has_computed records row) ≡ true) (λ row. are_present None 0 records_columns row ≡ true) (λ (r : Row). eval_all columns_6 ([] ∷ r ∷ []) ≡ drop 1 r)
-    (λ row p q. whole_6 row (full 0 records_columns row (drop 1 row) refl (refl, (refl, (refl, (refl, (refl, (refl, tt)))))) (and_parts _ _ p).0 q)) (d.trees 3) typed present
+    all_both (λ row. (are_typed None 0 records_columns (drop 1 row) && has_computed records row) ≡ true) (λ row. are_present None 0 records_columns row ≡ true) (λ (r : Row). length (drop 1 r) ≡ 6)
+    (λ row p q. full 0 records_columns row (drop 1 row) refl (refl, (refl, (refl, (refl, (refl, (refl, tt)))))) (and_parts _ _ p).0 q) (d.trees 3) typed present
 
-pub all_records : (l : Layout) (begun mid again end : State) (ids : List ℤ) (xs : List RecordRowOf) → begun.now.schema ≡ office_schema l → IsDatabase begun.now → again.now ≡ begun.now → Shown the.rowids_records_text [] begun mid (map stored_version ids)
-    → IsDistinct int_eq ids → Shown the.all_records_text [] again end (map stored_record xs) → AllByRecursion IsReadableRow (map stored_record xs) → Stores (begun.now.trees 3) (map stored_record xs)
-all_records l begun mid again end ids xs is live same one distinct two readable =
-    let first = (reads_as the.rowids_records_text [] begun mid (office_schema l) is (Select (record { lets = []; body = select_from 3 [] the_rowid }) _) (the.rowids_records_is l).0 (the.rowids_records_plain l) (the.rowids_records_is l).1 (map stored_version ids) one).answer Null in
-    let is_again : again.now.schema ≡ office_schema l = ap (λ (d : Database). d.schema) same ∙ is in
-    let second = (reads_as the.all_records_text [] again end (office_schema l) is_again (Select (record { lets = []; body = select_from 3 [] columns_6 }) _) (the.all_records_is l).0 (the.all_records_plain l) (the.all_records_is l).1 (map stored_record xs) two).answer Null in
-    stores_all 3 (plainly 3 refl) begun.now.trees columns_6 ids (map stored_record xs) (shape_records l begun.now is live) first distinct (subst (λ (d : Database). IsAnswer (select_from 3 [] columns_6) (overlay d.trees []) [] (map stored_record xs)) same second) readable
+pub all_records : (l : Layout) (begun mid : State) (rows xs : List Row) → begun.now.schema ≡ office_schema l → IsDatabase begun.now → Shown the.all_records_text [] begun mid rows → Stores rows xs → Stores (begun.now.trees 3) xs
+all_records l begun mid rows xs is live shown h =
+    stores_all l the.all_records_text 3 (the_rowid ++ columns_6) 6 _ (plainly 3 refl) (the.all_records_is l) (the.all_records_plain l) whole_6 begun mid rows xs is (wide_records l begun.now is live) shown h
+
+pub shows_all_records : (begun mid : State) (rows : List Row) (all : RowsOf) → Reads begun.now all → Shown the.all_records_text [] begun mid rows → Stores rows (map stored_record all.records)
+shows_all_records begun mid rows all h shown =
+    let l = layout_in begun.now.trees in
+    shows_all l the.all_records_text 3 (the_rowid ++ columns_6) 6 _ (plainly 3 refl) (the.all_records_is l) (the.all_records_plain l) whole_6 stored_record (λ x. refl) begun mid rows all.records h.schema h.tables.records shown
 
 -- the rows of `receipts` have their columns
-shape_receipts : (l : Layout) (d : Database) → d.schema ≡ office_schema l → IsDatabase d → AllByRecursion (λ (r : Row). eval_all columns_5 ([] ∷ r ∷ []) ≡ drop 1 r) (d.trees (receipts_tree l))
-shape_receipts l d is h =
+wide_receipts : (l : Layout) (d : Database) → d.schema ≡ office_schema l → IsDatabase d → AreWide 5 (d.trees (receipts_tree l))
+wide_receipts l d is h =
     let typed = (subst (λ s. AllByRecursion (λ t. AllByRecursion (λ row. passes Datatype s d.trees t row ≡ true) (d.trees t.tree)) s.tables) is (h.obeys.rules Datatype)).1.1.1.0 in
     let present = (subst (λ s. AllByRecursion (λ t. AllByRecursion (λ row. passes NotNull s d.trees t row ≡ true) (d.trees t.tree)) s.tables) is (h.obeys.rules NotNull)).1.1.1.0 in
-    all_both (λ row. (are_typed None 0 receipts_columns (drop 1 row) && has_computed (receipts l) row) ≡ true) (λ row. are_present None 0 receipts_columns row ≡ true) (λ (r : Row). eval_all columns_5 ([] ∷ r ∷ []) ≡ drop 1 r)
-    (λ row p q. whole_5 row (full 0 receipts_columns row (drop 1 row) refl (refl, (refl, (refl, (refl, (refl, tt))))) (and_parts _ _ p).0 q)) (d.trees (receipts_tree l)) typed present
+    all_both (λ row. (are_typed None 0 receipts_columns (drop 1 row) && has_computed (receipts l) row) ≡ true) (λ row. are_present None 0 receipts_columns row ≡ true) (λ (r : Row). length (drop 1 r) ≡ 5)
+    (λ row p q. full 0 receipts_columns row (drop 1 row) refl (refl, (refl, (refl, (refl, (refl, tt))))) (and_parts _ _ p).0 q) (d.trees (receipts_tree l)) typed present
 
-pub all_receipts : (l : Layout) (begun mid again end : State) (ids : List ℤ) (xs : List ReceiptRowOf) → begun.now.schema ≡ office_schema l → IsDatabase begun.now → again.now ≡ begun.now → Shown the.rowids_receipts_text [] begun mid (map stored_version ids)
-    → IsDistinct int_eq ids → Shown the.all_receipts_text [] again end (map stored_receipt xs) → AllByRecursion IsReadableRow (map stored_receipt xs) → Stores (begun.now.trees (receipts_tree l)) (map stored_receipt xs)
-all_receipts l begun mid again end ids xs is live same one distinct two readable =
-    let first = (reads_as the.rowids_receipts_text [] begun mid (office_schema l) is (Select (record { lets = []; body = select_from (receipts_tree l) [] the_rowid }) _) (the.rowids_receipts_is l).0 (the.rowids_receipts_plain l) (the.rowids_receipts_is l).1 (map stored_version ids) one).answer Null in
-    let is_again : again.now.schema ≡ office_schema l = ap (λ (d : Database). d.schema) same ∙ is in
-    let second = (reads_as the.all_receipts_text [] again end (office_schema l) is_again (Select (record { lets = []; body = select_from (receipts_tree l) [] columns_5 }) _) (the.all_receipts_is l).0 (the.all_receipts_plain l) (the.all_receipts_is l).1 (map stored_receipt xs) two).answer Null in
-    stores_all (receipts_tree l) (plainly_receipts l) begun.now.trees columns_5 ids (map stored_receipt xs) (shape_receipts l begun.now is live) first distinct (subst (λ (d : Database). IsAnswer (select_from (receipts_tree l) [] columns_5) (overlay d.trees []) [] (map stored_receipt xs)) same second) readable
+pub all_receipts : (l : Layout) (begun mid : State) (rows xs : List Row) → begun.now.schema ≡ office_schema l → IsDatabase begun.now → Shown the.all_receipts_text [] begun mid rows → Stores rows xs → Stores (begun.now.trees (receipts_tree l)) xs
+all_receipts l begun mid rows xs is live shown h =
+    stores_all l the.all_receipts_text (receipts_tree l) (the_rowid ++ columns_5) 5 _ (plainly_receipts l) (the.all_receipts_is l) (the.all_receipts_plain l) whole_5 begun mid rows xs is (wide_receipts l begun.now is live) shown h
+
+pub shows_all_receipts : (begun mid : State) (rows : List Row) (all : RowsOf) → Reads begun.now all → Shown the.all_receipts_text [] begun mid rows → Stores rows (map stored_receipt all.receipts)
+shows_all_receipts begun mid rows all h shown =
+    let l = layout_in begun.now.trees in
+    shows_all l the.all_receipts_text (receipts_tree l) (the_rowid ++ columns_5) 5 _ (plainly_receipts l) (the.all_receipts_is l) (the.all_receipts_plain l) whole_5 stored_receipt (λ x. refl) begun mid rows all.receipts h.schema h.tables.receipts shown
 
 -- the rows of `changes` have their columns
-shape_changes : (l : Layout) (d : Database) → d.schema ≡ office_schema l → IsDatabase d → AllByRecursion (λ (r : Row). eval_all columns_7 ([] ∷ r ∷ []) ≡ drop 1 r) (d.trees (changes_tree l))
-shape_changes l d is h =
+wide_changes : (l : Layout) (d : Database) → d.schema ≡ office_schema l → IsDatabase d → AreWide 7 (d.trees (changes_tree l))
+wide_changes l d is h =
     let typed = (subst (λ s. AllByRecursion (λ t. AllByRecursion (λ row. passes Datatype s d.trees t row ≡ true) (d.trees t.tree)) s.tables) is (h.obeys.rules Datatype)).1.1.1.1.0 in
     let present = (subst (λ s. AllByRecursion (λ t. AllByRecursion (λ row. passes NotNull s d.trees t row ≡ true) (d.trees t.tree)) s.tables) is (h.obeys.rules NotNull)).1.1.1.1.0 in
-    all_both (λ row. (are_typed None 0 changes_columns (drop 1 row) && has_computed (changes l) row) ≡ true) (λ row. are_present None 0 changes_columns row ≡ true) (λ (r : Row). eval_all columns_7 ([] ∷ r ∷ []) ≡ drop 1 r)
-    (λ row p q. whole_7 row (full 0 changes_columns row (drop 1 row) refl (refl, (refl, (refl, (refl, (refl, (refl, (refl, tt))))))) (and_parts _ _ p).0 q)) (d.trees (changes_tree l)) typed present
+    all_both (λ row. (are_typed None 0 changes_columns (drop 1 row) && has_computed (changes l) row) ≡ true) (λ row. are_present None 0 changes_columns row ≡ true) (λ (r : Row). length (drop 1 r) ≡ 7)
+    (λ row p q. full 0 changes_columns row (drop 1 row) refl (refl, (refl, (refl, (refl, (refl, (refl, (refl, tt))))))) (and_parts _ _ p).0 q) (d.trees (changes_tree l)) typed present
 
-pub all_changes : (l : Layout) (begun mid again end : State) (ids : List ℤ) (xs : List ChangeRowOf) → begun.now.schema ≡ office_schema l → IsDatabase begun.now → again.now ≡ begun.now → Shown the.rowids_changes_text [] begun mid (map stored_version ids)
-    → IsDistinct int_eq ids → Shown the.all_changes_text [] again end (map stored_change xs) → AllByRecursion IsReadableRow (map stored_change xs) → Stores (begun.now.trees (changes_tree l)) (map stored_change xs)
-all_changes l begun mid again end ids xs is live same one distinct two readable =
-    let first = (reads_as the.rowids_changes_text [] begun mid (office_schema l) is (Select (record { lets = []; body = select_from (changes_tree l) [] the_rowid }) _) (the.rowids_changes_is l).0 (the.rowids_changes_plain l) (the.rowids_changes_is l).1 (map stored_version ids) one).answer Null in
-    let is_again : again.now.schema ≡ office_schema l = ap (λ (d : Database). d.schema) same ∙ is in
-    let second = (reads_as the.all_changes_text [] again end (office_schema l) is_again (Select (record { lets = []; body = select_from (changes_tree l) [] columns_7 }) _) (the.all_changes_is l).0 (the.all_changes_plain l) (the.all_changes_is l).1 (map stored_change xs) two).answer Null in
-    stores_all (changes_tree l) (plainly_changes l) begun.now.trees columns_7 ids (map stored_change xs) (shape_changes l begun.now is live) first distinct (subst (λ (d : Database). IsAnswer (select_from (changes_tree l) [] columns_7) (overlay d.trees []) [] (map stored_change xs)) same second) readable
+pub all_changes : (l : Layout) (begun mid : State) (rows xs : List Row) → begun.now.schema ≡ office_schema l → IsDatabase begun.now → Shown the.all_changes_text [] begun mid rows → Stores rows xs → Stores (begun.now.trees (changes_tree l)) xs
+all_changes l begun mid rows xs is live shown h =
+    stores_all l the.all_changes_text (changes_tree l) (the_rowid ++ columns_7) 7 _ (plainly_changes l) (the.all_changes_is l) (the.all_changes_plain l) whole_7 begun mid rows xs is (wide_changes l begun.now is live) shown h
+
+pub shows_all_changes : (begun mid : State) (rows : List Row) (all : RowsOf) → Reads begun.now all → Shown the.all_changes_text [] begun mid rows → Stores rows (map stored_change all.changes)
+shows_all_changes begun mid rows all h shown =
+    let l = layout_in begun.now.trees in
+    shows_all l the.all_changes_text (changes_tree l) (the_rowid ++ columns_7) 7 _ (plainly_changes l) (the.all_changes_is l) (the.all_changes_plain l) whole_7 stored_change (λ x. refl) begun mid rows all.changes h.schema h.tables.changes shown
 
 -- ---- numbers in order
 
@@ -237,108 +312,15 @@ apart_if_rising ns up differs =
     above : (a b c : ℤ) → is_lt (int_cmp b a) ≡ false → int_eq a b ≡ false → is_lt (int_cmp c b) ≡ false → int_eq a c ≡ false
     above a b c p q r = grind (arith, ints, nat_tests)
 
-pub readable_numbers : (ids : List ℤ) → AllByRecursion IsReadableRow (map stored_version ids)
-readable_numbers [] = tt
-readable_numbers (n ∷ ids) = ((tt, tt), readable_numbers ids)
-
 -- ---- five of them
 
 pub five : {X : Type 0} (xs : List X) (a b c d e : X) → 5 ≤ length xs → length xs < 6 → a ≡ get_or xs 0 a → b ≡ get_or xs 1 b → c ≡ get_or xs 2 c → d ≡ get_or xs 3 d → e ≡ get_or xs 4 e → xs ≡ a ∷ b ∷ c ∷ d ∷ e ∷ []
 five (u ∷ v ∷ w ∷ x ∷ y ∷ []) a b c d e low high p q r s t = cc
 five _ a b c d e low high p q r s t = absurd (omega arith)
 
--- ---- no row of such a table is bad
-
-ids_are : (rows : List Row) → AllByRecursion (λ r. IsTrue (is_int (rowid r))) rows → map (λ (r : Row). rowid r ∷ []) rows ≡ map stored_version (map (λ (r : Row). id_in (rowid r)) rows)
-ids_are [] h = refl
-ids_are (r ∷ rows) h = let here : rowid r ≡ Int (id_in (rowid r)) = int_is (rowid r) h.0 in let more = ids_are rows h.1 in cc
-
-own_ids : (r : Row) (rows : List Row) → IsTrue (is_int (rowid r)) → AllByRecursion (λ s. IsTrue (is_int (rowid s))) rows → AllByRecursion (HasOwnRowid r) rows → AllByRecursion (λ m. int_eq (id_in (rowid r)) m ≡ false) (map (λ (s : Row). id_in (rowid s)) rows)
-own_ids r [] int h d = tt
-own_ids r (s ∷ rows) int h d =
-    let here : rowid r ≡ Int (id_in (rowid r)) = int_is (rowid r) int in
-    let there : rowid s ≡ Int (id_in (rowid s)) = int_is (rowid s) h.0 in
-    (sym (ap is_eq (value_cmp-Int (id_in (rowid r)) (id_in (rowid s))) ∙ equal_ints (id_in (rowid r)) (id_in (rowid s))) ∙ sym (ap (λ v. is_eq (value_cmp v (Int (id_in (rowid s))))) here ∙ refl) ∙ sym (ap (λ v. is_eq (value_cmp (rowid r) v)) there) ∙ d.0, own_ids r rows int h.1 d.1)
-
-distinct_ids : (rows : List Row) → AllByRecursion (λ r. IsTrue (is_int (rowid r))) rows → AreApart rows → IsDistinct int_eq (map (λ (r : Row). id_in (rowid r)) rows)
-distinct_ids [] h d = IsDistinct-from_apart int_eq [] (λ i j x low high. absurd (omega arith))
-distinct_ids (r ∷ rows) h d = IsDistinct-cons int_eq (id_in (rowid r)) (map (λ (s : Row). id_in (rowid s)) rows) (own_ids r rows h.0 h.1 d.0) (distinct_ids rows h.1 d.1)
-
--- what is shown of the rowids are numbers that differ
-ids_shown : (tree : ℕ) → ((db : Trees) → overlay db [] tree ≡ db tree) → (db : Trees) (xs rows : List Row) → Stores (db tree) xs → IsAnswer (select_from tree [] the_rowid) (overlay db []) [] rows
-    → ((ids : List ℤ) → rows ≡ map stored_version ids → IsDistinct int_eq ids → ⊥) → ⊥
-ids_shown tree plain_tree db xs rows h a none =
-    let shown = answered tree plain_tree [] the_rowid (λ r. true) [] db rows (λ r. refl) a in
-    let whole = subst (λ l. IsPermutation (map (λ (r : Row). rowid r ∷ []) l) rows) (all_rows (db tree)) shown in
-    let it = pull_back stored_version (map (λ (r : Row). rowid r ∷ []) (db tree)) rows whole (map (λ (r : Row). id_in (rowid r)) (db tree)) (ids_are (db tree) h.numbered) in
-    none it.0 it.2 (IsDistinct-IsPermutation int_eq int_eq_equiv.symm (map (λ (r : Row). id_in (rowid r)) (db tree)) it.0 it.1 (distinct_ids (db tree) h.numbered h.apart))
-
-pub never_bad_meta : (begun mid : State) (rows : List Row) (all : RowsOf) → Reads begun.now all → Shown the.rowids_meta_text [] begun mid rows → (IsOffice begun.now.schema → (ids : List ℤ) → rows ≡ map stored_version ids → IsDistinct int_eq ids → ⊥) → ⊥
-never_bad_meta begun mid rows all h shown none =
-    let a = (reads_as the.rowids_meta_text [] begun mid (office_schema (layout_in begun.now.trees)) h.schema (Select (record { lets = []; body = select_from 0 [] the_rowid }) _) (the.rowids_meta_is (layout_in begun.now.trees)).0 (the.rowids_meta_plain (layout_in begun.now.trees)) (the.rowids_meta_is (layout_in begun.now.trees)).1 rows shown).answer Null in
-    ids_shown 0 (plainly 0 refl) begun.now.trees (map stored_version all.versions) rows h.tables.versions a (none (layout_in begun.now.trees, h.schema))
-
-pub shows_all_meta : (again end : State) (rows : List Row) (all : RowsOf) → Reads again.now all → Shown the.all_meta_text [] again end rows → IsPermutation (map stored_version (filter (λ r. true) all.versions)) rows
-shows_all_meta again end rows all h shown =
-    asked (layout_in again.now.trees) stored_version (λ r. true) (codes "meta") 0 meta_columns ([]) 0 refl (plainly 0 refl) the.all_meta_text [] again end h.schema (the.all_meta_plain (layout_in again.now.trees)) [] columns_1 _ (the.all_meta_is (layout_in again.now.trees)).0 (the.all_meta_is (layout_in again.now.trees)).1
-    (λ r. refl) (shown_1 []) (λ r. refl) (λ _. refl) all.versions rows shown h.tables.versions
-
-pub never_bad_zones : (begun mid : State) (rows : List Row) (all : RowsOf) → Reads begun.now all → Shown the.rowids_zones_text [] begun mid rows → (IsOffice begun.now.schema → (ids : List ℤ) → rows ≡ map stored_version ids → IsDistinct int_eq ids → ⊥) → ⊥
-never_bad_zones begun mid rows all h shown none =
-    let a = (reads_as the.rowids_zones_text [] begun mid (office_schema (layout_in begun.now.trees)) h.schema (Select (record { lets = []; body = select_from 1 [] the_rowid }) _) (the.rowids_zones_is (layout_in begun.now.trees)).0 (the.rowids_zones_plain (layout_in begun.now.trees)) (the.rowids_zones_is (layout_in begun.now.trees)).1 rows shown).answer Null in
-    ids_shown 1 (plainly 1 refl) begun.now.trees (map stored_zone all.zones) rows h.tables.zones a (none (layout_in begun.now.trees, h.schema))
-
-pub shows_all_zones : (again end : State) (rows : List Row) (all : RowsOf) → Reads again.now all → Shown the.all_zones_text [] again end rows → IsPermutation (map stored_zone (filter (λ r. true) all.zones)) rows
-shows_all_zones again end rows all h shown =
-    asked (layout_in again.now.trees) stored_zone (λ r. true) (codes "zones") 1 zones_columns (1 ∷ []) 1 refl (plainly 1 refl) the.all_zones_text [] again end h.schema (the.all_zones_plain (layout_in again.now.trees)) [] columns_1 _ (the.all_zones_is (layout_in again.now.trees)).0 (the.all_zones_is (layout_in again.now.trees)).1
-    (λ r. refl) (shown_1 []) (λ r. refl) (λ _. refl) all.zones rows shown h.tables.zones
-
-pub never_bad_records : (begun mid : State) (rows : List Row) (all : RowsOf) → Reads begun.now all → Shown the.rowids_records_text [] begun mid rows → (IsOffice begun.now.schema → (ids : List ℤ) → rows ≡ map stored_version ids → IsDistinct int_eq ids → ⊥) → ⊥
-never_bad_records begun mid rows all h shown none =
-    let a = (reads_as the.rowids_records_text [] begun mid (office_schema (layout_in begun.now.trees)) h.schema (Select (record { lets = []; body = select_from 3 [] the_rowid }) _) (the.rowids_records_is (layout_in begun.now.trees)).0 (the.rowids_records_plain (layout_in begun.now.trees)) (the.rowids_records_is (layout_in begun.now.trees)).1 rows shown).answer Null in
-    ids_shown 3 (plainly 3 refl) begun.now.trees (map stored_record all.records) rows h.tables.records a (none (layout_in begun.now.trees, h.schema))
-
-pub shows_all_records : (again end : State) (rows : List Row) (all : RowsOf) → Reads again.now all → Shown the.all_records_text [] again end rows → IsPermutation (map stored_record (filter (λ r. true) all.records)) rows
-shows_all_records again end rows all h shown =
-    asked (layout_in again.now.trees) stored_record (λ r. true) (codes "records") 3 records_columns (1 ∷ 2 ∷ 3 ∷ 4 ∷ []) 2 refl (plainly 3 refl) the.all_records_text [] again end h.schema (the.all_records_plain (layout_in again.now.trees)) [] columns_6 _ (the.all_records_is (layout_in again.now.trees)).0 (the.all_records_is (layout_in again.now.trees)).1
-    (λ r. refl) (shown_6 []) (λ r. refl) (λ _. refl) all.records rows shown h.tables.records
-
-pub never_bad_receipts : (begun mid : State) (rows : List Row) (all : RowsOf) → Reads begun.now all → Shown the.rowids_receipts_text [] begun mid rows → (IsOffice begun.now.schema → (ids : List ℤ) → rows ≡ map stored_version ids → IsDistinct int_eq ids → ⊥) → ⊥
-never_bad_receipts begun mid rows all h shown none =
-    let a = (reads_as the.rowids_receipts_text [] begun mid (office_schema (layout_in begun.now.trees)) h.schema (Select (record { lets = []; body = select_from (receipts_tree (layout_in begun.now.trees)) [] the_rowid }) _) (the.rowids_receipts_is (layout_in begun.now.trees)).0 (the.rowids_receipts_plain (layout_in begun.now.trees)) (the.rowids_receipts_is (layout_in begun.now.trees)).1 rows shown).answer Null in
-    ids_shown (receipts_tree (layout_in begun.now.trees)) (plainly_receipts (layout_in begun.now.trees)) begun.now.trees (map stored_receipt all.receipts) rows h.tables.receipts a (none (layout_in begun.now.trees, h.schema))
-
-pub shows_all_receipts : (again end : State) (rows : List Row) (all : RowsOf) → Reads again.now all → Shown the.all_receipts_text [] again end rows → IsPermutation (map stored_receipt (filter (λ r. true) all.receipts)) rows
-shows_all_receipts again end rows all h shown =
-    asked (layout_in again.now.trees) stored_receipt (λ r. true) (codes "receipts") (receipts_tree (layout_in again.now.trees)) receipts_columns (1 ∷ 2 ∷ []) 3 refl (plainly_receipts (layout_in again.now.trees)) the.all_receipts_text [] again end h.schema (the.all_receipts_plain (layout_in again.now.trees)) [] columns_5 _ (the.all_receipts_is (layout_in again.now.trees)).0 (the.all_receipts_is (layout_in again.now.trees)).1
-    (λ r. refl) (shown_5 []) (λ r. refl) (λ _. refl) all.receipts rows shown h.tables.receipts
-
-pub never_bad_changes : (begun mid : State) (rows : List Row) (all : RowsOf) → Reads begun.now all → Shown the.rowids_changes_text [] begun mid rows → (IsOffice begun.now.schema → (ids : List ℤ) → rows ≡ map stored_version ids → IsDistinct int_eq ids → ⊥) → ⊥
-never_bad_changes begun mid rows all h shown none =
-    let a = (reads_as the.rowids_changes_text [] begun mid (office_schema (layout_in begun.now.trees)) h.schema (Select (record { lets = []; body = select_from (changes_tree (layout_in begun.now.trees)) [] the_rowid }) _) (the.rowids_changes_is (layout_in begun.now.trees)).0 (the.rowids_changes_plain (layout_in begun.now.trees)) (the.rowids_changes_is (layout_in begun.now.trees)).1 rows shown).answer Null in
-    ids_shown (changes_tree (layout_in begun.now.trees)) (plainly_changes (layout_in begun.now.trees)) begun.now.trees (map stored_change all.changes) rows h.tables.changes a (none (layout_in begun.now.trees, h.schema))
-
-pub shows_all_changes : (again end : State) (rows : List Row) (all : RowsOf) → Reads again.now all → Shown the.all_changes_text [] again end rows → IsPermutation (map stored_change (filter (λ r. true) all.changes)) rows
-shows_all_changes again end rows all h shown =
-    asked (layout_in again.now.trees) stored_change (λ r. true) (codes "changes") (changes_tree (layout_in again.now.trees)) changes_columns (1 ∷ 2 ∷ 3 ∷ 4 ∷ 5 ∷ 6 ∷ []) 4 refl (plainly_changes (layout_in again.now.trees)) the.all_changes_text [] again end h.schema (the.all_changes_plain (layout_in again.now.trees)) [] columns_7 _ (the.all_changes_is (layout_in again.now.trees)).0 (the.all_changes_is (layout_in again.now.trees)).1
-    (λ r. refl) (shown_7 []) (λ r. refl) (λ _. refl) all.changes rows shown h.tables.changes
-
 -- two lists that a table stores are the same in some order
 pub stored_same : {X : Type 0} (stored : X → Row) → ((x y : X) → stored x ≡ stored y → x ≡ y) → (rows : List Row) (xs ys : List X) → Stores rows (map stored xs) → Stores rows (map stored ys) → IsPermutation xs ys
 stored_same stored one rows xs ys a b = read_as stored one xs ys (IsPermutation-trans _ _ _ a.same (IsPermutation-sym _ _ b.same))
-
-pub readable_if : (rows : List Row) (ids : List ℤ) → rows ≡ map stored_version ids → AllByRecursion IsReadableRow rows
-readable_if rows ids same = rw same (readable_numbers ids)
-
-pub numbers_same : (xs ys : List ℤ) → map stored_version xs ≡ map stored_version ys → xs ≡ ys
-numbers_same [] [] e = refl
-numbers_same [] (y ∷ ys) e = absurd cc
-numbers_same (x ∷ xs) [] e = absurd cc
-numbers_same (x ∷ xs) (y ∷ ys) e =
-    let first : x ≡ y = cc in
-    let more : map stored_version xs ≡ map stored_version ys = cc in
-    let same = numbers_same xs ys more in
-    cc
 
 -- each table has its rows
 pub reads_all : (db : Database) (rows : RowsOf) → Stores (db.trees 0) (map stored_version rows.versions) → HasZones db rows.zones → HasRecords db rows.records → HasReceipts db rows.receipts → HasChanges db rows.changes → Reads db rows

@@ -1,9 +1,10 @@
 //! Reading the rows of an answer.
 
-ghost use Rattle.std.specs.Prelude.{◌≡◌, ◌<◌, ℕ, ℤ, List, length, map, Err, IfOk, string_bytes, IsUtf8};
+ghost use Rattle.std.specs.Prelude.{◌≡◌, ◌+◌, ◌<◌, ◌≤◌, ◌↔◌, ℕ, ℤ, List, length, map, drop, true, Err, IfOk, string_bytes, IsUtf8};
 ghost use Rattle.std.specs.List.{AllByRecursion};
 ghost use Rattle.sqlite_value.specs.declared.value.Value.TheVariants.{Int, Text, Blob};
 ghost use Rattle.sqlite_value.specs.Order.{column, Row as SqlRow};
+ghost use Rattle.sqlite_trees.specs.Tree.{rowid};
 ghost use Rattle.office_sql.specs.Stores.{IsReadableRow};
 ghost use Rattle.office_sql.specs.declared.rows_fault.RowsFault.TheVariants.{BadRow};
 
@@ -18,44 +19,62 @@ pub(crate) trait FromRow: Sized + Drop {
     // what such a row has
     ghost stored: { Self → SqlRow };
 
-    /// `BadRow` comes where the row is no such row, or a text in it is not UTF-8.
-    fn read(row: &Row) -> Result<Self, RowsFault>
-        ensures found { IfOk result (λ x. (row.now ≡ stored x) × IsReadableRow row.now) }
-        ensures bad { result ≡ Err BadRow → (x : Self) → row.now ≡ stored x → IsReadableRow row.now → ⊥ };
+    /// Reads the columns from a first one on; before them there is at most a rowid. `BadRow` comes where they are not those of
+    /// such a row, or a text in them is not UTF-8.
+    fn read(row: &Row, first: usize) -> Result<Self, RowsFault>
+        requires { first ≤ 1 }
+        ensures found { IfOk result (λ x. (drop first row.now ≡ stored x) × IsReadableRow (drop first row.now)) }
+        ensures bad { result ≡ Err BadRow → (x : Self) → drop first row.now ≡ stored x → IsReadableRow (drop first row.now) → ⊥ };
 }
 
-fn value_at<T: FromSql>(row: &Row, at: usize) -> Result<T, RowsFault>
-    ensures found { IfOk result (λ x. (at < length row.now) × T.FromSql.reads_as (column row.now at) x) }
-    ensures bad { result ≡ Err BadRow → at < length row.now → ¬ T.FromSql.is_readable (column row.now at) }
+/// Whether a row has so many columns from a first one on.
+fn has_columns(row: &Row, first: usize, count: usize) -> bool
+    ensures { (result ≡ true) ↔ (length (drop first row.now) ≡ count) }
 {
-    match row.get(at) {
+    row.column_count().saturating_sub(first) == count
+}
+
+/// The value at a place among the columns from a first one on. `BadRow` comes where there is none, or it is of another type, and
+/// `NoMemory` where memory runs out.
+fn value_at<T: FromSql>(row: &Row, first: usize, at: usize) -> Result<T, RowsFault>
+    requires { first + at ≤ 7 }
+    ensures found { IfOk result (λ x. (at < length (drop first row.now)) × T.FromSql.reads_as (column (drop first row.now) at) x) }
+    ensures bad { result ≡ Err BadRow → at < length (drop first row.now) → ¬ T.FromSql.is_readable (column (drop first row.now) at) }
+{
+    match row.get(first + at) {
         Ok(value) => Ok(value),
         Err(Error::SqliteFailure(ErrorCode::OutOfMemory)) => Err(RowsFault::NoMemory),
         Err(_) => Err(RowsFault::BadRow),
     }
 }
 
-fn number_at(row: &Row, at: usize) -> Result<i64, RowsFault>
-    ensures found { IfOk result (λ n. (at < length row.now) × (column row.now at ≡ Int n)) }
-    ensures bad { result ≡ Err BadRow → at < length row.now → (n : ℤ) → column row.now at ≡ Int n → ⊥ }
+/// The number at such a place. `BadRow` comes where there is none.
+fn number_at(row: &Row, first: usize, at: usize) -> Result<i64, RowsFault>
+    requires { first + at ≤ 7 }
+    ensures found { IfOk result (λ n. (at < length (drop first row.now)) × (column (drop first row.now) at ≡ Int n)) }
+    ensures bad { result ≡ Err BadRow → at < length (drop first row.now) → (n : ℤ) → column (drop first row.now) at ≡ Int n → ⊥ }
 {
-    value_at(row, at)
+    value_at(row, first, at)
 }
 
-fn text_at(row: &Row, at: usize) -> Result<String, RowsFault>
-    ensures found { IfOk result (λ t. (at < length row.now) × (column row.now at ≡ Text (string_bytes t)) × IsUtf8 (string_bytes t)) }
-    ensures bad { result ≡ Err BadRow → at < length row.now → (t : List ℕ) → column row.now at ≡ Text t → IsUtf8 t → ⊥ }
+/// The text at such a place. `BadRow` comes where there is none, or it is not UTF-8.
+fn text_at(row: &Row, first: usize, at: usize) -> Result<String, RowsFault>
+    requires { first + at ≤ 7 }
+    ensures found { IfOk result (λ t. (at < length (drop first row.now)) × (column (drop first row.now) at ≡ Text (string_bytes t)) × IsUtf8 (string_bytes t)) }
+    ensures bad { result ≡ Err BadRow → at < length (drop first row.now) → (t : List ℕ) → column (drop first row.now) at ≡ Text t → IsUtf8 t → ⊥ }
 {
-    let text: String = value_at(row, at)?;
+    let text: String = value_at(row, first, at)?;
     let _utf8 = text.as_str();
     Ok(text)
 }
 
-fn key_at(row: &Row, at: usize) -> Result<Vec<u8>, RowsFault>
-    ensures found { IfOk result (λ key. (at < length row.now) × (column row.now at ≡ Blob key.items)) }
-    ensures bad { result ≡ Err BadRow → at < length row.now → (key : List ℕ) → column row.now at ≡ Blob key → ⊥ }
+/// The octets at such a place. `BadRow` comes where there are none.
+fn key_at(row: &Row, first: usize, at: usize) -> Result<Vec<u8>, RowsFault>
+    requires { first + at ≤ 7 }
+    ensures found { IfOk result (λ key. (at < length (drop first row.now)) × (column (drop first row.now) at ≡ Blob key.items)) }
+    ensures bad { result ≡ Err BadRow → at < length (drop first row.now) → (key : List ℕ) → column (drop first row.now) at ≡ Blob key → ⊥ }
 {
-    value_at(row, at)
+    value_at(row, first, at)
 }
 
 impl FromRow for i64 {
@@ -63,11 +82,11 @@ impl FromRow for i64 {
 
     ghost stored = { stored_version };
 
-    fn read(row: &Row) -> Result<i64, RowsFault> {
-        if row.column_count() != 1 {
+    fn read(row: &Row, first: usize) -> Result<i64, RowsFault> {
+        if !has_columns(row, first, 1) {
             return Err(RowsFault::BadRow);
         }
-        number_at(row, 0)
+        number_at(row, first, 0)
     }
 }
 
@@ -76,12 +95,12 @@ impl FromRow for ZoneRow {
 
     ghost stored = { stored_zone };
 
-    fn read(row: &Row) -> Result<ZoneRow, RowsFault> {
-        if row.column_count() != 1 {
+    fn read(row: &Row, first: usize) -> Result<ZoneRow, RowsFault> {
+        if !has_columns(row, first, 1) {
             return Err(RowsFault::BadRow);
         }
         Ok(ZoneRow {
-            origin: text_at(row, 0)?,
+            origin: text_at(row, first, 0)?,
         })
     }
 }
@@ -91,17 +110,17 @@ impl FromRow for RecordRow {
 
     ghost stored = { stored_record };
 
-    fn read(row: &Row) -> Result<RecordRow, RowsFault> {
-        if row.column_count() != 6 {
+    fn read(row: &Row, first: usize) -> Result<RecordRow, RowsFault> {
+        if !has_columns(row, first, 6) {
             return Err(RowsFault::BadRow);
         }
         Ok(RecordRow {
-            origin: text_at(row, 0)?,
-            owner: text_at(row, 1)?,
-            record_type: number_at(row, 2)?,
-            rdata: text_at(row, 3)?,
-            ttl: number_at(row, 4)?,
-            owner_key: key_at(row, 5)?,
+            origin: text_at(row, first, 0)?,
+            owner: text_at(row, first, 1)?,
+            record_type: number_at(row, first, 2)?,
+            rdata: text_at(row, first, 3)?,
+            ttl: number_at(row, first, 4)?,
+            owner_key: key_at(row, first, 5)?,
         })
     }
 }
@@ -111,16 +130,16 @@ impl FromRow for ReceiptRow {
 
     ghost stored = { stored_receipt };
 
-    fn read(row: &Row) -> Result<ReceiptRow, RowsFault> {
-        if row.column_count() != 5 {
+    fn read(row: &Row, first: usize) -> Result<ReceiptRow, RowsFault> {
+        if !has_columns(row, first, 5) {
             return Err(RowsFault::BadRow);
         }
         Ok(ReceiptRow {
-            caller: text_at(row, 0)?,
-            id: text_at(row, 1)?,
-            origin: text_at(row, 2)?,
-            request: text_at(row, 3)?,
-            reply: text_at(row, 4)?,
+            caller: text_at(row, first, 0)?,
+            id: text_at(row, first, 1)?,
+            origin: text_at(row, first, 2)?,
+            request: text_at(row, first, 3)?,
+            reply: text_at(row, first, 4)?,
         })
     }
 }
@@ -130,18 +149,18 @@ impl FromRow for ChangeRow {
 
     ghost stored = { stored_change };
 
-    fn read(row: &Row) -> Result<ChangeRow, RowsFault> {
-        if row.column_count() != 7 {
+    fn read(row: &Row, first: usize) -> Result<ChangeRow, RowsFault> {
+        if !has_columns(row, first, 7) {
             return Err(RowsFault::BadRow);
         }
         Ok(ChangeRow {
-            origin: text_at(row, 0)?,
-            number: number_at(row, 1)?,
-            side: number_at(row, 2)?,
-            owner: text_at(row, 3)?,
-            record_type: number_at(row, 4)?,
-            rdata: text_at(row, 5)?,
-            ttl: number_at(row, 6)?,
+            origin: text_at(row, first, 0)?,
+            number: number_at(row, first, 1)?,
+            side: number_at(row, first, 2)?,
+            owner: text_at(row, first, 3)?,
+            record_type: number_at(row, first, 4)?,
+            rdata: text_at(row, first, 5)?,
+            ttl: number_at(row, first, 6)?,
         })
     }
 }
@@ -154,7 +173,25 @@ pub(crate) fn read_rows<T: FromRow>(alloc: Global, rows: Vec<Row>) -> Result<Vec
 {
     let mut read = Vec::new(alloc);
     for row in rows {
-        read.push(T::read(&row)?)?;
+        read.push(T::read(&row, 0)?)?;
     }
     Ok(read)
+}
+
+/// The rows of an answer that shows a rowid first, each read, and the rowids. A row goes as soon as it is read. `BadRow` comes where one
+/// of them is no such row.
+pub(crate) fn read_numbered<T: FromRow>(
+    alloc: Global,
+    rows: Vec<Row>,
+) -> Result<(Vec<i64>, Vec<T>), RowsFault>
+    ensures found { IfOk result (λ read. (map rowid rows.items ≡ map Int read.0.items) × (map (drop 1) rows.items ≡ map T.FromRow.stored read.1.items) × AllByRecursion IsReadableRow (map (drop 1) rows.items)) }
+    ensures bad { result ≡ Err BadRow → (ids : List ℤ) → (xs : List T) → map rowid rows.items ≡ map Int ids → map (drop 1) rows.items ≡ map T.FromRow.stored xs → AllByRecursion IsReadableRow (map (drop 1) rows.items) → ⊥ }
+{
+    let mut rowids = Vec::new(alloc);
+    let mut read = Vec::new(alloc);
+    for row in rows {
+        rowids.push(number_at(&row, 0, 0)?)?;
+        read.push(T::read(&row, 1)?)?;
+    }
+    Ok((rowids, read))
 }

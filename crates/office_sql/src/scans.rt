@@ -1,19 +1,19 @@
 //! All rows of the tables, of a store that somebody else may have written.
 
-ghost use Rattle.std.specs.Prelude.{◌≡◌, ◌⊎◌, ◌↔◌, List, [], ℤ, Err, IfOk, OnOk, IsTrue, IsPermutation, true, false, map};
-ghost use Rattle.std.specs.List.{AllByRecursion, IsDistinct};
+ghost use Rattle.std.specs.Prelude.{◌≡◌, ◌↔◌, List, [], Err, IfOk, OnOk, IsPermutation, true, false, map};
+ghost use Rattle.std.specs.List.{IsDistinct};
 ghost use Rattle.std.specs.Ordering.{int_eq};
 ghost use Rattle.sqlite.specs.Effect.{IsDatabase};
 ghost use Rattle.sqlite.specs.Held.{state};
 ghost use Rattle.sqlite.specs.State.{HasCleanDisk, Shows, Shown};
 ghost use Rattle.office_sql.specs.Rows.{RowsOf};
 ghost use Rattle.office_sql.specs.Tables.{IsOffice, stored_version};
-ghost use Rattle.office_sql.specs.Stores.{Stores, IsReadableRow};
+ghost use Rattle.office_sql.specs.Stores.{Stores};
 ghost use Rattle.office_sql.specs.Holds.{AreRows, HasChanges, HasReceipts, HasRecords, HasZones, Holds, Leaves, OnlyAsks, SameRows};
 ghost use Rattle.office_sql.specs.declared.rows_fault.RowsFault.TheVariants.{BadRow};
 
-use crate::from_row::FromRow;
-use crate::query::ask;
+use crate::from_row::{FromRow, read_numbered};
+use crate::query::fetch_open;
 use crate::rows::{ChangeRow, ReceiptRow, RecordRow, ZoneRow};
 use crate::rows_fault::RowsFault;
 use crate::schema::has_tables;
@@ -55,48 +55,28 @@ fn are_apart(mut numbers: Vec<i64>) -> bool
     true
 }
 
-/// `BadRow` comes where the tables are not those of the office, or a rowid comes twice in the answer. No statement here
-/// makes such a row, but a connection that is handed in says nothing of its own.
-fn check_rowids<S: Alter>(
-    alloc: Global,
-    conn: &mut Connection<S>,
-    sql: &str,
-) -> Result<(), RowsFault>
-    requires { conn.old.in_transaction ≡ false }
-    ensures asks { OnlyAsks (state S.Store conn.old) (state S.Store conn.new) }
-    ensures same { HasCleanDisk (state S.Store conn.new) → OnOk result (Shows (state S.Store conn.old) (state S.Store conn.new) (state S.Store conn.old).now (state S.Store conn.old).now false) }
-    ensures live { HasCleanDisk (state S.Store conn.new) → OnOk result (IsOffice (state S.Store conn.new).now.schema × IsDatabase (state S.Store conn.new).now) }
-    ensures shown { HasCleanDisk (state S.Store conn.new) → OnOk result ((mid : _) × (ids : List ℤ) × Shown sql.now [] (state S.Store (record conn.old { in_transaction = true })) (state S.Store mid) (map stored_version ids) × IsDistinct int_eq ids) }
-    ensures bad { HasCleanDisk (state S.Store conn.new) → result ≡ Err BadRow → (rows : _) × (mid : _) × Shown sql.now [] (state S.Store (record conn.old { in_transaction = true })) (state S.Store mid) rows × (IsOffice (state S.Store conn.old).now.schema → (ids : List ℤ) → rows ≡ map stored_version ids → IsDistinct int_eq ids → ⊥) }
-{
-    let ids: Vec<i64> = ask(alloc, conn, sql, &[])?;
-    if has_tables(conn) && are_apart(ids) {
-        Ok(())
-    } else {
-        Err(RowsFault::BadRow)
-    }
-}
-
-/// All rows of a table, by two texts: one that asks for its rowids, and one for its columns.
+/// All rows of a table, by a text that asks for their rowids and then for their columns. `BadRow` comes where the tables are not those
+/// of the office, a row is not one of the table, or a rowid comes twice in the answer. No statement here makes such a row, but a
+/// connection that is handed in says nothing of its own.
 fn all<S: Alter, T: FromRow>(
     alloc: Global,
     conn: &mut Connection<S>,
-    rowids: &str,
-    columns: &str,
+    sql: &str,
 ) -> Result<Vec<T>, RowsFault>
     requires { conn.old.in_transaction ≡ false }
     ensures asks { OnlyAsks (state S.Store conn.old) (state S.Store conn.new) }
     ensures same { HasCleanDisk (state S.Store conn.new) → OnOk result (Shows (state S.Store conn.old) (state S.Store conn.new) (state S.Store conn.old).now (state S.Store conn.old).now false) }
     ensures live { HasCleanDisk (state S.Store conn.new) → OnOk result (IsOffice (state S.Store conn.old).now.schema × IsDatabase (state S.Store conn.old).now) }
-    ensures apart { HasCleanDisk (state S.Store conn.new) → OnOk result ((mid : _) × (ids : List ℤ) × Shown rowids.now [] (state S.Store (record conn.old { in_transaction = true })) (state S.Store mid) (map stored_version ids) × IsDistinct int_eq ids) }
-    ensures shown { HasCleanDisk (state S.Store conn.new) → IfOk result (λ xs. (begun : _) × (mid : _) × ((state S.Store begun).now ≡ (state S.Store conn.old).now) × Shown columns.now [] (state S.Store begun) (state S.Store mid) (map T.FromRow.stored xs.items)) }
-    ensures readable { IfOk result (λ xs. AllByRecursion IsReadableRow (map T.FromRow.stored xs.items)) }
-    ensures bad { HasCleanDisk (state S.Store conn.new) → result ≡ Err BadRow
-        → ((rows : _) × (mid : _) × Shown rowids.now [] (state S.Store (record conn.old { in_transaction = true })) (state S.Store mid) rows × (IsOffice (state S.Store conn.old).now.schema → (ids : List ℤ) → rows ≡ map stored_version ids → IsDistinct int_eq ids → ⊥))
-        ⊎ (IsTrue (state S.Store conn.old).is_open × (rows : _) × (begun : _) × (mid : _) × ((state S.Store begun).now ≡ (state S.Store conn.old).now) × Shown columns.now [] (state S.Store begun) (state S.Store mid) rows × ((xs : List T) → rows ≡ map T.FromRow.stored xs → AllByRecursion IsReadableRow rows → ⊥)) }
+    ensures shown { HasCleanDisk (state S.Store conn.new) → IfOk result (λ xs. (rows : _) × (mid : _) × Shown sql.now [] (state S.Store (record conn.old { in_transaction = true })) (state S.Store mid) rows × Stores rows (map T.FromRow.stored xs.items)) }
+    ensures bad { HasCleanDisk (state S.Store conn.new) → result ≡ Err BadRow → (rows : _) × (mid : _) × Shown sql.now [] (state S.Store (record conn.old { in_transaction = true })) (state S.Store mid) rows × (IsOffice (state S.Store conn.old).now.schema → (xs : List T) → Stores rows (map T.FromRow.stored xs) → ⊥) }
 {
-    check_rowids(alloc, conn, rowids)?;
-    ask(alloc, conn, columns, &[])
+    let rows = fetch_open(conn, sql, &[])?;
+    let (rowids, read) = read_numbered(alloc, rows)?;
+    if has_tables(conn) && are_apart(rowids) {
+        Ok(read)
+    } else {
+        Err(RowsFault::BadRow)
+    }
 }
 
 /// The rows of `meta`. Each of these fails with `Store` where the store does, with `NoMemory` where memory runs out, and with
@@ -110,12 +90,7 @@ pub fn versions<S: Alter>(alloc: Global, conn: &mut Connection<S>) -> Result<Vec
     ensures only { HasCleanDisk (state S.Store conn.new) → OnOk result ((rows : RowsOf) → Holds (state S.Store conn.new) rows → Holds (state S.Store conn.old) rows) }
     ensures bad { HasCleanDisk (state S.Store conn.new) → result ≡ Err BadRow → (rows : RowsOf) → Holds (state S.Store conn.old) rows → ⊥ }
 {
-    all(
-        alloc,
-        conn,
-        "SELECT rowid FROM meta",
-        "SELECT version FROM meta",
-    )
+    all(alloc, conn, "SELECT rowid, version FROM meta")
 }
 
 /// The origins of all zones.
@@ -131,12 +106,7 @@ pub fn all_zones<S: Alter>(
     ensures only { HasCleanDisk (state S.Store conn.new) → OnOk result ((rows : RowsOf) → Holds (state S.Store conn.new) rows → Holds (state S.Store conn.old) rows) }
     ensures bad { HasCleanDisk (state S.Store conn.new) → result ≡ Err BadRow → (rows : RowsOf) → Holds (state S.Store conn.old) rows → ⊥ }
 {
-    all(
-        alloc,
-        conn,
-        "SELECT rowid FROM zones",
-        "SELECT origin FROM zones",
-    )
+    all(alloc, conn, "SELECT rowid, origin FROM zones")
 }
 
 /// The records of all zones.
@@ -155,8 +125,7 @@ pub fn all_records<S: Alter>(
     all(
         alloc,
         conn,
-        "SELECT rowid FROM records",
-        "SELECT origin, owner, type, data, ttl, owner_key FROM records",
+        "SELECT rowid, origin, owner, type, data, ttl, owner_key FROM records",
     )
 }
 
@@ -176,8 +145,7 @@ pub fn all_receipts<S: Alter>(
     all(
         alloc,
         conn,
-        "SELECT rowid FROM receipts",
-        "SELECT caller, id, origin, request, reply FROM receipts",
+        "SELECT rowid, caller, id, origin, request, reply FROM receipts",
     )
 }
 
@@ -197,8 +165,7 @@ pub fn all_changes<S: Alter>(
     all(
         alloc,
         conn,
-        "SELECT rowid FROM changes",
-        "SELECT origin, number, side, owner, type, data, ttl FROM changes",
+        "SELECT rowid, origin, number, side, owner, type, data, ttl FROM changes",
     )
 }
 

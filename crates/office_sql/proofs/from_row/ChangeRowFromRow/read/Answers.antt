@@ -1,4 +1,4 @@
-use Rattle.std.proofs.Common.{sym, subst, arith, rules}
+use Rattle.std.proofs.Common.{drop, sym, subst, rules}
 use Rattle.std.specs.Int.{w64}
 use Rattle.std.specs.Prelude.{FitsSigned}
 use Rattle.std.proofs.lemmas.Int.{to_z-of_z}
@@ -19,7 +19,7 @@ returns-clause-found c =
     let kind = c.in_ok-number_at-3.ensures.found in
     let words = c.in_ok-text_at-3.ensures.found in
     let ttl = c.in_ok-number_at-4.ensures.found in
-    let same = seven c.args.row.now _ _ _ _ _ _ _ (omega (arith, c.column_count.ensures)) origin.1 number.1 side.1 owner.1 kind.1 words.1 ttl.1 in (
+    let same = seven (drop c.args.first c.args.row.now) _ _ _ _ _ _ _ (search rules) origin.1 number.1 side.1 owner.1 kind.1 words.1 ttl.1 in (
       rw (to_z-of_z w64 c.in_ok-number_at.field-0 one, to_z-of_z w64 c.in_ok-number_at-2.field-0 two, to_z-of_z w64 c.in_ok-number_at-3.field-0 three, to_z-of_z w64 c.in_ok-number_at-4.field-0 four) same,
       subst IsReadableRow (sym same) (origin.2, (tt, (tt, (owner.2, (tt, (words.2, (tt, tt))))))),
     )

@@ -1,4 +1,4 @@
-use Rattle.std.proofs.Common.{sym, subst, arith, rules}
+use Rattle.std.proofs.Common.{drop, sym, subst, rules}
 use Rattle.std.specs.Int.{w64}
 use Rattle.std.specs.Prelude.{FitsSigned}
 use Rattle.std.proofs.lemmas.Int.{to_z-of_z}
@@ -16,5 +16,5 @@ returns-clause-found c =
     let words = c.in_ok-text_at-3.ensures.found in
     let ttl = c.in_ok-number_at-2.ensures.found in
     let key = c.in_ok-key_at.ensures.found in
-    let same = six c.args.row.now _ _ _ _ _ _ (omega (arith, c.column_count.ensures)) origin.1 owner.1 kind.1 words.1 ttl.1 key.1 in
+    let same = six (drop c.args.first c.args.row.now) _ _ _ _ _ _ (search rules) origin.1 owner.1 kind.1 words.1 ttl.1 key.1 in
     (rw (to_z-of_z w64 c.in_ok-number_at.field-0 one, to_z-of_z w64 c.in_ok-number_at-2.field-0 two) same, subst IsReadableRow (sym same) (origin.2, (owner.2, (tt, (words.2, (tt, (tt, tt)))))))
