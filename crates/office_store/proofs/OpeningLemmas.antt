@@ -1,5 +1,5 @@
 -- The checks of the tables, one after the other.
-use Rattle.std.proofs.Common.{◌≡◌, ℕ, ℤ, List, [], ◌∷◌, map, pos, false, Result, Ok, Err, IfOk, IfErr, OnOk, IsTrue, IsPermutation, inl, refl, sym, subst, ◌∙◌}
+use Rattle.std.proofs.Common.{◌≡◌, ℕ, ℤ, List, pos, false, Result, Ok, Err, IfOk, IfErr, OnOk, IsPermutation, inl, refl, sym, subst}
 use Rattle.std.proofs.lemmas.List.Sorted.{IsPermutation-trans, IsPermutation-sym}
 use Rattle.sqlite.specs.Effect.{Database}
 use Rattle.sqlite.specs.State.{State as Shown, HasCleanDisk, Shows}
@@ -8,15 +8,14 @@ use Rattle.office_sql.specs.declared.rows_fault.RowsFault.{RowsFault}
 use Rattle.office_sql.specs.declared.rows_fault.RowsFault.TheVariants as tables
 use Rattle.office_sql.specs.Rows.{RecordRowOf, ReceiptRowOf, ChangeRowOf, RowsOf}
 use Rattle.office_sql.specs.Tables.{stored_zone}
-use Rattle.office_sql.specs.Holds.{HasZones, HasRecords, HasReceipts, HasChanges, Holds, OnlyAsks, Reads}
-use Rattle.office_sql.proofs.Commits.{asks_then, shows_then, held_before, held_now, if_ok_with}
+use Rattle.office_sql.specs.Holds.{Holds, OnlyAsks, Reads}
+use Rattle.office_sql.proofs.Commits.{asks_then, shows_then, held_before, held_now}
 use Rattle.office_sql.proofs.Selections.{one_stored_zone}
-use Rattle.office_sql.proofs.TransactionParts.{on_part}
 use Rattle.office_sql.proofs.WholeTables.{reads_all, stored_same}
 use Rattle.office_rows.specs.declared.row_fault.RowFault.{RowFault}
 use Rattle.office_rows.specs.declared.row_fault.RowFault.TheVariants as rows
 use Rattle.office_rows.specs.declared.store_fault.StoreFault.{StoreFault}
-use Rattle.office_rows.specs.StoreFaults.{of_found, of_check, IsFailure, IsOfRows}
+use Rattle.office_rows.specs.StoreFaults.{of_found, of_check, IsFailure}
 use Rattle.office_rows.specs.Checks.{AreOriginRows, AreRecordsOf, AreChangesOf, AreReceiptRows, AreStateRows, Checks}
 use Rattle.office_rows.proofs.ListLemmas.{one_moved}
 use Rattle.office_rows.proofs.StateChecks.{state_of_rows, rows_of_state}

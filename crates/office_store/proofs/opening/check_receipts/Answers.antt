@@ -1,11 +1,8 @@
-use Rattle.std.proofs.Common.{ℕ, ℤ, List, map, Result, Ok, Err, sym, ap, subst}
-use Rattle.sqlite.specs.Effect.{Database}
+use Rattle.std.proofs.Common.{Err, sym, ap, subst}
 use Rattle.sqlite.specs.Held.{state}
-use Rattle.office_sql.specs.Rows.{RowsOf}
-use Rattle.office_sql.specs.Rows.{ReceiptRowOf}
 use Rattle.office_sql.specs.Holds.{HasReceipts}
 use Rattle.office_rows.specs.declared.store_fault.StoreFault.{StoreFault}
-use Rattle.office_rows.specs.Checks.{AreReceiptRows, Checks}
+use Rattle.office_rows.specs.Checks.{AreReceiptRows}
 use Rattle.office_store.specs.Opening.{IsCheck, ReceiptsIn}
 use Rattle.office_store.proofs.OpeningLemmas.{checked, unread, passed, was_bad, receipts_moved}
 use Rattle.office_store.proofs.opening.check_receipts.Goals as goal
