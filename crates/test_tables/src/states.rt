@@ -111,7 +111,7 @@ fn check(alloc: Global, version: i64, rows: AllRows) -> Result<(), RowFault> {
     if !is_alone(version, &rows.versions) {
         return Err(RowFault::BadRow);
     }
-    check_receipts(alloc, &rows.receipts)?;
+    check_receipts(alloc, rows.receipts)?;
     let origins = checked_origins(alloc, rows.zones)?;
     check_records(alloc, &origins, rows.records)?;
     check_changes(alloc, &origins, rows.changes)
