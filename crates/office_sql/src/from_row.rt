@@ -34,8 +34,8 @@ fn has_columns(row: &Row, first: usize, count: usize) -> bool
     row.column_count().saturating_sub(first) == count
 }
 
-/// The value at a place among the columns from a first one on. `BadRow` comes where there is none, or it is of another type, and
-/// `NoMemory` where memory runs out.
+/// The value at a place among the columns from a first one on. `BadRow` comes where the row ends before it or the value is of another
+/// type, and `NoMemory` where memory runs out.
 fn value_at<T: FromSql>(row: &Row, first: usize, at: usize) -> Result<T, RowsFault>
     requires { first + at ≤ 7 }
     ensures found { IfOk result (λ x. (at < length (drop first row.now)) × T.FromSql.reads_as (column (drop first row.now) at) x) }
@@ -48,7 +48,7 @@ fn value_at<T: FromSql>(row: &Row, first: usize, at: usize) -> Result<T, RowsFau
     }
 }
 
-/// The number at such a place. `BadRow` comes where there is none.
+/// The number at such a place. `BadRow` comes where the row ends before it or has something else there.
 fn number_at(row: &Row, first: usize, at: usize) -> Result<i64, RowsFault>
     requires { first + at ≤ 7 }
     ensures found { IfOk result (λ n. (at < length (drop first row.now)) × (column (drop first row.now) at ≡ Int n)) }
@@ -57,7 +57,7 @@ fn number_at(row: &Row, first: usize, at: usize) -> Result<i64, RowsFault>
     value_at(row, first, at)
 }
 
-/// The text at such a place. `BadRow` comes where there is none, or it is not UTF-8.
+/// The text at such a place. `BadRow` comes where the row ends before it or has something else there, or the text is not UTF-8.
 fn text_at(row: &Row, first: usize, at: usize) -> Result<String, RowsFault>
     requires { first + at ≤ 7 }
     ensures found { IfOk result (λ t. (at < length (drop first row.now)) × (column (drop first row.now) at ≡ Text (string_bytes t)) × IsUtf8 (string_bytes t)) }
@@ -68,7 +68,7 @@ fn text_at(row: &Row, first: usize, at: usize) -> Result<String, RowsFault>
     Ok(text)
 }
 
-/// The octets at such a place. `BadRow` comes where there are none.
+/// The octets at such a place. `BadRow` comes where the row ends before it or has something else there.
 fn key_at(row: &Row, first: usize, at: usize) -> Result<Vec<u8>, RowsFault>
     requires { first + at ≤ 7 }
     ensures found { IfOk result (λ key. (at < length (drop first row.now)) × (column (drop first row.now) at ≡ Blob key.items)) }
