@@ -2,6 +2,7 @@
 import json
 import os
 import socket
+import sqlite3
 import subprocess
 import sys
 import time
@@ -40,6 +41,30 @@ def additions(name, count):
     """An update that adds so many records."""
     adds = [{"op": "add", "name": "%s-%d.new.%s" % (name, i, ORIGIN), "ttl": 300, "type": "A", "data": "192.0.2.5"} for i in range(count)]
     return {"id": name, "operations": adds}
+
+
+def changes(history):
+    """The rows of changes: the SOA before and after, and the record that was added."""
+    for number in range(1, history + 1):
+        yield ORIGIN, number, 0, ORIGIN, 6, soa(number), 3600
+        yield ORIGIN, number, 1, ORIGIN, 6, soa(number + 1), 3600
+        yield ORIGIN, number, 1, "h%06d.old.%s" % (number, ORIGIN), 1, "192.0.2.5", 300
+
+
+def receipts(history):
+    for number in range(1, history + 1):
+        yield "admin", "h%06d" % number, ORIGIN, "add h%06d.old.%s 300 A 192.0.2.5\n" % (number, ORIGIN), "NOERROR"
+
+
+def put_history(store, history):
+    """Writes so many changes of one addition each into a store, with their receipts."""
+    db = sqlite3.connect(store, isolation_level=None)
+    db.execute("BEGIN")
+    db.executemany("INSERT INTO changes(origin, number, side, owner, type, data, ttl) VALUES(?, ?, ?, ?, ?, ?, ?)", changes(history))
+    db.executemany("INSERT INTO receipts(caller, id, origin, request, reply) VALUES(?, ?, ?, ?, ?)", receipts(history))
+    db.execute("COMMIT")
+    db.execute("PRAGMA wal_checkpoint(TRUNCATE)")
+    db.close()
 
 
 def posted(path, body, caller="admin"):
