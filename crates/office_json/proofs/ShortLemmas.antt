@@ -8,9 +8,10 @@ use Rattle.zone_core.specs.declared.rcode.Rcode.{Rcode}
 use Rattle.zone_core.specs.declared.rcode.Rcode.TheVariants.{NoError, FormErr, ServFail, NxDomain, NotImp, Refused, YxDomain, YxRrset, NxRrset, NotAuth, NotZone}
 use Rattle.zone_core.specs.declared.update.ItemList.{ItemList}
 use Rattle.zone_core.specs.declared.update.ItemList.TheVariants.{Prerequisites, Operations}
+use Rattle.zone_core.specs.Kinds.{list_word}
 use Rattle.zone_core.specs.Rcodes.{rcode_number, rcode_text}
 use Rattle.office_json.specs.Json.{escaped_octet, escaped, quoted, member, object}
-use Rattle.office_json.specs.Replies.{list_text, form_error_body, place_body, refusing_body, granted_body}
+use Rattle.office_json.specs.Replies.{form_error_body, place_body, refusing_body, granted_body}
 
 -- an octet of an identifier is no quote and no backslash
 not_this : (o n : ℕ) → is_identifier_octet n ≡ false → is_identifier_octet o ≡ true → eqb o n ≡ false
@@ -33,7 +34,7 @@ plain_octets (o ∷ text) e =
 plain_rule : (rule : List ℕ) → IsIdentifier rule → escaped rule ≡ rule
 plain_rule rule is = plain_octets rule is.octets
 
-plain_list : (list : ItemList) → escaped (list_text list) ≡ list_text list
+pub plain_list : (list : ItemList) → escaped (list_word list) ≡ list_word list
 plain_list Prerequisites = refl
 plain_list Operations = refl
 
@@ -82,12 +83,12 @@ pub form_error_text : (number : ℕ) → codes "{\"code\":1,\"name\":\"FORMERR\"
 form_error_text number = rw one_digit (simp append_assoc)
 
 pub place_text : (code : Rcode) (item : ℕ) (list : ItemList)
-    → codes "{\"code\":" ++ (decimal (rcode_number code) ++ (codes ",\"item\":" ++ (decimal item ++ (codes ",\"list\":\"" ++ (list_text list ++ (codes "\",\"name\":\"" ++ (rcode_text code ++ (codes "\"}" ++ []))))))))
+    → codes "{\"code\":" ++ (decimal (rcode_number code) ++ (codes ",\"item\":" ++ (decimal item ++ (codes ",\"list\":\"" ++ (list_word list ++ (codes "\",\"name\":\"" ++ (rcode_text code ++ (codes "\"}" ++ []))))))))
     ≡ place_body code item list
 place_text code item list =
     rw (plain_list list, plain_code code)
     (ap (λ (l : List ℕ). codes "{\"code\":" ++ l)
-    (sym (join_place (decimal (rcode_number code)) (codes ",\"item\":") (decimal item) (codes ",\"list\":\"") (list_text list) (codes "\"") (codes ",\"name\":\"") (rcode_text code) (codes "}"))))
+    (sym (join_place (decimal (rcode_number code)) (codes ",\"item\":") (decimal item) (codes ",\"list\":\"") (list_word list) (codes "\"") (codes ",\"name\":\"") (rcode_text code) (codes "}"))))
 
 pub refusing_text : (rule item list : List ℕ) → IsIdentifier rule → escaped list ≡ list
     → codes "{\"by\":\"" ++ (rule ++ (codes "\",\"code\":5,\"item\":" ++ (item ++ (codes ",\"list\":\"" ++ (list ++ (codes "\",\"name\":\"REFUSED\"}" ++ []))))))

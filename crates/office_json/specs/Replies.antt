@@ -7,11 +7,12 @@ use Rattle.dns_master.specs.ZoneText.{zone_text}
 use Rattle.zone_core.specs.declared.rcode.Rcode.{Rcode}
 use Rattle.zone_core.specs.declared.rcode.Rcode.TheVariants as rcodes
 use Rattle.zone_core.specs.declared.update.ItemList.{ItemList}
-use Rattle.zone_core.specs.declared.update.ItemList.TheVariants.{Prerequisites, Operations}
+use Rattle.zone_core.specs.declared.update.ItemList.TheVariants.{Prerequisites}
 use Rattle.zone_core.specs.declared.report.Glue.{Glue}
 use Rattle.zone_core.specs.declared.report.Glue.TheVariants.{Outside, Listed, Unlisted}
 use Rattle.zone_core.specs.declared.report.DelegatedServer.{DelegatedServer}
 use Rattle.zone_core.specs.declared.report.Delegation.{Delegation}
+use Rattle.zone_core.specs.Kinds.{list_word}
 use Rattle.zone_core.specs.Rcodes.{rcode_number, rcode_text, rcode_of}
 use Rattle.office_state.specs.declared.reply.UpdateReply.{UpdateReply}
 use Rattle.office_state.specs.declared.reply.UpdateReply.TheVariants as updates
@@ -52,14 +53,9 @@ form_error_body number = object (code_member rcodes.FormErr ∷ name_member rcod
 abbrev pub item_member : ℕ → List ℕ
 item_member item = member (codes "item") (decimal item)
 
--- what a list is called
-abbrev pub list_text : ItemList → List ℕ
-list_text Prerequisites = codes "prerequisites"
-list_text Operations = codes "operations"
-
 -- the list of an item
 abbrev pub list_member : ItemList → List ℕ
-list_member list = member (codes "list") (quoted (list_text list))
+list_member list = member (codes "list") (quoted (list_word list))
 
 -- a code, and the item that it is of
 abbrev pub place_body : Rcode → ℕ → ItemList → List ℕ
@@ -81,7 +77,7 @@ refusing_body rule item list =
 
 -- REFUSED, by a rule, and the item that it is of (RFC 2136 section 2.2)
 abbrev pub refused_body : List ℕ → ℕ → ItemList → List ℕ
-refused_body rule item list = refusing_body rule (decimal item) (list_text list)
+refused_body rule item list = refusing_body rule (decimal item) (list_word list)
 
 -- a reply to an update (RFC 2136 section 3)
 abbrev pub update_body : UpdateReply → List ℕ

@@ -3,29 +3,16 @@
 ghost use Rattle.std.specs.Prelude.{◌≡◌, ◌≤◌, ◌+◌, length, IsOk, codes};
 ghost use Rattle.std.specs.Vec.{vec_capacity};
 ghost use Rattle.grant_policy.specs.Identifiers.{IsIdentifier};
-ghost use Rattle.office_json.specs.Json.{escaped};
+ghost use Rattle.zone_core.specs.Kinds.{list_word};
 ghost use Rattle.office_json.specs.Appending.{Appends};
-ghost use Rattle.office_json.specs.Replies.{list_text, rule_of, refusal_body, code_body, form_error_body, place_body, refusing_body, refused_body, granted_body, update_body, right_body};
+ghost use Rattle.office_json.specs.Replies.{rule_of, refusal_body, code_body, form_error_body, place_body, refusing_body, refused_body, granted_body, update_body, right_body};
 
 use crate::piece::push_all;
-use grant_policy::Identifier;
+use grant_policy::{CLOSING, Identifier};
 use itoa::Buffer;
 use office_state::{Right, UpdateReply};
 use std::alloc::AllocError;
 use zone_core::{ItemList, Rcode};
-
-/// What a list is called.
-const fn list_text(list: ItemList) -> &'static str
-    ensures text { result.now ≡ list_text list }
-    ensures short { length result.now ≤ 13 }
-    // Nothing in it is escaped.
-    ensures plain { escaped result.now ≡ result.now }
-{
-    match list {
-        ItemList::Prerequisites => "prerequisites",
-        ItemList::Operations => "operations",
-    }
-}
 
 /// The identifier of a rule, or the name of the closing default.
 fn rule_of(by: &Option<Identifier>) -> &[u8]
@@ -34,7 +21,7 @@ fn rule_of(by: &Option<Identifier>) -> &[u8]
 {
     match by {
         Some(rule) => rule.as_bytes(),
-        None => b"closing",
+        None => CLOSING.as_bytes(),
     }
 }
 
@@ -101,7 +88,7 @@ fn push_place(out: &mut Vec<u8>, code: Rcode, item: usize, list: ItemList) -> Re
             r#","item":"#.as_bytes(),
             item,
             r#","list":""#.as_bytes(),
-            list_text(list).as_bytes(),
+            list.text().as_bytes(),
             r#"","name":""#.as_bytes(),
             code.text().as_bytes(),
             r#""}"#.as_bytes(),
@@ -120,7 +107,7 @@ fn push_refused(
     ensures room { length out.old.items + 256 ≤ vec_capacity out.old → IsOk result }
 {
     let mut digits = Buffer::new();
-    push_refusal_of(out, rule_of(by), digits.format(item), list_text(list))
+    push_refusal_of(out, rule_of(by), digits.format(item), list)
 }
 
 /// REFUSED, by a rule, and the item that it is of: the digits of its number, and its list.
@@ -128,13 +115,11 @@ fn push_refusal_of<'a>(
     out: &mut Vec<u8>,
     rule: &'a [u8],
     item: &'a str,
-    list: &'a str,
+    list: ItemList,
 ) -> Result<(), AllocError>
     requires rule { IsIdentifier rule.now }
     requires item { length item.now ≤ 40 }
-    requires list { length list.now ≤ 13 }
-    requires plain { escaped list.now ≡ list.now }
-    ensures text { Appends out.old out.new (refusing_body rule.now item.now list.now) result }
+    ensures text { Appends out.old out.new (refusing_body rule.now item.now (list_word list)) result }
     ensures room { length out.old.items + 256 ≤ vec_capacity out.old → IsOk result }
 {
     push_all(
@@ -145,7 +130,7 @@ fn push_refusal_of<'a>(
             r#"","code":5,"item":"#.as_bytes(),
             item.as_bytes(),
             r#","list":""#.as_bytes(),
-            list.as_bytes(),
+            list.text().as_bytes(),
             r#"","name":"REFUSED"}"#.as_bytes(),
         ],
     )

@@ -24,13 +24,15 @@ use Rattle.zone_core.specs.declared.rcode.Rcode.TheVariants as rcodes
 use Rattle.zone_core.specs.declared.update.ItemList.{ItemList}
 use Rattle.zone_core.specs.declared.update.ItemList.TheVariants as lists
 use Rattle.zone_core.specs.declared.update.Place.{Place}
+use Rattle.zone_core.specs.Kinds.{list_word, list_named}
 use Rattle.zone_core.specs.Rcodes.{rcode_text, rcode_of}
+use Rattle.zone_core.proofs.KindLemmas.{list_own, rcode_own}
 use Rattle.office_state.specs.declared.reply.UpdateReply.{UpdateReply}
 use Rattle.office_state.specs.declared.reply.UpdateReply.TheVariants.{NoError, NotAuth, NotZone, Refused, Failed}
 use Rattle.office_rows.specs.declared.row_fault.RowFault.TheVariants.{BadRow}
-use Rattle.office_rows.specs.ReplyWords.{list_word, place_items, denier_item, reply_items, reply_words, Wording, Current, Former, is_by_default, items_in, words_in, AreWordsOf, IsReply}
+use Rattle.office_rows.specs.ReplyWords.{place_items, denier_item, reply_items, reply_words, Wording, Current, Former, is_by_default, items_in, words_in, AreWordsOf, IsReply}
 use Rattle.office_rows.specs.RowFaults.{◌>>=◌}
-use Rattle.office_rows.specs.RowReading.{or_bad, identifier_in, code_named, list_named, number_named, reply_with, reply_at, denier_in, denied_by, reply_of, reply_in}
+use Rattle.office_rows.specs.RowReading.{or_bad, identifier_in, number_named, reply_with, reply_at, denier_in, denied_by, reply_of, reply_in}
 use Rattle.office_rows.proofs.RowSteps.{done, ok_is}
 use Rattle.office_rows.proofs.FieldsLaws.{fields_read}
 
@@ -41,23 +43,6 @@ identifier_read id is =
     ap (λ (b : Bool). cond b (done id) (Err BadRow))
     (and_from (nat_lt 0 (length id)) (nat_le (length id) 64 && list_all is_identifier_octet id) (lt-ltb 0 (length id) is.not_empty)
     (and_from (nat_le (length id) 64) (list_all is_identifier_octet id) (le-leb (length id) 64 is.short) is.octets))
-
-code_read : (code : Rcode) → code_named (rcode_text code) ≡ Some code
-code_read rcodes.NoError = refl
-code_read rcodes.FormErr = refl
-code_read rcodes.ServFail = refl
-code_read rcodes.NxDomain = refl
-code_read rcodes.NotImp = refl
-code_read rcodes.Refused = refl
-code_read rcodes.YxDomain = refl
-code_read rcodes.YxRrset = refl
-code_read rcodes.NxRrset = refl
-code_read rcodes.NotAuth = refl
-code_read rcodes.NotZone = refl
-
-list_read : (list : ItemList) → list_named (list_word list) ≡ Some list
-list_read lists.Prerequisites = refl
-list_read lists.Operations = refl
 
 number_read : (n : ℕ) → n < 2 ^ 64 → number_named (decimal n) ≡ Some n
 number_read n h =
@@ -71,8 +56,8 @@ number_read n h =
 
 item_read : (code : Rcode) (list : ItemList) (n : ℕ) → n < 2 ^ 64 → reply_at (rcode_text code) (list_word list) (decimal n) ≡ reply_with code list n
 item_read code list n h =
-    ap (λ o. or_bad o >>= λ c. or_bad (list_named (list_word list)) >>= λ l. or_bad (number_named (decimal n)) >>= λ m. reply_with c l m) (code_read code)
-    ∙ ap (λ o. or_bad o >>= λ l. or_bad (number_named (decimal n)) >>= λ m. reply_with code l m) (list_read list)
+    ap (λ o. or_bad o >>= λ c. or_bad (list_named (list_word list)) >>= λ l. or_bad (number_named (decimal n)) >>= λ m. reply_with c l m) (rcode_own code)
+    ∙ ap (λ o. or_bad o >>= λ l. or_bad (number_named (decimal n)) >>= λ m. reply_with code l m) (list_own list)
     ∙ ap (λ o. or_bad o >>= λ m. reply_with code list m) (number_read n h)
 
 -- who denied an item is read

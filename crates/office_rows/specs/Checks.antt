@@ -76,7 +76,7 @@ pub record AreRowsByTable (texts : List (List ℕ)) (record_rows : List RecordRo
   pub records : AreRecordsOf origins record_rows
   pub changes : AreChangesOf origins change_rows
 
--- rows are those of zones exactly where they are so by table
+-- Rows of three tables are those of zones exactly where each table has rows of the zones of the same origins.
 abbrev pub RowsAreByTable : Type 0
 RowsAreByTable = (texts : List (List ℕ)) (records : List RecordRowOf) (changes : List ChangeRowOf) → AreZoneRows texts records changes ↔ AreRowsByTable texts records changes
 
@@ -93,7 +93,7 @@ pub record AreStateRows (version : ℤ) (rows : RowsOf) : Type 0 where
   pub zones : AreZoneRows rows.zones rows.records rows.changes
   pub receipts : AreReceiptRows rows.receipts
 
--- rows are those of some state exactly where they are a state
+-- There is a state of these rows exactly where they are the one version, the rows of zones and those of receipts.
 abbrev pub StatesAreByTable : Type 0
 StatesAreByTable = (version : ℤ) (rows : RowsOf) → AreStateRows version rows ↔ ((s : State) × AreOfState version rows s)
 

@@ -3,17 +3,12 @@ use Rattle.std.specs.Prelude.{◌≡◌, ℕ, ◌^◌, ◌<◌, List, [], ◌∷
 use Rattle.dns_data.specs.Items.{ItemText, plain, in_quotes, items_text}
 use Rattle.grant_policy.specs.Identifiers.{IsIdentifier}
 use Rattle.zone_core.specs.declared.rcode.Rcode.TheVariants as rcodes
-use Rattle.zone_core.specs.declared.update.ItemList.{ItemList}
-use Rattle.zone_core.specs.declared.update.ItemList.TheVariants.{Prerequisites, Operations}
+use Rattle.zone_core.specs.declared.update.ItemList.TheVariants.{Prerequisites}
 use Rattle.zone_core.specs.declared.update.Place.{Place}
+use Rattle.zone_core.specs.Kinds.{list_word}
 use Rattle.zone_core.specs.Rcodes.{rcode_text, rcode_of}
 use Rattle.office_state.specs.declared.reply.UpdateReply.{UpdateReply}
 use Rattle.office_state.specs.declared.reply.UpdateReply.TheVariants.{NoError, NotAuth, NotZone, Refused, Failed}
-
--- what a list of an update is called
-abbrev pub list_word : ItemList → List ℕ
-list_word Prerequisites = codes "prerequisites"
-list_word Operations = codes "operations"
 
 -- an item: its list, and its number from 0 in decimal digits
 abbrev pub place_items : Place → List ItemText

@@ -22,7 +22,8 @@ use Rattle.zone_core.specs.declared.rcode.Rcode.{Rcode}
 use Rattle.zone_core.specs.declared.rcode.Rcode.TheVariants as rcodes
 use Rattle.zone_core.specs.declared.update.ItemList.{ItemList}
 use Rattle.zone_core.specs.declared.update.ItemList.TheVariants as lists
-use Rattle.zone_core.specs.Rcodes.{rcode_text}
+use Rattle.zone_core.specs.Kinds.{list_named}
+use Rattle.zone_core.specs.Rcodes.{rcode_named}
 use Rattle.zone_core.specs.Updates.{UpdateOf, place_in}
 use Rattle.zone_core.specs.Prerequisites.{failed}
 use Rattle.zone_core.specs.Zones.{ZoneOf, built}
@@ -40,7 +41,6 @@ use Rattle.office_rows.specs.declared.row_fault.RowFault.TheVariants.{BadRow}
 use Rattle.office_rows.specs.declared.side.Side.{Side}
 use Rattle.office_rows.specs.declared.side.Side.TheVariants as sides
 use Rattle.office_rows.specs.RowFaults.{◌>>=◌, of_names, of_datas, of_masters, of_updates_in, of_zones, canonical}
-use Rattle.office_rows.specs.ReplyWords.{list_word}
 
 -- what is found, or that a row is bad
 abbrev pub or_bad : {A : Type 0} → Option A → Result A RowFault
@@ -115,23 +115,6 @@ record_in row = record_from row.owner row.record_type row.rdata row.ttl
 
 -- ---- replies
 
--- the codes that there are (RFC 2136 section 2.2)
-abbrev pub all_codes : List Rcode
-all_codes =
-    rcodes.NoError ∷ rcodes.FormErr ∷ rcodes.ServFail ∷ rcodes.NxDomain ∷ rcodes.NotImp ∷ rcodes.Refused ∷ rcodes.YxDomain ∷ rcodes.YxRrset
-    ∷ rcodes.NxRrset ∷ rcodes.NotAuth ∷ rcodes.NotZone ∷ []
-
--- the code that is called so
-abbrev pub code_named : List ℕ → Option Rcode
-code_named word = find (λ code. bytes_eq (rcode_text code) word) all_codes
-
-abbrev pub all_lists : List ItemList
-all_lists = lists.Prerequisites ∷ lists.Operations ∷ []
-
--- the list that is called so
-abbrev pub list_named : List ℕ → Option ItemList
-list_named word = find (λ list. bytes_eq (list_word list) word) all_lists
-
 -- a number of 64 bits
 abbrev pub number_named : List ℕ → Option ℕ
 number_named word = if is_number word && nat_le (digits_value 10 word) (2 ^ 64 - 1) then Some (digits_value 10 word) else None
@@ -156,7 +139,7 @@ reply_with code list n = Err BadRow
 -- a reply of a code, a list and the number of an item
 abbrev pub reply_at : List ℕ → List ℕ → List ℕ → Result UpdateReply RowFault
 reply_at code list item =
-    or_bad (code_named code) >>= λ c. or_bad (list_named list) >>= λ l. or_bad (number_named item) >>= λ n. reply_with c l n
+    or_bad (rcode_named code) >>= λ c. or_bad (list_named list) >>= λ l. or_bad (number_named item) >>= λ n. reply_with c l n
 
 -- who denied an item: the closing default, by its word, which is not in quotes, or a rule
 abbrev pub denier_in : ItemText → Result (Option (List ℕ)) RowFault
@@ -170,7 +153,7 @@ denied_by reply by = Err BadRow
 
 -- a reply by its words, whatever their spelling; a denial by nobody is one by the closing default
 abbrev pub reply_of : List ItemText → Result UpdateReply RowFault
-reply_of (code ∷ []) = or_bad (code_named code.raw) >>= reply_alone
+reply_of (code ∷ []) = or_bad (rcode_named code.raw) >>= reply_alone
 reply_of (code ∷ list ∷ item ∷ []) = reply_at code.raw list.raw item.raw
 reply_of (code ∷ list ∷ item ∷ by ∷ []) = denier_in by >>= λ d. reply_at code.raw list.raw item.raw >>= λ reply. denied_by reply d
 reply_of words = Err BadRow

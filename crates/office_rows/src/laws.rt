@@ -25,12 +25,12 @@ pub fn change_rows_are_apart()
     ensures { ChangeRowsAreApart }
 {}
 
-/// Rows are those of a state exactly where the version, the rows of zones and those of receipts are.
+/// There is a state of these rows exactly where they are the one version, the rows of zones and those of receipts.
 pub fn states_are_by_table()
     ensures { StatesAreByTable }
 {}
 
-/// Rows are those of zones exactly where the rows of each table are of zones of the same origins.
+/// Rows of three tables are those of zones exactly where each table has rows of the zones of the same origins.
 pub fn rows_are_by_table()
     ensures { RowsAreByTable }
 {}

@@ -5,9 +5,9 @@ ghost use Rattle.std.specs.Str.Parse.{digits_value};
 ghost use Rattle.dns_data.specs.Items.{item_of, item_text};
 ghost use Rattle.dns_data.specs.Numbers.{is_number};
 ghost use Rattle.office_state.specs.declared.reply.UpdateReply.{UpdateReply as ReplyOf};
-ghost use Rattle.office_rows.specs.ReplyWords.{list_word, denier_item, reply_words, is_by_default, AreWordsOf, IsReply};
+ghost use Rattle.office_rows.specs.ReplyWords.{denier_item, reply_words, is_by_default, AreWordsOf, IsReply};
 ghost use Rattle.office_rows.specs.RowFaults.{Reads};
-ghost use Rattle.office_rows.specs.RowReading.{code_named, list_named, number_named, reply_alone, reply_with, reply_at, denier_in, denied_by, reply_of, reply_in};
+ghost use Rattle.office_rows.specs.RowReading.{number_named, reply_alone, reply_with, reply_at, denier_in, denied_by, reply_of, reply_in};
 
 use crate::columns::{fields_of, identifier_in, identifier_text};
 use crate::row_fault::RowFault;
@@ -17,36 +17,8 @@ use office_state::UpdateReply;
 use std::alloc::{AllocError, Global};
 use zone_core::{Failed, ItemList, Place, PrerequisiteCode, Rcode};
 
-/// The codes that there are (RFC 2136 section 2.2).
-const CODES: [Rcode; 11] = [
-    Rcode::NoError,
-    Rcode::FormErr,
-    Rcode::ServFail,
-    Rcode::NxDomain,
-    Rcode::NotImp,
-    Rcode::Refused,
-    Rcode::YxDomain,
-    Rcode::YxRrset,
-    Rcode::NxRrset,
-    Rcode::NotAuth,
-    Rcode::NotZone,
-];
-
-/// The lists of an update.
-const LISTS: [ItemList; 2] = [ItemList::Prerequisites, ItemList::Operations];
-
 /// An identifier that is this word, which no rule of a policy has.
 const QUOTED_CLOSING: &str = "\"closing\"";
-
-/// What a list of an update is called.
-const fn list_word(list: ItemList) -> &'static str
-    ensures { result.now ≡ list_word list }
-{
-    match list {
-        ItemList::Prerequisites => "prerequisites",
-        ItemList::Operations => "operations",
-    }
-}
 
 /// A reply in words, with one space between them: the name of its code; then, as far as it has them, the list, the item's number
 /// from 0, and the identifier of the rule that denied it or `closing`. The only error is out of memory.
@@ -56,13 +28,13 @@ pub fn reply_words(alloc: Global, reply: &UpdateReply) -> Result<String, AllocEr
     let code = reply.rcode().text();
     match reply {
         UpdateReply::NoError | UpdateReply::NotAuth => String::from_str(alloc, code),
-        UpdateReply::NotZone(place) => words_at(alloc, code, list_word(place.list), place.item),
+        UpdateReply::NotZone(place) => words_at(alloc, code, place.list.text(), place.item),
         UpdateReply::Refused { place, by } => {
-            let words = words_at(alloc, code, list_word(place.list), place.item)?;
+            let words = words_at(alloc, code, place.list.text(), place.item)?;
             with_denier(words, by)
         }
         UpdateReply::Failed(failed) => {
-            words_at(alloc, code, list_word(ItemList::Prerequisites), failed.item)
+            words_at(alloc, code, ItemList::Prerequisites.text(), failed.item)
         }
     }
 }
@@ -168,26 +140,6 @@ fn reveal_number(number: &usize)
     let _number = *number;
 }
 
-/// The code that is called so.
-fn code_named(word: &[u8]) -> Option<Rcode>
-    ensures { result ≡ code_named word.now }
-{
-    CODES
-        .iter()
-        .copied()
-        .find(|code| code.text().as_bytes() == word)
-}
-
-/// The list that is called so.
-fn list_named(word: &[u8]) -> Option<ItemList>
-    ensures { result ≡ list_named word.now }
-{
-    LISTS
-        .iter()
-        .copied()
-        .find(|list| list_word(*list).as_bytes() == word)
-}
-
 /// The number that decimal digits write, unless it is above `most`.
 fn digits_up_to(digits: &[u8], most: usize) -> Option<usize>
     requires { is_number digits.now ≡ true }
@@ -248,8 +200,8 @@ fn reply_with(code: Rcode, list: ItemList, item: usize) -> Result<UpdateReply, R
 fn reply_at(code: &[u8], list: &[u8], item: &[u8]) -> Result<UpdateReply, RowFault>
     ensures { result ≡ reply_at code.now list.now item.now }
 {
-    let code = code_named(code).ok_or(RowFault::BadRow)?;
-    let list = list_named(list).ok_or(RowFault::BadRow)?;
+    let code = Rcode::read(code).ok_or(RowFault::BadRow)?;
+    let list = ItemList::read(list).ok_or(RowFault::BadRow)?;
     let item = number_named(item).ok_or(RowFault::BadRow)?;
     reply_with(code, list, item)
 }
@@ -294,7 +246,7 @@ fn reply_of(alloc: Global, words: &[Item]) -> Result<UpdateReply, RowFault>
 {
     match words {
         [] => Err(RowFault::BadRow),
-        [code] => reply_alone(code_named(code.raw).ok_or(RowFault::BadRow)?),
+        [code] => reply_alone(Rcode::read(code.raw).ok_or(RowFault::BadRow)?),
         [_, _] => Err(RowFault::BadRow),
         [code, list, item] => reply_at(code.raw, list.raw, item.raw),
         [code, list, item, by] => reply_by(alloc, code, list, item, by),

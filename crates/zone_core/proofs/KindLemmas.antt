@@ -1,4 +1,4 @@
--- The kinds by their words.
+-- Kinds, lists and codes by their words.
 use Rattle.std.proofs.Common.{◌≡◌, ◌↔◌, ℕ, List, Option, Some, None, refl}
 use Rattle.std.specs.Prelude.{bytes_eq}
 use Rattle.std.specs.List.{find}
@@ -7,7 +7,12 @@ use Rattle.zone_core.specs.declared.kind.PrerequisiteKind.{PrerequisiteKind}
 use Rattle.zone_core.specs.declared.kind.PrerequisiteKind.TheVariants.{RrsetExists, RrsetEquals, RrsetAbsent, NameUsed, NameUnused}
 use Rattle.zone_core.specs.declared.kind.OperationKind.{OperationKind}
 use Rattle.zone_core.specs.declared.kind.OperationKind.TheVariants.{Add, DeleteRrset, DeleteName, DeleteRecord}
-use Rattle.zone_core.specs.Kinds.{prerequisite_word, operation_word, prerequisite_kinds, operation_kinds, prerequisite_named, operation_named}
+use Rattle.zone_core.specs.declared.rcode.Rcode.{Rcode}
+use Rattle.zone_core.specs.declared.rcode.Rcode.TheVariants as rcodes
+use Rattle.zone_core.specs.declared.update.ItemList.{ItemList}
+use Rattle.zone_core.specs.declared.update.ItemList.TheVariants.{Prerequisites, Operations}
+use Rattle.zone_core.specs.Kinds.{prerequisite_word, operation_word, list_word, prerequisite_kinds, operation_kinds, item_lists, prerequisite_named, operation_named, list_named}
+use Rattle.zone_core.specs.Rcodes.{rcode_text, rcode_named, all_rcodes}
 
 prerequisite_own : (k : PrerequisiteKind) → find (λ s. bytes_eq (prerequisite_word s) (prerequisite_word k)) prerequisite_kinds ≡ Some k
 prerequisite_own RrsetExists = refl
@@ -41,3 +46,26 @@ no_prerequisite Add = refl
 no_prerequisite DeleteRrset = refl
 no_prerequisite DeleteName = refl
 no_prerequisite DeleteRecord = refl
+
+pub list_own : (list : ItemList) → list_named (list_word list) ≡ Some list
+list_own Prerequisites = refl
+list_own Operations = refl
+
+pub list_called : (word : List ℕ) (found : Option ItemList) → found ≡ list_named word → (list : ItemList) → (found ≡ Some list) ↔ (list_word list ≡ word)
+list_called = by_word list_word item_lists list_own
+
+pub rcode_own : (code : Rcode) → rcode_named (rcode_text code) ≡ Some code
+rcode_own rcodes.NoError = refl
+rcode_own rcodes.FormErr = refl
+rcode_own rcodes.ServFail = refl
+rcode_own rcodes.NxDomain = refl
+rcode_own rcodes.NotImp = refl
+rcode_own rcodes.Refused = refl
+rcode_own rcodes.YxDomain = refl
+rcode_own rcodes.YxRrset = refl
+rcode_own rcodes.NxRrset = refl
+rcode_own rcodes.NotAuth = refl
+rcode_own rcodes.NotZone = refl
+
+pub rcode_called : (word : List ℕ) (found : Option Rcode) → found ≡ rcode_named word → (code : Rcode) → (found ≡ Some code) ↔ (rcode_text code ≡ word)
+rcode_called = by_word rcode_text all_rcodes rcode_own

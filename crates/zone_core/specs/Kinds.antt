@@ -1,10 +1,12 @@
--- The kinds of prerequisites and of operations, and what each is called in requests.
+-- The kinds of prerequisites and of operations, and what each is called in requests; and the two lists of an update.
 use Rattle.std.specs.Prelude.{ℕ, List, [], ◌∷◌, Option, bytes_eq, codes}
 use Rattle.std.specs.List.{find}
 use Rattle.zone_core.specs.declared.kind.PrerequisiteKind.{PrerequisiteKind}
 use Rattle.zone_core.specs.declared.kind.PrerequisiteKind.TheVariants as tests
 use Rattle.zone_core.specs.declared.kind.OperationKind.{OperationKind}
 use Rattle.zone_core.specs.declared.kind.OperationKind.TheVariants as changes
+use Rattle.zone_core.specs.declared.update.ItemList.{ItemList}
+use Rattle.zone_core.specs.declared.update.ItemList.TheVariants.{Prerequisites, Operations}
 use Rattle.zone_core.specs.declared.update.Prerequisite.{Prerequisite}
 use Rattle.zone_core.specs.declared.update.Prerequisite.TheVariants.{RrsetExists, RrsetEquals, RrsetAbsent, NameUsed, NameUnused}
 use Rattle.zone_core.specs.declared.update.Operation.{Operation}
@@ -24,6 +26,19 @@ operation_word changes.Add = codes "add"
 operation_word changes.DeleteRrset = codes "delete-rrset"
 operation_word changes.DeleteName = codes "delete-name"
 operation_word changes.DeleteRecord = codes "delete-record"
+
+-- what a list of an update is called
+abbrev pub list_word : ItemList → List ℕ
+list_word Prerequisites = codes "prerequisites"
+list_word Operations = codes "operations"
+
+-- the lists of an update
+abbrev pub item_lists : List ItemList
+item_lists = Prerequisites ∷ Operations ∷ []
+
+-- the list that is called so, as it is written
+abbrev pub list_named : List ℕ → Option ItemList
+list_named word = find (λ list. bytes_eq (list_word list) word) item_lists
 
 -- the kinds of prerequisites that there are (RFC 2136 section 2.4)
 abbrev pub prerequisite_kinds : List PrerequisiteKind

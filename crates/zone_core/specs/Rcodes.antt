@@ -1,5 +1,6 @@
 -- The codes of replies (RFC 2136 section 2.2, RFC 1035 section 4.1.1).
-use Rattle.std.specs.Prelude.{ℕ, List, codes}
+use Rattle.std.specs.Prelude.{ℕ, List, [], ◌∷◌, Option, bytes_eq, codes}
+use Rattle.std.specs.List.{find}
 use Rattle.zone_core.specs.declared.rcode.Rcode.{Rcode}
 use Rattle.zone_core.specs.declared.prerequisite_code.PrerequisiteCode.{PrerequisiteCode}
 use Rattle.zone_core.specs.declared.prerequisite_code.PrerequisiteCode.TheVariants as prerequisites
@@ -32,6 +33,15 @@ rcode_text YxRrset = codes "YXRRSET"
 rcode_text NxRrset = codes "NXRRSET"
 rcode_text NotAuth = codes "NOTAUTH"
 rcode_text NotZone = codes "NOTZONE"
+
+-- the codes that there are (RFC 2136 section 2.2)
+abbrev pub all_rcodes : List Rcode
+all_rcodes =
+    NoError ∷ FormErr ∷ ServFail ∷ NxDomain ∷ NotImp ∷ Refused ∷ YxDomain ∷ YxRrset ∷ NxRrset ∷ NotAuth ∷ NotZone ∷ []
+
+-- the code that is called so, as it is written
+abbrev pub rcode_named : List ℕ → Option Rcode
+rcode_named word = find (λ code. bytes_eq (rcode_text code) word) all_rcodes
 
 -- the code of the reply where a prerequisite does not hold (RFC 2136 section 2.4)
 abbrev pub rcode_of : PrerequisiteCode → Rcode

@@ -1,7 +1,7 @@
 //! The codes of replies.
 
-ghost use Rattle.std.specs.Prelude.{◌≡◌};
-ghost use Rattle.zone_core.specs.Rcodes.{rcode_number, rcode_text};
+ghost use Rattle.std.specs.Prelude.{◌≡◌, ◌↔◌, Some};
+ghost use Rattle.zone_core.specs.Rcodes.{rcode_number, rcode_text, rcode_named};
 
 /// The code of a reply to an update (RFC 2136 section 2.2, RFC 1035 section 4.1.1).
 #[derive(Clone, Copy, Debug, PartialEq, Eq)]
@@ -31,6 +31,21 @@ pub enum Rcode {
 }
 
 impl Rcode {
+    /// The codes that there are.
+    pub const ALL: [Rcode; 11] = [
+        Rcode::NoError,
+        Rcode::FormErr,
+        Rcode::ServFail,
+        Rcode::NxDomain,
+        Rcode::NotImp,
+        Rcode::Refused,
+        Rcode::YxDomain,
+        Rcode::YxRrset,
+        Rcode::NxRrset,
+        Rcode::NotAuth,
+        Rcode::NotZone,
+    ];
+
     /// The one table of codes.
     const fn row(self) -> (u8, &'static str)
         ensures number { result.0 ≡ rcode_number self }
@@ -63,5 +78,23 @@ impl Rcode {
         ensures { result.now ≡ rcode_text self }
     {
         self.row().1
+    }
+
+    /// The code of this name, which is read only as it is written.
+    pub fn read(word: &[u8]) -> Option<Rcode>
+        ensures exact { result ≡ rcode_named word.now }
+        ensures spelled { (code : Rcode) → (result ≡ Some code) ↔ (rcode_text code ≡ word.now) }
+    {
+        Rcode::called(word)
+    }
+
+    /// The first of the codes with this name.
+    fn called(word: &[u8]) -> Option<Rcode>
+        ensures { result ≡ rcode_named word.now }
+    {
+        Rcode::ALL
+            .iter()
+            .copied()
+            .find(|code| code.text().as_bytes() == word)
     }
 }

@@ -1,8 +1,9 @@
 //! Updates: prerequisites and operations (RFC 2136 sections 2.4 and 2.5).
 
-ghost use Rattle.std.specs.Prelude.{◌≡◌, ◌↔◌, None, IfOk, IsTrue, length, not};
+ghost use Rattle.std.specs.Prelude.{◌≡◌, ◌↔◌, ◌≤◌, None, Some, IfOk, IsTrue, length, not};
 ghost use Rattle.std.specs.List.{filter, position};
 ghost use Rattle.dns_names.specs.Labels.{is_within};
+ghost use Rattle.zone_core.specs.Kinds.{list_word, list_named};
 ghost use Rattle.zone_core.specs.Updates.{tested_name, acted_name, adds_soa, update_of, IsUpdate, ActsWithin, first_outside, same_update};
 
 use crate::invariants::{reveal_operations, reveal_prerequisites};
@@ -49,6 +50,40 @@ pub enum ItemList {
     Prerequisites,
     /// The operations.
     Operations,
+}
+
+impl ItemList {
+    /// The two lists.
+    pub const ALL: [ItemList; 2] = [ItemList::Prerequisites, ItemList::Operations];
+
+    /// The word for it in replies.
+    pub const fn text(self) -> &'static str
+        ensures text { result.now ≡ list_word self }
+        ensures short { length result.now ≤ 13 }
+    {
+        match self {
+            ItemList::Prerequisites => "prerequisites",
+            ItemList::Operations => "operations",
+        }
+    }
+
+    /// The list of this word, which is read only as it is written.
+    pub fn read(word: &[u8]) -> Option<ItemList>
+        ensures exact { result ≡ list_named word.now }
+        ensures spelled { (list : ItemList) → (result ≡ Some list) ↔ (list_word list ≡ word.now) }
+    {
+        ItemList::called(word)
+    }
+
+    /// The first of the lists with this word.
+    fn called(word: &[u8]) -> Option<ItemList>
+        ensures { result ≡ list_named word.now }
+    {
+        ItemList::ALL
+            .iter()
+            .copied()
+            .find(|list| list.text().as_bytes() == word)
+    }
 }
 
 /// An item of an update: its list, and its number in it, from 0.
