@@ -66,7 +66,7 @@ fn granted(
     ensures value { IfOk result (λ rs. rs.items ≡ listed grants.old.rules grants.old.caller records.items) }
     ensures same { grants.new ≡ grants.old }
 {
-    let mut all = Vec::new(alloc);
+    let mut all = Vec::with_capacity(alloc, records.len())?;
     for record in records {
         all = with_listed(all, grants, record)?;
     }

@@ -14,7 +14,7 @@ use Rattle.dns_data.specs.Types.{type_number}
 use Rattle.dns_data.specs.Text.{data_text}
 use Rattle.zone_core.specs.Sets.{InOrder}
 use Rattle.zone_core.specs.Changes.{ChangeOf, is_empty}
-use Rattle.office_sql.specs.Rows.{ChangeRowOf}
+use Rattle.office_sql.specs.Rows.{ChangeRowOf, RecordRowOf}
 use Rattle.office_rows.specs.declared.changes.ChangedRecord.{ChangedRecord}
 use Rattle.office_rows.specs.declared.side.Side.{Side}
 use Rattle.office_rows.specs.declared.side.Side.TheVariants.{Removed, Added}
@@ -44,6 +44,18 @@ change_row origin number side r = record {
   record_type = pos (type_number (type_of r.rdata));
   rdata = data_text r.rdata;
   ttl = pos r.ttl;
+}
+
+-- the same by the row of the record among those of its zone
+abbrev pub row_on_side : ℕ → Side → RecordRowOf → ChangeRowOf
+row_on_side number side row = record {
+  origin = row.origin;
+  number = pos number;
+  side = side_number side;
+  owner = row.owner;
+  record_type = row.record_type;
+  rdata = row.rdata;
+  ttl = row.ttl;
 }
 
 -- the row of such a record

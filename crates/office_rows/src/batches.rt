@@ -1,6 +1,6 @@
 //! Batches.
 
-ghost use Rattle.std.specs.Prelude.{◌≡◌, [], ℕ, pos, map, false, Some, None, IsSome, IfOk, MatchOption};
+ghost use Rattle.std.specs.Prelude.{◌≡◌, [], ℕ, pos, false, Some, None, IsSome, IfOk, MatchOption};
 ghost use Rattle.dns_names.specs.Labels.{IsName};
 ghost use Rattle.zone_core.specs.Sets.{is_same};
 ghost use Rattle.zone_core.specs.Zones.{IsZone};
@@ -8,15 +8,13 @@ ghost use Rattle.zone_core.specs.Changes.{change_between, change_in};
 ghost use Rattle.office_state.specs.States.{Held, State};
 ghost use Rattle.office_state.specs.Tables.{Fits, addition_in, committed};
 ghost use Rattle.office_rows.specs.Contents.{IsReceiptAt};
-ghost use Rattle.office_rows.specs.RecordRows.{record_row};
 ghost use Rattle.office_rows.specs.Batches.{Leads, IsNext, with_zone, with_zone_replaced, receipt_at, receipt_rows, receipts_batch, change_batch, zone_batch};
 
-use crate::changes::change_rows;
+use crate::changes::rows_of_sides;
 use crate::receipts::receipt_row;
-use crate::records::record_row;
-use dns_data::Record;
+use crate::records::record_rows;
 use dns_names::Name;
-use office_sql::{Batch, ReceiptRow, RecordRow};
+use office_sql::{Batch, ReceiptRow};
 use office_state::Addition;
 use std::alloc::{AllocError, Global};
 use zone_core::{Change, Zone};
@@ -29,21 +27,6 @@ fn reveal_zone(zone: &Zone)
     let _ = zone.origin().labels();
 }
 
-/// The rows of records of the zone of an origin. The only error is out of memory.
-fn record_rows(
-    alloc: Global,
-    origin: &Name,
-    records: &[Record],
-) -> Result<Vec<RecordRow>, AllocError>
-    ensures { IfOk result (λ rows. rows.items ≡ map (record_row origin.now) records.now) }
-{
-    let mut rows = Vec::new(alloc);
-    for rr in records {
-        rows.push(record_row(alloc, origin, rr)?)?;
-    }
-    Ok(rows)
-}
-
 /// What is written for a change of the zone of an origin under its number, beside receipts. The only error is out of memory.
 fn change_batch(
     alloc: Global,
@@ -54,12 +37,15 @@ fn change_batch(
 ) -> Result<Batch, AllocError>
     ensures { (n : ℕ) → number ≡ pos n → IfOk result (λ batch. batch ≡ change_batch origin.now n (change_in change.now) receipts.items) }
 {
+    let removed = record_rows(alloc, origin, &change.removed)?;
+    let added = record_rows(alloc, origin, &change.added)?;
+    let changes = rows_of_sides(alloc, number, &removed, &added)?;
     Ok(Batch {
         version: None,
         zones: Vec::new(alloc),
-        removed: record_rows(alloc, origin, &change.removed)?,
-        added: record_rows(alloc, origin, &change.added)?,
-        changes: change_rows(alloc, origin, number, change)?,
+        removed,
+        added,
+        changes,
         receipts,
     })
 }

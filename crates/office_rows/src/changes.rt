@@ -5,16 +5,18 @@ ghost use Rattle.dns_names.specs.Labels.{IsName};
 ghost use Rattle.dns_data.specs.Rdata.{IsRecord};
 ghost use Rattle.zone_core.specs.Changes.{change_in};
 ghost use Rattle.office_rows.specs.declared.changes.ChangedRecord.{ChangedRecord as Changed};
-ghost use Rattle.office_rows.specs.ChangeRows.{change_row, change_rows, row_of, IsChanged};
+ghost use Rattle.office_rows.specs.ChangeRows.{change_row, change_rows, row_of, row_on_side, IsChanged};
+ghost use Rattle.office_rows.specs.declared.side.Side.TheVariants.{Removed, Added};
 ghost use Rattle.office_rows.specs.RowFaults.{Reads};
 ghost use Rattle.office_rows.specs.RowReading.{number_in, changed_in, renumbered, changed_behind};
 
 use crate::columns::{name_from, record_from};
+use crate::records::record_rows;
 use crate::row_fault::RowFault;
 use crate::side::Side;
 use dns_data::{Record, data_text};
 use dns_names::Name;
-use office_sql::ChangeRow;
+use office_sql::{ChangeRow, RecordRow};
 use std::alloc::{AllocError, Global};
 use zone_core::Change;
 
@@ -52,21 +54,56 @@ pub fn change_row(
     })
 }
 
+/// The row of a record on a side of the change of a number, by the row that the record has in its zone, so that nothing is spelled
+/// again. The only error is out of memory.
+fn row_on_side(
+    alloc: Global,
+    number: i64,
+    side: Side,
+    row: &RecordRow,
+) -> Result<ChangeRow, AllocError>
+    ensures { (n : ℕ) → number ≡ pos n → IfOk result (λ changed. changed ≡ row_on_side n side row.now) }
+{
+    Ok(ChangeRow {
+        origin: String::from_str(alloc, &row.origin)?,
+        number,
+        side: side.number(),
+        owner: String::from_str(alloc, &row.owner)?,
+        record_type: row.record_type,
+        rdata: String::from_str(alloc, &row.rdata)?,
+        ttl: row.ttl,
+    })
+}
+
 /// Puts the rows of records on a side of a change behind others. The only error is out of memory.
 fn push_side(
     alloc: Global,
     rows: &mut Vec<ChangeRow>,
-    origin: &Name,
     number: i64,
     side: Side,
-    records: &[Record],
+    records: &[RecordRow],
 ) -> Result<(), AllocError>
-    ensures { (n : ℕ) → number ≡ pos n → OnOk result (rows.new.items ≡ rows.old.items ++ map (change_row origin.now n side) records.now) }
+    ensures { (n : ℕ) → number ≡ pos n → OnOk result (rows.new.items ≡ rows.old.items ++ map (row_on_side n side) records.now) }
 {
-    for rr in records {
-        rows.push(change_row(alloc, origin, number, side, rr)?)?;
+    for row in records {
+        rows.push(row_on_side(alloc, number, side, row)?)?;
     }
     Ok(())
+}
+
+/// The rows of the change of a number, by the rows of the records that went and of those that came. The only error is out of memory.
+pub(crate) fn rows_of_sides(
+    alloc: Global,
+    number: i64,
+    removed: &[RecordRow],
+    added: &[RecordRow],
+) -> Result<Vec<ChangeRow>, AllocError>
+    ensures { (n : ℕ) → number ≡ pos n → IfOk result (λ rows. rows.items ≡ map (row_on_side n Removed) removed.now ++ map (row_on_side n Added) added.now) }
+{
+    let mut rows = Vec::new(alloc);
+    push_side(alloc, &mut rows, number, Side::Removed, removed)?;
+    push_side(alloc, &mut rows, number, Side::Added, added)?;
+    Ok(rows)
 }
 
 /// The rows of the change of a number, of the zone of an origin: those of the records that went, and then those of the records that
@@ -79,17 +116,9 @@ pub fn change_rows(
 ) -> Result<Vec<ChangeRow>, AllocError>
     ensures { (n : ℕ) → number ≡ pos n → IfOk result (λ rows. rows.items ≡ change_rows origin.now n (change_in change.now)) }
 {
-    let mut rows = Vec::new(alloc);
-    push_side(
-        alloc,
-        &mut rows,
-        origin,
-        number,
-        Side::Removed,
-        &change.removed,
-    )?;
-    push_side(alloc, &mut rows, origin, number, Side::Added, &change.added)?;
-    Ok(rows)
+    let removed = record_rows(alloc, origin, &change.removed)?;
+    let added = record_rows(alloc, origin, &change.added)?;
+    rows_of_sides(alloc, number, &removed, &added)
 }
 
 /// Reads a row of `changes`. A row that is that of no record on a side of a change is `BadRow`: a text is in another spelling than the

@@ -1,7 +1,8 @@
 //! The rows of `records`.
 
-ghost use Rattle.std.specs.Prelude.{◌≡◌, ◌↔◌, List, ℕ, true, Ok, IfOk};
+ghost use Rattle.std.specs.Prelude.{◌≡◌, ◌↔◌, List, ℕ, true, Ok, IfOk, map};
 ghost use Rattle.dns_names.specs.Labels.{IsName};
+ghost use Rattle.dns_names.specs.Spelling.{name_text};
 ghost use Rattle.dns_data.specs.Rdata.{IsRecord};
 ghost use Rattle.dns_data.specs.declared.record.Record.{Record as RecordOf};
 ghost use Rattle.office_rows.specs.RecordRows.{record_row};
@@ -20,14 +21,38 @@ use std::alloc::{AllocError, Global};
 pub fn record_row(alloc: Global, origin: &Name, rr: &Record) -> Result<RecordRow, AllocError>
     ensures { IfOk result (λ row. row ≡ record_row origin.now rr.now) }
 {
+    let origin = origin.text(alloc)?;
+    row_beside(alloc, &origin, rr)
+}
+
+/// The row of a record of the zone of an origin, which has this text. The only error is out of memory.
+fn row_beside(alloc: Global, origin: &str, rr: &Record) -> Result<RecordRow, AllocError>
+    ensures { (name : List (List ℕ)) → origin.now ≡ name_text name → IfOk result (λ row. row ≡ record_row name rr.now) }
+{
     Ok(RecordRow {
-        origin: origin.text(alloc)?,
+        origin: String::from_str(alloc, origin)?,
         owner: rr.owner.text(alloc)?,
         record_type: i64::from(rr.record_type().number()),
         rdata: data_text(alloc, &rr.rdata)?,
         ttl: i64::from(rr.ttl.seconds()),
         owner_key: Vec::from_slice(alloc, rr.owner.key())?,
     })
+}
+
+/// The rows of records of the zone of an origin. The only error is out of memory.
+pub(crate) fn record_rows(
+    alloc: Global,
+    origin: &Name,
+    records: &[Record],
+) -> Result<Vec<RecordRow>, AllocError>
+    ensures { IfOk result (λ rows. rows.items ≡ map (record_row origin.now) records.now) }
+{
+    let text = origin.text(alloc)?;
+    let mut rows = Vec::with_capacity(alloc, records.len())?;
+    for rr in records {
+        rows.push(row_beside(alloc, &text, rr)?)?;
+    }
+    Ok(rows)
 }
 
 /// Reads a row of `records`. A row that is that of no origin and no record is `BadRow`: a text is in another spelling than the
