@@ -170,9 +170,9 @@ pub(crate) fn read_rows<T: FromRow>(alloc: Global, rows: Vec<Row>) -> Result<Vec
     ensures found { IfOk result (λ xs. (rows.items ≡ map T.FromRow.stored xs.items) × AllByRecursion IsReadableRow rows.items) }
     ensures bad { result ≡ Err BadRow → (xs : List T) → rows.items ≡ map T.FromRow.stored xs → AllByRecursion IsReadableRow rows.items → ⊥ }
 {
-    let mut read = Vec::new(alloc);
+    let mut values = Vec::with_capacity(alloc, rows.len())?;
     for row in rows {
-        read.push(T::read(&row, 0)?)?;
+        values.push(T::read(&row, 0)?)?;
     }
-    Ok(read)
+    Ok(values)
 }
