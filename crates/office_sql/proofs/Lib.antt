@@ -11,6 +11,7 @@ pub mod TransactionParts
 pub mod StatementLemmas
 pub mod Commits
 pub mod Queries
+pub mod PlainQueries
 pub mod RowLemmas
 pub mod Selections
 pub mod LastNumbers

@@ -9,7 +9,7 @@ use Rattle.sqlite.specs.declared.error.Error.{Error}
 use Rattle.sqlite.specs.State.{State, KeepsCommit, IsUnchanged, IsRolledBack, IsNotRun, FailsToQuery, FailsToShow, IsTooLate, ShowsRows, Shown, RunsCommand}
 
 module _ (old new : State) where
-  unchanged_keeps : IsUnchanged old new → KeepsCommit old new
+  pub unchanged_keeps : IsUnchanged old new → KeepsCommit old new
   unchanged_keeps h = record { was_open = λ _. h.0.was_open; committed = λ _. h.0.committed_is }
 
   pub rolled_keeps : IsRolledBack old new → KeepsCommit old new

@@ -25,16 +25,19 @@ use Rattle.sqlite_sql.specs.Ops.{is_null}
 use Rattle.sqlite_sql.specs.Program.{overlay}
 use Rattle.sqlite_sql.specs.Term.{Term, eval_all}
 use Rattle.sqlite.specs.Effect.{Database, IsDatabase}
-use Rattle.sqlite.specs.State.{State, Shown}
+use Rattle.sqlite.specs.Clock.{timed}
+use Rattle.sqlite.specs.State.{State, Begins, Shown}
 use Rattle.sqlite.specs.Listing.{understood, reads_listing}
-use Rattle.sqlite.proofs.Callers.{IsPlain, command_of, reads_as}
+use Rattle.sqlite.proofs.Callers.{IsPlain, EndsIn, command_of, begins_shown, reads_as}
 use Rattle.office_sql.specs.Rows.{RowsOf}
 use Rattle.office_sql.specs.declared.layout.Layout.{Layout}
 use Rattle.office_sql.specs.Tables.{layout_in, receipts_tree, changes_tree, meta, zones, records, receipts, changes, meta_columns, zones_columns, records_columns, receipts_columns, changes_columns, office_schema, stored_version, stored_zone, stored_record, stored_receipt, stored_change}
-use Rattle.office_sql.specs.Stores.{AreApart, HasOwnRowid, IsReadableRow, Stores}
+use Rattle.office_sql.specs.Stores.{AreApart, AreNumbered, BeginNone, HasOwnRowid, IsOneToOne, IsReadableRow, Numbers, Stores}
 use Rattle.office_sql.specs.Holds.{HasChanges, HasReceipts, HasRecords, HasZones, Reads}
 use Rattle.sqlite_rules.specs.Edit.{id_in}
 use Rattle.sqlite_rules.proofs.TableLemmas.{int_is}
+use Rattle.office_sql.proofs.RowLemmas.{numbered_behind}
+use Rattle.office_sql.proofs.PlainQueries.{unchanged_self}
 use Rattle.office_sql.proofs.Selections.{read_as}
 use Rattle.office_sql.proofs.Effects.{answered}
 use Rattle.office_sql.proofs.StatementLemmas.{plainly, plainly_receipts, plainly_changes}
@@ -112,7 +115,7 @@ distinct_ids : (rows : List Row) → AllByRecursion (λ r. IsTrue (is_int (rowid
 distinct_ids [] h d = IsDistinct-from_apart int_eq [] (λ i j x low high. absurd (omega arith))
 distinct_ids (r ∷ rows) h d = IsDistinct-cons int_eq (id_in (rowid r)) (ids_in rows) (own_ids r rows h.0 h.1 d.0) (distinct_ids rows h.1 d.1)
 
-pub numbers_same : (xs ys : List ℤ) → map Int xs ≡ map Int ys → xs ≡ ys
+numbers_same : (xs ys : List ℤ) → map Int xs ≡ map Int ys → xs ≡ ys
 numbers_same [] [] e = refl
 numbers_same [] (y ∷ ys) e = absurd cc
 numbers_same (x ∷ xs) [] e = absurd cc
@@ -123,33 +126,55 @@ numbers_same (x ∷ xs) (y ∷ ys) e =
     cc
 
 -- rows that were read, with rowids that differ
-pub stores_read : (rows : List Row) (ids : List ℤ) (xs : List Row) → map rowid rows ≡ map Int ids → map (drop 1) rows ≡ xs → AllByRecursion IsReadableRow (map (drop 1) rows) → IsDistinct int_eq ids → Stores rows xs
-stores_read rows ids xs first rest readable distinct = record {
-  apart = apart rows ids first distinct;
-  numbered = numbered rows ids first;
-  same = IsPermutation-same xs (map (drop 1) rows) (sym rest);
-  readable = subst (AllByRecursion IsReadableRow) rest readable;
+pub stores_read : {X : Type 0} (stored : X → Row) (rows : List Row) (ids : List ℤ) (xs : List X) → AreNumbered stored rows ids xs → IsDistinct int_eq ids → Stores rows (map stored xs)
+stores_read stored rows ids xs h distinct = record {
+  apart = apart rows ids h.first distinct;
+  numbered = numbered rows ids h.first;
+  same = IsPermutation-same (map stored xs) (map (drop 1) rows) (sym h.rest);
+  readable = subst (AllByRecursion IsReadableRow) h.rest h.readable;
 }
 
--- rows that can be read, and rowids that differ
-pub record Read {X : Type 0} (stored : X → Row) (rows : List Row) : Type 0 where
+-- rows that can be read as these values, in some order
+record Read {X : Type 0} (stored : X → Row) (rows : List Row) (xs : List X) : Type 0 where
   pub ids : List ℤ
   pub values : List X
-  pub first : map rowid rows ≡ map Int ids
-  pub rest : map (drop 1) rows ≡ map stored values
-  pub readable : AllByRecursion IsReadableRow (map (drop 1) rows)
-  pub distinct : IsDistinct int_eq ids
+  pub same : IsPermutation xs values
+  pub numbered : AreNumbered stored rows ids values
 
-pub read_stored : {X : Type 0} (stored : X → Row) (rows : List Row) (xs : List X) → Stores rows (map stored xs) → Read stored rows
+read_stored : {X : Type 0} (stored : X → Row) (rows : List Row) (xs : List X) → Stores rows (map stored xs) → Read stored rows xs
 read_stored stored rows xs h =
     let it = pull_back stored (map stored xs) (map (drop 1) rows) h.same xs refl in record {
       ids = ids_in rows;
       values = it.0;
-      first = ids_are rows h.numbered;
-      rest = it.2;
-      readable = all-permutation IsReadableRow (map stored xs) (map (drop 1) rows) h.same h.readable;
-      distinct = distinct_ids rows h.numbered h.apart;
+      same = it.1;
+      numbered = record {
+        first = ids_are rows h.numbered;
+        rest = it.2;
+        readable = all-permutation IsReadableRow (map stored xs) (map (drop 1) rows) h.same h.readable;
+      };
     }
+
+-- a row of which no value with the property is read
+pub begin_none : {X : Type 0} (stored : X → Row) (P : X → Type 0) (given : List Row) (row : Row) → (IsOneToOne stored → (id : ℤ) (x : X) → Numbers stored row id x → P x → ⊥) → BeginNone stored P (given ++ row ∷ [])
+begin_none stored P given row bad one tail xs stores all =
+    let it = read_stored stored ((given ++ row ∷ []) ++ tail) xs stores in
+    let found = numbered_behind stored P given row tail it.ids it.values it.numbered (all-permutation P xs it.values it.same all) in
+    bad one found.0 found.1 found.2 found.3
+
+all_front : {X : Type 0} (P : X → Type 0) (xs ys : List X) → AllByRecursion P (xs ++ ys) → AllByRecursion P xs
+all_front P [] ys h = tt
+all_front P (x ∷ xs) ys h = (h.0, all_front P xs ys h.1)
+
+apart_front : (rows tail : List Row) → AreApart (rows ++ tail) → AreApart rows
+apart_front [] tail h = tt
+apart_front (r ∷ rows) tail h = (all_front (HasOwnRowid r) rows tail h.0, apart_front rows tail h.1)
+
+-- rows of which a rowid comes twice
+pub never_twice : {X : Type 0} (stored : X → Row) (P : X → Type 0) (rows : List Row) (ids : List ℤ) (ys : List X) → AreNumbered stored rows ids ys → ¬ IsDistinct int_eq ids → BeginNone stored P rows
+never_twice stored P rows ids ys h twice one tail xs stores all =
+    let ints = all_front (λ r. IsTrue (is_int (rowid r))) rows tail stores.numbered in
+    let same = numbers_same ids (ids_in rows) (sym h.first ∙ ids_are rows ints) in
+    twice (subst (IsDistinct int_eq) (sym same) (distinct_ids rows ints (apart_front rows tail stores.apart)))
 
 -- the order of the rows of a table tells nothing
 stores_permuted : (rows others xs : List Row) → IsPermutation rows others → Stores rows xs → Stores others xs
@@ -162,6 +187,11 @@ stores_permuted rows others xs p h =
       same = IsPermutation-trans _ _ _ h.same (IsPermutation-map (drop 1) rows others p);
       readable = h.readable;
     }
+
+-- each row is one that is read as itself
+pub each_itself : {X : Type 0} (xs : List X) → AllByRecursion (λ row. (x : X) × Unit {0} × (row ≡ x)) xs
+each_itself [] = tt
+each_itself (x ∷ xs) = ((x, tt, refl), each_itself xs)
 
 -- ---- all that is shown of a table
 
@@ -198,6 +228,16 @@ module _ (l : Layout) (sql : List ℕ) (tree : ℕ) (columns : List Term) (n : �
       let wide = all_from_map (λ v. length v ≡ n) (drop 1) db (all-permutation (λ v. length v ≡ n) (map stored xs) (map (drop 1) db) h.same (all-map (λ v. length v ≡ n) stored xs (all_of (λ x. length (stored x) ≡ n) width xs))) in
       stores_permuted db rows (map stored xs) (rows_shown begun mid rows schema shown wide) h
 
+  -- rows that begin an answer begin such rows
+  begins_all : {X : Type 0} (stored : X → Row) → ((x : X) → length (stored x) ≡ n) → (s : State) (rows : List Row) (xs : List X) → s.now.schema ≡ office_schema l → IsTrue s.is_open → Stores (s.now.trees tree) (map stored xs) → Begins sql [] s rows
+      → (tail : List Row) × Stores (rows ++ tail) (map stored xs)
+  begins_all stored width s rows xs schema up h begins =
+      let whole = begins_shown sql [] s s rows begins (unchanged_self s up)
+      (λ c db it source.
+      let known : c.command ≡ Select (record { lets = []; body = select_from tree [] columns }) names = sym (ap command_of it.is) ∙ ap (λ k. command_of (understood k sql)) schema ∙ is.0 in
+      subst (λ k. EndsIn k db (timed [] c.formats it.now)) (sym known) tt) in
+      (whole.0, shows_all stored width s s (rows ++ whole.0) xs schema h whole.1)
+
 whole_1 : (r : Row) → length (drop 1 r) ≡ 1 → eval_all (the_rowid ++ columns_1) ([] ∷ r ∷ []) ≡ r
 whole_1 (v ∷ a ∷ []) len = refl
 whole_1 _ len = absurd (omega arith)
@@ -226,10 +266,10 @@ pub all_meta : (l : Layout) (begun mid : State) (rows xs : List Row) → begun.n
 all_meta l begun mid rows xs is live shown h =
     stores_all l the.all_meta_text 0 (the_rowid ++ columns_1) 1 _ (plainly 0 refl) (the.all_meta_is l) (the.all_meta_plain l) whole_1 begun mid rows xs is (wide_meta l begun.now is live) shown h
 
-pub shows_all_meta : (begun mid : State) (rows : List Row) (all : RowsOf) → Reads begun.now all → Shown the.all_meta_text [] begun mid rows → Stores rows (map stored_version all.versions)
-shows_all_meta begun mid rows all h shown =
-    let l = layout_in begun.now.trees in
-    shows_all l the.all_meta_text 0 (the_rowid ++ columns_1) 1 _ (plainly 0 refl) (the.all_meta_is l) (the.all_meta_plain l) whole_1 stored_version (λ x. refl) begun mid rows all.versions h.schema h.tables.versions shown
+pub begins_all_meta : (s : State) (rows : List Row) (all : RowsOf) → Reads s.now all → IsTrue s.is_open → Begins the.all_meta_text [] s rows → (tail : List Row) × Stores (rows ++ tail) (map stored_version all.versions)
+begins_all_meta s rows all h up begins =
+    let l = layout_in s.now.trees in
+    begins_all l the.all_meta_text 0 (the_rowid ++ columns_1) 1 _ (plainly 0 refl) (the.all_meta_is l) (the.all_meta_plain l) whole_1 stored_version (λ x. refl) s rows all.versions h.schema up h.tables.versions begins
 
 -- the rows of `zones` have their columns
 wide_zones : (l : Layout) (d : Database) → d.schema ≡ office_schema l → IsDatabase d → AreWide 1 (d.trees 1)
@@ -243,10 +283,10 @@ pub all_zones : (l : Layout) (begun mid : State) (rows xs : List Row) → begun.
 all_zones l begun mid rows xs is live shown h =
     stores_all l the.all_zones_text 1 (the_rowid ++ columns_1) 1 _ (plainly 1 refl) (the.all_zones_is l) (the.all_zones_plain l) whole_1 begun mid rows xs is (wide_zones l begun.now is live) shown h
 
-pub shows_all_zones : (begun mid : State) (rows : List Row) (all : RowsOf) → Reads begun.now all → Shown the.all_zones_text [] begun mid rows → Stores rows (map stored_zone all.zones)
-shows_all_zones begun mid rows all h shown =
-    let l = layout_in begun.now.trees in
-    shows_all l the.all_zones_text 1 (the_rowid ++ columns_1) 1 _ (plainly 1 refl) (the.all_zones_is l) (the.all_zones_plain l) whole_1 stored_zone (λ x. refl) begun mid rows all.zones h.schema h.tables.zones shown
+pub begins_all_zones : (s : State) (rows : List Row) (all : RowsOf) → Reads s.now all → IsTrue s.is_open → Begins the.all_zones_text [] s rows → (tail : List Row) × Stores (rows ++ tail) (map stored_zone all.zones)
+begins_all_zones s rows all h up begins =
+    let l = layout_in s.now.trees in
+    begins_all l the.all_zones_text 1 (the_rowid ++ columns_1) 1 _ (plainly 1 refl) (the.all_zones_is l) (the.all_zones_plain l) whole_1 stored_zone (λ x. refl) s rows all.zones h.schema up h.tables.zones begins
 
 -- the rows of `records` have their columns
 wide_records : (l : Layout) (d : Database) → d.schema ≡ office_schema l → IsDatabase d → AreWide 6 (d.trees 3)
@@ -260,10 +300,10 @@ pub all_records : (l : Layout) (begun mid : State) (rows xs : List Row) → begu
 all_records l begun mid rows xs is live shown h =
     stores_all l the.all_records_text 3 (the_rowid ++ columns_6) 6 _ (plainly 3 refl) (the.all_records_is l) (the.all_records_plain l) whole_6 begun mid rows xs is (wide_records l begun.now is live) shown h
 
-pub shows_all_records : (begun mid : State) (rows : List Row) (all : RowsOf) → Reads begun.now all → Shown the.all_records_text [] begun mid rows → Stores rows (map stored_record all.records)
-shows_all_records begun mid rows all h shown =
-    let l = layout_in begun.now.trees in
-    shows_all l the.all_records_text 3 (the_rowid ++ columns_6) 6 _ (plainly 3 refl) (the.all_records_is l) (the.all_records_plain l) whole_6 stored_record (λ x. refl) begun mid rows all.records h.schema h.tables.records shown
+pub begins_all_records : (s : State) (rows : List Row) (all : RowsOf) → Reads s.now all → IsTrue s.is_open → Begins the.all_records_text [] s rows → (tail : List Row) × Stores (rows ++ tail) (map stored_record all.records)
+begins_all_records s rows all h up begins =
+    let l = layout_in s.now.trees in
+    begins_all l the.all_records_text 3 (the_rowid ++ columns_6) 6 _ (plainly 3 refl) (the.all_records_is l) (the.all_records_plain l) whole_6 stored_record (λ x. refl) s rows all.records h.schema up h.tables.records begins
 
 -- the rows of `receipts` have their columns
 wide_receipts : (l : Layout) (d : Database) → d.schema ≡ office_schema l → IsDatabase d → AreWide 5 (d.trees (receipts_tree l))
@@ -277,10 +317,10 @@ pub all_receipts : (l : Layout) (begun mid : State) (rows xs : List Row) → beg
 all_receipts l begun mid rows xs is live shown h =
     stores_all l the.all_receipts_text (receipts_tree l) (the_rowid ++ columns_5) 5 _ (plainly_receipts l) (the.all_receipts_is l) (the.all_receipts_plain l) whole_5 begun mid rows xs is (wide_receipts l begun.now is live) shown h
 
-pub shows_all_receipts : (begun mid : State) (rows : List Row) (all : RowsOf) → Reads begun.now all → Shown the.all_receipts_text [] begun mid rows → Stores rows (map stored_receipt all.receipts)
-shows_all_receipts begun mid rows all h shown =
-    let l = layout_in begun.now.trees in
-    shows_all l the.all_receipts_text (receipts_tree l) (the_rowid ++ columns_5) 5 _ (plainly_receipts l) (the.all_receipts_is l) (the.all_receipts_plain l) whole_5 stored_receipt (λ x. refl) begun mid rows all.receipts h.schema h.tables.receipts shown
+pub begins_all_receipts : (s : State) (rows : List Row) (all : RowsOf) → Reads s.now all → IsTrue s.is_open → Begins the.all_receipts_text [] s rows → (tail : List Row) × Stores (rows ++ tail) (map stored_receipt all.receipts)
+begins_all_receipts s rows all h up begins =
+    let l = layout_in s.now.trees in
+    begins_all l the.all_receipts_text (receipts_tree l) (the_rowid ++ columns_5) 5 _ (plainly_receipts l) (the.all_receipts_is l) (the.all_receipts_plain l) whole_5 stored_receipt (λ x. refl) s rows all.receipts h.schema up h.tables.receipts begins
 
 -- the rows of `changes` have their columns
 wide_changes : (l : Layout) (d : Database) → d.schema ≡ office_schema l → IsDatabase d → AreWide 7 (d.trees (changes_tree l))
@@ -294,10 +334,10 @@ pub all_changes : (l : Layout) (begun mid : State) (rows xs : List Row) → begu
 all_changes l begun mid rows xs is live shown h =
     stores_all l the.all_changes_text (changes_tree l) (the_rowid ++ columns_7) 7 _ (plainly_changes l) (the.all_changes_is l) (the.all_changes_plain l) whole_7 begun mid rows xs is (wide_changes l begun.now is live) shown h
 
-pub shows_all_changes : (begun mid : State) (rows : List Row) (all : RowsOf) → Reads begun.now all → Shown the.all_changes_text [] begun mid rows → Stores rows (map stored_change all.changes)
-shows_all_changes begun mid rows all h shown =
-    let l = layout_in begun.now.trees in
-    shows_all l the.all_changes_text (changes_tree l) (the_rowid ++ columns_7) 7 _ (plainly_changes l) (the.all_changes_is l) (the.all_changes_plain l) whole_7 stored_change (λ x. refl) begun mid rows all.changes h.schema h.tables.changes shown
+pub begins_all_changes : (s : State) (rows : List Row) (all : RowsOf) → Reads s.now all → IsTrue s.is_open → Begins the.all_changes_text [] s rows → (tail : List Row) × Stores (rows ++ tail) (map stored_change all.changes)
+begins_all_changes s rows all h up begins =
+    let l = layout_in s.now.trees in
+    begins_all l the.all_changes_text (changes_tree l) (the_rowid ++ columns_7) 7 _ (plainly_changes l) (the.all_changes_is l) (the.all_changes_plain l) whole_7 stored_change (λ x. refl) s rows all.changes h.schema up h.tables.changes begins
 
 -- ---- numbers in order
 

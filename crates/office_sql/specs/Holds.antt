@@ -1,8 +1,8 @@
 -- When a connection holds rows, and what a call leaves of them.
-use Rattle.std.specs.Prelude.{◌≡◌, true, false, ℕ, ℤ, List, [], ◌∷◌, map, IsTrue, IsPermutation}
+use Rattle.std.specs.Prelude.{◌≡◌, ◌⊎◌, true, false, ℕ, ℤ, List, [], ◌∷◌, map, IsTrue, IsPermutation}
 use Rattle.sqlite_trees.specs.Tree.{Trees}
 use Rattle.sqlite.specs.Effect.{Database, IsDatabase}
-use Rattle.sqlite.specs.State.{State, HasCleanDisk, Survives, KeepsCommit}
+use Rattle.sqlite.specs.State.{State, HasCleanDisk, Survives, KeepsCommit, IsUnchanged, IsRolledBack}
 use Rattle.office_sql.specs.Rows.{RecordRowOf, ReceiptRowOf, ChangeRowOf, RowsOf}
 use Rattle.office_sql.specs.declared.layout.Layout.{Layout}
 use Rattle.office_sql.specs.declared.layout.Layout.TheVariants.{IndexAfterRecords}
@@ -86,6 +86,12 @@ IsGoing s = IsTrue s.is_open × (s.in_transaction ≡ true)
 pub record Stays (old new : State) : Type 0 where
   pub survives : Survives old new (λ _. ⊥)
   pub kept : HasCleanDisk new → KeepsCommit old new
+
+-- Nothing was written: all is as it was, or a failure went back to what was committed.
+pub record WritesNothing (old new : State) : Type 0 where
+  pub survives : Survives old new (λ _. ⊥)
+  pub ended : new.in_transaction ≡ false
+  pub left : HasCleanDisk new → IsUnchanged old new ⊎ IsRolledBack old new
 
 -- a part of a transaction, which commits nothing, and turns all rows into others
 pub record Part (old new : State) (f : RowsOf → RowsOf) : Type 0 where

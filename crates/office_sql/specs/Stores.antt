@@ -1,5 +1,5 @@
 -- What a table stores, whatever rowids it gave and in whatever order.
-use Rattle.std.specs.Prelude.{◌≡◌, false, List, map, drop, IsTrue, IsUtf8, IsPermutation}
+use Rattle.std.specs.Prelude.{◌≡◌, ℤ, false, List, ◌++◌, map, drop, IsTrue, IsUtf8, IsPermutation}
 use Rattle.std.specs.List.{AllByRecursion}
 use Rattle.std.specs.Ordering.{is_eq}
 use Rattle.sqlite_value.specs.declared.value.Value.{Value}
@@ -32,3 +32,23 @@ pub record Stores (rows : List Row) (xs : List Row) : Type 0 where
   pub numbered : AllByRecursion (λ r. IsTrue (is_int (rowid r))) rows
   pub same : IsPermutation xs (map (drop 1) rows)
   pub readable : AllByRecursion IsReadableRow xs
+
+-- different values are stored as different rows
+abbrev pub IsOneToOne : {X : Type 0} → (X → Row) → Type 0
+IsOneToOne stored = (x y : _) → stored x ≡ stored y → x ≡ y
+
+-- a row of an answer has this rowid, and behind it what is stored of a value
+pub record Numbers {X : Type 0} (stored : X → Row) (row : Row) (id : ℤ) (x : X) : Type 0 where
+  pub first : rowid row ≡ Int id
+  pub rest : drop 1 row ≡ stored x
+  pub readable : IsReadableRow (drop 1 row)
+
+-- the same of some rows, in their order
+pub record AreNumbered {X : Type 0} (stored : X → Row) (rows : List Row) (ids : List ℤ) (xs : List X) : Type 0 where
+  pub first : map rowid rows ≡ map Int ids
+  pub rest : map (drop 1) rows ≡ map stored xs
+  pub readable : AllByRecursion IsReadableRow (map (drop 1) rows)
+
+-- no rows that begin with these are those of values that all have a property
+abbrev pub BeginNone : {X : Type 0} → (X → Row) → (X → Type 0) → List Row → Type 0
+BeginNone {X} stored P rows = IsOneToOne stored → (tail : List Row) (xs : List X) → Stores (rows ++ tail) (map stored xs) → AllByRecursion P xs → ⊥

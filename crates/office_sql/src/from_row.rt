@@ -4,7 +4,6 @@ ghost use Rattle.std.specs.Prelude.{◌≡◌, ◌+◌, ◌<◌, ◌≤◌, ◌�
 ghost use Rattle.std.specs.List.{AllByRecursion};
 ghost use Rattle.sqlite_value.specs.declared.value.Value.TheVariants.{Int, Text, Blob};
 ghost use Rattle.sqlite_value.specs.Order.{column, Row as SqlRow};
-ghost use Rattle.sqlite_trees.specs.Tree.{rowid};
 ghost use Rattle.office_sql.specs.Stores.{IsReadableRow};
 ghost use Rattle.office_sql.specs.declared.rows_fault.RowsFault.TheVariants.{BadRow};
 
@@ -37,6 +36,7 @@ fn has_columns(row: &Row, first: usize, count: usize) -> bool
 /// The value at a place among the columns from a first one on. `BadRow` comes where the row ends before it or the value is of another
 /// type, and `NoMemory` where memory runs out.
 fn value_at<T: FromSql>(row: &Row, first: usize, at: usize) -> Result<T, RowsFault>
+    // Seven columns behind a rowid are the most that a table has.
     requires { first + at ≤ 7 }
     ensures found { IfOk result (λ x. (at < length (drop first row.now)) × T.FromSql.reads_as (column (drop first row.now) at) x) }
     ensures bad { result ≡ Err BadRow → at < length (drop first row.now) → ¬ T.FromSql.is_readable (column (drop first row.now) at) }
@@ -49,7 +49,7 @@ fn value_at<T: FromSql>(row: &Row, first: usize, at: usize) -> Result<T, RowsFau
 }
 
 /// The number at such a place. `BadRow` comes where the row ends before it or has something else there.
-fn number_at(row: &Row, first: usize, at: usize) -> Result<i64, RowsFault>
+pub(crate) fn number_at(row: &Row, first: usize, at: usize) -> Result<i64, RowsFault>
     requires { first + at ≤ 7 }
     ensures found { IfOk result (λ n. (at < length (drop first row.now)) × (column (drop first row.now) at ≡ Int n)) }
     ensures bad { result ≡ Err BadRow → at < length (drop first row.now) → (n : ℤ) → column (drop first row.now) at ≡ Int n → ⊥ }
@@ -171,27 +171,9 @@ pub(crate) fn read_rows<T: FromRow>(alloc: Global, rows: Vec<Row>) -> Result<Vec
     ensures found { IfOk result (λ xs. (rows.items ≡ map T.FromRow.stored xs.items) × AllByRecursion IsReadableRow rows.items) }
     ensures bad { result ≡ Err BadRow → (xs : List T) → rows.items ≡ map T.FromRow.stored xs → AllByRecursion IsReadableRow rows.items → ⊥ }
 {
-    let mut read = Vec::new(alloc);
+    let mut values = Vec::with_capacity(alloc, rows.len())?;
     for row in rows {
-        read.push(T::read(&row, 0)?)?;
+        values.push(T::read(&row, 0)?)?;
     }
-    Ok(read)
-}
-
-/// The rows of an answer that shows a rowid first, each read, and the rowids. A row goes as soon as it is read. `BadRow` comes where one
-/// of them is no such row.
-pub(crate) fn read_numbered<T: FromRow>(
-    alloc: Global,
-    rows: Vec<Row>,
-) -> Result<(Vec<i64>, Vec<T>), RowsFault>
-    ensures found { IfOk result (λ read. (map rowid rows.items ≡ map Int read.0.items) × (map (drop 1) rows.items ≡ map T.FromRow.stored read.1.items) × AllByRecursion IsReadableRow (map (drop 1) rows.items)) }
-    ensures bad { result ≡ Err BadRow → (ids : List ℤ) → (xs : List T) → map rowid rows.items ≡ map Int ids → map (drop 1) rows.items ≡ map T.FromRow.stored xs → AllByRecursion IsReadableRow (map (drop 1) rows.items) → ⊥ }
-{
-    let mut rowids = Vec::new(alloc);
-    let mut read = Vec::new(alloc);
-    for row in rows {
-        rowids.push(number_at(&row, 0, 0)?)?;
-        read.push(T::read(&row, 1)?)?;
-    }
-    Ok((rowids, read))
+    Ok(values)
 }

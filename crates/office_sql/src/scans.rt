@@ -1,23 +1,26 @@
 //! All rows of the tables, of a store that somebody else may have written.
 
-ghost use Rattle.std.specs.Prelude.{◌≡◌, ◌↔◌, List, [], Err, IfOk, OnOk, IsPermutation, true, false, map};
-ghost use Rattle.std.specs.List.{IsDistinct};
+ghost use Rattle.std.specs.Prelude.{◌≡◌, ◌↔◌, ℤ, List, [], Err, IfOk, OnOk, IsPermutation, IsTrue, true, false, map};
+ghost use Rattle.std.specs.List.{AllByRecursion, IsDistinct};
 ghost use Rattle.std.specs.Ordering.{int_eq};
 ghost use Rattle.sqlite.specs.Effect.{IsDatabase};
+ghost use Rattle.sqlite.specs.Given.{IsPlain};
 ghost use Rattle.sqlite.specs.Held.{state};
-ghost use Rattle.sqlite.specs.State.{HasCleanDisk, Shows, Shown};
+ghost use Rattle.sqlite.specs.Listing.{understood};
+ghost use Rattle.sqlite.specs.State.{Begins, HasCleanDisk, IsUnchanged, Shows, Shown};
 ghost use Rattle.office_sql.specs.Rows.{RowsOf};
 ghost use Rattle.office_sql.specs.Tables.{IsOffice, stored_version};
-ghost use Rattle.office_sql.specs.Stores.{Stores};
-ghost use Rattle.office_sql.specs.Holds.{AreRows, HasChanges, HasReceipts, HasRecords, HasZones, Holds, Leaves, OnlyAsks, SameRows};
+ghost use Rattle.office_sql.specs.Stores.{AreNumbered, BeginNone, IsOneToOne, Numbers, Stores};
+ghost use Rattle.office_sql.specs.Holds.{AreRows, HasChanges, HasReceipts, HasRecords, HasZones, Holds, Leaves, OnlyAsks, SameRows, WritesNothing};
 ghost use Rattle.office_sql.specs.declared.rows_fault.RowsFault.TheVariants.{BadRow};
 
-use crate::from_row::{FromRow, read_numbered};
-use crate::query::fetch_open;
+use crate::from_row::{FromRow, number_at};
+use crate::query::check_open;
+use crate::row_reader::{RowReader, WholeRows};
 use crate::rows::{ChangeRow, ReceiptRow, RecordRow, ZoneRow};
 use crate::rows_fault::RowsFault;
 use crate::schema::has_tables;
-use sqlite::{Alter, Connection};
+use sqlite::{Alter, Connection, Row};
 use std::alloc::Global;
 use std::marker::Model;
 
@@ -55,24 +58,77 @@ fn are_apart(mut numbers: Vec<i64>) -> bool
     true
 }
 
-/// All rows of a table, by a text that asks for their rowids and then for their columns. `BadRow` comes where the tables are not those
-/// of the office, a row is not one of the table, or a rowid comes twice in the answer. No statement here makes such a row, but a
-/// connection that is handed in says nothing of its own.
-fn all<S: Alter, T: FromRow>(
+/// Reads a row that shows its rowid first, and hands it to a reader. `BadRow` comes where it is no such row, or the reader says so.
+fn read_numbered<R: FromRow, T: Drop, Q: RowReader<R, T>>(
+    alloc: Global,
+    reader: &mut Q,
+    row: &Row,
+) -> Result<(i64, T), RowsFault>
+    ensures found { IfOk result (λ it. Numbers R.FromRow.stored row.now it.0 (Q.row_of it.1) × Q.is_read it.1) }
+    ensures bad { result ≡ Err BadRow → IsOneToOne R.FromRow.stored → (id : ℤ) (x : T) → Numbers R.FromRow.stored row.now id (Q.row_of x) → Q.is_read x → ⊥ }
+{
+    let rowid = number_at(row, 0, 0)?;
+    let read = reader.read(alloc, R::read(row, 1)?)?;
+    Ok((rowid, read))
+}
+
+/// Reads the rows of a table as the store hands them over, and their rowids, up to the first that cannot be read.
+fn scan<S: Alter, R: FromRow, T: Drop, Q: RowReader<R, T>>(
     alloc: Global,
     conn: &mut Connection<S>,
+    reader: &mut Q,
+    sql: &str,
+) -> Result<(Vec<i64>, Vec<T>), RowsFault>
+    requires idle { conn.old.in_transaction ≡ false }
+    requires plain { IsPlain (understood conn.old.schema sql.now) }
+    ensures writes { WritesNothing (state S.Store conn.old) (state S.Store conn.new) }
+    ensures same { HasCleanDisk (state S.Store conn.new) → OnOk result (IsUnchanged (state S.Store conn.old) (state S.Store conn.new)) }
+    ensures shown { HasCleanDisk (state S.Store conn.new) → IfOk result (λ all. (rows : _) × Shown sql.now [] (state S.Store conn.old) (state S.Store conn.new) rows × AreNumbered R.FromRow.stored rows all.0.items (map Q.row_of all.1.items)) }
+    ensures read { IfOk result (λ all. AllByRecursion Q.is_read all.1.items) }
+    ensures bad { HasCleanDisk (state S.Store conn.new) → result ≡ Err BadRow → IsTrue (state S.Store conn.new).is_open × ((rows : _) × Begins sql.now [] (state S.Store conn.new) rows × BeginNone R.FromRow.stored (λ row. (x : T) × Q.is_read x × (row ≡ Q.row_of x)) rows) }
+{
+    let mut rowids = Vec::new(alloc);
+    let mut read = Vec::new(alloc);
+    let mut rows = conn.query(sql, &[])?;
+    'rows: for _ in 0..u64::MAX {
+        let Some(row) = rows.next()? else {
+            return Ok((rowids, read));
+        };
+        let (rowid, value) = read_numbered::<R, T, Q>(alloc, reader, row)?;
+        rowids.push(rowid)?;
+        read.push(value)?;
+    }
+    // No memory holds so many rows.
+    Err(RowsFault::NoMemory)
+}
+
+/// All rows of a table, by a text that asks for their rowids and then for their columns. `BadRow` comes where the tables are not those
+/// of the office, a row is not one of the table or of what is read, or a rowid comes twice in the answer. No statement here makes such
+/// a row, but a connection that is handed in says nothing of its own.
+fn all<S: Alter, R: FromRow, T: Drop, Q: RowReader<R, T>>(
+    alloc: Global,
+    conn: &mut Connection<S>,
+    reader: &mut Q,
     sql: &str,
 ) -> Result<Vec<T>, RowsFault>
-    requires { conn.old.in_transaction ≡ false }
+    requires idle { conn.old.in_transaction ≡ false }
+    requires plain { IsOffice conn.old.schema → IsPlain (understood conn.old.schema sql.now) }
     ensures asks { OnlyAsks (state S.Store conn.old) (state S.Store conn.new) }
     ensures same { HasCleanDisk (state S.Store conn.new) → OnOk result (Shows (state S.Store conn.old) (state S.Store conn.new) (state S.Store conn.old).now (state S.Store conn.old).now false) }
     ensures live { HasCleanDisk (state S.Store conn.new) → OnOk result (IsOffice (state S.Store conn.old).now.schema × IsDatabase (state S.Store conn.old).now) }
-    ensures shown { HasCleanDisk (state S.Store conn.new) → IfOk result (λ xs. (rows : _) × (mid : _) × Shown sql.now [] (state S.Store (record conn.old { in_transaction = true })) (state S.Store mid) rows × Stores rows (map T.FromRow.stored xs.items)) }
-    ensures bad { HasCleanDisk (state S.Store conn.new) → result ≡ Err BadRow → (rows : _) × (mid : _) × Shown sql.now [] (state S.Store (record conn.old { in_transaction = true })) (state S.Store mid) rows × (IsOffice (state S.Store conn.old).now.schema → (xs : List T) → Stores rows (map T.FromRow.stored xs) → ⊥) }
+    ensures shown { HasCleanDisk (state S.Store conn.new) → IfOk result (λ xs. (rows : _) × Shown sql.now [] (state S.Store conn.old) (state S.Store conn.new) rows × Stores rows (map R.FromRow.stored (map Q.row_of xs.items))) }
+    ensures read { IfOk result (λ xs. AllByRecursion Q.is_read xs.items) }
+    ensures bad { HasCleanDisk (state S.Store conn.new) → result ≡ Err BadRow → IsTrue (state S.Store conn.new).is_open × (IsOffice (state S.Store conn.new).now.schema → (rows : _) × Begins sql.now [] (state S.Store conn.new) rows × BeginNone R.FromRow.stored (λ row. (x : T) × Q.is_read x × (row ≡ Q.row_of x)) rows) }
 {
-    let rows = fetch_open(conn, sql, &[])?;
-    let (rowids, read) = read_numbered(alloc, rows)?;
-    if has_tables(conn) && are_apart(rowids) {
+    let is_alone = conn.is_autocommit();
+    prove!(is_alone);
+    if !has_tables(conn) {
+        // A store that is shut says so, and not that a row is bad.
+        check_open(conn)?;
+        return Err(RowsFault::BadRow);
+    }
+    let (rowids, read) = scan::<S, R, T, Q>(alloc, conn, reader, sql)?;
+    if are_apart(rowids) {
         Ok(read)
     } else {
         Err(RowsFault::BadRow)
@@ -90,81 +146,97 @@ pub fn versions<S: Alter>(alloc: Global, conn: &mut Connection<S>) -> Result<Vec
     ensures only { HasCleanDisk (state S.Store conn.new) → OnOk result ((rows : RowsOf) → Holds (state S.Store conn.new) rows → Holds (state S.Store conn.old) rows) }
     ensures bad { HasCleanDisk (state S.Store conn.new) → result ≡ Err BadRow → (rows : RowsOf) → Holds (state S.Store conn.old) rows → ⊥ }
 {
-    all(alloc, conn, "SELECT rowid, version FROM meta")
-}
-
-/// The origins of all zones.
-pub fn all_zones<S: Alter>(
-    alloc: Global,
-    conn: &mut Connection<S>,
-) -> Result<Vec<ZoneRow>, RowsFault>
-    requires { conn.old.in_transaction ≡ false }
-    ensures found { HasCleanDisk (state S.Store conn.new) → IfOk result (λ xs. HasZones (state S.Store conn.new).now xs.items) }
-    ensures answer { HasCleanDisk (state S.Store conn.new) → IfOk result (λ xs. (rows : RowsOf) → Holds (state S.Store conn.old) rows → IsPermutation rows.zones xs.items) }
-    ensures asks { OnlyAsks (state S.Store conn.old) (state S.Store conn.new) }
-    ensures same { HasCleanDisk (state S.Store conn.new) → OnOk result (Shows (state S.Store conn.old) (state S.Store conn.new) (state S.Store conn.old).now (state S.Store conn.old).now false) }
-    ensures only { HasCleanDisk (state S.Store conn.new) → OnOk result ((rows : RowsOf) → Holds (state S.Store conn.new) rows → Holds (state S.Store conn.old) rows) }
-    ensures bad { HasCleanDisk (state S.Store conn.new) → result ≡ Err BadRow → (rows : RowsOf) → Holds (state S.Store conn.old) rows → ⊥ }
-{
-    all(alloc, conn, "SELECT rowid, origin FROM zones")
-}
-
-/// The records of all zones.
-pub fn all_records<S: Alter>(
-    alloc: Global,
-    conn: &mut Connection<S>,
-) -> Result<Vec<RecordRow>, RowsFault>
-    requires { conn.old.in_transaction ≡ false }
-    ensures found { HasCleanDisk (state S.Store conn.new) → IfOk result (λ xs. HasRecords (state S.Store conn.new).now xs.items) }
-    ensures answer { HasCleanDisk (state S.Store conn.new) → IfOk result (λ xs. (rows : RowsOf) → Holds (state S.Store conn.old) rows → IsPermutation rows.records xs.items) }
-    ensures asks { OnlyAsks (state S.Store conn.old) (state S.Store conn.new) }
-    ensures same { HasCleanDisk (state S.Store conn.new) → OnOk result (Shows (state S.Store conn.old) (state S.Store conn.new) (state S.Store conn.old).now (state S.Store conn.old).now false) }
-    ensures only { HasCleanDisk (state S.Store conn.new) → OnOk result ((rows : RowsOf) → Holds (state S.Store conn.new) rows → Holds (state S.Store conn.old) rows) }
-    ensures bad { HasCleanDisk (state S.Store conn.new) → result ≡ Err BadRow → (rows : RowsOf) → Holds (state S.Store conn.old) rows → ⊥ }
-{
-    all(
+    all::<S, i64, i64, WholeRows>(
         alloc,
         conn,
+        &mut WholeRows,
+        "SELECT rowid, version FROM meta",
+    )
+}
+
+/// The origins of all zones, each as a reader reads it. `BadRow` also comes where a row is that of nothing that is read.
+pub fn all_zones<S: Alter, T: Drop, Q: RowReader<ZoneRow, T>>(
+    alloc: Global,
+    conn: &mut Connection<S>,
+    reader: &mut Q,
+) -> Result<Vec<T>, RowsFault>
+    requires { conn.old.in_transaction ≡ false }
+    ensures found { HasCleanDisk (state S.Store conn.new) → IfOk result (λ xs. HasZones (state S.Store conn.new).now (map Q.row_of xs.items)) }
+    ensures read { IfOk result (λ xs. AllByRecursion Q.is_read xs.items) }
+    ensures answer { HasCleanDisk (state S.Store conn.new) → IfOk result (λ xs. (rows : RowsOf) → Holds (state S.Store conn.old) rows → IsPermutation rows.zones (map Q.row_of xs.items)) }
+    ensures asks { OnlyAsks (state S.Store conn.old) (state S.Store conn.new) }
+    ensures same { HasCleanDisk (state S.Store conn.new) → OnOk result (Shows (state S.Store conn.old) (state S.Store conn.new) (state S.Store conn.old).now (state S.Store conn.old).now false) }
+    ensures only { HasCleanDisk (state S.Store conn.new) → OnOk result ((rows : RowsOf) → Holds (state S.Store conn.new) rows → Holds (state S.Store conn.old) rows) }
+    ensures bad { HasCleanDisk (state S.Store conn.new) → result ≡ Err BadRow → (rows : RowsOf) → Holds (state S.Store conn.old) rows → AllByRecursion (λ row. (x : T) × Q.is_read x × (row ≡ Q.row_of x)) rows.zones → ⊥ }
+{
+    all::<S, ZoneRow, T, Q>(alloc, conn, reader, "SELECT rowid, origin FROM zones")
+}
+
+/// The records of all zones, each as a reader reads it. `BadRow` also comes where a row is that of nothing that is read.
+pub fn all_records<S: Alter, T: Drop, Q: RowReader<RecordRow, T>>(
+    alloc: Global,
+    conn: &mut Connection<S>,
+    reader: &mut Q,
+) -> Result<Vec<T>, RowsFault>
+    requires { conn.old.in_transaction ≡ false }
+    ensures found { HasCleanDisk (state S.Store conn.new) → IfOk result (λ xs. HasRecords (state S.Store conn.new).now (map Q.row_of xs.items)) }
+    ensures read { IfOk result (λ xs. AllByRecursion Q.is_read xs.items) }
+    ensures answer { HasCleanDisk (state S.Store conn.new) → IfOk result (λ xs. (rows : RowsOf) → Holds (state S.Store conn.old) rows → IsPermutation rows.records (map Q.row_of xs.items)) }
+    ensures asks { OnlyAsks (state S.Store conn.old) (state S.Store conn.new) }
+    ensures same { HasCleanDisk (state S.Store conn.new) → OnOk result (Shows (state S.Store conn.old) (state S.Store conn.new) (state S.Store conn.old).now (state S.Store conn.old).now false) }
+    ensures only { HasCleanDisk (state S.Store conn.new) → OnOk result ((rows : RowsOf) → Holds (state S.Store conn.new) rows → Holds (state S.Store conn.old) rows) }
+    ensures bad { HasCleanDisk (state S.Store conn.new) → result ≡ Err BadRow → (rows : RowsOf) → Holds (state S.Store conn.old) rows → AllByRecursion (λ row. (x : T) × Q.is_read x × (row ≡ Q.row_of x)) rows.records → ⊥ }
+{
+    all::<S, RecordRow, T, Q>(
+        alloc,
+        conn,
+        reader,
         "SELECT rowid, origin, owner, type, data, ttl, owner_key FROM records",
     )
 }
 
-/// All receipts.
-pub fn all_receipts<S: Alter>(
+/// All receipts, each as a reader reads it. `BadRow` also comes where a row is that of nothing that is read.
+pub fn all_receipts<S: Alter, T: Drop, Q: RowReader<ReceiptRow, T>>(
     alloc: Global,
     conn: &mut Connection<S>,
-) -> Result<Vec<ReceiptRow>, RowsFault>
+    reader: &mut Q,
+) -> Result<Vec<T>, RowsFault>
     requires { conn.old.in_transaction ≡ false }
-    ensures found { HasCleanDisk (state S.Store conn.new) → IfOk result (λ xs. HasReceipts (state S.Store conn.new).now xs.items) }
-    ensures answer { HasCleanDisk (state S.Store conn.new) → IfOk result (λ xs. (rows : RowsOf) → Holds (state S.Store conn.old) rows → IsPermutation rows.receipts xs.items) }
+    ensures found { HasCleanDisk (state S.Store conn.new) → IfOk result (λ xs. HasReceipts (state S.Store conn.new).now (map Q.row_of xs.items)) }
+    ensures read { IfOk result (λ xs. AllByRecursion Q.is_read xs.items) }
+    ensures answer { HasCleanDisk (state S.Store conn.new) → IfOk result (λ xs. (rows : RowsOf) → Holds (state S.Store conn.old) rows → IsPermutation rows.receipts (map Q.row_of xs.items)) }
     ensures asks { OnlyAsks (state S.Store conn.old) (state S.Store conn.new) }
     ensures same { HasCleanDisk (state S.Store conn.new) → OnOk result (Shows (state S.Store conn.old) (state S.Store conn.new) (state S.Store conn.old).now (state S.Store conn.old).now false) }
     ensures only { HasCleanDisk (state S.Store conn.new) → OnOk result ((rows : RowsOf) → Holds (state S.Store conn.new) rows → Holds (state S.Store conn.old) rows) }
-    ensures bad { HasCleanDisk (state S.Store conn.new) → result ≡ Err BadRow → (rows : RowsOf) → Holds (state S.Store conn.old) rows → ⊥ }
+    ensures bad { HasCleanDisk (state S.Store conn.new) → result ≡ Err BadRow → (rows : RowsOf) → Holds (state S.Store conn.old) rows → AllByRecursion (λ row. (x : T) × Q.is_read x × (row ≡ Q.row_of x)) rows.receipts → ⊥ }
 {
-    all(
+    all::<S, ReceiptRow, T, Q>(
         alloc,
         conn,
+        reader,
         "SELECT rowid, caller, id, origin, request, reply FROM receipts",
     )
 }
 
-/// What all changes took away and brought.
-pub fn all_changes<S: Alter>(
+/// What all changes took away and brought, each as a reader reads it. `BadRow` also comes where a row is that of nothing that is read.
+pub fn all_changes<S: Alter, T: Drop, Q: RowReader<ChangeRow, T>>(
     alloc: Global,
     conn: &mut Connection<S>,
-) -> Result<Vec<ChangeRow>, RowsFault>
+    reader: &mut Q,
+) -> Result<Vec<T>, RowsFault>
     requires { conn.old.in_transaction ≡ false }
-    ensures found { HasCleanDisk (state S.Store conn.new) → IfOk result (λ xs. HasChanges (state S.Store conn.new).now xs.items) }
-    ensures answer { HasCleanDisk (state S.Store conn.new) → IfOk result (λ xs. (rows : RowsOf) → Holds (state S.Store conn.old) rows → IsPermutation rows.changes xs.items) }
+    ensures found { HasCleanDisk (state S.Store conn.new) → IfOk result (λ xs. HasChanges (state S.Store conn.new).now (map Q.row_of xs.items)) }
+    ensures read { IfOk result (λ xs. AllByRecursion Q.is_read xs.items) }
+    ensures answer { HasCleanDisk (state S.Store conn.new) → IfOk result (λ xs. (rows : RowsOf) → Holds (state S.Store conn.old) rows → IsPermutation rows.changes (map Q.row_of xs.items)) }
     ensures asks { OnlyAsks (state S.Store conn.old) (state S.Store conn.new) }
     ensures same { HasCleanDisk (state S.Store conn.new) → OnOk result (Shows (state S.Store conn.old) (state S.Store conn.new) (state S.Store conn.old).now (state S.Store conn.old).now false) }
     ensures only { HasCleanDisk (state S.Store conn.new) → OnOk result ((rows : RowsOf) → Holds (state S.Store conn.new) rows → Holds (state S.Store conn.old) rows) }
-    ensures bad { HasCleanDisk (state S.Store conn.new) → result ≡ Err BadRow → (rows : RowsOf) → Holds (state S.Store conn.old) rows → ⊥ }
+    ensures bad { HasCleanDisk (state S.Store conn.new) → result ≡ Err BadRow → (rows : RowsOf) → Holds (state S.Store conn.old) rows → AllByRecursion (λ row. (x : T) × Q.is_read x × (row ≡ Q.row_of x)) rows.changes → ⊥ }
 {
-    all(
+    all::<S, ChangeRow, T, Q>(
         alloc,
         conn,
+        reader,
         "SELECT rowid, origin, number, side, owner, type, data, ttl FROM changes",
     )
 }
@@ -181,10 +253,10 @@ pub fn all_rows<S: Alter>(alloc: Global, conn: &mut Connection<S>) -> Result<All
     ensures bad { HasCleanDisk (state S.Store conn.new) → result ≡ Err BadRow → (rows : RowsOf) → Holds (state S.Store conn.old) rows → ⊥ }
 {
     let versions = versions(alloc, conn)?;
-    let zones = all_zones(alloc, conn)?;
-    let records = all_records(alloc, conn)?;
-    let receipts = all_receipts(alloc, conn)?;
-    let changes = all_changes(alloc, conn)?;
+    let zones = all_zones(alloc, conn, &mut WholeRows)?;
+    let records = all_records(alloc, conn, &mut WholeRows)?;
+    let receipts = all_receipts(alloc, conn, &mut WholeRows)?;
+    let changes = all_changes(alloc, conn, &mut WholeRows)?;
     Ok(AllRows {
         versions,
         zones,

@@ -12,5 +12,5 @@ returns-in_err-read-clause-bad g c is xs same readable =
     c.loop-row.yielded c.loop-row.row-iterator c.loop-row.yielded_by c.next.result c.next.new.self c.in-Some.row c.in-Some.is c.next.ensures.steps in
     let it = stored_at g.T.FromRow.stored IsReadableRow xs (length c.loop-row.yielded) c.in-Some.row (subst (λ l. length c.loop-row.yielded < length l) same turn.0)
     (subst (λ l. c.in-Some.row ≡ get_or l (length c.loop-row.yielded) c.in-Some.row) same turn.1) (subst (AllByRecursion IsReadableRow) same readable) in
-    let told = rw is at c.from_residual.ensures.1 in
+    let told = rw is at c.from_residual-in_err-read.ensures.1 in
     c.in_err-read.ensures.bad (cc) it.0 it.1 it.2

@@ -5,6 +5,6 @@ use Rattle.office_sql.proofs.from_row.read_rows.Given as goal
 
 abbrev pub invariant-loop-row : goal.invariant-loop-row
 invariant-loop-row g l = record {
-  same : l.yielded ≡ map g.T.FromRow.stored l.read.items;
+  same : l.yielded ≡ map g.T.FromRow.stored l.values.items;
   readable : AllByRecursion IsReadableRow l.yielded;
 }

@@ -1,50 +1,47 @@
-use Rattle.std.proofs.Common.{◌≡◌, ◌∙◌, true, false, true≢false, map, sym, ap, subst, rules}
-use Rattle.std.specs.List.{IsDistinct}
-use Rattle.std.specs.Ordering.{int_eq}
-use Rattle.sqlite.specs.Effect.{Database}
-use Rattle.office_sql.proofs.RowLemmas.{never_bad}
-use Rattle.office_sql.proofs.WholeTables.{numbers_same, read_stored, stores_read}
+use Rattle.std.proofs.Common.{◌≡◌, ◌∙◌, true, true≢false, not, map, sym, ap, rules}
+use Rattle.sqlite.specs.Held.{state}
+use Rattle.sqlite.proofs.Callers.{shown_begins}
+use Rattle.office_sql.specs.Holds.{IsSettled}
+use Rattle.office_sql.proofs.Commits.{clean_if_open}
+use Rattle.office_sql.proofs.PlainQueries.{asks_only}
+use Rattle.office_sql.proofs.WholeTables.{never_twice, stores_read}
 use Rattle.office_sql.proofs.scans.all.Goals as goal
-use Rattle.office_sql.proofs.scans.all.Goals.{else-has_tables-via-then-has_tables+else-are_apart, else-has_tables-via-else-has_tables}
 
-pub returns-in_err-rows-clause-bad : goal.returns-in_err-rows-clause-bad
-returns-in_err-rows-clause-bad g c clean is = absurd (let told = rw is at c.from_residual.ensures.1 in never_bad _ (sym told))
+pub returns-in_err-rowids-clause-asks : goal.returns-in_err-rowids-clause-asks
+returns-in_err-rowids-clause-asks g c =
+    let old = state g.S.Store c.args.conn.now in
+    let new = c.scan.new.conn in
+    let settled : IsSettled old = λ up. sym (c.is_autocommit-is_alone.ensures.settled (c.is_autocommit-is_alone.ensures.value ∙ ap not c.requires.idle) up) in
+    asks_only old (state g.S.Store new) settled (clean_if_open _ _ (g.met.S.Store.shut_if_dirty new.store)) (g.met.S.Store.settled new.store) c.scan.ensures.writes
 
-pub returns-in_err-rowids-clause-bad : goal.returns-in_err-rowids-clause-bad
-returns-in_err-rowids-clause-bad g c clean is =
-    let rows = c.in_ok-rows.rows.items in
-    let h = c.in_ok-rows.ensures.shown clean in
-    let told = rw is at c.from_residual-in_err-rowids.ensures.1 in (
-      rows,
-      h.0,
-      h.1,
-      (λ schema xs stores. let it = read_stored g.T.FromRow.stored rows xs stores in c.in_err-rowids.ensures.bad (cc) it.ids it.values it.first it.rest it.readable),
-    )
+pub returns-then-are_apart-clause-asks : goal.returns-then-are_apart-clause-asks
+returns-then-are_apart-clause-asks g c =
+    let old = state g.S.Store c.args.conn.now in
+    let new = c.scan.new.conn in
+    let settled : IsSettled old = λ up. sym (c.is_autocommit-is_alone.ensures.settled (c.is_autocommit-is_alone.ensures.value ∙ ap not c.requires.idle) up) in
+    asks_only old (state g.S.Store new) settled (clean_if_open _ _ (g.met.S.Store.shut_if_dirty new.store)) (g.met.S.Store.settled new.store) c.scan.ensures.writes
 
 pub returns-then-are_apart-clause-shown : goal.returns-then-are_apart-clause-shown
 returns-then-are_apart-clause-shown g c clean =
-    let rows = c.in_ok-rows.rows.items in
-    let h = c.in_ok-rows.ensures.shown clean in
-    let found = c.in_ok-rowids.ensures.found in
-    let t : c.are_apart.result ≡ true = search rules in
-    (rows, h.0, h.1, stores_read rows c.in_ok-rowids.rowids.items (map g.T.FromRow.stored c.in_ok-rowids.read.items) found.0 found.1 found.2 (c.are_apart.ensures.0 t))
+    let h = c.in_ok-rowids.ensures.shown clean in
+    (h.0, h.1, stores_read g.R.FromRow.stored h.0 c.in_ok-rowids.rowids.items (map g.Q.RowReader.row_of c.in_ok-rowids.read.items) h.2 (c.are_apart.ensures.0 c.if-are_apart.true))
 
-pub returns-else-has_tables-clause-bad : goal.returns-else-has_tables-clause-bad
-returns-else-has_tables-clause-bad g c clean is =
-    let rows = c.in_ok-rows.rows.items in
-    let h = c.in_ok-rows.ensures.shown clean in
-    let now = (c.in_ok-rows.ensures.same clean).now_is in (
-      rows,
-      h.0,
-      h.1,
-      (λ schema xs stores. elim c.else-has_tables.branch [
-        | else-has_tables-via-then-has_tables+else-are_apart w ↦ (let it = read_stored g.T.FromRow.stored rows xs stores in
-            let same = numbers_same c.in_ok-rowids.rowids.items it.ids (sym c.in_ok-rowids.ensures.found.0 ∙ it.first) in
-            let yes = w.are_apart.ensures.1 (subst (IsDistinct int_eq) (sym same) it.distinct) in
-            let no : w.are_apart.result ≡ false = search rules in
-            absurd (true≢false (sym yes ∙ no)))
-        | else-has_tables-via-else-has_tables w ↦ (let yes = c.has_tables.ensures.known.1 (schema.0, ap (λ (d : Database). d.schema) now ∙ schema.1) in
-            let no : c.has_tables.result ≡ false = search rules in
-            absurd (true≢false (sym yes ∙ no)))
-      ]),
+pub returns-else-are_apart-clause-asks : goal.returns-else-are_apart-clause-asks
+returns-else-are_apart-clause-asks g c =
+    let old = state g.S.Store c.args.conn.now in
+    let new = c.scan.new.conn in
+    let settled : IsSettled old = λ up. sym (c.is_autocommit-is_alone.ensures.settled (c.is_autocommit-is_alone.ensures.value ∙ ap not c.requires.idle) up) in
+    asks_only old (state g.S.Store new) settled (clean_if_open _ _ (g.met.S.Store.shut_if_dirty new.store)) (g.met.S.Store.settled new.store) c.scan.ensures.writes
+
+pub returns-else-are_apart-clause-bad : goal.returns-else-are_apart-clause-bad
+returns-else-are_apart-clause-bad g c clean is =
+    let old = state g.S.Store c.args.conn.now in
+    let new = state g.S.Store c.scan.new.conn in
+    let h = c.in_ok-rowids.ensures.shown clean in
+    let yes : c.has_tables.result ≡ true = search rules in
+    let plain = c.requires.plain (c.has_tables.ensures.known.0 yes) in
+    let apart = c.are_apart.ensures.1 in
+    let failed = c.if-are_apart.false in (
+      (c.in_ok-rowids.ensures.same clean).0.is_open,
+      λ office. (h.0, shown_begins c.args.sql.now _ old new h.0 plain h.1, never_twice g.R.FromRow.stored _ h.0 c.in_ok-rowids.rowids.items (map g.Q.RowReader.row_of c.in_ok-rowids.read.items) h.2 (λ distinct. true≢false (sym (apart distinct) ∙ failed))),
     )
