@@ -1,9 +1,10 @@
 -- The rows of records: what is written is read, and what is read was written so.
-use Rattle.std.proofs.Common.{◌≡◌, ℕ, true, List, sym, ap, ◌∙◌, ◌&&◌}
+use Rattle.std.proofs.Common.{◌≡◌, ℕ, true, List, Ok, sym, ap, ◌∙◌, ◌&&◌}
 use Rattle.std.proofs.lemmas.Bool.{and_parts, and_from}
 use Rattle.std.proofs.lemmas.Bool.Decides.{Decides-int_eq}
 use Rattle.std.specs.Prelude.{pos, bytes_eq}
 use Rattle.std.specs.Ordering.{int_eq}
+use Rattle.dns_names.specs.Keys.{key_of}
 use Rattle.dns_names.specs.Labels.{IsName}
 use Rattle.dns_names.specs.Spelling.{name_text}
 use Rattle.dns_data.specs.declared.rdata.Data.{Data}
@@ -15,9 +16,12 @@ use Rattle.dns_data.specs.Types.{type_number}
 use Rattle.dns_data.proofs.ApartLaws.{one_text}
 use Rattle.office_sql.specs.Rows.{RecordRowOf, same_key}
 use Rattle.office_rows.specs.RecordRows.{record_row, RecordRowsAreApart, KeysAreOfRecords}
-use Rattle.office_rows.specs.RowReading.{type_in, record_in}
-use Rattle.office_rows.proofs.RowSteps.{ok_is}
-use Rattle.office_rows.proofs.ColumnLaws.{type_read}
+use Rattle.office_rows.specs.declared.ordered.ZoneRecord.{ZoneRecord}
+use Rattle.office_rows.specs.Checks.{row_of_record, IsZoneRecord}
+use Rattle.office_rows.specs.RowFaults.{◌>>=◌, canonical}
+use Rattle.office_rows.specs.RowReading.{name_in, type_in, record_at, record_in, zone_record_in}
+use Rattle.office_rows.proofs.RowSteps.{ok_is, step_ok, canonical_again, canonical_ok}
+use Rattle.office_rows.proofs.ColumnLaws.{name_read, name_found, type_read, record_read, record_found}
 use Rattle.office_rows.proofs.StoredLaws.{row_read}
 use Rattle.office_rows.proofs.NameLemmas.{bytes_is, bytes_same, text_one}
 
@@ -29,6 +33,27 @@ Labels = List (List ℕ)
 pub record_rows_are_apart : RecordRowsAreApart
 record_rows_are_apart o p r s is also rec other e =
     (text_one o p is also (ap (λ (x : RecordRowOf). x.origin) e), ok_is r s (sym (row_read o r rec) ∙ ap record_in e ∙ row_read p s other))
+
+-- ---- records of zones
+
+pub zone_record_again : (r : ZoneRecord) → IsZoneRecord r → zone_record_in (row_of_record r) ≡ Ok r
+zone_record_again r is =
+    let row = row_of_record r in
+    ap (λ x. x >>= λ origin. record_at row.owner row.record_type row.rdata row.ttl >>= λ rr. canonical (key_of rr.owner) row.owner_key (record { origin = origin; rr = rr })) (name_read r.origin is.origin)
+    ∙ ap (λ x. x >>= λ (rr : Record). canonical (key_of rr.owner) row.owner_key (record { origin = r.origin; rr = rr })) (record_read r.rr is.rr)
+    ∙ canonical_again row.owner_key r
+
+pub zone_record_found : (row : RecordRowOf) (r : ZoneRecord) → zone_record_in row ≡ Ok r → row ≡ row_of_record r
+zone_record_found row r e =
+    let o = step_ok (name_in row.origin) (λ origin. record_at row.owner row.record_type row.rdata row.ttl >>= λ rr. canonical (key_of rr.owner) row.owner_key (record { origin = origin; rr = rr })) r e in
+    let rr = step_ok (record_at row.owner row.record_type row.rdata row.ttl) (λ rr. canonical (key_of rr.owner) row.owner_key (record { origin = o.0; rr = rr })) r o.2 in
+    let made : ZoneRecord = record { origin = o.0; rr = rr.0 } in
+    let key = canonical_ok (key_of rr.0.owner) row.owner_key made r rr.2 in
+    let name = name_found row.origin o.0 o.1 in
+    let columns = record_found row.owner row.record_type row.rdata row.ttl rr.0 rr.1 in
+    let is : row ≡ row_of_record made =
+    λ i. record { origin = name i; owner = columns.owner_is i; record_type = columns.type_is i; rdata = columns.rdata_is i; ttl = columns.ttl_is i; owner_key = sym key.0 i } in
+    is ∙ ap row_of_record key.1
 
 -- ---- keys
 

@@ -104,3 +104,22 @@ same_spelling spelled text differs d f = (bytes_eq-Decides spelled text).0 (go (
   go : (b : Bool) → not b ≡ false → b ≡ true
   go true e = refl
   go false e = absurd cc
+
+-- steps are taken one after the other
+pub steps_joined : {A B C : Type 0} (r : Result A RowFault) (f : A → Result B RowFault) (g : B → Result C RowFault) → ((r >>= f) >>= g) ≡ (r >>= λ x. f x >>= g)
+steps_joined (Ok x) f g = refl
+steps_joined (Err e) f g = refl
+
+-- ---- what was read, if its one spelling is the text
+
+module _ {A : Type 0} (spell : A → List ℕ) (text : List ℕ) (read : Result A RowFault) (x : A) (spelled : List ℕ) (differs : Bool) (is : read ≡ Ok x) (told : spelled ≡ spell x) (d : differs ≡ not (bytes_eq spelled text)) where
+  pub spelled_so : differs ≡ false → (read >>= λ y. canonical (spell y) text y) ≡ Ok x
+  spelled_so f =
+      let same = sym told ∙ same_spelling spelled text differs d f in
+      ap (λ r. r >>= λ y. canonical (spell y) text y) is ∙ ap (λ s. canonical s text x) same ∙ canonical_again text x
+
+  pub spelled_other : differs ≡ true → (read >>= λ y. canonical (spell y) text y) ≡ Err BadRow
+  spelled_other t = ap (λ r. r >>= λ y. canonical (spell y) text y) is ∙ ap (λ s. canonical s text x) (sym told) ∙ go (bytes_eq spelled text) (sym d ∙ t) where
+    go : (b : Bool) → not b ≡ true → cond b (done x) (Err BadRow) ≡ Err BadRow
+    go true e = absurd cc
+    go false e = refl

@@ -10,6 +10,8 @@ use Rattle.grant_policy.specs.declared.identifier.IdentifierFault.{IdentifierFau
 use Rattle.grant_policy.specs.declared.identifier.IdentifierFault.TheVariants as identifiers
 use Rattle.office_state.specs.declared.items_fault.ItemsFault.{ItemsFault}
 use Rattle.office_state.specs.declared.items_fault.ItemsFault.TheVariants as items
+use Rattle.office_sql.specs.declared.rows_fault.RowsFault.{RowsFault}
+use Rattle.office_sql.specs.declared.rows_fault.RowsFault.TheVariants as tables
 use Rattle.zone_core.specs.declared.refusals.ZoneFault.{ZoneFault}
 use Rattle.zone_core.specs.declared.refusals.ZoneFault.TheVariants as zones
 use Rattle.office_rows.specs.declared.row_fault.RowFault.{RowFault}
@@ -36,7 +38,12 @@ abbrev pub Answers : {X : Type 0} → (X → Type 0) → Result X RowFault → T
 Answers P (Ok x) = P x
 Answers P (Err e) = e ≡ NoMemory
 
--- ---- the faults of what rows are made of
+-- ---- the faults of what rows are made of, and of tables
+
+-- a row of a table that is not read
+abbrev pub of_table : RowFault → RowsFault
+of_table BadRow = tables.BadRow
+of_table NoMemory = tables.NoMemory
 
 -- a text that is no name
 abbrev pub of_name : NameFault → RowFault

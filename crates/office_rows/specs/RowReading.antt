@@ -4,6 +4,7 @@ use Rattle.std.specs.List.{find, list_all}
 use Rattle.std.specs.List.Sorted.{IsPermutation, IsSorted}
 use Rattle.std.specs.Ordering.{int_eq}
 use Rattle.std.specs.Str.Parse.{digits_value}
+use Rattle.dns_names.specs.Keys.{key_of}
 use Rattle.dns_names.specs.Reading.{absolute_name}
 use Rattle.dns_names.specs.Spelling.{name_text}
 use Rattle.dns_data.specs.declared.rdata.Data.{Data}
@@ -36,6 +37,7 @@ use Rattle.office_sql.specs.Rows.{RecordRowOf, ReceiptRowOf, ChangeRowOf}
 use Rattle.office_rows.specs.ChangeRows.{changed_order, are_of_one, are_numbered, gathered}
 use Rattle.office_rows.specs.declared.changes.ChangedRecord.{ChangedRecord}
 use Rattle.office_rows.specs.declared.ordered.KeptReceipt.{KeptReceipt}
+use Rattle.office_rows.specs.declared.ordered.ZoneRecord.{ZoneRecord}
 use Rattle.office_rows.specs.declared.row_fault.RowFault.{RowFault}
 use Rattle.office_rows.specs.declared.row_fault.RowFault.TheVariants.{BadRow}
 use Rattle.office_rows.specs.declared.side.Side.{Side}
@@ -112,6 +114,12 @@ record_at owner record_type rdata ttl =
 -- the record of a row, whatever its origin
 abbrev pub record_in : RecordRowOf → Result Record RowFault
 record_in row = record_from row.owner row.record_type row.rdata row.ttl
+
+-- the record of a zone in a row, by columns in canonical text and the key of the owner
+abbrev pub zone_record_in : RecordRowOf → Result ZoneRecord RowFault
+zone_record_in row =
+    name_in row.origin >>= λ origin. record_at row.owner row.record_type row.rdata row.ttl >>= λ r.
+    canonical (key_of r.owner) row.owner_key (record { origin = origin; rr = r })
 
 -- ---- replies
 
@@ -192,6 +200,13 @@ abbrev pub changed_in : ChangeRowOf → Result ChangedRecord RowFault
 changed_in row =
     name_from row.origin >>= λ origin. number_in row.number >>= λ number. side_in row.side >>= λ side.
     record_from row.owner row.record_type row.rdata row.ttl >>= λ r.
+    Ok (record { origin = origin; number = number; side = side; changed = r })
+
+-- and by columns in canonical text
+abbrev pub changed_at : ChangeRowOf → Result ChangedRecord RowFault
+changed_at row =
+    name_in row.origin >>= λ origin. number_in row.number >>= λ number. side_in row.side >>= λ side.
+    record_at row.owner row.record_type row.rdata row.ttl >>= λ r.
     Ok (record { origin = origin; number = number; side = side; changed = r })
 
 -- what has a number behind so many changes, numbered from 1

@@ -121,45 +121,8 @@ pub fn change_rows(
     rows_of_sides(alloc, number, &removed, &added)
 }
 
-/// Reads a row of `changes`. A row that is that of no record on a side of a change is `BadRow`: a text is in another spelling than the
-/// canonical one, a number is no type's, the number of the change is below 1, the side is neither 0 nor 1, a TTL has more than 31
-/// bits or is below 0, or data are of another type.
-pub(crate) fn read_change(alloc: Global, row: &ChangeRow) -> Result<ChangedRecord, RowFault>
-    // The row is that of what is read.
-    ensures found { IfOk result (λ c. (row.now ≡ row_of c) × IsChanged c) }
-    // The row of such a record is read as it, unless memory runs out.
-    ensures only { (c : Changed) → IsChanged c → row.now ≡ row_of c → Reads (λ read. read) result (Ok c) }
-{
-    let read = stored_change(alloc, row)?;
-    let again = row_again(alloc, row, &read)?;
-    if !are_same(&again, row) {
-        return Err(RowFault::BadRow);
-    }
-    Ok(read)
-}
-
-/// The row of what was read of another one. The only error is out of memory.
-fn row_again(alloc: Global, row: &ChangeRow, read: &ChangedRecord) -> Result<ChangeRow, AllocError>
-    ensures { row.now.number ≡ pos read.now.number → IfOk result (λ again. again ≡ row_of read.now) }
-{
-    change_row(alloc, &read.origin, row.number, read.side, &read.changed)
-}
-
-/// Whether two rows have the same columns.
-fn are_same(first: &ChangeRow, second: &ChangeRow) -> bool
-    ensures { (result ≡ true) ↔ (first.now ≡ second.now) }
-{
-    first.origin == second.origin
-        && first.number == second.number
-        && first.side == second.side
-        && first.owner == second.owner
-        && first.record_type == second.record_type
-        && first.rdata == second.rdata
-        && first.ttl == second.ttl
-}
-
 /// The number of a change, which counts from 1.
-fn number_in(number: i64) -> Result<u64, RowFault>
+pub(crate) fn number_in(number: i64) -> Result<u64, RowFault>
     ensures { result ≡ number_in number }
 {
     match u64::try_from(number) {

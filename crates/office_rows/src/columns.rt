@@ -8,10 +8,10 @@ ghost use Rattle.dns_data.specs.Items.{item_of};
 ghost use Rattle.dns_data.specs.Rdata.{IsRecord};
 ghost use Rattle.dns_data.specs.Types.{kept_types, type_number};
 ghost use Rattle.office_rows.specs.RowFaults.{Reads};
-ghost use Rattle.office_rows.specs.RowReading.{name_from, fields_of, type_in, data_from, ttl_in, identifier_in, record_from};
+ghost use Rattle.office_rows.specs.RowReading.{name_from, name_in, fields_of, type_in, data_from, data_in, ttl_in, identifier_in, record_from};
 
 use crate::row_fault::RowFault;
-use dns_data::{Data, Item, Record, RecordType, Ttl, read_data};
+use dns_data::{Data, Item, Record, RecordType, Ttl, data_text, read_data};
 use dns_master::tokens;
 use dns_names::Name;
 use grant_policy::Identifier;
@@ -25,6 +25,8 @@ pub fn read_origin(alloc: Global, text: &str) -> Result<Name, RowFault>
     ensures found { IfOk result (λ name. (text.now ≡ name_text name) × IsName name) }
     // The text of a name is read as this name, unless memory runs out.
     ensures only { (name : List (List ℕ)) → IsName name → text.now ≡ name_text name → Reads (λ read. read) result (Ok name) }
+    // Which refusal it is.
+    ensures exact { Reads (λ name. name) result (name_in text.now) }
 {
     let name = name_from(alloc, text)?;
     if name.text(alloc)?.as_str() != text {
@@ -60,7 +62,7 @@ fn type_numbered(number: u64) -> Option<RecordType>
 }
 
 /// The type of a number.
-fn type_in(number: i64) -> Result<RecordType, RowFault>
+pub(crate) fn type_in(number: i64) -> Result<RecordType, RowFault>
     ensures { result ≡ type_in number }
 {
     match u64::try_from(number) {
@@ -77,8 +79,19 @@ fn data_from(alloc: Global, record_type: RecordType, text: &str) -> Result<Data,
     Ok(read_data(alloc, record_type, &items, None)?)
 }
 
+/// Reads the canonical text of data of a type, as `data_text` gives it. Any other text is `BadRow`.
+pub(crate) fn data_in(alloc: Global, record_type: RecordType, text: &str) -> Result<Data, RowFault>
+    ensures { Reads (λ made. made) result (data_in record_type text.now) }
+{
+    let rdata = data_from(alloc, record_type, text)?;
+    if data_text(alloc, &rdata)?.as_str() != text {
+        return Err(RowFault::BadRow);
+    }
+    Ok(rdata)
+}
+
 /// The TTL of so many seconds.
-fn ttl_in(seconds: i64) -> Result<Ttl, RowFault>
+pub(crate) fn ttl_in(seconds: i64) -> Result<Ttl, RowFault>
     ensures { Reads (λ ttl. ttl) result (ttl_in seconds) }
 {
     match u32::try_from(seconds) {

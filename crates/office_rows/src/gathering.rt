@@ -10,7 +10,8 @@ ghost use Rattle.office_rows.specs.ChangeRows.{changes_rows, IsChange, IsChanged
 ghost use Rattle.office_rows.specs.RowFaults.{Reads};
 ghost use Rattle.office_rows.specs.RowReading.{each_read, changed_in, changed_behind, changes_among, AreStoredIn, AreStoredBehind};
 
-use crate::changes::{ChangedRecord, change_behind, read_change, stored_change};
+use crate::change_reader::ChangeReader;
+use crate::changes::{ChangedRecord, change_behind, stored_change};
 use crate::row_fault::RowFault;
 use crate::side::Side;
 use dns_data::{Record, record_order};
@@ -102,9 +103,10 @@ fn each_changed(alloc: Global, rows: Vec<ChangeRow>) -> Result<Vec<ChangedRecord
     ensures found { IfOk result (λ cs. (map row_of cs.items ≡ rows.items) × AllByRecursion IsChanged cs.items) }
     ensures only { AllByRecursion IsChangeRow rows.items → IfErr result (λ e. e ≡ RowFault.NoMemory) }
 {
+    let mut reader = ChangeReader::new();
     let mut changed = Vec::with_capacity(alloc, rows.len())?;
     for row in rows {
-        changed.push(read_change(alloc, &row)?)?;
+        changed.push(reader.read_row(alloc, &row)?)?;
     }
     Ok(changed)
 }
@@ -132,7 +134,7 @@ pub fn sorted_changes(alloc: Global, rows: Vec<ChangeRow>) -> Result<Vec<Changed
 }
 
 /// What rows have, in order. The only error is out of memory.
-fn in_order(mut changed: Vec<ChangedRecord>) -> Result<Vec<ChangedRecord>, AllocError>
+pub(crate) fn in_order(mut changed: Vec<ChangedRecord>) -> Result<Vec<ChangedRecord>, AllocError>
     ensures { IfOk result (λ cs. IsPermutation changed.items cs.items × IsSorted changed_order cs.items) }
 {
     changed.sort_by(|first, second| changed_order(first, second))?;

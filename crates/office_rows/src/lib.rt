@@ -4,13 +4,19 @@
 
 mod ascending;
 mod batches;
+mod change_reader;
 mod changes;
+mod column_reader;
 mod columns;
+mod data_reader;
 mod gathering;
 mod laws;
+mod name_reader;
 pub mod ordered;
+mod origin_reader;
 pub mod reads;
 mod receipts;
+mod record_reader;
 mod records;
 mod replies;
 mod row_fault;
@@ -20,6 +26,7 @@ mod store_fault;
 pub mod zones;
 
 pub use batches::{addition_batch, receipt_batch, replacement_batch, zone_batch};
+pub use change_reader::ChangeReader;
 pub use changes::{ChangedRecord, change_row, change_rows};
 pub use columns::{identifier_text, read_origin};
 pub use gathering::{are_numbered, read_changes, sorted_changes};
@@ -28,9 +35,11 @@ pub use laws::{
     order_does_not_count, receipt_rows_are_apart, record_rows_are_apart, rows_are_by_table,
     states_are_by_table, states_are_sound, zones_are_listed, zones_stand_at_origins,
 };
-pub use ordered::{KeptReceipt, kept_receipts, origins};
+pub use ordered::{KeptReceipt, kept_receipts, origins, sorted_origins};
+pub use origin_reader::OriginReader;
 pub use reads::{changes_behind, changes_of, part_of, receipt_of, records_within, zone_of};
 pub use receipts::{read_receipt, receipt_row};
+pub use record_reader::RecordReader;
 pub use records::{read_record, record_row};
 pub use replies::{read_reply, reply_words};
 pub use row_fault::RowFault;

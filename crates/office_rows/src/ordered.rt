@@ -18,14 +18,14 @@ ghost use Rattle.office_rows.specs.Checks.{IsOriginText, row_of_record, IsZoneRe
 use crate::ascending::Ordered;
 use crate::columns::{identifier_in, read_origin};
 use crate::receipts::{read_receipt, stored_receipt};
-use crate::records::read_record;
+use crate::record_reader::RecordReader;
 use crate::row_fault::RowFault;
 use dns_data::{Record, record_order};
 use dns_names::Name;
 use grant_policy::Identifier;
 use office_sql::{ReceiptRow, RecordRow, ZoneRow};
 use office_state::Receipt;
-use std::alloc::Global;
+use std::alloc::{AllocError, Global};
 use std::cmp::Ordering;
 
 /// A record of the zone of an origin, as a row has it.
@@ -67,6 +67,17 @@ fn all_origins(alloc: Global, rows: &[ZoneRow]) -> Result<Vec<Name>, RowFault>
     Ok(origins)
 }
 
+/// The origins of zones, in canonical order (RFC 4034 section 6.1). The only error is out of memory.
+pub fn sorted_origins(mut origins: Vec<Name>) -> Result<Vec<Name>, AllocError>
+    requires { AllByRecursion IsName origins.items }
+    ensures found { IfOk result (λ os. IsPermutation origins.items os.items × AllByRecursion IsName os.items × IsSorted canonical_cmp os.items) }
+    // The origins of the zones of a state, in any order, are those of the state.
+    ensures held { (version : ℤ) (all : RowsOf) (s : State) → AreOfState version all s → IsPermutation all.zones (map name_text origins.items) → IfOk result (λ os. AreOriginsOf s os.items) }
+{
+    origins.sort_by(|first, second| first.cmp(second))?;
+    Ok(origins)
+}
+
 /// The origins of rows of `zones`, in canonical order (RFC 4034 section 6.1).
 pub fn origins(alloc: Global, rows: &[ZoneRow]) -> Result<Vec<Name>, RowFault>
     ensures found { IfOk result (λ os. IsPermutation (map name_text os.items) rows.now × AllByRecursion IsName os.items × IsSorted canonical_cmp os.items) }
@@ -74,18 +85,8 @@ pub fn origins(alloc: Global, rows: &[ZoneRow]) -> Result<Vec<Name>, RowFault>
     // The rows of a state, in any order, are read as the origins of its zones, unless memory runs out.
     ensures held { (version : ℤ) (all : RowsOf) (s : State) → AreOfState version all s → IsPermutation all.zones rows.now → Answers (λ os. AreOriginsOf s os.items) result }
 {
-    let mut origins = all_origins(alloc, rows)?;
-    origins.sort_by(|first, second| first.cmp(second))?;
-    Ok(origins)
-}
-
-/// The record of a row of `records`.
-fn zone_record(alloc: Global, row: &RecordRow) -> Result<ZoneRecord, RowFault>
-    ensures found { IfOk result (λ r. (row.now ≡ row_of_record r) × IsZoneRecord r) }
-    ensures only { IsZoneRecordRow row.now → IfErr result (λ e. e ≡ RowFault.NoMemory) }
-{
-    let (origin, rr) = read_record(alloc, row)?;
-    Ok(ZoneRecord { origin, rr })
+    let origins = all_origins(alloc, rows)?;
+    Ok(sorted_origins(origins)?)
 }
 
 /// The record of each row. A row goes as soon as it is read.
@@ -93,9 +94,10 @@ fn each_record(alloc: Global, rows: Vec<RecordRow>) -> Result<Vec<ZoneRecord>, R
     ensures found { IfOk result (λ rs. (map row_of_record rs.items ≡ rows.items) × AllByRecursion IsZoneRecord rs.items) }
     ensures only { AllByRecursion IsZoneRecordRow rows.items → IfErr result (λ e. e ≡ RowFault.NoMemory) }
 {
+    let mut reader = RecordReader::new();
     let mut records = Vec::with_capacity(alloc, rows.len())?;
     for row in rows {
-        records.push(zone_record(alloc, &row)?)?;
+        records.push(reader.read_row(alloc, &row)?)?;
     }
     Ok(records)
 }
@@ -116,7 +118,14 @@ pub fn records(alloc: Global, rows: Vec<RecordRow>) -> Result<Vec<ZoneRecord>, R
     ensures found { IfOk result (λ rs. IsPermutation (map row_of_record rs.items) rows.items × AllByRecursion IsZoneRecord rs.items × IsSorted zone_record_order rs.items) }
     ensures only { AllByRecursion IsZoneRecordRow rows.items → IfErr result (λ e. e ≡ RowFault.NoMemory) }
 {
-    let mut records = each_record(alloc, rows)?;
+    let records = each_record(alloc, rows)?;
+    Ok(sorted_records(records)?)
+}
+
+/// Records of zones, by origin, and then in record order. The only error is out of memory.
+pub(crate) fn sorted_records(mut records: Vec<ZoneRecord>) -> Result<Vec<ZoneRecord>, AllocError>
+    ensures { IfOk result (λ rs. IsPermutation records.items rs.items × IsSorted zone_record_order rs.items) }
+{
     records.sort_by(|first, second| zone_record_order(first, second))?;
     Ok(records)
 }

@@ -9,7 +9,8 @@ ghost use Rattle.office_rows.specs.RecordRows.{record_row};
 ghost use Rattle.office_rows.specs.RowFaults.{Reads};
 ghost use Rattle.office_rows.specs.RowReading.{record_in};
 
-use crate::columns::{name_from, record_from};
+use crate::columns::record_from;
+use crate::record_reader::RecordReader;
 use crate::row_fault::RowFault;
 use dns_data::{Record, data_text};
 use dns_names::Name;
@@ -64,25 +65,8 @@ pub fn read_record(alloc: Global, row: &RecordRow) -> Result<(Name, Record), Row
     // The row of a record is read as this record, unless memory runs out.
     ensures only { (origin : List (List ℕ)) (r : RecordOf) → IsName origin → IsRecord r → row.now ≡ record_row origin r → Reads {Y = List (List ℕ) × RecordOf} (λ x. (x.0, x.1)) result (Ok (origin, r)) }
 {
-    let origin = name_from(alloc, row.origin.as_str())?;
-    let rr = stored_record(alloc, row)?;
-    let again = record_row(alloc, &origin, &rr)?;
-    if !are_same(&again, row) {
-        return Err(RowFault::BadRow);
-    }
-    Ok((origin, rr))
-}
-
-/// Whether two rows have the same columns.
-fn are_same(first: &RecordRow, second: &RecordRow) -> bool
-    ensures { (result ≡ true) ↔ (first.now ≡ second.now) }
-{
-    first.origin == second.origin
-        && first.owner == second.owner
-        && first.record_type == second.record_type
-        && first.rdata == second.rdata
-        && first.ttl == second.ttl
-        && first.owner_key == second.owner_key
+    let read = RecordReader::new().read_row(alloc, row)?;
+    Ok((read.origin, read.rr))
 }
 
 /// The record of a row that is known to be that of a record. Its origin, its key and its spelling are not looked at.

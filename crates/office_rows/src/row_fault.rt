@@ -6,6 +6,7 @@ use dns_data::DataFault;
 use dns_master::MasterFault;
 use dns_names::NameFault;
 use grant_policy::IdentifierFault;
+use office_sql::RowsFault;
 use office_state::ItemsFault;
 use std::alloc::{AllocError, AllocFailed};
 use thiserror::Error;
@@ -103,5 +104,18 @@ impl<T: Drop> From<AllocFailed<T>> for RowFault {
 
     fn from(_e: AllocFailed<T>) -> RowFault {
         RowFault::NoMemory
+    }
+}
+
+impl From<RowFault> for RowsFault {
+    ghost use Rattle.office_rows.specs.RowFaults.{of_table};
+
+    ghost from_gives = { λ f e. e ≡ of_table f };
+
+    fn from(fault: RowFault) -> RowsFault {
+        match fault {
+            RowFault::BadRow => RowsFault::BadRow,
+            RowFault::NoMemory => RowsFault::NoMemory,
+        }
     }
 }

@@ -1,57 +1,65 @@
 //! Whether the rows of `zones`, `records` and `changes` are those of zones with their changes, each table by itself.
 
 ghost use Rattle.std.specs.Prelude.{◌≡◌, ◌↔◌, ◌≤◌, ◌&&◌, ◌==◌, ℕ, List, not, true, map, length, Err, IfOk};
-ghost use Rattle.std.specs.List.{position};
+ghost use Rattle.std.specs.List.{AllByRecursion, position};
+ghost use Rattle.dns_names.specs.Labels.{IsName};
 ghost use Rattle.dns_names.specs.Order.{canonical_cmp, same_name};
+ghost use Rattle.dns_names.specs.Spelling.{name_text};
 ghost use Rattle.zone_core.specs.Views.{AreOfZone};
 ghost use Rattle.office_rows.specs.declared.row_fault.RowFault.TheVariants.{BadRow};
+ghost use Rattle.office_rows.specs.ChangeRows.{row_of, IsChanged};
 ghost use Rattle.office_rows.specs.Orders.{rises};
-ghost use Rattle.office_rows.specs.Checks.{AreOrigins, AreOriginRows, AreRecordsOf, AreChangesOf, AreRecordsInTurn, AreChangesInTurn, Checks, records_first, changes_first};
+ghost use Rattle.office_rows.specs.Checks.{row_of_record, IsZoneRecord, AreOrigins, AreOriginRows, AreRecordsOf, AreChangesOf, AreRecordsInTurn, AreChangesInTurn, Checks, records_first, changes_first};
 
 use crate::ascending::rise;
 use crate::changes::ChangedRecord;
-use crate::gathering::{are_numbered, sorted_changes};
-use crate::ordered::{self, ZoneRecord};
+use crate::gathering::{are_numbered, in_order};
+use crate::ordered::{ZoneRecord, sorted_origins, sorted_records};
 use crate::reads::built;
 use crate::row_fault::RowFault;
 use dns_data::{Record, same_record};
 use dns_names::Name;
-use office_sql::{ChangeRow, RecordRow, ZoneRow};
 use std::alloc::{AllocError, Global};
 
-/// The origins of the rows of `zones`, in canonical order. They are `BadRow` where one is the text of no name in its canonical
-/// spelling, or two are of one name.
-pub fn checked_origins(alloc: Global, rows: Vec<ZoneRow>) -> Result<Vec<Name>, RowFault>
-    ensures found { IfOk result (λ origins. AreOriginRows origins.items rows.items) }
-    ensures bad { result ≡ Err BadRow → (origins : List (List (List ℕ))) → ¬ AreOriginRows origins rows.items }
+/// The origins that the rows of `zones` are read as, in canonical order. They are `BadRow` where two of them are one name.
+pub fn checked_origins(origins: Vec<Name>) -> Result<Vec<Name>, RowFault>
+    requires { AllByRecursion IsName origins.items }
+    ensures found { IfOk result (λ sorted. AreOriginRows sorted.items (map name_text origins.items)) }
+    ensures bad { result ≡ Err BadRow → (sorted : List (List (List ℕ))) → ¬ AreOriginRows sorted (map name_text origins.items) }
 {
-    let origins = ordered::origins(alloc, &rows)?;
+    let origins = sorted_origins(origins)?;
     if !are_apart(&origins) {
         return Err(RowFault::BadRow);
     }
     Ok(origins)
 }
 
-/// Checks the rows of `records`, each of which goes as soon as it is read. They are `BadRow` where they are not those of the records
-/// of zones of these origins, which are in canonical order, none twice.
-pub fn check_records(alloc: Global, origins: &[Name], rows: Vec<RecordRow>) -> Result<(), RowFault>
-    requires { AreOrigins origins.now }
-    ensures { Checks (AreRecordsOf origins.now rows.items) result }
+/// Checks what the rows of `records` are read as. It is `BadRow` where these are not the records of zones of these origins, which are in
+/// canonical order, none twice.
+pub fn check_records(
+    alloc: Global,
+    origins: &[Name],
+    records: Vec<ZoneRecord>,
+) -> Result<(), RowFault>
+    requires origins { AreOrigins origins.now }
+    requires records { AllByRecursion IsZoneRecord records.items }
+    ensures { Checks (AreRecordsOf origins.now (map row_of_record records.items)) result }
 {
-    let records = ordered::records(alloc, rows)?;
+    let records = sorted_records(records)?;
     if !are_records_of(alloc, origins, &records)? {
         return Err(RowFault::BadRow);
     }
     Ok(())
 }
 
-/// Checks the rows of `changes`, each of which goes as soon as it is read. They are `BadRow` where they are not those of the changes
-/// of zones of these origins, which are in canonical order, none twice.
-pub fn check_changes(alloc: Global, origins: &[Name], rows: Vec<ChangeRow>) -> Result<(), RowFault>
-    requires { AreOrigins origins.now }
-    ensures { Checks (AreChangesOf origins.now rows.items) result }
+/// Checks what the rows of `changes` are read as. It is `BadRow` where these are not the changes of zones of these origins, which are in
+/// canonical order, none twice.
+pub fn check_changes(origins: &[Name], changes: Vec<ChangedRecord>) -> Result<(), RowFault>
+    requires origins { AreOrigins origins.now }
+    requires changes { AllByRecursion IsChanged changes.items }
+    ensures { Checks (AreChangesOf origins.now (map row_of changes.items)) result }
 {
-    let changes = sorted_changes(alloc, rows)?;
+    let changes = in_order(changes)?;
     if !are_changes_of(origins, &changes) {
         return Err(RowFault::BadRow);
     }
