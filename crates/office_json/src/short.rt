@@ -3,7 +3,7 @@
 ghost use Rattle.std.specs.Prelude.{◌≡◌, ◌≤◌, ◌+◌, length, IsOk, codes};
 ghost use Rattle.std.specs.Vec.{vec_capacity};
 ghost use Rattle.grant_policy.specs.Identifiers.{IsIdentifier};
-ghost use Rattle.zone_core.specs.Kinds.{list_word};
+ghost use Rattle.office_json.specs.Json.{escaped};
 ghost use Rattle.office_json.specs.Appending.{Appends};
 ghost use Rattle.office_json.specs.Replies.{rule_of, refusal_body, code_body, form_error_body, place_body, refusing_body, refused_body, granted_body, update_body, right_body};
 
@@ -107,7 +107,7 @@ fn push_refused(
     ensures room { length out.old.items + 256 ≤ vec_capacity out.old → IsOk result }
 {
     let mut digits = Buffer::new();
-    push_refusal_of(out, rule_of(by), digits.format(item), list)
+    push_refusal_of(out, rule_of(by), digits.format(item), list.text())
 }
 
 /// REFUSED, by a rule, and the item that it is of: the digits of its number, and its list.
@@ -115,11 +115,13 @@ fn push_refusal_of<'a>(
     out: &mut Vec<u8>,
     rule: &'a [u8],
     item: &'a str,
-    list: ItemList,
+    list: &'a str,
 ) -> Result<(), AllocError>
     requires rule { IsIdentifier rule.now }
     requires item { length item.now ≤ 40 }
-    ensures text { Appends out.old out.new (refusing_body rule.now item.now (list_word list)) result }
+    requires list { length list.now ≤ 13 }
+    requires plain { escaped list.now ≡ list.now }
+    ensures text { Appends out.old out.new (refusing_body rule.now item.now list.now) result }
     ensures room { length out.old.items + 256 ≤ vec_capacity out.old → IsOk result }
 {
     push_all(
@@ -130,7 +132,7 @@ fn push_refusal_of<'a>(
             r#"","code":5,"item":"#.as_bytes(),
             item.as_bytes(),
             r#","list":""#.as_bytes(),
-            list.text().as_bytes(),
+            list.as_bytes(),
             r#"","name":"REFUSED"}"#.as_bytes(),
         ],
     )

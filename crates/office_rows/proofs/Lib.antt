@@ -22,6 +22,7 @@ pub mod TableLaws
 pub mod StateChecks
 pub mod ListedLemmas
 pub mod ZoneStepLemmas
+pub mod ReadZoneLemmas
 pub mod ListingLemmas
 pub mod RecordLemmas
 pub mod ChangeLemmas

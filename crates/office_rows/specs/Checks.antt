@@ -98,8 +98,8 @@ abbrev pub StatesAreByTable : Type 0
 StatesAreByTable = (version : ℤ) (rows : RowsOf) → AreStateRows version rows ↔ ((s : State) × AreOfState version rows s)
 
 -- a check passes only where this holds, and refuses a row only where it doesn't; out of memory says nothing of it
-abbrev pub Checks : Type 0 → Result (Unit {0}) RowFault → Type 0
-Checks P (Ok passed) = P
+abbrev pub Checks : {X : Type 0} → Type 0 → Result X RowFault → Type 0
+Checks P (Ok x) = P
 Checks P (Err BadRow) = ¬ P
 Checks P (Err NoMemory) = Unit {0}
 

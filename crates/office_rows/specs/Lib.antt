@@ -10,5 +10,6 @@ pub mod Orders
 pub mod PartRows
 pub mod States
 pub mod Checks
+pub mod ReadZones
 pub mod Listed
 pub mod Batches

@@ -1,11 +1,10 @@
 //! The rows of `changes`.
 
-ghost use Rattle.std.specs.Prelude.{◌≡◌, ◌↔◌, ◌++◌, ℕ, pos, true, Ok, IfOk, OnOk, map};
+ghost use Rattle.std.specs.Prelude.{◌≡◌, ◌++◌, ℕ, pos, IfOk, OnOk, map};
 ghost use Rattle.dns_names.specs.Labels.{IsName};
 ghost use Rattle.dns_data.specs.Rdata.{IsRecord};
 ghost use Rattle.zone_core.specs.Changes.{change_in};
-ghost use Rattle.office_rows.specs.declared.changes.ChangedRecord.{ChangedRecord as Changed};
-ghost use Rattle.office_rows.specs.ChangeRows.{change_row, change_rows, row_of, row_on_side, IsChanged};
+ghost use Rattle.office_rows.specs.ChangeRows.{change_rows, row_on_side};
 ghost use Rattle.office_rows.specs.declared.side.Side.TheVariants.{Removed, Added};
 ghost use Rattle.office_rows.specs.RowFaults.{Reads};
 ghost use Rattle.office_rows.specs.RowReading.{number_in, changed_in, renumbered, changed_behind};
@@ -14,7 +13,7 @@ use crate::columns::{name_from, record_from};
 use crate::records::record_rows;
 use crate::row_fault::RowFault;
 use crate::side::Side;
-use dns_data::{Record, data_text};
+use dns_data::Record;
 use dns_names::Name;
 use office_sql::{ChangeRow, RecordRow};
 use std::alloc::{AllocError, Global};
@@ -30,28 +29,6 @@ pub struct ChangedRecord {
     pub side: Side,
     /// The record that went or came.
     pub changed: Record,
-}
-
-/// The row of a record on a side of the change of a number, which counts from 1, of the zone of an origin. The only error is want of
-/// memory.
-pub fn change_row(
-    alloc: Global,
-    origin: &Name,
-    number: i64,
-    side: Side,
-    rr: &Record,
-) -> Result<ChangeRow, AllocError>
-    ensures { (n : ℕ) → number ≡ pos n → IfOk result (λ row. row ≡ change_row origin.now n side rr.now) }
-{
-    Ok(ChangeRow {
-        origin: origin.text(alloc)?,
-        number,
-        side: side.number(),
-        owner: rr.owner.text(alloc)?,
-        record_type: i64::from(rr.record_type().number()),
-        rdata: data_text(alloc, &rr.rdata)?,
-        ttl: i64::from(rr.ttl.seconds()),
-    })
 }
 
 /// The row of a record on a side of the change of a number, by the row that the record has in its zone, so that nothing is spelled

@@ -10,6 +10,7 @@ mod column_reader;
 mod columns;
 mod data_reader;
 mod gathering;
+mod largest_zone;
 mod laws;
 mod name_reader;
 pub mod ordered;
@@ -27,7 +28,7 @@ pub mod zones;
 
 pub use batches::{addition_batch, receipt_batch, replacement_batch, zone_batch};
 pub use change_reader::ChangeReader;
-pub use changes::{ChangedRecord, change_row, change_rows};
+pub use changes::{ChangedRecord, change_rows};
 pub use columns::{identifier_text, read_origin};
 pub use gathering::{are_numbered, read_changes, sorted_changes};
 pub use laws::{

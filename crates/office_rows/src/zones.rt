@@ -1,6 +1,6 @@
 //! Whether the rows of `zones`, `records` and `changes` are those of zones with their changes, each table by itself.
 
-ghost use Rattle.std.specs.Prelude.{◌≡◌, ◌↔◌, ◌≤◌, ◌&&◌, ◌==◌, ℕ, List, not, true, map, length, Err, IfOk};
+ghost use Rattle.std.specs.Prelude.{◌≡◌, ◌↔◌, ◌≤◌, ◌&&◌, ◌==◌, ℕ, List, not, true, map, length, Err, IfOk, IfSome};
 ghost use Rattle.std.specs.List.{AllByRecursion, position};
 ghost use Rattle.dns_names.specs.Labels.{IsName};
 ghost use Rattle.dns_names.specs.Order.{canonical_cmp, same_name};
@@ -10,16 +10,19 @@ ghost use Rattle.office_rows.specs.declared.row_fault.RowFault.TheVariants.{BadR
 ghost use Rattle.office_rows.specs.ChangeRows.{row_of, IsChanged};
 ghost use Rattle.office_rows.specs.Orders.{rises};
 ghost use Rattle.office_rows.specs.Checks.{row_of_record, IsZoneRecord, AreOrigins, AreOriginRows, AreRecordsOf, AreChangesOf, AreRecordsInTurn, AreChangesInTurn, Checks, records_first, changes_first};
+ghost use Rattle.office_rows.specs.ReadZones.{IsReadAmong};
 
 use crate::ascending::rise;
 use crate::changes::ChangedRecord;
 use crate::gathering::{are_numbered, in_order};
+use crate::largest_zone::largest_zone;
 use crate::ordered::{ZoneRecord, sorted_origins, sorted_records};
 use crate::reads::built;
 use crate::row_fault::RowFault;
 use dns_data::{Record, same_record};
 use dns_names::Name;
 use std::alloc::{AllocError, Global};
+use zone_core::Zone;
 
 /// The origins that the rows of `zones` are read as, in canonical order. They are `BadRow` where two of them are one name.
 pub fn checked_origins(origins: Vec<Name>) -> Result<Vec<Name>, RowFault>
@@ -34,22 +37,23 @@ pub fn checked_origins(origins: Vec<Name>) -> Result<Vec<Name>, RowFault>
     Ok(origins)
 }
 
-/// Checks what the rows of `records` are read as. It is `BadRow` where these are not the records of zones of these origins, which are in
-/// canonical order, none twice.
+/// Checks what the rows of `records` are read as, and answers the zone that has most records, as far as there is memory for it. They are
+/// `BadRow` where they are not the records of zones of these origins, which are in canonical order, none twice.
 pub fn check_records(
     alloc: Global,
     origins: &[Name],
     records: Vec<ZoneRecord>,
-) -> Result<(), RowFault>
+) -> Result<Option<Zone>, RowFault>
     requires origins { AreOrigins origins.now }
     requires records { AllByRecursion IsZoneRecord records.items }
-    ensures { Checks (AreRecordsOf origins.now (map row_of_record records.items)) result }
+    ensures check { Checks (AreRecordsOf origins.now (map row_of_record records.items)) result }
+    ensures zone { IfOk result (λ found. IfSome found (λ zone. IsReadAmong origins.now (map row_of_record records.items) zone)) }
 {
     let records = sorted_records(records)?;
     if !are_records_of(alloc, origins, &records)? {
         return Err(RowFault::BadRow);
     }
-    Ok(())
+    Ok(largest_zone(alloc, origins, records))
 }
 
 /// Checks what the rows of `changes` are read as. It is `BadRow` where these are not the changes of zones of these origins, which are in
