@@ -1,5 +1,5 @@
 -- The rows of receipts: what is written is read, and what is read was written so.
-use Rattle.std.proofs.Common.{◌≡◌, ℕ, List, Result, Ok, sym, ap, subst, ◌∙◌}
+use Rattle.std.proofs.Common.{◌≡◌, ℕ, List, Result, Ok, refl, sym, ap, ◌∙◌}
 use Rattle.zone_core.specs.Updates.{UpdateOf, IsUpdate}
 use Rattle.office_state.specs.declared.receipt.Receipt.{Receipt}
 use Rattle.office_state.specs.declared.reply.UpdateReply.{UpdateReply}
@@ -8,19 +8,31 @@ use Rattle.office_state.proofs.PrintLaws.{update_read}
 use Rattle.office_sql.specs.Rows.{ReceiptRowOf}
 use Rattle.office_rows.specs.declared.row_fault.RowFault.{RowFault}
 use Rattle.office_rows.specs.Contents.{ReceiptAt, row_of_receipt, IsReceiptAt}
-use Rattle.office_rows.specs.ReceiptRows.{receipt_row, receipt_row_in, IsRowOfReceipt, SameButReply, ReceiptRowsAreApart}
-use Rattle.office_rows.specs.ReplyWords.{AreWordsOf}
-use Rattle.office_rows.specs.RowFaults.{◌>>=◌, of_updates_in}
-use Rattle.office_rows.specs.RowReading.{request_in, reply_in, receipt_in}
+use Rattle.office_rows.specs.ReceiptRows.{HasReceipt, IsRowOfReceipt, ReceiptRowsAreApart}
+use Rattle.office_rows.specs.RowFaults.{◌>>=◌, of_updates_in, canonical}
+use Rattle.office_rows.specs.RowReading.{is_identifier, identifier_in, request_in, request_at, reply_in, receipt_in}
 use Rattle.office_rows.proofs.StoredLaws.{name_stored}
 use Rattle.office_rows.proofs.NameLemmas.{text_one}
 use Rattle.office_rows.proofs.ReplyLaws.{reply_read, one_reply}
-use Rattle.office_rows.proofs.RowSteps.{ok_is}
+use Rattle.office_rows.proofs.RowSteps.{ok_is, step_ok, needed_ok, canonical_again, canonical_ok}
 
 -- ---- requests
 
 request_read : (update : UpdateOf) → IsUpdate update → request_in (update_text update) ≡ Ok update
 request_read update is = ap of_updates_in (update_read update is)
+
+pub request_again : (update : UpdateOf) → IsUpdate update → request_at (update_text update) ≡ Ok update
+request_again update is =
+    ap (λ r. r >>= λ u. canonical (update_text u) (update_text update) u) (request_read update is) ∙ canonical_again (update_text update) update
+
+pub request_found : (text : List ℕ) (update : UpdateOf) → request_at text ≡ Ok update → text ≡ update_text update
+request_found text update e =
+    let s = step_ok (request_in text) (λ u. canonical (update_text u) text u) update e in
+    let t = canonical_ok (update_text s.0) text s.0 update s.2 in
+    sym t.0 ∙ ap update_text t.1
+
+pub identifier_found : (text id : List ℕ) → identifier_in text ≡ Ok id → text ≡ id
+identifier_found text id e = (needed_ok (is_identifier text) text id e).1
 
 -- ---- receipts
 
@@ -44,20 +56,14 @@ receipt_same : (a b : Receipt) → a.origin ≡ b.origin → a.update ≡ b.upda
 receipt_same a b o u p =
     ap (λ x. of_parts x a.update a.reply) o ∙ ap (λ x. of_parts b.origin x a.reply) u ∙ ap (λ x. of_parts b.origin b.update x) p
 
-same_columns : (a b : ReceiptRowOf) → SameButReply a b → a.reply ≡ b.reply → a ≡ b
-same_columns a b same reply = λ k. record { caller = same.0 k; id = same.1 k; origin = same.2 k; request = same.3 k; reply = reply k }
+-- the row of a receipt has it
+pub receipt_had : (r : ReceiptAt) → HasReceipt (row_of_receipt r) r.receipt
+receipt_had r = record { origin_is = refl; request_is = refl; reply_is = (r.wording, refl) }
 
--- what differs from the row that is written in the wording of the reply at most is a row of the receipt
-pub row_told : (row written : ReceiptRowOf) (caller id : List ℕ) (receipt : Receipt) → written ≡ receipt_row caller id receipt → SameButReply written row → AreWordsOf receipt.reply row.reply → IsRowOfReceipt caller id receipt row
-row_told row written caller id receipt e same (wording, words) =
-    let columns = subst (λ (w : ReceiptRowOf). SameButReply w row) e same in
-    (wording, same_columns row (receipt_row_in wording caller id receipt) (sym columns.0, sym columns.1, sym columns.2, sym columns.3) words)
-
-pub told_row : (row written : ReceiptRowOf) (caller id : List ℕ) (receipt : Receipt) → written ≡ receipt_row caller id receipt → IsRowOfReceipt caller id receipt row → SameButReply written row × AreWordsOf receipt.reply row.reply
-told_row row written caller id receipt e (wording, is) =
-    let same : SameButReply (receipt_row caller id receipt) row =
-    (ap (λ (r : ReceiptRowOf). r.caller) (sym is), ap (λ (r : ReceiptRowOf). r.id) (sym is), ap (λ (r : ReceiptRowOf). r.origin) (sym is), ap (λ (r : ReceiptRowOf). r.request) (sym is)) in
-    (subst (λ (w : ReceiptRowOf). SameButReply w row) (sym e) same, (wording, ap (λ (r : ReceiptRowOf). r.reply) is))
+-- and a row that has it, with its caller and its identifier, is one of it
+pub row_of_parts : (row : ReceiptRowOf) (caller id : List ℕ) (receipt : Receipt) → row.caller ≡ caller → row.id ≡ id → HasReceipt row receipt → IsRowOfReceipt caller id receipt row
+row_of_parts row caller id receipt c i has =
+    (has.reply_is.0, λ k. record { caller = c k; id = i k; origin = has.origin_is k; request = has.request_is k; reply = has.reply_is.1 k })
 
 pub receipt_rows_are_apart : ReceiptRowsAreApart
 receipt_rows_are_apart b c i j r s row is also (ours, e) (theirs, f) =

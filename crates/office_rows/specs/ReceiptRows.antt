@@ -6,7 +6,7 @@ use Rattle.zone_core.specs.Updates.{IsUpdate}
 use Rattle.office_state.specs.declared.receipt.Receipt.{Receipt}
 use Rattle.office_state.specs.Texts.{update_text}
 use Rattle.office_sql.specs.Rows.{ReceiptRowOf}
-use Rattle.office_rows.specs.ReplyWords.{Wording, Current, words_in, IsReply}
+use Rattle.office_rows.specs.ReplyWords.{Wording, Current, words_in, AreWordsOf, IsReply}
 
 -- the receipt of a caller under an identifier: the request by its item lines, and the reply by its words, in a wording
 abbrev pub receipt_row_in : Wording → List ℕ → List ℕ → Receipt → ReceiptRowOf
@@ -26,9 +26,11 @@ receipt_row = receipt_row_in Current
 abbrev pub IsRowOfReceipt : List ℕ → List ℕ → Receipt → ReceiptRowOf → Type 0
 IsRowOfReceipt caller id receipt row = (wording : Wording) × (row ≡ receipt_row_in wording caller id receipt)
 
--- two rows differ in their replies at most
-abbrev pub SameButReply : ReceiptRowOf → ReceiptRowOf → Type 0
-SameButReply a b = (a.caller ≡ b.caller) × (a.id ≡ b.id) × (a.origin ≡ b.origin) × (a.request ≡ b.request)
+-- a row has a receipt, under whatever caller and identifier
+pub record HasReceipt (row : ReceiptRowOf) (receipt : Receipt) : Type 0 where
+  pub origin_is : row.origin ≡ name_text receipt.origin
+  pub request_is : row.request ≡ update_text receipt.update
+  pub reply_is : AreWordsOf receipt.reply row.reply
 
 -- what every receipt is: of an origin, an update and a reply
 pub record IsReceipt (receipt : Receipt) : Type 0 where

@@ -33,6 +33,7 @@ use Rattle.office_state.specs.declared.receipt.Receipt.{Receipt}
 use Rattle.office_state.specs.declared.reply.UpdateReply.{UpdateReply}
 use Rattle.office_state.specs.declared.reply.UpdateReply.TheVariants.{NoError, NotAuth, NotZone, Refused, Failed}
 use Rattle.office_state.specs.Reading.{items_of}
+use Rattle.office_state.specs.Texts.{update_text}
 use Rattle.office_sql.specs.Rows.{RecordRowOf, ReceiptRowOf, ChangeRowOf}
 use Rattle.office_rows.specs.ChangeRows.{changed_order, are_of_one, are_numbered, gathered}
 use Rattle.office_rows.specs.declared.changes.ChangedRecord.{ChangedRecord}
@@ -175,6 +176,10 @@ reply_in text = fields_of text >>= reply_of
 -- an update by its item lines
 abbrev pub request_in : List ℕ → Result UpdateOf RowFault
 request_in text = of_updates_in (items_of text)
+
+-- by their canonical text
+abbrev pub request_at : List ℕ → Result UpdateOf RowFault
+request_at text = request_in text >>= λ update. canonical (update_text update) text update
 
 -- the receipt of a row, whatever its caller and identifier
 abbrev pub receipt_in : ReceiptRowOf → Result Receipt RowFault

@@ -1,14 +1,44 @@
 //! Data, read from columns in which those of an SOA record often repeat.
 
-ghost use Rattle.std.specs.Prelude.{◌≡◌, Ok, IfSome, string_bytes};
+ghost use Rattle.std.specs.Prelude.{◌≡◌, true, Ok, IfOk, IfSome, string_bytes};
 ghost use Rattle.dns_data.specs.Text.{data_text};
+ghost use Rattle.zone_core.specs.Effects.{next_data};
 ghost use Rattle.office_rows.specs.RowFaults.{Reads};
 ghost use Rattle.office_rows.specs.RowReading.{data_in};
 
 use crate::columns::data_in;
 use crate::row_fault::RowFault;
-use dns_data::{Data, RecordType};
+use dns_data::{Data, RecordType, Serial, Soa, data_text};
 use std::alloc::{AllocError, Global};
+use zone_core::serial_add;
+
+/// Whether data are of a type and have this canonical text. The only error is out of memory.
+fn is_text_of(
+    alloc: Global,
+    rdata: &Data,
+    record_type: RecordType,
+    text: &str,
+) -> Result<bool, AllocError>
+    ensures { IfOk result (λ yes. yes ≡ true → data_in record_type text.now ≡ Ok rdata.now) }
+{
+    if rdata.record_type() != record_type {
+        return Ok(false);
+    }
+    let spelled = data_text(alloc, rdata)?;
+    Ok(spelled.as_str() == text)
+}
+
+/// Data of an SOA record with the next serial, and others as they are. The only error is out of memory.
+fn next_data(alloc: Global, rdata: &Data) -> Result<Data, AllocError>
+    ensures { IfOk result (λ next. next ≡ next_data rdata.now) }
+{
+    let Data::Soa(soa) = rdata else {
+        return rdata.try_copy(alloc);
+    };
+    let mut next = soa.fields().try_copy(alloc)?;
+    next.serial = Serial(serial_add(next.serial.0, 1));
+    Ok(Data::Soa(Soa::new(alloc, next)?))
+}
 
 /// Data, with their canonical text.
 #[derive(Drop)]
@@ -38,10 +68,22 @@ impl LastData {
         }
         Some(&self.rdata)
     }
+
+    /// The data of an SOA record with the next serial, if this is their text.
+    fn next_of_text(&self, alloc: Global, text: &str) -> Result<Option<Data>, AllocError>
+        ensures { IfOk result (λ found. IfSome found (λ rdata. data_in RecordType.Soa text.now ≡ Ok rdata)) }
+    {
+        let next = next_data(alloc, &self.rdata)?;
+        if is_text_of(alloc, &next, RecordType::Soa, text)? {
+            Ok(Some(next))
+        } else {
+            Ok(None)
+        }
+    }
 }
 
-/// Reads the canonical texts of data. It keeps the last ones of an SOA record, so that a text that comes again is not read again: each
-/// change takes away the SOA record that the change before it brought.
+/// Reads the canonical texts of data. It keeps the last ones of an SOA record. Each change takes away the SOA record that the change
+/// before it brought, whose text is not read again; and mostly it brings one with the next serial, whose text is compared alone.
 #[derive(Drop)]
 pub(crate) struct DataReader {
     soa: Option<LastData>,
@@ -63,6 +105,35 @@ impl DataReader {
         }
     }
 
+    /// The data of an SOA record, if the text is that of the last one with the next serial. The only error is out of memory.
+    fn next_soa(&self, alloc: Global, text: &str) -> Result<Option<Data>, AllocError>
+        ensures { IfOk result (λ found. IfSome found (λ rdata. data_in RecordType.Soa text.now ≡ Ok rdata)) }
+    {
+        match &self.soa {
+            Some(soa) => soa.next_of_text(alloc, text),
+            None => Ok(None),
+        }
+    }
+
+    /// Reads the data of an SOA record, which are not the last ones.
+    fn soa_in(&self, alloc: Global, text: &str) -> Result<Data, RowFault>
+        ensures { Reads (λ made. made) result (data_in RecordType.Soa text.now) }
+    {
+        if let Some(next) = self.next_soa(alloc, text)? {
+            return Ok(next);
+        }
+        data_in(alloc, RecordType::Soa, text)
+    }
+
+    /// Reads the data of an SOA record, and keeps them.
+    fn read_soa(&mut self, alloc: Global, text: &str) -> Result<Data, RowFault>
+        ensures { Reads (λ made. made) result (data_in RecordType.Soa text.now) }
+    {
+        let rdata = self.soa_in(alloc, text)?;
+        self.soa = Some(LastData::new(alloc, text, &rdata)?);
+        Ok(rdata)
+    }
+
     /// Reads the canonical text of data of a type. Any other text is `BadRow`.
     pub(crate) fn read(
         &mut self,
@@ -75,10 +146,9 @@ impl DataReader {
         if let Some(rdata) = self.known(record_type, text) {
             return Ok(rdata.try_copy(alloc)?);
         }
-        let rdata = data_in(alloc, record_type, text)?;
-        if record_type == RecordType::Soa {
-            self.soa = Some(LastData::new(alloc, text, &rdata)?);
+        match record_type {
+            RecordType::Soa => self.read_soa(alloc, text),
+            _ => data_in(alloc, record_type, text),
         }
-        Ok(rdata)
     }
 }

@@ -16,6 +16,7 @@ mod name_reader;
 pub mod ordered;
 mod origin_reader;
 pub mod reads;
+mod receipt_reader;
 mod receipts;
 mod record_reader;
 mod records;

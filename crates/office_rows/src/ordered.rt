@@ -17,7 +17,8 @@ ghost use Rattle.office_rows.specs.Checks.{IsOriginText, row_of_record, IsZoneRe
 
 use crate::ascending::Ordered;
 use crate::columns::{identifier_in, read_origin};
-use crate::receipts::{read_receipt, stored_receipt};
+use crate::receipt_reader::ReceiptReader;
+use crate::receipts::stored_receipt;
 use crate::record_reader::RecordReader;
 use crate::row_fault::RowFault;
 use dns_data::{Record, record_order};
@@ -135,9 +136,10 @@ fn receipt_keys(alloc: Global, rows: Vec<ReceiptRow>) -> Result<Vec<ReceiptKey>,
     ensures found { IfOk result (λ ks. (ks.items ≡ map row_key rows.items) × AllByRecursion IsReceiptRow rows.items) }
     ensures only { AllByRecursion IsReceiptRow rows.items → IfErr result (λ e. e ≡ RowFault.NoMemory) }
 {
+    let mut reader = ReceiptReader::new();
     let mut keys = Vec::with_capacity(alloc, rows.len())?;
     for row in rows {
-        let (caller, id, _receipt) = read_receipt(alloc, &row)?;
+        let (caller, id, _receipt) = reader.read_row(alloc, &row)?;
         keys.push(ReceiptKey { caller, id })?;
     }
     Ok(keys)

@@ -1,24 +1,24 @@
 //! The rows of `receipts`.
 
-ghost use Rattle.std.specs.Prelude.{◌≡◌, ◌↔◌, List, ℕ, true, Ok, IfOk};
+ghost use Rattle.std.specs.Prelude.{◌≡◌, List, ℕ, Ok, IfOk};
 ghost use Rattle.office_state.specs.declared.receipt.Receipt.{Receipt as ReceiptOf};
 ghost use Rattle.office_rows.specs.Contents.{ReceiptAt, receipt_under, row_of_receipt, IsReceiptAt};
-ghost use Rattle.office_rows.specs.ReceiptRows.{receipt_row, IsRowOfReceipt, SameButReply, IsReceipt};
-ghost use Rattle.office_rows.specs.ReplyWords.{reply_words, AreWordsOf};
+ghost use Rattle.office_rows.specs.ReceiptRows.{receipt_row, IsRowOfReceipt, IsReceipt};
 ghost use Rattle.office_rows.specs.RowFaults.{Reads};
-ghost use Rattle.office_rows.specs.RowReading.{request_in, receipt_in};
+ghost use Rattle.office_rows.specs.RowReading.{request_in, request_at, receipt_in};
 
-use crate::columns::{identifier_in, identifier_text, name_from};
-use crate::replies::{are_words_of, reply_in, reply_words, reveal_reply};
+use crate::columns::{identifier_text, name_from};
+use crate::receipt_reader::ReceiptReader;
+use crate::replies::{reply_in, reply_words, reveal_reply};
 use crate::row_fault::RowFault;
 use grant_policy::Identifier;
 use office_sql::ReceiptRow;
-use office_state::{Receipt, UpdateReply, items_text, read_items};
+use office_state::{Receipt, items_text, read_items};
 use std::alloc::{AllocError, Global};
 use zone_core::Update;
 
 /// A receipt is of an origin, an update and a reply. Only proofs need it.
-fn reveal_receipt(receipt: &Receipt)
+pub(crate) fn reveal_receipt(receipt: &Receipt)
     ensures { IsReceipt receipt.now }
 {
     let _ = receipt.origin.labels();
@@ -27,7 +27,7 @@ fn reveal_receipt(receipt: &Receipt)
 }
 
 /// And it is kept under two identifiers. Only proofs need it.
-fn reveal_caller_receipt(caller: &Identifier, id: &Identifier, receipt: &Receipt)
+pub(crate) fn reveal_caller_receipt(caller: &Identifier, id: &Identifier, receipt: &Receipt)
     ensures { IsReceiptAt (receipt_under caller.now id.now receipt.now) }
 {
     let _ = caller.as_bytes();
@@ -71,33 +71,18 @@ pub fn read_receipt(
     // The row of a receipt is read as this receipt, unless memory runs out.
     ensures only { (r : ReceiptAt) → IsReceiptAt r → row.now ≡ row_of_receipt r → Reads {Y = List ℕ × (List ℕ × ReceiptOf)} (λ x. (x.0, (x.1, x.2))) result (Ok (r.caller, (r.id, r.receipt))) }
 {
-    let caller = identifier_in(alloc, row.caller.as_bytes())?;
-    let id = identifier_in(alloc, row.id.as_bytes())?;
-    let receipt = stored_receipt(alloc, row)?;
-    let again = receipt_row(alloc, &caller, &id, &receipt)?;
-    if !is_row_of(row, &again, &receipt.reply) {
+    ReceiptReader::new().read_row(alloc, row)
+}
+
+/// Reads the item lines of an update, as `items_text` gives them. Any other text is `BadRow`.
+pub(crate) fn request_at(alloc: Global, text: &str) -> Result<Update, RowFault>
+    ensures { Reads (λ update. update) result (request_at text.now) }
+{
+    let update = request_in(alloc, text)?;
+    if items_text(alloc, &update)?.as_str() != text {
         return Err(RowFault::BadRow);
     }
-    Ok((caller, id, receipt))
-}
-
-/// Whether a row is that of a receipt with this reply, of which this row is written now.
-fn is_row_of(row: &ReceiptRow, written: &ReceiptRow, reply: &UpdateReply) -> bool
-    requires { written.now.reply ≡ reply_words reply.now }
-    ensures { (result ≡ true) ↔ (SameButReply written.now row.now × AreWordsOf reply.now row.now.reply) }
-{
-    are_same_but_reply(written, row)
-        && are_words_of(row.reply.as_str(), written.reply.as_str(), reply)
-}
-
-/// Whether two rows have the same columns but for the reply.
-fn are_same_but_reply(first: &ReceiptRow, second: &ReceiptRow) -> bool
-    ensures { (result ≡ true) ↔ SameButReply first.now second.now }
-{
-    first.caller == second.caller
-        && first.id == second.id
-        && first.origin == second.origin
-        && first.request == second.request
+    Ok(update)
 }
 
 /// The update of item lines.

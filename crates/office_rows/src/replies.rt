@@ -84,7 +84,7 @@ pub fn read_reply(alloc: Global, words: &str) -> Result<UpdateReply, RowFault>
 }
 
 /// Whether words are those of a reply, of which these are written now.
-pub(crate) fn are_words_of(words: &str, written: &str, reply: &UpdateReply) -> bool
+fn are_words_of(words: &str, written: &str, reply: &UpdateReply) -> bool
     requires { written.now ≡ reply_words reply.now }
     ensures { (result ≡ true) ↔ AreWordsOf reply.now words.now }
 {

@@ -1,5 +1,0 @@
-use Rattle.office_rows.proofs.ColumnLaws.{data_found}
-use Rattle.office_rows.proofs.data_reader.DataReader.read.Goals as goal
-
-pub new-requires : goal.new-requires
-new-requires c = (data_found c.args.record_type c.args.text.now c.in_ok-rdata.rdata c.in_ok-rdata.ensures).1
