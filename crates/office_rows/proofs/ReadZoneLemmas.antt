@@ -4,7 +4,7 @@ use Rattle.std.specs.Prelude.{ℤ, bytes_eq, option_map}
 use Rattle.std.specs.List.{AllByRecursion, list_any}
 use Rattle.std.proofs.lemmas.List.Sorted.{IsPermutation-sym, IsPermutation-trans}
 use Rattle.sqlite_rules.specs.Lists.{Has}
-use Rattle.sqlite_rules.proofs.ListLemmas.{all_has, has_at}
+use Rattle.sqlite_rules.proofs.ListLemmas.{all_has, has_at, some_from}
 use Rattle.sqlite_trees.proofs.ListLemmas.{IsPermutation-filter, IsPermutation-same}
 use Rattle.sqlite_keyed.proofs.ListLemmas.{test_from_all}
 use Rattle.dns_names.specs.Labels.{IsName}
@@ -20,11 +20,12 @@ use Rattle.office_sql.specs.Rows.{RecordRowOf, RowsOf}
 use Rattle.office_sql.specs.Lookups.{records_of}
 use Rattle.office_rows.specs.declared.ordered.ZoneRecord.{ZoneRecord}
 use Rattle.office_rows.specs.Contents.{AreOfState}
-use Rattle.office_rows.specs.Checks.{row_of_record, IsZoneRecord}
-use Rattle.office_rows.specs.ReadZones.{own_records, IsReadAmong, IsReadOf}
+use Rattle.office_rows.specs.Checks.{row_of_record, IsZoneRecord, AreOriginRows}
+use Rattle.office_rows.specs.ReadZones.{own_records, IsReadAmong, IsReadIn, IsReadOf}
 use Rattle.office_rows.specs.RecordRows.{record_row}
 use Rattle.office_rows.specs.RowFaults.{◌>>=◌, of_zones}
 use Rattle.office_rows.specs.RowReading.{each_read, record_in, zone_by}
+use Rattle.office_rows.proofs.ListLemmas.{has_map, has_permutation}
 use Rattle.office_rows.proofs.NameLemmas.{bytes_same, text_same}
 use Rattle.office_rows.proofs.RowSteps.{ok_is}
 use Rattle.office_rows.proofs.StateLaws.{zones_are_listed}
@@ -91,12 +92,23 @@ pub read_among_moved : (origins : List Labels) (rows others : List RecordRowOf) 
 read_among_moved origins rows others None same read = tt
 read_among_moved origins rows others (Some zone) same read = (read.0, read_moved rows others zone same read.1)
 
--- A zone that is read of the rows of a state is its zone, if it has one of the origin.
-pub read_is : (version : ℤ) (all : RowsOf) (s : State) (zone : ZoneOf) → AreOfState version all s → IsName zone.origin → list_any (bytes_eq (name_text zone.origin)) all.zones ≡ true → IsReadOf all.records zone
-    → zone_at s zone.origin ≡ Some zone
-read_is version all s zone st named listed read =
+-- a zone of one of the origins of tables is read in them
+pub read_in : (origins : List Labels) (all : RowsOf) (zone : ZoneOf) → AreOriginRows origins all.zones → IsReadAmong origins all.records zone → IsReadIn all zone
+read_in origins all zone are read = record {
+  named = all_has IsName origins zone.origin are.are.each read.0;
+  listed =
+      some_from (bytes_eq (name_text zone.origin)) all.zones (name_text zone.origin) (has_permutation (map name_text origins) all.zones (name_text zone.origin) are.same (has_map name_text origins zone.origin read.0))
+      (bytes_same (name_text zone.origin) (name_text zone.origin) refl);
+  read = read.1;
+}
+
+-- A zone that is read in the tables of a state is its zone.
+pub read_is : (version : ℤ) (all : RowsOf) (s : State) (zone : ZoneOf) → AreOfState version all s → IsReadIn all zone → zone_at s zone.origin ≡ Some zone
+read_is version all s zone st is =
     let o = zone.origin in
-    let held = (zones_are_listed version all s o st named).0 listed in
+    let named = is.named in
+    let read = is.read in
+    let held = (zones_are_listed version all s o st named).0 is.listed in
     let at : zone_at s o ≡ Some (zone_held o held.0) = ap (option_map (zone_held o)) held.1 in
     let found = zone_of_state version all s o (zone_held o held.0) st at in
     let rows = rows_moved o found.0 read.0 (IsPermutation-trans (map (record_row o) found.0) (records_of (name_text o) all.records) read.0 found.1.rows read.1) in

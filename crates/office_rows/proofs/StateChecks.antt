@@ -29,14 +29,9 @@ use Rattle.office_rows.proofs.ReceiptReadLemmas.{Differ}
 -- ---- checks
 
 -- where no rows as they are wanted are refused but when out of memory
-pub refused : (P : Type 0) (e : RowFault) → (P → e ≡ NoMemory) → Checks P (Err e)
+pub refused : (P : Type 0) (e : RowFault) → (P → e ≡ NoMemory) → Checks {X = Unit {0}} P (Err e)
 refused P BadRow memory = λ p. let bad = memory p in cc
 refused P NoMemory memory = tt
-
--- what refuses a part refuses the whole
-pub refused_part : (P Q : Type 0) (e : RowFault) → (Q → P) → Checks P (Err e) → Checks Q (Err e)
-refused_part P Q BadRow part h = λ q. h (part q)
-refused_part P Q NoMemory part h = tt
 
 -- ---- receipts
 

@@ -36,7 +36,7 @@ use Rattle.office_rows.proofs.ZoneReadLemmas.{rows_moved, zone_of_state, zone_st
 use Rattle.office_store.specs.declared.cache.CachedZone.{CachedZone}
 use Rattle.office_store.specs.declared.cache.WaitingChange.{WaitingChange}
 use Rattle.office_store.specs.Cache.{FitsCache, IsSubtreeOf, IsZoneIn, cached_after, cached_behind, changed_at, current_zone, records_after, with_change}
-use Rattle.office_store.specs.Holds.{HoldsState}
+use Rattle.office_store.specs.Holds.{HoldsState, LeavesStates}
 use Rattle.office_store.specs.Queries.{Asked}
 use Rattle.office_store.specs.Turns.{Turns}
 
@@ -56,6 +56,10 @@ fits_kept conn before after fits (inr none) = subst (FitsCache conn) (sym none) 
 -- over a state that is held
 pub fits_held : (conn : Shown) → (HasCleanDisk conn → (s : State) × HoldsState conn s) → FitsCache conn None
 fits_held conn holds = record { held = λ clean. let it = holds clean in ∣ (it.0, it.1, tt) ∣₁ }
+
+-- a zone that was read with it is one of it
+pub fits_read : (conn : Shown) (cached found : Option ZoneOf) → cached ≡ found → (HasCleanDisk conn → (s : State) × HoldsState conn s × LeavesStates conn s s × IsZoneIn s found) → FitsCache conn cached
+fits_read conn cached found is holds = record { held = λ clean. let it = holds clean in ∣ (it.0, it.1, subst (IsZoneIn it.0) (sym is) it.3) ∣₁ }
 
 -- behind questions
 pub fits_asked : (old new : Shown) (cached : Option ZoneOf) → Asked old new → FitsCache old cached → FitsCache new cached

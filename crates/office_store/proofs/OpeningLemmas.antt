@@ -1,5 +1,5 @@
 -- The checks of the tables, one after the other.
-use Rattle.std.proofs.Common.{◌≡◌, ℕ, ℤ, List, pos, false, Result, Ok, Err, IfOk, IfErr, OnOk, IsPermutation, inl, refl, sym, subst}
+use Rattle.std.proofs.Common.{◌≡◌, ℕ, ℤ, List, pos, false, Option, None, Some, IfSome, Result, Ok, Err, IfOk, IfErr, OnOk, IsPermutation, inl, refl, sym, subst}
 use Rattle.std.proofs.lemmas.List.Sorted.{IsPermutation-trans, IsPermutation-sym}
 use Rattle.sqlite.specs.Effect.{Database}
 use Rattle.sqlite.specs.State.{State as Shown, HasCleanDisk, Shows}
@@ -16,12 +16,17 @@ use Rattle.office_rows.specs.declared.row_fault.RowFault.{RowFault}
 use Rattle.office_rows.specs.declared.row_fault.RowFault.TheVariants as rows
 use Rattle.office_rows.specs.declared.store_fault.StoreFault.{StoreFault}
 use Rattle.office_rows.specs.StoreFaults.{of_found, of_check, IsFailure}
+use Rattle.zone_core.specs.Zones.{ZoneOf}
+use Rattle.office_rows.specs.Contents.{AreOfState}
+use Rattle.office_rows.specs.ReadZones.{IsReadAmong, IsReadIn}
 use Rattle.office_rows.specs.Checks.{AreOriginRows, AreRecordsOf, AreChangesOf, AreReceiptRows, AreStateRows, Checks}
 use Rattle.office_rows.proofs.ListLemmas.{one_moved}
+use Rattle.office_rows.proofs.ReadZoneLemmas.{read_in, read_is}
 use Rattle.office_rows.proofs.StateChecks.{state_of_rows, rows_of_state}
 use Rattle.office_rows.proofs.TableLaws.{from_tables, records_by_table, changes_by_table, origins_by_table}
 use Rattle.office_store.specs.Holds.{HoldsState, LeavesStates}
-use Rattle.office_store.specs.Opening.{IsCheck, IsNow, HasOrigins, VersionIn, OriginsIn, RecordsIn, ChangesIn, ReceiptsIn, StateIn}
+use Rattle.office_store.specs.Cache.{IsZoneIn}
+use Rattle.office_store.specs.Opening.{IsCheck, IsNow, HasOrigins, VersionIn, OriginsIn, RecordsFound, ChangesIn, ReceiptsIn, StateFound}
 use Rattle.office_store.specs.Queries.{AsksOnly}
 use Rattle.office_store.proofs.QueryLemmas.{asked_once, only_of}
 
@@ -104,15 +109,23 @@ wanted_records db all origins found reads are = records_by_table all.zones all.r
 pub wanted_changes : (db : Database) (all : RowsOf) (origins : List (List (List ℕ))) → OriginsIn origins db → Reads db all → AreStateRows (pos 2) all → AreChangesOf origins all.changes
 wanted_changes db all origins found reads are = changes_by_table all.zones all.records all.changes are.zones origins (same_origins db all origins found reads)
 
-pub state_in : (db : Database) (origins : List (List (List ℕ))) → VersionIn db → OriginsIn origins db → RecordsIn origins db → ChangesIn origins db → ReceiptsIn db → StateIn db
-state_in db origins versions zones records changes receipts =
+-- a zone that was read of the records was read in the tables
+found_in : (origins : List (List (List ℕ))) (all : RowsOf) (found : Option ZoneOf) → AreOriginRows origins all.zones → IfSome found (λ zone. IsReadAmong origins all.records zone) → IfSome found (λ zone. IsReadIn all zone)
+found_in origins all None are read = tt
+found_in origins all (Some zone) are read = read_in origins all zone are read
+
+pub state_found : (db : Database) (origins : List (List (List ℕ))) (found : Option ZoneOf) → VersionIn db → OriginsIn origins db → RecordsFound origins found db → ChangesIn origins db → ReceiptsIn db → StateFound found db
+state_found db origins found versions zones records changes receipts =
     let all : RowsOf = record { versions = versions.0; zones = zones.0; records = records.0; receipts = receipts.0; changes = changes.0 } in (
       all,
-      record {
-        versions = versions.1;
-        zones = from_tables zones.0 records.0 changes.0 origins zones.1 records.1 changes.1;
-        receipts = receipts.1;
-      },
+      (
+        record {
+          versions = versions.1;
+          zones = from_tables zones.0 records.0 changes.0 origins zones.1 records.1.0 changes.1;
+          receipts = receipts.1;
+        },
+        found_in origins all found zones.1 records.1.1,
+      ),
       reads_all db all versions.2 zones.2 records.2 receipts.2 changes.2,
     )
 
@@ -135,11 +148,11 @@ receipts_moved xs ys same of = record { receipts = of.receipts; apart = of.apart
 
 -- ---- what a check of one table tells
 
-pub passed : (P : Type 0) (r : Result (Unit {0}) RowFault) → Checks P r → IfOk r (λ _. P)
+pub passed : {X : Type 0} (P : Type 0) (r : Result X RowFault) → Checks P r → IfOk r (λ _. P)
 passed P (Ok x) h = h
 passed P (Err e) h = tt
 
-pub was_bad : (P : Type 0) (r : Result (Unit {0}) RowFault) → Checks P r → r ≡ Err rows.BadRow → ¬ P
+pub was_bad : {X : Type 0} (P : Type 0) (r : Result X RowFault) → Checks P r → r ≡ Err rows.BadRow → ¬ P
 was_bad P (Ok x) h is = absurd cc
 was_bad P (Err rows.BadRow) h is = h
 was_bad P (Err rows.NoMemory) h is = absurd cc
@@ -156,11 +169,11 @@ Wanted = AreStateRows (pos 2)
 abbrev Named : {V : Type 0} → (V → List Labels) → V → Database → Type 0
 Named items v db = VersionIn db × OriginsIn (items v) db
 
-abbrev WithRecords : List Labels → Unit {0} → Database → Type 0
-WithRecords origins _ db = (VersionIn db × OriginsIn origins db) × RecordsIn origins db
+abbrev WithRecords : List Labels → Option ZoneOf → Database → Type 0
+WithRecords origins found db = (VersionIn db × OriginsIn origins db) × RecordsFound origins found db
 
-abbrev WithChanges : List Labels → Unit {0} → Database → Type 0
-WithChanges origins _ db = WithRecords origins tt db × ChangesIn origins db
+abbrev WithChanges : List Labels → Option ZoneOf → Unit {0} → Database → Type 0
+WithChanges origins found _ db = WithRecords origins found db × ChangesIn origins db
 
 pub zones_next : {V : Type 0} (old mid new : Shown) (r : Result V StoreFault) (items : V → List Labels) (u : Unit {0}) → IsCheck old mid (Ok u) (λ _ db. VersionIn db) (λ all. IsNow all.versions)
     → IsCheck mid new r (λ v db. OriginsIn (items v) db) (λ all. HasOrigins all.zones) → IsCheck old new r (Named items) Wanted
@@ -168,23 +181,27 @@ zones_next old mid new r items u meta zones =
     next_check old mid new u (λ _ db. VersionIn db) Wanted (first_check old mid (Ok u) (λ _ db. VersionIn db) (λ all. IsNow all.versions) Wanted (λ all are. are.versions) meta)
     (λ v db. OriginsIn (items v) db) (λ all. HasOrigins all.zones) (λ db all p reads are. wanted_origins all are) r zones
 
-pub records_next : {V : Type 0} (old mid new : Shown) (r : Result (Unit {0}) StoreFault) (v : V) (items : V → List Labels) (origins : List Labels) → origins ≡ items v → IsCheck old mid (Ok v) (Named items) Wanted
-    → IsCheck mid new r (λ _ db. RecordsIn origins db) (λ all. AreRecordsOf origins all.records) → IsCheck old new r (WithRecords (items v)) Wanted
+pub records_next : {V : Type 0} (old mid new : Shown) (r : Result (Option ZoneOf) StoreFault) (v : V) (items : V → List Labels) (origins : List Labels) → origins ≡ items v → IsCheck old mid (Ok v) (Named items) Wanted
+    → IsCheck mid new r (RecordsFound origins) (λ all. AreRecordsOf origins all.records) → IsCheck old new r (WithRecords (items v)) Wanted
 records_next old mid new r v items origins is zones records =
-    next_check old mid new v (Named items) Wanted zones (λ _ db. RecordsIn (items v) db) (λ all. AreRecordsOf (items v) all.records) (λ db all p reads are. wanted_records db all (items v) p.1 reads are) r
-    (subst (λ l. IsCheck mid new r (λ _ db. RecordsIn l db) (λ all. AreRecordsOf l all.records)) is records)
+    next_check old mid new v (Named items) Wanted zones (RecordsFound (items v)) (λ all. AreRecordsOf (items v) all.records) (λ db all p reads are. wanted_records db all (items v) p.1 reads are) r
+    (subst (λ l. IsCheck mid new r (RecordsFound l) (λ all. AreRecordsOf l all.records)) is records)
 
-module _ (names : List Labels) (old mid new : Shown) (r : Result (Unit {0}) StoreFault) (u : Unit {0}) where
-  pub changes_next : (origins : List Labels) → origins ≡ names → IsCheck old mid (Ok u) (WithRecords names) Wanted
-      → IsCheck mid new r (λ _ db. ChangesIn origins db) (λ all. AreChangesOf origins all.changes) → IsCheck old new r (WithChanges names) Wanted
+module _ (names : List Labels) (found : Option ZoneOf) (old mid new : Shown) (r : Result (Unit {0}) StoreFault) where
+  pub changes_next : (origins : List Labels) → origins ≡ names → IsCheck old mid (Ok found) (WithRecords names) Wanted
+      → IsCheck mid new r (λ _ db. ChangesIn origins db) (λ all. AreChangesOf origins all.changes) → IsCheck old new r (WithChanges names found) Wanted
   changes_next origins is records changes =
-      next_check old mid new u (WithRecords names) Wanted records (λ _ db. ChangesIn names db) (λ all. AreChangesOf names all.changes) (λ db all p reads are. wanted_changes db all names p.0.1 reads are) r
+      next_check old mid new found (WithRecords names) Wanted records (λ _ db. ChangesIn names db) (λ all. AreChangesOf names all.changes) (λ db all p reads are. wanted_changes db all names p.0.1 reads are) r
       (subst (λ l. IsCheck mid new r (λ _ db. ChangesIn l db) (λ all. AreChangesOf l all.changes)) is changes)
 
-  pub receipts_next : IsCheck old mid (Ok u) (WithChanges names) Wanted → IsCheck mid new r (λ _ db. ReceiptsIn db) (λ all. AreReceiptRows all.receipts) → IsCheck old new r (λ _ db. StateIn db) Wanted
-  receipts_next changes receipts =
-      found_more old new r (λ _ db. WithChanges names tt db × ReceiptsIn db) (λ _ db. StateIn db) Wanted (λ _ db p. state_in db names p.0.0.0.0 p.0.0.0.1 p.0.0.1 p.0.1 p.1)
-      (next_check old mid new u (WithChanges names) Wanted changes (λ _ db. ReceiptsIn db) (λ all. AreReceiptRows all.receipts) (λ db all p reads are. are.receipts) r receipts)
+  pub receipts_next : (u : Unit {0}) → IsCheck old mid (Ok u) (WithChanges names found) Wanted → IsCheck mid new r (λ _ db. ReceiptsIn db) (λ all. AreReceiptRows all.receipts) → IsCheck old new r (λ _ db. StateFound found db) Wanted
+  receipts_next u changes receipts =
+      found_more old new r (λ _ db. WithChanges names found tt db × ReceiptsIn db) (λ _ db. StateFound found db) Wanted (λ _ db p. state_found db names found p.0.0.0.0 p.0.0.0.1 p.0.0.1 p.0.1 p.1)
+      (next_check old mid new u (WithChanges names found) Wanted changes (λ _ db. ReceiptsIn db) (λ all. AreReceiptRows all.receipts) (λ db all p reads are. are.receipts) r receipts)
+
+-- what was found on the way is handed on
+pub handed_on : (old new : Shown) (found : Option ZoneOf) (u : Unit {0}) → IsCheck old new (Ok u) (λ _ db. StateFound found db) Wanted → IsCheck old new (Ok found) StateFound Wanted
+handed_on old new found u c = record { asks = c.asks; same = c.same; found = c.found; good = λ clean. tt; named = tt }
 
 -- what one check refuses is refused
 pub refused_so : {X Y : Type 0} (old new : Shown) (first : Result X StoreFault) (r : Result Y StoreFault) (e : StoreFault) (P : X → Database → Type 0) (P2 : Y → Database → Type 0) (W : RowsOf → Type 0)
@@ -195,22 +212,27 @@ refused_so old new first r e P P2 W was is c =
 
 -- ---- the state that was found
 
-module _ {X : Type 0} (old new : Shown) where
-  abbrev Checked : Result X StoreFault → Type 0
-  Checked r = IsCheck old new r (λ _ db. StateIn db) (AreStateRows (pos 2))
+module _ (old new : Shown) where
+  abbrev Checked : Result (Option ZoneOf) StoreFault → Type 0
+  Checked r = IsCheck old new r StateFound (AreStateRows (pos 2))
 
-  pub holds_state : (r : Result X StoreFault) → Checked r → HasCleanDisk new → OnOk r ((s : State) × HoldsState new s × LeavesStates new s s)
-  holds_state (Ok x) c clean =
+  -- the zone that was read is one of the state
+  zone_found : (all : RowsOf) (s : State) (found : Option ZoneOf) → AreOfState (pos 2) all s → IfSome found (λ zone. IsReadIn all zone) → IsZoneIn s found
+  zone_found all s None are read = tt
+  zone_found all s (Some zone) are read = read_is (pos 2) all s zone are read
+
+  pub holds_state : (r : Result (Option ZoneOf) StoreFault) → Checked r → HasCleanDisk new → IfOk r (λ found. (s : State) × HoldsState new s × LeavesStates new s s × IsZoneIn s found)
+  holds_state (Ok found) c clean =
       let it = c.found clean in
-      let s = state_of_rows (pos 2) it.0 it.1 in
+      let s = state_of_rows (pos 2) it.0 it.1.0 in
       let held = held_now old new it.0 c.asks (c.same clean).is_open it.2 in
-      (s.0, record { rows = it.0; are = s.1; held = held.0 }, λ sure db may. inl (it.0, s.1, held.1 sure db may))
+      (s.0, record { rows = it.0; are = s.1; held = held.0 }, (λ sure db may. inl (it.0, s.1, held.1 sure db may)), zone_found it.0 s.0 found s.1 it.1.1)
   holds_state (Err e) c clean = tt
 
-  pub refuses_none : (r : Result X StoreFault) → Checked r → HasCleanDisk new → IfErr r (λ e. (s : State) → HoldsState old s → IsFailure e)
+  pub refuses_none : (r : Result (Option ZoneOf) StoreFault) → Checked r → HasCleanDisk new → IfErr r (λ e. (s : State) → HoldsState old s → IsFailure e)
   refuses_none (Ok x) c clean = tt
   refuses_none (Err e) c clean = λ s h. c.good clean h.rows h.held (rows_of_state (pos 2) h.rows s h.are)
 
-  pub asks_only : (r : Result X StoreFault) → Checked r → AsksOnly old new r
+  pub asks_only : (r : Result (Option ZoneOf) StoreFault) → Checked r → AsksOnly old new r
   asks_only (Ok x) c = (asked_once old new c.asks, λ clean. only_of old new (λ all holds. held_before old new all c.asks (c.same clean) holds))
   asks_only (Err e) c = (asked_once old new c.asks, λ clean. tt)

@@ -1,11 +1,13 @@
 -- What the checks of the tables say, one after the other.
-use Rattle.std.specs.Prelude.{◌≡◌, ℕ, ℤ, List, [], ◌∷◌, map, pos, false, Result, IfOk, IfErr, OnOk}
+use Rattle.std.specs.Prelude.{◌≡◌, ℕ, ℤ, List, [], ◌∷◌, map, pos, false, Option, IfSome, Result, IfOk, IfErr, OnOk}
 use Rattle.sqlite.specs.Effect.{Database}
 use Rattle.sqlite.specs.State.{State as Shown, HasCleanDisk, Shows}
 use Rattle.office_sql.specs.Rows.{RecordRowOf, ReceiptRowOf, ChangeRowOf, RowsOf}
 use Rattle.office_sql.specs.Tables.{stored_version}
 use Rattle.office_sql.specs.Stores.{Stores}
 use Rattle.office_sql.specs.Holds.{HasZones, HasRecords, HasReceipts, HasChanges, Holds, OnlyAsks, Reads}
+use Rattle.zone_core.specs.Zones.{ZoneOf}
+use Rattle.office_rows.specs.ReadZones.{IsReadAmong, IsReadIn}
 use Rattle.office_rows.specs.Checks.{AreOriginRows, AreRecordsOf, AreChangesOf, AreReceiptRows, AreStateRows}
 use Rattle.office_rows.specs.declared.store_fault.StoreFault.{StoreFault}
 use Rattle.office_rows.specs.StoreFaults.{IsFailure, IsOfRows}
@@ -34,8 +36,9 @@ HasOrigins rows = (origins : List (List (List ℕ))) × AreOriginRows origins ro
 abbrev pub OriginsIn : List (List (List ℕ)) → Database → Type 0
 OriginsIn origins db = (rows : List (List ℕ)) × AreOriginRows origins rows × HasZones db rows
 
-abbrev pub RecordsIn : List (List (List ℕ)) → Database → Type 0
-RecordsIn origins db = (rows : List RecordRowOf) × AreRecordsOf origins rows × HasRecords db rows
+-- of which a zone was read, if one was found
+abbrev pub RecordsFound : List (List (List ℕ)) → Option ZoneOf → Database → Type 0
+RecordsFound origins found db = (rows : List RecordRowOf) × (AreRecordsOf origins rows × IfSome found (λ zone. IsReadAmong origins rows zone)) × HasRecords db rows
 
 abbrev pub ChangesIn : List (List (List ℕ)) → Database → Type 0
 ChangesIn origins db = (rows : List ChangeRowOf) × AreChangesOf origins rows × HasChanges db rows
@@ -44,6 +47,6 @@ ChangesIn origins db = (rows : List ChangeRowOf) × AreChangesOf origins rows ×
 abbrev pub ReceiptsIn : Database → Type 0
 ReceiptsIn db = (rows : List ReceiptRowOf) × AreReceiptRows rows × HasReceipts db rows
 
--- the rows of all tables are those of a state
-abbrev pub StateIn : Database → Type 0
-StateIn db = (rows : RowsOf) × AreStateRows (pos 2) rows × Reads db rows
+-- the rows of all tables are those of a state, in which a zone was read, if one was found
+abbrev pub StateFound : Option ZoneOf → Database → Type 0
+StateFound found db = (rows : RowsOf) × (AreStateRows (pos 2) rows × IfSome found (λ zone. IsReadIn rows zone)) × Reads db rows

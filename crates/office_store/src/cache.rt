@@ -11,13 +11,16 @@ ghost use Rattle.office_state.specs.States.{State, subtree_at, zone_at};
 ghost use Rattle.office_state.specs.Tables.{Fits, addition_in, committed};
 ghost use Rattle.office_store.specs.Queries.{AsksOnly};
 ghost use Rattle.office_store.specs.Holds.{HoldsState};
+ghost use Rattle.office_rows.specs.StoreFaults.{Gives};
 ghost use Rattle.office_store.specs.Turns.{Turns};
+ghost use Rattle.office_store.specs.Zones.{exported};
 ghost use Rattle.office_store.specs.Cache.{FitsCache, IsSubtreeOf, cached_after, cached_in, changed_at, current_zone, with_change};
 
 use crate::batch::commit;
 use crate::queries::check_open;
 use crate::reads::{subtree_at, zone_at};
 use crate::within::change_within;
+use crate::zones::export;
 use dns_data::Record;
 use dns_names::Name;
 use office_rows::StoreFault;
@@ -229,6 +232,16 @@ fn cached_within(
     Ok(Some(records))
 }
 
+/// What is cached of a zone that was read as the store was opened.
+pub(crate) fn cached_first(alloc: Global, read: Option<Zone>) -> Option<CachedZone>
+    ensures { cached_in result ≡ read }
+{
+    match read {
+        Some(zone) => Some(CachedZone::of(alloc, zone)),
+        None => None,
+    }
+}
+
 /// What is cached of a zone that was found: a copy of it, as far as there is memory.
 fn cached_of(alloc: Global, found: &Option<Zone>) -> Option<CachedZone>
     ensures { IfSome (cached_in result) (λ zone. found.now ≡ Some zone) }
@@ -262,6 +275,25 @@ pub(crate) fn cached_zone<S: Alter>(
     let found = zone_at(alloc, conn, origin)?;
     *cache = cached_of(alloc, &found);
     Ok(found)
+}
+
+/// The records of the zone of an origin, in record order: those of the cached zone, which is handed over, or else those of its rows.
+pub(crate) fn export_cached<S: Alter>(
+    alloc: Global,
+    conn: &mut Connection<S>,
+    cache: &mut Option<CachedZone>,
+    origin: &Name,
+) -> Result<Vec<Record>, StoreFault>
+    requires fits { FitsCache (state S.Store conn.old) (cached_in cache.old) }
+    ensures answer { HasCleanDisk (state S.Store conn.new) → (s : State) → HoldsState (state S.Store conn.old) s → Gives (λ records. records.items) result (exported (s.zones origin.now)) }
+    ensures asks { AsksOnly (state S.Store conn.old) (state S.Store conn.new) result }
+    ensures fits { FitsCache (state S.Store conn.new) (cached_in cache.new) }
+{
+    if let Some(zone) = taken_at(alloc, cache, origin)? {
+        check_open(conn)?;
+        return Ok(zone.into_records());
+    }
+    export(alloc, conn, origin)
 }
 
 /// Copies of a zone's records within a name, in record order, where there is the zone. The only error is out of memory.

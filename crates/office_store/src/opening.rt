@@ -12,7 +12,8 @@ ghost use Rattle.office_rows.specs.Batches.{nothing_held};
 ghost use Rattle.office_rows.specs.declared.store_fault.StoreFault.TheVariants.{BadRow, WrongVersion};
 ghost use Rattle.office_rows.specs.StoreFaults.{IsFailure, IsOfRows, of_found, of_check};
 ghost use Rattle.office_rows.specs.Checks.{Checks, AreOrigins, AreRecordsOf, AreChangesOf, AreReceiptRows, AreStateRows};
-ghost use Rattle.office_store.specs.Opening.{IsCheck, IsNow, HasOrigins, VersionIn, OriginsIn, RecordsIn, ChangesIn, ReceiptsIn, StateIn};
+ghost use Rattle.office_store.specs.Cache.{IsZoneIn};
+ghost use Rattle.office_store.specs.Opening.{IsCheck, IsNow, HasOrigins, VersionIn, OriginsIn, RecordsFound, ChangesIn, ReceiptsIn, StateFound};
 ghost use Rattle.office_store.specs.Holds.{HoldsState, HasNone, HasVersion, IsOfVersion, IsStateIn, LeavesStates};
 ghost use Rattle.office_store.specs.Queries.{Asked, AsksOnly};
 
@@ -27,6 +28,7 @@ use office_sql::{
 use sqlite::{Alter, Connection};
 use std::alloc::Global;
 use std::sync::ledger::Blank;
+use zone_core::Zone;
 
 /// The version of the tables, in the one row of `meta`.
 const VERSION: i64 = 2;
@@ -159,15 +161,15 @@ fn check_zones<S: Alter>(alloc: Global, conn: &mut Connection<S>) -> Result<Vec<
     }
 }
 
-/// Checks the rows of `records`, which are to be of zones of these origins.
+/// Checks the rows of `records`, which are to be of zones of these origins, and reads the largest of these, as far as there is memory.
 fn check_records<S: Alter>(
     alloc: Global,
     conn: &mut Connection<S>,
     origins: &[Name],
-) -> Result<(), StoreFault>
+) -> Result<Option<Zone>, StoreFault>
     requires alone { conn.old.in_transaction ≡ false }
     requires origins { AreOrigins origins.now }
-    ensures { IsCheck (state S.Store conn.old) (state S.Store conn.new) result (λ _ db. RecordsIn origins.now db) (λ rows. AreRecordsOf origins.now rows.records) }
+    ensures { IsCheck (state S.Store conn.old) (state S.Store conn.new) result (λ found db. RecordsFound origins.now found db) (λ rows. AreRecordsOf origins.now rows.records) }
 {
     match all_records(alloc, conn) {
         Ok(rows) => of_check(office_rows::check_records(alloc, origins, rows)),
@@ -202,22 +204,24 @@ fn check_receipts<S: Alter>(alloc: Global, conn: &mut Connection<S>) -> Result<(
     }
 }
 
-/// Checks the rows of all tables, one table after the other: the rows of one are gone before the next one is asked for.
-fn check_each<S: Alter>(alloc: Global, conn: &mut Connection<S>) -> Result<(), StoreFault>
+/// Checks the rows of all tables, one table after the other: the rows of one are gone before the next one is asked for. It reads the
+/// largest zone.
+fn check_each<S: Alter>(alloc: Global, conn: &mut Connection<S>) -> Result<Option<Zone>, StoreFault>
     requires { conn.old.in_transaction ≡ false }
-    ensures { IsCheck (state S.Store conn.old) (state S.Store conn.new) result (λ _ db. StateIn db) (AreStateRows (pos 2)) }
+    ensures { IsCheck (state S.Store conn.old) (state S.Store conn.new) result (λ found db. StateFound found db) (AreStateRows (pos 2)) }
 {
     check_meta(alloc, conn)?;
     let origins = check_zones(alloc, conn)?;
-    check_records(alloc, conn, &origins)?;
+    let largest = check_records(alloc, conn, &origins)?;
     check_changes(alloc, conn, &origins)?;
-    check_receipts(alloc, conn)
+    check_receipts(alloc, conn)?;
+    Ok(largest)
 }
 
-/// Tells whether the rows that the connection shows are a state.
-fn check_rows<S: Alter>(alloc: Global, conn: &mut Connection<S>) -> Result<(), StoreFault>
+/// Tells whether the rows that the connection shows are a state, and reads its largest zone.
+fn check_rows<S: Alter>(alloc: Global, conn: &mut Connection<S>) -> Result<Option<Zone>, StoreFault>
     requires { conn.old.in_transaction ≡ false }
-    ensures found { HasCleanDisk (state S.Store conn.new) → OnOk result ((s : State) × HoldsState (state S.Store conn.new) s × LeavesStates (state S.Store conn.new) s s) }
+    ensures found { HasCleanDisk (state S.Store conn.new) → IfOk result (λ found. (s : State) × HoldsState (state S.Store conn.new) s × LeavesStates (state S.Store conn.new) s s × IsZoneIn s found) }
     ensures good { HasCleanDisk (state S.Store conn.new) → IfErr result (λ e. (s : State) → HoldsState (state S.Store conn.old) s → IsFailure e) }
     ensures named { IfErr result IsOfRows }
     ensures asks { AsksOnly (state S.Store conn.old) (state S.Store conn.new) result }
@@ -227,13 +231,14 @@ fn check_rows<S: Alter>(alloc: Global, conn: &mut Connection<S>) -> Result<(), S
     check_each(alloc, conn)
 }
 
-/// Tells whether the connection shows the tables of this version, with the rows of a state.
+/// Tells whether the connection shows the tables of this version, with the rows of a state, and reads the state's largest zone, as far as
+/// there is memory.
 pub(crate) fn check_state<S: Alter>(
     alloc: Global,
     conn: &mut Connection<S>,
-) -> Result<(), StoreFault>
+) -> Result<Option<Zone>, StoreFault>
     requires { conn.old.in_transaction ≡ false }
-    ensures found { HasCleanDisk (state S.Store conn.new) → OnOk result ((s : State) × HoldsState (state S.Store conn.new) s × LeavesStates (state S.Store conn.new) s s) }
+    ensures found { HasCleanDisk (state S.Store conn.new) → IfOk result (λ found. (s : State) × HoldsState (state S.Store conn.new) s × LeavesStates (state S.Store conn.new) s s × IsZoneIn s found) }
     ensures good { HasCleanDisk (state S.Store conn.new) → IfErr result (λ e. (s : State) → HoldsState (state S.Store conn.old) s → IsFailure e) }
     ensures wrong { HasCleanDisk (state S.Store conn.new) → result ≡ Err WrongVersion → ¬ HasVersion (state S.Store conn.old) }
     ensures bad { HasCleanDisk (state S.Store conn.new) → result ≡ Err BadRow → HasVersion (state S.Store conn.old) }

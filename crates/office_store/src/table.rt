@@ -20,11 +20,14 @@ ghost use Rattle.office_store.specs.Queries.{Asked, AsksOnly, Only};
 ghost use Rattle.office_store.specs.Turns.{Turns};
 ghost use Rattle.office_store.specs.Zones.{exported, if_free, if_later, imported, replaced, with_imported, with_replaced};
 
-use crate::cache::{CachedZone, SubtreeRead, cached_subtree, cached_zone, commit_cached};
+use crate::cache::{
+    CachedZone, SubtreeRead, cached_first, cached_subtree, cached_zone, commit_cached,
+    export_cached,
+};
 use crate::migration::migrate;
 use crate::opening::{Refused, check_state, make};
 use crate::reads::{changes_at, changes_behind, origins, part_at, receipt_at, receipts, zone_at};
-use crate::zones::{export, import, put_zone, replace, take_place};
+use crate::zones::{import, put_zone, replace, take_place};
 use dns_data::Record;
 use dns_names::Name;
 use grant_policy::Identifier;
@@ -36,8 +39,8 @@ use std::sync::ledger::{Blank, Book, Ledger, Share};
 use zone_core::{Change, Zone};
 
 /// Zones with their changes, and receipts, in the tables of a database. It counts the failures of its store by a ledger, and caches
-/// the zone that was read last, which follows the commits, until a call fails or a whole zone is written. It remembers why its last
-/// call of the machine failed that did.
+/// the zone that was read last, at first the largest, which follows the commits, until a call fails or a whole zone is written. It
+/// remembers why its last call of the machine failed that did.
 #[derive(Drop)]
 pub struct SqlTable<S: Alter + Drop, L: Ledger> {
     conn: Connection<S>,
@@ -79,12 +82,12 @@ fn refused<L: Ledger>(book: &mut Book<L>, share: &mut Share<L>, fault: StoreFaul
 }
 
 impl<S: Alter + Drop, L: Ledger> SqlTable<S, L> {
-    /// The table over a connection that holds a state.
-    fn over(conn: Connection<S>, blank: Blank) -> SqlTable<S, L>
+    /// The table over a connection that holds a state, of which a zone may be cached.
+    fn over(conn: Connection<S>, blank: Blank, cache: Option<CachedZone>) -> SqlTable<S, L>
         requires name { blank.name ≡ L.name }
         requires parts { blank.parts ≡ L.parts }
         requires some { 0 < blank.parts }
-        requires fits { FitsCache (state S.Store conn) None }
+        requires fits { FitsCache (state S.Store conn) (cached_in cache) }
         ensures conn { result.conn ≡ conn }
         ensures none { result.book.total ≡ 0 }
     {
@@ -93,7 +96,7 @@ impl<S: Alter + Drop, L: Ledger> SqlTable<S, L> {
             conn,
             book,
             share,
-            cache: None,
+            cache,
             subtree_read: SubtreeRead::Rows,
             fault: None,
         }
@@ -126,7 +129,7 @@ impl<S: Alter + Drop, L: Ledger> SqlTable<S, L> {
     {
         let mut conn = conn;
         match make(&mut conn) {
-            Ok(()) => Ok(SqlTable::over(conn, blank)),
+            Ok(()) => Ok(SqlTable::over(conn, blank, None)),
             Err(fault) => Err(Refused { fault, conn, blank }),
         }
     }
@@ -167,7 +170,7 @@ impl<S: Alter + Drop, L: Ledger> SqlTable<S, L> {
     {
         let mut conn = conn;
         match check_state(alloc, &mut conn) {
-            Ok(()) => Ok(SqlTable::over(conn, blank)),
+            Ok(largest) => Ok(SqlTable::over(conn, blank, cached_first(alloc, largest))),
             Err(fault) => Err(Refused { fault, conn, blank }),
         }
     }
@@ -305,7 +308,7 @@ impl<S: Alter + Drop, L: Ledger> SqlTable<S, L> {
         ensures asks { AsksOnly (state S.Store self.old.conn) (state S.Store self.new.conn) result }
         ensures counts { CountsCall self.old.book.total self.new.book.total result }
     {
-        match export(alloc, &mut self.conn, origin) {
+        match export_cached(alloc, &mut self.conn, &mut self.cache, origin) {
             Ok(records) => Ok(records),
             Err(fault) => {
                 self.cache = None;

@@ -2,8 +2,8 @@ use Rattle.std.proofs.Common.{◌≡◌, Ok, Err, pos, sym, subst}
 use Rattle.std.proofs.lemmas.Result.{err_from_is_err_and}
 use Rattle.sqlite.specs.Held.{state}
 use Rattle.office_rows.specs.Checks.{AreOrigins, AreStateRows}
-use Rattle.office_store.specs.Opening.{IsNow, VersionIn, StateIn}
-use Rattle.office_store.proofs.OpeningLemmas.{first_check, zones_next, records_next, changes_next, receipts_next, refused_so}
+use Rattle.office_store.specs.Opening.{IsNow, VersionIn, StateFound}
+use Rattle.office_store.proofs.OpeningLemmas.{first_check, zones_next, records_next, changes_next, receipts_next, handed_on, refused_so}
 use Rattle.office_store.proofs.opening.check_each.Goals as goal
 
 pub returns-in_err-check_meta : goal.returns-in_err-check_meta
@@ -14,7 +14,7 @@ returns-in_err-check_meta g c =
     let e = c.in_err-check_meta.field-0.0 in
     let p = err_from_is_err_and c.from_residual.result c.from_residual.ensures.1 in
     let is : c.from_residual.result ≡ Err e = cc (p.1, p.2) in
-    refused_so s0 s1 c.check_meta.result c.from_residual.result e _ (λ _ db. StateIn db) (AreStateRows (pos 2)) c.in_err-check_meta.was is done
+    refused_so s0 s1 c.check_meta.result c.from_residual.result e _ StateFound (AreStateRows (pos 2)) c.in_err-check_meta.was is done
 
 pub returns-in_err-origins : goal.returns-in_err-origins
 returns-in_err-origins g c =
@@ -25,20 +25,20 @@ returns-in_err-origins g c =
     let e = c.in_err-origins.field-0.0 in
     let p = err_from_is_err_and c.from_residual-in_err-origins.result c.from_residual-in_err-origins.ensures.1 in
     let is : c.from_residual-in_err-origins.result ≡ Err e = cc (p.1, p.2) in
-    refused_so s0 s2 c.check_zones.result c.from_residual-in_err-origins.result e _ (λ _ db. StateIn db) (AreStateRows (pos 2)) c.in_err-origins.was is done
+    refused_so s0 s2 c.check_zones.result c.from_residual-in_err-origins.result e _ StateFound (AreStateRows (pos 2)) c.in_err-origins.was is done
 
-pub returns-in_err-check_records : goal.returns-in_err-check_records
-returns-in_err-check_records g c =
+pub returns-in_err-largest : goal.returns-in_err-largest
+returns-in_err-largest g c =
     let s0 = state g.S.Store c.args.conn.now in
     let s1 = state g.S.Store c.check_meta.new.conn in
     let s2 = state g.S.Store c.check_zones.new.conn in
     let s3 = state g.S.Store c.check_records.new.conn in
     let zones = zones_next s0 s1 s2 (Ok c.in_ok-origins.origins) (λ v. v.items) c.in_ok-check_meta.field-0 c.in_ok-check_meta.ensures c.in_ok-origins.ensures.check in
     let done = records_next s0 s2 s3 c.check_records.result c.in_ok-origins.origins (λ v. v.items) c.deref.result.now c.deref.ensures.value zones c.check_records.ensures in
-    let e = c.in_err-check_records.field-0.0 in
-    let p = err_from_is_err_and c.from_residual-in_err-check_records.result c.from_residual-in_err-check_records.ensures.1 in
-    let is : c.from_residual-in_err-check_records.result ≡ Err e = cc (p.1, p.2) in
-    refused_so s0 s3 c.check_records.result c.from_residual-in_err-check_records.result e _ (λ _ db. StateIn db) (AreStateRows (pos 2)) c.in_err-check_records.was is done
+    let e = c.in_err-largest.field-0.0 in
+    let p = err_from_is_err_and c.from_residual-in_err-largest.result c.from_residual-in_err-largest.ensures.1 in
+    let is : c.from_residual-in_err-largest.result ≡ Err e = cc (p.1, p.2) in
+    refused_so s0 s3 c.check_records.result c.from_residual-in_err-largest.result e _ StateFound (AreStateRows (pos 2)) c.in_err-largest.was is done
 
 pub returns-in_err-check_changes : goal.returns-in_err-check_changes
 returns-in_err-check_changes g c =
@@ -48,13 +48,33 @@ returns-in_err-check_changes g c =
     let s3 = state g.S.Store c.check_records.new.conn in
     let s4 = state g.S.Store c.check_changes.new.conn in
     let names = c.in_ok-origins.origins.items in
+    let found = c.in_ok-largest.largest in
     let zones = zones_next s0 s1 s2 (Ok c.in_ok-origins.origins) (λ v. v.items) c.in_ok-check_meta.field-0 c.in_ok-check_meta.ensures c.in_ok-origins.ensures.check in
-    let records = records_next s0 s2 s3 (Ok c.in_ok-check_records.field-0) c.in_ok-origins.origins (λ v. v.items) c.deref.result.now c.deref.ensures.value zones c.in_ok-check_records.ensures in
-    let done = changes_next names s0 s3 s4 c.check_changes.result c.in_ok-check_records.field-0 c.deref-2.result.now c.deref-2.ensures.value records c.check_changes.ensures in
+    let records = records_next s0 s2 s3 (Ok found) c.in_ok-origins.origins (λ v. v.items) c.deref.result.now c.deref.ensures.value zones c.in_ok-largest.ensures in
+    let done = changes_next names found s0 s3 s4 c.check_changes.result c.deref-2.result.now c.deref-2.ensures.value records c.check_changes.ensures in
     let e = c.in_err-check_changes.field-0.0 in
     let p = err_from_is_err_and c.from_residual-in_err-check_changes.result c.from_residual-in_err-check_changes.ensures.1 in
     let is : c.from_residual-in_err-check_changes.result ≡ Err e = cc (p.1, p.2) in
-    refused_so s0 s4 c.check_changes.result c.from_residual-in_err-check_changes.result e _ (λ _ db. StateIn db) (AreStateRows (pos 2)) c.in_err-check_changes.was is done
+    refused_so s0 s4 c.check_changes.result c.from_residual-in_err-check_changes.result e _ StateFound (AreStateRows (pos 2)) c.in_err-check_changes.was is done
+
+pub returns-in_err-check_receipts : goal.returns-in_err-check_receipts
+returns-in_err-check_receipts g c =
+    let s0 = state g.S.Store c.args.conn.now in
+    let s1 = state g.S.Store c.check_meta.new.conn in
+    let s2 = state g.S.Store c.check_zones.new.conn in
+    let s3 = state g.S.Store c.check_records.new.conn in
+    let s4 = state g.S.Store c.check_changes.new.conn in
+    let s5 = state g.S.Store c.check_receipts.new.conn in
+    let names = c.in_ok-origins.origins.items in
+    let found = c.in_ok-largest.largest in
+    let zones = zones_next s0 s1 s2 (Ok c.in_ok-origins.origins) (λ v. v.items) c.in_ok-check_meta.field-0 c.in_ok-check_meta.ensures c.in_ok-origins.ensures.check in
+    let records = records_next s0 s2 s3 (Ok found) c.in_ok-origins.origins (λ v. v.items) c.deref.result.now c.deref.ensures.value zones c.in_ok-largest.ensures in
+    let changes = changes_next names found s0 s3 s4 (Ok c.in_ok-check_changes.field-0) c.deref-2.result.now c.deref-2.ensures.value records c.in_ok-check_changes.ensures in
+    let done = receipts_next names found s0 s4 s5 c.check_receipts.result c.in_ok-check_changes.field-0 changes c.check_receipts.ensures in
+    let e = c.in_err-check_receipts.field-0.0 in
+    let p = err_from_is_err_and c.from_residual-in_err-check_receipts.result c.from_residual-in_err-check_receipts.ensures.1 in
+    let is : c.from_residual-in_err-check_receipts.result ≡ Err e = cc (p.1, p.2) in
+    refused_so s0 s5 c.check_receipts.result c.from_residual-in_err-check_receipts.result e (λ _ db. StateFound found db) StateFound (AreStateRows (pos 2)) c.in_err-check_receipts.was is done
 
 pub returns : goal.returns
 returns g c =
@@ -65,10 +85,11 @@ returns g c =
     let s4 = state g.S.Store c.check_changes.new.conn in
     let s5 = state g.S.Store c.check_receipts.new.conn in
     let names = c.in_ok-origins.origins.items in
+    let found = c.in_ok-largest.largest in
     let zones = zones_next s0 s1 s2 (Ok c.in_ok-origins.origins) (λ v. v.items) c.in_ok-check_meta.field-0 c.in_ok-check_meta.ensures c.in_ok-origins.ensures.check in
-    let records = records_next s0 s2 s3 (Ok c.in_ok-check_records.field-0) c.in_ok-origins.origins (λ v. v.items) c.deref.result.now c.deref.ensures.value zones c.in_ok-check_records.ensures in
-    let changes = changes_next names s0 s3 s4 (Ok c.in_ok-check_changes.field-0) c.in_ok-check_records.field-0 c.deref-2.result.now c.deref-2.ensures.value records c.in_ok-check_changes.ensures in
-    receipts_next names s0 s4 s5 c.check_receipts.result c.in_ok-check_changes.field-0 changes c.check_receipts.ensures
+    let records = records_next s0 s2 s3 (Ok found) c.in_ok-origins.origins (λ v. v.items) c.deref.result.now c.deref.ensures.value zones c.in_ok-largest.ensures in
+    let changes = changes_next names found s0 s3 s4 (Ok c.in_ok-check_changes.field-0) c.deref-2.result.now c.deref-2.ensures.value records c.in_ok-check_changes.ensures in
+    handed_on s0 s5 found c.in_ok-check_receipts.field-0 (receipts_next names found s0 s4 s5 (Ok c.in_ok-check_receipts.field-0) c.in_ok-check_changes.field-0 changes c.in_ok-check_receipts.ensures)
 
 pub check_records-requires-clause-origins : goal.check_records-requires-clause-origins
 check_records-requires-clause-origins g c = subst AreOrigins (sym c.deref.ensures.value) c.in_ok-origins.ensures.origins
