@@ -39,6 +39,7 @@ use Rattle.office_store.specs.Cache.{FitsCache, IsSubtreeOf, IsZoneIn, cached_af
 use Rattle.office_store.specs.Holds.{HoldsState, LeavesStates}
 use Rattle.office_store.specs.Queries.{Asked}
 use Rattle.office_store.specs.Turns.{Turns}
+use Rattle.office_store.specs.Zones.{exported}
 
 abbrev Labels : Type 0
 Labels = List (List ℕ)
@@ -168,6 +169,11 @@ pub told_of_cache : (conn : Shown) (cached : Option ZoneOf) (zone : ZoneOf) (o :
 told_of_cache conn cached zone o fits clean up some own s h =
     let held = (subst (FitsCache conn) some fits).held clean in
     ∥∥₁_elim held (Coded-set (coded_option zone_code) _ _) (λ it. subst (λ n. Some zone ≡ zone_at s n) own (sym (one_zone conn up it.0 s it.1 h zone.origin zone it.2)))
+
+-- the records of a zone of a state are exported
+pub exported_is : (o : Labels) (found : Option Held) (zone : ZoneOf) → Some zone ≡ option_map (zone_held o) found → exported found ≡ Ok (listing zone.records)
+exported_is o None zone is = absurd (let none : None ≡ Some zone = sym is in cc)
+exported_is o (Some held) zone is = let same : zone ≡ zone_held o held = cc in ap (λ (z : ZoneOf). Ok (listing z.records)) (sym same)
 
 -- and its records within a name are those of the zone
 pub told_of_subtree : (conn : Shown) (cached : Option ZoneOf) (o top : Labels) (rs : List Record) → FitsCache conn cached → HasCleanDisk conn → IsTrue conn.is_open → IsSubtreeOf cached o top rs

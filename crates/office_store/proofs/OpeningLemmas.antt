@@ -53,9 +53,9 @@ module _ {X R : Type 0} (old new : Shown) (asks : OnlyAsks old new) (P : List R 
   checked xs same found answer moves (Err rows.NoMemory) p none = record { asks = asks; same = λ clean. tt; found = λ clean. tt; good = λ clean all holds q. tt; named = tt }
 
   -- rows that were not read are not
-  pub unread : (fault : RowsFault) → (HasCleanDisk new → fault ≡ tables.BadRow → (all : RowsOf) → Holds old all → ⊥) → Told (Err (of_found fault))
+  pub unread : (fault : RowsFault) → (HasCleanDisk new → fault ≡ tables.BadRow → (all : RowsOf) → Holds old all → Q (of all) → ⊥) → Told (Err (of_found fault))
   unread (tables.Store cause) bad = record { asks = asks; same = λ clean. tt; found = λ clean. tt; good = λ clean all holds q. tt; named = tt }
-  unread tables.BadRow bad = record { asks = asks; same = λ clean. tt; found = λ clean. tt; good = λ clean all holds q. absurd (bad clean refl all holds); named = tt }
+  unread tables.BadRow bad = record { asks = asks; same = λ clean. tt; found = λ clean. tt; good = λ clean all holds q. absurd (bad clean refl all holds q); named = tt }
   unread tables.NoMemory bad = record { asks = asks; same = λ clean. tt; found = λ clean. tt; good = λ clean all holds q. tt; named = tt }
 
 -- ---- one after the other
@@ -151,6 +151,10 @@ receipts_moved xs ys same of = record { receipts = of.receipts; apart = of.apart
 pub passed : {X : Type 0} (P : Type 0) (r : Result X RowFault) → Checks P r → IfOk r (λ _. P)
 passed P (Ok x) h = h
 passed P (Err e) h = tt
+
+pub both_passed : {X : Type 0} (P : Type 0) (Q : X → Type 0) (r : Result X RowFault) → Checks P r → IfOk r Q → IfOk r (λ x. P × Q x)
+both_passed P Q (Ok x) h q = (h, q)
+both_passed P Q (Err e) h q = tt
 
 pub was_bad : {X : Type 0} (P : Type 0) (r : Result X RowFault) → Checks P r → r ≡ Err rows.BadRow → ¬ P
 was_bad P (Ok x) h is = absurd cc
