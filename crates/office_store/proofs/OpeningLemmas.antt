@@ -48,9 +48,9 @@ module _ {X R : Type 0} (old new : Shown) (asks : OnlyAsks old new) (P : List R 
   checked xs same found answer moves (Err rows.NoMemory) p none = record { asks = asks; same = λ clean. tt; found = λ clean. tt; good = λ clean all holds q. tt; named = tt }
 
   -- rows that were not read are not
-  pub unread : (fault : RowsFault) → (HasCleanDisk new → fault ≡ tables.BadRow → (all : RowsOf) → Holds old all → ⊥) → Told (Err (of_found fault))
+  pub unread : (fault : RowsFault) → (HasCleanDisk new → fault ≡ tables.BadRow → (all : RowsOf) → Holds old all → Q (of all) → ⊥) → Told (Err (of_found fault))
   unread (tables.Store cause) bad = record { asks = asks; same = λ clean. tt; found = λ clean. tt; good = λ clean all holds q. tt; named = tt }
-  unread tables.BadRow bad = record { asks = asks; same = λ clean. tt; found = λ clean. tt; good = λ clean all holds q. absurd (bad clean refl all holds); named = tt }
+  unread tables.BadRow bad = record { asks = asks; same = λ clean. tt; found = λ clean. tt; good = λ clean all holds q. absurd (bad clean refl all holds q); named = tt }
   unread tables.NoMemory bad = record { asks = asks; same = λ clean. tt; found = λ clean. tt; good = λ clean all holds q. tt; named = tt }
 
 -- ---- one after the other

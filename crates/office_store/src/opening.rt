@@ -19,10 +19,12 @@ ghost use Rattle.office_store.specs.Queries.{Asked, AsksOnly};
 use crate::queries::check_open;
 use dns_names::Name;
 use office_rows::state::is_alone;
-use office_rows::{RowFault, StoreFault, checked_origins};
+use office_rows::{
+    ChangeReader, OriginReader, RecordReader, RowFault, StoreFault, checked_origins,
+};
 use office_sql::{
-    RowsFault, all_changes, all_receipts, all_records, all_zones, has_no_tables, has_tables,
-    make_tables, versions,
+    RowsFault, WholeRows, all_changes, all_receipts, all_records, all_zones, has_no_tables,
+    has_tables, make_tables, versions,
 };
 use sqlite::{Alter, Connection};
 use std::alloc::Global;
@@ -153,8 +155,8 @@ fn check_zones<S: Alter>(alloc: Global, conn: &mut Connection<S>) -> Result<Vec<
     ensures check { IsCheck (state S.Store conn.old) (state S.Store conn.new) result (λ origins db. OriginsIn origins.items db) (λ rows. HasOrigins rows.zones) }
     ensures origins { IfOk result (λ origins. AreOrigins origins.items) }
 {
-    match all_zones(alloc, conn) {
-        Ok(rows) => of_check(checked_origins(alloc, rows)),
+    match all_zones(alloc, conn, &mut OriginReader) {
+        Ok(origins) => of_check(checked_origins(origins)),
         Err(fault) => Err(found(fault)),
     }
 }
@@ -169,8 +171,9 @@ fn check_records<S: Alter>(
     requires origins { AreOrigins origins.now }
     ensures { IsCheck (state S.Store conn.old) (state S.Store conn.new) result (λ _ db. RecordsIn origins.now db) (λ rows. AreRecordsOf origins.now rows.records) }
 {
-    match all_records(alloc, conn) {
-        Ok(rows) => of_check(office_rows::check_records(alloc, origins, rows)),
+    let read = all_records(alloc, conn, &mut RecordReader::new());
+    match read {
+        Ok(records) => of_check(office_rows::check_records(alloc, origins, records)),
         Err(fault) => Err(found(fault)),
     }
 }
@@ -185,8 +188,9 @@ fn check_changes<S: Alter>(
     requires origins { AreOrigins origins.now }
     ensures { IsCheck (state S.Store conn.old) (state S.Store conn.new) result (λ _ db. ChangesIn origins.now db) (λ rows. AreChangesOf origins.now rows.changes) }
 {
-    match all_changes(alloc, conn) {
-        Ok(rows) => of_check(office_rows::check_changes(alloc, origins, rows)),
+    let read = all_changes(alloc, conn, &mut ChangeReader::new());
+    match read {
+        Ok(changes) => of_check(office_rows::check_changes(origins, changes)),
         Err(fault) => Err(found(fault)),
     }
 }
@@ -196,7 +200,7 @@ fn check_receipts<S: Alter>(alloc: Global, conn: &mut Connection<S>) -> Result<(
     requires { conn.old.in_transaction ≡ false }
     ensures { IsCheck (state S.Store conn.old) (state S.Store conn.new) result (λ _ db. ReceiptsIn db) (λ rows. AreReceiptRows rows.receipts) }
 {
-    match all_receipts(alloc, conn) {
+    match all_receipts(alloc, conn, &mut WholeRows) {
         Ok(rows) => of_check(office_rows::check_receipts(alloc, rows)),
         Err(fault) => Err(found(fault)),
     }

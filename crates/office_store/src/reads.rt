@@ -18,10 +18,10 @@ use dns_data::Record;
 use dns_names::Name;
 use grant_policy::Identifier;
 use office_rows::{
-    KeptReceipt, StoreFault, changes_of, identifier_text, kept_receipts, part_of, receipt_of,
-    records_within, zone_of,
+    KeptReceipt, OriginReader, StoreFault, changes_of, identifier_text, kept_receipts, part_of,
+    receipt_of, records_within, sorted_origins, zone_of,
 };
-use office_sql::{all_receipts, all_zones, receipts_of};
+use office_sql::{WholeRows, all_receipts, all_zones, receipts_of};
 use office_state::Receipt;
 use sqlite::{Alter, Connection};
 use std::alloc::Global;
@@ -141,9 +141,8 @@ pub(crate) fn origins<S: Alter>(
     ensures named { IfErr result IsFailure }
 {
     check_alone(conn)?;
-    let rows = all_zones(alloc, conn)?;
-    let names = office_rows::origins(alloc, &rows)?;
-    Ok(names)
+    let names = all_zones(alloc, conn, &mut OriginReader)?;
+    Ok(sorted_origins(names)?)
 }
 
 /// All receipts, by caller, and then by identifier.
@@ -156,7 +155,7 @@ pub(crate) fn receipts<S: Alter>(
     ensures named { IfErr result IsFailure }
 {
     check_alone(conn)?;
-    let rows = all_receipts(alloc, conn)?;
+    let rows = all_receipts(alloc, conn, &mut WholeRows)?;
     let kept = kept_receipts(alloc, &rows)?;
     Ok(kept)
 }

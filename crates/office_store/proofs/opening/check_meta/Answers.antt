@@ -25,4 +25,4 @@ returns-in-Err g c =
     let old = state g.S.Store c.args.conn.now in
     let new = state g.S.Store c.versions.new.conn in
     subst (λ (e : StoreFault). IsCheck old new (Err e) (λ _ db. VersionIn db) (λ all. IsNow all.versions)) (sym c.found.ensures)
-    (unread old new c.versions.ensures.asks (λ xs _. IsNow xs) (λ (db : Database) xs. Stores (db.trees 0) (map stored_version xs)) (λ all. all.versions) (IsNow) c.in-Err.fault (λ clean is. c.in-Err.ensures.bad clean (ap Err is)))
+    (unread old new c.versions.ensures.asks (λ xs _. IsNow xs) (λ (db : Database) xs. Stores (db.trees 0) (map stored_version xs)) (λ all. all.versions) (IsNow) c.in-Err.fault (λ clean is all holds q. c.in-Err.ensures.bad clean (ap Err is) all holds))

@@ -4,7 +4,8 @@ use Rattle.sqlite.specs.Held.{state}
 use Rattle.office_sql.specs.Rows.{RowsOf}
 use Rattle.office_sql.specs.Holds.{HasRecords}
 use Rattle.office_rows.specs.declared.store_fault.StoreFault.{StoreFault}
-use Rattle.office_rows.specs.Checks.{AreRecordsOf}
+use Rattle.office_rows.specs.Checks.{row_of_record, AreRecordsOf}
+use Rattle.office_rows.proofs.ZoneCheckLemmas.{record_rows}
 use Rattle.office_store.specs.Opening.{IsCheck, RecordsIn}
 use Rattle.office_store.proofs.OpeningLemmas.{checked, unread, passed, was_bad, records_moved}
 use Rattle.office_store.proofs.opening.check_records.Goals as goal
@@ -12,15 +13,15 @@ use Rattle.office_store.proofs.opening.check_records.Goals as goal
 pub returns-in-Ok : goal.returns-in-Ok
 returns-in-Ok g c =
     let old = state g.S.Store c.args.conn.now in
-    let new = state g.S.Store c.all_records.new.conn in
-    let rows = c.in-Ok.rows.items in
+    let new = state g.S.Store c.all_records-read.new.conn in
+    let rows = map row_of_record c.in-Ok.records.items in
     subst (λ r. IsCheck old new r (λ _ db. RecordsIn c.args.origins.now db) (λ all. AreRecordsOf c.args.origins.now all.records)) (sym c.of_check.ensures)
-    (checked old new c.all_records.ensures.asks (λ xs _. AreRecordsOf c.args.origins.now xs) (HasRecords) (λ all. all.records) (AreRecordsOf c.args.origins.now) rows c.in-Ok.ensures.same c.in-Ok.ensures.found c.in-Ok.ensures.answer (records_moved c.args.origins.now) c.check_records.result
+    (checked old new c.all_records-read.ensures.asks (λ xs _. AreRecordsOf c.args.origins.now xs) (HasRecords) (λ all. all.records) (AreRecordsOf c.args.origins.now) rows c.in-Ok.ensures.same c.in-Ok.ensures.found c.in-Ok.ensures.answer (records_moved c.args.origins.now) c.check_records.result
     (passed (AreRecordsOf c.args.origins.now rows) c.check_records.result c.check_records.ensures) (was_bad (AreRecordsOf c.args.origins.now rows) c.check_records.result c.check_records.ensures))
 
 pub returns-in-Err : goal.returns-in-Err
 returns-in-Err g c =
     let old = state g.S.Store c.args.conn.now in
-    let new = state g.S.Store c.all_records.new.conn in
+    let new = state g.S.Store c.all_records-read.new.conn in
     subst (λ (e : StoreFault). IsCheck old new (Err e) (λ _ db. RecordsIn c.args.origins.now db) (λ all. AreRecordsOf c.args.origins.now all.records)) (sym c.found.ensures)
-    (unread old new c.all_records.ensures.asks (λ xs _. AreRecordsOf c.args.origins.now xs) (HasRecords) (λ all. all.records) (AreRecordsOf c.args.origins.now) c.in-Err.fault (λ clean is. c.in-Err.ensures.bad clean (ap Err is)))
+    (unread old new c.all_records-read.ensures.asks (λ xs _. AreRecordsOf c.args.origins.now xs) (HasRecords) (λ all. all.records) (AreRecordsOf c.args.origins.now) c.in-Err.fault (λ clean is all holds q. c.in-Err.ensures.bad clean (ap Err is) all holds (record_rows q.zones all.records q.each q.same)))

@@ -1,4 +1,5 @@
 use Rattle.std.proofs.Common.{pos, subst, sym, IsPermutation}
+use Rattle.std.proofs.lemmas.List.{map-id}
 use Rattle.sqlite.specs.Held.{state}
 use Rattle.office_store.proofs.QueryLemmas.{answered_once, asked_once, asks_refused, refused_early, refused_once}
 use Rattle.office_store.proofs.reads.receipts.Goals as goal
@@ -6,7 +7,7 @@ use Rattle.office_store.proofs.reads.receipts.Goals as goal
 pub returns-clause-answer : goal.returns-clause-answer
 returns-clause-answer g c =
     λ clean s h.
-    let rows = subst (IsPermutation h.rows.receipts) (sym c.deref.ensures.value) (c.in_ok-rows.ensures.answer clean h.rows h.held) in
+    let rows = subst (IsPermutation h.rows.receipts) (sym c.deref.ensures.value) (subst (IsPermutation h.rows.receipts) (map-id c.in_ok-rows.rows.items) (c.in_ok-rows.ensures.answer clean h.rows h.held)) in
     c.in_ok-kept.ensures.held (pos 2) h.rows s h.are rows
 
 pub returns-clause-asks : goal.returns-clause-asks
