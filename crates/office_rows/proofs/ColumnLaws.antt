@@ -21,7 +21,7 @@ use Rattle.dns_master.proofs.CleanLaws.{data_clean}
 use Rattle.office_rows.specs.declared.row_fault.RowFault.{RowFault}
 use Rattle.office_rows.specs.declared.row_fault.RowFault.TheVariants.{BadRow}
 use Rattle.office_rows.specs.RowFaults.{◌>>=◌, of_names, of_datas, canonical}
-use Rattle.office_rows.specs.RowReading.{or_bad, name_in, fields_of, type_in, data_in, ttl_in, record_at}
+use Rattle.office_rows.specs.RowReading.{or_bad, name_from, name_in, fields_of, type_in, data_from, data_in, ttl_in, record_at}
 use Rattle.office_rows.proofs.RowSteps.{done, ok_is, step_ok, datas_ok, or_bad_ok, needed_ok, canonical_again, canonical_ok}
 use Rattle.office_rows.proofs.FieldsLaws.{fields_read}
 
@@ -36,6 +36,12 @@ name_found text name e =
     let s = step_ok (of_names (absolute_name text)) (λ n. canonical (name_text n) text n) name e in
     let t = canonical_ok (name_text s.0) text s.0 name s.2 in
     sym t.0 ∙ ap name_text t.1
+
+-- and whatever its spelling
+pub name_also : (text : List ℕ) (name : List (List ℕ)) → name_in text ≡ Ok name → name_from text ≡ Ok name
+name_also text name e =
+    let s = step_ok (of_names (absolute_name text)) (λ n. canonical (name_text n) text n) name e in
+    s.1 ∙ ap done (canonical_ok (name_text s.0) text s.0 name s.2).1
 
 -- ---- types
 
@@ -63,6 +69,13 @@ data_found t text rdata e =
     let d = step_ok (of_datas (data_of t None s.0)) (λ d. canonical (data_text d) text d) rdata s.2 in
     let same = canonical_ok (data_text d.0) text d.0 rdata d.2 in
     (sym (ap type_of same.1) ∙ data_typed t None s.0 d.0 (datas_ok (data_of t None s.0) d.0 d.1), sym same.0 ∙ ap data_text same.1)
+
+-- and whatever their spelling
+pub data_also : (t : RecordType) (text : List ℕ) (rdata : Data) → data_in t text ≡ Ok rdata → data_from t text ≡ Ok rdata
+data_also t text rdata e =
+    let s = step_ok (fields_of text) (λ items. of_datas (data_of t None items) >>= λ d. canonical (data_text d) text d) rdata e in
+    let d = step_ok (of_datas (data_of t None s.0)) (λ d. canonical (data_text d) text d) rdata s.2 in
+    ap (λ r. r >>= λ items. of_datas (data_of t None items)) s.1 ∙ d.1 ∙ ap done (canonical_ok (data_text d.0) text d.0 rdata d.2).1
 
 -- ---- TTLs
 

@@ -1,12 +1,11 @@
 -- Rows are those of zones exactly where those of each table are of zones of the same origins.
-use Rattle.std.proofs.Common.{◌≡◌, ◌≢◌, ℕ, suc, Bool, true, false, cond, List, [], ◌∷◌, ◌++◌, map, IsPermutation, IsSorted, arith, add-one, refl, sym, ap, ap₂, subst, ◌∙◌}
-use Rattle.std.proofs.lemmas.Cmp.{tied_itself}
-use Rattle.std.proofs.lemmas.List.Sorted.{IsPermutation-refl, IsPermutation-sym, IsPermutation-trans, IsPermutation-map}
+use Rattle.std.proofs.Common.{◌≡◌, ◌≢◌, ℕ, Bool, true, false, cond, List, [], ◌∷◌, ◌++◌, map, IsPermutation, IsSorted, refl, sym, ap, ap₂, subst, ◌∙◌}
+use Rattle.std.proofs.lemmas.List.Sorted.{IsPermutation-sym, IsPermutation-trans, IsPermutation-map}
 use Rattle.std.specs.declared.cmp.Ordering.{Ordering}
 use Rattle.std.specs.declared.cmp.Ordering.TheVariants.{Less, Equal, Greater}
 use Rattle.std.specs.Cmp.{IsTotalOrder}
 use Rattle.std.specs.List.{AllByRecursion, flat_map}
-use Rattle.std.specs.Ordering.{is_gt, is_lt, ordering_reverse}
+use Rattle.std.specs.Ordering.{is_gt, ordering_reverse}
 use Rattle.sqlite_trees.specs.Tree.{IsAscending}
 use Rattle.sqlite_trees.proofs.ListLemmas.{IsPermutation-flat_map}
 use Rattle.sqlite_keyed.specs.Lists.{insert_sorted, sort_by}
@@ -18,7 +17,7 @@ use Rattle.dns_names.specs.Spelling.{name_text}
 use Rattle.office_sql.specs.Rows.{RecordRowOf, ChangeRowOf}
 use Rattle.office_rows.specs.Contents.{ZoneRows, zone_records, zone_changes, IsZoneRows}
 use Rattle.office_rows.specs.Orders.{rises}
-use Rattle.office_rows.specs.Checks.{AreZoneRows, AreOrigins, AreOriginRows, HasItsRecords, AreRecordsOf, HasItsChanges, AreChangesOf, AreRowsByTable, RowsAreByTable, IsOriginText}
+use Rattle.office_rows.specs.Checks.{AreZoneRows, AreOriginRows, HasItsRecords, AreRecordsOf, HasItsChanges, AreChangesOf, RowsAreByTable, IsOriginText}
 use Rattle.office_rows.proofs.ContentLemmas.{Apart}
 use Rattle.office_rows.proofs.ListLemmas.{all_permutation, apart_moved, ascending_from_pairs, moved_back, pairs_from_ascending}
 use Rattle.office_rows.proofs.NameLemmas.{text_one}

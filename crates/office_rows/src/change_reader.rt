@@ -6,7 +6,7 @@ ghost use Rattle.dns_data.specs.Rdata.{IsRecord};
 ghost use Rattle.office_rows.specs.declared.changes.ChangedRecord.{ChangedRecord as Changed};
 ghost use Rattle.office_rows.specs.ChangeRows.{row_of as row_of_change, IsChanged};
 ghost use Rattle.office_rows.specs.RowFaults.{Reads};
-ghost use Rattle.office_rows.specs.RowReading.{changed_at};
+ghost use Rattle.office_rows.specs.RowReading.{changed_at, changed_in, renumbered, changed_behind};
 
 use crate::changes::{ChangedRecord, number_in};
 use crate::column_reader::ColumnReader;
@@ -67,6 +67,56 @@ impl ChangeReader {
     {
         self.changed_at(alloc, row)
     }
+
+    /// What a row has that is known to be that of a record on a side of a change. Its spelling is not looked at.
+    pub(crate) fn stored_row(
+        &mut self,
+        alloc: Global,
+        row: &ChangeRow,
+    ) -> Result<ChangedRecord, RowFault>
+        ensures { Reads (λ c. c) result (changed_in row.now) }
+    {
+        let origin = self.columns.stored_origin(alloc, row.origin.as_str())?;
+        let number = number_in(row.number)?;
+        let side = Side::of_number(row.side)?;
+        let changed = self.columns.stored_record(
+            alloc,
+            row.owner.as_str(),
+            row.record_type,
+            row.rdata.as_str(),
+            row.ttl,
+        )?;
+        Ok(ChangedRecord {
+            origin,
+            number,
+            side,
+            changed,
+        })
+    }
+
+    /// What a row has behind so many changes, numbered from 1. Its spelling is not looked at.
+    pub(crate) fn row_behind(
+        &mut self,
+        alloc: Global,
+        row: &ChangeRow,
+        count: u32,
+    ) -> Result<ChangedRecord, RowFault>
+        ensures { Reads (λ c. c) result (changed_behind count row.now) }
+    {
+        let changed = self.stored_row(alloc, row)?;
+        renumbered(changed, count)
+    }
+}
+
+/// What a row has, with its change numbered from 1 behind so many changes. A number of one of these is `BadRow`.
+fn renumbered(mut changed: ChangedRecord, count: u32) -> Result<ChangedRecord, RowFault>
+    ensures { result ≡ renumbered count changed }
+{
+    if changed.number <= u64::from(count) {
+        return Err(RowFault::BadRow);
+    }
+    changed.number -= u64::from(count);
+    Ok(changed)
 }
 
 impl RowReader<ChangeRow, ChangedRecord> for ChangeReader {

@@ -1,15 +1,11 @@
 //! The rows of `changes`.
 
 ghost use Rattle.std.specs.Prelude.{◌≡◌, ◌++◌, ℕ, pos, IfOk, OnOk, map};
-ghost use Rattle.dns_names.specs.Labels.{IsName};
-ghost use Rattle.dns_data.specs.Rdata.{IsRecord};
 ghost use Rattle.zone_core.specs.Changes.{change_in};
 ghost use Rattle.office_rows.specs.ChangeRows.{change_rows, row_on_side};
 ghost use Rattle.office_rows.specs.declared.side.Side.TheVariants.{Removed, Added};
-ghost use Rattle.office_rows.specs.RowFaults.{Reads};
-ghost use Rattle.office_rows.specs.RowReading.{number_in, changed_in, renumbered, changed_behind};
+ghost use Rattle.office_rows.specs.RowReading.{number_in};
 
-use crate::columns::{name_from, record_from};
 use crate::records::record_rows;
 use crate::row_fault::RowFault;
 use crate::side::Side;
@@ -106,51 +102,4 @@ pub(crate) fn number_in(number: i64) -> Result<u64, RowFault>
         Ok(number) if number > 0 => Ok(number),
         _ => Err(RowFault::BadRow),
     }
-}
-
-/// What a row has that is known to be that of a record on a side of a change. Its spelling is not looked at.
-pub(crate) fn stored_change(alloc: Global, row: &ChangeRow) -> Result<ChangedRecord, RowFault>
-    ensures origin { IfOk result (λ c. IsName c.origin) }
-    ensures record { IfOk result (λ c. IsRecord c.changed) }
-    ensures exact { Reads (λ c. c) result (changed_in row.now) }
-{
-    let origin = name_from(alloc, row.origin.as_str())?;
-    let number = number_in(row.number)?;
-    let side = Side::of_number(row.side)?;
-    let changed = record_from(
-        alloc,
-        row.owner.as_str(),
-        row.record_type,
-        row.rdata.as_str(),
-        row.ttl,
-    )?;
-    Ok(ChangedRecord {
-        origin,
-        number,
-        side,
-        changed,
-    })
-}
-
-/// What a row has, with its change numbered from 1 behind so many changes. A number of one of these is `BadRow`.
-fn renumbered(mut changed: ChangedRecord, count: u32) -> Result<ChangedRecord, RowFault>
-    ensures { result ≡ renumbered count changed }
-{
-    if changed.number <= u64::from(count) {
-        return Err(RowFault::BadRow);
-    }
-    changed.number -= u64::from(count);
-    Ok(changed)
-}
-
-/// What a row has behind so many changes, numbered from 1. Its spelling is not looked at.
-pub(crate) fn change_behind(
-    alloc: Global,
-    row: &ChangeRow,
-    count: u32,
-) -> Result<ChangedRecord, RowFault>
-    ensures { Reads (λ c. c) result (changed_behind count row.now) }
-{
-    let changed = stored_change(alloc, row)?;
-    renumbered(changed, count)
 }

@@ -72,7 +72,11 @@ pub(crate) fn type_in(number: i64) -> Result<RecordType, RowFault>
 }
 
 /// The data of a type by a text.
-fn data_from(alloc: Global, record_type: RecordType, text: &str) -> Result<Data, RowFault>
+pub(crate) fn data_from(
+    alloc: Global,
+    record_type: RecordType,
+    text: &str,
+) -> Result<Data, RowFault>
     ensures { Reads (λ made. made) result (data_from record_type text.now) }
 {
     let items = fields_of(alloc, text)?;

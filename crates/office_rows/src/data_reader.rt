@@ -4,9 +4,9 @@ ghost use Rattle.std.specs.Prelude.{◌≡◌, true, Ok, IfOk, IfSome, string_by
 ghost use Rattle.dns_data.specs.Text.{data_text};
 ghost use Rattle.zone_core.specs.Effects.{next_data};
 ghost use Rattle.office_rows.specs.RowFaults.{Reads};
-ghost use Rattle.office_rows.specs.RowReading.{data_in};
+ghost use Rattle.office_rows.specs.RowReading.{data_from, data_in};
 
-use crate::columns::data_in;
+use crate::columns::{data_from, data_in};
 use crate::row_fault::RowFault;
 use dns_data::{Data, RecordType, Serial, Soa, data_text};
 use std::alloc::{AllocError, Global};
@@ -149,6 +149,32 @@ impl DataReader {
         match record_type {
             RecordType::Soa => self.read_soa(alloc, text),
             _ => data_in(alloc, record_type, text),
+        }
+    }
+
+    /// The data of an SOA record by a text that the store has, in whichever spelling.
+    fn stored_soa(&mut self, alloc: Global, text: &str) -> Result<Data, RowFault>
+        ensures { Reads (λ made. made) result (data_from RecordType.Soa text.now) }
+    {
+        match self.read(alloc, RecordType::Soa, text) {
+            Ok(rdata) => Ok(rdata),
+            Err(RowFault::BadRow) => data_from(alloc, RecordType::Soa, text),
+            Err(RowFault::NoMemory) => Err(RowFault::NoMemory),
+        }
+    }
+
+    /// The data of a type by a text that the store has, in whichever spelling.
+    pub(crate) fn stored(
+        &mut self,
+        alloc: Global,
+        record_type: RecordType,
+        text: &str,
+    ) -> Result<Data, RowFault>
+        ensures { Reads (λ made. made) result (data_from record_type text.now) }
+    {
+        match record_type {
+            RecordType::Soa => self.stored_soa(alloc, text),
+            _ => data_from(alloc, record_type, text),
         }
     }
 }

@@ -11,7 +11,7 @@ ghost use Rattle.office_rows.specs.RowFaults.{Reads};
 ghost use Rattle.office_rows.specs.RowReading.{each_read, changed_in, changed_behind, changes_among, AreStoredIn, AreStoredBehind};
 
 use crate::change_reader::ChangeReader;
-use crate::changes::{ChangedRecord, change_behind, stored_change};
+use crate::changes::ChangedRecord;
 use crate::row_fault::RowFault;
 use crate::side::Side;
 use dns_data::{Record, record_order};
@@ -76,9 +76,10 @@ fn changes_among(alloc: Global, changed: Vec<ChangedRecord>) -> Result<Vec<Chang
 fn each_stored(alloc: Global, rows: Vec<ChangeRow>) -> Result<Vec<ChangedRecord>, RowFault>
     ensures { Reads (λ cs. cs.items) result (each_read changed_in rows.items) }
 {
+    let mut reader = ChangeReader::new();
     let mut changed = Vec::with_capacity(alloc, rows.len())?;
     for row in rows {
-        changed.push(stored_change(alloc, &row)?)?;
+        changed.push(reader.stored_row(alloc, &row)?)?;
     }
     Ok(changed)
 }
@@ -91,9 +92,10 @@ fn each_behind(
 ) -> Result<Vec<ChangedRecord>, RowFault>
     ensures { Reads (λ cs. cs.items) result (each_read (changed_behind count) rows.items) }
 {
+    let mut reader = ChangeReader::new();
     let mut changed = Vec::with_capacity(alloc, rows.len())?;
     for row in rows {
-        changed.push(change_behind(alloc, &row, count)?)?;
+        changed.push(reader.row_behind(alloc, &row, count)?)?;
     }
     Ok(changed)
 }

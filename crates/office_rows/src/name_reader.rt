@@ -4,9 +4,9 @@ ghost use Rattle.std.specs.Prelude.{◌≡◌, Ok, IfOk, IfSome, string_bytes};
 ghost use Rattle.dns_names.specs.Labels.{IsName};
 ghost use Rattle.dns_names.specs.Spelling.{name_text};
 ghost use Rattle.office_rows.specs.RowFaults.{Reads};
-ghost use Rattle.office_rows.specs.RowReading.{name_in};
+ghost use Rattle.office_rows.specs.RowReading.{name_from, name_in};
 
-use crate::columns::read_origin;
+use crate::columns::{name_from, read_origin};
 use crate::row_fault::RowFault;
 use dns_names::Name;
 use std::alloc::{AllocError, Global};
@@ -76,5 +76,17 @@ impl NameReader {
         let name = read_origin(alloc, text)?;
         self.last = Some(LastName::new(alloc, text, &name)?);
         Ok(name)
+    }
+
+    /// The name of a text that the store has, in whichever spelling.
+    pub(crate) fn stored(&mut self, alloc: Global, text: &str) -> Result<Name, RowFault>
+        ensures name { IfOk result IsName }
+        ensures exact { Reads (λ name. name) result (name_from text.now) }
+    {
+        match self.read(alloc, text) {
+            Ok(name) => Ok(name),
+            Err(RowFault::BadRow) => name_from(alloc, text),
+            Err(RowFault::NoMemory) => Err(RowFault::NoMemory),
+        }
     }
 }

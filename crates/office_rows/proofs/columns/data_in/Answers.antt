@@ -1,8 +1,8 @@
-use Rattle.std.proofs.Common.{sym, subst, None, Err, ◌∙◌}
+use Rattle.std.proofs.Common.{sym, subst, None, ◌∙◌}
 use Rattle.std.proofs.lemmas.Result.{err_from_is_err_and}
 use Rattle.dns_data.specs.Reading.{data_of}
 use Rattle.dns_data.specs.Text.{data_text}
-use Rattle.office_rows.specs.RowFaults.{◌>>=◌, Refuses, of_datas, canonical}
+use Rattle.office_rows.specs.RowFaults.{Refuses, of_datas, canonical}
 use Rattle.office_rows.specs.RowReading.{fields_of, data_from}
 use Rattle.office_rows.proofs.RowSteps.{refuses_step, steps_joined, spelled_other, spelled_so}
 use Rattle.office_rows.proofs.columns.data_in.Goals as goal

@@ -1,4 +1,4 @@
-use Rattle.std.proofs.Common.{◌≡◌, sym, ap, ◌∙◌}
+use Rattle.std.proofs.Common.{sym, ap, ◌∙◌}
 use denote.Enum.Bare.{differs_false}
 use Rattle.dns_data.specs.contracts.record_type.RecordType.{the_type}
 use Rattle.dns_data.specs.Rdata.{type_of}

@@ -8,18 +8,18 @@ use Rattle.office_rows.specs.RowReading.{each_read, changed_behind}
 use Rattle.office_rows.proofs.StoredLaws.{with_one, refused_in_turn}
 use Rattle.office_rows.proofs.gathering.each_behind.Goals as goal
 
-pub returns-in_err-change_behind : goal.returns-in_err-change_behind
-returns-in_err-change_behind c =
-    let p = err_from_is_err_and c.from_residual-in_err-change_behind.result c.from_residual-in_err-change_behind.ensures.1 in
+pub returns-in_err-row_behind : goal.returns-in_err-row_behind
+returns-in_err-row_behind c =
+    let p = err_from_is_err_and c.from_residual-in_err-row_behind.result c.from_residual-in_err-row_behind.ensures.1 in
     let all = YieldsList-from_vec {s = c.into_iter-row-iterator.result} c.args.rows.items (search rules) (search rules) in
     let turn = YieldsList-turn all c.loop-row.yielded c.loop-row.row-iterator c.loop-row.yielded_by c.next.result c.next.new.self c.in-Some.row c.in-Some.is c.next.ensures.steps in
     rw (p.1, p.2)
-    (refused_in_turn (changed_behind c.args.count) c.in_err-change_behind.field-0.0 c.args.rows.items c.loop-row.yielded c.in-Some.row c.loop-row.changed.items (YieldsList-so_far all c.loop-row.yielded c.loop-row.row-iterator c.loop-row.yielded_by) turn
-    c.loop-row.invariant c.in_err-change_behind.ensures)
+    (refused_in_turn (changed_behind c.args.count) c.in_err-row_behind.field-0.0 c.args.rows.items c.loop-row.yielded c.in-Some.row c.loop-row.changed.items (YieldsList-so_far all c.loop-row.yielded c.loop-row.row-iterator c.loop-row.yielded_by) turn
+    c.loop-row.invariant c.in_err-row_behind.ensures)
 
 pub loop-row-preserved : goal.loop-row-preserved
 loop-row-preserved c =
-    with_one (changed_behind c.args.count) c.loop-row.yielded c.in-Some.row c.loop-row.changed.items c.in_ok-change_behind.field-0 c.loop-row.invariant c.in_ok-change_behind.ensures
+    with_one (changed_behind c.args.count) c.loop-row.yielded c.in-Some.row c.loop-row.changed.items c.in_ok-row_behind.field-0 c.loop-row.invariant c.in_ok-row_behind.ensures
     ∙ ap (λ (l : List ChangedRecord). Ok l) (sym c.in_ok-push.ensures.items)
 
 pub returns : goal.returns

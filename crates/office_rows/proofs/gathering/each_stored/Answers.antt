@@ -8,18 +8,18 @@ use Rattle.office_rows.specs.RowReading.{each_read, changed_in}
 use Rattle.office_rows.proofs.StoredLaws.{with_one, refused_in_turn}
 use Rattle.office_rows.proofs.gathering.each_stored.Goals as goal
 
-pub returns-in_err-stored_change : goal.returns-in_err-stored_change
-returns-in_err-stored_change c =
-    let p = err_from_is_err_and c.from_residual-in_err-stored_change.result c.from_residual-in_err-stored_change.ensures.1 in
+pub returns-in_err-stored_row : goal.returns-in_err-stored_row
+returns-in_err-stored_row c =
+    let p = err_from_is_err_and c.from_residual-in_err-stored_row.result c.from_residual-in_err-stored_row.ensures.1 in
     let all = YieldsList-from_vec {s = c.into_iter-row-iterator.result} c.args.rows.items (search rules) (search rules) in
     let turn = YieldsList-turn all c.loop-row.yielded c.loop-row.row-iterator c.loop-row.yielded_by c.next.result c.next.new.self c.in-Some.row c.in-Some.is c.next.ensures.steps in
     rw (p.1, p.2)
-    (refused_in_turn changed_in c.in_err-stored_change.field-0.0 c.args.rows.items c.loop-row.yielded c.in-Some.row c.loop-row.changed.items (YieldsList-so_far all c.loop-row.yielded c.loop-row.row-iterator c.loop-row.yielded_by) turn
-    c.loop-row.invariant c.in_err-stored_change.ensures.exact)
+    (refused_in_turn changed_in c.in_err-stored_row.field-0.0 c.args.rows.items c.loop-row.yielded c.in-Some.row c.loop-row.changed.items (YieldsList-so_far all c.loop-row.yielded c.loop-row.row-iterator c.loop-row.yielded_by) turn
+    c.loop-row.invariant c.in_err-stored_row.ensures)
 
 pub loop-row-preserved : goal.loop-row-preserved
 loop-row-preserved c =
-    with_one changed_in c.loop-row.yielded c.in-Some.row c.loop-row.changed.items c.in_ok-stored_change.field-0 c.loop-row.invariant c.in_ok-stored_change.ensures.exact
+    with_one changed_in c.loop-row.yielded c.in-Some.row c.loop-row.changed.items c.in_ok-stored_row.field-0 c.loop-row.invariant c.in_ok-stored_row.ensures
     ∙ ap (λ (l : List ChangedRecord). Ok l) (sym c.in_ok-push.ensures.items)
 
 pub returns : goal.returns

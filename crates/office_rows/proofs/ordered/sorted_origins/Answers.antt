@@ -1,5 +1,5 @@
 use Rattle.std.proofs.Common.{rules, map}
-use Rattle.std.proofs.lemmas.List.Sorted.{ranks_by, answers_always, IsPermutation-map, IsPermutation-sym, IsPermutation-trans}
+use Rattle.std.proofs.lemmas.List.Sorted.{ranks_by, answers_always, IsPermutation-map, IsPermutation-sym}
 use Rattle.std.specs.Ordering.{is_lt}
 use Rattle.dns_names.specs.Labels.{IsName}
 use Rattle.dns_names.specs.Order.{canonical_cmp, canonical_total}
