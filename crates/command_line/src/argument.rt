@@ -1,14 +1,14 @@
 //! What commands take after their word, in one table.
 
-ghost use Rattle.std.specs.Prelude.{◌≡◌, false};
-ghost use Rattle.clap.specs.Words.{rule_of};
+ghost use Rattle.std.specs.Prelude.{◌≡◌, false, Some};
+ghost use Rattle.clap.specs.Words.{new_rule, rule_of};
 ghost use Rattle.command_line.specs.Commands.{argument_name, argument_form, rule_for, in_form};
 
 use clap::{Arg, ArgAction};
 use std::alloc::Global;
 
 /// What a command takes after its word: an option, or a word in its place.
-#[derive(Clone, Copy, PartialEq, Eq)]
+#[derive(Clone, Copy)]
 pub enum Argument {
     Store,
     Policy,
@@ -42,7 +42,7 @@ pub enum Argument {
 }
 
 /// How an argument is written.
-#[derive(Clone, Copy, PartialEq, Eq)]
+#[derive(Clone, Copy)]
 pub enum Form {
     /// `--name VALUE`, which must be given.
     Needed,
@@ -212,24 +212,39 @@ impl Argument {
         let row = self.row();
         let name: &'a str = row.name;
         let help: &'a str = row.help;
-        in_form(Arg::new(alloc, name).help(help), name, row.form)
+        in_form(alloc, name, help, row.form)
     }
 }
 
 /// An argument of a name, written in a form.
-fn in_form<'a>(rule: Arg<'a>, name: &'a str, form: Form) -> Arg<'a>
-    ensures rule { rule_of result ≡ in_form form name.entry.now (rule_of rule.entry) }
-    ensures local { result.global ≡ rule.entry.global }
+fn in_form<'a>(alloc: Global, name: &'a str, help: &'a str, form: Form) -> Arg<'a>
+    ensures rule { rule_of result ≡ in_form form name.entry.now (new_rule name.entry.now) }
+    ensures local { result.global ≡ false }
 {
     match form {
-        Form::Needed => rule.long(name).required(true).action(ArgAction::Set),
-        Form::Number => rule
-            .long(name)
-            .action(ArgAction::Set)
-            .value_parser(clap::value_parser!(u64)),
-        Form::Flag => rule.long(name).action(ArgAction::SetTrue),
-        Form::Optional => rule.long(name).action(ArgAction::Set),
-        Form::Place => rule.required(true).action(ArgAction::Set),
-        Form::OptionalPlace => rule.action(ArgAction::Set),
+        Form::Needed => option(alloc, name, help, ArgAction::Set).required(true),
+        Form::Number => {
+            option(alloc, name, help, ArgAction::Set).value_parser(clap::value_parser!(u64))
+        }
+        Form::Flag => option(alloc, name, help, ArgAction::SetTrue),
+        Form::Optional => option(alloc, name, help, ArgAction::Set),
+        Form::Place => place(alloc, name, help).required(true),
+        Form::OptionalPlace => place(alloc, name, help),
     }
+}
+
+/// An option that may be left out, and what clap does where it is given.
+fn option<'a>(alloc: Global, name: &'a str, help: &'a str, action: ArgAction) -> Arg<'a>
+    ensures rule { rule_of result ≡ record (new_rule name.entry.now) { long = Some name.entry.now; action = Some action } }
+    ensures local { result.global ≡ false }
+{
+    Arg::new(alloc, name).long(name).help(help).action(action)
+}
+
+/// A word in its place, which may be left out.
+fn place<'a>(alloc: Global, name: &'a str, help: &'a str) -> Arg<'a>
+    ensures rule { rule_of result ≡ record (new_rule name.entry.now) { action = Some ArgAction.Set } }
+    ensures local { result.global ≡ false }
+{
+    Arg::new(alloc, name).help(help).action(ArgAction::Set)
 }

@@ -5,7 +5,7 @@ ghost use Rattle.std.specs.Prelude.{◌≡◌, map, find, bytes_eq};
 use crate::argument::Argument;
 
 /// A command of the program: the first word of the command line.
-#[derive(Clone, Copy, PartialEq, Eq)]
+#[derive(Clone, Copy)]
 pub enum Command {
     Apply,
     Canon,

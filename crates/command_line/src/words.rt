@@ -1,9 +1,10 @@
 //! The words of the command line, read as a job.
 
 ghost use Rattle.std.specs.Prelude.{◌≡◌, [], IfErr, IfOk, map, option_map, Some, is_some, true, codes};
-ghost use Rattle.clap.specs.Words.{app_of, fault_of, first_of, found_of, kind_of, one_of, rows_of, subcommand_rows_of, takes};
+ghost use Rattle.std.specs.Option.{option_zip};
+ghost use Rattle.clap.specs.Words.{Text, app_of, fault_of, first_of, found_of, kind_of, one_of, rows_of, subcommand_rows_of, takes};
 ghost use Rattle.command_line.specs.Commands.{office, argument_name};
-ghost use Rattle.command_line.specs.Words.{asks, chosen, JobOf, canon_of, files_asked, files_by, files_of, diff_of, request_of, zone_asked, stored_of, import_of, export_of, zones_of, log_asked, log_choice_of, log_of, migrate_of, rights_of, plan_of, serve_of, checked_of, isolated_of, listed_of, choice_of, linted_of, check_of, explain_of, number_if, existing_of, zone_form_of, diff_form_of, form_of, job_by, job_named, job_met, job_of};
+ghost use Rattle.command_line.specs.Words.{asks, asks_store, asks_text, chosen, JobOf, canon_of, files_asked, files_by, files_of, diff_of, request_of, zone_asked, stored_of, import_of, export_of, zones_of, log_asked, log_choice_of, log_of, migrate_of, rights_of, plan_of, serve_of, checked_of, isolated_of, listed_of, choice_of, linted_of, check_of, explain_of, number_if, existing_of, zone_form_of, diff_form_of, form_of, job_by, job_named, job_met, job_of};
 ghost use Rattle.command_line.specs.PlainForms.{IsPlain};
 ghost use Rattle.command_line.specs.Misuse.{IsReportedAs, IsReported, is_help};
 
@@ -34,6 +35,18 @@ fn text_at<'a>(matches: &ArgMatches<'a>, argument: Argument) -> Option<&'a str>
     ensures { option_map (λ s. s.now) result ≡ first_of (argument_name argument) (rows_of (found_of matches.now)) }
 {
     matches.get_str(argument.name())
+}
+
+/// The texts of two arguments, where both have one.
+fn texts_at<'a>(
+    matches: &ArgMatches<'a>,
+    first: Argument,
+    second: Argument,
+) -> Option<(&'a str, &'a str)>
+    ensures { option_map {U = Text × Text} (λ p. (p.0.now, p.1.now)) result
+        ≡ option_zip (first_of (argument_name first) (rows_of (found_of matches.now))) (first_of (argument_name second) (rows_of (found_of matches.now))) }
+{
+    text_at(matches, first).zip(text_at(matches, second))
 }
 
 /// The number of an argument: `Some(None)` where none is given, and `None` where what is given is not a number.
@@ -84,12 +97,12 @@ fn form_at(matches: &ArgMatches<'_>) -> TextForm
 }
 
 /// The job of the command `canon`.
-fn canon_in<'a>(matches: &ArgMatches<'a>) -> Option<Job<'a>>
-    ensures { option_map asks result ≡ canon_of (rows_of (found_of matches.now)) }
+fn canon_in<'a>(matches: &ArgMatches<'a>) -> Option<TextJob<'a>>
+    ensures { option_map asks_text result ≡ canon_of (rows_of (found_of matches.now)) }
 {
     let origin = text_at(matches, Argument::Origin)?;
     let form = zone_form_at(matches);
-    Some(Job::Text(TextJob::Canon { origin, form }))
+    Some(TextJob::Canon { origin, form })
 }
 
 /// The files of two zones, of which one at most is standard input.
@@ -106,28 +119,27 @@ fn files_by<'a>(old: &'a str, new: &'a str) -> Option<ZoneFiles<'a>>
 fn files_at<'a>(matches: &ArgMatches<'a>) -> Option<ZoneFiles<'a>>
     ensures { option_map files_asked result ≡ files_of (rows_of (found_of matches.now)) }
 {
-    let old = text_at(matches, Argument::Old)?;
-    let new = text_at(matches, Argument::New)?;
+    let (old, new) = texts_at(matches, Argument::Old, Argument::New)?;
     files_by(old, new)
 }
 
 /// The job of the command `diff`.
-fn diff_in<'a>(matches: &ArgMatches<'a>) -> Option<Job<'a>>
-    ensures { option_map asks result ≡ diff_of (rows_of (found_of matches.now)) }
+fn diff_in<'a>(matches: &ArgMatches<'a>) -> Option<TextJob<'a>>
+    ensures { option_map asks_text result ≡ diff_of (rows_of (found_of matches.now)) }
 {
     let origin = text_at(matches, Argument::Origin)?;
     let files = files_at(matches)?;
     let form = diff_form_at(matches);
-    Some(Job::Text(TextJob::Diff {
+    Some(TextJob::Diff {
         origin,
         files,
         form,
-    }))
+    })
 }
 
 /// The job of the command `request`.
-fn request_in<'a>(matches: &ArgMatches<'a>) -> Option<Job<'a>>
-    ensures { option_map asks result ≡ request_of (rows_of (found_of matches.now)) }
+fn request_in<'a>(matches: &ArgMatches<'a>) -> Option<TextJob<'a>>
+    ensures { option_map asks_text result ≡ request_of (rows_of (found_of matches.now)) }
 {
     let (id, form) = match (
         text_at(matches, Argument::Id),
@@ -137,42 +149,41 @@ fn request_in<'a>(matches: &ArgMatches<'a>) -> Option<Job<'a>>
         (None, Some(id)) => (id, RequestForm::Split),
         (None, None) | (Some(_), Some(_)) => return None,
     };
-    Some(Job::Text(TextJob::Request { id, form }))
+    Some(TextJob::Request { id, form })
 }
 
 /// The zone of a store that words name.
 fn zone_at<'a>(matches: &ArgMatches<'a>) -> Option<StoredZone<'a>>
     ensures { option_map zone_asked result ≡ stored_of (rows_of (found_of matches.now)) }
 {
-    let store = text_at(matches, Argument::Store)?;
-    let origin = text_at(matches, Argument::Origin)?;
+    let (store, origin) = texts_at(matches, Argument::Store, Argument::Origin)?;
     Some(StoredZone { store, origin })
 }
 
 /// The job of the command `import`.
-fn import_in<'a>(matches: &ArgMatches<'a>) -> Option<Job<'a>>
-    ensures { option_map asks result ≡ import_of (rows_of (found_of matches.now)) }
+fn import_in<'a>(matches: &ArgMatches<'a>) -> Option<StoreJob<'a>>
+    ensures { option_map asks_store result ≡ import_of (rows_of (found_of matches.now)) }
 {
     let zone = zone_at(matches)?;
     let existing = existing_at(matches);
-    Some(Job::Store(StoreJob::Import { zone, existing }))
+    Some(StoreJob::Import { zone, existing })
 }
 
 /// The job of the command `export`.
-fn export_in<'a>(matches: &ArgMatches<'a>) -> Option<Job<'a>>
-    ensures { option_map asks result ≡ export_of (rows_of (found_of matches.now)) }
+fn export_in<'a>(matches: &ArgMatches<'a>) -> Option<StoreJob<'a>>
+    ensures { option_map asks_store result ≡ export_of (rows_of (found_of matches.now)) }
 {
     let zone = zone_at(matches)?;
     let form = zone_form_at(matches);
-    Some(Job::Store(StoreJob::Export { zone, form }))
+    Some(StoreJob::Export { zone, form })
 }
 
 /// The job of the command `zones`.
-fn zones_in<'a>(matches: &ArgMatches<'a>) -> Option<Job<'a>>
-    ensures { option_map asks result ≡ zones_of (rows_of (found_of matches.now)) }
+fn zones_in<'a>(matches: &ArgMatches<'a>) -> Option<StoreJob<'a>>
+    ensures { option_map asks_store result ≡ zones_of (rows_of (found_of matches.now)) }
 {
     let store = text_at(matches, Argument::Store)?;
-    Some(Job::Store(StoreJob::Zones { store }))
+    Some(StoreJob::Zones { store })
 }
 
 /// Which changes and receipts words name.
@@ -186,28 +197,27 @@ fn log_choice_at<'a>(matches: &ArgMatches<'a>) -> Option<LogChoice<'a>>
 }
 
 /// The job of the command `log`.
-fn log_in<'a>(matches: &ArgMatches<'a>) -> Option<Job<'a>>
-    ensures { option_map asks result ≡ log_of (rows_of (found_of matches.now)) }
+fn log_in<'a>(matches: &ArgMatches<'a>) -> Option<StoreJob<'a>>
+    ensures { option_map asks_store result ≡ log_of (rows_of (found_of matches.now)) }
 {
     let zone = zone_at(matches)?;
     let choice = log_choice_at(matches)?;
-    Some(Job::Store(StoreJob::Log { zone, choice }))
+    Some(StoreJob::Log { zone, choice })
 }
 
 /// The job of the command `migrate`.
-fn migrate_in<'a>(matches: &ArgMatches<'a>) -> Option<Job<'a>>
-    ensures { option_map asks result ≡ migrate_of (rows_of (found_of matches.now)) }
+fn migrate_in<'a>(matches: &ArgMatches<'a>) -> Option<StoreJob<'a>>
+    ensures { option_map asks_store result ≡ migrate_of (rows_of (found_of matches.now)) }
 {
     let store = text_at(matches, Argument::Store)?;
-    Some(Job::Store(StoreJob::Migrate { store }))
+    Some(StoreJob::Migrate { store })
 }
 
 /// The job of the command `serve`.
-fn serve_in<'a>(matches: &ArgMatches<'a>) -> Option<Job<'a>>
-    ensures { option_map asks result ≡ serve_of (rows_of (found_of matches.now)) }
+fn serve_in<'a>(matches: &ArgMatches<'a>) -> Option<StoreJob<'a>>
+    ensures { option_map asks_store result ≡ serve_of (rows_of (found_of matches.now)) }
 {
-    let store = text_at(matches, Argument::Store)?;
-    let policy = text_at(matches, Argument::Policy)?;
+    let (store, policy) = texts_at(matches, Argument::Store, Argument::Policy)?;
     let listen = text_at(matches, Argument::Listen)?;
     let connections = number_at(matches, Argument::Connections)?;
     let patience = number_at(matches, Argument::Patience)?;
@@ -218,17 +228,15 @@ fn serve_in<'a>(matches: &ArgMatches<'a>) -> Option<Job<'a>>
         connections,
         patience,
     };
-    Some(Job::Store(StoreJob::Serve { service }))
+    Some(StoreJob::Serve { service })
 }
 
 /// The job of the command `rights`.
-fn rights_in<'a>(matches: &ArgMatches<'a>) -> Option<Job<'a>>
-    ensures { option_map asks result ≡ rights_of (rows_of (found_of matches.now)) }
+fn rights_in<'a>(matches: &ArgMatches<'a>) -> Option<TextJob<'a>>
+    ensures { option_map asks_text result ≡ rights_of (rows_of (found_of matches.now)) }
 {
-    let policy = text_at(matches, Argument::Policy)?;
-    let caller = text_at(matches, Argument::Caller)?;
-    let name = text_at(matches, Argument::Name)?;
-    let record_type = text_at(matches, Argument::Type)?;
+    let (policy, caller) = texts_at(matches, Argument::Policy, Argument::Caller)?;
+    let (name, record_type) = texts_at(matches, Argument::Name, Argument::Type)?;
     let action = text_at(matches, Argument::Action)?;
     let asked = QuestionWords {
         caller,
@@ -236,42 +244,40 @@ fn rights_in<'a>(matches: &ArgMatches<'a>) -> Option<Job<'a>>
         record_type,
         action,
     };
-    Some(Job::Text(TextJob::Rights { policy, asked }))
+    Some(TextJob::Rights { policy, asked })
 }
 
 /// The job of the command `plan`.
-fn plan_in<'a>(matches: &ArgMatches<'a>) -> Option<Job<'a>>
-    ensures { option_map asks result ≡ plan_of (rows_of (found_of matches.now)) }
+fn plan_in<'a>(matches: &ArgMatches<'a>) -> Option<TextJob<'a>>
+    ensures { option_map asks_text result ≡ plan_of (rows_of (found_of matches.now)) }
 {
-    let policy = text_at(matches, Argument::Policy)?;
-    let caller = text_at(matches, Argument::Caller)?;
-    Some(Job::Text(TextJob::Plan { policy, caller }))
+    let (policy, caller) = texts_at(matches, Argument::Policy, Argument::Caller)?;
+    Some(TextJob::Plan { policy, caller })
 }
 
 /// The job of `check policy`.
-fn policy_check_in<'a>(matches: &ArgMatches<'a>) -> Option<Job<'a>>
-    ensures { option_map asks result ≡ checked_of (rows_of (found_of matches.now)) }
+fn policy_check_in<'a>(matches: &ArgMatches<'a>) -> Option<TextJob<'a>>
+    ensures { option_map asks_text result ≡ checked_of (rows_of (found_of matches.now)) }
 {
     let policy = text_at(matches, Argument::CheckedPolicy)?;
-    Some(Job::Text(TextJob::CheckPolicy { policy }))
+    Some(TextJob::CheckPolicy { policy })
 }
 
 /// The job of `check isolation`.
-fn isolation_check_in<'a>(matches: &ArgMatches<'a>) -> Option<Job<'a>>
-    ensures { option_map asks result ≡ isolated_of (rows_of (found_of matches.now)) }
+fn isolation_check_in<'a>(matches: &ArgMatches<'a>) -> Option<TextJob<'a>>
+    ensures { option_map asks_text result ≡ isolated_of (rows_of (found_of matches.now)) }
 {
-    let policy = text_at(matches, Argument::CheckedPolicy)?;
-    let caller = text_at(matches, Argument::Isolated)?;
-    Some(Job::Text(TextJob::CheckIsolation { policy, caller }))
+    let (policy, caller) = texts_at(matches, Argument::CheckedPolicy, Argument::Isolated)?;
+    Some(TextJob::CheckIsolation { policy, caller })
 }
 
 /// The job of `check rights`.
-fn rights_check_in<'a>(matches: &ArgMatches<'a>) -> Option<Job<'a>>
-    ensures { option_map asks result ≡ listed_of (rows_of (found_of matches.now)) }
+fn rights_check_in<'a>(matches: &ArgMatches<'a>) -> Option<TextJob<'a>>
+    ensures { option_map asks_text result ≡ listed_of (rows_of (found_of matches.now)) }
 {
     let policy = text_at(matches, Argument::CheckedPolicy)?;
     let name = text_at(matches, Argument::CheckedName);
-    Some(Job::Text(TextJob::CheckRights { policy, name }))
+    Some(TextJob::CheckRights { policy, name })
 }
 
 /// By which rules a zone is to be checked: not both by one only and by all but one.
@@ -290,34 +296,34 @@ fn choice_at<'a>(matches: &ArgMatches<'a>) -> Option<RuleChoice<'a>>
 }
 
 /// The job of `check zone`.
-fn zone_check_in<'a>(matches: &ArgMatches<'a>) -> Option<Job<'a>>
-    ensures { option_map asks result ≡ linted_of (rows_of (found_of matches.now)) }
+fn zone_check_in<'a>(matches: &ArgMatches<'a>) -> Option<TextJob<'a>>
+    ensures { option_map asks_text result ≡ linted_of (rows_of (found_of matches.now)) }
 {
     let origin = text_at(matches, Argument::CheckedOrigin)?;
     let rules = choice_at(matches)?;
-    Some(Job::Text(TextJob::CheckZone { origin, rules }))
+    Some(TextJob::CheckZone { origin, rules })
 }
 
 /// The job of the command `check`.
-fn check_in<'a>(matches: &ArgMatches<'a>) -> Option<Job<'a>>
-    ensures { option_map asks result ≡ check_of (rows_of (found_of matches.now)) }
+fn check_in<'a>(matches: &ArgMatches<'a>) -> Option<TextJob<'a>>
+    ensures { option_map asks_text result ≡ check_of (rows_of (found_of matches.now)) }
 {
-    match text_at(matches, Argument::Subject) {
-        Some("policy") => policy_check_in(matches),
-        Some("isolation") => isolation_check_in(matches),
-        Some("rights") => rights_check_in(matches),
-        Some("zone") => zone_check_in(matches),
+    match text_at(matches, Argument::Subject)? {
+        "policy" => policy_check_in(matches),
+        "isolation" => isolation_check_in(matches),
+        "rights" => rights_check_in(matches),
+        "zone" => zone_check_in(matches),
         _ => None,
     }
 }
 
 /// The job of the command `explain`.
-fn explain_in<'a>(matches: &ArgMatches<'a>) -> Job<'a>
-    ensures { asks result ≡ explain_of (rows_of (found_of matches.now)) }
+fn explain_in<'a>(matches: &ArgMatches<'a>) -> TextJob<'a>
+    ensures { asks_text result ≡ explain_of (rows_of (found_of matches.now)) }
 {
     let number = text_at(matches, Argument::Number);
     let form = form_at(matches);
-    Job::Text(TextJob::Explain { number, form })
+    TextJob::Explain { number, form }
 }
 
 /// The job of a command.
@@ -326,19 +332,19 @@ fn job_of_command<'a>(command: Command, matches: &ArgMatches<'a>) -> Option<Job<
 {
     match command {
         Command::Apply => Some(Job::Text(TextJob::Apply)),
-        Command::Canon => canon_in(matches),
-        Command::Diff => diff_in(matches),
-        Command::Request => request_in(matches),
-        Command::Import => import_in(matches),
-        Command::Export => export_in(matches),
-        Command::Zones => zones_in(matches),
-        Command::Log => log_in(matches),
-        Command::Migrate => migrate_in(matches),
-        Command::Rights => rights_in(matches),
-        Command::Plan => plan_in(matches),
-        Command::Serve => serve_in(matches),
-        Command::Check => check_in(matches),
-        Command::Explain => Some(explain_in(matches)),
+        Command::Canon => canon_in(matches).map(Job::Text),
+        Command::Diff => diff_in(matches).map(Job::Text),
+        Command::Request => request_in(matches).map(Job::Text),
+        Command::Import => import_in(matches).map(Job::Store),
+        Command::Export => export_in(matches).map(Job::Store),
+        Command::Zones => zones_in(matches).map(Job::Store),
+        Command::Log => log_in(matches).map(Job::Store),
+        Command::Migrate => migrate_in(matches).map(Job::Store),
+        Command::Rights => rights_in(matches).map(Job::Text),
+        Command::Plan => plan_in(matches).map(Job::Text),
+        Command::Serve => serve_in(matches).map(Job::Store),
+        Command::Check => check_in(matches).map(Job::Text),
+        Command::Explain => Some(Job::Text(explain_in(matches))),
     }
 }
 
@@ -415,18 +421,42 @@ pub fn read_words<'a>(alloc: Global, words: &'a [&'a str]) -> Result<Job<'a>, Wo
     // The plain form of a job asks for it.
     ensures plain { IfOk result (λ j. (x : JobOf) → IsPlain (map (λ s. s.now) words.entry.now) x → asks j ≡ x) }
 {
-    let Ok(mut command) = parser(alloc) else {
-        return Err(WordsFault::NoMemory);
-    };
+    match parser(alloc) {
+        Ok(mut command) => job_by(alloc, &mut command, words),
+        Err(_) => Err(WordsFault::NoMemory),
+    }
+}
+
+/// The job that words ask for, as the program's parser reads them.
+fn job_by<'a>(
+    alloc: Global,
+    command: &mut clap::Command<'a>,
+    words: &'a [&'a str],
+) -> Result<Job<'a>, WordsFault>
+    requires { app_of command.old ≡ office }
+    ensures job { IfOk result (λ j. job_of (map (λ s. s.now) words.entry.now) ≡ Some (asks j)) }
+    ensures faultless { IfOk result (λ _. fault_of office (map (λ s. s.now) words.entry.now) ≡ []) }
+    ensures passes { IfErr result (λ e. takes office (map (λ s. s.now) words.entry.now) ≡ true
+        → is_some (job_of (map (λ s. s.now) words.entry.now)) ≡ true → e ≡ WordsFault.NoMemory) }
+    ensures reported { IfErr result (IsReported (map (λ s. s.now) words.entry.now)) }
+    ensures plain { IfOk result (λ j. (x : JobOf) → IsPlain (map (λ s. s.now) words.entry.now) x → asks j ≡ x) }
+{
     let matches = match command.try_get_matches_from_mut(words) {
         Ok(matches) => matches,
         Err(error) => return Err(reported(alloc, error)),
     };
-    if let Some(job) = job_in(&matches) {
-        return Ok(job);
+    match job_in(&matches) {
+        Some(job) => Ok(job),
+        None => Err(mistake(alloc, command, mistake_in(&matches))),
     }
-    match command.error(ErrorKind::InvalidValue, mistake_in(&matches)) {
-        Ok(error) => Err(reported(alloc, error)),
-        Err(_) => Err(WordsFault::NoMemory),
+}
+
+/// What is wrong with words that clap takes.
+fn mistake(alloc: Global, command: &mut clap::Command<'_>, text: &str) -> WordsFault
+    ensures { IsReportedAs ErrorKind.InvalidValue result }
+{
+    match command.error(ErrorKind::InvalidValue, text) {
+        Ok(error) => reported(alloc, error),
+        Err(_) => WordsFault::NoMemory,
     }
 }
