@@ -2,15 +2,14 @@
 
 ghost use Rattle.std.specs.Prelude.{◌≡◌, true, Ok, IfOk, IfSome, string_bytes};
 ghost use Rattle.dns_data.specs.Text.{data_text};
-ghost use Rattle.zone_core.specs.Effects.{next_data};
 ghost use Rattle.office_rows.specs.RowFaults.{Reads};
 ghost use Rattle.office_rows.specs.RowReading.{data_from, data_in};
 
 use crate::columns::{data_from, data_in};
 use crate::row_fault::RowFault;
-use dns_data::{Data, RecordType, Serial, Soa, data_text};
+use dns_data::{Data, RecordType, data_text};
 use std::alloc::{AllocError, Global};
-use zone_core::serial_add;
+use zone_core::next_data;
 
 /// Whether data are of a type and have this canonical text. The only error is out of memory.
 fn is_text_of(
@@ -26,18 +25,6 @@ fn is_text_of(
     }
     let spelled = data_text(alloc, rdata)?;
     Ok(spelled.as_str() == text)
-}
-
-/// Data of an SOA record with the next serial, and others as they are. The only error is out of memory.
-fn next_data(alloc: Global, rdata: &Data) -> Result<Data, AllocError>
-    ensures { IfOk result (λ next. next ≡ next_data rdata.now) }
-{
-    let Data::Soa(soa) = rdata else {
-        return rdata.try_copy(alloc);
-    };
-    let mut next = soa.fields().try_copy(alloc)?;
-    next.serial = Serial(serial_add(next.serial.0, 1));
-    Ok(Data::Soa(Soa::new(alloc, next)?))
 }
 
 /// Data, with their canonical text.

@@ -5,7 +5,6 @@ use Rattle.dns_data.specs.declared.record.Record.{Record}
 use Rattle.zone_core.specs.Sets.{Records, set_of, listing, is_same, IsIn}
 use Rattle.zone_core.specs.Zones.{ZoneOf, zone_of, min_rrset_ttls, latest}
 use Rattle.zone_core.specs.Views.{min_ttl_rows}
-use Rattle.zone_core.specs.Rebuilt.{AreAllOf}
 use Rattle.zone_core.proofs.MinTtlLemmas.{min_ttl_set, min_ttl_order}
 use Rattle.zone_core.proofs.RebuiltLemmas.{latest_is}
 use Rattle.zone_core.proofs.RowLemmas.{listing_of}
@@ -13,7 +12,7 @@ use Rattle.zone_core.specs.Changes.{ChangeOf}
 use Rattle.office_rows.specs.Contents.{ZoneRows}
 use Rattle.office_rows.proofs.ZoneReadLemmas.{there, here}
 use Rattle.office_store.specs.OldZones.{AreOfOldZone}
-use Rattle.office_store.specs.MigratedContents.{advanced, after, change_for, is_changed, migrated, next_zone}
+use Rattle.office_store.specs.MigratedContents.{advanced, after, change_for, next_zone}
 use Rattle.office_store.specs.MigratedRecords.{MigratedZonesAreEven}
 use Rattle.office_store.proofs.MigratedZoneLemmas.{kept, even_is, own_even}
 

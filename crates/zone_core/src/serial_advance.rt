@@ -15,8 +15,8 @@ use crate::zone::Zone;
 use dns_data::{Data, Record, RecordType, Serial, Soa};
 use std::alloc::{AllocError, Global};
 
-/// Data of an SOA with its serial one further, and others as they are. The only error is out of memory.
-fn next_data(alloc: Global, rdata: &Data) -> Result<Data, AllocError>
+/// The data of an SOA record with its serial one further, and others as they are. The only error is out of memory.
+pub fn next_data(alloc: Global, rdata: &Data) -> Result<Data, AllocError>
     ensures { IfOk result (λ next. next ≡ next_data rdata.now) }
 {
     let Data::Soa(soa) = rdata else {

@@ -1,7 +1,5 @@
-use Rattle.std.proofs.Common.{ℕ, ℤ, List, map, Result, Ok, Err, sym, ap, subst}
-use Rattle.sqlite.specs.Effect.{Database}
+use Rattle.std.proofs.Common.{map, Err, sym, ap, subst}
 use Rattle.sqlite.specs.Held.{state}
-use Rattle.office_sql.specs.Rows.{RowsOf}
 use Rattle.office_sql.specs.Holds.{HasChanges}
 use Rattle.office_rows.specs.declared.store_fault.StoreFault.{StoreFault}
 use Rattle.office_rows.specs.ChangeRows.{row_of}

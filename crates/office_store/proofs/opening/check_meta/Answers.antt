@@ -1,7 +1,6 @@
-use Rattle.std.proofs.Common.{ℕ, ℤ, List, map, Result, Ok, Err, sym, ap, subst}
+use Rattle.std.proofs.Common.{ℤ, List, map, Err, sym, ap, subst}
 use Rattle.sqlite.specs.Effect.{Database}
 use Rattle.sqlite.specs.Held.{state}
-use Rattle.office_sql.specs.Rows.{RowsOf}
 use Rattle.office_sql.specs.Tables.{stored_version}
 use Rattle.office_sql.specs.Stores.{Stores}
 use Rattle.office_rows.specs.declared.store_fault.StoreFault.{StoreFault}

@@ -1,7 +1,6 @@
-use Rattle.std.proofs.Common.{List, Err, IsPermutation, map, sym, ap, subst}
+use Rattle.std.proofs.Common.{Err, IsPermutation, sym, ap, subst}
 use Rattle.std.proofs.lemmas.List.{map-id}
 use Rattle.sqlite.specs.Held.{state}
-use Rattle.office_sql.specs.Rows.{ReceiptRowOf}
 use Rattle.office_sql.specs.Holds.{HasReceipts}
 use Rattle.office_sql.proofs.WholeTables.{each_itself}
 use Rattle.office_rows.specs.declared.store_fault.StoreFault.{StoreFault}

@@ -1,8 +1,6 @@
 use Rattle.std.specs.Prelude.{IfSome}
-use Rattle.std.proofs.Common.{ℕ, ℤ, List, map, Result, Ok, Err, sym, ap, subst}
-use Rattle.sqlite.specs.Effect.{Database}
+use Rattle.std.proofs.Common.{map, Err, sym, ap, subst}
 use Rattle.sqlite.specs.Held.{state}
-use Rattle.office_sql.specs.Rows.{RowsOf}
 use Rattle.office_sql.specs.Holds.{HasRecords}
 use Rattle.office_rows.specs.declared.store_fault.StoreFault.{StoreFault}
 use Rattle.office_rows.specs.Checks.{row_of_record, AreRecordsOf}

@@ -1,14 +1,12 @@
-use Rattle.std.proofs.Common.{ℕ, ℤ, List, map, Result, Ok, Err, IfOk, sym, ap, subst}
-use Rattle.sqlite.specs.Effect.{Database}
+use Rattle.std.proofs.Common.{map, Err, IfOk, sym, ap, subst}
 use Rattle.sqlite.specs.Held.{state}
 use Rattle.dns_names.specs.Spelling.{name_text}
-use Rattle.office_sql.specs.Rows.{RowsOf}
 use Rattle.office_sql.specs.Holds.{HasZones}
 use Rattle.office_rows.specs.declared.store_fault.StoreFault.{StoreFault}
 use Rattle.office_rows.specs.Checks.{AreOrigins, AreOriginRows}
 use Rattle.office_rows.proofs.TableLaws.{texts_are}
 use Rattle.office_store.specs.Opening.{IsCheck, HasOrigins, OriginsIn}
-use Rattle.office_store.proofs.OpeningLemmas.{checked, unread, if_checked, passed, was_bad, origins_moved}
+use Rattle.office_store.proofs.OpeningLemmas.{checked, unread, if_checked, origins_moved}
 use Rattle.office_store.proofs.opening.check_zones.Goals as goal
 
 pub returns-in-Ok-clause-check : goal.returns-in-Ok-clause-check
