@@ -18,7 +18,7 @@ returns-then-not-is_alone-clause-only c = λ e found.
     absurd cc
 
 -- a refusal of receipts that are some
-no_refusal : (P : Type 0) (e : RowFault) → Checks P (Err e) → P → e ≡ NoMemory
+no_refusal : (P : Type 0) (e : RowFault) → Checks {X = Unit {0}} P (Err e) → P → e ≡ NoMemory
 no_refusal P BadRow none p = absurd (none p)
 no_refusal P NoMemory none p = refl
 
@@ -26,7 +26,7 @@ pub returns-in_err-check_receipts-clause-only : goal.returns-in_err-check_receip
 returns-in_err-check_receipts-clause-only c = λ bad found.
     let rows = c.args.rows in
     let e = c.in_err-check_receipts.field-0.0 in
-    let checked = subst (λ (l : List ReceiptRowOf). Checks (AreReceiptRows l) (Err e)) (ap (λ (r : RowsOf). r.receipts) c.rows.view_is) c.in_err-check_receipts.ensures in
+    let checked = subst (λ (l : List ReceiptRowOf). Checks {X = Unit {0}} (AreReceiptRows l) (Err e)) (ap (λ (r : RowsOf). r.receipts) c.rows.view_is) c.in_err-check_receipts.ensures in
     let memory = no_refusal (AreReceiptRows rows.receipts) e checked (receipt_rows rows found.0 found.1 found.2) in
     let p = err_from_is_err_and c.from_residual.result c.from_residual.ensures.1 in
     absurd cc
