@@ -10,8 +10,12 @@ use crate::states::lines::{no_rows, push_row};
 use crate::states::listed::push_listed;
 use crate::states::reads::push_read;
 use anyhow::{Result, bail};
+use office_rows::ordered::records;
 use office_rows::state::is_alone;
-use office_rows::{RowFault, check_changes, check_receipts, check_records, checked_origins};
+use office_rows::{
+    RowFault, check_changes, check_receipts, check_records, checked_origins, origins,
+    sorted_changes,
+};
 use office_sql::AllRows;
 use std::alloc::{AllocError, Global};
 use test_rows::{Answers, Row, push_unanswered, text_of};
@@ -112,9 +116,9 @@ fn check(alloc: Global, version: i64, rows: AllRows) -> Result<(), RowFault> {
         return Err(RowFault::BadRow);
     }
     check_receipts(alloc, rows.receipts)?;
-    let origins = checked_origins(alloc, rows.zones)?;
-    check_records(alloc, &origins, rows.records)?;
-    check_changes(alloc, &origins, rows.changes)
+    let origins = checked_origins(origins(alloc, &rows.zones)?)?;
+    check_records(alloc, &origins, records(alloc, rows.records)?)?;
+    check_changes(&origins, sorted_changes(alloc, rows.changes)?)
 }
 
 fn push_is_state(alloc: Global, row: &Row<'_>, rows: AllRows, answer: &mut Vec<u8>) -> Result<()> {
