@@ -14,6 +14,7 @@ pub mod NumberLaws
 pub mod NumberLemmas
 pub mod OctetLaws
 pub mod OrderLemmas
+pub mod PartLemmas
 pub mod RecordOrderLemmas
 pub mod RunLemmas
 pub mod SameLemmas

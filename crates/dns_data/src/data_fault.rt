@@ -5,51 +5,59 @@ ghost use Rattle.dns_data.specs.declared.data_fault.DataFault.TheVariants.{NoMem
 
 use dns_names::NameFault;
 use std::alloc::{AllocError, AllocFailed};
-use thiserror::Error;
+use std::error::Error;
+use std::fmt;
 
 /// What is wrong with the items of record data, or with the name of a type.
-#[derive(Clone, Copy, Debug, PartialEq, Eq, Error)]
+#[derive(Clone, Copy, Debug, PartialEq, Eq)]
 pub enum DataFault {
     /// No IPv4 address for A (RFC 1035 section 3.4.1), or no IPv6 address for AAAA (RFC 4291 section 2.2).
-    #[error("this is no address of the record's type")]
     BadAddress,
     /// No decimal number; in a place of seconds, no number with units either.
-    #[error("this is no decimal number")]
     BadNumber,
     /// A number that its field has no room for.
-    #[error("the number is too large for its field")]
     NumberRange,
     /// A character-string of more than 255 octets (RFC 1035 section 3.3).
-    #[error("a character-string has more than 255 octets")]
     StringTooLong,
     /// The data end before their last field.
-    #[error("a field of the record data is missing")]
     FieldMissing,
     /// Items stand behind the last field.
-    #[error("an item stands behind the record data")]
     FieldExtra,
     /// A type that is not kept here, or data in the generic form of RFC 3597.
-    #[error("records of this type are not kept")]
     TypeNotKept,
     /// Data of more than 65,535 octets (RFC 1035 section 3.2.1).
-    #[error("the record data have more than 65535 octets")]
     DataTooLong,
     /// A malformed name, or a bad escape in a character-string.
-    #[error("{0}")]
     Name(NameFault),
     /// A quoted item in the place of a name, a number, an address or a digest.
-    #[error("a quoted item stands where a name, a number, an address or a digest is wanted")]
     QuotedItem,
     /// A digest that is no row of pairs of hexadecimal digits, one pair or more (RFC 4034 section 5.3).
-    #[error("the digest is no row of pairs of hexadecimal digits")]
     BadDigest,
     /// Memory ran out. This says nothing of the items.
-    #[error("out of memory")]
     NoMemory,
 }
 
 impl DataFault {
     ghost use Rattle.dns_data.specs.Faults.{fault_number};
+
+    /// What is wrong, in words. What is wrong with a name is said by its fault.
+    const fn words(self) -> &'static str {
+        match self {
+            DataFault::BadAddress => "this is no address of the record's type",
+            DataFault::BadNumber => "this is no decimal number",
+            DataFault::NumberRange => "the number is too large for its field",
+            DataFault::StringTooLong => "a character-string has more than 255 octets",
+            DataFault::FieldMissing => "a field of the record data is missing",
+            DataFault::FieldExtra => "an item stands behind the record data",
+            DataFault::TypeNotKept => "records of this type are not kept",
+            DataFault::DataTooLong => "the record data have more than 65535 octets",
+            DataFault::Name(_) => "the name is malformed",
+            DataFault::QuotedItem =>
+                "a quoted item stands where a name, a number, an address or a digest is wanted",
+            DataFault::BadDigest => "the digest is no row of pairs of hexadecimal digits",
+            DataFault::NoMemory => "out of memory",
+        }
+    }
 
     /// The published number of the refusal, 11 to 20 or 33, or 99 when out of memory. A name's own number is that of its
     /// fault.
@@ -72,6 +80,17 @@ impl DataFault {
         }
     }
 }
+
+impl fmt::Display for DataFault {
+    fn fmt<W: fmt::Write>(&self, f: &mut fmt::Formatter<W>) -> fmt::Result {
+        match self {
+            DataFault::Name(fault) => write!(f, "{fault}"),
+            fault => f.write_str(fault.words()),
+        }
+    }
+}
+
+impl Error for DataFault {}
 
 impl From<NameFault> for DataFault {
     ghost use Rattle.dns_data.specs.Faults.{of_name};

@@ -1,10 +1,10 @@
 //! Record data from the items of a master file.
 
-ghost use Rattle.std.specs.Prelude.{◌≡◌, List, ℕ, [], map, Option, Some, None, Ok, Err, IfOk};
+ghost use Rattle.std.specs.Prelude.{◌≡◌, ◌↔◌, List, ℕ, [], IsTrue, map, Option, Some, None, Ok, Err, IfOk};
 ghost use Rattle.std.specs.Option.{option_copied};
 ghost use Rattle.std.specs.List.{AllByRecursion};
 ghost use Rattle.dns_data.specs.Faults.{Reads};
-ghost use Rattle.dns_data.specs.Items.{item_of, IsGeneric, is_generic};
+ghost use Rattle.dns_data.specs.Items.{ItemText, item_of, IsGeneric, is_generic};
 ghost use Rattle.dns_data.specs.Strings.{IsString};
 ghost use Rattle.dns_data.specs.Rdata.{type_of};
 ghost use Rattle.dns_data.specs.Grammar.{IsData};
@@ -22,148 +22,38 @@ use crate::soa::{Soa, SoaFields};
 use crate::strings::{CharacterString, Strings};
 use dns_names::Name;
 use std::alloc::Global;
+use std::marker::Model;
 use std::net::{Ipv4Addr, Ipv6Addr};
 
-/// The first of the items, which must not be quoted, and the items after it.
-fn plain<'a>(items: &'a [Item<'a>]) -> Result<(&'a [u8], &'a [Item<'a>]), DataFault>
-    ensures { Reads (λ x. (x.0.now, map item_of x.1.now)) result (field (λ raw. Ok raw) (map item_of items.now)) }
+/// The name that a text says, relative to the origin where there is one.
+fn name_of(alloc: Global, raw: &[u8], origin: Option<&Name>) -> Result<Name, DataFault>
+    ensures { Reads (λ name. name) result (name_of (option_copied origin.entry) raw.now) }
 {
-    match items {
-        [] => Err(DataFault::FieldMissing),
-        [item, ..] if item.quoted => Err(DataFault::QuotedItem),
-        [item, rest @ ..] => Ok((item.raw, rest)),
-    }
-}
-
-fn name<'a>(
-    alloc: Global,
-    items: &'a [Item<'a>],
-    origin: Option<&Name>,
-) -> Result<(Name, &'a [Item<'a>]), DataFault>
-    ensures { Reads (λ x. (x.0, map item_of x.1.now)) result (field (name_of (option_copied origin.entry)) (map item_of items.now)) }
-{
-    let (raw, rest) = plain(items)?;
     let name = match origin {
-        Some(origin) => Name::read_relative(alloc, raw, origin)?,
-        None => Name::read_absolute(alloc, raw)?,
+        Some(origin) => Name::read_relative(alloc, raw, origin),
+        None => Name::read_absolute(alloc, raw),
     };
-    Ok((name, rest))
+    Ok(name?)
 }
 
-fn ipv4<'a>(items: &'a [Item<'a>]) -> Result<(Ipv4Addr, &'a [Item<'a>]), DataFault>
-    ensures { Reads (λ x. (x.0, map item_of x.1.now)) result (field ipv4_of (map item_of items.now)) }
+/// The IPv4 address that a text says.
+fn ipv4_of(raw: &[u8]) -> Result<Ipv4Addr, DataFault>
+    ensures { result ≡ ipv4_of raw.now }
 {
-    let (raw, rest) = plain(items)?;
     match Ipv4Addr::parse_ascii(raw) {
-        Ok(address) => Ok((address, rest)),
+        Ok(address) => Ok(address),
         Err(_) => Err(DataFault::BadAddress),
     }
 }
 
-fn ipv6<'a>(items: &'a [Item<'a>]) -> Result<(Ipv6Addr, &'a [Item<'a>]), DataFault>
-    ensures { Reads (λ x. (x.0, map item_of x.1.now)) result (field ipv6_of (map item_of items.now)) }
+/// The IPv6 address that a text says.
+fn ipv6_of(raw: &[u8]) -> Result<Ipv6Addr, DataFault>
+    ensures { result ≡ ipv6_of raw.now }
 {
-    let (raw, rest) = plain(items)?;
     match Ipv6Addr::parse_ascii(raw) {
-        Ok(address) => Ok((address, rest)),
+        Ok(address) => Ok(address),
         Err(_) => Err(DataFault::BadAddress),
     }
-}
-
-fn number8<'a>(items: &'a [Item<'a>]) -> Result<(u8, &'a [Item<'a>]), DataFault>
-    ensures { Reads (λ x. (x.0, map item_of x.1.now)) result (field (number_of 255) (map item_of items.now)) }
-{
-    let (raw, rest) = plain(items)?;
-    Ok((read_number(raw, 255)? as u8, rest))
-}
-
-fn number16<'a>(items: &'a [Item<'a>]) -> Result<(u16, &'a [Item<'a>]), DataFault>
-    ensures { Reads (λ x. (x.0, map item_of x.1.now)) result (field (number_of 65535) (map item_of items.now)) }
-{
-    let (raw, rest) = plain(items)?;
-    Ok((read_number(raw, 65_535)? as u16, rest))
-}
-
-fn serial<'a>(items: &'a [Item<'a>]) -> Result<(Serial, &'a [Item<'a>]), DataFault>
-    ensures { Reads (λ x. (x.0.0, map item_of x.1.now)) result (field (number_of 4294967295) (map item_of items.now)) }
-{
-    let (raw, rest) = plain(items)?;
-    Ok((Serial(read_number(raw, u32::MAX)?), rest))
-}
-
-fn seconds<'a>(items: &'a [Item<'a>]) -> Result<(Seconds, &'a [Item<'a>]), DataFault>
-    ensures { Reads (λ x. (x.0.0, map item_of x.1.now)) result (field (duration_of 4294967295) (map item_of items.now)) }
-{
-    let (raw, rest) = plain(items)?;
-    Ok((Seconds(read_duration(raw, u32::MAX)?), rest))
-}
-
-/// The data of an SOA.
-#[tactic(auto, unfolding(crate::specs::Reading::values_at))]
-fn soa<'a>(
-    alloc: Global,
-    items: &'a [Item<'a>],
-    origin: Option<&Name>,
-) -> Result<(Data, &'a [Item<'a>]), DataFault>
-    ensures { Reads (λ x. (x.0, map item_of x.1.now)) result (data_at RecordType.Soa (option_copied origin.entry) (map item_of items.now)) }
-{
-    let (mname, items) = name(alloc, items, origin)?;
-    let (rname, items) = name(alloc, items, origin)?;
-    let (serial, items) = serial(items)?;
-    let (refresh, items) = seconds(items)?;
-    let (retry, items) = seconds(items)?;
-    let (expire, items) = seconds(items)?;
-    let (minimum, items) = seconds(items)?;
-    let fields = SoaFields {
-        mname,
-        rname,
-        serial,
-        refresh,
-        retry,
-        expire,
-        minimum,
-    };
-    Ok((Data::Soa(Soa::new(alloc, fields)?), items))
-}
-
-/// The data of an MX.
-#[tactic(auto, unfolding(crate::specs::Reading::values_at))]
-fn mail_exchange<'a>(
-    alloc: Global,
-    items: &'a [Item<'a>],
-    origin: Option<&Name>,
-) -> Result<(Data, &'a [Item<'a>]), DataFault>
-    ensures { Reads (λ x. (x.0, map item_of x.1.now)) result (data_at RecordType.Mx (option_copied origin.entry) (map item_of items.now)) }
-{
-    let (preference, items) = number16(items)?;
-    let (exchange, items) = name(alloc, items, origin)?;
-    let mx = Data::Mx {
-        preference,
-        exchange,
-    };
-    Ok((mx, items))
-}
-
-/// The data of an SRV.
-#[tactic(auto, unfolding(crate::specs::Reading::values_at))]
-fn service<'a>(
-    alloc: Global,
-    items: &'a [Item<'a>],
-    origin: Option<&Name>,
-) -> Result<(Data, &'a [Item<'a>]), DataFault>
-    ensures { Reads (λ x. (x.0, map item_of x.1.now)) result (data_at RecordType.Srv (option_copied origin.entry) (map item_of items.now)) }
-{
-    let (priority, items) = number16(items)?;
-    let (weight, items) = number16(items)?;
-    let (port, items) = number16(items)?;
-    let (target, items) = name(alloc, items, origin)?;
-    let srv = Data::Srv {
-        priority,
-        weight,
-        port,
-        target,
-    };
-    Ok((srv, items))
 }
 
 /// Each of the items as a character-string.
@@ -212,58 +102,216 @@ fn digest(alloc: Global, items: &[Item]) -> Result<Digest, DataFault>
     Digest::read(alloc, &joined(alloc, items)?)
 }
 
-/// The data of a DS.
-#[tactic(auto, unfolding(crate::specs::Reading::values_at))]
-fn delegation_signer(alloc: Global, items: &[Item]) -> Result<Data, DataFault>
-    ensures { Reads (λ ds. (ds, [])) result (data_at RecordType.Ds None (map item_of items.now)) }
-{
-    let (key_tag, items) = number16(items)?;
-    let (algorithm, items) = number8(items)?;
-    let (digest_type, items) = number8(items)?;
-    Ok(Data::Ds {
-        key_tag,
-        algorithm,
-        digest_type,
-        digest: digest(alloc, items)?,
-    })
+/// Reads fields from left to right.
+#[derive(Drop)]
+struct FieldReader<'a> {
+    /// The items that are left.
+    items: &'a [Item<'a>],
 }
 
-/// The data at the front of the items, and the items behind them.
-#[tactic(auto, unfolding(crate::specs::Reading::values_at))]
-fn data_at<'a>(
-    alloc: Global,
-    record_type: RecordType,
-    items: &'a [Item<'a>],
-    origin: Option<&Name>,
-) -> Result<(Data, &'a [Item<'a>]), DataFault>
-    ensures { Reads (λ x. (x.0, map item_of x.1.now)) result (data_at record_type (option_copied origin.entry) (map item_of items.now)) }
-{
-    match record_type {
-        RecordType::A => {
-            let (address, rest) = ipv4(items)?;
-            Ok((Data::A(address), rest))
+impl<'a> Model for FieldReader<'a> {
+    ghost Value = { List ItemText };
+
+    ghost view = { λ reader. map item_of reader.items.now };
+}
+
+impl<'a> FieldReader<'a> {
+    ghost use Rattle.dns_data.specs.Fields.{Name as InName, Number, U32, Seconds as InSeconds, ◌▸◌, End};
+    ghost use Rattle.dns_data.specs.Reading.{values_at};
+
+    /// The octets of the next item, which must not be quoted.
+    fn plain(&mut self) -> Result<&'a [u8], DataFault>
+        ensures { Reads (λ raw. (raw.now, self.new)) result (field (λ raw. Ok raw) self.old) }
+    {
+        match self.items {
+            [] => Err(DataFault::FieldMissing),
+            [item, ..] if item.quoted => Err(DataFault::QuotedItem),
+            [item, rest @ ..] => {
+                self.items = rest;
+                Ok(item.raw)
+            }
         }
-        RecordType::Ns => {
-            let (server, rest) = name(alloc, items, origin)?;
-            Ok((Data::Ns(server), rest))
+    }
+
+    /// A name, relative to the origin where there is one.
+    fn name(&mut self, alloc: Global, origin: Option<&Name>) -> Result<Name, DataFault>
+        ensures { Reads (λ name. (name, self.new)) result (field (name_of (option_copied origin.entry)) self.old) }
+    {
+        name_of(alloc, self.plain()?, origin)
+    }
+
+    /// An IPv4 address.
+    fn ipv4(&mut self) -> Result<Ipv4Addr, DataFault>
+        ensures { Reads (λ address. (address, self.new)) result (field ipv4_of self.old) }
+    {
+        ipv4_of(self.plain()?)
+    }
+
+    /// An IPv6 address.
+    fn ipv6(&mut self) -> Result<Ipv6Addr, DataFault>
+        ensures { Reads (λ address. (address, self.new)) result (field ipv6_of self.old) }
+    {
+        ipv6_of(self.plain()?)
+    }
+
+    /// A number of 8 bits.
+    fn number8(&mut self) -> Result<u8, DataFault>
+        ensures { Reads (λ number. (number, self.new)) result (field (number_of 255) self.old) }
+    {
+        Ok(read_number(self.plain()?, 255)? as u8)
+    }
+
+    /// A number of 16 bits.
+    fn number16(&mut self) -> Result<u16, DataFault>
+        ensures { Reads (λ number. (number, self.new)) result (field (number_of 65535) self.old) }
+    {
+        Ok(read_number(self.plain()?, 65_535)? as u16)
+    }
+
+    /// A serial.
+    fn serial(&mut self) -> Result<Serial, DataFault>
+        ensures { Reads (λ serial. (serial.0, self.new)) result (field (number_of 4294967295) self.old) }
+    {
+        Ok(Serial(read_number(self.plain()?, u32::MAX)?))
+    }
+
+    /// A duration.
+    fn seconds(&mut self) -> Result<Seconds, DataFault>
+        ensures { Reads (λ seconds. (seconds.0, self.new)) result (field (duration_of 4294967295) self.old) }
+    {
+        Ok(Seconds(read_duration(self.plain()?, u32::MAX)?))
+    }
+
+    /// The durations of an SOA: refresh, retry, expire and minimum.
+    #[tactic(auto, unfolding(crate::specs::Reading::values_at))]
+    fn durations(&mut self) -> Result<(Seconds, Seconds, Seconds, Seconds), DataFault>
+        ensures { Reads (λ all. ((all.0.0, (all.1.0, (all.2.0, (all.3.0, tt)))), self.new)) result (values_at None (InSeconds ▸ InSeconds ▸ InSeconds ▸ InSeconds ▸ End) self.old) }
+    {
+        Ok((
+            self.seconds()?,
+            self.seconds()?,
+            self.seconds()?,
+            self.seconds()?,
+        ))
+    }
+
+    /// The serial and the durations of an SOA.
+    #[tactic(auto, unfolding(crate::specs::Reading::values_at))]
+    fn soa_numbers(&mut self) -> Result<(Serial, (Seconds, Seconds, Seconds, Seconds)), DataFault>
+        ensures { Reads (λ all. ((all.0.0, (all.1.0.0, (all.1.1.0, (all.1.2.0, (all.1.3.0, tt))))), self.new)) result (values_at None (Number U32 ▸ InSeconds ▸ InSeconds ▸ InSeconds ▸ InSeconds ▸ End) self.old) }
+    {
+        Ok((self.serial()?, self.durations()?))
+    }
+
+    /// Two names, one behind the other.
+    #[tactic(auto, unfolding(crate::specs::Reading::values_at))]
+    fn names(&mut self, alloc: Global, origin: Option<&Name>) -> Result<(Name, Name), DataFault>
+        ensures { Reads (λ names. ((names.0, (names.1, tt)), self.new)) result (values_at (option_copied origin.entry) (InName ▸ InName ▸ End) self.old) }
+    {
+        Ok((self.name(alloc, origin)?, self.name(alloc, origin)?))
+    }
+
+    /// The fields of an SOA.
+    fn soa_fields(&mut self, alloc: Global, origin: Option<&Name>) -> Result<SoaFields, DataFault>
+        ensures { Reads (λ soa. (Data.Soa soa, self.new)) result (data_at RecordType.Soa (option_copied origin.entry) self.old) }
+    {
+        let (mname, rname) = self.names(alloc, origin)?;
+        let (serial, (refresh, retry, expire, minimum)) = self.soa_numbers()?;
+        Ok(SoaFields {
+            mname,
+            rname,
+            serial,
+            refresh,
+            retry,
+            expire,
+            minimum,
+        })
+    }
+
+    /// The data of an SOA.
+    fn soa(&mut self, alloc: Global, origin: Option<&Name>) -> Result<Data, DataFault>
+        ensures { Reads (λ soa. (soa, self.new)) result (data_at RecordType.Soa (option_copied origin.entry) self.old) }
+    {
+        let fields = self.soa_fields(alloc, origin)?;
+        Ok(Data::Soa(Soa::new(alloc, fields)?))
+    }
+
+    /// The data of an MX.
+    #[tactic(auto, unfolding(crate::specs::Reading::values_at))]
+    fn mail_exchange(&mut self, alloc: Global, origin: Option<&Name>) -> Result<Data, DataFault>
+        ensures { Reads (λ mx. (mx, self.new)) result (data_at RecordType.Mx (option_copied origin.entry) self.old) }
+    {
+        Ok(Data::Mx {
+            preference: self.number16()?,
+            exchange: self.name(alloc, origin)?,
+        })
+    }
+
+    /// The data of an SRV.
+    #[tactic(auto, unfolding(crate::specs::Reading::values_at))]
+    fn service(&mut self, alloc: Global, origin: Option<&Name>) -> Result<Data, DataFault>
+        ensures { Reads (λ srv. (srv, self.new)) result (data_at RecordType.Srv (option_copied origin.entry) self.old) }
+    {
+        Ok(Data::Srv {
+            priority: self.number16()?,
+            weight: self.number16()?,
+            port: self.number16()?,
+            target: self.name(alloc, origin)?,
+        })
+    }
+
+    /// All items that are left.
+    fn rest(&mut self) -> &'a [Item<'a>]
+        ensures taken { map item_of result.now ≡ self.old }
+        ensures left { self.new ≡ [] }
+    {
+        let rest = self.items;
+        self.items = &[];
+        rest
+    }
+
+    /// The data of a DS.
+    #[tactic(auto, unfolding(crate::specs::Reading::values_at))]
+    fn delegation_signer(&mut self, alloc: Global) -> Result<Data, DataFault>
+        ensures { Reads (λ ds. (ds, self.new)) result (data_at RecordType.Ds None self.old) }
+    {
+        Ok(Data::Ds {
+            key_tag: self.number16()?,
+            algorithm: self.number8()?,
+            digest_type: self.number8()?,
+            digest: digest(alloc, self.rest())?,
+        })
+    }
+
+    /// The data of a type.
+    #[tactic(auto, unfolding(crate::specs::Reading::values_at))]
+    fn data(
+        &mut self,
+        alloc: Global,
+        record_type: RecordType,
+        origin: Option<&Name>,
+    ) -> Result<Data, DataFault>
+        ensures { Reads (λ made. (made, self.new)) result (data_at record_type (option_copied origin.entry) self.old) }
+    {
+        match record_type {
+            RecordType::A => self.ipv4().map(Data::A),
+            RecordType::Ns => self.name(alloc, origin).map(Data::Ns),
+            RecordType::Cname => self.name(alloc, origin).map(Data::Cname),
+            RecordType::Soa => self.soa(alloc, origin),
+            RecordType::Ptr => self.name(alloc, origin).map(Data::Ptr),
+            RecordType::Mx => self.mail_exchange(alloc, origin),
+            RecordType::Txt => strings(alloc, self.rest()).map(Data::Txt),
+            RecordType::Aaaa => self.ipv6().map(Data::Aaaa),
+            RecordType::Srv => self.service(alloc, origin),
+            RecordType::Ds => self.delegation_signer(alloc),
         }
-        RecordType::Cname => {
-            let (target, rest) = name(alloc, items, origin)?;
-            Ok((Data::Cname(target), rest))
-        }
-        RecordType::Soa => soa(alloc, items, origin),
-        RecordType::Ptr => {
-            let (target, rest) = name(alloc, items, origin)?;
-            Ok((Data::Ptr(target), rest))
-        }
-        RecordType::Mx => mail_exchange(alloc, items, origin),
-        RecordType::Txt => Ok((Data::Txt(strings(alloc, items)?), &[])),
-        RecordType::Aaaa => {
-            let (address, rest) = ipv6(items)?;
-            Ok((Data::Aaaa(address), rest))
-        }
-        RecordType::Srv => service(alloc, items, origin),
-        RecordType::Ds => Ok((delegation_signer(alloc, items)?, &[])),
+    }
+
+    /// Whether no items are left.
+    fn is_empty(&self) -> bool
+        ensures { IsTrue result ↔ (self.now ≡ []) }
+    {
+        self.items.is_empty()
     }
 }
 
@@ -289,8 +337,9 @@ fn whole_data(
     if is_generic(items) {
         return Err(DataFault::TypeNotKept);
     }
-    let (data, rest) = data_at(alloc, record_type, items, origin)?;
-    if !rest.is_empty() {
+    let mut reader = FieldReader { items };
+    let data = reader.data(alloc, record_type, origin)?;
+    if !reader.is_empty() {
         return Err(DataFault::FieldExtra);
     }
     Ok(data)

@@ -79,43 +79,43 @@ impl Data {
     pub fn try_copy(&self, alloc: Global) -> Result<Data, AllocError>
         ensures { IfOk result (λ copy. copy ≡ self.now) }
     {
-        Ok(match self {
-            Data::A(address) => Data::A(*address),
-            Data::Ns(name) => Data::Ns(name.try_copy(alloc)?),
-            Data::Cname(name) => Data::Cname(name.try_copy(alloc)?),
-            Data::Soa(soa) => Data::Soa(soa.try_copy(alloc)?),
-            Data::Ptr(name) => Data::Ptr(name.try_copy(alloc)?),
+        match self {
+            Data::A(address) => Ok(Data::A(*address)),
+            Data::Ns(name) => name.try_copy(alloc).map(Data::Ns),
+            Data::Cname(name) => name.try_copy(alloc).map(Data::Cname),
+            Data::Soa(soa) => soa.try_copy(alloc).map(Data::Soa),
+            Data::Ptr(name) => name.try_copy(alloc).map(Data::Ptr),
             Data::Mx {
                 preference,
                 exchange,
-            } => Data::Mx {
+            } => Ok(Data::Mx {
                 preference: *preference,
                 exchange: exchange.try_copy(alloc)?,
-            },
-            Data::Txt(strings) => Data::Txt(strings.try_copy(alloc)?),
-            Data::Aaaa(address) => Data::Aaaa(*address),
+            }),
+            Data::Txt(strings) => strings.try_copy(alloc).map(Data::Txt),
+            Data::Aaaa(address) => Ok(Data::Aaaa(*address)),
             Data::Srv {
                 priority,
                 weight,
                 port,
                 target,
-            } => Data::Srv {
+            } => Ok(Data::Srv {
                 priority: *priority,
                 weight: *weight,
                 port: *port,
                 target: target.try_copy(alloc)?,
-            },
+            }),
             Data::Ds {
                 key_tag,
                 algorithm,
                 digest_type,
                 digest,
-            } => Data::Ds {
+            } => Ok(Data::Ds {
                 key_tag: *key_tag,
                 algorithm: *algorithm,
                 digest_type: *digest_type,
                 digest: digest.try_copy(alloc)?,
-            },
-        })
+            }),
+        }
     }
 }

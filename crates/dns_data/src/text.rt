@@ -14,6 +14,7 @@ use crate::rdata::Data;
 use crate::soa::Soa;
 use crate::strings::{CharacterString, Strings};
 use arrayvec::ArrayVec;
+use dns_names::Name;
 use std::alloc::{AllocError, Global};
 use std::{fmt, str};
 
@@ -161,6 +162,32 @@ impl fmt::Display for Digest {
     }
 }
 
+/// Writes the data of an SRV.
+fn write_service<W: fmt::Write>(
+    f: &mut fmt::Formatter<W>,
+    priority: u16,
+    weight: u16,
+    port: u16,
+    target: &Name,
+) -> fmt::Result
+    ensures { WritesOnOk W.write_str_gives f.old result (data_text (Data.Srv priority weight port target.now)) f.new }
+{
+    write!(f, "{priority} {weight} {port} {target}")
+}
+
+/// Writes the data of a DS.
+fn write_delegation_signer<W: fmt::Write>(
+    f: &mut fmt::Formatter<W>,
+    key_tag: u16,
+    algorithm: u8,
+    digest_type: u8,
+    digest: &Digest,
+) -> fmt::Result
+    ensures { WritesOnOk W.write_str_gives f.old result (data_text (Data.Ds key_tag algorithm digest_type digest.now)) f.new }
+{
+    write!(f, "{key_tag} {algorithm} {digest_type} {digest}")
+}
+
 impl fmt::Display for Data {
     ghost output = { λ x. Some (data_text x) };
 
@@ -180,13 +207,13 @@ impl fmt::Display for Data {
                 weight,
                 port,
                 target,
-            } => write!(f, "{priority} {weight} {port} {target}"),
+            } => write_service(f, *priority, *weight, *port, target),
             Data::Ds {
                 key_tag,
                 algorithm,
                 digest_type,
                 digest,
-            } => write!(f, "{key_tag} {algorithm} {digest_type} {digest}"),
+            } => write_delegation_signer(f, *key_tag, *algorithm, *digest_type, digest),
         }
     }
 }
