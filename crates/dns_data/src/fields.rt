@@ -154,32 +154,39 @@ impl<'a> FieldReader<'a> {
         ipv6_of(self.plain()?)
     }
 
+    /// A number up to `most`.
+    fn number(&mut self, most: u32) -> Result<u32, DataFault>
+        ensures { Reads (λ number. (number, self.new)) result (field (number_of most) self.old) }
+    {
+        read_number(self.plain()?, most)
+    }
+
     /// A number of 8 bits.
     fn number8(&mut self) -> Result<u8, DataFault>
         ensures { Reads (λ number. (number, self.new)) result (field (number_of 255) self.old) }
     {
-        Ok(read_number(self.plain()?, 255)? as u8)
+        Ok(self.number(255)? as u8)
     }
 
     /// A number of 16 bits.
     fn number16(&mut self) -> Result<u16, DataFault>
         ensures { Reads (λ number. (number, self.new)) result (field (number_of 65535) self.old) }
     {
-        Ok(read_number(self.plain()?, 65_535)? as u16)
+        Ok(self.number(65_535)? as u16)
     }
 
     /// A serial.
     fn serial(&mut self) -> Result<Serial, DataFault>
         ensures { Reads (λ serial. (serial.0, self.new)) result (field (number_of 4294967295) self.old) }
     {
-        Ok(Serial(read_number(self.plain()?, u32::MAX)?))
+        self.number(u32::MAX).map(Serial)
     }
 
     /// A duration.
     fn seconds(&mut self) -> Result<Seconds, DataFault>
         ensures { Reads (λ seconds. (seconds.0, self.new)) result (field (duration_of 4294967295) self.old) }
     {
-        Ok(Seconds(read_duration(self.plain()?, u32::MAX)?))
+        read_duration(self.plain()?, u32::MAX).map(Seconds)
     }
 
     /// The durations of an SOA: refresh, retry, expire and minimum.
