@@ -1,16 +1,16 @@
 -- Labels that a row of lengths cuts from a row of octets.
-use Rattle.std.proofs.Common.{◌≡◌, ℕ, ◌+◌, ◌-◌, ◌≤◌, List, [], ◌∷◌, ◌++◌, length, get_or, map, reverse, sum, take, drop, ◌<◌, inl, inr, true, ltb, ne_eqb, refl, sym, ap, subst, ◌∙◌, append_assoc, append-nil, arith, length-append, length-drop}
-use Rattle.std.specs.List.{concat, list_all}
+use Rattle.std.proofs.Common.{◌≡◌, ℕ, ◌+◌, ◌-◌, ◌≤◌, List, [], ◌∷◌, ◌++◌, length, get_or, map, reverse, sum, take, drop, ◌<◌, inl, inr, true, leb, ltb, ne_eqb, refl, sym, ap, subst, ◌∙◌, append_assoc, append-nil, arith, length-append, length-drop}
+use Rattle.std.specs.List.{concat, count_by, list_all}
 use Rattle.std.proofs.Math.Seq.{take-append_seam, drop-append_seam, take-append-add, drop-append-add}
 use Rattle.std.proofs.lemmas.Bool.{and_parts}
 use Rattle.std.proofs.lemmas.List.{take-append-le, drop-append-le, drop-drop, take_all, length-take, length-map, take-append-drop, drop_at, map-append, reverse-append}
 use Rattle.std.proofs.lemmas.List.Concat.{flat_map-append}
 use Rattle.std.proofs.lemmas.List.Folds.{list_all-append}
-use Rattle.std.proofs.lemmas.List.Sums.{sum_by-append, sum_by-cons}
+use Rattle.std.proofs.lemmas.List.Sums.{count_by-le-length, sum_by-append, sum_by-cons}
 use Rattle.std.specs.List.{flat_map}
 use Rattle.dns_names.specs.Labels.{labels_of, wire_len, IsName}
 use Rattle.dns_names.specs.Keys.{key_of, label_key, label_front}
-use Rattle.dns_names.proofs.KeyLaws.{key_cons, key_at_most, front_stands}
+use Rattle.dns_names.proofs.KeyLaws.{key_cons, length-key, front_stands}
 use Rattle.dns_names.specs.Rows.{row_label, row_of, labels_in, plain_rows, escaped_rows, escaped_in, name_in, AreRows, AreEscaped, AreRowsOf, IsPlain}
 
 pub sum-cons : (n : ℕ) (ns : List ℕ) → sum (n ∷ ns) ≡ n + sum ns
@@ -199,60 +199,54 @@ module _ (name : List (List ℕ)) (lengths row key : List ℕ) (n : ℕ) (ns : L
 
 -- ---- a name of labels before another
 
-module _ (ns os ms row key : List ℕ) (tail : List (List ℕ)) (whole : sum ns ≡ length os) (rows : AreRowsOf (labels_in ms row) ms row key) (held : labels_in ms row ≡ tail) where
-  abbrev front : List (List ℕ)
-  front = labels_of ns os
+module _ (ns os ms row key : List ℕ) (front tail : List (List ℕ)) (whole : sum ns ≡ length os) (cut : labels_of ns os ≡ front) (rows : AreRowsOf (labels_in ms row) ms row key) (held : labels_in ms row ≡ tail) where
+  front_lengths : map length front ≡ ns
+  front_lengths = ap (map length) (sym cut) ∙ lengths_back ns os (omega arith)
+
+  front_octets : concat front ≡ os
+  front_octets = ap concat (sym cut) ∙ octets_back ns os whole
 
   tail_rows : AreRowsOf tail ms row key
   tail_rows = subst (λ (n : List (List ℕ)). AreRowsOf n ms row key) held rows
 
-  lengths_joined : map length (front ++ tail) ≡ ns ++ ms
-  lengths_joined = map-append length front tail ∙ ap (λ (l : List ℕ). l ++ map length tail) (lengths_back ns os (omega arith)) ∙ ap (λ (l : List ℕ). ns ++ l) (sym tail_rows.lengths_are)
+  pub lengths_joined : map length (front ++ tail) ≡ ns ++ ms
+  lengths_joined = map-append length front tail ∙ ap (λ (l : List ℕ). l ++ map length tail) front_lengths ∙ ap (λ (l : List ℕ). ns ++ l) (sym tail_rows.lengths_are)
 
-  row_joined : row_of (front ++ tail) ≡ row ++ row_of front
+  pub row_joined : row_of (front ++ tail) ≡ row ++ row_of front
   row_joined = row_append front tail ∙ ap (λ (l : List ℕ). l ++ row_of front) (sym tail_rows.row_is)
 
-  key_joined : key_of (front ++ tail) ≡ key ++ key_of front
+  pub key_joined : key_of (front ++ tail) ≡ key ++ key_of front
   key_joined = ap (flat_map label_key) (reverse-append front tail) ∙ flat_map-append label_key (reverse tail) (reverse front) ∙ ap (λ (l : List ℕ). l ++ key_of front) (sym tail_rows.key_is)
 
-  labels_joined : length (front ++ tail) ≡ length ns + length ms
+  pub labels_joined : length (front ++ tail) ≡ length ns + length ms
   labels_joined = sym (length-map (front ++ tail) length) ∙ ap (length {A = ℕ}) lengths_joined ∙ length-append ns ms
 
-  total_joined : length (row_of (front ++ tail)) ≡ length row + (length os + length ns)
-  total_joined =
-      omega (arith, ap (length {A = ℕ}) row_joined, length-append row (row_of front), length-row front, ap (length {A = ℕ}) (octets_back ns os whole), ap (length {A = ℕ}) (lengths_back ns os (omega arith)), length-map front length)
+  front_labels : length front ≡ length ns
+  front_labels = sym (length-map front length) ∙ ap (length {A = ℕ}) front_lengths
 
-  pub counts_fit : IsName (front ++ tail) → (length ns + length ms < 255) × (length row + (length os + length ns) < 255)
-  counts_fit is =
-      (omega (arith, few_labels (front ++ tail) is, labels_joined), omega (arith, wire_len-name (front ++ tail), length-row (front ++ tail), total_joined, is.short))
+  pub total_joined : length (row_of (front ++ tail)) ≡ length row + length os + length ns
+  total_joined = omega (arith, ap (length {A = ℕ}) row_joined, length-append row (row_of front), length-row front, ap (length {A = ℕ}) front_octets, front_labels)
 
-  pub key_fits : IsName (front ++ tail) → length key < 510
-  key_fits is =
-      omega (arith, ap (length {A = ℕ}) tail_rows.key_is, key_at_most tail, ap (length {A = ℕ}) tail_rows.row_is, length-row tail, (counts_fit is).1)
+  pub key_total : length (key_of (front ++ tail)) ≡ length key + length os + length ns + count_by (λ o. leb o 1) os
+  key_total =
+      omega (arith, ap (length {A = ℕ}) key_joined, length-append key (key_of front), length-key front, ap (length {A = ℕ}) front_octets, front_labels, ap (count_by (λ (o : ℕ). leb o 1)) front_octets)
+
+  -- memory behind which the lengths and the row were put
+  pub rows_joined : (before with_ns with_ms with_row : List ℕ) → with_ns ≡ before ++ ns → with_ms ≡ with_ns ++ ms → with_row ≡ with_ms ++ row
+      → with_row ++ row_of front ≡ before ++ (map length (front ++ tail) ++ row_of (front ++ tail))
+  rows_joined before with_ns with_ms with_row a b c =
+      let parts : (((before ++ ns) ++ ms) ++ row) ++ row_of front ≡ before ++ ((ns ++ ms) ++ (row ++ row_of front)) = simp append_assoc in
+      rw (c, b, a, lengths_joined, row_joined) parts
 
   pub plain_joined : row ≡ key → list_all (λ o. ltb 1 o) os ≡ true → IsPlain (front ++ tail)
   plain_joined same all =
-      let stand : row_of front ≡ key_of front = stands front (ap (list_all (λ o. ltb 1 o)) (octets_back ns os whole) ∙ all) in
+      let stand : row_of front ≡ key_of front = stands front (ap (list_all (λ o. ltb 1 o)) front_octets ∙ all) in
       row_joined ∙ ap (λ (l : List ℕ). l ++ row_of front) same ∙ ap (λ (l : List ℕ). key ++ l) stand ∙ sym key_joined
 
-  pub joined_plain : IsPlain (front ++ tail) → (((([] ++ (length ns + length ms) ∷ []) ++ ns) ++ ms) ++ row) ++ row_of front ≡ plain_rows (front ++ tail)
-  joined_plain plain =
-      let parts : ((ns ++ ms) ++ row) ++ row_of front ≡ (ns ++ ms) ++ (row ++ row_of front) = simp append_assoc in
-      ap (λ (r : List ℕ). (length ns + length ms) ∷ r) parts
-      ∙ sym (ap (λ (n : ℕ). n ∷ (map length (front ++ tail) ++ key_of (front ++ tail))) labels_joined
-      ∙ ap (λ (l : List ℕ). (length ns + length ms) ∷ (l ++ key_of (front ++ tail))) lengths_joined
-      ∙ ap (λ (l : List ℕ). (length ns + length ms) ∷ ((ns ++ ms) ++ l)) (sym plain ∙ row_joined))
-
-  pub joined_escaped : (total : ℕ) → total ≡ length row + (length os + length ns) → (((((((([] ++ 255 ∷ []) ++ (length ns + length ms) ∷ []) ++ total ∷ []) ++ ns) ++ ms) ++ row) ++ row_of front) ++ key) ++ key_of front ≡ 255 ∷ escaped_rows (front ++ tail)
-  joined_escaped total is =
-      let parts : ((((ns ++ ms) ++ row) ++ row_of front) ++ key) ++ key_of front ≡ (ns ++ ms) ++ ((row ++ row_of front) ++ (key ++ key_of front)) = simp append_assoc in
-      let count = length ns + length ms in
-      ap (λ (r : List ℕ). 255 ∷ count ∷ total ∷ r) parts
-      ∙ sym (ap (λ (n : ℕ). 255 ∷ n ∷ length (row_of (front ++ tail)) ∷ (map length (front ++ tail) ++ (row_of (front ++ tail) ++ key_of (front ++ tail)))) labels_joined
-      ∙ ap (λ (n : ℕ). 255 ∷ count ∷ n ∷ (map length (front ++ tail) ++ (row_of (front ++ tail) ++ key_of (front ++ tail)))) (total_joined ∙ sym is)
-      ∙ ap (λ (l : List ℕ). 255 ∷ count ∷ total ∷ (l ++ (row_of (front ++ tail) ++ key_of (front ++ tail)))) lengths_joined
-      ∙ ap (λ (l : List ℕ). 255 ∷ count ∷ total ∷ ((ns ++ ms) ++ (l ++ key_of (front ++ tail)))) row_joined
-      ∙ ap (λ (l : List ℕ). 255 ∷ count ∷ total ∷ ((ns ++ ms) ++ ((row ++ row_of front) ++ l))) key_joined)
+-- how many labels a name has, and how long its row and its key are
+pub counts_fit : (name : List (List ℕ)) → IsName name → (length name < 255) × (length (row_of name) < 255) × (length (key_of name) < 510)
+counts_fit name is =
+    (few_labels name is, omega (arith, wire_len-name name, length-row name, is.short), omega (arith, wire_len-name name, length-key name, count_by-le-length (λ (o : ℕ). leb o 1) (concat name), is.short))
 
 -- how long a name is, by its row
 pub length-held : (ms row key : List ℕ) (name : List (List ℕ)) → AreRowsOf (labels_in ms row) ms row key → labels_in ms row ≡ name → length row ≡ length name + length (concat name)
