@@ -1,5 +1,5 @@
 -- The laws of keys: their order, their beginnings and their ranges.
-use Rattle.std.proofs.Common.{◌≡◌, ℕ, zero, suc, ◌+◌, ◌-◌, ◌*◌, ◌<◌, ◌≤◌, ◌⊎◌, inl, inr, true, List, [], ◌∷◌, ◌++◌, length, take, drop, reverse, Some, None, refl, sym, ap, subst, ◌∙◌, append_assoc, append-nil, arith, cond, leb, ltb, ltb-true, ne_eqb, add-one, length-append, length-drop}
+use Rattle.std.proofs.Common.{◌≡◌, ℕ, zero, suc, ◌+◌, ◌-◌, ◌<◌, ◌≤◌, ◌⊎◌, inl, inr, true, List, [], ◌∷◌, ◌++◌, length, take, drop, reverse, Some, None, refl, sym, ap, subst, ◌∙◌, append_assoc, append-nil, arith, cond, leb, ltb, ltb-true, ne_eqb, add-one, length-append, length-drop}
 use Rattle.std.specs.List.{concat, count_by, flat_map, list_all}
 use Rattle.std.specs.Option.{IfSome}
 use Rattle.std.specs.declared.cmp.Ordering.{Ordering}

@@ -1,11 +1,13 @@
 -- What the code that prints names writes.
-use Rattle.std.proofs.Common.{◌≡◌, ℕ, zero, suc, Bool, true, cond, leb, not, ◌&&◌, get_or, leb-true, refl, ◌<◌, ◌/◌, ◌%◌, ◌+◌, List, [], ◌∷◌, ◌++◌, false, Option, None, Some, sym, ap, ◌∙◌, append-nil, append_assoc, arith}
-use Rattle.std.specs.List.{flat_map, list_all, AllByRecursion, AllPass}
+use Rattle.std.proofs.Common.{◌≡◌, ℕ, zero, suc, Bool, true, cond, leb, not, ◌&&◌, get_or, leb-true, refl, ◌<◌, ◌/◌, ◌%◌, ◌+◌, List, [], ◌∷◌, ◌++◌, false, Option, None, Some, sym, ap, subst, ◌∙◌, append-nil, append_assoc, length, take, ◌≤◌, arith}
+use Rattle.std.specs.List.{flat_map, list_all, prefix_len, AllByRecursion, AllPass}
 use Rattle.std.specs.Str.{IsAscii}
 use Rattle.std.proofs.lemmas.Bool.{and_parts, cond_both}
 use Rattle.std.proofs.lemmas.Bool.Decides.{nat_tests}
+use Rattle.std.proofs.lemmas.List.{get_or-take, length-take}
 use Rattle.std.proofs.lemmas.List.Concat.{flat_map-append}
-use Rattle.std.proofs.lemmas.List.Sums.{list_all-from_AllPass}
+use Rattle.std.proofs.lemmas.List.Folds.{length-prefix_len}
+use Rattle.std.proofs.lemmas.List.Sums.{list_all-from_AllPass, prefix_len_passes}
 use Rattle.std.specs.Option.{is_some}
 use Rattle.std.specs.Iterator.{YieldsFirstRef}
 use Rattle.std.specs.Borrow.{Bor}
@@ -80,6 +82,20 @@ run_is_ascii run all = (plain_octets run (list_all-from_AllPass is_plain run all
 
 pub run_text : (run : List ℕ) → AllPass is_plain run → flat_map octet_text run ≡ run
 run_text run all = (plain_octets run (list_all-from_AllPass is_plain run all)).1
+
+-- a label all of which is such a run
+pub whole_run : (label : List ℕ) (n : ℕ) → n ≡ prefix_len is_plain label → length label ≤ n → AllPass is_plain label
+whole_run label n e all = λ k d h. prefix_len_passes is_plain label k d (omega arith)
+
+-- the run at the beginning of a label
+pub run_fits : (label : List ℕ) (n : ℕ) → n ≡ prefix_len is_plain label → n ≤ length label
+run_fits label n e = omega (arith, length-prefix_len is_plain label, length-take (prefix_len is_plain label) label)
+
+pub first_run : (label run : List ℕ) (n : ℕ) → n ≡ prefix_len is_plain label → run ≡ take n label → AllPass is_plain run
+first_run label run n e cut =
+    subst (AllPass is_plain) (sym cut) (λ k d h.
+    let below : k < n = omega (arith, length-take n label) in
+    ap is_plain (get_or-take n label k d below) ∙ prefix_len_passes is_plain label k d (omega arith))
 
 -- a label that is printed as it stands, and the dot, behind a text
 pub plain_label : (before label with_label all : List ℕ) → AllPass is_plain label → with_label ≡ before ++ label → all ≡ with_label ++ 46 ∷ [] → all ≡ before ++ label_text label

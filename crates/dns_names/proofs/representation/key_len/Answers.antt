@@ -1,4 +1,4 @@
-use Rattle.std.proofs.Common.{sym, arith}
+use Rattle.std.proofs.Common.{arith}
 use Rattle.dns_names.proofs.RowLemmas.{counts_fit, key_total}
 use Rattle.dns_names.proofs.representation.key_len.Goals as goal
 

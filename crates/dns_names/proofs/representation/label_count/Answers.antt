@@ -1,4 +1,4 @@
-use Rattle.std.proofs.Common.{◌++◌, sym, arith}
+use Rattle.std.proofs.Common.{sym, arith}
 use Rattle.dns_names.proofs.RowLemmas.{counts_fit, labels_joined}
 use Rattle.dns_names.proofs.representation.label_count.Goals as goal
 

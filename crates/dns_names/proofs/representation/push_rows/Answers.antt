@@ -1,4 +1,3 @@
-use Rattle.std.proofs.Common.{◌≡◌, ◌++◌}
 use Rattle.std.proofs.lemmas.Result.{IfOk-equal}
 use Rattle.dns_names.proofs.RowLemmas.{rows_joined}
 use Rattle.dns_names.proofs.representation.push_rows.Goals as goal
