@@ -191,6 +191,78 @@ behind_mark memory are marked =
       | inr p ↦ absurd (omega (arith, few_labels name are.name, ap (λ (m : List ℕ). get_or m 0 0) p.0, marked))
     ]
 
+pub name_behind : (memory : List ℕ) → get_or memory 0 0 ≡ 255 → name_in memory ≡ escaped_in (take (length memory - 1) (drop 1 memory))
+name_behind [] marked = absurd (omega arith)
+name_behind (count ∷ rows) marked = rw (marked, take_all (length (count ∷ rows) - 1) rows (omega arith)) refl
+
+-- the parts of memory with an escape
+module _ (memory : List ℕ) (are : AreEscaped memory) where
+  pub escaped_rest : take (length memory - 2) (drop 2 memory) ≡ map length (escaped_in memory) ++ (row_of (escaped_in memory) ++ key_of (escaped_in memory))
+  escaped_rest =
+      let name = escaped_in memory in
+      ap (λ (m : List ℕ). take (length m - 2) (drop 2 m)) are ∙ take_all (length (escaped_rows name) - 2) (map length name ++ (row_of name ++ key_of name)) (omega arith)
+
+  pub escaped_count : get_or memory 0 0 ≡ length (escaped_in memory)
+  escaped_count = ap (λ (m : List ℕ). get_or m 0 0) are
+
+  pub escaped_total : get_or memory 1 0 ≡ length (row_of (escaped_in memory))
+  escaped_total = ap (λ (m : List ℕ). get_or m 1 0) are
+
+-- what stands in memory without one
+pub plain_whole : (memory : List ℕ) → AreRows memory → (get_or memory 0 0 ≡ 255 → ⊥) → (memory ≡ plain_rows (name_in memory)) × IsPlain (name_in memory)
+plain_whole memory are other = elim are.whole [ inl e ↦ absurd (other (ap (λ (m : List ℕ). get_or m 0 0) e)) | inr p ↦ p ]
+
+module _ (memory : List ℕ) (are : memory ≡ plain_rows (name_in memory)) where
+  pub plain_rest : take (length memory - 1) (drop 1 memory) ≡ map length (name_in memory) ++ key_of (name_in memory)
+  plain_rest =
+      let name = name_in memory in
+      ap (λ (m : List ℕ). take (length m - 1) (drop 1 m)) are ∙ take_all (length (plain_rows name) - 1) (map length name ++ key_of name) (omega arith)
+
+  pub plain_count : get_or memory 0 0 ≡ length (name_in memory)
+  plain_count = ap (λ (m : List ℕ). get_or m 0 0) are
+
+-- the lengths, and what stands behind them
+module _ (name : List (List ℕ)) (rest more lengths back : List ℕ) (n : ℕ) (whole : rest ≡ map length name ++ more) (many : n ≡ length name) where
+  pub lengths_fit : n ≤ length rest
+  lengths_fit = omega (arith, ap (length {A = ℕ}) whole, length-append (map length name) more, length-map name length)
+
+  pub lengths_cut : lengths ≡ take n rest → lengths ≡ map length name
+  lengths_cut cut = cut ∙ ap (λ (k : ℕ). take k rest) many ∙ ap (take (length name)) whole ∙ take_lengths name more
+
+  pub more_cut : back ≡ drop n rest → back ≡ more
+  more_cut cut = cut ∙ ap (λ (k : ℕ). drop k rest) many ∙ ap (drop (length name)) whole ∙ drop_lengths name more
+
+-- the row and the key
+module _ (name : List (List ℕ)) (back row key : List ℕ) (t : ℕ) (whole : back ≡ row_of name ++ key_of name) (long : t ≡ length (row_of name)) where
+  pub row_fits : t ≤ length back
+  row_fits = omega (arith, ap (length {A = ℕ}) whole, length-append (row_of name) (key_of name))
+
+  pub row_cut : row ≡ take t back → row ≡ row_of name
+  row_cut cut = cut ∙ ap (λ (k : ℕ). take k back) long ∙ ap (take (length (row_of name))) whole ∙ take-append_seam (row_of name) (key_of name)
+
+  pub key_cut : key ≡ drop t back → key ≡ key_of name
+  key_cut cut = cut ∙ ap (λ (k : ℕ). drop k back) long ∙ ap (drop (length (row_of name))) whole ∙ drop-append_seam (row_of name) (key_of name)
+
+-- what memory is cut into
+pub escaped_cut : (memory : List ℕ) → AreEscaped memory → (n t : ℕ) (lengths back row key : List ℕ) → n ≡ get_or memory 0 0 → t ≡ get_or memory 1 0
+    → lengths ≡ take n (take (length memory - 2) (drop 2 memory)) → back ≡ drop n (take (length memory - 2) (drop 2 memory)) → row ≡ take t back → key ≡ drop t back → AreRowsOf (escaped_in memory) lengths row key
+escaped_cut memory are n t lengths back row key count total lengths-is back-is row-is key-is =
+    let name = escaped_in memory in
+    let many = count ∙ escaped_count memory are in
+    let long = total ∙ escaped_total memory are in
+    let rest = escaped_rest memory are in
+    let more = more_cut name _ _ lengths back n rest many back-is in
+    record { lengths_are = lengths_cut name _ _ lengths back n rest many lengths-is; row_is = row_cut name back row key t more long row-is; key_is = key_cut name back row key t more long key-is }
+
+pub plain_cut : (memory : List ℕ) → (memory ≡ plain_rows (name_in memory)) × IsPlain (name_in memory) → (n : ℕ) (lengths key : List ℕ) → n ≡ get_or memory 0 0
+    → lengths ≡ take n (take (length memory - 1) (drop 1 memory)) → key ≡ drop n (take (length memory - 1) (drop 1 memory)) → AreRowsOf (name_in memory) lengths key key
+plain_cut memory are n lengths key count lengths-is key-is =
+    let name = name_in memory in
+    let many = count ∙ plain_count memory are.0 in
+    let rest = plain_rest memory are.0 in
+    let more = more_cut name _ _ lengths key n rest many key-is in
+    record { lengths_are = lengths_cut name _ _ lengths key n rest many lengths-is; row_is = more ∙ sym are.1; key_is = more }
+
 -- ---- the name without its first label
 
 module _ (name : List (List ℕ)) (lengths row key : List ℕ) (n : ℕ) (ns : List ℕ) (cut : lengths ≡ n ∷ ns) where

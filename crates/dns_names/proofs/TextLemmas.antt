@@ -1,14 +1,14 @@
 -- What the code that prints names writes.
-use Rattle.std.proofs.Common.{◌≡◌, ℕ, zero, suc, Bool, true, cond, leb, not, ◌&&◌, get_or, leb-true, refl, ◌<◌, ◌/◌, ◌%◌, ◌+◌, List, [], ◌∷◌, ◌++◌, false, Option, None, Some, sym, ap, subst, ◌∙◌, append-nil, append_assoc, length, take, ◌≤◌, arith}
-use Rattle.std.specs.List.{flat_map, list_all, prefix_len, AllByRecursion, AllPass}
+use Rattle.std.proofs.Common.{◌≡◌, ℕ, zero, suc, Bool, true, cond, leb, not, ◌&&◌, get_or, leb-true, refl, ◌<◌, ◌/◌, ◌%◌, ◌+◌, List, [], ◌∷◌, ◌++◌, false, Option, None, Some, sym, ap, subst, ◌∙◌, append-nil, append_assoc, length, take, ◌≤◌, ltb, inl, inr, arith}
+use Rattle.std.specs.List.{flat_map, list_all, position_or_len, prefix_len, AllByRecursion, AllPass}
 use Rattle.std.specs.Str.{IsAscii}
-use Rattle.std.proofs.lemmas.Bool.{and_parts, cond_both}
+use Rattle.std.proofs.lemmas.Bool.{and_parts, cases_lt, cond_both, le-ltb, lt-ltb}
 use Rattle.std.proofs.lemmas.Bool.Decides.{nat_tests}
 use Rattle.std.proofs.lemmas.List.{get_or-take, length-take}
 use Rattle.std.proofs.lemmas.List.Concat.{flat_map-append}
 use Rattle.std.proofs.lemmas.List.Folds.{length-prefix_len}
 use Rattle.std.proofs.lemmas.List.Sums.{list_all-from_AllPass, prefix_len_passes}
-use Rattle.std.specs.Option.{is_some}
+use Rattle.std.specs.Option.{is_some, unwrap_or}
 use Rattle.std.specs.Iterator.{YieldsFirstRef}
 use Rattle.std.specs.Borrow.{Bor}
 use Rattle.dns_names.specs.Spelling.{three_digits, is_special, is_plain, octet_text, label_text, name_text}
@@ -90,6 +90,27 @@ whole_run label n e all = λ k d h. prefix_len_passes is_plain label k d (omega 
 -- the run at the beginning of a label
 pub run_fits : (label : List ℕ) (n : ℕ) → n ≡ prefix_len is_plain label → n ≤ length label
 run_fits label n e = omega (arith, length-prefix_len is_plain label, length-take (prefix_len is_plain label) label)
+
+-- where the first other octet stands, or the end
+place_is : (label : List ℕ) → position_or_len (λ o. not (is_plain o)) label ≡ prefix_len is_plain label
+place_is [] = refl
+place_is (o ∷ label) = rw (twice (is_plain o)) (ap (λ (k : ℕ). cond (is_plain o) (1 + k) 0) (place_is label))
+  where
+    twice : (b : Bool) → not (not b) ≡ b
+    twice true = refl
+    twice false = refl
+
+pub place_or_end : (label : List ℕ) (place : Option ℕ)
+    → place ≡ cond (ltb (position_or_len (λ o. not (is_plain o)) label) (length label)) (Some (position_or_len (λ o. not (is_plain o)) label)) None
+    → unwrap_or place (length label) ≡ prefix_len is_plain label
+place_or_end label place e =
+    let n = prefix_len is_plain label in
+    let whole : place ≡ cond (ltb n (length label)) (Some n) None = e ∙ ap (λ (k : ℕ). cond (ltb k (length label)) (Some k) None) (place_is label) in
+    rw whole
+    (elim (cases_lt n (length label)) [
+      | inl l ↦ rw (lt-ltb n (length label) l) refl
+      | inr h ↦ rw (le-ltb n (length label) h) (omega (arith, run_fits label n refl))
+    ])
 
 pub first_run : (label run : List ℕ) (n : ℕ) → n ≡ prefix_len is_plain label → run ≡ take n label → AllPass is_plain run
 first_run label run n e cut =

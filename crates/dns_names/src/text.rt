@@ -67,7 +67,8 @@ fn plain_text(run: &[u8]) -> &str
 fn plain_len(label: &[u8]) -> usize
     ensures { result ≡ prefix_len is_plain label.now }
 {
-    label.iter().take_while(|octet| is_plain(**octet)).count()
+    let place = label.iter().position(|octet| !is_plain(*octet));
+    place.unwrap_or(label.len())
 }
 
 /// Writes the octets of a label.
