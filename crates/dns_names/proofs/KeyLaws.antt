@@ -10,7 +10,8 @@ use Rattle.std.specs.Cmp.Lexicographic.{slice_cmp, nat_list_cmp_total}
 use Rattle.std.specs.FinMap.{slice_cmp-IsAntisymmetric, nat_cmp-IsAntisymmetric}
 use Rattle.std.proofs.lemmas.Bool.{cases_lt, cond_both, le-leb, lt-leb, and_parts}
 use Rattle.std.proofs.lemmas.Bool.Decides.{eqb_tells}
-use Rattle.std.proofs.lemmas.List.{reverse-append, reverse-reverse, same_from_push, drop_all, take_all, take-append-le, take-append-drop, length-reverse}
+use Rattle.std.proofs.lemmas.List.{reverse-append, reverse-reverse, drop_all, take_all, take-append-le, take-append-drop, length-reverse, set-append_right}
+use Rattle.std.proofs.Math.ListN.{set}
 use Rattle.std.proofs.lemmas.List.Concat.{flat_map-append}
 use Rattle.std.proofs.lemmas.List.Sums.{sum_by-append, sum_by-cons}
 use Rattle.dns_names.specs.Labels.{IsWithin}
@@ -279,11 +280,15 @@ pub end_of_root : (name : List (List ℕ)) → length (key_of name) ≡ 0 → No
 end_of_root [] e = refl
 end_of_root (label ∷ labels) e = absurd (omega (arith, ap (length {A = ℕ}) (key_cons label labels), length-append (key_of labels ++ label_front label) (0 ∷ [])))
 
-pub end_of_other : (name : List (List ℕ)) (front : List ℕ) (last : ℕ) → key_of name ≡ front ++ last ∷ [] → Some (front ++ 1 ∷ []) ≡ key_end name
-end_of_other [] front last e = absurd (omega (arith, ap (length {A = ℕ}) e, length-append front (last ∷ [])))
-end_of_other (label ∷ labels) front last e =
-    let same : front ≡ key_of labels ++ label_front label = (same_from_push front (key_of labels ++ label_front label) last 0 (sym e ∙ key_cons label labels)).0 in
-    ap (λ (l : List ℕ). Some (l ++ 1 ∷ [])) same ∙ ap (λ (l : List ℕ). Some l) (append_assoc (key_of labels) (label_front label) (1 ∷ []))
+pub end_of_other : (name : List (List ℕ)) (first end : List ℕ) → first ≡ key_of name → 0 < length first → end ≡ first → Some (set end (length first - 1) 1) ≡ key_end name
+end_of_other [] first end is some same = absurd (omega (arith, ap (length {A = ℕ}) is))
+end_of_other (label ∷ labels) first end is some same =
+    let front = key_of labels ++ label_front label in
+    let whole : first ≡ front ++ 0 ∷ [] = is ∙ key_cons label labels in
+    let place : length first - 1 ≡ length front = omega (arith, ap (length {A = ℕ}) whole, length-append front (0 ∷ [])) in
+    let here : length front - length front ≡ 0 = omega arith in
+    rw (same, place, whole, set-append_right front (0 ∷ []) (length front) (length front) 1 refl (omega arith))
+    (ap (λ (k : ℕ). Some (front ++ set (0 ∷ []) k 1)) here ∙ ap (λ (l : List ℕ). Some l) (append_assoc (key_of labels) (label_front label) (1 ∷ [])))
 
 -- ---- ancestors
 

@@ -285,12 +285,11 @@ impl Name {
         ensures range { RangesOver self.now }
     {
         let first = self.key();
-        let Some((_, front)) = first.split_last() else {
+        if first.is_empty() {
             return Ok(KeyRange { first, end: None });
-        };
-        let mut end = Vec::with_capacity(alloc, first.len())?;
-        end.extend_from_slice(front)?;
-        end.push(1)?;
+        }
+        let mut end = Vec::from_slice(alloc, first)?;
+        end[first.len() - 1] = 1;
         Ok(KeyRange {
             first,
             end: Some(end),

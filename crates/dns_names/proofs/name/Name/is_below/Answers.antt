@@ -1,4 +1,4 @@
-use Rattle.std.proofs.Common.{ap, ℕ, List, length, arith}
+use Rattle.std.proofs.Common.{ap, ℕ, length, arith}
 use Rattle.std.proofs.lemmas.Bool.{le-ltb}
 use Rattle.dns_names.proofs.NameLemmas.{below_then, below_else}
 use Rattle.dns_names.proofs.name.Name.is_below.Goals as goal
