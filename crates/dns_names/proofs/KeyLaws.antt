@@ -106,7 +106,7 @@ end_last a s t =
       | inr a1 ↦ elim a1 [ inl a1 ↦ rw a1 refl | inr a2 ↦ rw (a2.1, greater a 0 (omega (arith, a2.0))) refl ]
     ]
 
-then_assoc : (p q r : Ordering) → ordering_then p (ordering_then q r) ≡ ordering_then (ordering_then p q) r
+pub then_assoc : (p q r : Ordering) → ordering_then p (ordering_then q r) ≡ ordering_then (ordering_then p q) r
 then_assoc Less q r = refl
 then_assoc Equal q r = refl
 then_assoc Greater q r = refl

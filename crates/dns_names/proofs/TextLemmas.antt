@@ -1,5 +1,5 @@
 -- What the code that prints names writes.
-use Rattle.std.proofs.Common.{◌≡◌, ℕ, zero, suc, Bool, true, cond, leb, not, ◌&&◌, get_or, leb-true, refl, ◌<◌, ◌/◌, ◌%◌, ◌+◌, List, [], ◌∷◌, ◌++◌, false, Option, None, Some, sym, ap, subst, ◌∙◌, append-nil, append_assoc, length, take, ◌≤◌, ltb, inl, inr, arith}
+use Rattle.std.proofs.Common.{◌≡◌, ℕ, zero, suc, Bool, true, cond, leb, not, ◌&&◌, get_or, leb-true, refl, ◌<◌, ◌/◌, ◌%◌, ◌+◌, List, [], ◌∷◌, ◌++◌, false, Option, None, Some, sym, ap, subst, ◌∙◌, append-nil, append_assoc, length, length-append, take, ◌≤◌, ltb, inl, inr, arith}
 use Rattle.std.specs.List.{flat_map, list_all, position_or_len, prefix_len, AllByRecursion, AllPass}
 use Rattle.std.specs.Str.{IsAscii}
 use Rattle.std.proofs.lemmas.Bool.{and_parts, cases_lt, cond_both, le-ltb, lt-ltb}
@@ -8,9 +8,7 @@ use Rattle.std.proofs.lemmas.List.{get_or-take, length-take}
 use Rattle.std.proofs.lemmas.List.Concat.{flat_map-append}
 use Rattle.std.proofs.lemmas.List.Folds.{length-prefix_len}
 use Rattle.std.proofs.lemmas.List.Sums.{list_all-from_AllPass, prefix_len_passes}
-use Rattle.std.specs.Option.{is_some, unwrap_or}
-use Rattle.std.specs.Iterator.{YieldsFirstRef}
-use Rattle.std.specs.Borrow.{Bor}
+use Rattle.std.specs.Option.{unwrap_or}
 use Rattle.dns_names.specs.Spelling.{three_digits, is_special, is_plain, octet_text, label_text, name_text}
 
 -- ---- octets
@@ -41,16 +39,21 @@ octet_is_ascii o fits =
     digit : (d : ℕ) → d < 10 → 48 + d < 128
     digit d h = omega arith
 
--- a name that gives no label has none
-pub no_label : (name left : List (List ℕ)) (first : Option (Bor (List ℕ))) → YieldsFirstRef (λ l. l) name first left → is_some first ≡ false → name ≡ []
-no_label name left None steps none = steps.0
-no_label name left (Some label) steps none = absurd cc
+-- ---- names
 
--- nothing was written of it before its dot
-pub dot_alone : (done left name : List (List ℕ)) → done ++ left ≡ name → left ≡ [] → name ≡ [] → flat_map label_text done ++ 46 ∷ [] ≡ name_text name
-dot_alone done left name parts all none =
-    let nothing : done ≡ [] = sym (append-nil done) ∙ ap (λ (l : List (List ℕ)). done ++ l) (sym all) ∙ parts ∙ none in
-    rw (nothing, none)
+-- the text of labels is that of a name which has some
+pub some_labels : (name : List (List ℕ)) (text : List ℕ) → text ≡ flat_map label_text name → 0 < length text → text ≡ name_text name
+some_labels [] text e some = absurd (omega (arith, ap (length {A = ℕ}) e))
+some_labels (label ∷ labels) text e some = e
+
+pub no_label : (name : List (List ℕ)) (text : List ℕ) → text ≡ flat_map label_text name → length text ≡ 0 → 46 ∷ [] ≡ name_text name
+no_label [] text e none = refl
+no_label (label ∷ labels) text e none =
+    absurd (omega (arith, ap (length {A = ℕ}) e, length-append (label_text label) (flat_map label_text labels), length-append (flat_map octet_text label) (46 ∷ [])))
+
+pub labels_text : (name : List (List ℕ)) → (name ≡ [] → ⊥) → flat_map label_text name ≡ name_text name
+labels_text [] some = absurd (some refl)
+labels_text (label ∷ labels) some = refl
 
 -- ---- runs of octets that are printed as they stand
 
