@@ -1,15 +1,15 @@
 -- Labels that a row of lengths cuts from a row of octets.
-use Rattle.std.proofs.Common.{◌≡◌, ℕ, ◌+◌, ◌-◌, ◌≤◌, List, [], ◌∷◌, ◌++◌, length, get_or, map, reverse, sum, take, drop, ◌<◌, inl, inr, true, leb, ltb, ne_eqb, refl, sym, ap, subst, ◌∙◌, append_assoc, append-nil, arith, length-append, length-drop}
+use Rattle.std.proofs.Common.{◌≡◌, ℕ, ◌+◌, ◌-◌, ◌≤◌, List, [], ◌∷◌, ◌++◌, length, get_or, map, reverse, sum, take, drop, ◌<◌, inl, inr, Some, true, leb, ltb, ne_eqb, refl, sym, ap, subst, ◌∙◌, append_assoc, append-nil, arith, length-append, length-drop}
 use Rattle.std.specs.List.{concat, count_by, list_all}
 use Rattle.std.proofs.Math.Seq.{take-append_seam, drop-append_seam, take-append-add, drop-append-add}
-use Rattle.std.proofs.lemmas.Bool.{and_parts}
+use Rattle.std.proofs.lemmas.Bool.{and_parts, le-leb}
 use Rattle.std.proofs.lemmas.List.{take-append-le, drop-append-le, drop-drop, take_all, length-take, length-map, take-append-drop, drop_at, map-append, reverse-append}
 use Rattle.std.proofs.lemmas.List.Concat.{flat_map-append}
 use Rattle.std.proofs.lemmas.List.Folds.{list_all-append}
 use Rattle.std.proofs.lemmas.List.Sums.{count_by-le-length, sum_by-append, sum_by-cons}
 use Rattle.std.specs.List.{flat_map}
-use Rattle.dns_names.specs.Labels.{labels_of, wire_len, IsName}
-use Rattle.dns_names.specs.Keys.{key_of, label_key, label_front}
+use Rattle.dns_names.specs.Labels.{labels_of, parent_of, wire_len, IsName}
+use Rattle.dns_names.specs.Keys.{ancestor_key, key_of, label_key, label_front}
 use Rattle.dns_names.proofs.KeyLaws.{key_cons, length-key, front_stands}
 use Rattle.dns_names.specs.Rows.{row_label, row_of, labels_in, plain_rows, escaped_rows, escaped_in, name_in, AreRows, AreEscaped, AreRowsOf, IsPlain}
 
@@ -268,6 +268,53 @@ plain_cut memory are n lengths key count lengths-is key-is =
 module _ (name : List (List ℕ)) (lengths row key : List ℕ) (n : ℕ) (ns : List ℕ) (cut : lengths ≡ n ∷ ns) where
   pub first_fits : AreRowsOf name lengths row key → n + 1 ≤ length row
   first_fits are = omega (arith, rows_whole name lengths row key are, ap sum cut, sum-cons n ns, ap (length {A = ℕ}) cut)
+
+abbrev pub after_first : List (List ℕ) → List (List ℕ)
+after_first [] = []
+after_first (label ∷ labels) = labels
+
+-- what is left of the rows without the first label
+module _ (name : List (List ℕ)) (lengths row key ns : List ℕ) (n : ℕ) (are : AreRowsOf name lengths row key) (cut : lengths ≡ n ∷ ns) where
+  pub parent_is : Some (after_first name) ≡ parent_of name
+  parent_is = some name (sym cut ∙ are.lengths_are)
+    where
+      some : (name : List (List ℕ)) → n ∷ ns ≡ map length name → Some (after_first name) ≡ parent_of name
+      some [] e = absurd cc
+      some (label ∷ labels) e = refl
+
+  pub parent_name : IsName name → IsName (after_first name)
+  parent_name is = shorter name is
+    where
+      shorter : (name : List (List ℕ)) → IsName name → IsName (after_first name)
+      shorter [] is = is
+      shorter (label ∷ labels) is = record { labels = is.labels.1; short = omega (arith, is.short) }
+
+  pub parent_key : ancestor_key name (length ns) ≡ Some (key_of (after_first name))
+  parent_key = some name (sym cut ∙ are.lengths_are)
+    where
+      some : (name : List (List ℕ)) → n ∷ ns ≡ map length name → ancestor_key name (length ns) ≡ Some (key_of (after_first name))
+      some [] e = absurd cc
+      some (label ∷ labels) e =
+          let many : length ns ≡ length labels = omega (arith, ap (length {A = ℕ}) e, length-map labels length) in
+          let one : length (label ∷ labels) - length labels ≡ 1 = omega arith in
+          rw (many, le-leb (length labels) (length (label ∷ labels)) (omega arith), one) refl
+
+  pub parent_rows : (key' : List ℕ) → ancestor_key name (length ns) ≡ Some key' → AreRowsOf (after_first name) ns (take (length row - (n + 1)) row) key'
+  parent_rows key' e =
+      let keys : Some (key_of (after_first name)) ≡ Some key' = sym parent_key ∙ e in
+      rest name are (sym cut ∙ are.lengths_are) (cc)
+    where
+      rest : (name : List (List ℕ)) → AreRowsOf name lengths row key → n ∷ ns ≡ map length name → key' ≡ key_of (after_first name) → AreRowsOf (after_first name) ns (take (length row - (n + 1)) row) key'
+      rest [] rows e k = absurd cc
+      rest (label ∷ labels) rows e k =
+          let whole : row ≡ row_of labels ++ (label ++ 0 ∷ []) = rows.row_is ∙ row_cons label labels in
+          let many : n ≡ length label = cc in
+          let left : length row - (n + 1) ≡ length (row_of labels) = omega (arith, ap (length {A = ℕ}) whole, length-append (row_of labels) (label ++ 0 ∷ []), length-append label (0 ∷ [])) in
+          record {
+            lengths_are = cc;
+            row_is = ap (λ (k : ℕ). take k row) left ∙ ap (take (length (row_of labels))) whole ∙ take-append_seam (row_of labels) (label ++ 0 ∷ []);
+            key_is = k;
+          }
 
 -- ---- a name of labels before another
 
