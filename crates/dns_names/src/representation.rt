@@ -136,7 +136,7 @@ pub(crate) fn stand_in_keys(octets: &[u8]) -> bool
 }
 
 /// How many octets of labels take two in keys.
-pub(crate) fn escapes(octets: &[u8]) -> usize
+fn escapes(octets: &[u8]) -> usize
     ensures { result ≡ count_by (λ o. nat_le o 1) octets.now }
 {
     octets.iter().filter(|octet| **octet <= 1).count()
