@@ -1,6 +1,6 @@
 -- The laws of keys: their order, their beginnings and their ranges.
-use Rattle.std.proofs.Common.{◌≡◌, ℕ, zero, suc, ◌+◌, ◌-◌, ◌*◌, ◌<◌, ◌≤◌, ◌⊎◌, inl, inr, true, List, [], ◌∷◌, ◌++◌, length, take, drop, reverse, Some, None, refl, sym, ap, subst, ◌∙◌, append_assoc, append-nil, arith, leb, ltb, ltb-true, ne_eqb, add-one, length-append, length-drop}
-use Rattle.std.specs.List.{concat, flat_map, list_all}
+use Rattle.std.proofs.Common.{◌≡◌, ℕ, zero, suc, ◌+◌, ◌-◌, ◌<◌, ◌≤◌, ◌⊎◌, inl, inr, true, List, [], ◌∷◌, ◌++◌, length, take, drop, reverse, Some, None, refl, sym, ap, subst, ◌∙◌, append_assoc, append-nil, arith, cond, leb, ltb, ltb-true, ne_eqb, add-one, length-append, length-drop}
+use Rattle.std.specs.List.{concat, count_by, flat_map, list_all}
 use Rattle.std.specs.Option.{IfSome}
 use Rattle.std.specs.declared.cmp.Ordering.{Ordering}
 use Rattle.std.specs.declared.cmp.Ordering.TheVariants.{Less, Equal, Greater}
@@ -10,8 +10,10 @@ use Rattle.std.specs.Cmp.Lexicographic.{slice_cmp, nat_list_cmp_total}
 use Rattle.std.specs.FinMap.{slice_cmp-IsAntisymmetric, nat_cmp-IsAntisymmetric}
 use Rattle.std.proofs.lemmas.Bool.{cases_lt, cond_both, le-leb, lt-leb, and_parts}
 use Rattle.std.proofs.lemmas.Bool.Decides.{eqb_tells}
-use Rattle.std.proofs.lemmas.List.{reverse-append, reverse-reverse, same_from_push, drop_all, take_all, take-append-le, take-append-drop, length-reverse}
+use Rattle.std.proofs.lemmas.List.{reverse-append, reverse-reverse, drop_all, take_all, take-append-le, take-append-drop, length-reverse, set-append_right}
+use Rattle.std.proofs.Math.ListN.{set}
 use Rattle.std.proofs.lemmas.List.Concat.{flat_map-append}
+use Rattle.std.proofs.lemmas.List.Sums.{sum_by-append, sum_by-cons}
 use Rattle.dns_names.specs.Labels.{IsWithin}
 use Rattle.dns_names.specs.Rows.{behind_label}
 use Rattle.dns_names.specs.Keys.{key_octet, label_front, label_key, key_of, key_end, IsInRange, BeginsWith, ancestor_key, OrdersNames, IsKeyOfOne, RangesOver, BeginsAll, BeginsAtAncestor}
@@ -63,13 +65,18 @@ octet_order a b s t =
       ]
     ]
 
--- a key has no more than two octets for an octet
-octet_at_most : (o : ℕ) → length (key_octet o) ≤ 2
-octet_at_most o = elim (octet_cases o) [ inl o0 ↦ rw o0 (omega arith) | inr o1 ↦ elim o1 [ inl o1 ↦ rw o1 (omega arith) | inr o2 ↦ rw o2.1 (omega arith) ] ]
+-- a key has two octets for an octet 0 or 1, and one for any other
+octet_len : (o : ℕ) → length (key_octet o) ≡ 1 + cond (leb o 1) 1 0
+octet_len o =
+    elim (octet_cases o) [
+      | inl o0 ↦ rw o0 refl
+      | inr o1 ↦ elim o1 [ inl o1 ↦ rw o1 refl | inr o2 ↦ rw (o2.1, lt-leb o 1 (omega (arith, o2.0))) refl ]
+    ]
 
-front_at_most : (label : List ℕ) → length (label_front label) ≤ 2 * length label
-front_at_most [] = omega arith
-front_at_most (o ∷ label) = omega (arith, length-append (key_octet o) (label_front label), octet_at_most o, front_at_most label)
+front_len : (label : List ℕ) → length (label_front label) ≡ length label + count_by (λ o. leb o 1) label
+front_len [] = refl
+front_len (o ∷ label) =
+    omega (arith, length-append (key_octet o) (label_front label), octet_len o, front_len label, sum_by-cons (λ (k : ℕ). cond (leb k 1) 1 0) o label)
 
 -- octets that stand for themselves
 pub front_stands : (label : List ℕ) → list_all (λ o. ltb 1 o) label ≡ true → label_front label ≡ label
@@ -99,7 +106,7 @@ end_last a s t =
       | inr a1 ↦ elim a1 [ inl a1 ↦ rw a1 refl | inr a2 ↦ rw (a2.1, greater a 0 (omega (arith, a2.0))) refl ]
     ]
 
-then_assoc : (p q r : Ordering) → ordering_then p (ordering_then q r) ≡ ordering_then (ordering_then p q) r
+pub then_assoc : (p q r : Ordering) → ordering_then p (ordering_then q r) ≡ ordering_then (ordering_then p q) r
 then_assoc Less q r = refl
 then_assoc Equal q r = refl
 then_assoc Greater q r = refl
@@ -241,10 +248,11 @@ pub key_cons : (label : List ℕ) (labels : List (List ℕ)) → key_of (label �
 key_cons label labels =
     ap keys (reverse-append (label ∷ []) labels) ∙ keys-append (reverse labels) (label ∷ []) ∙ ap (λ (l : List ℕ). key_of labels ++ l) (append-nil (label_key label)) ∙ sym (append_assoc (key_of labels) (label_front label) (0 ∷ []))
 
-pub key_at_most : (name : List (List ℕ)) → length (key_of name) ≤ 2 * (length name + length (concat name))
-key_at_most [] = omega arith
-key_at_most (label ∷ labels) =
-    omega (arith, ap (length {A = ℕ}) (key_cons label labels), length-append (key_of labels ++ label_front label) (0 ∷ []), length-append (key_of labels) (label_front label), front_at_most label, key_at_most labels, length-append label (concat labels))
+-- how many octets a key has
+pub length-key : (name : List (List ℕ)) → length (key_of name) ≡ length name + length (concat name) + count_by (λ o. leb o 1) (concat name)
+length-key [] = refl
+length-key (label ∷ labels) =
+    omega (arith, ap (length {A = ℕ}) (key_cons label labels), length-append (key_of labels ++ label_front label) (0 ∷ []), length-append (key_of labels) (label_front label), front_len label, length-key labels, length-append label (concat labels), sum_by-append (λ (k : ℕ). cond (leb k 1) 1 0) label (concat labels))
 
 root_first : (key : List ℕ) → is_le (by_octets [] key) ≡ true
 root_first [] = refl
@@ -272,11 +280,15 @@ pub end_of_root : (name : List (List ℕ)) → length (key_of name) ≡ 0 → No
 end_of_root [] e = refl
 end_of_root (label ∷ labels) e = absurd (omega (arith, ap (length {A = ℕ}) (key_cons label labels), length-append (key_of labels ++ label_front label) (0 ∷ [])))
 
-pub end_of_other : (name : List (List ℕ)) (front : List ℕ) (last : ℕ) → key_of name ≡ front ++ last ∷ [] → Some (front ++ 1 ∷ []) ≡ key_end name
-end_of_other [] front last e = absurd (omega (arith, ap (length {A = ℕ}) e, length-append front (last ∷ [])))
-end_of_other (label ∷ labels) front last e =
-    let same : front ≡ key_of labels ++ label_front label = (same_from_push front (key_of labels ++ label_front label) last 0 (sym e ∙ key_cons label labels)).0 in
-    ap (λ (l : List ℕ). Some (l ++ 1 ∷ [])) same ∙ ap (λ (l : List ℕ). Some l) (append_assoc (key_of labels) (label_front label) (1 ∷ []))
+pub end_of_other : (name : List (List ℕ)) (first end : List ℕ) → first ≡ key_of name → 0 < length first → end ≡ first → Some (set end (length first - 1) 1) ≡ key_end name
+end_of_other [] first end is some same = absurd (omega (arith, ap (length {A = ℕ}) is))
+end_of_other (label ∷ labels) first end is some same =
+    let front = key_of labels ++ label_front label in
+    let whole : first ≡ front ++ 0 ∷ [] = is ∙ key_cons label labels in
+    let place : length first - 1 ≡ length front = omega (arith, ap (length {A = ℕ}) whole, length-append front (0 ∷ [])) in
+    let here : length front - length front ≡ 0 = omega arith in
+    rw (same, place, whole, set-append_right front (0 ∷ []) (length front) (length front) 1 refl (omega arith))
+    (ap (λ (k : ℕ). Some (front ++ set (0 ∷ []) k 1)) here ∙ ap (λ (l : List ℕ). Some l) (append_assoc (key_of labels) (label_front label) (1 ∷ [])))
 
 -- ---- ancestors
 

@@ -1,5 +1,5 @@
 -- Rows of lengths and octets are one, or end with others, exactly where their labels do.
-use Rattle.std.proofs.Common.{◌≡◌, ℕ, ◌-◌, ◌<◌, ◌≤◌, List, [], ◌++◌, Bool, true, length, take, drop, reverse, nat_eq, refl, sym, ap, subst, ◌∙◌, arith, length-append}
+use Rattle.std.proofs.Common.{◌≡◌, ℕ, ◌-◌, ◌<◌, ◌≤◌, List, [], ◌++◌, Bool, true, false, length, take, drop, reverse, nat_eq, refl, sym, ap, subst, ◌∙◌, arith, length-append, append-nil}
 use Rattle.std.specs.Bool.{Decides}
 use Rattle.std.specs.List.{starts_with}
 use Rattle.std.specs.declared.cmp.Ordering.{Ordering}
@@ -54,13 +54,18 @@ same_from_key name other r e =
 
 -- ---- below
 
--- a name with more labels is below where it is within
-pub below_then : (name top : List (List ℕ)) (r : Bool) → length top < length name → Decides r (IsWithin name top) → Decides r (IsBelow name top)
+-- a name with a longer key is below where it is within
+pub below_then : (name top : List (List ℕ)) (r : Bool) → length (key_of top) < length (key_of name) → Decides r (IsWithin name top) → Decides r (IsBelow name top)
 below_then name top r more within =
-    (λ t. (within.0 t, λ e. absurd (omega (arith, ap (length {A = List ℕ}) e))), λ b. within.1 b.0)
+    (λ t. (within.0 t, λ e. absurd (omega (arith, ap (λ (n : List (List ℕ)). length (key_of n)) e))), λ b. within.1 b.0)
 
--- and one with no more labels never is
-pub below_else : (name top : List (List ℕ)) → length name ≤ length top → IsBelow name top → ⊥
-below_else name top fewer b =
-    let front : b.0.0 ≡ [] = nil_from_length b.0.0 (omega (arith, ap (length {A = List ℕ}) b.0.1, length-append b.0.0 top)) in
-    b.1 (b.0.1 ∙ ap (λ (f : List (List ℕ)). f ++ top) front)
+-- and one with a key that is no longer never is
+pub below_else : (name top : List (List ℕ)) (r : Bool) → length (key_of name) ≤ length (key_of top) → r ≡ false → Decides r (IsBelow name top)
+below_else name top r fewer never =
+    (λ yes. absurd cc, λ b. absurd (b.1 (key_unique top name (same b.0))))
+  where
+    same : IsWithin name top → key_of name ≡ key_of top
+    same within =
+        let begins = (key_begins top name).0 within in
+        let rest : begins.0 ≡ [] = nil_from_length begins.0 (omega (arith, ap (length {A = ℕ}) begins.1, length-append (key_of top) begins.0)) in
+        begins.1 ∙ ap (λ (r : List ℕ). key_of top ++ r) rest ∙ append-nil (key_of top)

@@ -1,13 +1,13 @@
 -- Rows of octets as the numbers that they are written as.
-use Rattle.std.proofs.Common.{◌≡◌, ℕ, ◌+◌, ◌*◌, ◌^◌, ◌<◌, ◌≤◌, inl, inr, List, [], ◌∷◌, length, get_or, suc, w64, refl, sym, ◌∙◌, arith}
+use Rattle.std.proofs.Common.{◌≡◌, ℕ, ◌+◌, ◌*◌, ◌^◌, ◌<◌, ◌≤◌, inl, inr, List, [], ◌∷◌, Ordering, true, false, length, get_or, take, drop, zero, suc, w64, refl, sym, ap, ◌∙◌, arith}
 use Rattle.std.specs.Int.{from_be_bytes}
 use Rattle.std.specs.declared.cmp.Ordering.TheVariants.{Less, Equal, Greater}
-use Rattle.std.specs.Ordering.{nat_cmp, ordering_then}
+use Rattle.std.specs.Ordering.{nat_cmp, ordering_then, is_ne}
 use Rattle.std.specs.Cmp.{nat_cmp_is}
 use Rattle.std.specs.Cmp.Lexicographic.{slice_cmp}
 use Rattle.std.proofs.Math.Nat.{mul-le-mul_left, pow-suc}
 use Rattle.std.proofs.lemmas.Bool.{cases_lt}
-use Rattle.dns_names.proofs.KeyLaws.{tied}
+use Rattle.dns_names.proofs.KeyLaws.{tied, then_assoc}
 
 abbrev AreOctets : List ℕ → Type 0
 AreOctets octets = (i : ℕ) → get_or octets i 0 < 256
@@ -82,3 +82,33 @@ eight (a ∷ b ∷ c ∷ d ∷ e ∷ f ∷ []) long = absurd cc
 eight (a ∷ b ∷ c ∷ d ∷ e ∷ f ∷ g ∷ []) long = absurd cc
 eight (a ∷ b ∷ c ∷ d ∷ e ∷ f ∷ g ∷ h ∷ []) long = omega arith
 eight (a ∷ b ∷ c ∷ d ∷ e ∷ f ∷ g ∷ h ∷ i ∷ rest) long = absurd (omega arith)
+
+-- ---- a front of each
+
+-- fronts of one length decide, unless they are one
+front_order : (n : ℕ) (xs ys : List ℕ) → n ≤ length xs → n ≤ length ys → slice_cmp nat_cmp xs ys ≡ ordering_then (slice_cmp nat_cmp (take n xs) (take n ys)) (slice_cmp nat_cmp (drop n xs) (drop n ys))
+front_order zero xs ys a b = refl
+front_order (suc n) [] ys a b = absurd (omega arith)
+front_order (suc n) (x ∷ xs) [] a b = absurd (omega arith)
+front_order (suc n) (x ∷ xs) (y ∷ ys) a b =
+    ap (ordering_then (nat_cmp x y)) (front_order n xs ys (omega arith) (omega arith)) ∙ then_assoc (nat_cmp x y) (slice_cmp nat_cmp (take n xs) (take n ys)) (slice_cmp nat_cmp (drop n xs) (drop n ys))
+
+module _ (xs ys : List ℕ) (n : ℕ) (order whole : Ordering) (a : n ≤ length xs) (b : n ≤ length ys) (fronts : order ≡ slice_cmp nat_cmp (take n xs) (take n ys)) (so_far : slice_cmp nat_cmp xs ys ≡ whole) where
+  both : ordering_then order (slice_cmp nat_cmp (drop n xs) (drop n ys)) ≡ whole
+  both = ap (λ (o : Ordering). ordering_then o (slice_cmp nat_cmp (drop n xs) (drop n ys))) fronts ∙ sym (front_order n xs ys a b) ∙ so_far
+
+  pub front_decides : is_ne order ≡ true → order ≡ whole
+  front_decides differ = decided order (slice_cmp nat_cmp (drop n xs) (drop n ys)) differ ∙ both
+    where
+      decided : (o rest : Ordering) → is_ne o ≡ true → o ≡ ordering_then o rest
+      decided Less rest e = refl
+      decided Equal rest e = absurd cc
+      decided Greater rest e = refl
+
+  pub front_passes : is_ne order ≡ false → slice_cmp nat_cmp (drop n xs) (drop n ys) ≡ whole
+  front_passes tie = passed order (slice_cmp nat_cmp (drop n xs) (drop n ys)) tie ∙ both
+    where
+      passed : (o rest : Ordering) → is_ne o ≡ false → rest ≡ ordering_then o rest
+      passed Less rest e = absurd cc
+      passed Equal rest e = refl
+      passed Greater rest e = absurd cc

@@ -1,16 +1,16 @@
 -- Labels that a row of lengths cuts from a row of octets.
-use Rattle.std.proofs.Common.{◌≡◌, ℕ, ◌+◌, ◌-◌, ◌≤◌, List, [], ◌∷◌, ◌++◌, length, get_or, map, reverse, sum, take, drop, ◌<◌, inl, inr, true, ltb, ne_eqb, refl, sym, ap, subst, ◌∙◌, append_assoc, append-nil, arith, length-append, length-drop}
-use Rattle.std.specs.List.{concat, list_all}
+use Rattle.std.proofs.Common.{◌≡◌, ℕ, ◌+◌, ◌-◌, ◌≤◌, List, [], ◌∷◌, ◌++◌, length, get_or, map, reverse, sum, take, drop, ◌<◌, inl, inr, Some, true, leb, ltb, ne_eqb, refl, sym, ap, subst, ◌∙◌, append_assoc, append-nil, arith, length-append, length-drop}
+use Rattle.std.specs.List.{concat, count_by, list_all}
 use Rattle.std.proofs.Math.Seq.{take-append_seam, drop-append_seam, take-append-add, drop-append-add}
-use Rattle.std.proofs.lemmas.Bool.{and_parts}
+use Rattle.std.proofs.lemmas.Bool.{and_parts, le-leb}
 use Rattle.std.proofs.lemmas.List.{take-append-le, drop-append-le, drop-drop, take_all, length-take, length-map, take-append-drop, drop_at, map-append, reverse-append}
 use Rattle.std.proofs.lemmas.List.Concat.{flat_map-append}
 use Rattle.std.proofs.lemmas.List.Folds.{list_all-append}
-use Rattle.std.proofs.lemmas.List.Sums.{sum_by-append, sum_by-cons}
+use Rattle.std.proofs.lemmas.List.Sums.{count_by-le-length, sum_by-append, sum_by-cons}
 use Rattle.std.specs.List.{flat_map}
-use Rattle.dns_names.specs.Labels.{labels_of, wire_len, IsName}
-use Rattle.dns_names.specs.Keys.{key_of, label_key, label_front}
-use Rattle.dns_names.proofs.KeyLaws.{key_cons, key_at_most, front_stands}
+use Rattle.dns_names.specs.Labels.{labels_of, parent_of, wire_len, IsName}
+use Rattle.dns_names.specs.Keys.{ancestor_key, key_of, label_key, label_front}
+use Rattle.dns_names.proofs.KeyLaws.{key_cons, length-key, front_stands}
 use Rattle.dns_names.specs.Rows.{row_label, row_of, labels_in, plain_rows, escaped_rows, escaped_in, name_in, AreRows, AreEscaped, AreRowsOf, IsPlain}
 
 pub sum-cons : (n : ℕ) (ns : List ℕ) → sum (n ∷ ns) ≡ n + sum ns
@@ -191,68 +191,181 @@ behind_mark memory are marked =
       | inr p ↦ absurd (omega (arith, few_labels name are.name, ap (λ (m : List ℕ). get_or m 0 0) p.0, marked))
     ]
 
+pub name_behind : (memory : List ℕ) → get_or memory 0 0 ≡ 255 → name_in memory ≡ escaped_in (take (length memory - 1) (drop 1 memory))
+name_behind [] marked = absurd (omega arith)
+name_behind (count ∷ rows) marked = rw (marked, take_all (length (count ∷ rows) - 1) rows (omega arith)) refl
+
+-- the parts of memory with an escape
+module _ (memory : List ℕ) (are : AreEscaped memory) where
+  pub escaped_rest : take (length memory - 2) (drop 2 memory) ≡ map length (escaped_in memory) ++ (row_of (escaped_in memory) ++ key_of (escaped_in memory))
+  escaped_rest =
+      let name = escaped_in memory in
+      ap (λ (m : List ℕ). take (length m - 2) (drop 2 m)) are ∙ take_all (length (escaped_rows name) - 2) (map length name ++ (row_of name ++ key_of name)) (omega arith)
+
+  pub escaped_count : get_or memory 0 0 ≡ length (escaped_in memory)
+  escaped_count = ap (λ (m : List ℕ). get_or m 0 0) are
+
+  pub escaped_total : get_or memory 1 0 ≡ length (row_of (escaped_in memory))
+  escaped_total = ap (λ (m : List ℕ). get_or m 1 0) are
+
+-- what stands in memory without one
+pub plain_whole : (memory : List ℕ) → AreRows memory → (get_or memory 0 0 ≡ 255 → ⊥) → (memory ≡ plain_rows (name_in memory)) × IsPlain (name_in memory)
+plain_whole memory are other = elim are.whole [ inl e ↦ absurd (other (ap (λ (m : List ℕ). get_or m 0 0) e)) | inr p ↦ p ]
+
+module _ (memory : List ℕ) (are : memory ≡ plain_rows (name_in memory)) where
+  pub plain_rest : take (length memory - 1) (drop 1 memory) ≡ map length (name_in memory) ++ key_of (name_in memory)
+  plain_rest =
+      let name = name_in memory in
+      ap (λ (m : List ℕ). take (length m - 1) (drop 1 m)) are ∙ take_all (length (plain_rows name) - 1) (map length name ++ key_of name) (omega arith)
+
+  pub plain_count : get_or memory 0 0 ≡ length (name_in memory)
+  plain_count = ap (λ (m : List ℕ). get_or m 0 0) are
+
+-- the lengths, and what stands behind them
+module _ (name : List (List ℕ)) (rest more lengths back : List ℕ) (n : ℕ) (whole : rest ≡ map length name ++ more) (many : n ≡ length name) where
+  pub lengths_fit : n ≤ length rest
+  lengths_fit = omega (arith, ap (length {A = ℕ}) whole, length-append (map length name) more, length-map name length)
+
+  pub lengths_cut : lengths ≡ take n rest → lengths ≡ map length name
+  lengths_cut cut = cut ∙ ap (λ (k : ℕ). take k rest) many ∙ ap (take (length name)) whole ∙ take_lengths name more
+
+  pub more_cut : back ≡ drop n rest → back ≡ more
+  more_cut cut = cut ∙ ap (λ (k : ℕ). drop k rest) many ∙ ap (drop (length name)) whole ∙ drop_lengths name more
+
+-- the row and the key
+module _ (name : List (List ℕ)) (back row key : List ℕ) (t : ℕ) (whole : back ≡ row_of name ++ key_of name) (long : t ≡ length (row_of name)) where
+  pub row_fits : t ≤ length back
+  row_fits = omega (arith, ap (length {A = ℕ}) whole, length-append (row_of name) (key_of name))
+
+  pub row_cut : row ≡ take t back → row ≡ row_of name
+  row_cut cut = cut ∙ ap (λ (k : ℕ). take k back) long ∙ ap (take (length (row_of name))) whole ∙ take-append_seam (row_of name) (key_of name)
+
+  pub key_cut : key ≡ drop t back → key ≡ key_of name
+  key_cut cut = cut ∙ ap (λ (k : ℕ). drop k back) long ∙ ap (drop (length (row_of name))) whole ∙ drop-append_seam (row_of name) (key_of name)
+
+-- what memory is cut into
+pub escaped_cut : (memory : List ℕ) → AreEscaped memory → (n t : ℕ) (lengths back row key : List ℕ) → n ≡ get_or memory 0 0 → t ≡ get_or memory 1 0
+    → lengths ≡ take n (take (length memory - 2) (drop 2 memory)) → back ≡ drop n (take (length memory - 2) (drop 2 memory)) → row ≡ take t back → key ≡ drop t back → AreRowsOf (escaped_in memory) lengths row key
+escaped_cut memory are n t lengths back row key count total lengths-is back-is row-is key-is =
+    let name = escaped_in memory in
+    let many = count ∙ escaped_count memory are in
+    let long = total ∙ escaped_total memory are in
+    let rest = escaped_rest memory are in
+    let more = more_cut name _ _ lengths back n rest many back-is in
+    record { lengths_are = lengths_cut name _ _ lengths back n rest many lengths-is; row_is = row_cut name back row key t more long row-is; key_is = key_cut name back row key t more long key-is }
+
+pub plain_cut : (memory : List ℕ) → (memory ≡ plain_rows (name_in memory)) × IsPlain (name_in memory) → (n : ℕ) (lengths key : List ℕ) → n ≡ get_or memory 0 0
+    → lengths ≡ take n (take (length memory - 1) (drop 1 memory)) → key ≡ drop n (take (length memory - 1) (drop 1 memory)) → AreRowsOf (name_in memory) lengths key key
+plain_cut memory are n lengths key count lengths-is key-is =
+    let name = name_in memory in
+    let many = count ∙ plain_count memory are.0 in
+    let rest = plain_rest memory are.0 in
+    let more = more_cut name _ _ lengths key n rest many key-is in
+    record { lengths_are = lengths_cut name _ _ lengths key n rest many lengths-is; row_is = more ∙ sym are.1; key_is = more }
+
 -- ---- the name without its first label
 
 module _ (name : List (List ℕ)) (lengths row key : List ℕ) (n : ℕ) (ns : List ℕ) (cut : lengths ≡ n ∷ ns) where
   pub first_fits : AreRowsOf name lengths row key → n + 1 ≤ length row
   first_fits are = omega (arith, rows_whole name lengths row key are, ap sum cut, sum-cons n ns, ap (length {A = ℕ}) cut)
 
+abbrev pub after_first : List (List ℕ) → List (List ℕ)
+after_first [] = []
+after_first (label ∷ labels) = labels
+
+-- what is left of the rows without the first label
+module _ (name : List (List ℕ)) (lengths row key ns : List ℕ) (n : ℕ) (are : AreRowsOf name lengths row key) (cut : lengths ≡ n ∷ ns) where
+  pub parent_is : Some (after_first name) ≡ parent_of name
+  parent_is = some name (sym cut ∙ are.lengths_are)
+    where
+      some : (name : List (List ℕ)) → n ∷ ns ≡ map length name → Some (after_first name) ≡ parent_of name
+      some [] e = absurd cc
+      some (label ∷ labels) e = refl
+
+  pub parent_name : IsName name → IsName (after_first name)
+  parent_name is = shorter name is
+    where
+      shorter : (name : List (List ℕ)) → IsName name → IsName (after_first name)
+      shorter [] is = is
+      shorter (label ∷ labels) is = record { labels = is.labels.1; short = omega (arith, is.short) }
+
+  pub parent_key : ancestor_key name (length ns) ≡ Some (key_of (after_first name))
+  parent_key = some name (sym cut ∙ are.lengths_are)
+    where
+      some : (name : List (List ℕ)) → n ∷ ns ≡ map length name → ancestor_key name (length ns) ≡ Some (key_of (after_first name))
+      some [] e = absurd cc
+      some (label ∷ labels) e =
+          let many : length ns ≡ length labels = omega (arith, ap (length {A = ℕ}) e, length-map labels length) in
+          let one : length (label ∷ labels) - length labels ≡ 1 = omega arith in
+          rw (many, le-leb (length labels) (length (label ∷ labels)) (omega arith), one) refl
+
+  pub parent_rows : (key' : List ℕ) → ancestor_key name (length ns) ≡ Some key' → AreRowsOf (after_first name) ns (take (length row - (n + 1)) row) key'
+  parent_rows key' e =
+      let keys : Some (key_of (after_first name)) ≡ Some key' = sym parent_key ∙ e in
+      rest name are (sym cut ∙ are.lengths_are) (cc)
+    where
+      rest : (name : List (List ℕ)) → AreRowsOf name lengths row key → n ∷ ns ≡ map length name → key' ≡ key_of (after_first name) → AreRowsOf (after_first name) ns (take (length row - (n + 1)) row) key'
+      rest [] rows e k = absurd cc
+      rest (label ∷ labels) rows e k =
+          let whole : row ≡ row_of labels ++ (label ++ 0 ∷ []) = rows.row_is ∙ row_cons label labels in
+          let many : n ≡ length label = cc in
+          let left : length row - (n + 1) ≡ length (row_of labels) = omega (arith, ap (length {A = ℕ}) whole, length-append (row_of labels) (label ++ 0 ∷ []), length-append label (0 ∷ [])) in
+          record {
+            lengths_are = cc;
+            row_is = ap (λ (k : ℕ). take k row) left ∙ ap (take (length (row_of labels))) whole ∙ take-append_seam (row_of labels) (label ++ 0 ∷ []);
+            key_is = k;
+          }
+
 -- ---- a name of labels before another
 
-module _ (ns os ms row key : List ℕ) (tail : List (List ℕ)) (whole : sum ns ≡ length os) (rows : AreRowsOf (labels_in ms row) ms row key) (held : labels_in ms row ≡ tail) where
-  abbrev front : List (List ℕ)
-  front = labels_of ns os
+module _ (ns os ms row key : List ℕ) (front tail : List (List ℕ)) (whole : sum ns ≡ length os) (cut : labels_of ns os ≡ front) (rows : AreRowsOf (labels_in ms row) ms row key) (held : labels_in ms row ≡ tail) where
+  front_lengths : map length front ≡ ns
+  front_lengths = ap (map length) (sym cut) ∙ lengths_back ns os (omega arith)
+
+  front_octets : concat front ≡ os
+  front_octets = ap concat (sym cut) ∙ octets_back ns os whole
 
   tail_rows : AreRowsOf tail ms row key
   tail_rows = subst (λ (n : List (List ℕ)). AreRowsOf n ms row key) held rows
 
-  lengths_joined : map length (front ++ tail) ≡ ns ++ ms
-  lengths_joined = map-append length front tail ∙ ap (λ (l : List ℕ). l ++ map length tail) (lengths_back ns os (omega arith)) ∙ ap (λ (l : List ℕ). ns ++ l) (sym tail_rows.lengths_are)
+  pub lengths_joined : map length (front ++ tail) ≡ ns ++ ms
+  lengths_joined = map-append length front tail ∙ ap (λ (l : List ℕ). l ++ map length tail) front_lengths ∙ ap (λ (l : List ℕ). ns ++ l) (sym tail_rows.lengths_are)
 
-  row_joined : row_of (front ++ tail) ≡ row ++ row_of front
+  pub row_joined : row_of (front ++ tail) ≡ row ++ row_of front
   row_joined = row_append front tail ∙ ap (λ (l : List ℕ). l ++ row_of front) (sym tail_rows.row_is)
 
-  key_joined : key_of (front ++ tail) ≡ key ++ key_of front
+  pub key_joined : key_of (front ++ tail) ≡ key ++ key_of front
   key_joined = ap (flat_map label_key) (reverse-append front tail) ∙ flat_map-append label_key (reverse tail) (reverse front) ∙ ap (λ (l : List ℕ). l ++ key_of front) (sym tail_rows.key_is)
 
-  labels_joined : length (front ++ tail) ≡ length ns + length ms
+  pub labels_joined : length (front ++ tail) ≡ length ns + length ms
   labels_joined = sym (length-map (front ++ tail) length) ∙ ap (length {A = ℕ}) lengths_joined ∙ length-append ns ms
 
-  total_joined : length (row_of (front ++ tail)) ≡ length row + (length os + length ns)
-  total_joined =
-      omega (arith, ap (length {A = ℕ}) row_joined, length-append row (row_of front), length-row front, ap (length {A = ℕ}) (octets_back ns os whole), ap (length {A = ℕ}) (lengths_back ns os (omega arith)), length-map front length)
+  front_labels : length front ≡ length ns
+  front_labels = sym (length-map front length) ∙ ap (length {A = ℕ}) front_lengths
 
-  pub counts_fit : IsName (front ++ tail) → (length ns + length ms < 255) × (length row + (length os + length ns) < 255)
-  counts_fit is =
-      (omega (arith, few_labels (front ++ tail) is, labels_joined), omega (arith, wire_len-name (front ++ tail), length-row (front ++ tail), total_joined, is.short))
+  pub total_joined : length (row_of (front ++ tail)) ≡ length row + length os + length ns
+  total_joined = omega (arith, ap (length {A = ℕ}) row_joined, length-append row (row_of front), length-row front, ap (length {A = ℕ}) front_octets, front_labels)
 
-  pub key_fits : IsName (front ++ tail) → length key < 510
-  key_fits is =
-      omega (arith, ap (length {A = ℕ}) tail_rows.key_is, key_at_most tail, ap (length {A = ℕ}) tail_rows.row_is, length-row tail, (counts_fit is).1)
+  pub key_total : length (key_of (front ++ tail)) ≡ length key + length os + length ns + count_by (λ o. leb o 1) os
+  key_total =
+      omega (arith, ap (length {A = ℕ}) key_joined, length-append key (key_of front), length-key front, ap (length {A = ℕ}) front_octets, front_labels, ap (count_by (λ (o : ℕ). leb o 1)) front_octets)
+
+  -- memory behind which the lengths and the row were put
+  pub rows_joined : (before with_ns with_ms with_row : List ℕ) → with_ns ≡ before ++ ns → with_ms ≡ with_ns ++ ms → with_row ≡ with_ms ++ row
+      → with_row ++ row_of front ≡ before ++ (map length (front ++ tail) ++ row_of (front ++ tail))
+  rows_joined before with_ns with_ms with_row a b c =
+      let parts : (((before ++ ns) ++ ms) ++ row) ++ row_of front ≡ before ++ ((ns ++ ms) ++ (row ++ row_of front)) = simp append_assoc in
+      rw (c, b, a, lengths_joined, row_joined) parts
 
   pub plain_joined : row ≡ key → list_all (λ o. ltb 1 o) os ≡ true → IsPlain (front ++ tail)
   plain_joined same all =
-      let stand : row_of front ≡ key_of front = stands front (ap (list_all (λ o. ltb 1 o)) (octets_back ns os whole) ∙ all) in
+      let stand : row_of front ≡ key_of front = stands front (ap (list_all (λ o. ltb 1 o)) front_octets ∙ all) in
       row_joined ∙ ap (λ (l : List ℕ). l ++ row_of front) same ∙ ap (λ (l : List ℕ). key ++ l) stand ∙ sym key_joined
 
-  pub joined_plain : IsPlain (front ++ tail) → (((([] ++ (length ns + length ms) ∷ []) ++ ns) ++ ms) ++ row) ++ row_of front ≡ plain_rows (front ++ tail)
-  joined_plain plain =
-      let parts : ((ns ++ ms) ++ row) ++ row_of front ≡ (ns ++ ms) ++ (row ++ row_of front) = simp append_assoc in
-      ap (λ (r : List ℕ). (length ns + length ms) ∷ r) parts
-      ∙ sym (ap (λ (n : ℕ). n ∷ (map length (front ++ tail) ++ key_of (front ++ tail))) labels_joined
-      ∙ ap (λ (l : List ℕ). (length ns + length ms) ∷ (l ++ key_of (front ++ tail))) lengths_joined
-      ∙ ap (λ (l : List ℕ). (length ns + length ms) ∷ ((ns ++ ms) ++ l)) (sym plain ∙ row_joined))
-
-  pub joined_escaped : (total : ℕ) → total ≡ length row + (length os + length ns) → (((((((([] ++ 255 ∷ []) ++ (length ns + length ms) ∷ []) ++ total ∷ []) ++ ns) ++ ms) ++ row) ++ row_of front) ++ key) ++ key_of front ≡ 255 ∷ escaped_rows (front ++ tail)
-  joined_escaped total is =
-      let parts : ((((ns ++ ms) ++ row) ++ row_of front) ++ key) ++ key_of front ≡ (ns ++ ms) ++ ((row ++ row_of front) ++ (key ++ key_of front)) = simp append_assoc in
-      let count = length ns + length ms in
-      ap (λ (r : List ℕ). 255 ∷ count ∷ total ∷ r) parts
-      ∙ sym (ap (λ (n : ℕ). 255 ∷ n ∷ length (row_of (front ++ tail)) ∷ (map length (front ++ tail) ++ (row_of (front ++ tail) ++ key_of (front ++ tail)))) labels_joined
-      ∙ ap (λ (n : ℕ). 255 ∷ count ∷ n ∷ (map length (front ++ tail) ++ (row_of (front ++ tail) ++ key_of (front ++ tail)))) (total_joined ∙ sym is)
-      ∙ ap (λ (l : List ℕ). 255 ∷ count ∷ total ∷ (l ++ (row_of (front ++ tail) ++ key_of (front ++ tail)))) lengths_joined
-      ∙ ap (λ (l : List ℕ). 255 ∷ count ∷ total ∷ ((ns ++ ms) ++ (l ++ key_of (front ++ tail)))) row_joined
-      ∙ ap (λ (l : List ℕ). 255 ∷ count ∷ total ∷ ((ns ++ ms) ++ ((row ++ row_of front) ++ l))) key_joined)
+-- how many labels a name has, and how long its row and its key are
+pub counts_fit : (name : List (List ℕ)) → IsName name → (length name < 255) × (length (row_of name) < 255) × (length (key_of name) < 510)
+counts_fit name is =
+    (few_labels name is, omega (arith, wire_len-name name, length-row name, is.short), omega (arith, wire_len-name name, length-key name, count_by-le-length (λ (o : ℕ). leb o 1) (concat name), is.short))
 
 -- how long a name is, by its row
 pub length-held : (ms row key : List ℕ) (name : List (List ℕ)) → AreRowsOf (labels_in ms row) ms row key → labels_in ms row ≡ name → length row ≡ length name + length (concat name)

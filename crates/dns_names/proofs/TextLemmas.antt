@@ -1,14 +1,14 @@
 -- What the code that prints names writes.
-use Rattle.std.proofs.Common.{◌≡◌, ℕ, zero, suc, Bool, true, cond, leb, not, ◌&&◌, get_or, leb-true, refl, ◌<◌, ◌/◌, ◌%◌, ◌+◌, List, [], ◌∷◌, ◌++◌, false, Option, None, Some, sym, ap, ◌∙◌, append-nil, append_assoc, arith}
-use Rattle.std.specs.List.{flat_map, list_all, AllByRecursion, AllPass}
+use Rattle.std.proofs.Common.{◌≡◌, ℕ, zero, suc, Bool, true, cond, leb, not, ◌&&◌, get_or, leb-true, refl, ◌<◌, ◌/◌, ◌%◌, ◌+◌, List, [], ◌∷◌, ◌++◌, false, Option, None, Some, sym, ap, subst, ◌∙◌, append-nil, append_assoc, length, length-append, take, ◌≤◌, ltb, inl, inr, arith}
+use Rattle.std.specs.List.{flat_map, list_all, position_or_len, prefix_len, AllByRecursion, AllPass}
 use Rattle.std.specs.Str.{IsAscii}
-use Rattle.std.proofs.lemmas.Bool.{and_parts, cond_both}
+use Rattle.std.proofs.lemmas.Bool.{and_parts, cases_lt, cond_both, le-ltb, lt-ltb}
 use Rattle.std.proofs.lemmas.Bool.Decides.{nat_tests}
+use Rattle.std.proofs.lemmas.List.{get_or-take, length-take}
 use Rattle.std.proofs.lemmas.List.Concat.{flat_map-append}
-use Rattle.std.proofs.lemmas.List.Sums.{list_all-from_AllPass}
-use Rattle.std.specs.Option.{is_some}
-use Rattle.std.specs.Iterator.{YieldsFirstRef}
-use Rattle.std.specs.Borrow.{Bor}
+use Rattle.std.proofs.lemmas.List.Folds.{length-prefix_len}
+use Rattle.std.proofs.lemmas.List.Sums.{list_all-from_AllPass, prefix_len_passes}
+use Rattle.std.specs.Option.{unwrap_or}
 use Rattle.dns_names.specs.Spelling.{three_digits, is_special, is_plain, octet_text, label_text, name_text}
 
 -- ---- octets
@@ -39,16 +39,21 @@ octet_is_ascii o fits =
     digit : (d : ℕ) → d < 10 → 48 + d < 128
     digit d h = omega arith
 
--- a name that gives no label has none
-pub no_label : (name left : List (List ℕ)) (first : Option (Bor (List ℕ))) → YieldsFirstRef (λ l. l) name first left → is_some first ≡ false → name ≡ []
-no_label name left None steps none = steps.0
-no_label name left (Some label) steps none = absurd cc
+-- ---- names
 
--- nothing was written of it before its dot
-pub dot_alone : (done left name : List (List ℕ)) → done ++ left ≡ name → left ≡ [] → name ≡ [] → flat_map label_text done ++ 46 ∷ [] ≡ name_text name
-dot_alone done left name parts all none =
-    let nothing : done ≡ [] = sym (append-nil done) ∙ ap (λ (l : List (List ℕ)). done ++ l) (sym all) ∙ parts ∙ none in
-    rw (nothing, none)
+-- the text of labels is that of a name which has some
+pub some_labels : (name : List (List ℕ)) (text : List ℕ) → text ≡ flat_map label_text name → 0 < length text → text ≡ name_text name
+some_labels [] text e some = absurd (omega (arith, ap (length {A = ℕ}) e))
+some_labels (label ∷ labels) text e some = e
+
+pub no_label : (name : List (List ℕ)) (text : List ℕ) → text ≡ flat_map label_text name → length text ≡ 0 → 46 ∷ [] ≡ name_text name
+no_label [] text e none = refl
+no_label (label ∷ labels) text e none =
+    absurd (omega (arith, ap (length {A = ℕ}) e, length-append (label_text label) (flat_map label_text labels), length-append (flat_map octet_text label) (46 ∷ [])))
+
+pub labels_text : (name : List (List ℕ)) → (name ≡ [] → ⊥) → flat_map label_text name ≡ name_text name
+labels_text [] some = absurd (some refl)
+labels_text (label ∷ labels) some = refl
 
 -- ---- runs of octets that are printed as they stand
 
@@ -80,6 +85,41 @@ run_is_ascii run all = (plain_octets run (list_all-from_AllPass is_plain run all
 
 pub run_text : (run : List ℕ) → AllPass is_plain run → flat_map octet_text run ≡ run
 run_text run all = (plain_octets run (list_all-from_AllPass is_plain run all)).1
+
+-- a label all of which is such a run
+pub whole_run : (label : List ℕ) (n : ℕ) → n ≡ prefix_len is_plain label → length label ≤ n → AllPass is_plain label
+whole_run label n e all = λ k d h. prefix_len_passes is_plain label k d (omega arith)
+
+-- the run at the beginning of a label
+pub run_fits : (label : List ℕ) (n : ℕ) → n ≡ prefix_len is_plain label → n ≤ length label
+run_fits label n e = omega (arith, length-prefix_len is_plain label, length-take (prefix_len is_plain label) label)
+
+-- where the first other octet stands, or the end
+place_is : (label : List ℕ) → position_or_len (λ o. not (is_plain o)) label ≡ prefix_len is_plain label
+place_is [] = refl
+place_is (o ∷ label) = rw (twice (is_plain o)) (ap (λ (k : ℕ). cond (is_plain o) (1 + k) 0) (place_is label))
+  where
+    twice : (b : Bool) → not (not b) ≡ b
+    twice true = refl
+    twice false = refl
+
+pub place_or_end : (label : List ℕ) (place : Option ℕ)
+    → place ≡ cond (ltb (position_or_len (λ o. not (is_plain o)) label) (length label)) (Some (position_or_len (λ o. not (is_plain o)) label)) None
+    → unwrap_or place (length label) ≡ prefix_len is_plain label
+place_or_end label place e =
+    let n = prefix_len is_plain label in
+    let whole : place ≡ cond (ltb n (length label)) (Some n) None = e ∙ ap (λ (k : ℕ). cond (ltb k (length label)) (Some k) None) (place_is label) in
+    rw whole
+    (elim (cases_lt n (length label)) [
+      | inl l ↦ rw (lt-ltb n (length label) l) refl
+      | inr h ↦ rw (le-ltb n (length label) h) (omega (arith, run_fits label n refl))
+    ])
+
+pub first_run : (label run : List ℕ) (n : ℕ) → n ≡ prefix_len is_plain label → run ≡ take n label → AllPass is_plain run
+first_run label run n e cut =
+    subst (AllPass is_plain) (sym cut) (λ k d h.
+    let below : k < n = omega (arith, length-take n label) in
+    ap is_plain (get_or-take n label k d below) ∙ prefix_len_passes is_plain label k d (omega arith))
 
 -- a label that is printed as it stands, and the dot, behind a text
 pub plain_label : (before label with_label all : List ℕ) → AllPass is_plain label → with_label ≡ before ++ label → all ≡ with_label ++ 46 ∷ [] → all ≡ before ++ label_text label

@@ -18,7 +18,8 @@ use crate::octets::cmp_octets;
 use crate::pieces::PieceRows;
 use crate::relative_text::RelativeName;
 use crate::representation::{
-    ESCAPED, NewLabels, Rows, behind_label, escapes, push_key, push_row, stand_in_keys,
+    ESCAPED, NewLabels, Rows, behind_label, key_len, label_count, push_key_of, push_rows, row_len,
+    stand_in_keys,
 };
 use std::alloc::{AllocError, Global};
 use std::cmp::Ordering;
@@ -63,60 +64,39 @@ impl Name {
         requires name { IsName (labels_of lengths.now octets.now ++ tail.now) }
         ensures { IfOk result (λ name. name ≡ labels_of lengths.now octets.now ++ tail.now) }
     {
+        let front = NewLabels::of_rows(lengths, octets);
         if stand_in_keys(octets) && tail.row == tail.key {
-            return Name::joined_plain(alloc, lengths, octets, tail);
+            return Name::joined_plain(alloc, &front, tail);
         }
-        Name::joined_escaped(alloc, lengths, octets, tail)
+        Name::joined_escaped(alloc, &front, tail)
     }
 
     /// The same, where the name has no octet 0 or 1. Its row is its key, and stands once.
-    fn joined_plain(
-        alloc: Global,
-        lengths: &[u8],
-        octets: &[u8],
-        tail: &Rows,
-    ) -> Result<Name, AllocError>
-        requires whole { sum lengths.now ≡ length octets.now }
-        requires name { IsName (labels_of lengths.now octets.now ++ tail.now) }
-        requires plain { IsPlain (labels_of lengths.now octets.now ++ tail.now) }
-        ensures { IfOk result (λ name. name ≡ labels_of lengths.now octets.now ++ tail.now) }
+    fn joined_plain(alloc: Global, front: &NewLabels, tail: &Rows) -> Result<Name, AllocError>
+        requires name { IsName (front.now ++ tail.now) }
+        requires plain { IsPlain (front.now ++ tail.now) }
+        ensures { IfOk result (λ name. name ≡ front.now ++ tail.now) }
     {
-        let count = lengths.len() + tail.lengths.len();
-        let total = tail.row.len() + octets.len() + lengths.len();
-        let mut memory = Vec::with_capacity(alloc, 1 + count + total)?;
-        memory.push(count as u8)?;
-        memory.extend_from_slice(lengths)?;
-        memory.extend_from_slice(tail.lengths)?;
-        memory.extend_from_slice(tail.row)?;
-        push_row(&mut memory, NewLabels::of_rows(lengths, octets))?;
+        let count = label_count(front, tail);
+        let room = 1 + usize::from(count) + usize::from(row_len(front, tail));
+        let mut memory = Vec::with_capacity(alloc, room)?;
+        memory.push(count)?;
+        push_rows(&mut memory, front, tail)?;
         Ok(Name { memory })
     }
 
     /// The same, where the name has an octet 0 or 1. Its row stands beside its key.
-    fn joined_escaped(
-        alloc: Global,
-        lengths: &[u8],
-        octets: &[u8],
-        tail: &Rows,
-    ) -> Result<Name, AllocError>
-        requires whole { sum lengths.now ≡ length octets.now }
-        requires name { IsName (labels_of lengths.now octets.now ++ tail.now) }
-        ensures { IfOk result (λ name. name ≡ labels_of lengths.now octets.now ++ tail.now) }
+    fn joined_escaped(alloc: Global, front: &NewLabels, tail: &Rows) -> Result<Name, AllocError>
+        requires name { IsName (front.now ++ tail.now) }
+        ensures { IfOk result (λ name. name ≡ front.now ++ tail.now) }
     {
-        let count = lengths.len() + tail.lengths.len();
-        let added = octets.len() + lengths.len();
-        let total = tail.row.len() + added;
-        let key_total = tail.key.len() + added + escapes(octets);
-        let mut memory = Vec::with_capacity(alloc, 3 + count + total + key_total)?;
-        memory.push(ESCAPED)?;
-        memory.push(count as u8)?;
-        memory.push(total as u8)?;
-        memory.extend_from_slice(lengths)?;
-        memory.extend_from_slice(tail.lengths)?;
-        memory.extend_from_slice(tail.row)?;
-        push_row(&mut memory, NewLabels::of_rows(lengths, octets))?;
-        memory.extend_from_slice(tail.key)?;
-        push_key(&mut memory, NewLabels::of_rows(lengths, octets))?;
+        let count = label_count(front, tail);
+        let total = row_len(front, tail);
+        let room = 3 + usize::from(count) + usize::from(total) + key_len(front, tail);
+        let mut memory = Vec::with_capacity(alloc, room)?;
+        memory.extend_from_slice(&[ESCAPED, count, total])?;
+        push_rows(&mut memory, front, tail)?;
+        push_key_of(&mut memory, front, tail)?;
         Ok(Name { memory })
     }
 
@@ -305,12 +285,11 @@ impl Name {
         ensures range { RangesOver self.now }
     {
         let first = self.key();
-        let Some((_, front)) = first.split_last() else {
+        if first.is_empty() {
             return Ok(KeyRange { first, end: None });
-        };
-        let mut end = Vec::with_capacity(alloc, first.len())?;
-        end.extend_from_slice(front)?;
-        end.push(1)?;
+        }
+        let mut end = Vec::from_slice(alloc, first)?;
+        end[first.len() - 1] = 1;
         Ok(KeyRange {
             first,
             end: Some(end),

@@ -4,31 +4,25 @@ ghost use Rattle.std.specs.Prelude.{◌≡◌};
 ghost use Rattle.dns_names.specs.declared.name_fault.NameFault.TheVariants.{NoMemory};
 
 use std::alloc::{AllocError, AllocFailed};
-use thiserror::Error;
+use std::error::Error;
+use std::fmt::{self, Display, Formatter, Write};
 
 /// What is wrong with the text of a name (RFC 1035 sections 2.3.4, 3.1 and 5.1).
-#[derive(Clone, Copy, Debug, PartialEq, Eq, Error)]
+#[derive(Clone, Copy, Debug, PartialEq, Eq)]
 pub enum NameFault {
     /// A dot has no label before it, and is not the whole text.
-    #[error("a label of the name is empty")]
     EmptyLabel,
     /// A label has more than 63 octets.
-    #[error("a label of the name has more than 63 octets")]
     LabelTooLong,
     /// The name has more than 255 octets, counting one before each label and one for the root.
-    #[error("the name has more than 255 octets")]
     NameTooLong,
     /// A backslash stands at the end, before a digit that two more do not follow, or with a number above 255.
-    #[error("a backslash in the name begins no escape: \\X or \\DDD with a number up to 255")]
     BadEscape,
     /// The text does not end in a dot, where only absolute names are read.
-    #[error("the name is not absolute: it does not end in a dot")]
     NotAbsolute,
     /// The text has no octet.
-    #[error("the name is empty")]
     Empty,
     /// Memory ran out. This says nothing of the text.
-    #[error("out of memory")]
     NoMemory,
 }
 
@@ -50,6 +44,24 @@ impl NameFault {
         }
     }
 }
+
+/// What is wrong, in words.
+impl Display for NameFault {
+    fn fmt<W: Write>(&self, f: &mut Formatter<W>) -> fmt::Result {
+        f.write_str(match *self {
+            NameFault::EmptyLabel => "a label of the name is empty",
+            NameFault::LabelTooLong => "a label of the name has more than 63 octets",
+            NameFault::NameTooLong => "the name has more than 255 octets",
+            NameFault::BadEscape =>
+                "a backslash in the name begins no escape: \\X or \\DDD with a number up to 255",
+            NameFault::NotAbsolute => "the name is not absolute: it does not end in a dot",
+            NameFault::Empty => "the name is empty",
+            NameFault::NoMemory => "out of memory",
+        })
+    }
+}
+
+impl Error for NameFault {}
 
 impl From<AllocError> for NameFault {
     ghost from_gives = { λ _ e. e ≡ NoMemory };

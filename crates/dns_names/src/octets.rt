@@ -19,10 +19,9 @@ pub fn cmp_octets(first: &[u8], second: &[u8]) -> Ordering
     ensures { result ≡ slice_cmp nat_cmp first.now second.now }
 {
     let (mut ours, mut theirs) = (first, second);
-    while let (Some((our, our_rest)), Some((their, their_rest))) = (
-        ours.split_first_chunk::<8>(),
-        theirs.split_first_chunk::<8>(),
-    ) {
+    while let Some((our, our_rest)) = ours.split_first_chunk::<8>()
+        && let Some((their, their_rest)) = theirs.split_first_chunk::<8>()
+    {
         let order = cmp_eight(our, their);
         if order.is_ne() {
             return order;

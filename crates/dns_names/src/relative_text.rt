@@ -7,8 +7,8 @@ ghost use Rattle.dns_names.specs.Spelling.{dotted_label, dotted_text, labels_bef
 
 use crate::labels::Labels;
 use crate::name::Name;
-use crate::text::LabelOctets;
-use std::fmt;
+use crate::text::write_octets;
+use std::fmt::{self, Display};
 
 /// The labels of a name before the last ones, which are as many as an origin's.
 fn labels_before<'a>(name: &'a Name, origin: &Name) -> Labels<'a>
@@ -26,7 +26,8 @@ fn write_dotted<W: fmt::Write>(f: &mut fmt::Formatter<W>, labels: Labels<'_>) ->
     ensures { WritesOnOk W.write_str_gives f.old result (flat_map dotted_label labels.entry) f.new }
 {
     for label in labels {
-        write!(f, ".{}", LabelOctets(label))?;
+        f.write_str(".")?;
+        write_octets(f, label)?;
     }
     Ok(())
 }
@@ -39,7 +40,7 @@ fn write_before<W: fmt::Write>(f: &mut fmt::Formatter<W>, before: Labels<'_>) ->
     let Some(first) = labels.next() else {
         return f.write_str("@");
     };
-    write!(f, "{}", LabelOctets(first))?;
+    write_octets(f, first)?;
     write_dotted(f, labels)
 }
 
@@ -53,14 +54,14 @@ pub struct RelativeName<'a> {
     pub origin: &'a Name,
 }
 
-impl fmt::Display for RelativeName<'_> {
+impl Display for RelativeName<'_> {
     ghost output = { λ r. Some (relative_text r.origin.now r.name.now) };
 
     fn fmt<W: fmt::Write>(&self, f: &mut fmt::Formatter<W>) -> fmt::Result {
         if self.name.is_within(self.origin) {
             write_before(f, labels_before(self.name, self.origin))
         } else {
-            write!(f, "{}", self.name)
+            self.name.fmt(f)
         }
     }
 }

@@ -1,10 +1,10 @@
 //! How a name stands in memory.
 
-ghost use Rattle.std.specs.Prelude.{◌≡◌, ◌≤◌, ◌++◌, [], ◌∷◌, List, ℕ, IfNone, IfSome, OnOk, length, nat_lt, sum};
-ghost use Rattle.std.specs.List.{list_all};
+ghost use Rattle.std.specs.Prelude.{◌≡◌, ◌≤◌, ◌++◌, [], ◌∷◌, List, ℕ, IfNone, IfSome, OnOk, length, map, nat_le, nat_lt, sum};
+ghost use Rattle.std.specs.List.{count_by, list_all};
 ghost use Rattle.std.specs.Option.{option_copied};
-ghost use Rattle.dns_names.specs.Labels.{labels_of};
-ghost use Rattle.dns_names.specs.Keys.{label_front, key_of};
+ghost use Rattle.dns_names.specs.Labels.{IsName, labels_of};
+ghost use Rattle.dns_names.specs.Keys.{key_octet, label_front, key_of};
 ghost use Rattle.dns_names.specs.Rows.{AreRows, AreRowsOf, AreEscaped, row_of, labels_in, name_in, escaped_in, behind_label};
 
 use std::alloc::AllocError;
@@ -136,10 +136,22 @@ pub(crate) fn stand_in_keys(octets: &[u8]) -> bool
 }
 
 /// How many octets of labels take two in keys.
-pub(crate) fn escapes(octets: &[u8]) -> usize
-    ensures { result ≤ length octets.now }
+fn escapes(octets: &[u8]) -> usize
+    ensures { result ≡ count_by (λ o. nat_le o 1) octets.now }
 {
     octets.iter().filter(|octet| **octet <= 1).count()
+}
+
+/// Puts an octet of a label behind a key. The only error is out of memory.
+fn push_octet(key: &mut Vec<u8>, octet: u8) -> Result<(), AllocError>
+    ensures { OnOk result (key.new.items ≡ key.old.items ++ key_octet octet) }
+{
+    if octet > 1 {
+        key.push(octet)?;
+    } else {
+        key.extend_from_slice(&[1, octet + 1])?;
+    }
+    Ok(())
 }
 
 /// Puts the octets of a label behind a key. The only error is out of memory.
@@ -147,25 +159,20 @@ fn push_label(key: &mut Vec<u8>, label: &[u8]) -> Result<(), AllocError>
     ensures { OnOk result (key.new.items ≡ key.old.items ++ label_front label.now) }
 {
     if stand_in_keys(label) {
-        key.extend_from_slice(label)?;
-        return Ok(());
+        return key.extend_from_slice(label);
     }
     for octet in label {
-        match *octet {
-            0 => key.extend_from_slice(&[1, 1])?,
-            1 => key.extend_from_slice(&[1, 2])?,
-            other => key.push(other)?,
-        }
+        push_octet(key, *octet)?;
     }
     Ok(())
 }
 
 /// Puts the key of labels behind that of a name that they stand before. The only error is out of memory.
-pub(crate) fn push_key(key: &mut Vec<u8>, labels: NewLabels) -> Result<(), AllocError>
-    ensures { OnOk result (key.new.items ≡ key.old.items ++ key_of labels.entry) }
+fn push_key(key: &mut Vec<u8>, labels: &NewLabels) -> Result<(), AllocError>
+    ensures { OnOk result (key.new.items ≡ key.old.items ++ key_of labels.now) }
 {
-    let mut labels = labels;
-    while let Some(label) = labels.take_last() {
+    let mut left = NewLabels::of_rows(labels.lengths, labels.octets);
+    while let Some(label) = left.take_last() {
         push_label(key, label)?;
         key.push(0)?;
     }
@@ -173,13 +180,63 @@ pub(crate) fn push_key(key: &mut Vec<u8>, labels: NewLabels) -> Result<(), Alloc
 }
 
 /// Puts the row of labels behind that of a name that they stand before. The only error is out of memory.
-pub(crate) fn push_row(row: &mut Vec<u8>, labels: NewLabels) -> Result<(), AllocError>
-    ensures { OnOk result (row.new.items ≡ row.old.items ++ row_of labels.entry) }
+fn push_row(row: &mut Vec<u8>, labels: &NewLabels) -> Result<(), AllocError>
+    ensures { OnOk result (row.new.items ≡ row.old.items ++ row_of labels.now) }
 {
-    let mut labels = labels;
-    while let Some(label) = labels.take_last() {
+    let mut left = NewLabels::of_rows(labels.lengths, labels.octets);
+    while let Some(label) = left.take_last() {
         row.extend_from_slice(label)?;
         row.push(0)?;
     }
     Ok(())
+}
+
+/// How many labels a name has, of which some stand before those of another name.
+pub(crate) fn label_count(front: &NewLabels, tail: &Rows) -> u8
+    requires { IsName (front.now ++ tail.now) }
+    ensures { result ≡ length (front.now ++ tail.now) }
+{
+    (front.lengths.len() + tail.lengths.len()) as u8
+}
+
+/// How many octets the row of such a name has.
+pub(crate) fn row_len(front: &NewLabels, tail: &Rows) -> u8
+    requires { IsName (front.now ++ tail.now) }
+    ensures { result ≡ length (row_of (front.now ++ tail.now)) }
+{
+    (tail.row.len() + front.octets.len() + front.lengths.len()) as u8
+}
+
+/// How many octets the key of such a name has.
+pub(crate) fn key_len(front: &NewLabels, tail: &Rows) -> usize
+    requires { IsName (front.now ++ tail.now) }
+    ensures { result ≡ length (key_of (front.now ++ tail.now)) }
+{
+    tail.key.len() + front.octets.len() + front.lengths.len() + escapes(front.octets)
+}
+
+/// Puts the lengths of such a name's labels, and its row, into memory. The only error is out of memory.
+pub(crate) fn push_rows(
+    memory: &mut Vec<u8>,
+    front: &NewLabels,
+    tail: &Rows,
+) -> Result<(), AllocError>
+    ensures { OnOk result (memory.new.items ≡ memory.old.items ++ (map length (front.now ++ tail.now) ++ row_of (front.now ++ tail.now))) }
+{
+    memory.extend_from_slice(front.lengths)?;
+    memory.extend_from_slice(tail.lengths)?;
+    memory.extend_from_slice(tail.row)?;
+    push_row(memory, front)
+}
+
+/// Puts the key of such a name into memory. The only error is out of memory.
+pub(crate) fn push_key_of(
+    memory: &mut Vec<u8>,
+    front: &NewLabels,
+    tail: &Rows,
+) -> Result<(), AllocError>
+    ensures { OnOk result (memory.new.items ≡ memory.old.items ++ key_of (front.now ++ tail.now)) }
+{
+    memory.extend_from_slice(tail.key)?;
+    push_key(memory, front)
 }

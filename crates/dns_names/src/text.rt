@@ -1,7 +1,7 @@
 //! The canonical spelling of names.
 
-ghost use Rattle.std.specs.Prelude.{◌≡◌, ◌<◌, ◌∷◌, ◌++◌, Some, IfSome, IfNone};
-ghost use Rattle.std.specs.List.{AllPass, flat_map};
+ghost use Rattle.std.specs.Prelude.{◌≡◌, ◌≢◌, ◌<◌, [], ◌++◌, Some, IfSome, IfNone};
+ghost use Rattle.std.specs.List.{AllPass, flat_map, prefix_len};
 ghost use Rattle.std.specs.Fmt.{WritesOnOk};
 ghost use Rattle.dns_names.specs.Spelling.{is_special, is_plain, octet_text, label_octets, label_text, name_text};
 
@@ -63,58 +63,48 @@ fn plain_text(run: &[u8]) -> &str
     unsafe { str::from_utf8_unchecked(run) }
 }
 
-/// The first octet of a label that is not printed as it stands, the run before it, and what stands behind it.
-fn first_escaped(label: &[u8]) -> Option<(&str, u8, &[u8])>
-    ensures none { IfNone result (AllPass is_plain label.now) }
-    ensures some { IfSome result (λ (run, octet, rest). AllPass is_plain run.now × (label.now ≡ run.now ++ octet ∷ rest.now)) }
+/// How many octets at the beginning of a label are printed as they stand.
+fn plain_len(label: &[u8]) -> usize
+    ensures { result ≡ prefix_len is_plain label.now }
 {
-    let place = label.iter().position(|octet| !is_plain(*octet))?;
-    let (run, rest) = label.split_at(place);
-    let (octet, rest) = rest.split_first()?;
-    Some((plain_text(run), *octet, rest))
+    let place = label.iter().position(|octet| !is_plain(*octet));
+    place.unwrap_or(label.len())
 }
 
-/// The octets of a label, as they are printed.
-#[derive(Clone, Copy)]
-pub(crate) struct LabelOctets<'a>(pub(crate) &'a [u8]);
-
-impl fmt::Display for LabelOctets<'_> {
-    ghost output = { λ l. Some (label_octets l.0.now) };
-
-    fn fmt<W: fmt::Write>(&self, f: &mut fmt::Formatter<W>) -> fmt::Result {
-        let mut rest = self.0;
-        while let Some((run, octet, others)) = first_escaped(rest) {
-            f.write_str(run)?;
-            write_octet(f, octet)?;
-            rest = others;
-        }
-        f.write_str(plain_text(rest))
+/// Writes the octets of a label.
+pub(crate) fn write_octets<W: fmt::Write>(f: &mut fmt::Formatter<W>, label: &[u8]) -> fmt::Result
+    ensures { WritesOnOk W.write_str_gives f.old result (label_octets label.now) f.new }
+{
+    let mut rest = label;
+    loop {
+        let (run, others) = rest.split_at(plain_len(rest));
+        f.write_str(plain_text(run))?;
+        let Some((octet, others)) = others.split_first() else {
+            return Ok(());
+        };
+        write_octet(f, *octet)?;
+        rest = others;
     }
 }
 
-/// A label with a dot after it, as it is printed.
-#[derive(Clone, Copy)]
-struct LabelText<'a>(&'a [u8]);
-
-impl fmt::Display for LabelText<'_> {
-    ghost output = { λ l. Some (label_text l.0.now) };
-
-    fn fmt<W: fmt::Write>(&self, f: &mut fmt::Formatter<W>) -> fmt::Result {
-        write!(f, "{}.", LabelOctets(self.0))
-    }
+/// Writes a label with a dot after it.
+fn write_label<W: fmt::Write>(f: &mut fmt::Formatter<W>, label: &[u8]) -> fmt::Result
+    ensures { WritesOnOk W.write_str_gives f.old result (label_text label.now) f.new }
+{
+    write_octets(f, label)?;
+    f.write_str(".")
 }
 
 /// The most octets of the text of a name without escapes.
 const PLAIN_MAX: usize = 255;
 
 /// Puts a label and a dot behind a text, where each octet is printed as it stands and there is room.
-#[tactic(auto, using(crate::proofs::TextLemmas::plain_label))]
 fn push_plain(text: &mut ArrayString<PLAIN_MAX>, label: &[u8]) -> Option<()>
     ensures { IfSome result (λ _. text.new.bytes ≡ text.old.bytes ++ label_text label.now) }
 {
-    let None = first_escaped(label) else {
+    if plain_len(label) < label.len() {
         return None;
-    };
+    }
     let Ok(()) = text.try_push_str(plain_text(label)) else {
         return None;
     };
@@ -126,7 +116,8 @@ fn push_plain(text: &mut ArrayString<PLAIN_MAX>, label: &[u8]) -> Option<()>
 
 /// The text of labels, where each octet is printed as it stands and there is room for it, which there is for those of a name.
 fn plain_labels(labels: Labels<'_>) -> Option<ArrayString<PLAIN_MAX>>
-    ensures { IfSome result (λ text. text.bytes ≡ flat_map label_text labels.entry) }
+    ensures some { IfSome result (λ text. text.bytes ≡ flat_map label_text labels.entry) }
+    ensures none { IfNone result (labels.entry ≢ []) }
 {
     let mut labels = labels;
     let mut text = ArrayString::new();
@@ -136,18 +127,14 @@ fn plain_labels(labels: Labels<'_>) -> Option<ArrayString<PLAIN_MAX>>
     Some(text)
 }
 
-/// Writes a name label by label.
-fn write_labels<W: fmt::Write>(f: &mut fmt::Formatter<W>, name: &Name) -> fmt::Result
-    ensures { WritesOnOk W.write_str_gives f.old result (name_text name.now) f.new }
+/// Writes labels with a dot after each.
+fn write_labels<W: fmt::Write>(f: &mut fmt::Formatter<W>, labels: Labels<'_>) -> fmt::Result
+    ensures { WritesOnOk W.write_str_gives f.old result (flat_map label_text labels.entry) f.new }
 {
-    for label in name.labels() {
-        write!(f, "{}", LabelText(label))?;
+    for label in labels {
+        write_label(f, label)?;
     }
-    if name.labels().next().is_none() {
-        write!(f, ".")
-    } else {
-        Ok(())
-    }
+    Ok(())
 }
 
 impl fmt::Display for Name {
@@ -157,7 +144,9 @@ impl fmt::Display for Name {
         match plain_labels(self.labels()) {
             // most names of a zone are written at once
             Some(text) if !text.is_empty() => f.write_str(text.as_str()),
-            _ => write_labels(f, self),
+            // the root has no label
+            Some(_) => f.write_str("."),
+            None => write_labels(f, self.labels()),
         }
     }
 }

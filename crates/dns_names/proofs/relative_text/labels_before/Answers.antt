@@ -1,4 +1,4 @@
-use Rattle.std.proofs.Common.{◌≡◌, refl, sym, ap, ◌∙◌, ◌-◌, ◌+◌, length, take, List, ℕ, arith}
+use Rattle.std.proofs.Common.{◌≡◌, sym, ap, ◌∙◌, ◌-◌, ◌+◌, length, take, List, ℕ, arith}
 use Rattle.std.proofs.Math.Seq.{take-length}
 use Rattle.dns_names.proofs.RelativeLemmas.{one_less}
 use Rattle.dns_names.proofs.relative_text.labels_before.Goals as goal

@@ -1,11 +1,10 @@
-use Rattle.std.proofs.Common.{ℕ, List, Some, ◌++◌, ◌∷◌, [], length, sym, ap, ◌∙◌}
+use Rattle.std.proofs.Common.{ℕ, length, ap, sym, ◌∙◌, arith}
 use Rattle.dns_names.proofs.KeyLaws.{end_of_root, end_of_other}
 use Rattle.dns_names.proofs.name.Name.key_range.Goals as goal
 
-pub returns-in_default-clause-end : goal.returns-in_default-clause-end
-returns-in_default-clause-end c = end_of_root c.args.self.now (ap (length {A = ℕ}) (sym c.key-first.ensures.key) ∙ c.in_default.ensures.cases)
+pub returns-then-is_empty-clause-end : goal.returns-then-is_empty-clause-end
+returns-then-is_empty-clause-end c = end_of_root c.args.self.now (ap (length {A = ℕ}) (sym c.key-first.ensures.key) ∙ grind (arith, c.is_empty.ensures, c.if-is_empty.true))
 
 pub returns-clause-end : goal.returns-clause-end
 returns-clause-end c =
-    ap (λ (l : List ℕ). Some l) (c.in_ok-push.ensures.items ∙ ap (λ (l : List ℕ). l ++ 1 ∷ []) (c.in_ok-extend_from_slice.ensures.items ∙ ap (λ (l : List ℕ). l ++ c.in-Some.front.now) c.in_ok-end.ensures.items))
-    ∙ end_of_other c.args.self.now c.in-Some.front.now c.in-Some.field-0-0.now (sym c.key-first.ensures.key ∙ c.in-Some.ensures.cases.0)
+    end_of_other c.args.self.now c.key-first.result.now c.in_ok-end.end.items c.key-first.ensures.key (grind (arith, c.is_empty.ensures, c.if-is_empty.false)) c.in_ok-end.ensures.items

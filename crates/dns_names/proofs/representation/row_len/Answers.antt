@@ -1,0 +1,12 @@
+use Rattle.std.proofs.Common.{sym, arith}
+use Rattle.dns_names.proofs.RowLemmas.{counts_fit, total_joined}
+use Rattle.dns_names.proofs.representation.row_len.Goals as goal
+
+pub overflow_add-result-2 : goal.overflow_add-result-2
+overflow_add-result-2 c = omega (arith, (counts_fit _ c.requires).1, total_joined _ _ _ _ _ c.args.front.now c.args.tail.now c.front.invariant c.front.view_is c.tail.invariant c.tail.view_is)
+
+pub overflow_cast-result : goal.overflow_cast-result
+overflow_cast-result c = omega (arith, (counts_fit _ c.requires).1, total_joined _ _ _ _ _ c.args.front.now c.args.tail.now c.front.invariant c.front.view_is c.tail.invariant c.tail.view_is)
+
+pub returns : goal.returns
+returns c = sym (total_joined _ _ _ _ _ c.args.front.now c.args.tail.now c.front.invariant c.front.view_is c.tail.invariant c.tail.view_is)
