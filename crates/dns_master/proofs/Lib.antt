@@ -12,6 +12,7 @@ pub mod GreatestLaws
 pub mod CarriedLaws
 pub mod ReadLemmas
 pub mod FileLemmas
+pub mod TakenLemmas
 pub mod GrammarLaws
 pub mod FoundLaws
 pub mod ByteLaws

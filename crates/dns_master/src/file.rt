@@ -27,7 +27,7 @@ use std::alloc::{AllocError, Global};
 const FILE_MAX: usize = 4_194_304;
 
 /// Why a text has no records, while it is read. The numbers say how many octets are left from the place on.
-#[derive(Clone, Copy, PartialEq, Eq)]
+#[derive(Clone, Copy)]
 enum FileFault {
     /// Its parentheses or quotes are wrong.
     Shape(ShapeFault),
@@ -100,7 +100,7 @@ struct FileRead {
 }
 
 impl FileRead {
-    ghost use Rattle.dns_master.specs.FileViews.{force_of, last_owner, TakesStatement, TakesEntry};
+    ghost use Rattle.dns_master.specs.FileViews.{force_of, last_owner, lead_or, completed, TakesStatement, TakesEntry};
     ghost use Rattle.dns_master.specs.Files.{taken};
 
     /// Before the first entry, where this origin is handed in.
@@ -139,29 +139,49 @@ impl FileRead {
         }
     }
 
-    /// The TTL of a record that states none.
-    fn ttl_in_force(&self) -> Option<Ttl>
-        ensures { result ≡ or_else self.now.default_ttl (or_else self.now.stated_ttl (fitting_ttl self.now.minimum)) }
+    /// The TTL of a record that states this one, or none.
+    fn ttl_or(&self, own: Option<Ttl>) -> Option<Ttl>
+        ensures { result ≡ or_else own (or_else self.now.default_ttl (or_else self.now.stated_ttl (fitting_ttl self.now.minimum))) }
     {
-        self.default_ttl
+        own.or(self.default_ttl)
             .or(self.stated_ttl)
             .or(fitting_ttl(self.minimum))
+    }
+
+    /// The owner and the TTL of a record that states these, or none.
+    fn lead_or(
+        &self,
+        alloc: Global,
+        owner: Option<Name>,
+        ttl: Option<Ttl>,
+    ) -> Result<(Name, Ttl), EntryFault>
+        ensures { Tells (λ lead. lead) result (lead_or self.now owner ttl) }
+    {
+        let owner = self.owner_or(alloc, owner)?;
+        match self.ttl_or(ttl) {
+            Some(ttl) => Ok((owner, ttl)),
+            None => Err(EntryFault::NoTtl),
+        }
+    }
+
+    /// The record that is stated so, with the owner and the TTL in force where it leaves them out.
+    fn completed(&self, alloc: Global, stated: StatedRecord) -> Result<Record, EntryFault>
+        ensures { Tells (λ r. r) result (completed self.now stated) }
+    {
+        let StatedRecord { owner, ttl, rdata } = stated;
+        self.lead_or(alloc, owner, ttl)
+            .map(|(owner, ttl)| Record { owner, ttl, rdata })
     }
 
     /// Takes a record.
     fn take_record(&mut self, alloc: Global, stated: StatedRecord) -> Result<(), EntryFault>
         ensures { TakesStatement self.old self.new (Statement.Record stated) result }
     {
-        let StatedRecord { owner, ttl, rdata } = stated;
-        let owner = self.owner_or(alloc, owner)?;
-        self.minimum = minimum_in(&rdata).or(self.minimum);
-        let Some(ttl) = ttl else {
-            let ttl = self.ttl_in_force().ok_or(EntryFault::NoTtl)?;
-            self.records.push(Record { owner, ttl, rdata })?;
-            return Ok(());
-        };
-        self.stated_ttl = Some(ttl);
-        self.records.push(Record { owner, ttl, rdata })?;
+        let own = stated.ttl;
+        self.minimum = minimum_in(&stated.rdata).or(self.minimum);
+        let record = self.completed(alloc, stated)?;
+        self.stated_ttl = own.or(self.stated_ttl);
+        self.records.push(record)?;
         Ok(())
     }
 
