@@ -1,5 +1,6 @@
 pub mod TypeLemmas
 pub mod FieldLemmas
+pub mod RecordLemmas
 pub mod ScanLemmas
 pub mod SpecialLemmas
 pub mod EntryLemmas

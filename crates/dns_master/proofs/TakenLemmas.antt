@@ -51,7 +51,6 @@ record_taken old new stated r origin default ttl minimum items is =
     let least = minimum ∙ or_is (minimum_in stated.rdata) old.minimum in
     let last = ap last_owner items ∙ last_is old.records.items r in
     let it = made (or_else stated.owner (last_owner old.records.items)) (or_else stated.ttl (or_else old.default_ttl (or_else old.stated_ttl (fitting_ttl (or_else (minimum_in stated.rdata) old.minimum))))) stated.rdata r
-      (ap (λ (m : Option ℕ). completed (record old { minimum = m }) stated) (sym least) ∙ is) in
+    (ap (λ (m : Option ℕ). completed (record old { minimum = m }) stated) (sym least) ∙ is) in
     let owner = last ∙ sym it.1 in
     (r ∷ [], it.0, record { in_force = cc; records = items })
-
