@@ -12,6 +12,8 @@ use Rattle.dns_master.specs.declared.file.FileRead.{FileRead}
 use Rattle.dns_master.specs.declared.statement.StatedRecord.{StatedRecord}
 use Rattle.dns_master.specs.declared.statement.Statement.{Statement}
 use Rattle.dns_master.specs.EntryFaults.{◌>>=◌, RefusesEntry}
+use Rattle.dns_master.specs.Entries.{Entry as EntryOf, entries}
+use Rattle.dns_master.specs.Reader.{RefusesAt}
 use Rattle.dns_master.specs.InForce.{InForce, or_else, fitting_ttl, behind_entry}
 use Rattle.dns_master.specs.Files.{Taken, or_refused, records_of}
 
@@ -59,3 +61,8 @@ RefusesFile fault read = read ≡ Err fault
 abbrev pub GivesFile : {X Y : Type 0} → (X → Y) → Result X FileFault → Result Y FileFault → Type 0
 GivesFile view (Ok x) read = read ≡ Ok (view x)
 GivesFile view (Err e) read = RefusesFile e read
+
+-- the fault of an entry that is refused, unless parentheses or quotes are wrong in the text behind it
+abbrev pub IsFaultBefore : ℕ → EntryFault → List ℕ → FileFault → Type 0
+IsFaultBefore left fault rest (Shape shape) = RefusesAt shape (entries rest)
+IsFaultBefore left fault rest (Entry here refused) = (here ≡ left) × (refused ≡ fault) × ((es : List EntryOf) × (entries rest ≡ Ok es))

@@ -7,19 +7,19 @@ ghost use Rattle.dns_data.specs.declared.record.Record.{Record as RecordOf};
 ghost use Rattle.dns_data.specs.Items.{item_of};
 ghost use Rattle.dns_master.specs.declared.entry_fault.EntryFault.TheVariants.{NoOwner};
 ghost use Rattle.dns_master.specs.EntryFaults.{Tells};
-ghost use Rattle.dns_master.specs.Entries.{white_first};
+ghost use Rattle.dns_master.specs.Entries.{white_first, entries};
 ghost use Rattle.dns_master.specs.Faults.{Gives};
 ghost use Rattle.dns_master.specs.InForce.{minimum_in, fitting_ttl, or_else, handed_in};
-ghost use Rattle.dns_master.specs.Files.{or_refused, file_fault_on_line, placed_file, file_of};
+ghost use Rattle.dns_master.specs.Files.{or_refused, with_records, file_from, file_fault_on_line, placed_file, file_of};
 ghost use Rattle.dns_master.specs.FileGrammar.{IsFile};
-ghost use Rattle.dns_master.specs.FileViews.{GivesFile};
+ghost use Rattle.dns_master.specs.FileViews.{IsFaultBefore, GivesFile};
 
 use crate::entry::{check_rest, read_entry};
 use crate::entry_fault::EntryFault;
 use crate::master_fault::MasterFault;
 use crate::shape::{ShapeFault, line_before};
 use crate::statement::{EntryItems, StatedRecord, Statement, read_statement};
-use dns_data::{Data, Record, Ttl};
+use dns_data::{Data, Item, Record, Ttl};
 use dns_names::Name;
 use std::alloc::{AllocError, Global};
 
@@ -210,6 +210,30 @@ impl FileRead {
         self.take(alloc, statement)
     }
 
+    /// Takes the entries of a text up to the first refusal, with the octets that are left there.
+    fn take_entries(&mut self, alloc: Global, text: &[u8]) -> Result<(), FileFault>
+        ensures { GivesFile (λ _. self.new.records.items) result (with_records self.old.records.items (file_from (force_of self.old) (entries text.now))) }
+    {
+        let mut items = Vec::new(alloc);
+        let mut lefts = Vec::new(alloc);
+        let mut rest = text;
+        while !rest.is_empty() {
+            let white = begins_white(rest);
+            rest = read_entry(rest, &mut items, &mut lefts)?;
+            let Some(left) = lefts.first().copied() else {
+                continue;
+            };
+            let entry = EntryItems {
+                white,
+                items: &items,
+            };
+            if let Err(fault) = self.take_entry(alloc, entry) {
+                return Err(fault_before(rest, &mut items, &mut lefts, left, fault));
+            }
+        }
+        Ok(())
+    }
+
     /// The records.
     fn into_records(self) -> Vec<Record>
         ensures { result.items ≡ self.records.items }
@@ -228,29 +252,28 @@ fn begins_white(text: &[u8]) -> bool
     }
 }
 
+/// The fault of an entry that is refused, unless parentheses or quotes are wrong in the text behind it.
+fn fault_before<'a>(
+    rest: &'a [u8],
+    items: &mut Vec<Item<'a>>,
+    lefts: &mut Vec<usize>,
+    left: usize,
+    fault: EntryFault,
+) -> FileFault
+    ensures { IsFaultBefore left fault rest.now result }
+{
+    match check_rest(rest, items, lefts) {
+        Ok(()) => FileFault::Entry(left, fault),
+        Err(shape) => FileFault::Shape(shape),
+    }
+}
+
 /// The records of a text, or its first refusal, with the octets that are left there.
 fn placed_file(alloc: Global, text: &[u8], origin: &Name) -> Result<Vec<Record>, FileFault>
     ensures { GivesFile (λ v. v.items) result (placed_file text.now origin.now) }
 {
     let mut file = FileRead::new(alloc, origin)?;
-    let mut items = Vec::new(alloc);
-    let mut lefts = Vec::new(alloc);
-    let mut rest = text;
-    while !rest.is_empty() {
-        let white = begins_white(rest);
-        rest = read_entry(rest, &mut items, &mut lefts)?;
-        let Some(left) = lefts.first().copied() else {
-            continue;
-        };
-        let entry = EntryItems {
-            white,
-            items: &items,
-        };
-        if let Err(fault) = file.take_entry(alloc, entry) {
-            check_rest(rest, &mut items, &mut lefts)?;
-            return Err(FileFault::Entry(left, fault));
-        }
-    }
+    file.take_entries(alloc, text)?;
     Ok(file.into_records())
 }
 
