@@ -1,5 +1,5 @@
 -- A record that an entry states, taken behind those before it.
-use Rattle.std.proofs.Common.{◌≡◌, ℕ, ◌-◌, ◌<◌, List, [], ◌∷◌, ◌++◌, length, Option, Some, None, option_map, Result, Ok, refl, sym, ap, ◌∙◌, arith, length-append}
+use Rattle.std.proofs.Common.{◌≡◌, ℕ, ◌-◌, ◌<◌, List, [], ◌∷◌, ◌++◌, length, Option, Some, None, option_map, Result, Ok, Err, refl, sym, ap, subst, ◌∙◌, arith, length-append}
 use Rattle.std.proofs.lemmas.Option.{slice_get-get_or}
 use Rattle.std.proofs.Math.Seq.{get_or-append_seam}
 use Rattle.std.specs.List.{slice_get}
@@ -11,9 +11,10 @@ use Rattle.dns_master.specs.declared.entry_fault.EntryFault.TheVariants.{NoOwner
 use Rattle.dns_master.specs.declared.file.FileRead.{FileRead}
 use Rattle.dns_master.specs.declared.statement.StatedRecord.{StatedRecord}
 use Rattle.dns_master.specs.declared.statement.Statement.TheVariants as statements
-use Rattle.dns_master.specs.EntryFaults.{◌>>=◌}
+use Rattle.dns_master.specs.EntryFaults.{◌>>=◌, RefusesEntry}
 use Rattle.dns_master.specs.InForce.{or_else, fitting_ttl, minimum_in, behind_entry}
 use Rattle.dns_master.specs.Files.{or_refused, records_of}
+use Rattle.dns_master.proofs.RecordLemmas.{refused_on}
 use Rattle.dns_master.specs.FileViews.{force_of, last_owner, completed, TakesStatement, Takes}
 
 or_is : {A : Type 0} (a b : Option A) → option_or a b ≡ or_else a b
@@ -54,3 +55,16 @@ record_taken old new stated r origin default ttl minimum items is =
     (ap (λ (m : Option ℕ). completed (record old { minimum = m }) stated) (sym least) ∙ is) in
     let owner = last ∙ sym it.1 in
     (r ∷ [], it.0, record { in_force = cc; records = items })
+
+-- and what refuses it refuses the entry
+unmade : (owner : Option (List (List ℕ))) (ttl : Option ℕ) (rdata : Data) (e : EntryFault)
+    → RefusesEntry {Y = Record} e (lead owner ttl >>= λ x. Ok (record { owner = x.0; ttl = x.1; rdata = rdata })) → RefusesEntry {Y = List Record} e (or_refused NoOwner owner >>= λ o. or_refused NoTtl ttl >>= λ t. Ok ((record { owner = o; ttl = t; rdata = rdata }) ∷ []))
+unmade None ttl rdata e h = refused_on e (Err NoOwner) (λ (r : Record). Ok (r ∷ [])) h
+unmade (Some o) None rdata e h = refused_on e (Err NoTtl) (λ (r : Record). Ok (r ∷ [])) h
+unmade (Some o) (Some t) rdata e h = refused_on e (Ok (record { owner = o; ttl = t; rdata = rdata })) (λ (r : Record). Ok (r ∷ [])) h
+
+pub record_refused : (old : FileRead) (minimum : Option ℕ) (stated : StatedRecord) (e : EntryFault)
+    → minimum ≡ option_or (minimum_in stated.rdata) old.minimum → RefusesEntry e (completed (record old { minimum = minimum }) stated) → RefusesEntry e (records_of (statements.Record stated) (force_of old))
+record_refused old minimum stated e is h =
+    unmade (or_else stated.owner (last_owner old.records.items)) (or_else stated.ttl (or_else old.default_ttl (or_else old.stated_ttl (fitting_ttl (or_else (minimum_in stated.rdata) old.minimum))))) stated.rdata e
+    (subst (λ (m : Option ℕ). RefusesEntry e (completed (record old { minimum = m }) stated)) (is ∙ or_is (minimum_in stated.rdata) old.minimum) h)
