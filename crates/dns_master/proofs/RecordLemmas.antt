@@ -14,8 +14,8 @@ use Rattle.dns_master.specs.declared.field.Lead.{Lead}
 use Rattle.dns_master.specs.declared.statement.Statement.{Statement}
 use Rattle.dns_master.specs.declared.statement.Statement.TheVariants as statements
 use Rattle.dns_master.specs.EntryFaults.{◌>>=◌, of_data, of_datas, RefusesEntry}
-use Rattle.dns_master.specs.Fields.{LeadText, name_at, lead_of, lead_before}
-use Rattle.dns_master.specs.Statements.{no_more, origin_of, behind_of, owner_of, behind_owner, record_of}
+use Rattle.dns_master.specs.Fields.{LeadText, unquoted, name_at, ttl_of, lead_of, lead_before}
+use Rattle.dns_master.specs.Statements.{no_more, origin_of, ttl_at, default_ttl_of, behind_of, owner_of, behind_owner, record_of}
 
 -- what refuses a step refuses what goes on with it
 pub refused_on : {A B : Type 0} (e : EntryFault) (r : Result A EntryFault) (f : A → Result B EntryFault) → RefusesEntry e r → RefusesEntry e (r >>= f)
@@ -111,3 +111,12 @@ module _ {A : Type 0} (at : ItemText → Result A EntryFault) (say : A → State
 pub origin_is : (origin : List (List ℕ)) (items : List ItemText) → directive (name_at origin) statements.Origin items ≡ origin_of origin items
 origin_is origin [] = refl
 origin_is origin (item ∷ items) = refl
+
+default_then : (raw : Result (List ℕ) EntryFault) (items : List ItemText)
+    → ((raw >>= ttl_of) >>= λ x. no_more items >>= λ done. let s : Result Statement EntryFault = Ok (statements.DefaultTtl x) in s) ≡ (raw >>= λ octets. ttl_of octets >>= λ ttl. no_more items >>= λ done. let s : Result Statement EntryFault = Ok (statements.DefaultTtl ttl) in s)
+default_then (Ok octets) items = refl
+default_then (Err e) items = refl
+
+pub default_is : (items : List ItemText) → directive ttl_at statements.DefaultTtl items ≡ default_ttl_of items
+default_is [] = refl
+default_is (item ∷ items) = default_then (unquoted item) items
