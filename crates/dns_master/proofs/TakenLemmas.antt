@@ -12,10 +12,10 @@ use Rattle.dns_master.specs.declared.file.FileRead.{FileRead}
 use Rattle.dns_master.specs.declared.statement.StatedRecord.{StatedRecord}
 use Rattle.dns_master.specs.declared.statement.Statement.TheVariants as statements
 use Rattle.dns_master.specs.EntryFaults.{◌>>=◌, RefusesEntry}
-use Rattle.dns_master.specs.InForce.{or_else, fitting_ttl, minimum_in, behind_entry}
+use Rattle.dns_master.specs.InForce.{or_else, fitting_ttl, minimum_in}
 use Rattle.dns_master.specs.Files.{or_refused, records_of}
 use Rattle.dns_master.proofs.RecordLemmas.{refused_on}
-use Rattle.dns_master.specs.FileViews.{force_of, last_owner, completed, TakesStatement, Takes}
+use Rattle.dns_master.specs.FileViews.{force_of, last_owner, completed, TakesStatement}
 
 or_is : {A : Type 0} (a b : Option A) → option_or a b ≡ or_else a b
 or_is None b = refl

@@ -215,20 +215,20 @@ impl FileRead {
         ensures { GivesFile (λ _. self.new.records.items) result (with_records self.old.records.items (file_from (force_of self.old) (entries text.now))) }
     {
         let mut items = Vec::new(alloc);
-        let mut lefts = Vec::new(alloc);
         let mut rest = text;
         while !rest.is_empty() {
             let white = begins_white(rest);
-            rest = read_entry(rest, &mut items, &mut lefts)?;
-            let Some(left) = lefts.first().copied() else {
+            let end = read_entry(rest, &mut items)?;
+            rest = end.rest;
+            if items.is_empty() {
                 continue;
-            };
+            }
             let entry = EntryItems {
                 white,
                 items: &items,
             };
             if let Err(fault) = self.take_entry(alloc, entry) {
-                return Err(fault_before(rest, &mut items, &mut lefts, left, fault));
+                return Err(fault_before(rest, &mut items, end.left, fault));
             }
         }
         Ok(())
@@ -256,13 +256,12 @@ fn begins_white(text: &[u8]) -> bool
 fn fault_before<'a>(
     rest: &'a [u8],
     items: &mut Vec<Item<'a>>,
-    lefts: &mut Vec<usize>,
     left: usize,
     fault: EntryFault,
 ) -> FileFault
     ensures { IsFaultBefore left fault rest.now result }
 {
-    match check_rest(rest, items, lefts) {
+    match check_rest(rest, items) {
         Ok(()) => FileFault::Entry(left, fault),
         Err(shape) => FileFault::Shape(shape),
     }

@@ -1,8 +1,7 @@
-use Rattle.std.proofs.Common.{◌∙◌, map, sym, subst}
+use Rattle.std.proofs.Common.{◌∙◌, map, sym}
 use Rattle.std.proofs.lemmas.Result.{err_from_is_err_and}
 use Rattle.dns_data.specs.Items.{item_of}
 use Rattle.dns_master.specs.declared.statement.Statement.TheVariants.{Origin}
-use Rattle.dns_master.specs.EntryFaults.{RefusesEntry}
 use Rattle.dns_master.specs.Fields.{name_at}
 use Rattle.dns_master.proofs.RecordLemmas.{item_refused, more_refused, directive_read, origin_is}
 use Rattle.dns_master.proofs.statement.read_origin.Goals as goal
