@@ -1,5 +1,6 @@
 pub mod TypeLemmas
 pub mod FieldLemmas
+pub mod RecordLemmas
 pub mod ScanLemmas
 pub mod SpecialLemmas
 pub mod EntryLemmas
@@ -12,6 +13,7 @@ pub mod GreatestLaws
 pub mod CarriedLaws
 pub mod ReadLemmas
 pub mod FileLemmas
+pub mod TakenLemmas
 pub mod GrammarLaws
 pub mod FoundLaws
 pub mod ByteLaws

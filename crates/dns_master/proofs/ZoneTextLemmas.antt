@@ -1,10 +1,12 @@
 -- The lines of records behind another text, line by line.
-use Rattle.std.proofs.Common.{◌≡◌, ℕ, suc, ◌+◌, ◌<◌, ◌≤◌, List, [], ◌∷◌, ◌++◌, length, take, drop, get_or, sym, ap, ◌∙◌, arith, append_assoc, append-nil, take-append-drop}
+use Rattle.std.proofs.Common.{◌≡◌, ℕ, suc, ◌+◌, ◌<◌, ◌≤◌, List, [], ◌∷◌, ◌++◌, length, take, drop, get_or, Some, None, sym, ap, ◌∙◌, arith, append_assoc, append-nil, take-append-drop}
 use Rattle.std.proofs.lemmas.List.{take_all}
 use Rattle.std.proofs.lemmas.Grind.{flat_map-append}
 use Rattle.std.proofs.Math.Seq.{take-suc}
-use Rattle.std.specs.List.{flat_map}
+use Rattle.std.specs.List.{flat_map, slice_get}
 use Rattle.dns_data.specs.declared.record.Record.{Record}
+use Rattle.dns_master.specs.declared.zone_text.RelativeForm.{RelativeForm}
+use Rattle.dns_master.specs.ZoneText.{origin_line, zone_text, ttl_line, relative_line, relative_zone_text, line_in}
 
 module _ (line : Record → List ℕ) where
   -- the text up to a record
@@ -31,3 +33,20 @@ module _ (line : Record → List ℕ) where
   -- behind the last record nothing does
   pub text_all : (front : List ℕ) (xs : List Record) (i : ℕ) → length xs ≤ i → text_before front xs i ≡ front ++ flat_map line xs
   text_all front xs i h = ap (λ (ys : List Record). front ++ flat_map line ys) (take_all i xs h)
+
+-- ---- relative to the origin
+
+-- without records it is the text of a zone
+pub relative_none : (origin : List (List ℕ)) (records : List Record) → None ≡ slice_get records 0 → zone_text origin records ≡ relative_zone_text origin records
+relative_none origin [] e = append-nil (origin_line origin)
+relative_none origin (r ∷ records) e = absurd cc
+
+-- else the two lines, and the lines of the records behind them
+pub relative_some : (form : RelativeForm) (records : List Record) (first : Record) (head : List ℕ) → Some first ≡ slice_get records 0 → form.ttl ≡ first.ttl → head ≡ origin_line form.origin.now ++ ttl_line form.ttl
+    → head ++ flat_map (line_in (Some form)) records ≡ relative_zone_text form.origin.now records
+relative_some form [] first head e ttl is = absurd cc
+relative_some form (r ∷ records) first head e ttl is =
+    let same : form.ttl ≡ r.ttl = cc in
+    ap (λ (t : List ℕ). t ++ flat_map (line_in (Some form)) (r ∷ records)) is
+    ∙ append_assoc (origin_line form.origin.now) (ttl_line form.ttl) (flat_map (relative_line form.origin.now form.ttl) (r ∷ records))
+    ∙ ap (λ (n : ℕ). origin_line form.origin.now ++ (ttl_line n ++ flat_map (relative_line form.origin.now n) (r ∷ records))) same

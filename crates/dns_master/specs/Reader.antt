@@ -1,10 +1,10 @@
 -- What the calls of the reader of items and entries answer.
-use Rattle.std.specs.Prelude.{◌≡◌, ℕ, suc, ◌+◌, ◌-◌, ◌<◌, ◌≤◌, ◌^◌, List, length, map, if◌then◌else◌, Option, Some, None, Result, Ok, Err, IfSome}
-use Rattle.std.specs.Borrow.{Bor}
+use Rattle.std.specs.Prelude.{◌≡◌, ℕ, suc, ◌+◌, ◌-◌, ◌<◌, ◌≤◌, ◌^◌, List, ◌∷◌, length, map, if◌then◌else◌, Option, Some, None, Result, Ok, Err, IfSome}
 use Rattle.dns_data.specs.declared.item.Item.{Item}
 use Rattle.dns_data.specs.Items.{ItemText, item_of}
 use Rattle.dns_master.specs.declared.shape.ShapeFault.{ShapeFault}
 use Rattle.dns_master.specs.declared.shape.ShapeFault.TheVariants.{NoMemory}
+use Rattle.dns_master.specs.declared.entry.EntryEnd.{EntryEnd}
 use Rattle.dns_master.specs.declared.reader.Position.{Position}
 use Rattle.dns_master.specs.Entries.{◌>>=◌, Found, Entry, Split, with_entry, add, end_of, from, white_first, entries}
 
@@ -34,9 +34,9 @@ NextPart place None after = (after.depth ≡ 0) × (from_place place ≡ (from 0
 NextPart place (Some item) after = from_place place ≡ (from_place after >>= λ s. Ok (add (found item after) s))
 
 -- the first item that is left of an entry, or its end, and the place behind it
-abbrev pub NextItem : Position → Result (Option Item × Position) ShapeFault → Type 0
-NextItem place (Ok x) = NextPart place x.0 x.1
-NextItem place (Err e) = RefusesAt e (from_place place)
+abbrev pub NextItem : Position → Position → Result (Option Item) ShapeFault → Type 0
+NextItem place after (Ok item) = NextPart place item after
+NextItem place after (Err e) = RefusesAt e (from_place place)
 
 -- the text gets shorter, unless it is empty, and no deeper than it is long
 abbrev pub Shorter : Position → Option Item → Position → Type 0
@@ -51,9 +51,9 @@ pub record Shrunk (place : Position) (item : Option Item) (after : Position) : T
   pub within : IfSome item (λ i. length i.raw.now + length after.rest.now < 2 ^ 64 - 1)
 
 -- the same of an answer
-abbrev pub Shrinks : Position → Result (Option Item × Position) ShapeFault → Type 0
-Shrinks place (Ok x) = Shrunk place x.0 x.1
-Shrinks place (Err e) = Unit {0}
+abbrev pub Shrinks : Position → Position → Result (Option Item) ShapeFault → Type 0
+Shrinks place after (Ok item) = Shrunk place item after
+Shrinks place after (Err e) = Unit {0}
 
 -- ---- entries
 
@@ -61,25 +61,21 @@ Shrinks place (Err e) = Unit {0}
 abbrev pub text_of : Found → ItemText
 text_of f = f.item
 
--- how many octets are left at the item
-abbrev pub left_of : Found → ℕ
-left_of f = f.left
-
--- these are the items of the first entry, and this is the text behind it
-pub record EntryRead (text : List ℕ) (items : List Item) (lefts : List ℕ) (rest : List ℕ) : Type 0 where
+-- these are the items of the first entry, so many octets are left from the first of them on, and this is the text behind it
+pub record EntryRead (text : List ℕ) (items : List Item) (left : ℕ) (rest : List ℕ) : Type 0 where
   pub founds : List Found
   pub texts : map text_of founds ≡ map item_of items
-  pub places : map left_of founds ≡ lefts
+  pub place : (f : Found) (fs : List Found) → founds ≡ f ∷ fs → f.left ≡ left
   pub exact : entries text ≡ (entries rest >>= λ es. Ok (with_entry (white_first text) founds es))
 
 -- the first entry of a text, or its first fault
-abbrev pub ReadsEntry : List ℕ → List Item → List ℕ → Result (Bor (List ℕ)) ShapeFault → Type 0
-ReadsEntry text items lefts (Ok rest) = EntryRead text items lefts rest.now
-ReadsEntry text items lefts (Err e) = RefusesAt e (entries text)
+abbrev pub ReadsEntry : List ℕ → List Item → Result EntryEnd ShapeFault → Type 0
+ReadsEntry text items (Ok end) = EntryRead text items end.left end.rest.now
+ReadsEntry text items (Err e) = RefusesAt e (entries text)
 
 -- the text behind an entry is shorter, unless there was none
-abbrev pub ShorterRest : List ℕ → Result (Bor (List ℕ)) ShapeFault → Type 0
-ShorterRest text (Ok rest) = 0 < length text → length rest.now < length text
+abbrev pub ShorterRest : List ℕ → Result EntryEnd ShapeFault → Type 0
+ShorterRest text (Ok end) = 0 < length text → length end.rest.now < length text
 ShorterRest text (Err e) = Unit {0}
 
 -- a text that falls into entries, or its first fault

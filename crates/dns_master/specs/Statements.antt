@@ -1,6 +1,7 @@
 -- What an entry states (RFC 1035 section 5.1, RFC 2308 section 4): what its items say, with the refusal that comes first.
 use Rattle.std.specs.Prelude.{ℕ, List, [], ◌∷◌, codes, Bool, true, false, not, if◌then◌else◌, Option, Some, None, Result, Ok, Err, ◌==◌, ◌&&◌}
 use Rattle.std.specs.Str.{str_eq_ignore_ascii_case}
+use Rattle.dns_data.specs.declared.rdata.Data.{Data as DataOf}
 use Rattle.dns_data.specs.declared.data_fault.DataFault.TheVariants.{FieldExtra}
 use Rattle.dns_data.specs.Items.{ItemText}
 use Rattle.dns_data.specs.Reading.{data_of}
@@ -30,6 +31,10 @@ abbrev pub origin_of : List (List ℕ) → List ItemText → Result Statement En
 origin_of origin [] = Err EntryShort
 origin_of origin (item ∷ items) = name_at origin item >>= λ name. no_more items >>= λ _. Ok (Origin name)
 
+-- the TTL that an item says
+abbrev pub ttl_at : ItemText → Result ℕ EntryFault
+ttl_at item = unquoted item >>= ttl_of
+
 -- `$TTL` and a TTL (RFC 2308 section 4)
 abbrev pub default_ttl_of : List ItemText → Result Statement EntryFault
 default_ttl_of [] = Err EntryShort
@@ -52,6 +57,13 @@ abbrev pub behind_owner : Bool → List ItemText → List ItemText
 behind_owner true items = items
 behind_owner false [] = []
 behind_owner false (item ∷ items) = items
+
+-- TTL, class, type and data, of which the TTL and the data are told (RFC 1035 section 5.1)
+abbrev pub behind_of : List (List ℕ) → List ItemText → Result (Option ℕ × DataOf) EntryFault
+behind_of origin items = do
+  lead ← lead_of (record { ttl = None; has_class = false }) items
+  rdata ← of_datas (data_of lead.1 (Some origin) lead.2)
+  Ok (lead.0, rdata)
 
 -- owner, TTL, class, type and data (RFC 1035 section 5.1)
 abbrev pub record_of : List (List ℕ) → Option (List (List ℕ)) → Bool → List ItemText → Result Statement EntryFault

@@ -10,7 +10,7 @@ use dns_names::NameFault;
 use std::alloc::{AllocError, AllocFailed};
 
 /// What is wrong with an entry. Its line is told later.
-#[derive(Clone, Copy, PartialEq, Eq)]
+#[derive(Clone, Copy)]
 pub(crate) enum EntryFault {
     /// The entry begins with white space, and no owner was stated before it.
     NoOwner,

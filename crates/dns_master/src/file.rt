@@ -7,19 +7,19 @@ ghost use Rattle.dns_data.specs.declared.record.Record.{Record as RecordOf};
 ghost use Rattle.dns_data.specs.Items.{item_of};
 ghost use Rattle.dns_master.specs.declared.entry_fault.EntryFault.TheVariants.{NoOwner};
 ghost use Rattle.dns_master.specs.EntryFaults.{Tells};
-ghost use Rattle.dns_master.specs.Entries.{white_first};
+ghost use Rattle.dns_master.specs.Entries.{white_first, entries};
 ghost use Rattle.dns_master.specs.Faults.{Gives};
 ghost use Rattle.dns_master.specs.InForce.{minimum_in, fitting_ttl, or_else, handed_in};
-ghost use Rattle.dns_master.specs.Files.{or_refused, file_fault_on_line, placed_file, file_of};
+ghost use Rattle.dns_master.specs.Files.{or_refused, with_records, file_from, file_fault_on_line, placed_file, file_of};
 ghost use Rattle.dns_master.specs.FileGrammar.{IsFile};
-ghost use Rattle.dns_master.specs.FileViews.{GivesFile};
+ghost use Rattle.dns_master.specs.FileViews.{IsFaultBefore, GivesFile};
 
 use crate::entry::{check_rest, read_entry};
 use crate::entry_fault::EntryFault;
 use crate::master_fault::MasterFault;
 use crate::shape::{ShapeFault, line_before};
 use crate::statement::{EntryItems, StatedRecord, Statement, read_statement};
-use dns_data::{Data, Record, Ttl};
+use dns_data::{Data, Item, Record, Ttl};
 use dns_names::Name;
 use std::alloc::{AllocError, Global};
 
@@ -27,7 +27,7 @@ use std::alloc::{AllocError, Global};
 const FILE_MAX: usize = 4_194_304;
 
 /// Why a text has no records, while it is read. The numbers say how many octets are left from the place on.
-#[derive(Clone, Copy, PartialEq, Eq)]
+#[derive(Clone, Copy)]
 enum FileFault {
     /// Its parentheses or quotes are wrong.
     Shape(ShapeFault),
@@ -100,7 +100,7 @@ struct FileRead {
 }
 
 impl FileRead {
-    ghost use Rattle.dns_master.specs.FileViews.{force_of, last_owner, TakesStatement, TakesEntry};
+    ghost use Rattle.dns_master.specs.FileViews.{force_of, last_owner, lead_or, completed, TakesStatement, TakesEntry};
     ghost use Rattle.dns_master.specs.Files.{taken};
 
     /// Before the first entry, where this origin is handed in.
@@ -139,29 +139,49 @@ impl FileRead {
         }
     }
 
-    /// The TTL of a record that states none.
-    fn ttl_in_force(&self) -> Option<Ttl>
-        ensures { result ≡ or_else self.now.default_ttl (or_else self.now.stated_ttl (fitting_ttl self.now.minimum)) }
+    /// The TTL of a record that states this one, or none.
+    fn ttl_or(&self, own: Option<Ttl>) -> Option<Ttl>
+        ensures { result ≡ or_else own (or_else self.now.default_ttl (or_else self.now.stated_ttl (fitting_ttl self.now.minimum))) }
     {
-        self.default_ttl
+        own.or(self.default_ttl)
             .or(self.stated_ttl)
             .or(fitting_ttl(self.minimum))
+    }
+
+    /// The owner and the TTL of a record that states these, or none.
+    fn lead_or(
+        &self,
+        alloc: Global,
+        owner: Option<Name>,
+        ttl: Option<Ttl>,
+    ) -> Result<(Name, Ttl), EntryFault>
+        ensures { Tells (λ lead. lead) result (lead_or self.now owner ttl) }
+    {
+        let owner = self.owner_or(alloc, owner)?;
+        match self.ttl_or(ttl) {
+            Some(ttl) => Ok((owner, ttl)),
+            None => Err(EntryFault::NoTtl),
+        }
+    }
+
+    /// The record that is stated so, with the owner and the TTL in force where it leaves them out.
+    fn completed(&self, alloc: Global, stated: StatedRecord) -> Result<Record, EntryFault>
+        ensures { Tells (λ r. r) result (completed self.now stated) }
+    {
+        let StatedRecord { owner, ttl, rdata } = stated;
+        self.lead_or(alloc, owner, ttl)
+            .map(|(owner, ttl)| Record { owner, ttl, rdata })
     }
 
     /// Takes a record.
     fn take_record(&mut self, alloc: Global, stated: StatedRecord) -> Result<(), EntryFault>
         ensures { TakesStatement self.old self.new (Statement.Record stated) result }
     {
-        let StatedRecord { owner, ttl, rdata } = stated;
-        let owner = self.owner_or(alloc, owner)?;
-        self.minimum = minimum_in(&rdata).or(self.minimum);
-        let Some(ttl) = ttl else {
-            let ttl = self.ttl_in_force().ok_or(EntryFault::NoTtl)?;
-            self.records.push(Record { owner, ttl, rdata })?;
-            return Ok(());
-        };
-        self.stated_ttl = Some(ttl);
-        self.records.push(Record { owner, ttl, rdata })?;
+        let own = stated.ttl;
+        self.minimum = minimum_in(&stated.rdata).or(self.minimum);
+        let record = self.completed(alloc, stated)?;
+        self.stated_ttl = own.or(self.stated_ttl);
+        self.records.push(record)?;
         Ok(())
     }
 
@@ -190,6 +210,30 @@ impl FileRead {
         self.take(alloc, statement)
     }
 
+    /// Takes the entries of a text up to the first refusal, with the octets that are left there.
+    fn take_entries(&mut self, alloc: Global, text: &[u8]) -> Result<(), FileFault>
+        ensures { GivesFile (λ _. self.new.records.items) result (with_records self.old.records.items (file_from (force_of self.old) (entries text.now))) }
+    {
+        let mut items = Vec::new(alloc);
+        let mut rest = text;
+        while !rest.is_empty() {
+            let white = begins_white(rest);
+            let end = read_entry(rest, &mut items)?;
+            rest = end.rest;
+            if items.is_empty() {
+                continue;
+            }
+            let entry = EntryItems {
+                white,
+                items: &items,
+            };
+            if let Err(fault) = self.take_entry(alloc, entry) {
+                return Err(fault_before(rest, &mut items, end.left, fault));
+            }
+        }
+        Ok(())
+    }
+
     /// The records.
     fn into_records(self) -> Vec<Record>
         ensures { result.items ≡ self.records.items }
@@ -208,29 +252,27 @@ fn begins_white(text: &[u8]) -> bool
     }
 }
 
+/// The fault of an entry that is refused, unless parentheses or quotes are wrong in the text behind it.
+fn fault_before<'a>(
+    rest: &'a [u8],
+    items: &mut Vec<Item<'a>>,
+    left: usize,
+    fault: EntryFault,
+) -> FileFault
+    ensures { IsFaultBefore left fault rest.now result }
+{
+    match check_rest(rest, items) {
+        Ok(()) => FileFault::Entry(left, fault),
+        Err(shape) => FileFault::Shape(shape),
+    }
+}
+
 /// The records of a text, or its first refusal, with the octets that are left there.
 fn placed_file(alloc: Global, text: &[u8], origin: &Name) -> Result<Vec<Record>, FileFault>
     ensures { GivesFile (λ v. v.items) result (placed_file text.now origin.now) }
 {
     let mut file = FileRead::new(alloc, origin)?;
-    let mut items = Vec::new(alloc);
-    let mut lefts = Vec::new(alloc);
-    let mut rest = text;
-    while !rest.is_empty() {
-        let white = begins_white(rest);
-        rest = read_entry(rest, &mut items, &mut lefts)?;
-        let Some(left) = lefts.first().copied() else {
-            continue;
-        };
-        let entry = EntryItems {
-            white,
-            items: &items,
-        };
-        if let Err(fault) = file.take_entry(alloc, entry) {
-            check_rest(rest, &mut items, &mut lefts)?;
-            return Err(FileFault::Entry(left, fault));
-        }
-    }
+    file.take_entries(alloc, text)?;
     Ok(file.into_records())
 }
 

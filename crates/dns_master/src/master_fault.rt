@@ -5,37 +5,29 @@ ghost use Rattle.dns_master.specs.declared.master_fault.MasterFault.TheVariants.
 
 use dns_data::DataFault;
 use std::alloc::{AllocError, AllocFailed};
-use thiserror::Error;
+use std::error::Error;
+use std::fmt::{self, Debug, Display, Formatter, Write};
 
 /// What is wrong with a master file, or with the device that one is written to. Lines count from 1.
-#[derive(Clone, Copy, Debug, PartialEq, Eq, Error)]
+#[derive(Clone, Copy, PartialEq, Eq)]
 pub enum MasterFault {
     /// The text ends inside parentheses (RFC 1035 section 5.1): the line of the outermost one that is open.
-    #[error("line {0}: a parenthesis is never closed")]
     ParenOpen(usize),
     /// A closing parenthesis without an open one (RFC 1035 section 5.1): its line.
-    #[error("line {0}: a parenthesis is closed that was never opened")]
     ParenClose(usize),
     /// The text ends inside quotes (RFC 1035 section 5.1): the line of the opening quote.
-    #[error("line {0}: a quote is never closed")]
     QuoteOpen(usize),
     /// An entry without an owner, and none was stated before it (RFC 1035 section 5.1).
-    #[error("line {0}: the record has no owner, and none stands before it")]
     NoOwner(usize),
     /// A record without a TTL, and none is in force (RFC 2308 section 4).
-    #[error("line {0}: the record has no TTL, and none is in force")]
     NoTtl(usize),
     /// A class that is not IN (RFC 1035 section 3.2.4).
-    #[error("line {0}: only records of class IN are kept")]
     ClassNotIn(usize),
     /// A directive that is neither `$ORIGIN` nor `$TTL` (RFC 1035 section 5.1, RFC 2308 section 4).
-    #[error("line {0}: only the directives $ORIGIN and $TTL are read")]
     DirectiveNotKept(usize),
     /// A malformed TTL (RFC 2181 section 8).
-    #[error("line {0}: this is no TTL")]
     BadTtl(usize),
     /// The type, a name or the data of a record, or an item behind a directive.
-    #[error("line {line}: {fault}")]
     Data {
         /// The line of the entry's first item.
         line: usize,
@@ -43,16 +35,12 @@ pub enum MasterFault {
         fault: DataFault,
     },
     /// A text of more than 4,194,304 octets.
-    #[error("the master file has more than 4194304 octets")]
     TooLarge,
     /// An entry that ends before its type, or a directive without its item (RFC 1035 section 5.1).
-    #[error("line {0}: the entry ends too soon")]
     EntryShort(usize),
     /// The writer failed.
-    #[error("the master file could not be written")]
     WriteFailed,
     /// Memory ran out. This says nothing of the text.
-    #[error("out of memory")]
     NoMemory,
 }
 
@@ -99,6 +87,39 @@ impl MasterFault {
         }
     }
 }
+
+/// The line, where the fault is at one, and what is wrong there.
+impl Display for MasterFault {
+    fn fmt<W: Write>(&self, f: &mut Formatter<W>) -> fmt::Result {
+        if let Some(line) = self.line() {
+            write!(f, "line {line}: ")?;
+        }
+        f.write_str(match self {
+            MasterFault::ParenOpen(_) => "a parenthesis is never closed",
+            MasterFault::ParenClose(_) => "a parenthesis is closed that was never opened",
+            MasterFault::QuoteOpen(_) => "a quote is never closed",
+            MasterFault::NoOwner(_) => "the record has no owner, and none stands before it",
+            MasterFault::NoTtl(_) => "the record has no TTL, and none is in force",
+            MasterFault::ClassNotIn(_) => "only records of class IN are kept",
+            MasterFault::DirectiveNotKept(_) => "only the directives $ORIGIN and $TTL are read",
+            MasterFault::BadTtl(_) => "this is no TTL",
+            MasterFault::Data { fault, .. } => return write!(f, "{fault}"),
+            MasterFault::TooLarge => "the master file has more than 4194304 octets",
+            MasterFault::EntryShort(_) => "the entry ends too soon",
+            MasterFault::WriteFailed => "the master file could not be written",
+            MasterFault::NoMemory => "out of memory",
+        })
+    }
+}
+
+/// As `Display` tells it.
+impl Debug for MasterFault {
+    fn fmt<W: Write>(&self, f: &mut Formatter<W>) -> fmt::Result {
+        Display::fmt(self, f)
+    }
+}
+
+impl Error for MasterFault {}
 
 impl From<AllocError> for MasterFault {
     ghost from_gives = { λ _ e. e ≡ NoMemory };

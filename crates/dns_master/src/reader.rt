@@ -71,48 +71,54 @@ fn plain_item(text: &[u8]) -> (Item<'_>, &[u8])
     (Item { raw, quoted: false }, rest)
 }
 
-/// The next item of the entry and the place behind it, or `None` where the entry ends, and then the place behind its end.
-pub(crate) fn next_item<'a>(
-    place: Position<'a>,
-) -> Result<(Option<Item<'a>>, Position<'a>), ShapeFault>
-    requires { place.depth + length place.rest.now < 2 ^ 64 }
-    ensures exact { NextItem place.entry result }
-    ensures shrinks { Shrinks place.entry result }
-{
-    let mut rest = place.rest;
-    let mut depth = place.depth;
-    let mut outermost = place.outermost;
-    while let Some((octet, after)) = first_octet(rest) {
-        match octet {
-            b'\n' if depth == 0 => return Ok((None, Position::new(after, depth, outermost))),
-            b'\n' | b' ' | b'\t' | b'\r' => rest = after,
-            b';' => rest = at_line_end(after),
-            b'(' if depth == 0 => {
-                outermost = rest.len();
-                depth = 1;
-                rest = after;
-            }
-            b'(' => {
-                depth += 1;
-                rest = after;
-            }
-            b')' if depth == 0 => return Err(ShapeFault::ParenClose(rest.len())),
-            b')' => {
-                depth -= 1;
-                rest = after;
-            }
-            b'"' => {
-                let (item, behind) = quoted_item(after)?;
-                return Ok((Some(item), Position::new(behind, depth, outermost)));
-            }
-            _ => {
-                let (item, behind) = plain_item(rest);
-                return Ok((Some(item), Position::new(behind, depth, outermost)));
+impl<'a> Position<'a> {
+    /// Goes on behind the next item of the entry, or behind the entry's end, where it answers `None`.
+    pub(crate) fn next_item(&mut self) -> Result<Option<Item<'a>>, ShapeFault>
+        requires { self.old.depth + length self.old.rest.now < 2 ^ 64 }
+        ensures exact { NextItem self.old self.new result }
+        ensures shrinks { Shrinks self.old self.new result }
+    {
+        let mut rest = self.rest;
+        let mut depth = self.depth;
+        let mut outermost = self.outermost;
+        while let Some((octet, after)) = first_octet(rest) {
+            match octet {
+                b'\n' if depth == 0 => {
+                    *self = Position::new(after, depth, outermost);
+                    return Ok(None);
+                }
+                b'\n' | b' ' | b'\t' | b'\r' => rest = after,
+                b';' => rest = at_line_end(after),
+                b'(' if depth == 0 => {
+                    outermost = rest.len();
+                    depth = 1;
+                    rest = after;
+                }
+                b'(' => {
+                    depth += 1;
+                    rest = after;
+                }
+                b')' if depth == 0 => return Err(ShapeFault::ParenClose(rest.len())),
+                b')' => {
+                    depth -= 1;
+                    rest = after;
+                }
+                b'"' => {
+                    let (item, behind) = quoted_item(after)?;
+                    *self = Position::new(behind, depth, outermost);
+                    return Ok(Some(item));
+                }
+                _ => {
+                    let (item, behind) = plain_item(rest);
+                    *self = Position::new(behind, depth, outermost);
+                    return Ok(Some(item));
+                }
             }
         }
+        if depth > 0 {
+            return Err(ShapeFault::ParenOpen(outermost));
+        }
+        *self = Position::new(rest, depth, outermost);
+        Ok(None)
     }
-    if depth > 0 {
-        return Err(ShapeFault::ParenOpen(outermost));
-    }
-    Ok((None, Position::new(rest, depth, outermost)))
 }

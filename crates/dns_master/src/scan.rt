@@ -74,15 +74,15 @@ pub(crate) fn body_len(text: &[u8]) -> usize
     ensures { result ≡ scan is_quote false text.now }
 {
     let mut rest = text;
-    while let [octet, after @ ..] = rest {
-        match octet {
+    while let Some((octet, after)) = first_octet(rest) {
+        rest = match octet {
             b'"' => break,
-            b'\\' => match after {
-                [] => rest = after,
-                [_, further @ ..] => rest = further,
+            b'\\' => match first_octet(after) {
+                None => after,
+                Some((_, further)) => further,
             },
-            _ => rest = after,
-        }
+            _ => after,
+        };
     }
     text.len() - rest.len()
 }

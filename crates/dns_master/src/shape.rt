@@ -10,7 +10,7 @@ use crate::master_fault::MasterFault;
 use std::alloc::{AllocError, AllocFailed};
 
 /// What is wrong with parentheses or quotes. The number says how many octets are left from the place on.
-#[derive(Clone, Copy, PartialEq, Eq)]
+#[derive(Clone, Copy)]
 pub(crate) enum ShapeFault {
     /// The text ends inside parentheses: the outermost open one.
     ParenOpen(usize),

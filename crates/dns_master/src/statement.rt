@@ -5,7 +5,7 @@ ghost use Rattle.std.specs.Option.{option_copied};
 ghost use Rattle.std.specs.Str.{str_eq_ignore_ascii_case};
 ghost use Rattle.dns_data.specs.Items.{item_of};
 ghost use Rattle.dns_master.specs.EntryFaults.{Tells};
-ghost use Rattle.dns_master.specs.Statements.{is_directive, no_more, directive_of, origin_of, default_ttl_of, owner_of, behind_owner, record_of, statement_of};
+ghost use Rattle.dns_master.specs.Statements.{ttl_at, behind_of, is_directive, no_more, directive_of, origin_of, default_ttl_of, owner_of, behind_owner, record_of, statement_of};
 
 use crate::entry_fault::EntryFault;
 use crate::field::{read_lead, read_name, read_ttl, unquoted};
@@ -72,6 +72,13 @@ fn read_origin(alloc: Global, items: &[Item], origin: &Name) -> Result<Statement
     Ok(Statement::Origin(name))
 }
 
+/// The TTL of an item.
+fn read_ttl_item(item: Item) -> Result<Ttl, EntryFault>
+    ensures { Tells (λ ttl. ttl) result (ttl_at (item_of item.entry)) }
+{
+    read_ttl(unquoted(item)?)
+}
+
 /// The TTL behind `$TTL`.
 fn read_default_ttl(items: &[Item]) -> Result<Statement, EntryFault>
     ensures { Tells (λ s. s) result (default_ttl_of (map item_of items.now)) }
@@ -79,7 +86,7 @@ fn read_default_ttl(items: &[Item]) -> Result<Statement, EntryFault>
     let [item, behind @ ..] = items else {
         return Err(EntryFault::EntryShort);
     };
-    let ttl = read_ttl(unquoted(*item)?)?;
+    let ttl = read_ttl_item(*item)?;
     no_more(behind)?;
     Ok(Statement::DefaultTtl(ttl))
 }
@@ -133,6 +140,20 @@ fn behind_owner<'a>(entry: EntryItems<'a>) -> &'a [Item<'a>]
     }
 }
 
+/// The TTL, if there is one, and the data of a record from the items behind its owner.
+fn read_behind(
+    alloc: Global,
+    items: &[Item],
+    origin: &Name,
+) -> Result<(Option<Ttl>, Data), EntryFault>
+    ensures { Tells (λ x. x) result (behind_of origin.now (map item_of items.now)) }
+{
+    let lead = read_lead(items)?;
+    let (_, items) = items.split_at(lead.len);
+    let rdata = read_data(alloc, lead.record_type, items, Some(origin))?;
+    Ok((lead.ttl, rdata))
+}
+
 /// A record as its entry states it.
 fn read_record(
     alloc: Global,
@@ -143,11 +164,7 @@ fn read_record(
     ensures { Tells (λ s. s) result (record_of origin.now (option_copied owner.entry) entry.entry.white (map item_of entry.entry.items.now)) }
 {
     let owner = read_owner(alloc, entry, origin, owner)?;
-    let items = behind_owner(entry);
-    let lead = read_lead(items)?;
-    let (_, items) = items.split_at(lead.len);
-    let rdata = read_data(alloc, lead.record_type, items, Some(origin))?;
-    let ttl = lead.ttl;
+    let (ttl, rdata) = read_behind(alloc, behind_owner(entry), origin)?;
     Ok(Statement::Record(StatedRecord { owner, ttl, rdata }))
 }
 

@@ -10,7 +10,7 @@ ghost use Rattle.dns_master.specs.Tokens.{TokenText, AreTokens, token_at, token_
 
 use crate::line::{Mark, line_at};
 use crate::master_fault::MasterFault;
-use crate::reader::{Position, next_item};
+use crate::reader::Position;
 use crate::shape::ShapeFault;
 use dns_data::Item;
 use std::alloc::Global;
@@ -60,26 +60,23 @@ fn placed_tokens<'a>(alloc: Global, text: &'a [u8]) -> Result<Vec<Token<'a>>, Sh
     let mut entry: usize = 0;
     let mut filled = false;
     'reading: loop {
-        let (found, after) = next_item(place)?;
-        let Some(item) = found else {
-            if after.rest.is_empty() {
+        let Some(item) = place.next_item()? else {
+            if place.rest.is_empty() {
                 return Ok(tokens);
             }
             if filled {
                 entry += 1;
                 filled = false;
             }
-            place = after;
             continue;
         };
-        let token = token_before(text, item, after, mark, entry);
+        let token = token_before(text, item, place, mark, entry);
         mark = Mark {
             at: token.start,
             line: token.line,
         };
         tokens.push(token)?;
         filled = true;
-        place = after;
     }
 }
 

@@ -1,6 +1,6 @@
 //! Printing a zone as a master file, and records as lines.
 
-ghost use Rattle.std.specs.Prelude.{◌≡◌, ◌++◌, OnOk, Some, string_bytes};
+ghost use Rattle.std.specs.Prelude.{◌≡◌, ◌++◌, IfOk, OnOk, Some, string_bytes};
 ghost use Rattle.std.specs.List.{flat_map};
 ghost use Rattle.std.specs.Option.{option_map};
 ghost use Rattle.dns_data.specs.Items.{items_text};
@@ -40,20 +40,11 @@ fn drain<W: Sink>(writer: &mut W, text: &mut String) -> Result<(), MasterFault>
     Ok(())
 }
 
-/// Gathers the line of the origin. The only error is out of memory.
-fn push_origin(text: &mut String, origin: &Name) -> Result<(), AllocError>
-    ensures { OnOk result (string_bytes text.new ≡ string_bytes text.old ++ origin_line origin.now) }
+/// The line of the origin. The only error is out of memory.
+fn origin_head(alloc: Global, origin: &Name) -> Result<String, AllocError>
+    ensures { IfOk result (λ text. string_bytes text ≡ origin_line origin.now) }
 {
-    writeln!(text, "$ORIGIN {origin}")?;
-    Ok(())
-}
-
-/// Gathers the line of the TTL in force. The only error is out of memory.
-fn push_ttl(text: &mut String, ttl: Ttl) -> Result<(), AllocError>
-    ensures { OnOk result (string_bytes text.new ≡ string_bytes text.old ++ ttl_line ttl) }
-{
-    writeln!(text, "$TTL {}", ttl.seconds())?;
-    Ok(())
+    format!(in alloc; "$ORIGIN {origin}\n")
 }
 
 /// What the lines of records leave out: the origin behind each owner, and the TTL that is in force.
@@ -88,6 +79,15 @@ impl fmt::Display for RelativeLine<'_> {
     }
 }
 
+/// The lines of the origin and of the TTL in force. The only error is out of memory.
+fn relative_head(alloc: Global, form: &RelativeForm) -> Result<String, AllocError>
+    ensures { IfOk result (λ text. string_bytes text ≡ origin_line form.now.origin.now ++ ttl_line form.now.ttl) }
+{
+    let mut text = origin_head(alloc, form.origin)?;
+    writeln!(text, "$TTL {}", form.ttl.seconds())?;
+    Ok(text)
+}
+
 /// Gathers the line of a record. The only error is out of memory.
 fn push_line<'a>(
     text: &mut String,
@@ -97,10 +97,22 @@ fn push_line<'a>(
     ensures { OnOk result (string_bytes text.new ≡ string_bytes text.old ++ line_in (option_map (λ f. f.now) form.entry) rr.now) }
 {
     match form {
-        None => writeln!(text, "{rr}")?,
-        Some(form) => writeln!(text, "{}", RelativeLine { rr, form })?,
+        None => writeln!(text, "{rr}"),
+        Some(form) => writeln!(text, "{}", RelativeLine { rr, form }),
     }
-    Ok(())
+}
+
+/// Gathers the line of a record, and writes what was gathered where it is enough.
+fn put_line<'a, W: Sink>(
+    text: &mut String,
+    rr: &'a Record,
+    form: Option<&'a RelativeForm<'a>>,
+    writer: &mut W,
+) -> Result<(), MasterFault>
+    ensures { Drained (W.contents writer.old) (W.contents writer.new) (string_bytes text.old ++ line_in (option_map (λ f. f.now) form.entry) rr.now) (string_bytes text.new) result (W.failures writer.old) (W.failures writer.new) }
+{
+    push_line(text, rr, form)?;
+    drain(writer, text)
 }
 
 /// Writes what was gathered, and then the lines of records. Some 65,536 octets go out at a time.
@@ -113,8 +125,7 @@ fn print_behind<'a, W: Sink>(
     ensures { TextWritten (W.contents writer.old) (W.contents writer.new) (string_bytes text ++ flat_map (line_in (option_map (λ f. f.now) form.entry)) records.now) result (W.failures writer.old) (W.failures writer.new) }
 {
     for rr in records {
-        push_line(&mut text, rr, form)?;
-        drain(writer, &mut text)?;
+        put_line(&mut text, rr, form, writer)?;
     }
     write_text(writer, text.as_bytes())
 }
@@ -147,9 +158,7 @@ pub fn print_zone<W: Sink>(
 ) -> Result<(), MasterFault>
     ensures { TextWritten (W.contents writer.old) (W.contents writer.new) (zone_text origin.now records.now) result (W.failures writer.old) (W.failures writer.new) }
 {
-    let mut text = String::new(alloc);
-    push_origin(&mut text, origin)?;
-    print_behind(text, records, None, writer)
+    print_behind(origin_head(alloc, origin)?, records, None, writer)
 }
 
 /// Prints a zone as a master file relative to its origin (RFC 1035 section 5.1, RFC 2308 section 4): the lines `$ORIGIN` and
@@ -166,15 +175,12 @@ pub fn print_relative_zone<'a, W: Sink>(
 ) -> Result<(), MasterFault>
     ensures { TextWritten (W.contents writer.old) (W.contents writer.new) (relative_zone_text origin.now records.now) result (W.failures writer.old) (W.failures writer.new) }
 {
-    let mut text = String::new(alloc);
-    push_origin(&mut text, origin)?;
     let Some(first) = records.first() else {
-        return write_text(writer, text.as_bytes());
+        return print_zone(alloc, origin, records, writer);
     };
-    push_ttl(&mut text, first.ttl)?;
     let form = RelativeForm {
         origin,
         ttl: first.ttl,
     };
-    print_behind(text, records, Some(&form), writer)
+    print_behind(relative_head(alloc, &form)?, records, Some(&form), writer)
 }

@@ -17,17 +17,17 @@ reading-init c = rw c.new-tokens.ensures.items (record {
 pub returns-then-is_empty : goal.returns-then-is_empty
 returns-then-is_empty c =
     let l = c.reading in
-    let after = c.in_ok-found.after in
-    let next = rw c.in_default.is at c.in_ok-found.ensures.exact in
+    let after = c.next_item.new.self in
+    let next = rw c.in_default.is at c.in_ok-item.ensures.exact in
     let size : length after.rest.now ≡ 0 = grind (arith, c.is_empty.ensures, c.if-is_empty.true) in
     all_read c.args.text.now (map token_of l.tokens.items) l.entry l.place after l.filled l.invariant.so_far next (no_octets after.rest.now size)
 
 pub reading-preserved-then-filled : goal.reading-preserved-then-filled
 reading-preserved-then-filled c =
     let l = c.reading in
-    let after = c.in_ok-found.after in
-    let next = rw c.in_default.is at c.in_ok-found.ensures.exact in
-    let shrunk = c.in_ok-found.ensures.shrinks in
+    let after = c.next_item.new.self in
+    let next = rw c.in_default.is at c.in_ok-item.ensures.exact in
+    let shrunk = c.in_ok-item.ensures.shrinks in
     let fits = l.invariant.fits_filled c.if-filled.true in
     let so_far = rw c.if-filled.true at l.invariant.so_far in
     record {
@@ -41,9 +41,9 @@ reading-preserved-then-filled c =
 pub reading-preserved-else-filled : goal.reading-preserved-else-filled
 reading-preserved-else-filled c =
     let l = c.reading in
-    let after = c.in_ok-found.after in
-    let next = rw c.in_default.is at c.in_ok-found.ensures.exact in
-    let shrunk = c.in_ok-found.ensures.shrinks in
+    let after = c.next_item.new.self in
+    let next = rw c.in_default.is at c.in_ok-item.ensures.exact in
+    let shrunk = c.in_ok-item.ensures.shrinks in
     let so_far = rw c.if-filled.false at l.invariant.so_far in
     record {
       room = omega (arith, shrunk.room, l.invariant.room);
@@ -56,11 +56,11 @@ reading-preserved-else-filled c =
 pub reading-preserved : goal.reading-preserved
 reading-preserved c =
     let l = c.reading in
-    let after = c.in_ok-found.after in
+    let after = c.next_item.new.self in
     let item = c.in-Some.item in
     let token = c.token_before-token.result in
-    let next = rw c.in-Some.is at c.in_ok-found.ensures.exact in
-    let shrunk = rw c.in-Some.is at c.in_ok-found.ensures.shrinks in
+    let next = rw c.in-Some.is at c.in_ok-item.ensures.exact in
+    let shrunk = rw c.in-Some.is at c.in_ok-item.ensures.shrinks in
     let exact = c.token_before-token.ensures.exact in
     rw c.in_ok-push.ensures.items (record {
       room = omega (arith, shrunk.room, l.invariant.room);

@@ -1,36 +1,30 @@
-use Rattle.std.proofs.Common.{◌∙◌, ◌++◌, ◌+◌, ap, subst, drop, List, ℕ}
+use Rattle.std.proofs.Common.{◌∙◌, ◌++◌, ◌+◌, ap, refl, subst, drop, List, ℕ}
 use Rattle.std.specs.List.{flat_map}
 use Rattle.std.specs.Option.{option_map}
 use Rattle.std.specs.Prelude.{string_bytes}
 use Rattle.std.proofs.lemmas.Result.{err_from_is_err_and}
 use Rattle.dns_master.specs.ZoneText.{line_in}
-use Rattle.dns_master.proofs.DeviceLemmas.{IsLeft, left_more, left_drained, left_cut, none_went, cut_written, rest_written}
+use Rattle.dns_master.proofs.DeviceLemmas.{IsLeft, left_more, left_drained, cut_written, rest_written}
 use Rattle.dns_master.proofs.ZoneTextLemmas.{text_next, text_cut, text_all}
 use Rattle.dns_master.proofs.zone_text.print_behind.Goals as goal
 
-pub returns-in_err-push_line : goal.returns-in_err-push_line
-returns-in_err-push_line g c =
-    let l = c.loop-rr in
-    let p = err_from_is_err_and c.from_residual.result c.from_residual.ensures.1 in
-    rw (p.1, p.2) (left_cut _ _ _ _ _ _ _ (text_cut (line_in (option_map (λ f. f.now) c.args.form)) (string_bytes c.args.text) c.args.records.now l.rr-index) l.invariant.left (none_went _ _), l.invariant.fine)
-
-pub returns-in_err-drain : goal.returns-in_err-drain
-returns-in_err-drain g c =
+pub returns-in_err-put_line : goal.returns-in_err-put_line
+returns-in_err-put_line g c =
     let l = c.loop-rr in
     let xs = c.args.records.now in
-    let p = err_from_is_err_and c.from_residual-in_err-drain.result c.from_residual-in_err-drain.ensures.1 in
-    let gathered = left_more _ _ _ _ _ _ c.in_ok-push_line.ensures l.invariant.left in
-    rw (p.1, p.2) (cut_written _ _ _ _ _ _ _ c.in_err-drain.field-0.0 _ _ _
+    let p = err_from_is_err_and c.from_residual.result c.from_residual.ensures.1 in
+    let gathered = left_more _ _ _ _ (line_in (option_map (λ f. f.now) c.args.form) c.rr-item.result) _ refl l.invariant.left in
+    rw (p.1, p.2) (cut_written _ _ _ _ _ _ _ c.in_err-put_line.field-0.0 _ _ _
     (text_cut (line_in (option_map (λ f. f.now) c.args.form)) (string_bytes c.args.text) xs (l.rr-index + 1) ∙ ap (λ (t : List ℕ). t ++ flat_map (line_in (option_map (λ f. f.now) c.args.form)) (drop (l.rr-index + 1) xs)) (text_next (line_in (option_map (λ f. f.now) c.args.form)) (string_bytes c.args.text) xs l.rr-index c.rr-item.result c.loop-rr-test.true c.rr-item.is))
-    gathered l.invariant.fine c.in_err-drain.ensures)
+    gathered l.invariant.fine c.in_err-put_line.ensures)
 
 pub loop-rr-preserved : goal.loop-rr-preserved
 loop-rr-preserved g c =
     let l = c.loop-rr in
-    let gathered = left_more _ _ _ _ _ _ c.in_ok-push_line.ensures l.invariant.left in
-    let drained = c.in_ok-drain.ensures in
+    let gathered = left_more _ _ _ _ (line_in (option_map (λ f. f.now) c.args.form) c.rr-item.result) _ refl l.invariant.left in
+    let drained = c.in_ok-put_line.ensures in
     record {
-      left = rw (text_next (line_in (option_map (λ f. f.now) c.args.form)) (string_bytes c.args.text) c.args.records.now l.rr-index c.rr-item.result c.loop-rr-test.true c.rr-item.is) (left_drained _ _ _ _ _ _ _ drained.1 drained.2 gathered);
+      left = rw (text_next (line_in (option_map (λ f. f.now) c.args.form)) (string_bytes c.args.text) c.args.records.now l.rr-index c.rr-item.result c.loop-rr-test.true c.rr-item.is) (left_drained _ _ _ _ (string_bytes l.text ++ line_in (option_map (λ f. f.now) c.args.form) c.rr-item.result) _ _ drained.1 drained.2 gathered);
       fine = drained.3 ∙ l.invariant.fine;
     }
 

@@ -5,7 +5,7 @@ use Rattle.dns_data.specs.Items.{ItemText}
 use Rattle.dns_master.specs.Entries.{from}
 use Rattle.dns_master.specs.Pieces.{line_len}
 use Rattle.dns_master.proofs.StepLemmas.{at_line, at_entry_end, at_space, at_tab, at_return, at_comment, at_first_open, at_open, at_last_close, at_close, at_quoted, at_open_quote, at_plain, at_end, at_end_inside}
-use Rattle.dns_master.proofs.reader.next_item.Goals as goal
+use Rattle.dns_master.proofs.reader.Position.next_item.Goals as goal
 
 pub returns-in-10-clause-exact : goal.returns-in-10-clause-exact
 returns-in-10-clause-exact c =
