@@ -3,7 +3,7 @@ use Rattle.grant_policy.specs.declared.rule.Rule.{Rule}
 use Rattle.grant_policy.specs.Isolated.{named_of}
 use Rattle.grant_policy.proofs.ClaimLemmas.{item_at}
 use Rattle.grant_policy.proofs.IsolatedLemmas.{isolated_none, isolated_alone, soa_seen, name_shared, right_below}
-use Rattle.grant_policy.proofs.exposure.exposure_at.Goals as goal
+use Rattle.grant_policy.proofs.exposure.exposure_by_entries.Goals as goal
 
 pub returns-in-Some : goal.returns-in-Some
 returns-in-Some c =
