@@ -99,16 +99,9 @@ fn idle_of(
 fn push_idle(idle: &mut Vec<IdleRule>, row: IdleRule) -> Result<(), AllocError>
     ensures { OnOk result (PushesIdle row idle.old.items idle.new.items) }
 {
-    if is_among(&row.takers, row.rule) {
+    if row.takers.contains(&row.rule) {
         return Ok(());
     }
     idle.push(row)?;
     Ok(())
-}
-
-/// Whether a number is among others.
-fn is_among(numbers: &[usize], number: usize) -> bool
-    ensures { result ≡ list_any (λ n. n == number) numbers.now }
-{
-    numbers.iter().any(|other| *other == number)
 }
