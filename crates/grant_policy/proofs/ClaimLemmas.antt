@@ -357,6 +357,21 @@ mark_no init found c entries n e at not' marks j lt = (
       any),
 )
 
+pub as_many : (claims : List Claim) (rules : List Rule) → rules_of claims ≡ rules → length claims ≡ length rules
+as_many claims rules e = sym (length-map claims (λ (c : Claim). c.rule.now)) ∙ ap (length {A = Rule}) e
+
+pub few_claims : (claims : List Claim) (rules : List Rule) → rules_of claims ≡ rules → length rules ≤ 1024 → length claims ≤ 1024
+few_claims claims rules e few = omega (arith, as_many claims rules e)
+
+pub hits_first : (init : List Bool) (c : Claim) (entries : List Entry) → Marks init init c entries 0
+hits_first init c entries j lt = (
+  λ yes'. inl yes',
+  λ any. ⊎_elim (λ (old : get_or init j false ≡ true). old) (λ (h : Hits c entries 0 j). absurd (omega (arith, h.below))) any,
+)
+
+pub hits_done : (init found : List Bool) (c : Claim) (entries : List Entry) (n : ℕ) → length entries ≤ n → n ≤ length entries → Marks init found c entries n → Marks init found c entries (length entries)
+hits_done init found c entries n past upto marks = let end' : n ≡ length entries = omega arith in subst (Marks init found c entries) end' marks
+
 pub item_at : {X : Type 0} (xs : List X) (n : ℕ) (x : X) → n < length xs → x ≡ get_or xs n x → slice_get xs n ≡ Some x
 item_at xs n x lt is = slice_get_read xs (length xs) n x refl lt is
 

@@ -3,8 +3,12 @@ use Rattle.grant_policy.specs.declared.name_groups.GroupRights.{GroupRights}
 use Rattle.grant_policy.specs.declared.name_groups.NameGroup.TheVariants.{Exactly, Below}
 use Rattle.grant_policy.specs.declared.rule.Rule.{Rule}
 use Rattle.grant_policy.specs.NameGroups.{AddsGroup}
+use Rattle.grant_policy.proofs.ClaimLemmas.{few_claims}
 use Rattle.grant_policy.proofs.NameGroupLemmas.{on_ok}
 use Rattle.grant_policy.proofs.name_groups.add_groups.Goals as goal
+
+pub add_exactly-requires-clause-few : goal.add_exactly-requires-clause-few
+add_exactly-requires-clause-few c = few_claims c.args.claims.now c.args.rules.now c.requires.rules c.requires.few
 
 pub add_exactly-requires-clause-top : goal.add_exactly-requires-clause-top
 add_exactly-requires-clause-top c = rw c.requires.rules c.requires.top

@@ -1,8 +1,6 @@
-use Rattle.std.proofs.Common.{List, ℕ, [], ◌∷◌, ◌++◌, map, take, sym, ap, ◌∙◌, append_assoc}
-use Rattle.std.proofs.lemmas.List.{map-append, take_more}
+use Rattle.std.proofs.Common.{◌∙◌}
 use Rattle.std.proofs.lemmas.List.Elements.{All-push}
 use Rattle.dns_names.specs.Labels.{IsName}
-use Rattle.grant_policy.specs.declared.rule.Rule.{Rule}
 use Rattle.grant_policy.proofs.NameGroupLemmas.{names_more}
 use Rattle.grant_policy.proofs.name_groups.add_names.Goals as goal
 

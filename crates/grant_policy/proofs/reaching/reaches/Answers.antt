@@ -5,7 +5,6 @@ use Rattle.std.specs.Option.{option_to_list}
 use Rattle.std.proofs.lemmas.List.{take_all}
 use Rattle.std.proofs.lemmas.List.Sorted.{list_any-IsPermutation}
 use Rattle.dns_names.specs.Labels.{is_within}
-use Rattle.grant_policy.specs.declared.rule.Rule.{Rule}
 use Rattle.grant_policy.specs.Reach.{reach_of, reaches}
 use Rattle.grant_policy.proofs.ReachLemmas.{reaches_more, granted_in_some}
 use Rattle.grant_policy.proofs.reaching.reaches.Goals as goal
