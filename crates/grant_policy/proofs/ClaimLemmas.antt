@@ -357,6 +357,21 @@ mark_no init found c entries n e at not' marks j lt = (
       any),
 )
 
+pub as_many : (claims : List Claim) (rules : List Rule) → rules_of claims ≡ rules → length claims ≡ length rules
+as_many claims rules e = sym (length-map claims (λ (c : Claim). c.rule.now)) ∙ ap (length {A = Rule}) e
+
+pub few_claims : (claims : List Claim) (rules : List Rule) → rules_of claims ≡ rules → length rules ≤ 1024 → length claims ≤ 1024
+few_claims claims rules e few = omega (arith, as_many claims rules e)
+
+pub hits_first : (init : List Bool) (c : Claim) (entries : List Entry) → Marks init init c entries 0
+hits_first init c entries j lt = (
+  λ yes'. inl yes',
+  λ any. ⊎_elim (λ (old : get_or init j false ≡ true). old) (λ (h : Hits c entries 0 j). absurd (omega (arith, h.below))) any,
+)
+
+pub hits_done : (init found : List Bool) (c : Claim) (entries : List Entry) (n : ℕ) → length entries ≤ n → n ≤ length entries → Marks init found c entries n → Marks init found c entries (length entries)
+hits_done init found c entries n past upto marks = let end' : n ≡ length entries = omega arith in subst (Marks init found c entries) end' marks
+
 pub item_at : {X : Type 0} (xs : List X) (n : ℕ) (x : X) → n < length xs → x ≡ get_or xs n x → slice_get xs n ≡ Some x
 item_at xs n x lt is = slice_get_read xs (length xs) n x refl lt is
 
@@ -395,31 +410,56 @@ row_new c i rows n row j lt is own hits =
     record { row = row; among = subst (λ (l : List Coverage). Contains l row) (sym e) (Contains-push (take n rows) row); own = own; hits = hits }
 
 -- which places are marked after the first n rows
-abbrev pub MarksIn : List Bool → Claim → ℕ → List Coverage → ℕ → ℕ → Type 0
-MarksIn found c i rows n m = (j : ℕ) → j < m → (get_or found j false ≡ true) ↔ TakesIn c i (take n rows) j
+abbrev pub MarksIn : List Bool → List Bool → Claim → ℕ → List Coverage → ℕ → Type 0
+MarksIn init found c i rows n = (j : ℕ) → j < length found → (get_or found j false ≡ true) ↔ ((get_or init j false ≡ true) ⊎ TakesIn c i (take n rows) j)
 
-pub row_yes : (old new : List Bool) (c : Claim) (i : ℕ) (rows : List Coverage) (n m : ℕ) (row : Coverage) → n < length rows → row ≡ get_or rows n row → m ≡ length old → list_any (λ e. eqb e.number i) row.entries.items ≡ true
+pub rows_first : (init : List Bool) (c : Claim) (i : ℕ) (rows : List Coverage) → MarksIn init init c i rows 0
+rows_first init c i rows j lt = (
+  λ yes'. inl yes',
+  λ any. ⊎_elim (λ (old : get_or init j false ≡ true). old) (λ (t : TakesIn c i [] j). absurd (omega (arith, t.among.1))) any,
+)
+
+pub row_yes : (init old new : List Bool) (c : Claim) (i : ℕ) (rows : List Coverage) (n : ℕ) (row : Coverage) → n < length rows → row ≡ get_or rows n row → length new ≡ length old → list_any (λ e. eqb e.number i) row.entries.items ≡ true
     → ((j : ℕ) → j < length old → (get_or new j false ≡ true) ↔ ((get_or old j false ≡ true) ⊎ Hits c row.entries.items (length row.entries.items) j))
-    → MarksIn old c i rows n m → MarksIn new c i rows (n + 1) m
-row_yes old new c i rows n m row lt is long own marked marks j below = (
+    → MarksIn init old c i rows n → MarksIn init new c i rows (n + 1)
+row_yes init old new c i rows n row lt is long own marked marks j below = (
   λ yes'. ⊎_elim
-      (λ (before : get_or old j false ≡ true). rows_kept c i rows n row j lt is ((marks j below).0 before))
-      (λ (h : Hits c row.entries.items (length row.entries.items) j). row_new c i rows n row j lt is (own_from row.entries.items i own) h)
-      ((marked j (omega (arith, below, long))).0 yes'),
-  λ t. (marked j (omega (arith, below, long))).1 (⊎_elim
-      (λ (before : TakesIn c i (take n rows) j). inl ((marks j below).1 before))
+      (λ (before : get_or old j false ≡ true). ⊎_elim
+      (λ (first : get_or init j false ≡ true). inl first)
+      (λ (t : TakesIn c i (take n rows) j). inr (rows_kept c i rows n row j lt is t))
+      ((marks j within).0 before))
+      (λ (h : Hits c row.entries.items (length row.entries.items) j). inr (row_new c i rows n row j lt is (own_from row.entries.items i own) h))
+      ((marked j within).0 yes'),
+  λ any. (marked j within).1 (⊎_elim
+      (λ (first : get_or init j false ≡ true). inl ((marks j within).1 (inl first)))
+      (λ (t : TakesIn c i (take (n + 1) rows) j). ⊎_elim
+      (λ (before : TakesIn c i (take n rows) j). inl ((marks j within).1 (inr before)))
       (λ (h : Contains (map (λ (e : Entry). e.number) row.entries.items) i × Hits c row.entries.items (length row.entries.items) j). inr h.1)
-      (more_rows c i rows n row j lt is t)),
+      (more_rows c i rows n row j lt is t))
+      any),
+)
+  where
+    within : j < length old
+    within = omega (arith, below, long)
+
+pub row_no : (init found : List Bool) (c : Claim) (i : ℕ) (rows : List Coverage) (n : ℕ) (row : Coverage) → n < length rows → row ≡ get_or rows n row → list_any (λ e. eqb e.number i) row.entries.items ≡ false → MarksIn init found c i rows n → MarksIn init found c i rows (n + 1)
+row_no init found c i rows n row lt is none marks j below = (
+  λ yes'. ⊎_elim
+      (λ (first : get_or init j false ≡ true). inl first)
+      (λ (t : TakesIn c i (take n rows) j). inr (rows_kept c i rows n row j lt is t))
+      ((marks j below).0 yes'),
+  λ any. (marks j below).1 (⊎_elim
+      (λ (first : get_or init j false ≡ true). inl first)
+      (λ (t : TakesIn c i (take (n + 1) rows) j). ⊎_elim
+      (λ (before : TakesIn c i (take n rows) j). inr before)
+      (λ (h : Contains (map (λ (e : Entry). e.number) row.entries.items) i × Hits c row.entries.items (length row.entries.items) j). absurd (both_ways (list_any (λ e. eqb e.number i) row.entries.items) none (own_to row.entries.items i h.0)))
+      (more_rows c i rows n row j lt is t))
+      any),
 )
 
-pub row_no : (found : List Bool) (c : Claim) (i : ℕ) (rows : List Coverage) (n m : ℕ) (row : Coverage) → n < length rows → row ≡ get_or rows n row → list_any (λ e. eqb e.number i) row.entries.items ≡ false → MarksIn found c i rows n m → MarksIn found c i rows (n + 1) m
-row_no found c i rows n m row lt is none marks j below = (
-  λ yes'. rows_kept c i rows n row j lt is ((marks j below).0 yes'),
-  λ t. (marks j below).1 (⊎_elim
-      (λ (before : TakesIn c i (take n rows) j). before)
-      (λ (h : Contains (map (λ (e : Entry). e.number) row.entries.items) i × Hits c row.entries.items (length row.entries.items) j). absurd (both_ways (list_any (λ e. eqb e.number i) row.entries.items) none (own_to row.entries.items i h.0)))
-      (more_rows c i rows n row j lt is t)),
-)
+pub rows_done : (init found : List Bool) (c : Claim) (i : ℕ) (rows : List Coverage) (n : ℕ) → length rows ≤ n → MarksIn init found c i rows n → (j : ℕ) → j < length found → (get_or found j false ≡ true) ↔ ((get_or init j false ≡ true) ⊎ TakesIn c i rows j)
+rows_done init found c i rows n past marks =
+    subst (λ (l : List Coverage). (j : ℕ) → j < length found → (get_or found j false ≡ true) ↔ ((get_or init j false ≡ true) ⊎ TakesIn c i l j)) (take_all n rows past) marks
 
 -- ---- the rules that take questions
 
@@ -509,21 +549,19 @@ module _ (rules : List Rule) (few : length rules ≤ 1024) (rows : List Coverage
         };
       }
 
-  pub takers_are : (found : List Bool) (n : ℕ) (xs : List ℕ) → n ≡ length rules → MarksIn found c i rows (length rows) n → AreBelow (λ j. get_or found j false ≡ true) n xs → AreTakers rules i xs
-  takers_are found n xs long marks below = record {
+  pub takers_are : (init found : List Bool) (xs : List ℕ) → length found ≡ length rules → ((j : ℕ) → j < length found → get_or init j false ≡ false)
+      → ((j : ℕ) → j < length found → (get_or found j false ≡ true) ↔ ((get_or init j false ≡ true) ⊎ TakesIn c i rows j)) → AreBelow (λ j. get_or found j false ≡ true) (length found) xs → AreTakers rules i xs
+  takers_are init found xs long clear marks below = record {
     each = λ j. (
-      λ in'. let h = (below.each j).0 in' in from_row j (whole j ((marks j h.0).0 h.1)),
+      λ in'. let h = (below.each j).0 in' in ⊎_elim
+          (λ (first : get_or init j false ≡ true). absurd (both_ways (get_or init j false) (clear j h.0) first))
+          (λ (t : TakesIn c i rows j). from_row j t)
+          ((marks j h.0).0 h.1),
       λ takes. let within = slice_get_within rules j takes.taker takes.first.at in
-          (below.each j).1 (omega (arith, within, long), (marks j (omega (arith, within, long))).1 (part j (to_row j takes))),
+          (below.each j).1 (omega (arith, within, long), (marks j (omega (arith, within, long))).1 (inr (to_row j takes))),
     );
     ordered = below.ordered;
   }
-    where
-      whole : (j : ℕ) → TakesIn c i (take (length rows) rows) j → TakesIn c i rows j
-      whole j t = subst (λ (l : List Coverage). TakesIn c i l j) (take_all (length rows) rows (omega arith)) t
-
-      part : (j : ℕ) → TakesIn c i rows j → TakesIn c i (take (length rows) rows) j
-      part j t = subst (λ (l : List Coverage). TakesIn c i l j) (sym (take_all (length rows) rows (omega arith))) t
 
 -- ---- rules among their takers
 

@@ -4,7 +4,7 @@ use Rattle.std.specs.Option.{option_eq}
 use Rattle.std.specs.Prelude.{bytes_eq}
 use Rattle.std.specs.List.{All, sum_by}
 use Rattle.std.proofs.lemmas.Bool.{cases_lt, cases_Bool, false≢true, lt-ltb, le-ltb, le-leb}
-use Rattle.std.proofs.lemmas.List.{take-append-drop}
+use Rattle.std.proofs.lemmas.List.{take-append-drop, get_or_read}
 use Rattle.std.proofs.lemmas.List.Sums.{sum_by-cons, sum_by-le-sum_by}
 use Rattle.std.proofs.lemmas.Slice.Eq.{bytes_eq-Decides}
 use Rattle.dns_names.specs.Labels.{IsWithin, is_within, wire_len}
@@ -18,8 +18,8 @@ use Rattle.grant_policy.specs.declared.deciding.Found.{Found}
 use Rattle.grant_policy.specs.Scopes.{Covers}
 use Rattle.grant_policy.specs.Rules.{Question, is_of, matches}
 use Rattle.grant_policy.specs.Decisions.{Verdict, denied, decided, decision, concerns}
-use Rattle.grant_policy.specs.Index.{is_at, one_of, place_of}
-use Rattle.grant_policy.specs.Found.{IsFound, bound_of}
+use Rattle.grant_policy.specs.Index.{RowOf, is_at, one_of, place_of}
+use Rattle.grant_policy.specs.Found.{IsFound, bound_of, is_before}
 use Rattle.grant_policy.proofs.ScopeLemmas.{is_within-Decides}
 use Rattle.grant_policy.proofs.RuleLemmas.{matches-Decides}
 
@@ -184,3 +184,31 @@ least_end p rules n number e least i d lt m =
     let rule = get_or rules i d in
     let within = within_is_above p.name rule.at (match_within p rule m) in
     least i d lt (omega (arith, within.0)) m
+
+-- ---- the least rule of rows
+
+pub less_than : (rules : List Rule) (number : ℕ) (found : Option Found) → is_before number found ≡ true → number < length rules → number ≤ bound_of rules found
+less_than rules number None e lt = omega arith
+less_than rules number (Some found) e lt = omega (arith, ltb-true number found.number e)
+
+pub not_less_than : (rules : List Rule) (number : ℕ) (found : Option Found) → is_before number found ≡ false → bound_of rules found ≤ number
+not_less_than rules number None e = absurd cc
+not_less_than rules number (Some found) e =
+    ⊎_elim
+    (λ (less : number < found.number). absurd (false≢true (sym e ∙ lt-ltb number found.number less)))
+    (λ (more : found.number ≤ number). more)
+    (cases_lt number found.number)
+
+-- one row more
+pub row_more : (p : Question) (rules : List Rule) (rows : List RowOf) (n : ℕ) (row : RowOf) (old new : ℕ) → n < length rows → row ≡ get_or rows n row → new ≤ old
+    → ((k : ℕ) (e : RowOf) (d : Rule) → k < n → matches p (get_or rules (get_or rows k e).number d) ≡ true → old ≤ (get_or rows k e).number)
+    → ((d : Rule) → matches p (get_or rules row.number d) ≡ true → new ≤ row.number)
+    → (k : ℕ) (e : RowOf) (d : Rule) → k < n + 1 → matches p (get_or rules (get_or rows k e).number d) ≡ true → new ≤ (get_or rows k e).number
+row_more p rules rows n row old new lt is le all here k e d below m =
+    ⊎_elim
+    (λ (before : k < n). omega (arith, all k e d before m, le))
+    (λ (from : n ≤ k).
+    let same : n ≡ k = omega arith in
+    let at : row ≡ get_or rows k e = get_or_read rows n row lt is e ∙ ap (λ (i : ℕ). get_or rows i e) same in
+    subst (λ (r : RowOf). new ≤ r.number) at (here d (subst (λ (r : RowOf). matches p (get_or rules r.number d) ≡ true) (sym at) m)))
+    (cases_lt k n)

@@ -128,6 +128,9 @@ callers_only (One id) text (e, is) = ap callers_of e ∙ ap (λ b. cond b (Some 
 bind_step : {A B : Type 0} (r : Result A PolicyFault) (f : A → Result B PolicyFault) (a : A) → r ≡ Ok a → (r >>= f) ≡ f a
 bind_step r f a e = ap (λ q. q >>= f) e
 
+bind_stop : {A B : Type 0} (r : Result A PolicyFault) (f : A → Result B PolicyFault) (fault : PolicyFault) → r ≡ Err fault → (r >>= f) ≡ Err fault
+bind_stop r f fault e = ap (λ q. q >>= f) e
+
 needed_ok : (number : ℕ) (ms : Members) (k : RuleKey) (d : Data) → needed number ms k ≡ Ok d → get_member (key_text k) ms ≡ Some d
 needed_ok number ms k d e = ok_or_ok (get_member (key_text k) ms) (MissingKey (place.Key number k)) d e
 
@@ -193,6 +196,56 @@ module _ (number : ℕ) (ms : Members) where
       ∙ bind_step (needed number ms key.At) (d5 d.id d.effect d.caller d.scope) d.at (needed_only number ms key.At d.at has.at)
       ∙ bind_step (needed number ms key.Types) (d6 d.id d.effect d.caller d.scope d.at) d.types (needed_only number ms key.Types d.types has.types)
       ∙ bind_step (needed number ms key.Actions) (d7 d.id d.effect d.caller d.scope d.at d.types) d.actions (needed_only number ms key.Actions d.actions has.actions)
+
+  -- where a key is missing, behind others that are there
+  pub no_id : (fault : PolicyFault) → needed number ms key.Id ≡ Err fault → rule_data number ms ≡ Err fault
+  no_id fault e = bind_stop (needed number ms key.Id) d1 fault e
+
+  module _ (id : Data) (is_id : needed number ms key.Id ≡ Ok id) where
+    upto_id : rule_data number ms ≡ d1 id
+    upto_id = bind_step (needed number ms key.Id) d1 id is_id
+
+    pub no_effect : (fault : PolicyFault) → needed number ms key.Effect ≡ Err fault → rule_data number ms ≡ Err fault
+    no_effect fault e = upto_id ∙ bind_stop (needed number ms key.Effect) (d2 id) fault e
+
+    module _ (effect : Data) (is_effect : needed number ms key.Effect ≡ Ok effect) where
+      upto_effect : rule_data number ms ≡ d2 id effect
+      upto_effect = upto_id ∙ bind_step (needed number ms key.Effect) (d2 id) effect is_effect
+
+      pub no_caller : (fault : PolicyFault) → needed number ms key.Caller ≡ Err fault → rule_data number ms ≡ Err fault
+      no_caller fault e = upto_effect ∙ bind_stop (needed number ms key.Caller) (d3 id effect) fault e
+
+      module _ (caller : Data) (is_caller : needed number ms key.Caller ≡ Ok caller) where
+        upto_caller : rule_data number ms ≡ d3 id effect caller
+        upto_caller = upto_effect ∙ bind_step (needed number ms key.Caller) (d3 id effect) caller is_caller
+
+        pub no_scope : (fault : PolicyFault) → needed number ms key.Scope ≡ Err fault → rule_data number ms ≡ Err fault
+        no_scope fault e = upto_caller ∙ bind_stop (needed number ms key.Scope) (d4 id effect caller) fault e
+
+        module _ (scope : Data) (is_scope : needed number ms key.Scope ≡ Ok scope) where
+          upto_scope : rule_data number ms ≡ d4 id effect caller scope
+          upto_scope = upto_caller ∙ bind_step (needed number ms key.Scope) (d4 id effect caller) scope is_scope
+
+          pub no_at : (fault : PolicyFault) → needed number ms key.At ≡ Err fault → rule_data number ms ≡ Err fault
+          no_at fault e = upto_scope ∙ bind_stop (needed number ms key.At) (d5 id effect caller scope) fault e
+
+          module _ (at : Data) (is_at : needed number ms key.At ≡ Ok at) where
+            upto_at : rule_data number ms ≡ d5 id effect caller scope at
+            upto_at = upto_scope ∙ bind_step (needed number ms key.At) (d5 id effect caller scope) at is_at
+
+            pub no_types : (fault : PolicyFault) → needed number ms key.Types ≡ Err fault → rule_data number ms ≡ Err fault
+            no_types fault e = upto_at ∙ bind_stop (needed number ms key.Types) (d6 id effect caller scope at) fault e
+
+            module _ (types : Data) (is_types : needed number ms key.Types ≡ Ok types) where
+              upto_types : rule_data number ms ≡ d6 id effect caller scope at types
+              upto_types = upto_at ∙ bind_step (needed number ms key.Types) (d6 id effect caller scope at) types is_types
+
+              pub no_actions : (fault : PolicyFault) → needed number ms key.Actions ≡ Err fault → rule_data number ms ≡ Err fault
+              no_actions fault e = upto_types ∙ bind_stop (needed number ms key.Actions) (d7 id effect caller scope at types) fault e
+
+              module _ (actions : Data) (is_actions : needed number ms key.Actions ≡ Ok actions) where
+                pub upto_actions : rule_data number ms ≡ Ok (record { id = id; effect = effect; caller = caller; scope = scope; at = at; types = types; actions = actions })
+                upto_actions = upto_types ∙ bind_step (needed number ms key.Actions) (d7 id effect caller scope at types) actions is_actions
 
 -- ---- the rule of its values
 
@@ -270,6 +323,59 @@ module _ (number : ℕ) (ids : List (List ℕ)) (d : RuleData) where
       ∙ bind_step (name_in number d.at) (r6 rule.id rule.effect rule.callers rule.scope) rule.at at
       ∙ bind_step (selection_in type_of (place.Key number key.Types) d.types) (r7 rule.id rule.effect rule.callers rule.scope rule.at) rule.types (selection_only type_of IsCalled type_spelled (place.Key number key.Types) rule.types d.types is.types)
       ∙ bind_step (selection_in action_of (place.Key number key.Actions) d.actions) (r8 rule.id rule.effect rule.callers rule.scope rule.at rule.types) rule.actions (selection_only action_of (λ x text. action_text x ≡ text) action_spelled (place.Key number key.Actions) rule.actions d.actions is.actions)
+
+  -- where a value is refused, behind others that are read
+  pub bad_text : (fault : PolicyFault) → word_in identifier_of (place.Key number key.Id) d.id ≡ Err fault → rule_in number ids d ≡ Err fault
+  bad_text fault e = bind_stop (word_in identifier_of (place.Key number key.Id) d.id) r1 fault e
+
+  module _ (text : List ℕ) (is_text : word_in identifier_of (place.Key number key.Id) d.id ≡ Ok text) where
+    read_text : rule_in number ids d ≡ r1 text
+    read_text = bind_step (word_in identifier_of (place.Key number key.Id) d.id) r1 text is_text
+
+    pub bad_free : (fault : PolicyFault) → free_id number ids text ≡ Err fault → rule_in number ids d ≡ Err fault
+    bad_free fault e = read_text ∙ bind_stop (free_id number ids text) r2 fault e
+
+    module _ (id : List ℕ) (is_free : free_id number ids text ≡ Ok id) where
+      read_free : rule_in number ids d ≡ r2 id
+      read_free = read_text ∙ bind_step (free_id number ids text) r2 id is_free
+
+      pub bad_effect : (fault : PolicyFault) → word_in effect_of (place.Key number key.Effect) d.effect ≡ Err fault → rule_in number ids d ≡ Err fault
+      bad_effect fault e = read_free ∙ bind_stop (word_in effect_of (place.Key number key.Effect) d.effect) (r3 id) fault e
+
+      module _ (effect : Effect) (is_effect : word_in effect_of (place.Key number key.Effect) d.effect ≡ Ok effect) where
+        read_effect : rule_in number ids d ≡ r3 id effect
+        read_effect = read_free ∙ bind_step (word_in effect_of (place.Key number key.Effect) d.effect) (r3 id) effect is_effect
+
+        pub bad_callers : (fault : PolicyFault) → word_in callers_of (place.Key number key.Caller) d.caller ≡ Err fault → rule_in number ids d ≡ Err fault
+        bad_callers fault e = read_effect ∙ bind_stop (word_in callers_of (place.Key number key.Caller) d.caller) (r4 id effect) fault e
+
+        module _ (callers : Callers) (is_callers : word_in callers_of (place.Key number key.Caller) d.caller ≡ Ok callers) where
+          read_callers : rule_in number ids d ≡ r4 id effect callers
+          read_callers = read_effect ∙ bind_step (word_in callers_of (place.Key number key.Caller) d.caller) (r4 id effect) callers is_callers
+
+          pub bad_scope : (fault : PolicyFault) → word_in scope_of (place.Key number key.Scope) d.scope ≡ Err fault → rule_in number ids d ≡ Err fault
+          bad_scope fault e = read_callers ∙ bind_stop (word_in scope_of (place.Key number key.Scope) d.scope) (r5 id effect callers) fault e
+
+          module _ (scope : Scope) (is_scope : word_in scope_of (place.Key number key.Scope) d.scope ≡ Ok scope) where
+            read_scope : rule_in number ids d ≡ r5 id effect callers scope
+            read_scope = read_callers ∙ bind_step (word_in scope_of (place.Key number key.Scope) d.scope) (r5 id effect callers) scope is_scope
+
+            pub bad_name : (fault : PolicyFault) → name_in number d.at ≡ Err fault → rule_in number ids d ≡ Err fault
+            bad_name fault e = read_scope ∙ bind_stop (name_in number d.at) (r6 id effect callers scope) fault e
+
+            module _ (at : List (List ℕ)) (is_name : name_in number d.at ≡ Ok at) where
+              read_name : rule_in number ids d ≡ r6 id effect callers scope at
+              read_name = read_scope ∙ bind_step (name_in number d.at) (r6 id effect callers scope) at is_name
+
+              pub bad_types : (fault : PolicyFault) → selection_in type_of (place.Key number key.Types) d.types ≡ Err fault → rule_in number ids d ≡ Err fault
+              bad_types fault e = read_name ∙ bind_stop (selection_in type_of (place.Key number key.Types) d.types) (r7 id effect callers scope at) fault e
+
+              module _ (types : Option (List RecordType)) (is_types : selection_in type_of (place.Key number key.Types) d.types ≡ Ok types) where
+                read_types : rule_in number ids d ≡ r7 id effect callers scope at types
+                read_types = read_name ∙ bind_step (selection_in type_of (place.Key number key.Types) d.types) (r7 id effect callers scope at) types is_types
+
+                pub bad_actions : (fault : PolicyFault) → selection_in action_of (place.Key number key.Actions) d.actions ≡ Err fault → rule_in number ids d ≡ Err fault
+                bad_actions fault e = read_types ∙ bind_stop (selection_in action_of (place.Key number key.Actions) d.actions) (r8 id effect callers scope at types) fault e
 
 -- ---- the rule of a table
 

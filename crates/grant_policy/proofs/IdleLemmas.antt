@@ -1,11 +1,12 @@
 -- Which rules are idle, and lists of numbers in order.
-use Rattle.std.proofs.Common.{◌≡◌, ◌↔◌, ℕ, ◌+◌, ◌<◌, ◌≤◌, List, [], ◌∷◌, ◌++◌, length, get_or, sym, subst, ⊎_elim, arith}
-use Rattle.std.specs.List.{Contains}
+use Rattle.std.proofs.Common.{◌≡◌, ◌↔◌, ℕ, ◌+◌, ◌<◌, ◌≤◌, List, [], ◌∷◌, ◌++◌, Vec, Global, map, length, get_or, sym, subst, ⊎_elim, arith}
+use Rattle.std.specs.List.{All, Contains}
 use Rattle.std.proofs.lemmas.Bool.{cases_lt}
-use Rattle.std.proofs.lemmas.List.{get_or_append_left, get_or_push, length_push}
-use Rattle.std.proofs.lemmas.List.Elements.{Contains-push, Contains-push_cases, Contains-append_left, Contains-get_or}
+use Rattle.std.proofs.lemmas.List.{get_or_append_left, get_or_push, length_push, map_push}
+use Rattle.std.proofs.lemmas.List.Elements.{All-push, Contains-push, Contains-push_cases, Contains-append_left, Contains-get_or}
+use Rattle.grant_policy.specs.declared.idle.IdleRule.{IdleRule}
 use Rattle.grant_policy.specs.declared.rule.Rule.{Rule}
-use Rattle.grant_policy.specs.Idle.{IsIdle, Takes}
+use Rattle.grant_policy.specs.Idle.{IsIdle, Takes, AreTakers, PushesIdle}
 use Rattle.grant_policy.specs.Claims.{AreBelow}
 
 -- a rule is idle where it does not decide what it matches itself
@@ -70,6 +71,22 @@ more_yes P n xs yes' are = record {
 
 pub same_to : (P : ℕ → Type 0) (n : ℕ) (xs : List ℕ) → ((k : ℕ) → P k → k < n) → AreBelow P n xs → (k : ℕ) → Contains xs k ↔ P k
 same_to P n xs all are k = (λ c. ((are.each k).0 c).1, λ p. (are.each k).1 (all k p, p))
+
+-- one rule more
+pub idle_more : (rules : List Rule) (n : ℕ) (old new : List IdleRule) (takers : Vec ℕ Global) → AreTakers rules n takers.items → PushesIdle (record { rule = n; takers = takers }) old new
+    → AreBelow (λ i. ¬ Takes rules i i) n (map (λ r. r.rule) old) → All (λ r. AreTakers rules r.rule r.takers.items) old
+    → record { idle : AreBelow (λ i. ¬ Takes rules i i) (n + 1) (map (λ r. r.rule) new); takers : All (λ r. AreTakers rules r.rule r.takers.items) new }
+idle_more rules n old new takers are pushes below all =
+    let P : ℕ → Type 0 = λ (i : ℕ). ¬ Takes rules i i in
+    let row : IdleRule = record { rule = n; takers = takers } in
+    let xs = map (λ (r : IdleRule). r.rule) old in
+    ⊎_elim
+    (λ (kept : (new ≡ old) × Contains takers.items n). rw kept.0 (record { idle = more_no P n xs (λ none. none ((are.each n).0 kept.1)) below; takers = all }))
+    (λ (added : (new ≡ old ++ row ∷ []) × (¬ Contains takers.items n)). rw added.0 (record {
+      idle = subst (AreBelow P (n + 1)) (sym (map_push (λ (r : IdleRule). r.rule) old row)) (more_yes P n xs (λ takes. added.1 ((are.each n).1 takes)) below);
+      takers = All-push (λ (r : IdleRule). AreTakers rules r.rule r.takers.items) old row all are;
+    }))
+    pushes
 
 -- the rules that do not take their own questions are the idle ones
 pub idle_are : (rules : List Rule) (n : ℕ) (xs : List ℕ) → n ≡ length rules → AreBelow (λ i. ¬ Takes rules i i) n xs → (i : ℕ) → Contains xs i ↔ ((i < length rules) × IsIdle rules i)

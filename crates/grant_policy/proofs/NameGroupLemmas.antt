@@ -5,7 +5,7 @@ use Rattle.std.specs.List.Sorted.{IsPermutation, IsSorted, IsStrictlySortedBy}
 use Rattle.std.specs.List.Retain.{IsFiltered, DiffersFromLast}
 use Rattle.std.specs.declared.cmp.Ordering.TheVariants.{Less}
 use Rattle.std.proofs.lemmas.Bool.{false≢true, false_from_ne_true, true_from_ne_false, both_ways}
-use Rattle.std.proofs.lemmas.List.{append-nil, length-map, take_more, take_all, get_or-take, get_or_default}
+use Rattle.std.proofs.lemmas.List.{append-nil, length-map, map_push, take_more, take_all, get_or-take, get_or_default}
 use Rattle.std.proofs.lemmas.List.Concat.{flat_map-append}
 use Rattle.std.proofs.lemmas.List.Elements.{All-nil, All-push, All-weaker, All-contains, All-filter, All-contains_itself, Contains-push, Contains-push_cases, Contains-append_left}
 use Rattle.std.proofs.lemmas.List.Filters.{dedup_is, All-dedup}
@@ -261,6 +261,15 @@ tops_are rules named sorted tops is valid moved up kept = record {
     kept_is = dedup_is same_name sorted tops kept
 
 -- ---- rows, one group after the other
+
+-- the names of the rules are added one by one
+pub names_more : (rules : List Rule) (n : ℕ) (rule : Rule) (old so_far : List (List (List ℕ))) → n < length rules → rule ≡ get_or rules n rule → so_far ≡ old ++ map (λ (r : Rule). r.at) (take n rules) → so_far ++ rule.at ∷ [] ≡ old ++ map (λ (r : Rule). r.at) (take (n + 1) rules)
+names_more rules n rule old so_far lt is e =
+    let at = λ (r : Rule). r.at in
+    ap (λ (l : List (List (List ℕ))). l ++ rule.at ∷ []) e
+    ∙ append_assoc old (map at (take n rules)) (rule.at ∷ [])
+    ∙ ap (λ (l : List (List (List ℕ))). old ++ l) (sym (map_push at (take n rules) rule))
+    ∙ ap (λ (l : List Rule). old ++ map at l) (ap (λ (r : Rule). take n rules ++ r ∷ []) is ∙ sym (take_more rules n rule lt))
 
 pub adds_none : (rules : List Rule) (top : List (List ℕ)) (rows : List GroupRights) → IsFreeChild rules top None → AddsGroup rules (Below top) rows rows
 adds_none rules top rows none = inl (refl, λ name is among. absurd (no_child rules top none name is among))

@@ -1,10 +1,10 @@
 -- Who may do what at a name, by the claims whose rules cover it.
-use Rattle.std.proofs.Common.{◌≡◌, ◌↔◌, ◌⊎◌, inl, inr, ℕ, zero, suc, ◌+◌, ◌<◌, ◌≤◌, Bool, true, false, ◌&&◌, ◌||◌, not, cond, if◌then◌else◌, List, [], ◌∷◌, ◌++◌, length, map, filter, get_or, take, drop, Result, Ok, Err, IfOk, refl, sym, ap, ◌∙◌, subst, ⊎_elim, arith, drop-cons}
+use Rattle.std.proofs.Common.{◌≡◌, ◌↔◌, ◌⊎◌, inl, inr, ℕ, zero, suc, ◌+◌, ◌<◌, ◌≤◌, Bool, true, false, ◌&&◌, ◌||◌, not, cond, if◌then◌else◌, List, [], ◌∷◌, ◌++◌, length, map, filter, get_or, take, drop, Result, Ok, Err, IfOk, refl, sym, ap, ◌∙◌, subst, ⊎_elim, arith, drop-cons, append-nil}
 use Rattle.std.specs.Prelude.{bytes_eq}
 use Rattle.std.specs.List.{All, AllPairs, Contains, list_any}
 use Rattle.std.proofs.lemmas.Bool.{cases_Bool, false≢true, false_from_ne_true, and_left, and_right, cond-false}
 use Rattle.std.proofs.lemmas.List.{map_push, take_more, take_all, length-map, get_or-map, drop_all}
-use Rattle.std.proofs.lemmas.List.Elements.{All-nil, All-push, All-weaker, All-contains, All-filter, filter_passes, Contains-push, Contains-push_cases, Contains-append_left}
+use Rattle.std.proofs.lemmas.List.Elements.{All-nil, All-push, All-weaker, All-contains, All-filter, filter_more, filter_passes, Contains-push, Contains-push_cases, Contains-append_left}
 use Rattle.std.proofs.lemmas.List.Folds.{Any-from_list_any, list_any_at}
 use Rattle.std.proofs.lemmas.List.Quantifiers.{all_pairs_push}
 use Rattle.std.proofs.lemmas.Slice.Eq.{bytes_eq-Decides}
@@ -29,6 +29,29 @@ use Rattle.grant_policy.specs.NameRights.{rules_at, IsNamedIn, IsNamedBefore, li
 use Rattle.grant_policy.proofs.CallerLemmas.{names, not_named}
 use Rattle.grant_policy.proofs.DecisionLaws.{granted_by}
 use Rattle.grant_policy.proofs.ClaimLemmas.{in_map, from_map}
+
+-- ---- the claims that cover a name
+
+abbrev does_cover : List (List ℕ) → Claim → Bool
+does_cover name c = covers c.rule.now.scope c.rule.now.at name
+
+module _ (claims : List Claim) (name : List (List ℕ)) (n : ℕ) (so_far : List Claim) (claim : Claim) (lt : n < length claims) (is : claim ≡ get_or claims n claim) where
+  one_claim : (b : Bool) → does_cover name claim ≡ b → so_far ≡ claims_at (take n claims) name → so_far ++ cond b (claim ∷ []) [] ≡ claims_at (take (n + 1) claims) name
+  one_claim b tells e =
+      let here : does_cover name (get_or claims n claim) ≡ b = ap (does_cover name) (sym is) ∙ tells in
+      ap (λ (l : List Claim). l ++ cond b (claim ∷ []) []) e
+      ∙ ap (λ (c : Claim). claims_at (take n claims) name ++ cond b (c ∷ []) []) is
+      ∙ sym (ap (λ (x : Bool). claims_at (take n claims) name ++ cond x (get_or claims n claim ∷ []) []) here)
+      ∙ sym (filter_more (does_cover name) claims n claim lt)
+
+  pub claims_yes : does_cover name claim ≡ true → so_far ≡ claims_at (take n claims) name → so_far ++ claim ∷ [] ≡ claims_at (take (n + 1) claims) name
+  claims_yes yes' e = one_claim true yes' e
+
+  pub claims_no : does_cover name claim ≡ false → so_far ≡ claims_at (take n claims) name → so_far ≡ claims_at (take (n + 1) claims) name
+  claims_no no' e = sym (append-nil so_far) ∙ one_claim false no' e
+
+pub claims_all : (claims : List Claim) (name : List (List ℕ)) (n : ℕ) (so_far : List Claim) → length claims ≤ n → so_far ≡ claims_at (take n claims) name → so_far ≡ claims_at claims name
+claims_all claims name n so_far past e = e ∙ ap (λ (l : List Claim). claims_at l name) (take_all n claims past)
 
 -- ---- what claims grant, one after the other
 

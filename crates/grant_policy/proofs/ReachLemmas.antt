@@ -1,11 +1,12 @@
 -- Grants are where the reaches of the granting rules are.
-use Rattle.std.proofs.Common.{◌≡◌, ◌⊎◌, ℕ, suc, ◌+◌, ◌<◌, ◌≤◌, List, [], ◌∷◌, length, drop, get_or, Bool, true, false, cond, ◌&&◌, ◌||◌, Option, Some, None, IfSome, inl, inr, ⊎_elim, refl, sym, ap, subst, ◌∙◌, arith, append-nil, length-append}
+use Rattle.std.proofs.Common.{◌≡◌, ◌⊎◌, ℕ, suc, ◌+◌, ◌<◌, ◌≤◌, List, [], ◌∷◌, ◌++◌, length, take, drop, get_or, Bool, true, false, cond, ◌&&◌, ◌||◌, Option, Some, None, IfSome, inl, inr, ⊎_elim, refl, sym, ap, subst, ◌∙◌, arith, append-nil, length-append}
 use Rattle.std.specs.List.{All, list_any}
 use Rattle.std.specs.Option.{option_to_list}
 use Rattle.std.proofs.lemmas.List.Folds.{list_any-append}
 use Rattle.std.proofs.lemmas.List.Elements.{All-nil, All-cons, All-head, All-tail, All-drop}
 use Rattle.std.proofs.Math.Seq.{drop-cons}
-use Rattle.std.proofs.lemmas.List.{drop_all}
+use Rattle.std.proofs.lemmas.List.{drop_all, take_more}
+use Rattle.std.proofs.lemmas.List.Concat.{flat_map-append}
 use Rattle.std.proofs.lemmas.Bool.{cases_Bool, false≢true, and_parts, and_from}
 use Rattle.dns_names.specs.Labels.{IsWithin, is_within, parent_of}
 use Rattle.dns_data.specs.declared.record_type.RecordType.{RecordType}
@@ -334,3 +335,12 @@ module _ (asked : Question) (origin : Labels) (inside : IsWithin asked.name orig
 
   pub granted_in_some : (rules : List Rule) → is_granted (decision asked rules) ≡ true → covered (reaches asked.caller asked.action origin rules) ≡ true
   granted_in_some rules granted = in_some rules (some_grants asked rules granted)
+
+-- one rule more
+pub reaches_more : (caller : List ℕ) (action : Action) (origin : Labels) (rules : List Rule) (i : ℕ) (rule : Rule) → i < length rules → rule ≡ get_or rules i rule
+    → reaches caller action origin (take i rules) ++ option_to_list (reach_of caller action origin rule) ≡ reaches caller action origin (take (i + 1) rules)
+reaches_more caller action origin rules i rule lt is =
+    let f : Rule → List Labels = λ (r : Rule). option_to_list (reach_of caller action origin r) in
+    ap (λ (l : List Labels). reaches caller action origin (take i rules) ++ l) (sym (append-nil (f rule)))
+    ∙ sym (flat_map-append f (take i rules) (rule ∷ []))
+    ∙ ap (reaches caller action origin) (ap (λ (r : Rule). take i rules ++ r ∷ []) is ∙ sym (take_more rules i rule lt))

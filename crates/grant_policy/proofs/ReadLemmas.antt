@@ -5,10 +5,11 @@ use Rattle.std.proofs.lemmas.List.{drop_all, map-append, take_more, drop_more, t
 use Rattle.toml.specs.declared.value.Value.{Value}
 use Rattle.toml.specs.Data.{Data, string, integer, float, boolean, datetime, array, table, Items, item, Members, as_str, as_array, as_table}
 use Rattle.toml.specs.View.{view, items_view, members_view}
+use Rattle.toml.proofs.Views.{items_view-drop}
 use Rattle.grant_policy.specs.declared.policy_fault.PolicyFault.{PolicyFault}
 use Rattle.grant_policy.specs.declared.policy_fault.PolicyFault.TheVariants.{NotToml, UnknownKey, MissingKey, BadValue, IdRepeated, IdReserved, TooManyRules, Name, NoMemory}
 use Rattle.grant_policy.specs.declared.policy_fault.PolicyPlace.{PolicyPlace}
-use Rattle.grant_policy.specs.Faults.{Refuses, ◌>>=◌}
+use Rattle.grant_policy.specs.Faults.{Reads, Refuses, ◌>>=◌}
 use Rattle.grant_policy.specs.Reading.{word_in, words_of, selection_in, rule_of, rules_of, IsNamedIn, AreNamedIn, has_only, tables_of, rule_tables, SameIds, is_among, free_id, free_rules}
 use Rattle.grant_policy.specs.Documents.{document_of}
 use Rattle.grant_policy.specs.declared.policy_fault.PolicyPlace.TheVariants.{Rules}
@@ -48,6 +49,15 @@ front_none (Err fault) = refl
 
 pub front_all : {X : Type 0} (done : List X) → with_front done (Ok []) ≡ Ok done
 front_all done = ap (λ (l : List _). Ok l) (append-nil done)
+
+-- an item, and those after it
+pub item_here : (items : List Value) (i : ℕ) (v : Value) → i < length items → v ≡ get_or items i v → items_view (drop i items) ≡ item (view v) (items_view (drop (i + 1) items))
+item_here items i v lt is = items_view-drop items i v lt ∙ ap (λ (x : Value). item (view x) (items_view (drop (i + 1) items))) (sym is)
+
+-- a member that is needed, as it is found
+pub reads_member : {X Y : Type 0} (view : X → Y) (o : Option X) (place : PolicyPlace) → Reads view (ok_or o (MissingKey place)) (ok_or (option_map view o) (MissingKey place))
+reads_member view None place = refl
+reads_member view (Some x) place = refl
 
 -- ---- words
 

@@ -1,8 +1,11 @@
 -- The refusals of policies, by their published numbers.
-use Rattle.std.specs.Prelude.{◌≡◌, ℕ, Result, Ok, Err}
+use Rattle.std.specs.Prelude.{◌≡◌, ℕ, List, Option, Some, None, Result, Ok, Err, codes}
 use Rattle.dns_names.specs.declared.name_fault.NameFault.{NameFault}
 use Rattle.dns_names.specs.declared.name_fault.NameFault.TheVariants as names
 use Rattle.grant_policy.specs.declared.policy_fault.PolicyFault.{PolicyFault}
+use Rattle.grant_policy.specs.declared.policy_fault.PolicyPlace.{PolicyPlace}
+use Rattle.grant_policy.specs.declared.policy_fault.PolicyPlace.TheVariants as places
+use Rattle.grant_policy.specs.declared.policy_fault.RuleKey.TheVariants as keys
 use Rattle.grant_policy.specs.declared.policy_fault.PolicyFault.TheVariants.{NotToml, UnknownKey, MissingKey, BadValue, IdRepeated, IdReserved, TooManyRules, Name, NoMemory}
 
 abbrev pub fault_number : PolicyFault → ℕ
@@ -15,6 +18,30 @@ fault_number (IdReserved number) = 56
 fault_number TooManyRules = 57
 fault_number (Name number fault) = 58
 fault_number NoMemory = 99
+
+-- where in the document it is, unless the whole of it is meant
+abbrev pub fault_place : PolicyFault → Option PolicyPlace
+fault_place NotToml = None
+fault_place (UnknownKey place) = Some place
+fault_place (MissingKey place) = Some place
+fault_place (BadValue place) = Some place
+fault_place (IdRepeated number) = Some (places.Rule number)
+fault_place (IdReserved number) = Some (places.Rule number)
+fault_place TooManyRules = None
+fault_place (Name number fault) = Some (places.Key number keys.At)
+fault_place NoMemory = None
+
+-- what is wrong, as it is told behind the place
+abbrev pub fault_words : PolicyFault → List ℕ
+fault_words NotToml = codes "the policy is no TOML document"
+fault_words (UnknownKey place) = codes " has a key that is not known"
+fault_words (MissingKey place) = codes " is missing"
+fault_words (BadValue place) = codes " has a value that is not allowed"
+fault_words (IdRepeated number) = codes " has the id of a rule before it"
+fault_words (IdReserved number) = codes " has the id `closing`, which is that of the closing default"
+fault_words TooManyRules = codes "the policy has more than 1024 rules"
+fault_words (Name number fault) = codes ": "
+fault_words NoMemory = codes "out of memory"
 
 -- the refusal of a rule where its name is refused
 abbrev pub of_name : ℕ → NameFault → PolicyFault

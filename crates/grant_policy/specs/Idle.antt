@@ -1,8 +1,9 @@
 -- Rules that never decide, and the rules that take their questions.
-use Rattle.std.specs.Prelude.{◌≡◌, ◌↔◌, ℕ, List, Some, slice_get}
+use Rattle.std.specs.Prelude.{◌≡◌, ◌↔◌, ◌⊎◌, ℕ, List, [], ◌∷◌, ◌++◌, Some, slice_get}
 use Rattle.std.specs.List.{Contains}
 use Rattle.std.specs.List.Sorted.{IsStrictlyIncreasing}
 use Rattle.dns_names.specs.Labels.{IsName}
+use Rattle.grant_policy.specs.declared.idle.IdleRule.{IdleRule}
 use Rattle.grant_policy.specs.declared.rule.Rule.{Rule}
 use Rattle.grant_policy.specs.Identifiers.{IsIdentifier}
 use Rattle.grant_policy.specs.Rules.{Question, Matches}
@@ -31,3 +32,9 @@ pub record Takes (rules : List Rule) (i j : ℕ) : Type 0 where
 pub record AreTakers (rules : List Rule) (i : ℕ) (takers : List ℕ) : Type 0 where
   pub each : (j : ℕ) → Contains takers j ↔ Takes rules i j
   pub ordered : IsStrictlyIncreasing takers
+
+-- a rule is added with its takers, unless it is one of them
+abbrev pub PushesIdle : IdleRule → List IdleRule → List IdleRule → Type 0
+PushesIdle row old new =
+    ((new ≡ old) × Contains row.takers.items row.rule)
+    ⊎ ((new ≡ old ++ row ∷ []) × (¬ Contains row.takers.items row.rule))

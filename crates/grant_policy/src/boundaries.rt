@@ -60,13 +60,21 @@ impl Boundary {
     }
 }
 
+/// Adds the boundary at a key, and the one after it. The only error is out of memory.
+fn push_key(alloc: Global, all: &mut Vec<Boundary>, key: &[u8]) -> Result<(), AllocError>
+    ensures { IfOk result (λ _. all.new.items ≡ all.old.items ++ key.now ∷ (key.now ++ 0 ∷ []) ∷ []) }
+{
+    all.push(Boundary::at(alloc, key)?)?;
+    all.push(Boundary::after(alloc, key)?)?;
+    Ok(())
+}
+
 /// Adds the boundaries of the name of a rule. The only error is out of memory.
 fn push_boundaries(alloc: Global, all: &mut Vec<Boundary>, rule: &Rule) -> Result<(), AllocError>
     ensures { IfOk result (λ _. all.new.items ≡ all.old.items ++ boundaries_at rule.now.at) }
 {
     let range = rule.at.key_range(alloc)?;
-    all.push(Boundary::at(alloc, range.first)?)?;
-    all.push(Boundary::after(alloc, range.first)?)?;
+    push_key(alloc, all, range.first)?;
     if let Some(octets) = range.end {
         all.push(Boundary { octets })?;
     }

@@ -37,10 +37,7 @@ fn word_of<T: Word>(alloc: Global, value: &Value, place: PolicyPlace) -> Result<
     ensures { Reads (λ word. word) result (word_in T.word_of place (view value.now)) }
 {
     let text = text_of(value, place)?;
-    match T::of_text(alloc, text)? {
-        Some(word) => Ok(word),
-        None => Err(PolicyFault::BadValue(place)),
-    }
+    T::of_text(alloc, text)?.ok_or(PolicyFault::BadValue(place))
 }
 
 /// The name of the rule of this number.
@@ -71,10 +68,8 @@ struct Values<'a> {
 fn value_at(number: usize, table: &Table, key: RuleKey) -> Result<&Value, PolicyFault>
     ensures { Reads (λ v. view v.now) result (needed number (table_view table.now) key) }
 {
-    match table.get(key.text()) {
-        Some(value) => Ok(value),
-        None => Err(PolicyFault::MissingKey(PolicyPlace::Key(number, key))),
-    }
+    let place = PolicyPlace::Key(number, key);
+    table.get(key.text()).ok_or(PolicyFault::MissingKey(place))
 }
 
 /// The values of the rule of this number.

@@ -95,17 +95,33 @@ fn exposure_among(
     ensures { IfOk result (λ found. MatchOption found (IsIsolated rules.now caller.now) (IsExposed rules.now caller.now)) }
 {
     for name in names {
-        let entries = entries_at(alloc, claims, name)?;
-        let found = exposure_at(alloc, rules, &entries, name, caller)?;
-        if let Some(exposure) = found {
+        if let Some(exposure) = exposure_at(alloc, rules, claims, name, caller)? {
             return Ok(Some(exposure));
         }
     }
     Ok(None)
 }
 
-/// What keeps a caller from being isolated at a name, by the entries there.
+/// What keeps a caller from being isolated at a name.
 fn exposure_at(
+    alloc: Global,
+    rules: &[Rule],
+    claims: &[Claim<'_>],
+    name: &Name,
+    caller: &Identifier,
+) -> Result<Option<Exposure>, AllocError>
+    requires few { length rules.now ≤ 1024 }
+    requires claims { All IsClaim claims.now }
+    requires rules { rules_of claims.now ≡ rules.now }
+    requires name { IsName name.now }
+    ensures { IfOk result (λ found. MatchOption found (IsIsolatedAt rules.now caller.now name.now) (IsExposed rules.now caller.now)) }
+{
+    let entries = entries_at(alloc, claims, name)?;
+    exposure_by_entries(alloc, rules, &entries, name, caller)
+}
+
+/// The same, by the entries there.
+fn exposure_by_entries(
     alloc: Global,
     rules: &[Rule],
     entries: &[Entry<'_>],

@@ -1,9 +1,9 @@
 //! Rules that never decide.
 
-ghost use Rattle.std.specs.Prelude.{◌≡◌, ◌↔◌, ◌<◌, ◌≤◌, ◌==◌, ℕ, length, map, IfOk};
+ghost use Rattle.std.specs.Prelude.{◌≡◌, ◌↔◌, ◌<◌, ◌≤◌, ◌==◌, ℕ, length, map, IfOk, OnOk};
 ghost use Rattle.std.specs.List.{All, Contains, list_any};
 ghost use Rattle.std.specs.List.Sorted.{IsStrictlyIncreasing};
-ghost use Rattle.grant_policy.specs.Idle.{IsIdle, AreTakers};
+ghost use Rattle.grant_policy.specs.Idle.{IsIdle, AreTakers, PushesIdle};
 ghost use Rattle.grant_policy.specs.Representatives.{Represent};
 ghost use Rattle.grant_policy.specs.Claims.{IsClaim, IsRow, rules_of};
 
@@ -12,6 +12,7 @@ use crate::policy::Policy;
 use crate::representatives::representatives;
 use crate::rule::Rule;
 use crate::taking::takers;
+use dns_names::Name;
 use std::alloc::{AllocError, Global};
 
 /// A rule that never decides.
@@ -44,12 +45,35 @@ fn idle_among(alloc: Global, rules: &[Rule]) -> Result<Vec<IdleRule>, AllocError
     ensures ordered { IfOk result (λ idle. IsStrictlyIncreasing (map (λ r. r.rule) idle.items)) }
 {
     let names = representatives(alloc, rules)?;
-    let claims = claims_of(alloc, rules)?;
-    let rows = rows_of(alloc, &claims, &names)?;
-    idle_of(alloc, &claims, &rows)
+    idle_at(alloc, rules, &names)
 }
 
-/// The same, of rules with their pairs. The rows have to be of names that represent all names.
+/// The same, by names that represent all names.
+fn idle_at(alloc: Global, rules: &[Rule], names: &[Name]) -> Result<Vec<IdleRule>, AllocError>
+    requires few { length rules.now ≤ 1024 }
+    requires names { Represent rules.now names.now }
+    ensures idle { IfOk result (λ idle. (i : ℕ) → Contains (map (λ r. r.rule) idle.items) i ↔ ((i < length rules.now) × IsIdle rules.now i)) }
+    ensures takers { IfOk result (λ idle. All (λ r. AreTakers rules.now r.rule r.takers.items) idle.items) }
+    ensures ordered { IfOk result (λ idle. IsStrictlyIncreasing (map (λ r. r.rule) idle.items)) }
+{
+    let claims = claims_of(alloc, rules)?;
+    idle_by(alloc, &claims, names)
+}
+
+/// The same, of rules with their pairs.
+fn idle_by(alloc: Global, claims: &[Claim<'_>], names: &[Name]) -> Result<Vec<IdleRule>, AllocError>
+    requires few { length claims.now ≤ 1024 }
+    requires claims { All IsClaim claims.now }
+    requires names { Represent (rules_of claims.now) names.now }
+    ensures idle { IfOk result (λ idle. (i : ℕ) → Contains (map (λ r. r.rule) idle.items) i ↔ ((i < length (rules_of claims.now)) × IsIdle (rules_of claims.now) i)) }
+    ensures takers { IfOk result (λ idle. All (λ r. AreTakers (rules_of claims.now) r.rule r.takers.items) idle.items) }
+    ensures ordered { IfOk result (λ idle. IsStrictlyIncreasing (map (λ r. r.rule) idle.items)) }
+{
+    let rows = rows_of(alloc, claims, names)?;
+    idle_of(alloc, claims, &rows)
+}
+
+/// The same, by rows of names that represent all names.
 fn idle_of(
     alloc: Global,
     claims: &[Claim<'_>],
@@ -66,16 +90,18 @@ fn idle_of(
     let mut idle = Vec::new(alloc);
     for rule in 0..claims.len() {
         let takers = takers(alloc, claims, rows, rule)?;
-        if !is_among(&takers, rule) {
-            idle.push(IdleRule { rule, takers })?;
-        }
+        push_idle(&mut idle, IdleRule { rule, takers })?;
     }
     Ok(idle)
 }
 
-/// Whether a number is among others.
-fn is_among(numbers: &[usize], number: usize) -> bool
-    ensures { result ≡ list_any (λ n. n == number) numbers.now }
+/// Adds a rule with its takers, unless it is among them.
+fn push_idle(idle: &mut Vec<IdleRule>, row: IdleRule) -> Result<(), AllocError>
+    ensures { OnOk result (PushesIdle row idle.old.items idle.new.items) }
 {
-    numbers.iter().any(|other| *other == number)
+    if row.takers.contains(&row.rule) {
+        return Ok(());
+    }
+    idle.push(row)?;
+    Ok(())
 }

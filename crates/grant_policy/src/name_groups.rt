@@ -1,8 +1,9 @@
 //! Who may do what at all names, group by group.
 
-ghost use Rattle.std.specs.Prelude.{◌≡◌, ◌≤◌, ℕ, List, [], ◌∷◌, map, length, IfOk, OnOk};
+ghost use Rattle.std.specs.Prelude.{◌≡◌, ◌≤◌, ℕ, List, [], ◌∷◌, ◌++◌, map, length, IfOk, OnOk};
 ghost use Rattle.std.specs.List.{All};
 ghost use Rattle.dns_names.specs.Labels.{IsName};
+ghost use Rattle.grant_policy.specs.declared.name_groups.GroupRights.{GroupRights as RowOf};
 ghost use Rattle.grant_policy.specs.declared.name_groups.NameGroup.TheVariants.{Exactly, Below};
 ghost use Rattle.grant_policy.specs.Claims.{IsClaim, rules_of};
 ghost use Rattle.grant_policy.specs.NameGroups.{AreGroupRights, AreTops, AddsGroup, PushesRow, IsInGroup, IsTop};
@@ -69,13 +70,29 @@ fn names_of(alloc: Global, rules: &[Rule]) -> Result<Vec<Name>, AllocError>
     ensures names { IfOk result (λ names. names.items ≡ [] ∷ map (λ rule. rule.at) rules.now) }
     ensures valid { IfOk result (λ names. All IsName names.items) }
 {
-    let root = root(alloc)?;
     let mut names = Vec::new(alloc);
-    add_copy(alloc, &root, &mut names)?;
-    for rule in rules {
-        add_copy(alloc, &rule.at, &mut names)?;
-    }
+    add_root(alloc, &mut names)?;
+    add_names(alloc, rules, &mut names)?;
     Ok(names)
+}
+
+/// Adds the root.
+fn add_root(alloc: Global, names: &mut Vec<Name>) -> Result<(), AllocError>
+    ensures { OnOk result (names.new.items ≡ names.old.items ++ [] ∷ []) }
+{
+    let root = root(alloc)?;
+    add_copy(alloc, &root, names)
+}
+
+/// Adds the names of rules.
+fn add_names(alloc: Global, rules: &[Rule], names: &mut Vec<Name>) -> Result<(), AllocError>
+    ensures added { OnOk result (names.new.items ≡ names.old.items ++ map (λ rule. rule.at) rules.now) }
+    ensures valid { OnOk result (All IsName names.old.items → All IsName names.new.items) }
+{
+    for rule in rules {
+        add_copy(alloc, &rule.at, names)?;
+    }
+    Ok(())
 }
 
 /// The rows of the groups of tops, by rules with their pairs.
@@ -93,10 +110,28 @@ fn rows_at(
 {
     let mut rows = Vec::new(alloc);
     for top in tops {
-        add_exactly(alloc, claims, top, &mut rows)?;
-        add_below(alloc, rules, claims, top, &mut rows)?;
+        add_groups(alloc, rules, claims, top, &mut rows)?;
     }
     Ok(rows)
+}
+
+/// Adds the row of a top alone, and then that of what is below it.
+fn add_groups(
+    alloc: Global,
+    rules: &[Rule],
+    claims: &[Claim<'_>],
+    top: &Name,
+    rows: &mut Vec<GroupRights>,
+) -> Result<(), AllocError>
+    requires few { length rules.now ≤ 1024 }
+    requires claims { All IsClaim claims.now }
+    requires rules { rules_of claims.now ≡ rules.now }
+    requires top { IsTop rules.now top.now }
+    requires name { IsName top.now }
+    ensures { OnOk result ((middle : List RowOf) × AddsGroup rules.now (Exactly top.now) rows.old.items middle × AddsGroup rules.now (Below top.now) middle rows.new.items) }
+{
+    add_exactly(alloc, claims, top, rows)?;
+    add_below(alloc, rules, claims, top, rows)
 }
 
 /// Adds the row of a top alone, if something is granted there.
@@ -130,12 +165,29 @@ fn add_below(
     requires top { IsTop rules.now top.now }
     ensures { OnOk result (AddsGroup rules.now (Below top.now) rows.old.items rows.new.items) }
 {
-    let found = free_child(alloc, rules, top)?;
-    let Some(child) = found else {
-        return Ok(());
-    };
+    match free_child(alloc, rules, top)? {
+        Some(child) => add_below_at(alloc, claims, top, &child, rows),
+        None => Ok(()),
+    }
+}
+
+/// Adds the row of what is below a top, where this name is, if something is granted there.
+fn add_below_at(
+    alloc: Global,
+    claims: &[Claim<'_>],
+    top: &Name,
+    name: &Name,
+    rows: &mut Vec<GroupRights>,
+) -> Result<(), AllocError>
+    requires few { length claims.now ≤ 1024 }
+    requires claims { All IsClaim claims.now }
+    requires name { IsName name.now }
+    requires among { IsInGroup (rules_of claims.now) name.now (Below top.now) }
+    requires alike { (other : List (List ℕ)) → IsInGroup (rules_of claims.now) other (Below top.now) → AreAlike (rules_of claims.now) other name.now }
+    ensures { OnOk result (AddsGroup (rules_of claims.now) (Below top.now) rows.old.items rows.new.items) }
+{
     let group = NameGroup::Below(top.try_copy(alloc)?);
-    add_group(alloc, claims, &child, group, rows)
+    add_group(alloc, claims, name, group, rows)
 }
 
 /// Adds the row of a group, all of whose names are like this one, if something is granted there.

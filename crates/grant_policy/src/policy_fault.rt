@@ -5,8 +5,8 @@ ghost use Rattle.grant_policy.specs.declared.policy_fault.PolicyFault.TheVariant
 
 use dns_names::NameFault;
 use std::alloc::{AllocError, AllocFailed};
-use std::fmt::{self, Display, Formatter, Write};
-use thiserror::Error;
+use std::error::Error;
+use std::fmt::{self, Debug, Display, Formatter, Write};
 
 /// A key of a rule.
 #[derive(Clone, Copy, Debug, PartialEq, Eq)]
@@ -51,7 +51,7 @@ impl RuleKey {
 }
 
 /// Where in the document of a policy something is wrong.
-#[derive(Clone, Copy, Debug, PartialEq, Eq)]
+#[derive(Clone, Copy, PartialEq, Eq)]
 pub enum PolicyPlace {
     /// At the top of the document.
     Document,
@@ -66,48 +66,45 @@ pub enum PolicyPlace {
 impl Display for PolicyPlace {
     fn fmt<W: Write>(&self, f: &mut Formatter<W>) -> fmt::Result {
         match self {
-            PolicyPlace::Document => write!(f, "the top of the policy"),
-            PolicyPlace::Rules => write!(f, "`rule`"),
+            PolicyPlace::Document => f.write_str("the top of the policy"),
+            PolicyPlace::Rules => f.write_str("`rule`"),
             PolicyPlace::Rule(number) => write!(f, "rule {number}"),
             PolicyPlace::Key(number, key) => write!(f, "`{}` of rule {number}", key.text()),
         }
     }
 }
 
+impl Debug for PolicyPlace {
+    fn fmt<W: Write>(&self, f: &mut Formatter<W>) -> fmt::Result {
+        Display::fmt(self, f)
+    }
+}
+
 /// What is wrong with the document of a policy, or with the rules of one. Rules are counted from 1.
-#[derive(Clone, Copy, Debug, PartialEq, Eq, Error)]
+#[derive(Clone, Copy, PartialEq, Eq)]
 pub enum PolicyFault {
     /// The text is no TOML document, or not UTF-8.
-    #[error("the policy is no TOML document")]
     NotToml,
     /// A table has a key that none of its kind has.
-    #[error("{0} has a key that is not known")]
     UnknownKey(PolicyPlace),
     /// A rule lacks a key.
-    #[error("{0} is missing")]
     MissingKey(PolicyPlace),
     /// A value is not one of those that its key may have.
-    #[error("{0} has a value that is not allowed")]
     BadValue(PolicyPlace),
     /// The rule of this number has the id of one before it.
-    #[error("rule {0} has the id of a rule before it")]
     IdRepeated(usize),
     /// The rule of this number is called as the closing default is.
-    #[error("rule {0} has the id `closing`, which is that of the closing default")]
     IdReserved(usize),
     /// There are more than 1,024 rules.
-    #[error("the policy has more than 1024 rules")]
     TooManyRules,
     /// The `at` of the rule of this number is no absolute name.
-    #[error("`at` of rule {0}: {1}")]
     Name(usize, NameFault),
     /// Memory ran out. This says nothing of the policy.
-    #[error("out of memory")]
     NoMemory,
 }
 
 impl PolicyFault {
-    ghost use Rattle.grant_policy.specs.Faults.{fault_number, of_name};
+    ghost use Rattle.grant_policy.specs.Faults.{fault_number, fault_place, fault_words, of_name};
 
     /// The published number of the refusal, 51 to 58, or 99 when out of memory. A name's own number is that of its fault.
     pub const fn number(self) -> u8
@@ -126,6 +123,41 @@ impl PolicyFault {
         }
     }
 
+    /// Where in the document it is, unless the whole of it is meant.
+    const fn place(self) -> Option<PolicyPlace>
+        ensures { result ≡ fault_place self }
+    {
+        match self {
+            PolicyFault::UnknownKey(place)
+            | PolicyFault::MissingKey(place)
+            | PolicyFault::BadValue(place) => Some(place),
+            PolicyFault::IdRepeated(number) | PolicyFault::IdReserved(number) => {
+                Some(PolicyPlace::Rule(number))
+            }
+            PolicyFault::Name(number, _) => Some(PolicyPlace::Key(number, RuleKey::At)),
+            PolicyFault::NotToml | PolicyFault::TooManyRules | PolicyFault::NoMemory => None,
+        }
+    }
+
+    /// What is wrong, as it is told behind the place.
+    const fn words(self) -> &'static str
+        ensures { result.now ≡ fault_words self }
+    {
+        match self {
+            PolicyFault::NotToml => "the policy is no TOML document",
+            PolicyFault::UnknownKey(_) => " has a key that is not known",
+            PolicyFault::MissingKey(_) => " is missing",
+            PolicyFault::BadValue(_) => " has a value that is not allowed",
+            PolicyFault::IdRepeated(_) => " has the id of a rule before it",
+            PolicyFault::IdReserved(_) => {
+                " has the id `closing`, which is that of the closing default"
+            }
+            PolicyFault::TooManyRules => "the policy has more than 1024 rules",
+            PolicyFault::Name(..) => ": ",
+            PolicyFault::NoMemory => "out of memory",
+        }
+    }
+
     /// The refusal of the rule of this number, whose name is refused.
     pub(crate) fn of_name(number: usize, fault: NameFault) -> PolicyFault
         ensures { result ≡ of_name number fault }
@@ -136,6 +168,27 @@ impl PolicyFault {
         }
     }
 }
+
+impl Display for PolicyFault {
+    fn fmt<W: Write>(&self, f: &mut Formatter<W>) -> fmt::Result {
+        if let Some(place) = self.place() {
+            write!(f, "{place}")?;
+        }
+        f.write_str(self.words())?;
+        match self {
+            PolicyFault::Name(_, fault) => write!(f, "{fault}"),
+            _ => Ok(()),
+        }
+    }
+}
+
+impl Debug for PolicyFault {
+    fn fmt<W: Write>(&self, f: &mut Formatter<W>) -> fmt::Result {
+        Display::fmt(self, f)
+    }
+}
+
+impl Error for PolicyFault {}
 
 impl From<AllocError> for PolicyFault {
     ghost from_gives = { λ _ e. e ≡ NoMemory };

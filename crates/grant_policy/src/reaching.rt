@@ -1,6 +1,6 @@
 //! How far the grants of a caller reach.
 
-ghost use Rattle.std.specs.Prelude.{◌≡◌, ◌++◌, IfOk};
+ghost use Rattle.std.specs.Prelude.{◌≡◌, ◌++◌, IfOk, OnOk};
 ghost use Rattle.std.specs.List.Sorted.{IsPermutation, IsSorted};
 ghost use Rattle.std.specs.Option.{option_copied, option_to_list};
 ghost use Rattle.dns_names.specs.Order.{canonical_cmp};
@@ -90,21 +90,21 @@ pub fn reach(
     Ok(so_far)
 }
 
-/// Names, and the one to which a rule reaches within an origin, if it reaches to one. The only error is out of memory.
-fn with_reach(
+/// Adds the name to which a rule reaches within an origin, if it reaches to one. The only error is out of memory.
+fn add_reach(
     alloc: Global,
-    mut names: Vec<Name>,
+    names: &mut Vec<Name>,
     rule: &Rule,
     caller: &Identifier,
     action: Action,
     origin: &Name,
-) -> Result<Vec<Name>, AllocError>
-    ensures { IfOk result (λ all. all.items ≡ names.items ++ option_to_list (reach_of caller.now action origin.now rule.now)) }
+) -> Result<(), AllocError>
+    ensures { OnOk result (names.new.items ≡ names.old.items ++ option_to_list (reach_of caller.now action origin.now rule.now)) }
 {
     if let Some(name) = reach_of(rule, caller, action, origin) {
         names.push(name.try_copy(alloc)?)?;
     }
-    Ok(names)
+    Ok(())
 }
 
 /// The names within an origin to which the grants of the action to the caller reach: each rule that grants it reaches to its own
@@ -124,7 +124,7 @@ pub fn reaches(
 {
     let mut names = Vec::new(alloc);
     for rule in policy.rules() {
-        names = with_reach(alloc, names, rule, caller, action, origin)?;
+        add_reach(alloc, &mut names, rule, caller, action, origin)?;
     }
     names.sort()?;
     Ok(names)

@@ -8,7 +8,7 @@ ghost use Rattle.grant_policy.specs.Idle.{AreTakers};
 ghost use Rattle.grant_policy.specs.Representatives.{Represent};
 ghost use Rattle.grant_policy.specs.declared.claims.Entry.{Entry as EntryOf};
 ghost use Rattle.grant_policy.specs.Points.{has_point};
-ghost use Rattle.grant_policy.specs.Claims.{AreBelow, IsClaim, IsRow, Hits, TakesBehind, is_decided, rules_of};
+ghost use Rattle.grant_policy.specs.Claims.{AreBelow, IsClaim, IsRow, Hits, TakesBehind, TakesIn, is_decided, rules_of};
 
 use crate::claims::{Claim, Coverage, Entry};
 use crate::points::Points;
@@ -29,15 +29,21 @@ pub(crate) fn takers(
     requires names { Represent (rules_of claims.now) (map (λ r. r.name.now) rows.now) }
     ensures { IfOk result (λ takers. AreTakers (rules_of claims.now) number takers.items) }
 {
-    let claim = claims[number];
     let mut found = vec![in alloc; false; claims.len()]?;
+    mark_rows(claims[number], number, rows, &mut found);
+    marked(alloc, &found)
+}
+
+/// Marks the rules that take questions of a rule, whose number this is, in a row.
+fn mark_rows(claim: Claim<'_>, number: usize, rows: &[Coverage<'_>], found: &mut [bool])
+    requires { All (λ row. All (λ e. e.number < length found.old) row.entries.items) rows.now }
+    ensures { (j : ℕ) → j < length found.old → slice_index_or found.new j false ≡ true ↔ ((slice_index_or found.old j false ≡ true) ⊎ TakesIn claim.entry number rows.now j) }
+{
     for row in rows {
         if is_in(&row.entries, number) {
-            mark(claim, &row.entries, &mut found);
+            mark(claim, &row.entries, found);
         }
     }
-    let takers = marked(alloc, &found)?;
-    Ok(takers)
 }
 
 /// Whether the rule of this number has an entry.

@@ -1,10 +1,19 @@
-use Rattle.std.proofs.Common.{List, [], ◌∷◌, ◌++◌, take, sym, ap, ◌∙◌}
-use Rattle.std.proofs.lemmas.List.{map_push, take_more}
-use Rattle.std.proofs.lemmas.List.Elements.{All-push}
+use Rattle.std.proofs.Common.{List, [], ◌∷◌, ◌++◌, take, refl, sym, ap, ◌∙◌}
+use Rattle.std.proofs.lemmas.List.{map_push, take_more, take_all}
+use Rattle.std.proofs.lemmas.List.Elements.{All-nil, All-push}
 use Rattle.grant_policy.specs.declared.claims.Claim.{Claim}
 use Rattle.grant_policy.specs.declared.rule.Rule.{Rule}
 use Rattle.grant_policy.specs.Claims.{IsClaim}
 use Rattle.grant_policy.proofs.claims.claims_of.Goals as goal
+
+pub loop-rule-init : goal.loop-rule-init
+loop-rule-init c = rw c.new-claims.ensures.items (record { rules = refl; claims = All-nil IsClaim })
+
+pub returns-clause-rules : goal.returns-clause-rules
+returns-clause-rules c = c.loop-rule.invariant.rules ∙ take_all c.loop-rule.rule-index c.args.rules.now c.loop-rule-test.false
+
+pub returns-clause-claims : goal.returns-clause-claims
+returns-clause-claims c = c.loop-rule.invariant.claims
 
 pub loop-rule-preserved : goal.loop-rule-preserved
 loop-rule-preserved c =

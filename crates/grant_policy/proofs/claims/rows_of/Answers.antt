@@ -1,10 +1,19 @@
-use Rattle.std.proofs.Common.{ℕ, List, [], ◌∷◌, ◌++◌, take, sym, ap, ◌∙◌, subst}
-use Rattle.std.proofs.lemmas.List.{map_push, take_more, length-map}
-use Rattle.std.proofs.lemmas.List.Elements.{All-push}
+use Rattle.std.proofs.Common.{ℕ, List, [], ◌∷◌, ◌++◌, take, refl, sym, ap, ◌∙◌, subst}
+use Rattle.std.proofs.lemmas.List.{map_push, take_more, take_all, length-map}
+use Rattle.std.proofs.lemmas.List.Elements.{All-nil, All-push}
 use Rattle.grant_policy.specs.declared.claims.Claim.{Claim}
 use Rattle.grant_policy.specs.declared.claims.Coverage.{Coverage}
 use Rattle.grant_policy.specs.Claims.{AreEntries, IsRow, rules_of}
 use Rattle.grant_policy.proofs.claims.rows_of.Goals as goal
+
+pub loop-name-init : goal.loop-name-init
+loop-name-init c = rw c.new-rows.ensures.items (record { names = refl; rows = All-nil (IsRow (rules_of c.args.claims.now)) })
+
+pub returns-clause-names : goal.returns-clause-names
+returns-clause-names c = c.loop-name.invariant.names ∙ take_all c.loop-name.name-index c.args.names.now c.loop-name-test.false
+
+pub returns-clause-rows : goal.returns-clause-rows
+returns-clause-rows c = c.loop-name.invariant.rows
 
 pub loop-name-preserved : goal.loop-name-preserved
 loop-name-preserved c =

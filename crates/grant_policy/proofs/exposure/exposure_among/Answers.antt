@@ -7,7 +7,7 @@ use Rattle.grant_policy.proofs.exposure.exposure_among.Goals as goal
 pub loop-name-preserved : goal.loop-name-preserved
 loop-name-preserved c =
     let name = c.name-item.result in
-    let here : IsIsolatedAt c.args.rules.now c.args.caller.now name = rw c.in_default.is at c.in_ok-found.ensures in
+    let here : IsIsolatedAt c.args.rules.now c.args.caller.now name = rw c.in_default.is at c.in_ok-exposure.ensures in
     below_more _ _ c.loop-name.invariant (subst (λ (n : List (List ℕ)). IsIsolatedAt c.args.rules.now c.args.caller.now n) (get_or_read c.args.names.now c.loop-name.name-index name c.loop-name-test.true c.name-item.is []) here)
 
 pub returns : goal.returns

@@ -2,7 +2,7 @@ use Rattle.std.proofs.Common.{◌<◌, Bool, ◌||◌, length, take, sym, ap, �
 use Rattle.std.proofs.lemmas.Bool.{both_ways}
 use Rattle.grant_policy.specs.declared.claims.Entry.{Entry}
 use Rattle.grant_policy.specs.Points.{has_point}
-use Rattle.grant_policy.proofs.ClaimLemmas.{item_at, mark_yes, mark_no, decided_yes, decided_no}
+use Rattle.grant_policy.proofs.ClaimLemmas.{item_at, mark_yes, mark_no, decided_yes, decided_no, hits_first, hits_done}
 use Rattle.grant_policy.proofs.taking.mark.Goals as goal
 use Rattle.grant_policy.proofs.taking.mark.Goals.{then-takes, else-takes, then-include_all, else-include_all}
 
@@ -27,3 +27,9 @@ loop-entry-preserved c =
         | else-include_all w ↦ rw w.decided-is (λ t a. c.loop-entry.invariant.decided t a ∙ decided_no entries n e callers t a lt c.entry-item.is (sym c.include_all.ensures ∙ w.if-include_all.false))
       ];
     }
+
+pub loop-entry-init : goal.loop-entry-init
+loop-entry-init c = record { marks = hits_first c.args.found.now c.args.claim c.args.entries.now; decided = λ t a. c.none-decided.ensures t a }
+
+pub returns : goal.returns
+returns c = λ j below. hits_done c.args.found.now c.loop-entry.found c.args.claim c.args.entries.now c.loop-entry.entry-index c.loop-entry-test.false c.loop-entry.auto.entry-index-end c.loop-entry.invariant.marks j (omega (arith, below, c.loop-entry.auto.found))

@@ -1,52 +1,24 @@
-use Rattle.std.proofs.Common.{◌≡◌, ◌↔◌, ℕ, ◌≤◌, Bool, true, false, Vec, Global, get_or, length, take, sym, ap, ◌∙◌, subst, arith}
-use Rattle.std.proofs.lemmas.List.{length-map, with_items_is}
+use Rattle.std.proofs.Common.{◌≡◌, ◌<◌, ◌≤◌, Bool, true, false, List, ℕ, length, get_or, sym, ap, ◌∙◌, subst, arith}
+use Rattle.std.proofs.lemmas.List.{length-map, length-replicate, get_or-replicate, with_items_is}
 use Rattle.std.proofs.lemmas.List.Elements.{All-get_or, All-map, All-weaker}
+use Rattle.std.proofs.lemmas.Result.{IfOk-weaker}
 use Rattle.grant_policy.specs.declared.rule.Rule.{Rule}
 use Rattle.grant_policy.specs.declared.claims.Claim.{Claim}
-use Rattle.grant_policy.specs.declared.claims.Coverage.{Coverage}
 use Rattle.grant_policy.specs.Taking.{AreCallers}
-use Rattle.grant_policy.specs.Claims.{IsClaim, IsRow, TakesIn, rules_of}
-use Rattle.grant_policy.proofs.ClaimLemmas.{all_below, rule_at, row_yes, row_no, takers_are}
+use Rattle.grant_policy.specs.Idle.{AreTakers}
+use Rattle.grant_policy.specs.Claims.{AreBelow, IsClaim, rules_of}
+use Rattle.grant_policy.proofs.ClaimLemmas.{all_below, rule_at, takers_are}
 use Rattle.grant_policy.proofs.taking.takers.Goals as goal
-use Rattle.grant_policy.proofs.taking.takers.Goals.{then-is_in, else-is_in}
 
-pub mark-requires : goal.mark-requires
-mark-requires c =
+pub mark_rows-requires : goal.mark_rows-requires
+mark_rows-requires c =
     let claims = c.args.claims.now in
     let rules = rules_of claims in
-    let row = c.row-item.result in
-    let n = c.loop-row.row-index in
-    let is = subst (λ (r : Coverage). IsRow rules r) (sym c.row-item.is) (All-get_or (IsRow rules) c.args.rows.now n row c.loop-row-test.true c.requires.rows) in
-    let long = length-map claims (λ (x : Claim). x.rule.now) in
-    rw (c.deref-then-is_in.ensures.value, c.deref_mut.ensures.value)
-    (λ k d lt. omega (arith, all_below rules row.name.now (length rules) row.entries.items is k d lt, c.loop-row.invariant.long, long))
-
-pub loop-row-preserved : goal.loop-row-preserved
-loop-row-preserved c =
-    let claims = c.args.claims.now in
-    let claim = c.index-claims-number.result in
-    let i = c.args.number in
     let rows = c.args.rows.now in
-    let n = c.loop-row.row-index in
-    let row = c.row-item.result in
-    let found = c.loop-row.found in
-    let lt = c.loop-row-test.true in
-    let is = c.loop-row.invariant in
-    elim c.if-is_in.branch [
-      | then-is_in w ↦
-          let items = ap (λ (v : Vec Bool Global). v.items) w.found-is ∙ with_items_is found w.mark.new.found (w.mark.auto.found ∙ w.deref_mut.ensures.len) in
-          let long = w.mark.auto.found ∙ ap (length {A = Bool}) w.deref_mut.ensures.value in
-          rw items (record {
-            long = long ∙ is.long;
-            marks = row_yes found.items w.mark.new.found claim i rows n (length claims) row lt c.row-item.is (sym is.long)
-                (rw c.deref.ensures.value at (sym c.is_in.ensures ∙ w.if-is_in.true))
-                (rw (w.deref_mut.ensures.value, w.deref-then-is_in.ensures.value) at w.mark.ensures) is.marks;
-          })
-      | else-is_in w ↦ rw w.found-is (record {
-        long = is.long;
-        marks = row_no found.items claim i rows n (length claims) row lt c.row-item.is (rw c.deref.ensures.value at (sym c.is_in.ensures ∙ w.if-is_in.false)) is.marks;
-      })
-    ]
+    let long = length-map claims (λ (x : Claim). x.rule.now) in
+    let made = ap (length {A = Bool}) (c.in_ok-found.ensures.items_if_clones_equal (λ y e. e)) ∙ length-replicate (length claims) false in
+    rw c.deref_mut.ensures.value
+    (λ k d lt k' d' lt'. omega (arith, all_below rules (get_or rows k d).name.now (length rules) (get_or rows k d).entries.items (c.requires.rows k d lt) k' d' lt', long, made))
 
 pub returns : goal.returns
 returns c =
@@ -54,14 +26,19 @@ returns c =
     let rules = rules_of claims in
     let claim = c.index-claims-number.result in
     let i = c.args.number in
-    let rows = c.args.rows.now in
-    let found = c.loop-row.found.items in
-    let is = c.loop-row.invariant in
-    let long = length-map claims (λ (x : Claim). x.rule.now) in
-    let end' : c.loop-row.row-index ≡ length rows = omega (arith, c.loop-row.auto.row-index-end, c.loop-row-test.false) in
+    let init = c.in_ok-found.found.items in
+    let found = c.mark_rows.new.found in
+    let filled = c.in_ok-found.ensures.items_if_clones_equal (λ y e. e) in
+    let long : length init ≡ length claims = ap (length {A = Bool}) filled ∙ length-replicate (length claims) false in
+    let kept : length found ≡ length init = c.mark_rows.auto.found ∙ ap (length {A = Bool}) c.deref_mut.ensures.value in
+    let same = c.deref.ensures.value ∙ with_items_is c.in_ok-found.found found (c.mark_rows.auto.found ∙ c.deref_mut.ensures.len) in
+    let rules_long = length-map claims (λ (x : Claim). x.rule.now) in
     let own = subst (λ (x : Claim). IsClaim x) (sym c.index-claims-number.is) (All-get_or IsClaim claims i claim c.requires.number c.requires.claims) in
     let are = All-map (λ (r : Rule). AreCallers r.callers) (λ (x : Claim). x.rule.now) claims (All-weaker IsClaim (λ (x : Claim). AreCallers x.rule.now.callers) (λ x y. y.1) claims c.requires.claims) in
-    let few : length rules ≤ 1024 = omega (arith, long, c.requires.few) in
-    takers_are rules few rows c.requires.rows c.requires.names are i claim (rule_at claims i claim c.requires.number c.index-claims-number.is) own.0 found (length found) c.in_ok-takers.takers.items (is.long ∙ sym long)
-    (λ j below. subst (λ (k : ℕ). (get_or found j false ≡ true) ↔ TakesIn claim i (take k rows) j) end' (is.marks j (omega (arith, below, is.long))))
-    (rw c.deref-2.ensures.value at c.in_ok-takers.ensures)
+    let few : length rules ≤ 1024 = omega (arith, rules_long, c.requires.few) in
+    let marks = rw c.deref_mut.ensures.value at c.mark_rows.ensures in
+    let clear = λ (j : ℕ) (below : j < length claims). ap (λ (l : List Bool). get_or l j false) filled ∙ get_or-replicate (length claims) j false false below in
+    IfOk-weaker c.marked.result (λ takers. AreBelow (λ j. get_or found j false ≡ true) (length found) takers.items) (λ takers. AreTakers rules i takers.items)
+    (λ takers below. takers_are rules few c.args.rows.now c.requires.rows c.requires.names are i claim (rule_at claims i claim c.requires.number c.index-claims-number.is) own.0 init found takers.items
+    (kept ∙ long ∙ sym rules_long) (λ j lt. clear j (omega (arith, lt, kept, long))) (λ j lt. marks j (omega (arith, lt, kept))) below)
+    (rw same at c.marked.ensures)
