@@ -1,12 +1,12 @@
 -- A query inside a transaction keeps what was committed, whatever its text means.
 use Rattle.office_sql.specs.Holds.{Keeps}
 use Rattle.office_sql.proofs.Commits.{unchanged_keeps_all, rolled_keeps_all}
-use Rattle.std.proofs.Common.{◌⊎◌, inl, inr, ℕ, List, Ok, Err, Result, IfOk, IfErr, IsTrue, Option, Some, None}
+use Rattle.std.proofs.Common.{◌≡◌, ◌⊎◌, ◌∙◌, inl, inr, ℕ, Bool, true, false, refl, sym, subst, List, Ok, Err, Result, IfOk, IfErr, IsTrue, Option, Some, None}
 use Rattle.sqlite_value.specs.Order.{Row}
 use Rattle.sqlite_schema.specs.declared.command.Returning.{Returning}
 use Rattle.sqlite_resolve.specs.declared.compiled.Compiled.{Compiled}
 use Rattle.sqlite.specs.declared.error.Error.{Error}
-use Rattle.sqlite.specs.State.{State, KeepsCommit, IsUnchanged, IsRolledBack, IsNotRun, FailsToQuery, FailsToShow, IsTooLate, ShowsRows, Shown, RunsCommand}
+use Rattle.sqlite.specs.State.{State, KeepsCommit, IsUnchanged, IsRolledBack, IsNotRun, FailsToQuery, FailsToShow, IsTooLate, ShowsRows, Shown, RunsCommand, ExecutesInside}
 
 module _ (old new : State) where
   pub unchanged_keeps : IsUnchanged old new → KeepsCommit old new
@@ -53,3 +53,19 @@ module _ (old new : State) where
   unfolding IsNotRun
   not_run_keeps_all sql params e (inl h) = unchanged_keeps_all old new h.1
   not_run_keeps_all sql params e (inr h) = rolled_keeps_all old new h.3
+
+  inside_leaves : (sql : List ℕ) (params : Row) (r : Result ℕ Error) → ExecutesInside 0 sql params old new r → KeepsCommit old new
+  inside_leaves sql params (Ok count) h = record { was_open = λ _. h.1.was_open; committed = λ _. h.1.committed_is }
+  inside_leaves sql params (Err e) (inl h) = elim h.1 [ inl same ↦ unchanged_keeps same | inr back ↦ rolled_keeps back ]
+  inside_leaves sql params (Err e) (inr h) = unchanged_keeps h.2
+
+  -- a statement inside a transaction, or behind the end of one
+  pub inside_keeps : (sql : List ℕ) (params : Row) (r : Result ℕ Error) (inside : Bool) → old.in_transaction ≡ inside → (old.in_transaction ≡ false → new ≡ old) → (IsTrue old.in_transaction → ExecutesInside 0 sql params old new r) → KeepsCommit old new
+  inside_keeps sql params r true is ended runs = inside_leaves sql params r (runs is)
+  inside_keeps sql params r false is ended runs = subst (KeepsCommit old) (sym (ended is)) (record { was_open = λ up. up; committed = λ up. refl })
+
+  -- only inside one is a statement run
+  pub ran_inside : (sql : List ℕ) (params : Row) (r : Result ℕ Error) (count : ℕ) (e : Error) (inside : Bool) → r ≡ Ok count → old.in_transaction ≡ inside → (old.in_transaction ≡ false → r ≡ Err e) → (IsTrue old.in_transaction → ExecutesInside 0 sql params old new r)
+      → ExecutesInside 0 sql params old new (Ok count)
+  ran_inside sql params r count e true ok is ended runs = subst (ExecutesInside 0 sql params old new) ok (runs is)
+  ran_inside sql params r count e false ok is ended runs = absurd (let both : Ok count ≡ Err e = sym ok ∙ ended is in cc)

@@ -352,11 +352,21 @@ apart_if_rising ns up differs =
     above : (a b c : ℤ) → is_lt (int_cmp b a) ≡ false → int_eq a b ≡ false → is_lt (int_cmp c b) ≡ false → int_eq a c ≡ false
     above a b c p q r = grind (arith, ints, nat_tests)
 
--- ---- five of them
+-- ---- a few of them
 
 pub five : {X : Type 0} (xs : List X) (a b c d e : X) → 5 ≤ length xs → length xs < 6 → a ≡ get_or xs 0 a → b ≡ get_or xs 1 b → c ≡ get_or xs 2 c → d ≡ get_or xs 3 d → e ≡ get_or xs 4 e → xs ≡ a ∷ b ∷ c ∷ d ∷ e ∷ []
 five (u ∷ v ∷ w ∷ x ∷ y ∷ []) a b c d e low high p q r s t = cc
 five _ a b c d e low high p q r s t = absurd (omega arith)
+
+pub six : {X : Type 0} (xs : List X) (a b c d e f : X) → 6 ≤ length xs → length xs < 7 → a ≡ get_or xs 0 a → b ≡ get_or xs 1 b → c ≡ get_or xs 2 c → d ≡ get_or xs 3 d → e ≡ get_or xs 4 e → f ≡ get_or xs 5 f
+    → xs ≡ a ∷ b ∷ c ∷ d ∷ e ∷ f ∷ []
+six (u ∷ v ∷ w ∷ x ∷ y ∷ z ∷ []) a b c d e f low high p q r s t o = cc
+six _ a b c d e f low high p q r s t o = absurd (omega arith)
+
+pub seven : {X : Type 0} (xs : List X) (a b c d e f h : X) → 7 ≤ length xs → length xs < 8 → a ≡ get_or xs 0 a → b ≡ get_or xs 1 b → c ≡ get_or xs 2 c → d ≡ get_or xs 3 d → e ≡ get_or xs 4 e → f ≡ get_or xs 5 f → h ≡ get_or xs 6 h
+    → xs ≡ a ∷ b ∷ c ∷ d ∷ e ∷ f ∷ h ∷ []
+seven (u ∷ v ∷ w ∷ x ∷ y ∷ z ∷ k ∷ []) a b c d e f h low high p q r s t o n = cc
+seven _ a b c d e f h low high p q r s t o n = absurd (omega arith)
 
 -- two lists that a table stores are the same in some order
 pub stored_same : {X : Type 0} (stored : X → Row) → ((x y : X) → stored x ≡ stored y → x ≡ y) → (rows : List Row) (xs ys : List X) → Stores rows (map stored xs) → Stores rows (map stored ys) → IsPermutation xs ys

@@ -1,10 +1,10 @@
 //! All rows of the tables, of a store that somebody else may have written.
 
-ghost use Rattle.std.specs.Prelude.{◌≡◌, ◌↔◌, ℤ, List, [], Err, IfOk, OnOk, IsPermutation, IsTrue, true, false, map};
+ghost use Rattle.std.specs.Prelude.{◌≡◌, ◌↔◌, ◌++◌, ◌∷◌, ℤ, List, [], Err, IfErr, IfOk, OnOk, IsPermutation, IsTrue, true, false, map};
 ghost use Rattle.std.specs.List.{AllByRecursion, IsDistinct};
 ghost use Rattle.std.specs.Ordering.{int_eq};
 ghost use Rattle.sqlite.specs.Effect.{IsDatabase};
-ghost use Rattle.sqlite.specs.Given.{IsPlain};
+ghost use Rattle.sqlite.specs.Given.{HasGiven, IsPlain};
 ghost use Rattle.sqlite.specs.Held.{state};
 ghost use Rattle.sqlite.specs.Listing.{understood};
 ghost use Rattle.sqlite.specs.State.{Begins, HasCleanDisk, IsUnchanged, Shows, Shown};
@@ -20,7 +20,7 @@ use crate::row_reader::{RowReader, WholeRows};
 use crate::rows::{ChangeRow, ReceiptRow, RecordRow, ZoneRow};
 use crate::rows_fault::RowsFault;
 use crate::schema::has_tables;
-use sqlite::{Alter, Connection, Row};
+use sqlite::{Alter, Connection, Row, Rows};
 use std::alloc::Global;
 use std::marker::Model;
 
@@ -72,34 +72,98 @@ fn read_numbered<R: FromRow, T: Drop, Q: RowReader<R, T>>(
     Ok((rowid, read))
 }
 
+/// What was read of rows that show their rowids first, in their order.
+#[derive(Drop)]
+struct Numbered<T> {
+    rowids: Vec<i64>,
+    values: Vec<T>,
+}
+
+impl<T: Drop> Numbered<T> {
+    fn new(alloc: Global) -> Numbered<T>
+        ensures rowids { result.rowids.items ≡ [] }
+        ensures values { result.values.items ≡ [] }
+    {
+        Numbered {
+            rowids: Vec::new(alloc),
+            values: Vec::new(alloc),
+        }
+    }
+
+    /// Reads one more row. `BadRow` comes where it is no such row, or the reader says so.
+    fn read<R: FromRow, Q: RowReader<R, T>>(
+        &mut self,
+        alloc: Global,
+        reader: &mut Q,
+        row: &Row,
+    ) -> Result<(), RowsFault>
+        ensures found { OnOk result ((rows : _) → AreNumbered R.FromRow.stored rows self.old.rowids.items (map Q.row_of self.old.values.items) → AreNumbered R.FromRow.stored (rows ++ row.now ∷ []) self.new.rowids.items (map Q.row_of self.new.values.items)) }
+        ensures read { OnOk result (AllByRecursion Q.is_read self.old.values.items → AllByRecursion Q.is_read self.new.values.items) }
+        ensures bad { result ≡ Err BadRow → IsOneToOne R.FromRow.stored → (id : ℤ) (x : T) → Numbers R.FromRow.stored row.now id (Q.row_of x) → Q.is_read x → ⊥ }
+    {
+        let (rowid, value) = read_numbered::<R, T, Q>(alloc, reader, row)?;
+        self.rowids.push(rowid)?;
+        self.values.push(value)?;
+        Ok(())
+    }
+
+    /// The values, where no rowid came twice; else `BadRow`.
+    fn apart(self) -> Result<Vec<T>, RowsFault>
+        ensures found { IfOk result (λ xs. (xs.items ≡ self.values.items) × IsDistinct int_eq self.rowids.items) }
+        ensures bad { IfErr result (λ e. (e ≡ BadRow) × ¬ IsDistinct int_eq self.rowids.items) }
+    {
+        if are_apart(self.rowids) {
+            Ok(self.values)
+        } else {
+            Err(RowsFault::BadRow)
+        }
+    }
+}
+
+/// Reads the rows of an answer as the store hands them over, up to the first that cannot be read.
+fn read_each<S: Alter, R: FromRow, T: Drop, Q: RowReader<R, T>>(
+    alloc: Global,
+    rows: &mut Rows<'_, S>,
+    reader: &mut Q,
+) -> Result<Numbered<T>, RowsFault>
+    requires idle { rows.old.conn.now.in_transaction ≡ false }
+    requires open { HasCleanDisk (state S.Store rows.old.conn.now) → IsTrue (state S.Store rows.old.conn.now).is_open }
+    ensures same_reference { rows.new.conn.ghost_name ≡ rows.old.conn.ghost_name }
+    ensures writes { WritesNothing (state S.Store rows.old.conn.now) (state S.Store rows.new.conn.now) }
+    ensures same { HasCleanDisk (state S.Store rows.new.conn.now) → OnOk result (IsUnchanged (state S.Store rows.old.conn.now) (state S.Store rows.new.conn.now)) }
+    ensures shown { HasCleanDisk (state S.Store rows.new.conn.now) → IfOk result (λ all. (sql : _) → IsPlain (understood rows.old.conn.now.schema sql) → HasGiven S.Store sql [] rows.old.conn.now [] → (given : _) × Shown sql [] (state S.Store rows.old.conn.now) (state S.Store rows.new.conn.now) given × AreNumbered R.FromRow.stored given all.rowids.items (map Q.row_of all.values.items)) }
+    ensures read { IfOk result (λ all. AllByRecursion Q.is_read all.values.items) }
+    ensures bad { HasCleanDisk (state S.Store rows.new.conn.now) → result ≡ Err BadRow → IsTrue (state S.Store rows.new.conn.now).is_open × ((sql : _) → HasGiven S.Store sql [] rows.old.conn.now [] → (given : _) × Begins sql [] (state S.Store rows.new.conn.now) given × BeginNone R.FromRow.stored (λ row. (x : T) × Q.is_read x × (row ≡ Q.row_of x)) given) }
+{
+    let mut found = Numbered::new(alloc);
+    'rows: for _ in 0..u64::MAX {
+        rows.advance()?;
+        let Some(row) = rows.get() else {
+            return Ok(found);
+        };
+        found.read::<R, Q>(alloc, reader, row)?;
+    }
+    // No memory holds so many rows.
+    Err(RowsFault::NoMemory)
+}
+
 /// Reads the rows of a table as the store hands them over, and their rowids, up to the first that cannot be read.
 fn scan<S: Alter, R: FromRow, T: Drop, Q: RowReader<R, T>>(
     alloc: Global,
     conn: &mut Connection<S>,
     reader: &mut Q,
     sql: &str,
-) -> Result<(Vec<i64>, Vec<T>), RowsFault>
+) -> Result<Numbered<T>, RowsFault>
     requires idle { conn.old.in_transaction ≡ false }
     requires plain { IsPlain (understood conn.old.schema sql.now) }
     ensures writes { WritesNothing (state S.Store conn.old) (state S.Store conn.new) }
     ensures same { HasCleanDisk (state S.Store conn.new) → OnOk result (IsUnchanged (state S.Store conn.old) (state S.Store conn.new)) }
-    ensures shown { HasCleanDisk (state S.Store conn.new) → IfOk result (λ all. (rows : _) × Shown sql.now [] (state S.Store conn.old) (state S.Store conn.new) rows × AreNumbered R.FromRow.stored rows all.0.items (map Q.row_of all.1.items)) }
-    ensures read { IfOk result (λ all. AllByRecursion Q.is_read all.1.items) }
+    ensures shown { HasCleanDisk (state S.Store conn.new) → IfOk result (λ all. (rows : _) × Shown sql.now [] (state S.Store conn.old) (state S.Store conn.new) rows × AreNumbered R.FromRow.stored rows all.rowids.items (map Q.row_of all.values.items)) }
+    ensures read { IfOk result (λ all. AllByRecursion Q.is_read all.values.items) }
     ensures bad { HasCleanDisk (state S.Store conn.new) → result ≡ Err BadRow → IsTrue (state S.Store conn.new).is_open × ((rows : _) × Begins sql.now [] (state S.Store conn.new) rows × BeginNone R.FromRow.stored (λ row. (x : T) × Q.is_read x × (row ≡ Q.row_of x)) rows) }
 {
-    let mut rowids = Vec::new(alloc);
-    let mut read = Vec::new(alloc);
     let mut rows = conn.query(sql, &[])?;
-    'rows: for _ in 0..u64::MAX {
-        let Some(row) = rows.next()? else {
-            return Ok((rowids, read));
-        };
-        let (rowid, value) = read_numbered::<R, T, Q>(alloc, reader, row)?;
-        rowids.push(rowid)?;
-        read.push(value)?;
-    }
-    // No memory holds so many rows.
-    Err(RowsFault::NoMemory)
+    read_each::<S, R, T, Q>(alloc, &mut rows, reader)
 }
 
 /// All rows of a table, by a text that asks for their rowids and then for their columns. `BadRow` comes where the tables are not those
@@ -127,12 +191,7 @@ fn all<S: Alter, R: FromRow, T: Drop, Q: RowReader<R, T>>(
         check_open(conn)?;
         return Err(RowsFault::BadRow);
     }
-    let (rowids, read) = scan::<S, R, T, Q>(alloc, conn, reader, sql)?;
-    if are_apart(rowids) {
-        Ok(read)
-    } else {
-        Err(RowsFault::BadRow)
-    }
+    scan::<S, R, T, Q>(alloc, conn, reader, sql)?.apart()
 }
 
 /// The rows of `meta`. Each of these fails with `Store` where the store does, with `NoMemory` where memory runs out, and with

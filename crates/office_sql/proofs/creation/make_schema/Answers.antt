@@ -25,3 +25,15 @@ returns-clause-made g c clean =
     (λ six none. creates_all (state g.S.Store c.args.tx.now.conn.now) (state g.S.Store c.run.new.tx.conn.now) (state g.S.Store c.run-2.new.tx.conn.now) (state g.S.Store c.run-3.new.tx.conn.now)
     (state g.S.Store c.run-4.new.tx.conn.now) (state g.S.Store c.run-5.new.tx.conn.now) (state g.S.Store c.run-6.new.tx.conn.now) one.0 two.0 three.0 four.0 five.0 six.0 none one.1 two.1 three.1 four.1 five.1 six.1)
     (c.run-6.ensures.ran clean)
+
+pub returns-in_err-run-2-clause-stays : goal.returns-in_err-run-2-clause-stays
+returns-in_err-run-2-clause-stays g c = stays_then _ _ _ c.run.ensures.stays c.run-2.ensures.stays
+
+pub returns-in_err-run-3-clause-stays : goal.returns-in_err-run-3-clause-stays
+returns-in_err-run-3-clause-stays g c = stays_then _ _ _ (stays_then _ _ _ c.run.ensures.stays c.run-2.ensures.stays) c.run-3.ensures.stays
+
+pub returns-in_err-run-4-clause-stays : goal.returns-in_err-run-4-clause-stays
+returns-in_err-run-4-clause-stays g c = stays_then _ _ _ (stays_then _ _ _ (stays_then _ _ _ c.run.ensures.stays c.run-2.ensures.stays) c.run-3.ensures.stays) c.run-4.ensures.stays
+
+pub returns-in_err-run-5-clause-stays : goal.returns-in_err-run-5-clause-stays
+returns-in_err-run-5-clause-stays g c = stays_then _ _ _ (stays_then _ _ _ (stays_then _ _ _ (stays_then _ _ _ c.run.ensures.stays c.run-2.ensures.stays) c.run-3.ensures.stays) c.run-4.ensures.stays) c.run-5.ensures.stays

@@ -6,7 +6,7 @@ use Rattle.office_sql.specs.Rows.{RowsOf}
 use Rattle.office_sql.specs.Stores.{Stores}
 use Rattle.office_sql.specs.Tables.{stored_version}
 use Rattle.office_sql.specs.Holds.{HasZones, HasRecords, HasReceipts, HasChanges, Holds}
-use Rattle.office_sql.proofs.Commits.{held_now}
+use Rattle.office_sql.proofs.Commits.{asks_then, held_now, shows_then}
 use Rattle.office_sql.proofs.WholeTables.{each_itself, reads_all}
 use Rattle.office_sql.proofs.scans.all_rows.Goals as goal
 
@@ -85,3 +85,28 @@ pub returns-in_err-changes-clause-bad : goal.returns-in_err-changes-clause-bad
 returns-in_err-changes-clause-bad g c clean is rows holds =
     let told = rw is at c.from_residual-in_err-changes.ensures.1 in
     c.in_err-changes.ensures.bad clean (ap Err (sym told)) rows (c.all_receipts.ensures.asks.same rows (c.all_records.ensures.asks.same rows (c.all_zones.ensures.asks.same rows (c.versions.ensures.asks.same rows holds)))) (each_itself rows.changes)
+
+pub returns-in_err-zones-clause-asks : goal.returns-in_err-zones-clause-asks
+returns-in_err-zones-clause-asks g c = asks_then _ _ _ c.versions.ensures.asks c.all_zones.ensures.asks
+
+pub returns-in_err-records-clause-asks : goal.returns-in_err-records-clause-asks
+returns-in_err-records-clause-asks g c = asks_then _ _ _ (asks_then _ _ _ c.versions.ensures.asks c.all_zones.ensures.asks) c.all_records.ensures.asks
+
+pub returns-in_err-receipts-clause-asks : goal.returns-in_err-receipts-clause-asks
+returns-in_err-receipts-clause-asks g c = asks_then _ _ _ (asks_then _ _ _ (asks_then _ _ _ c.versions.ensures.asks c.all_zones.ensures.asks) c.all_records.ensures.asks) c.all_receipts.ensures.asks
+
+pub returns-in_err-changes-clause-asks : goal.returns-in_err-changes-clause-asks
+returns-in_err-changes-clause-asks g c = asks_then _ _ _ (asks_then _ _ _ (asks_then _ _ _ (asks_then _ _ _ c.versions.ensures.asks c.all_zones.ensures.asks) c.all_records.ensures.asks) c.all_receipts.ensures.asks) c.all_changes.ensures.asks
+
+pub returns-clause-asks : goal.returns-clause-asks
+returns-clause-asks g c = asks_then _ _ _ (asks_then _ _ _ (asks_then _ _ _ (asks_then _ _ _ c.versions.ensures.asks c.all_zones.ensures.asks) c.all_records.ensures.asks) c.all_receipts.ensures.asks) c.all_changes.ensures.asks
+
+pub returns-clause-same : goal.returns-clause-same
+returns-clause-same g c clean =
+    let clean_4 : HasCleanDisk (state g.S.Store c.all_receipts.new.conn) = c.all_changes.ensures.asks.honest clean in
+    let clean_3 : HasCleanDisk (state g.S.Store c.all_records.new.conn) = c.all_receipts.ensures.asks.honest clean_4 in
+    let clean_2 : HasCleanDisk (state g.S.Store c.all_zones.new.conn) = c.all_records.ensures.asks.honest clean_3 in
+    let clean_1 : HasCleanDisk (state g.S.Store c.versions.new.conn) = c.all_zones.ensures.asks.honest clean_2 in
+    let two = shows_then _ _ _ (c.in_ok-versions.ensures.same clean_1) (c.in_ok-zones.ensures.same clean_2) in
+    let four = shows_then _ _ _ (shows_then _ _ _ two (c.in_ok-records.ensures.same clean_3)) (c.in_ok-receipts.ensures.same clean_4) in
+    shows_then _ _ _ four (c.in_ok-changes.ensures.same clean)
