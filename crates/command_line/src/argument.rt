@@ -59,7 +59,6 @@ pub enum Form {
 }
 
 /// A row of the table of arguments.
-#[derive(Clone, Copy)]
 struct Row {
     /// Its name.
     name: &'static str,
@@ -69,131 +68,158 @@ struct Row {
     help: &'static str,
 }
 
-impl Row {
-    const fn new(name: &'static str, form: Form, help: &'static str) -> Row
-        ensures name { result.name ≡ name.entry }
-        ensures form { result.form ≡ form }
-    {
-        Row { name, form, help }
-    }
-}
-
 impl Argument {
     /// The one table of arguments.
-    const fn row(self) -> Row
-        ensures name { result.name.now ≡ argument_name self }
-        ensures form { result.form ≡ argument_form self }
+    const fn row(self) -> &'static Row
+        ensures name { result.now.name.now ≡ argument_name self }
+        ensures form { result.now.form ≡ argument_form self }
     {
         match self {
-            Argument::Store => Row::new("store", Form::Needed, "The path of the store"),
-            Argument::Policy => Row::new("policy", Form::Needed, "The path of the policy"),
-            Argument::Origin => Row::new(
-                "origin",
-                Form::Needed,
-                "The zone's origin, an absolute name",
-            ),
-            Argument::Caller => Row::new("caller", Form::Needed, "Who asks"),
-            Argument::Name => Row::new("name", Form::Place, "At which name, an absolute one"),
-            Argument::Type => Row::new("type", Form::Place, "Of which type the records are"),
-            Argument::Action => Row::new(
-                "action",
-                Form::Place,
-                "list, check, add, delete or delegate",
-            ),
-            Argument::Listen => Row::new(
-                "listen",
-                Form::Needed,
-                "The address and port to listen at",
-            ),
-            Argument::Replace => Row::new("replace", Form::Flag, "In the place of the zone there"),
-            Argument::Relative => Row::new(
-                "relative",
-                Form::Flag,
-                "Relative to the origin, with a $TTL line",
-            ),
-            Argument::Connections => Row::new("connections", Form::Number, "After how many to end"),
-            Argument::Patience => Row::new(
-                "patience",
-                Form::Number,
-                "Seconds to wait for a peer, 30 if left out",
-            ),
-            Argument::Number => Row::new(
-                "number",
-                Form::OptionalPlace,
-                "The number, as 29.19.1, or the code; all if left out",
-            ),
-            Argument::Subject => Row::new(
-                "subject",
-                Form::Place,
-                "What to check: policy, isolation, rights or zone",
-            ),
-            Argument::CheckedPolicy => Row::new(
-                "policy",
-                Form::Optional,
-                "The path of the policy; needed by all but zone",
-            ),
-            Argument::CheckedOrigin => Row::new(
-                "origin",
-                Form::Optional,
-                "The zone's origin; needed by zone",
-            ),
-            Argument::CheckedName => Row::new(
-                "name",
-                Form::OptionalPlace,
-                "At which name to print rights; by scopes if left out",
-            ),
-            Argument::Isolated => Row::new(
-                "caller",
-                Form::Optional,
-                "Whose isolation to check; needed by isolation",
-            ),
-            Argument::Only => Row::new(
-                "only",
-                Form::Optional,
-                "The only rule: host-name, alias-target, missing-address, missing-glue, below-cut or ds-without-ns",
-            ),
-            Argument::Not => Row::new("not", Form::Optional, "The rule to leave out"),
-            Argument::Json => Row::new("json", Form::Flag, "As an array of JSON"),
-            Argument::Guard => Row::new(
-                "guard",
-                Form::Flag,
-                "With prerequisites that nobody changed the sets",
-            ),
-            Argument::Old => Row::new(
-                "old",
-                Form::Place,
-                "The file of the zone as it is, or - for standard input",
-            ),
-            Argument::New => Row::new(
-                "new",
-                Form::Place,
-                "The file of the zone as it is to be, or -",
-            ),
-            Argument::Id => Row::new(
-                "id",
-                Form::Optional,
-                "The identifier of the update; this or --split is needed",
-            ),
-            Argument::Split => Row::new(
-                "split",
-                Form::Optional,
-                "Before the numbers of the updates, as many as the limits want",
-            ),
-            Argument::From => Row::new(
-                "from",
-                Form::Number,
-                "Only the changes from this number on",
-            ),
-            Argument::Within => Row::new(
-                "name",
-                Form::Optional,
-                "Only what is at this name or below it",
-            ),
-            Argument::Asker => Row::new(
-                "caller",
-                Form::Optional,
-                "Only the receipts of this caller",
-            ),
+            Argument::Store => &Row {
+                name: "store",
+                form: Form::Needed,
+                help: "The path of the store",
+            },
+            Argument::Policy => &Row {
+                name: "policy",
+                form: Form::Needed,
+                help: "The path of the policy",
+            },
+            Argument::Origin => &Row {
+                name: "origin",
+                form: Form::Needed,
+                help: "The zone's origin, an absolute name",
+            },
+            Argument::Caller => &Row {
+                name: "caller",
+                form: Form::Needed,
+                help: "Who asks",
+            },
+            Argument::Name => &Row {
+                name: "name",
+                form: Form::Place,
+                help: "At which name, an absolute one",
+            },
+            Argument::Type => &Row {
+                name: "type",
+                form: Form::Place,
+                help: "Of which type the records are",
+            },
+            Argument::Action => &Row {
+                name: "action",
+                form: Form::Place,
+                help: "list, check, add, delete or delegate",
+            },
+            Argument::Listen => &Row {
+                name: "listen",
+                form: Form::Needed,
+                help: "The address and port to listen at",
+            },
+            Argument::Replace => &Row {
+                name: "replace",
+                form: Form::Flag,
+                help: "In the place of the zone there",
+            },
+            Argument::Relative => &Row {
+                name: "relative",
+                form: Form::Flag,
+                help: "Relative to the origin, with a $TTL line",
+            },
+            Argument::Connections => &Row {
+                name: "connections",
+                form: Form::Number,
+                help: "After how many to end",
+            },
+            Argument::Patience => &Row {
+                name: "patience",
+                form: Form::Number,
+                help: "Seconds to wait for a peer, 30 if left out",
+            },
+            Argument::Number => &Row {
+                name: "number",
+                form: Form::OptionalPlace,
+                help: "The number, as 29.19.1, or the code; all if left out",
+            },
+            Argument::Subject => &Row {
+                name: "subject",
+                form: Form::Place,
+                help: "What to check: policy, isolation, rights or zone",
+            },
+            Argument::CheckedPolicy => &Row {
+                name: "policy",
+                form: Form::Optional,
+                help: "The path of the policy; needed by all but zone",
+            },
+            Argument::CheckedOrigin => &Row {
+                name: "origin",
+                form: Form::Optional,
+                help: "The zone's origin; needed by zone",
+            },
+            Argument::CheckedName => &Row {
+                name: "name",
+                form: Form::OptionalPlace,
+                help: "At which name to print rights; by scopes if left out",
+            },
+            Argument::Isolated => &Row {
+                name: "caller",
+                form: Form::Optional,
+                help: "Whose isolation to check; needed by isolation",
+            },
+            Argument::Only => &Row {
+                name: "only",
+                form: Form::Optional,
+                help: "The only rule: host-name, alias-target, missing-address, missing-glue, below-cut or ds-without-ns",
+            },
+            Argument::Not => &Row {
+                name: "not",
+                form: Form::Optional,
+                help: "The rule to leave out",
+            },
+            Argument::Json => &Row {
+                name: "json",
+                form: Form::Flag,
+                help: "As an array of JSON",
+            },
+            Argument::Guard => &Row {
+                name: "guard",
+                form: Form::Flag,
+                help: "With prerequisites that nobody changed the sets",
+            },
+            Argument::Old => &Row {
+                name: "old",
+                form: Form::Place,
+                help: "The file of the zone as it is, or - for standard input",
+            },
+            Argument::New => &Row {
+                name: "new",
+                form: Form::Place,
+                help: "The file of the zone as it is to be, or -",
+            },
+            Argument::Id => &Row {
+                name: "id",
+                form: Form::Optional,
+                help: "The identifier of the update; this or --split is needed",
+            },
+            Argument::Split => &Row {
+                name: "split",
+                form: Form::Optional,
+                help: "Before the numbers of the updates, as many as the limits want",
+            },
+            Argument::From => &Row {
+                name: "from",
+                form: Form::Number,
+                help: "Only the changes from this number on",
+            },
+            Argument::Within => &Row {
+                name: "name",
+                form: Form::Optional,
+                help: "Only what is at this name or below it",
+            },
+            Argument::Asker => &Row {
+                name: "caller",
+                form: Form::Optional,
+                help: "Only the receipts of this caller",
+            },
         }
     }
 

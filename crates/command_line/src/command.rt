@@ -24,7 +24,6 @@ pub enum Command {
 }
 
 /// A row of the table of commands.
-#[derive(Clone, Copy)]
 struct Row {
     /// The word that names the command.
     word: &'static str,
@@ -34,25 +33,6 @@ struct Row {
     example: &'static str,
     /// What it takes after its word.
     arguments: &'static [Argument],
-}
-
-impl Row {
-    const fn new(
-        word: &'static str,
-        about: &'static str,
-        example: &'static str,
-        arguments: &'static [Argument],
-    ) -> Row
-        ensures word { result.word ≡ word.entry }
-        ensures arguments { result.arguments ≡ arguments.entry }
-    {
-        Row {
-            word,
-            about,
-            example,
-            arguments,
-        }
-    }
 }
 
 impl Command {
@@ -77,111 +57,111 @@ impl Command {
     ];
 
     /// The one table of commands.
-    const fn row(self) -> Row
-        ensures word { result.word.now ≡ command_word self }
-        ensures arguments { result.arguments.now ≡ arguments_of self }
+    const fn row(self) -> &'static Row
+        ensures word { result.now.word.now ≡ command_word self }
+        ensures arguments { result.now.arguments.now ≡ arguments_of self }
     {
         match self {
-            Command::Apply => Row::new(
-                "apply",
-                "Updates a zone, as without any word",
-                "Example: zoneoffice apply < update.txt",
-                &[],
-            ),
-            Command::Canon => Row::new(
-                "canon",
-                "Prints a zone in canonical form",
-                "Example: zoneoffice canon --origin example.org. < zone.txt",
-                &[Argument::Origin, Argument::Relative],
-            ),
-            Command::Diff => Row::new(
-                "diff",
-                "Prints the items that lead from a zone to another",
-                "Example: zoneoffice diff --origin example.org. old.zone new.zone",
-                &[
+            Command::Apply => &Row {
+                word: "apply",
+                about: "Updates a zone, as without any word",
+                example: "Example: zoneoffice apply < update.txt",
+                arguments: &[],
+            },
+            Command::Canon => &Row {
+                word: "canon",
+                about: "Prints a zone in canonical form",
+                example: "Example: zoneoffice canon --origin example.org. < zone.txt",
+                arguments: &[Argument::Origin, Argument::Relative],
+            },
+            Command::Diff => &Row {
+                word: "diff",
+                about: "Prints the items that lead from a zone to another",
+                example: "Example: zoneoffice diff --origin example.org. old.zone new.zone",
+                arguments: &[
                     Argument::Origin,
                     Argument::Guard,
                     Argument::Old,
                     Argument::New,
                 ],
-            ),
-            Command::Request => Row::new(
-                "request",
-                "Prints the body of an update, or the bodies of its parts, for the HTTP service",
-                "Example: zoneoffice diff --guard --origin example.org. old.zone new.zone | zoneoffice request --id a1",
-                &[Argument::Id, Argument::Split],
-            ),
-            Command::Import => Row::new(
-                "import",
-                "Puts a zone into a store",
-                "Example: zoneoffice import --store office.db --origin example.org. < zone.txt",
-                &[Argument::Store, Argument::Origin, Argument::Replace],
-            ),
-            Command::Export => Row::new(
-                "export",
-                "Prints a zone of a store",
-                "Example: zoneoffice export --store office.db --origin example.org.",
-                &[Argument::Store, Argument::Origin, Argument::Relative],
-            ),
-            Command::Zones => Row::new(
-                "zones",
-                "Prints the zones of a store",
-                "Example: zoneoffice zones --store office.db",
-                &[Argument::Store],
-            ),
-            Command::Log => Row::new(
-                "log",
-                "Prints the changes of a zone of a store, and the receipts",
-                "Example: zoneoffice log --store office.db --origin example.org. --name www.example.org.",
-                &[
+            },
+            Command::Request => &Row {
+                word: "request",
+                about: "Prints the body of an update, or the bodies of its parts, for the HTTP service",
+                example: "Example: zoneoffice diff --guard --origin example.org. old.zone new.zone | zoneoffice request --id a1",
+                arguments: &[Argument::Id, Argument::Split],
+            },
+            Command::Import => &Row {
+                word: "import",
+                about: "Puts a zone into a store",
+                example: "Example: zoneoffice import --store office.db --origin example.org. < zone.txt",
+                arguments: &[Argument::Store, Argument::Origin, Argument::Replace],
+            },
+            Command::Export => &Row {
+                word: "export",
+                about: "Prints a zone of a store",
+                example: "Example: zoneoffice export --store office.db --origin example.org.",
+                arguments: &[Argument::Store, Argument::Origin, Argument::Relative],
+            },
+            Command::Zones => &Row {
+                word: "zones",
+                about: "Prints the zones of a store",
+                example: "Example: zoneoffice zones --store office.db",
+                arguments: &[Argument::Store],
+            },
+            Command::Log => &Row {
+                word: "log",
+                about: "Prints the changes of a zone of a store, and the receipts",
+                example: "Example: zoneoffice log --store office.db --origin example.org. --name www.example.org.",
+                arguments: &[
                     Argument::Store,
                     Argument::Origin,
                     Argument::From,
                     Argument::Within,
                     Argument::Asker,
                 ],
-            ),
-            Command::Migrate => Row::new(
-                "migrate",
-                "Takes a store of version 1 to version 2",
-                "Example: zoneoffice migrate --store office.db",
-                &[Argument::Store],
-            ),
-            Command::Rights => Row::new(
-                "rights",
-                "Asks a policy whether a caller may do something",
-                "Example: zoneoffice rights --policy policy.toml --caller phys www.example.org. A add",
-                &[
+            },
+            Command::Migrate => &Row {
+                word: "migrate",
+                about: "Takes a store of version 1 to version 2",
+                example: "Example: zoneoffice migrate --store office.db",
+                arguments: &[Argument::Store],
+            },
+            Command::Rights => &Row {
+                word: "rights",
+                about: "Asks a policy whether a caller may do something",
+                example: "Example: zoneoffice rights --policy policy.toml --caller phys www.example.org. A add",
+                arguments: &[
                     Argument::Policy,
                     Argument::Caller,
                     Argument::Name,
                     Argument::Type,
                     Argument::Action,
                 ],
-            ),
-            Command::Plan => Row::new(
-                "plan",
-                "Says what the office would answer to an update of a zone",
-                "Example: zoneoffice plan --policy policy.toml --caller phys < update.txt",
-                &[Argument::Policy, Argument::Caller],
-            ),
-            Command::Serve => Row::new(
-                "serve",
-                "Answers callers over HTTP",
-                "Example: zoneoffice serve --store office.db --policy policy.toml --listen 127.0.0.1:8053",
-                &[
+            },
+            Command::Plan => &Row {
+                word: "plan",
+                about: "Says what the office would answer to an update of a zone",
+                example: "Example: zoneoffice plan --policy policy.toml --caller phys < update.txt",
+                arguments: &[Argument::Policy, Argument::Caller],
+            },
+            Command::Serve => &Row {
+                word: "serve",
+                about: "Answers callers over HTTP",
+                example: "Example: zoneoffice serve --store office.db --policy policy.toml --listen 127.0.0.1:8053",
+                arguments: &[
                     Argument::Store,
                     Argument::Policy,
                     Argument::Listen,
                     Argument::Connections,
                     Argument::Patience,
                 ],
-            ),
-            Command::Check => Row::new(
-                "check",
-                "Checks a policy, the isolation of a caller, or a zone; or prints who may do what",
-                "Example: zoneoffice check policy --policy policy.toml",
-                &[
+            },
+            Command::Check => &Row {
+                word: "check",
+                about: "Checks a policy, the isolation of a caller, or a zone; or prints who may do what",
+                example: "Example: zoneoffice check policy --policy policy.toml",
+                arguments: &[
                     Argument::Subject,
                     Argument::CheckedName,
                     Argument::CheckedPolicy,
@@ -190,13 +170,13 @@ impl Command {
                     Argument::Only,
                     Argument::Not,
                 ],
-            ),
-            Command::Explain => Row::new(
-                "explain",
-                "Says what the number of a refusal means",
-                "Example: zoneoffice explain 29.19.1",
-                &[Argument::Number, Argument::Json],
-            ),
+            },
+            Command::Explain => &Row {
+                word: "explain",
+                about: "Says what the number of a refusal means",
+                example: "Example: zoneoffice explain 29.19.1",
+                arguments: &[Argument::Number, Argument::Json],
+            },
         }
     }
 
