@@ -8,6 +8,7 @@ ghost use Rattle.zone_core.specs.Sets.{Records, record_order, AreRows};
 ghost use Rattle.zone_core.specs.Merges.{is_first, merged};
 ghost use Rattle.zone_core.specs.Changes.{changed, FitsIn};
 
+use crate::rows::with_copies;
 use dns_data::{Record, record_order};
 use std::alloc::{AllocError, Global};
 
@@ -35,20 +36,6 @@ fn is_first(records: &[Record], rr: &Record) -> bool
         [] => false,
         [first, ..] => record_order(first, rr).is_eq(),
     }
-}
-
-/// Rows, and copies of records behind them. The only error is out of memory.
-pub(crate) fn with_copies(
-    alloc: Global,
-    mut rows: Vec<Record>,
-    records: &[Record],
-) -> Result<Vec<Record>, AllocError>
-    ensures { IfOk result (λ all. all.items ≡ rows.items ++ records.now) }
-{
-    for record in records {
-        rows.push(record.try_copy(alloc)?)?;
-    }
-    Ok(rows)
 }
 
 /// Rows that are merged so far, and what is left of the records that go and of those that come.

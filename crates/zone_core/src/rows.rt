@@ -1,6 +1,6 @@
 //! Rows of records in record order, in which what stands at a name, in a set or within a name is found by halving.
 
-ghost use Rattle.std.specs.Prelude.{◌≡◌, ◌==◌, ◌++◌, if◌then◌else◌, not, Some, None, IfOk};
+ghost use Rattle.std.specs.Prelude.{◌≡◌, ◌==◌, [], ◌∷◌, ◌++◌, if◌then◌else◌, not, Some, None, IfOk};
 ghost use Rattle.std.specs.FinMap.{get};
 ghost use Rattle.std.specs.Option.{option_copied};
 ghost use Rattle.std.specs.Ordering.{is_eq};
@@ -92,15 +92,37 @@ pub(crate) fn has_name(records: &[Record], name: &Name) -> bool
     !at_name(records, name).is_empty()
 }
 
+/// Puts a copy of a record behind others. The only error is out of memory.
+pub(crate) fn push_copy(
+    alloc: Global,
+    rows: &mut Vec<Record>,
+    rr: &Record,
+) -> Result<(), AllocError>
+    ensures { IfOk result (λ _. rows.new.items ≡ rows.old.items ++ rr.now ∷ []) }
+{
+    rows.push(rr.try_copy(alloc)?)?;
+    Ok(())
+}
+
+/// Rows, and copies of records behind them. The only error is out of memory.
+pub(crate) fn with_copies(
+    alloc: Global,
+    mut rows: Vec<Record>,
+    records: &[Record],
+) -> Result<Vec<Record>, AllocError>
+    ensures { IfOk result (λ all. all.items ≡ rows.items ++ records.now) }
+{
+    for record in records {
+        push_copy(alloc, &mut rows, record)?;
+    }
+    Ok(rows)
+}
+
 /// Equal records in memory of their own. The only error is out of memory.
 pub(crate) fn copied(alloc: Global, records: &[Record]) -> Result<Vec<Record>, AllocError>
     ensures { IfOk result (λ copies. copies.items ≡ records.now) }
 {
-    let mut copies = Vec::with_capacity(alloc, records.len())?;
-    for record in records {
-        copies.push(record.try_copy(alloc)?)?;
-    }
-    Ok(copies)
+    with_copies(alloc, Vec::with_capacity(alloc, records.len())?, records)
 }
 
 /// The records in record order, and of those that are the same the first. The keys of all owners begin with the same
@@ -183,7 +205,7 @@ pub(crate) fn with_difference(
 {
     for record in records {
         if differs(record, others) {
-            found.push(record.try_copy(alloc)?)?;
+            push_copy(alloc, &mut found, record)?;
         }
     }
     Ok(found)
