@@ -1,7 +1,7 @@
 -- What a loop makes of each item and puts behind what there is.
-use Rattle.std.proofs.Common.{◌≡◌, ℕ, ◌+◌, ◌<◌, Bool, true, false, List, [], ◌∷◌, ◌++◌, length, take, get_or, map, refl, sym, ap, ◌∙◌, append_assoc}
+use Rattle.std.proofs.Common.{◌≡◌, ℕ, ◌+◌, ◌<◌, ◌≤◌, Bool, true, false, List, [], ◌∷◌, ◌++◌, length, take, get_or, map, refl, sym, ap, ◌∙◌, append_assoc}
 use Rattle.std.specs.List.{filter}
-use Rattle.std.proofs.lemmas.List.{take_more, append-nil, map_push}
+use Rattle.std.proofs.lemmas.List.{take_all, take_more, append-nil, map_push}
 use Rattle.std.proofs.lemmas.List.Elements.{filter-append}
 
 -- one item more, of which `f` makes these
@@ -20,6 +20,10 @@ pub behind_same : {A B : Type 0} (f : List A → List B) (before : List B) (xs :
     → now ≡ before ++ f (take (i + 1) xs)
 behind_same {A} {B} f before xs i x {now} same lt is so =
     behind_more f before xs i x [] (λ ps. same ps ∙ sym (append-nil (f ps))) lt is so (sym (append-nil now))
+
+-- all items
+pub behind_all : {A B : Type 0} (f : List A → List B) (before : List B) (xs : List A) (i : ℕ) {now : List B} → now ≡ before ++ f (take i xs) → length xs ≤ i → now ≡ before ++ f xs
+behind_all f before xs i so all = so ∙ ap (λ l. before ++ f l) (take_all i xs all)
 
 -- an item that passes a test stays
 pub filter_push : {A : Type 0} (p : A → Bool) (x : A) → p x ≡ true → (xs : List A) → filter p (xs ++ x ∷ []) ≡ filter p xs ++ x ∷ []
