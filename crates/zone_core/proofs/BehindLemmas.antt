@@ -1,8 +1,9 @@
 -- What a loop makes of each item and puts behind what there is.
 use Rattle.std.proofs.Common.{◌≡◌, ℕ, ◌+◌, ◌<◌, ◌≤◌, Bool, true, false, List, [], ◌∷◌, ◌++◌, length, take, get_or, map, refl, sym, ap, ◌∙◌, append_assoc}
-use Rattle.std.specs.List.{filter}
+use Rattle.std.specs.List.{filter, flat_map}
 use Rattle.std.proofs.lemmas.List.{take_all, take_more, append-nil, map_push}
 use Rattle.std.proofs.lemmas.List.Elements.{filter-append}
+use Rattle.std.proofs.lemmas.Grind.{flat_map-append}
 
 -- one item more, of which `f` makes these
 pub behind_more : {A B : Type 0} (f : List A → List B) (before : List B) (xs : List A) (i : ℕ) (x : A) (ys : List B) {now next : List B}
@@ -36,3 +37,7 @@ filter_skip p x fails xs = filter-append p xs (x ∷ []) ∙ rw fails (append-ni
 -- so it is where something is made of those that stay
 pub map_filter_push : {A B : Type 0} (g : A → B) (p : A → Bool) (x : A) → p x ≡ true → (xs : List A) → map g (filter p (xs ++ x ∷ [])) ≡ map g (filter p xs) ++ g x ∷ []
 map_filter_push g p x passes xs = ap (map g) (filter_push p x passes xs) ∙ map_push g (filter p xs) x
+
+-- what is made of one item more
+pub flat_map_push : {A B : Type 0} (f : A → List B) (x : A) (xs : List A) → flat_map f (xs ++ x ∷ []) ≡ flat_map f xs ++ f x
+flat_map_push f x xs = flat_map-append f xs (x ∷ []) ∙ ap (λ l. flat_map f xs ++ l) (append-nil (f x))
