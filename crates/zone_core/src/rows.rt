@@ -193,22 +193,23 @@ fn differs(rr: &Record, others: &[Record]) -> bool
     }
 }
 
-/// Records, and copies of those of a row that another has not, or has with other TTLs. The only error is out of memory.
-pub(crate) fn with_difference(
+/// Puts copies of those records of a row behind others that another row has not, or has with other TTLs. The only error is out of
+/// memory.
+pub(crate) fn push_difference(
     alloc: Global,
-    mut found: Vec<Record>,
+    found: &mut Vec<Record>,
     records: &[Record],
     others: &[Record],
-) -> Result<Vec<Record>, AllocError>
+) -> Result<(), AllocError>
     requires { InOrder others.now }
-    ensures { IfOk result (λ all. all.items ≡ found.items ++ filter (λ r. not (same_ttl (Some r) (get (set_of others.now) (key_of r)))) records.now) }
+    ensures { IfOk result (λ _. found.new.items ≡ found.old.items ++ filter (λ r. not (same_ttl (Some r) (get (set_of others.now) (key_of r)))) records.now) }
 {
     for record in records {
         if differs(record, others) {
-            push_copy(alloc, &mut found, record)?;
+            push_copy(alloc, found, record)?;
         }
     }
-    Ok(found)
+    Ok(())
 }
 
 /// Copies of the records of a row that another has not, or has with other TTLs, in record order. The only error is out of memory.
@@ -221,5 +222,7 @@ pub(crate) fn difference(
     requires others { InOrder others.now }
     ensures { IfOk result (λ found. AreRows found.items (minus (set_of records.now) (set_of others.now))) }
 {
-    with_difference(alloc, Vec::new(alloc), records, others)
+    let mut found = Vec::new(alloc);
+    push_difference(alloc, &mut found, records, others)?;
+    Ok(found)
 }

@@ -1,15 +1,16 @@
 use Rattle.std.proofs.Common.{sym, ap, subst, ◌∙◌}
+use Rattle.std.proofs.lemmas.Result.{IfOk-weaker}
 use Rattle.zone_core.specs.Sets.{set_of, part, at_name, InOrder}
 use Rattle.zone_core.specs.Effects.{effects}
 use Rattle.zone_core.specs.Nodes.{IsNode, Becomes}
 use Rattle.zone_core.proofs.ChangeLemmas.{node_is, set_is, removed_here, added_here}
-use Rattle.zone_core.proofs.change.change_at.Goals as goal
+use Rattle.zone_core.proofs.change.push_change_at.Goals as goal
 
 pub effects-requires : goal.effects-requires
 effects-requires c = subst (IsNode c.args.name.now) (sym c.in_ok-copied.ensures) (node_is c.args.name.now c.args.records.now c.requires c.at_name-before.result.now c.at_name-before.ensures)
 
-pub with_difference-requires : goal.with_difference-requires
-with_difference-requires c =
+pub push_between-requires-clause-after : goal.push_between-requires-clause-after
+push_between-requires-clause-after c =
     let o = c.args.origin.now in
     let n = c.args.name.now in
     let rs = c.args.records.now in
@@ -19,8 +20,8 @@ with_difference-requires c =
     c.in_ok-after.ensures (set_of rs) (ap set_of c.in_ok-copied.ensures ∙ set_is n rs c.requires before c.at_name-before.ensures) in
     subst InOrder (sym c.deref.ensures.value) becomes.node.order
 
-pub with_difference-requires-2 : goal.with_difference-requires-2
-with_difference-requires-2 c = (node_is c.args.name.now c.args.records.now c.requires c.at_name-before.result.now c.at_name-before.ensures).order
+pub push_between-requires-clause-before : goal.push_between-requires-clause-before
+push_between-requires-clause-before c = (node_is c.args.name.now c.args.records.now c.requires c.at_name-before.result.now c.at_name-before.ensures).order
 
 pub returns-clause-removed : goal.returns-clause-removed
 returns-clause-removed c =
@@ -31,8 +32,10 @@ returns-clause-removed c =
     let before = c.at_name-before.result.now in
     let becomes : Becomes n c.in_ok-after.after.items (part (effects o (set_of rs) ops) (at_name n)) =
     c.in_ok-after.ensures (set_of rs) (ap set_of c.in_ok-copied.ensures ∙ set_is n rs c.requires before c.at_name-before.ensures) in
-    removed_here n rs c.requires before c.at_name-before.ensures (effects o (set_of rs) ops) c.in_ok-after.after.items becomes c.args.change.removed.items c.in_ok-with_difference.field-0.items
-    (rw (sym c.deref.ensures.value) c.in_ok-with_difference.ensures)
+    let now = c.push_between.new.self.removed.items in
+    IfOk-weaker c.push_between.result _ _
+      (λ _ e. removed_here n rs c.requires before c.at_name-before.ensures (effects o (set_of rs) ops) c.in_ok-after.after.items becomes c.args.change.now.removed.items now (rw (sym c.deref.ensures.value) e))
+      c.push_between.ensures.removed
 
 pub returns-clause-added : goal.returns-clause-added
 returns-clause-added c =
@@ -43,5 +46,7 @@ returns-clause-added c =
     let before = c.at_name-before.result.now in
     let becomes : Becomes n c.in_ok-after.after.items (part (effects o (set_of rs) ops) (at_name n)) =
     c.in_ok-after.ensures (set_of rs) (ap set_of c.in_ok-copied.ensures ∙ set_is n rs c.requires before c.at_name-before.ensures) in
-    added_here n rs c.requires before c.at_name-before.ensures (effects o (set_of rs) ops) c.in_ok-after.after.items becomes c.args.change.added.items c.in_ok-with_difference-2.field-0.items
-    (rw (sym c.deref-2.ensures.value) c.in_ok-with_difference-2.ensures)
+    let now = c.push_between.new.self.added.items in
+    IfOk-weaker c.push_between.result _ _
+      (λ _ e. added_here n rs c.requires before c.at_name-before.ensures (effects o (set_of rs) ops) c.in_ok-after.after.items becomes c.args.change.now.added.items now (rw (sym c.deref.ensures.value) e))
+      c.push_between.ensures.added
