@@ -104,25 +104,27 @@ pub(crate) fn push_copy(
     Ok(())
 }
 
-/// Rows, and copies of records behind them. The only error is out of memory.
-pub(crate) fn with_copies(
+/// Puts copies of records behind others. The only error is out of memory.
+pub(crate) fn push_copies(
     alloc: Global,
-    mut rows: Vec<Record>,
+    rows: &mut Vec<Record>,
     records: &[Record],
-) -> Result<Vec<Record>, AllocError>
-    ensures { IfOk result (λ all. all.items ≡ rows.items ++ records.now) }
+) -> Result<(), AllocError>
+    ensures { IfOk result (λ _. rows.new.items ≡ rows.old.items ++ records.now) }
 {
     for record in records {
-        push_copy(alloc, &mut rows, record)?;
+        push_copy(alloc, rows, record)?;
     }
-    Ok(rows)
+    Ok(())
 }
 
 /// Equal records in memory of their own. The only error is out of memory.
 pub(crate) fn copied(alloc: Global, records: &[Record]) -> Result<Vec<Record>, AllocError>
     ensures { IfOk result (λ copies. copies.items ≡ records.now) }
 {
-    with_copies(alloc, Vec::with_capacity(alloc, records.len())?, records)
+    let mut copies = Vec::with_capacity(alloc, records.len())?;
+    push_copies(alloc, &mut copies, records)?;
+    Ok(copies)
 }
 
 /// The records in record order, and of those that are the same the first. The keys of all owners begin with the same

@@ -142,7 +142,7 @@ impl Zone {
         let origin = self.origin().try_copy(alloc)?;
         let mut records = rows::copied(alloc, self.records_at(&self.origin))?;
         for name in names {
-            records = rows::with_copies(alloc, records, self.records_at(name))?;
+            rows::push_copies(alloc, &mut records, self.records_at(name))?;
         }
         Ok(Zone::of_rows(origin, rows::in_order(alloc, records)?))
     }
