@@ -1,10 +1,10 @@
 //! Rows of records in record order, in which what stands at a name, in a set or within a name is found by halving.
 
-ghost use Rattle.std.specs.Prelude.{◌≡◌, ◌==◌, [], ◌∷◌, ◌++◌, if◌then◌else◌, not, Some, None, IfOk};
+ghost use Rattle.std.specs.Prelude.{◌≡◌, ◌≤◌, ◌==◌, [], ◌∷◌, ◌++◌, if◌then◌else◌, not, Some, None, IfOk, length};
 ghost use Rattle.std.specs.FinMap.{get};
 ghost use Rattle.std.specs.Option.{option_copied};
 ghost use Rattle.std.specs.Ordering.{is_eq};
-ghost use Rattle.std.specs.List.{filter};
+ghost use Rattle.std.specs.List.{filter, insert};
 ghost use Rattle.std.specs.List.Sorted.{IsSorted};
 ghost use Rattle.zone_core.specs.Sets.{key_of, rank_of, set_of, record_order, same_ttl, has, minus, InOrder, AreRows, at_name, at, within};
 ghost use Rattle.zone_core.specs.Prerequisites.{same_data};
@@ -102,6 +102,27 @@ pub(crate) fn push_copy(
 {
     rows.push(rr.try_copy(alloc)?)?;
     Ok(())
+}
+
+/// Puts a copy of a record at a place between others. The only error is out of memory.
+pub(crate) fn insert_copy(
+    alloc: Global,
+    rows: &mut Vec<Record>,
+    place: usize,
+    rr: &Record,
+) -> Result<(), AllocError>
+    requires { place ≤ length rows.old.items }
+    ensures { IfOk result (λ _. rows.new.items ≡ insert rows.old.items place rr.now) }
+{
+    rows.insert(place, rr.try_copy(alloc)?)?;
+    Ok(())
+}
+
+/// A row of one record. The only error is out of memory.
+pub(crate) fn alone(alloc: Global, rr: Record) -> Result<Vec<Record>, AllocError>
+    ensures { IfOk result (λ rows. rows.items ≡ rr ∷ []) }
+{
+    Ok(vec![in alloc; rr]?)
 }
 
 /// Puts copies of records behind others. The only error is out of memory.
