@@ -106,7 +106,14 @@ pub(crate) fn changes(
     };
     for (i, operation) in operations.iter().enumerate() {
         if !acts_at(&operations[..i], operation.name()) {
-            push_change_at(alloc, &mut change, origin, records, operation.name(), operations)?;
+            push_change_at(
+                alloc,
+                &mut change,
+                origin,
+                records,
+                operation.name(),
+                operations,
+            )?;
         }
     }
     Ok(Change {

@@ -242,8 +242,20 @@ fn push_additions(
 ) -> Result<(), AllocError>
     ensures { IfOk result (λ _. operations.new.items ≡ operations.old.items ++ (map (server_addition request.now.child request.now.ttl) request.now.servers.items ++ flat_map (glue_additions request.now.child request.now.ttl) request.now.servers.items)) }
 {
-    push_servers(alloc, operations, &request.child, request.ttl, &request.servers)?;
-    push_all_glue(alloc, operations, &request.child, request.ttl, &request.servers)?;
+    push_servers(
+        alloc,
+        operations,
+        &request.child,
+        request.ttl,
+        &request.servers,
+    )?;
+    push_all_glue(
+        alloc,
+        operations,
+        &request.child,
+        request.ttl,
+        &request.servers,
+    )?;
     Ok(())
 }
 

@@ -116,7 +116,8 @@ impl UpdateFault {
 impl Display for UpdateFault {
     fn fmt<W: Write>(&self, f: &mut Formatter<W>) -> fmt::Result {
         f.write_str(match *self {
-            UpdateFault::TooManyItems => "an update has at most 64 prerequisites and 256 operations",
+            UpdateFault::TooManyItems =>
+                "an update has at most 64 prerequisites and 256 operations",
             UpdateFault::TwoSoa => "an update adds at most one SOA record",
         })
     }

@@ -317,10 +317,7 @@ fn copied_prerequisites(
 }
 
 /// Equal operations in memory of their own. The only error is out of memory.
-fn copied_operations(
-    alloc: Global,
-    operations: &[Operation],
-) -> Result<Vec<Operation>, AllocError>
+fn copied_operations(alloc: Global, operations: &[Operation]) -> Result<Vec<Operation>, AllocError>
     ensures { IfOk result (λ copies. copies.items ≡ operations.now) }
 {
     let mut copies = Vec::with_capacity(alloc, operations.len())?;

@@ -34,8 +34,8 @@ returns-clause-removed c =
     c.in_ok-after.ensures (set_of rs) (ap set_of c.in_ok-copied.ensures ∙ set_is n rs c.requires before c.at_name-before.ensures) in
     let now = c.push_between.new.self.removed.items in
     IfOk-weaker c.push_between.result _ _
-      (λ _ e. removed_here n rs c.requires before c.at_name-before.ensures (effects o (set_of rs) ops) c.in_ok-after.after.items becomes c.args.change.now.removed.items now (rw (sym c.deref.ensures.value) e))
-      c.push_between.ensures.removed
+    (λ _ e. removed_here n rs c.requires before c.at_name-before.ensures (effects o (set_of rs) ops) c.in_ok-after.after.items becomes c.args.change.now.removed.items now (rw (sym c.deref.ensures.value) e))
+    c.push_between.ensures.removed
 
 pub returns-clause-added : goal.returns-clause-added
 returns-clause-added c =
@@ -48,5 +48,5 @@ returns-clause-added c =
     c.in_ok-after.ensures (set_of rs) (ap set_of c.in_ok-copied.ensures ∙ set_is n rs c.requires before c.at_name-before.ensures) in
     let now = c.push_between.new.self.added.items in
     IfOk-weaker c.push_between.result _ _
-      (λ _ e. added_here n rs c.requires before c.at_name-before.ensures (effects o (set_of rs) ops) c.in_ok-after.after.items becomes c.args.change.now.added.items now (rw (sym c.deref.ensures.value) e))
-      c.push_between.ensures.added
+    (λ _ e. added_here n rs c.requires before c.at_name-before.ensures (effects o (set_of rs) ops) c.in_ok-after.after.items becomes c.args.change.now.added.items now (rw (sym c.deref.ensures.value) e))
+    c.push_between.ensures.added

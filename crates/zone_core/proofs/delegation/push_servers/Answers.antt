@@ -13,7 +13,7 @@ loop-server-preserved c =
     let made = server_addition c.args.child.now c.args.ttl in
     let x = c.server-item.result in
     behind_more (map made) c.args.operations.now.items c.args.servers.now c.loop-server.server-index x _ (λ xs. map_push made xs x) c.loop-server-test.true c.server-item.is c.loop-server.invariant
-      (c.in_ok-push.ensures.items ∙ ap (λ (op : Operation). c.loop-server.operations.items ++ op ∷ []) c.in_ok-server_addition.ensures)
+    (c.in_ok-push.ensures.items ∙ ap (λ (op : Operation). c.loop-server.operations.items ++ op ∷ []) c.in_ok-server_addition.ensures)
 
 pub returns : goal.returns
 returns c = behind_all (map (server_addition c.args.child.now c.args.ttl)) c.args.operations.now.items c.args.servers.now c.loop-server.server-index c.loop-server.invariant c.loop-server-test.false

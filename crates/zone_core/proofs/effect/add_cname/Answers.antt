@@ -15,6 +15,6 @@ pub returns : goal.returns
 returns c =
     let rr = c.args.rr.now in
     IfOk-weaker c.alone.result _ _
-      (λ rows e. subst (λ xs. Becomes rr.owner xs (add_cname (set_of c.args.node.items) rr)) (ap (λ (r : Record). r ∷ []) (sym c.in_ok-try_copy.ensures) ∙ sym e)
-      (cname_put rr c.args.node.items c.requires.node (rw (sym c.deref.ensures.value, sym c.has_other_type.ensures) c.if-has_other_type.false)))
-      c.alone.ensures
+    (λ rows e. subst (λ xs. Becomes rr.owner xs (add_cname (set_of c.args.node.items) rr)) (ap (λ (r : Record). r ∷ []) (sym c.in_ok-try_copy.ensures) ∙ sym e)
+    (cname_put rr c.args.node.items c.requires.node (rw (sym c.deref.ensures.value, sym c.has_other_type.ensures) c.if-has_other_type.false)))
+    c.alone.ensures
