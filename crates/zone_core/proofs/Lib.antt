@@ -9,6 +9,7 @@ pub mod GroupLemmas
 pub mod SoaFirstLemmas
 pub mod SortLemmas
 pub mod MinTtlLemmas
+pub mod BehindLemmas
 pub mod BesideLemmas
 pub mod AdjacentLemmas
 pub mod SharedOctetLemmas

@@ -10,8 +10,7 @@ use Rattle.std.specs.List.Sorted.{IsStrictlySortedBy}
 use Rattle.std.specs.FinMap.{find}
 use Rattle.std.proofs.lemmas.Bool.Decides.{nat_tests}
 use Rattle.std.proofs.lemmas.List.Sums.{prefix_len-le-length}
-use Rattle.std.proofs.lemmas.List.{append_assoc}
-use Rattle.zone_core.proofs.RangeLemmas.{rest_is}
+use Rattle.std.proofs.lemmas.List.{append-nil, append_assoc}
 use Rattle.dns_data.specs.declared.record.Record.{Record}
 use Rattle.dns_data.specs.RecordOrder.{record_order_total}
 use Rattle.zone_core.specs.Sets.{Key, key_of, key_cmp, keyed, record_order, InOrder}
@@ -44,26 +43,16 @@ cut_at r (x ∷ xs) n e = by_test (is_lt (record_order x r)) n e (cut_at r xs (p
     by_test true m f rest = rw (f ∙ one_more (position_or_len (λ y. not (is_lt (record_order y r))) xs)) (ap (λ ys. x ∷ ys) rest.0, rest.1)
     by_test false m f rest = rw f (refl, refl)
 
--- one row more
-module _ (r : Record) (out rows gone come : List Record) (n : ℕ) (front : n ≡ position_or_len (λ x. not (is_lt (record_order x r))) come) (is : out ≡ rows ++ take n come) where
-  cut_front : (xs : List Record) → out ++ xs ≡ rows ++ (before r come ++ xs)
-  cut_front xs = ap (λ ys. ys ++ xs) is ∙ append_assoc rows (take n come) xs ∙ ap (λ ys. rows ++ (ys ++ xs)) (cut_at r come n front).0
-
-  cut_rest : take (length come - n) (drop n come) ≡ behind r come
-  cut_rest = rest_is come n ∙ (cut_at r come n front).1
-
-  pub row_goes : is_first r gone ≡ true → (rest : List Record)
-      → out ++ merged rest (take (length gone - 1) (drop 1 gone)) (take (length come - n) (drop n come)) ≡ rows ++ merged (r ∷ rest) gone come
-  row_goes first rest =
-      (λ i. out ++ merged rest (rest_is gone 1 i) (cut_rest i)) ∙ cut_front (merged rest (drop 1 gone) (behind r come))
-      ∙ ap (λ b. rows ++ (before r come ++ cond b (merged rest (drop 1 gone) (behind r come)) (r ∷ merged rest gone (behind r come)))) (sym first)
-
-  pub row_stays : is_first r gone ≡ false → (rest : List Record)
-      → out ++ r ∷ [] ++ merged rest gone (take (length come - n) (drop n come)) ≡ rows ++ merged (r ∷ rest) gone come
-  row_stays first rest =
-      append_assoc out (r ∷ []) (merged rest gone (take (length come - n) (drop n come)))
-      ∙ ap (λ xs. out ++ r ∷ merged rest gone xs) cut_rest ∙ cut_front (r ∷ merged rest gone (behind r come))
-      ∙ ap (λ b. rows ++ (before r come ++ cond b (merged rest (drop 1 gone) (behind r come)) (r ∷ merged rest gone (behind r come)))) (sym first)
+-- One row more: those that come before it are put before it, and it is left out where it goes.
+module _ (r : Record) (rows mid next gone left come later : List Record) (front : mid ≡ rows ++ before r come) (later_is : later ≡ behind r come)
+    (next_is : next ≡ mid ++ cond (is_first r gone) [] (r ∷ [])) (left_is : left ≡ cond (is_first r gone) (drop 1 gone) gone) where
+  pub row_done : (rest : List Record) → next ++ merged rest left later ≡ rows ++ merged (r ∷ rest) gone come
+  row_done rest = by_test (is_first r gone) next_is left_is
+    where
+      by_test : (b : Bool) → next ≡ mid ++ cond b [] (r ∷ []) → left ≡ cond b (drop 1 gone) gone
+          → next ++ merged rest left later ≡ rows ++ (before r come ++ cond b (merged rest (drop 1 gone) (behind r come)) (r ∷ merged rest gone (behind r come)))
+      by_test true n l = rw (n, l, later_is, front) (simp (append-nil, append_assoc))
+      by_test false n l = rw (n, l, later_is, front) (simp append_assoc)
 
 -- ---- records above one
 

@@ -1,17 +1,18 @@
 //! Changes of a zone: the records that go, and those that come. An update, a delegation, another zone of the same origin: each is
 //! made by its change.
 
-ghost use Rattle.std.specs.Prelude.{◌≡◌, IfOk};
-ghost use Rattle.std.specs.List.{list_any};
+ghost use Rattle.std.specs.Prelude.{◌≡◌, ◌++◌, not, Some, IfOk};
+ghost use Rattle.std.specs.FinMap.{get};
+ghost use Rattle.std.specs.List.{list_any, filter};
 ghost use Rattle.dns_names.specs.Order.{same_name};
-ghost use Rattle.zone_core.specs.Sets.{set_of, part, minus, at_name, InOrder, AreRows};
+ghost use Rattle.zone_core.specs.Sets.{key_of, set_of, same_ttl, part, minus, at_name, InOrder, AreRows};
 ghost use Rattle.zone_core.specs.Updates.{acted_name, ActsWithin};
 ghost use Rattle.zone_core.specs.Effects.{effects, zone_after};
 ghost use Rattle.zone_core.specs.Nodes.{Grows};
 ghost use Rattle.zone_core.specs.Changes.{change_in, change_between, is_empty};
 
 use crate::effect::effects;
-use crate::rows::{at_name, copied, difference, in_order, with_difference};
+use crate::rows::{at_name, copied, difference, in_order, push_difference};
 use crate::serial_advance::update_change;
 use crate::update::{Operation, Update};
 use crate::zone::Zone;
@@ -59,6 +60,23 @@ impl Change {
         self.removed.is_empty() && self.added.is_empty()
     }
 
+    /// Puts what two rows differ in behind what goes and what comes. The only error is out of memory.
+    fn push_between(
+        &mut self,
+        alloc: Global,
+        before: &[Record],
+        after: &[Record],
+    ) -> Result<(), AllocError>
+        requires before { InOrder before.now }
+        requires after { InOrder after.now }
+        ensures removed { IfOk result (λ _. self.new.removed.items ≡ self.old.removed.items ++ filter (λ r. not (same_ttl (Some r) (get (set_of after.now) (key_of r)))) before.now) }
+        ensures added { IfOk result (λ _. self.new.added.items ≡ self.old.added.items ++ filter (λ r. not (same_ttl (Some r) (get (set_of before.now) (key_of r)))) after.now) }
+    {
+        push_difference(alloc, &mut self.removed, before, after)?;
+        push_difference(alloc, &mut self.added, after, before)?;
+        Ok(())
+    }
+
     /// An equal change in memory of its own. The only error is out of memory.
     pub fn try_copy(&self, alloc: Global) -> Result<Change, AllocError>
         ensures { IfOk result (λ copy. change_in copy ≡ change_in self.now) }
@@ -88,7 +106,14 @@ pub(crate) fn changes(
     };
     for (i, operation) in operations.iter().enumerate() {
         if !acts_at(&operations[..i], operation.name()) {
-            change = change_at(alloc, origin, records, change, operation.name(), operations)?;
+            push_change_at(
+                alloc,
+                &mut change,
+                origin,
+                records,
+                operation.name(),
+                operations,
+            )?;
         }
     }
     Ok(Change {
@@ -104,23 +129,20 @@ fn acts_at(operations: &[Operation], name: &Name) -> bool
     operations.iter().any(|operation| operation.name() == name)
 }
 
-/// A change, and what operations change at a name.
-fn change_at(
+/// Puts what operations change at a name into a change. The only error is out of memory.
+fn push_change_at(
     alloc: Global,
+    change: &mut Change,
     origin: &Name,
     records: &[Record],
-    change: Change,
     name: &Name,
     operations: &[Operation],
-) -> Result<Change, AllocError>
+) -> Result<(), AllocError>
     requires { InOrder records.now }
-    ensures removed { IfOk result (λ c. Grows change.removed.items c.removed.items (part (minus (set_of records.now) (effects origin.now (set_of records.now) operations.now)) (at_name name.now))) }
-    ensures added { IfOk result (λ c. Grows change.added.items c.added.items (part (minus (effects origin.now (set_of records.now) operations.now) (set_of records.now)) (at_name name.now))) }
+    ensures removed { IfOk result (λ _. Grows change.old.removed.items change.new.removed.items (part (minus (set_of records.now) (effects origin.now (set_of records.now) operations.now)) (at_name name.now))) }
+    ensures added { IfOk result (λ _. Grows change.old.added.items change.new.added.items (part (minus (effects origin.now (set_of records.now) operations.now) (set_of records.now)) (at_name name.now))) }
 {
     let before = at_name(records, name);
     let after = effects(alloc, origin, name, copied(alloc, before)?, operations)?;
-    Ok(Change {
-        removed: with_difference(alloc, change.removed, before, &after)?,
-        added: with_difference(alloc, change.added, &after, before)?,
-    })
+    change.push_between(alloc, before, &after)
 }

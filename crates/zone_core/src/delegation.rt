@@ -1,6 +1,6 @@
 //! Delegations (RFC 1034 section 4.2.1).
 
-ghost use Rattle.std.specs.Prelude.{◌≡◌, ◌++◌, ℕ, map, IfOk};
+ghost use Rattle.std.specs.Prelude.{◌≡◌, [], ◌∷◌, ◌++◌, ℕ, map, IfOk};
 ghost use Rattle.std.specs.List.{list_any, flat_map};
 ghost use Rattle.zone_core.specs.Faults.{GivesDelegation};
 ghost use Rattle.zone_core.specs.Delegations.{is_below, address_data, needs_glue, lacks_glue, glue_deletions, server_addition, address_addition, glue_additions, delegation_operations, delegation_of};
@@ -84,30 +84,33 @@ fn some_lacks_glue(child: &Name, servers: &[ChildServer]) -> bool
     servers.iter().any(|server| lacks_glue(child, server))
 }
 
-/// The deletion of a set.
-fn deletion(alloc: Global, name: &Name, record_type: RecordType) -> Result<Operation, AllocError>
-    ensures { IfOk result (λ op. op ≡ Operation.DeleteRrset name.now record_type) }
+/// Puts the deletion of a set behind operations. The only error is out of memory.
+fn push_deletion(
+    alloc: Global,
+    operations: &mut Vec<Operation>,
+    name: &Name,
+    record_type: RecordType,
+) -> Result<(), AllocError>
+    ensures { IfOk result (λ _. operations.new.items ≡ operations.old.items ++ Operation.DeleteRrset name.now record_type ∷ []) }
 {
-    Ok(Operation::DeleteRrset {
-        name: name.try_copy(alloc)?,
-        record_type,
-    })
+    operations.push(Operation::rrset_deletion(alloc, name, record_type)?)?;
+    Ok(())
 }
 
-/// Operations, and those that delete the glue of a server, if it is within the child.
-fn with_deletions(
+/// Puts those operations behind others that delete the glue of a server, if it is within the child.
+fn push_glue_deletions(
     alloc: Global,
-    mut operations: Vec<Operation>,
+    operations: &mut Vec<Operation>,
     child: &Name,
     server: &ChildServer,
-) -> Result<Vec<Operation>, AllocError>
-    ensures { IfOk result (λ ops. ops.items ≡ operations.items ++ glue_deletions child.now server.now) }
+) -> Result<(), AllocError>
+    ensures { IfOk result (λ _. operations.new.items ≡ operations.old.items ++ glue_deletions child.now server.now) }
 {
     if needs_glue(child, server) {
-        operations.push(deletion(alloc, &server.name, RecordType::A)?)?;
-        operations.push(deletion(alloc, &server.name, RecordType::Aaaa)?)?;
+        push_deletion(alloc, operations, &server.name, RecordType::A)?;
+        push_deletion(alloc, operations, &server.name, RecordType::Aaaa)?;
     }
-    Ok(operations)
+    Ok(())
 }
 
 /// The addition of a server of the child.
@@ -152,83 +155,108 @@ fn address_addition(
     }))
 }
 
-/// Operations, and those that add addresses.
-fn with_addresses(
+/// Puts those operations behind others that add addresses.
+fn push_addresses(
     alloc: Global,
-    mut operations: Vec<Operation>,
+    operations: &mut Vec<Operation>,
     name: &Name,
     ttl: Ttl,
     addresses: &[IpAddr],
-) -> Result<Vec<Operation>, AllocError>
-    ensures { IfOk result (λ ops. ops.items ≡ operations.items ++ map (address_addition name.now ttl) addresses.now) }
+) -> Result<(), AllocError>
+    ensures { IfOk result (λ _. operations.new.items ≡ operations.old.items ++ map (address_addition name.now ttl) addresses.now) }
 {
     for address in addresses {
         operations.push(address_addition(alloc, name, ttl, *address)?)?;
     }
-    Ok(operations)
+    Ok(())
 }
 
-/// Operations, and those that add the glue of a server, if it is within the child.
-fn with_glue(
+/// Puts those operations behind others that add the glue of a server, if it is within the child.
+fn push_glue(
     alloc: Global,
-    operations: Vec<Operation>,
+    operations: &mut Vec<Operation>,
     child: &Name,
     ttl: Ttl,
     server: &ChildServer,
-) -> Result<Vec<Operation>, AllocError>
-    ensures { IfOk result (λ ops. ops.items ≡ operations.items ++ glue_additions child.now ttl server.now) }
+) -> Result<(), AllocError>
+    ensures { IfOk result (λ _. operations.new.items ≡ operations.old.items ++ glue_additions child.now ttl server.now) }
 {
-    if !needs_glue(child, server) {
-        return Ok(operations);
+    if needs_glue(child, server) {
+        push_addresses(alloc, operations, &server.name, ttl, &server.addresses)?;
     }
-    with_addresses(alloc, operations, &server.name, ttl, &server.addresses)
+    Ok(())
 }
 
-/// Operations, and those that delete the glue of servers.
-fn with_all_deletions(
+/// Puts those operations behind others that delete the glue of servers.
+fn push_all_glue_deletions(
     alloc: Global,
-    mut operations: Vec<Operation>,
+    operations: &mut Vec<Operation>,
     child: &Name,
     servers: &[ChildServer],
-) -> Result<Vec<Operation>, AllocError>
-    ensures { IfOk result (λ ops. ops.items ≡ operations.items ++ flat_map (glue_deletions child.now) servers.now) }
+) -> Result<(), AllocError>
+    ensures { IfOk result (λ _. operations.new.items ≡ operations.old.items ++ flat_map (glue_deletions child.now) servers.now) }
 {
     for server in servers {
-        operations = with_deletions(alloc, operations, child, server)?;
+        push_glue_deletions(alloc, operations, child, server)?;
     }
-    Ok(operations)
+    Ok(())
 }
 
-/// Operations, and those that add servers.
-fn with_servers(
+/// Puts those operations behind others that add servers.
+fn push_servers(
     alloc: Global,
-    mut operations: Vec<Operation>,
+    operations: &mut Vec<Operation>,
     child: &Name,
     ttl: Ttl,
     servers: &[ChildServer],
-) -> Result<Vec<Operation>, AllocError>
-    ensures { IfOk result (λ ops. ops.items ≡ operations.items ++ map (server_addition child.now ttl) servers.now) }
+) -> Result<(), AllocError>
+    ensures { IfOk result (λ _. operations.new.items ≡ operations.old.items ++ map (server_addition child.now ttl) servers.now) }
 {
     for server in servers {
         operations.push(server_addition(alloc, child, ttl, server)?)?;
     }
-    Ok(operations)
+    Ok(())
 }
 
-/// Operations, and those that add the glue of servers.
-fn with_all_glue(
+/// Puts those operations behind others that add the glue of servers.
+fn push_all_glue(
     alloc: Global,
-    mut operations: Vec<Operation>,
+    operations: &mut Vec<Operation>,
     child: &Name,
     ttl: Ttl,
     servers: &[ChildServer],
-) -> Result<Vec<Operation>, AllocError>
-    ensures { IfOk result (λ ops. ops.items ≡ operations.items ++ flat_map (glue_additions child.now ttl) servers.now) }
+) -> Result<(), AllocError>
+    ensures { IfOk result (λ _. operations.new.items ≡ operations.old.items ++ flat_map (glue_additions child.now ttl) servers.now) }
 {
     for server in servers {
-        operations = with_glue(alloc, operations, child, ttl, server)?;
+        push_glue(alloc, operations, child, ttl, server)?;
     }
-    Ok(operations)
+    Ok(())
+}
+
+/// Puts those operations behind others that add servers, and then those that add their glue.
+fn push_additions(
+    alloc: Global,
+    operations: &mut Vec<Operation>,
+    request: &DelegationRequest,
+) -> Result<(), AllocError>
+    ensures { IfOk result (λ _. operations.new.items ≡ operations.old.items ++ (map (server_addition request.now.child request.now.ttl) request.now.servers.items ++ flat_map (glue_additions request.now.child request.now.ttl) request.now.servers.items)) }
+{
+    push_servers(
+        alloc,
+        operations,
+        &request.child,
+        request.ttl,
+        &request.servers,
+    )?;
+    push_all_glue(
+        alloc,
+        operations,
+        &request.child,
+        request.ttl,
+        &request.servers,
+    )?;
+    Ok(())
 }
 
 /// The operations that make a delegation.
@@ -238,11 +266,9 @@ fn delegation_operations(
 ) -> Result<Vec<Operation>, AllocError>
     ensures { IfOk result (λ ops. ops.items ≡ delegation_operations request.now) }
 {
-    let child = &request.child;
-    let ttl = request.ttl;
     let mut operations = Vec::new(alloc);
-    operations.push(deletion(alloc, child, RecordType::Ns)?)?;
-    operations = with_all_deletions(alloc, operations, child, &request.servers)?;
-    operations = with_servers(alloc, operations, child, ttl, &request.servers)?;
-    with_all_glue(alloc, operations, child, ttl, &request.servers)
+    push_deletion(alloc, &mut operations, &request.child, RecordType::Ns)?;
+    push_all_glue_deletions(alloc, &mut operations, &request.child, &request.servers)?;
+    push_additions(alloc, &mut operations, request)?;
+    Ok(operations)
 }

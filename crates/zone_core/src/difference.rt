@@ -1,11 +1,12 @@
 //! The operations that lead from one zone to another.
 
-ghost use Rattle.std.specs.Prelude.{◌≡◌, ◌↔◌, ◌++◌, ◌==◌, [], length, map, IfOk};
+ghost use Rattle.std.specs.Prelude.{◌≡◌, ◌↔◌, ◌∷◌, ◌++◌, ◌==◌, [], length, map, IfOk};
 ghost use Rattle.std.specs.List.{filter, AllByRecursion};
+ghost use Rattle.std.specs.Option.{option_to_list};
 ghost use Rattle.zone_core.specs.Sets.{set_of, key_of, InOrder, minus};
 ghost use Rattle.zone_core.specs.Zones.{serial_in};
 ghost use Rattle.zone_core.specs.Effects.{next_version};
-ghost use Rattle.zone_core.specs.Differences.{is_server, is_gone, is_other, addition, deletion, data_at, at_serial, next_soa, soa_additions, operations, target};
+ghost use Rattle.zone_core.specs.Differences.{is_server, is_gone, is_other, addition, deletion, data_at, at_serial, next_soa, needs_soa, soa_additions, operations, target};
 ghost use Rattle.zone_core.specs.DifferencePromises.{Lead, HaveNoNews, IsNeeded, AddsSoaLast, AreWithin};
 
 use crate::change::Change;
@@ -56,71 +57,103 @@ fn edits(
     requires { InOrder new.now }
     ensures { IfOk result (λ ops. ops.items ≡ (map addition (filter (λ r. is_server origin.now (key_of r)) change.now.added.items) ++ map deletion (filter (λ r. is_gone (set_of new.now) (key_of r)) change.now.removed.items)) ++ map addition (filter (λ r. is_other origin.now (key_of r)) change.now.added.items)) }
 {
-    let operations = server_additions(alloc, origin, &change.added)?;
-    let operations = with_deletions(alloc, operations, &change.removed, new)?;
-    with_additions(alloc, operations, origin, &change.added)
+    let mut operations = Vec::new(alloc);
+    push_servers(alloc, &mut operations, origin, &change.added)?;
+    push_deletions(alloc, &mut operations, &change.removed, new)?;
+    push_others(alloc, &mut operations, origin, &change.added)?;
+    Ok(operations)
 }
 
-/// Additions of those records that are servers of the origin. The only error is out of memory.
-fn server_additions(
+/// Puts the addition of a record behind operations. The only error is out of memory.
+fn push_addition(
     alloc: Global,
+    operations: &mut Vec<Operation>,
+    rr: &Record,
+) -> Result<(), AllocError>
+    ensures { IfOk result (λ _. operations.new.items ≡ operations.old.items ++ addition rr.now ∷ []) }
+{
+    operations.push(Operation::Add(rr.try_copy(alloc)?))?;
+    Ok(())
+}
+
+/// Puts the deletion of a record behind operations. The only error is out of memory.
+fn push_deletion(
+    alloc: Global,
+    operations: &mut Vec<Operation>,
+    rr: &Record,
+) -> Result<(), AllocError>
+    ensures { IfOk result (λ _. operations.new.items ≡ operations.old.items ++ deletion rr.now ∷ []) }
+{
+    operations.push(Operation::record_deletion(alloc, &rr.owner, &rr.rdata)?)?;
+    Ok(())
+}
+
+/// Puts additions of those records behind operations that are servers of the origin. The only error is out of memory.
+fn push_servers(
+    alloc: Global,
+    operations: &mut Vec<Operation>,
     origin: &Name,
     records: &[Record],
-) -> Result<Vec<Operation>, AllocError>
-    ensures { IfOk result (λ ops. ops.items ≡ map addition (filter (λ r. is_server origin.now (key_of r)) records.now)) }
+) -> Result<(), AllocError>
+    ensures { IfOk result (λ _. operations.new.items ≡ operations.old.items ++ map addition (filter (λ r. is_server origin.now (key_of r)) records.now)) }
 {
-    let mut operations = Vec::new(alloc);
     for record in records {
         if is_at(record, origin, RecordType::Ns) {
-            operations.push(Operation::Add(record.try_copy(alloc)?))?;
+            push_addition(alloc, operations, record)?;
         }
     }
-    Ok(operations)
+    Ok(())
 }
 
-/// Operations, and deletions of those records that the new zone has not. The only error is out of memory.
-fn with_deletions(
+/// Whether a record is no SOA and the new zone has it not.
+fn is_gone(rr: &Record, new: &[Record]) -> bool
+    requires { InOrder new.now }
+    ensures { result ≡ is_gone (set_of new.now) (key_of rr.now) }
+{
+    !has_type(rr, RecordType::Soa) && !has_same(new, rr)
+}
+
+/// Puts deletions of those records behind operations that the new zone has not. The only error is out of memory.
+fn push_deletions(
     alloc: Global,
-    mut operations: Vec<Operation>,
+    operations: &mut Vec<Operation>,
     records: &[Record],
     new: &[Record],
-) -> Result<Vec<Operation>, AllocError>
+) -> Result<(), AllocError>
     requires { InOrder new.now }
-    ensures { IfOk result (λ ops. ops.items ≡ operations.items ++ map deletion (filter (λ r. is_gone (set_of new.now) (key_of r)) records.now)) }
+    ensures { IfOk result (λ _. operations.new.items ≡ operations.old.items ++ map deletion (filter (λ r. is_gone (set_of new.now) (key_of r)) records.now)) }
 {
     for record in records {
-        if !has_type(record, RecordType::Soa) && !has_same(new, record) {
-            operations.push(deletion(alloc, record)?)?;
+        if is_gone(record, new) {
+            push_deletion(alloc, operations, record)?;
         }
     }
-    Ok(operations)
+    Ok(())
 }
 
-/// The deletion of a record. The only error is out of memory.
-fn deletion(alloc: Global, rr: &Record) -> Result<Operation, AllocError>
-    ensures { IfOk result (λ op. op ≡ deletion rr.now) }
+/// Whether a record is neither an SOA nor a server of the origin.
+fn is_other(origin: &Name, rr: &Record) -> bool
+    ensures { result ≡ is_other origin.now (key_of rr.now) }
 {
-    Ok(Operation::DeleteRecord {
-        name: rr.owner.try_copy(alloc)?,
-        rdata: rr.rdata.try_copy(alloc)?,
-    })
+    !has_type(rr, RecordType::Soa) && !is_at(rr, origin, RecordType::Ns)
 }
 
-/// Operations, and additions of those records that are neither an SOA nor servers of the origin. The only error is out of memory.
-fn with_additions(
+/// Puts additions of those records behind operations that are neither an SOA nor servers of the origin. The only error is out of
+/// memory.
+fn push_others(
     alloc: Global,
-    mut operations: Vec<Operation>,
+    operations: &mut Vec<Operation>,
     origin: &Name,
     records: &[Record],
-) -> Result<Vec<Operation>, AllocError>
-    ensures { IfOk result (λ ops. ops.items ≡ operations.items ++ map addition (filter (λ r. is_other origin.now (key_of r)) records.now)) }
+) -> Result<(), AllocError>
+    ensures { IfOk result (λ _. operations.new.items ≡ operations.old.items ++ map addition (filter (λ r. is_other origin.now (key_of r)) records.now)) }
 {
     for record in records {
-        if !has_type(record, RecordType::Soa) && !is_at(record, origin, RecordType::Ns) {
-            operations.push(Operation::Add(record.try_copy(alloc)?))?;
+        if is_other(origin, record) {
+            push_addition(alloc, operations, record)?;
         }
     }
-    Ok(operations)
+    Ok(())
 }
 
 /// SOA data with a serial, and others as they are. The only error is out of memory.
@@ -174,6 +207,36 @@ fn next_soa(alloc: Global, old: &Record, new: &Record) -> Result<Record, AllocEr
     at_serial(alloc, serial_add(serial, 1), new)
 }
 
+/// Whether the SOA is added behind operations: they would not make it by themselves. The only error is out of memory.
+fn needs_soa(
+    alloc: Global,
+    operations: &[Operation],
+    old: &Record,
+    new: &Record,
+    soa: &Record,
+) -> Result<bool, AllocError>
+    requires { soa.now ≡ next_soa old.now new.now }
+    ensures { IfOk result (λ needs. needs ≡ needs_soa (length operations.now == 0) old.now new.now) }
+{
+    let next = next_version(alloc, old)?;
+    let is_only_change = operations.is_empty() && serial_less(serial_in(old), serial_in(new));
+    Ok(!is_equal(soa, &next) || is_only_change)
+}
+
+/// The addition of the SOA behind operations, where it is needed. The only error is out of memory.
+fn soa_addition(
+    alloc: Global,
+    operations: &[Operation],
+    old: &Record,
+    new: &Record,
+) -> Result<Option<Operation>, AllocError>
+    ensures { IfOk result (λ op. option_to_list op ≡ soa_additions (length operations.now == 0) old.now new.now) }
+{
+    let soa = next_soa(alloc, old, new)?;
+    let is_needed = needs_soa(alloc, operations, old, new, &soa)?;
+    Ok(is_needed.then_some(Operation::Add(soa)))
+}
+
 /// Operations, and behind them the addition of the SOA where it is needed. The only error is out of memory.
 fn with_soa(
     alloc: Global,
@@ -183,11 +246,8 @@ fn with_soa(
 ) -> Result<Vec<Operation>, AllocError>
     ensures { IfOk result (λ ops. ops.items ≡ operations.items ++ soa_additions (length operations.items == 0) old.now new.now) }
 {
-    let soa = next_soa(alloc, old, new)?;
-    let next = next_version(alloc, old)?;
-    let is_only_change = operations.is_empty() && serial_less(serial_in(old), serial_in(new));
-    if !is_equal(&soa, &next) || is_only_change {
-        operations.push(Operation::Add(soa))?;
+    if let Some(addition) = soa_addition(alloc, &operations, old, new)? {
+        operations.push(addition)?;
     }
     Ok(operations)
 }

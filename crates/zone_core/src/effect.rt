@@ -12,7 +12,7 @@ ghost use Rattle.zone_core.specs.Prerequisites.{same_data};
 ghost use Rattle.zone_core.specs.Effects.{effect, effects, add, add_soa, add_cname, add_other, is_misplaced, takes_over, delete_rrset, delete_name, delete_record, key_at, is_guarded, stays};
 ghost use Rattle.zone_core.specs.Nodes.{IsNode, Becomes, with_type_ttl};
 
-use crate::rows::{has_type, same_data};
+use crate::rows::{alone, has_type, insert_copy, same_data};
 use crate::serial::serial_less;
 use crate::update::Operation;
 use dns_data::{Data, Record, RecordType, Ttl, record_order};
@@ -88,9 +88,7 @@ fn add_cname(alloc: Global, node: Vec<Record>, rr: &Record) -> Result<Vec<Record
     if has_other_type(&node, RecordType::Cname) {
         return Ok(node);
     }
-    let mut alone = Vec::with_capacity(alloc, 1)?;
-    alone.push(rr.try_copy(alloc)?)?;
-    Ok(alone)
+    alone(alloc, rr.try_copy(alloc)?)
 }
 
 /// Adds a record of another type, where there is no CNAME. Its set has its TTL then (RFC 2181 section 5.2).
@@ -182,7 +180,7 @@ fn put(alloc: Global, node: Vec<Record>, rr: &Record) -> Result<Vec<Record>, All
 {
     let mut others = without(node, &rr.rdata);
     let place = others.partition_point(|record| record_order(record, rr).is_lt());
-    others.insert(place, rr.try_copy(alloc)?)?;
+    insert_copy(alloc, &mut others, place, rr)?;
     Ok(others)
 }
 

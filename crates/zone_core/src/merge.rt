@@ -1,13 +1,14 @@
 //! Rows in record order, out of which records go and into which others come.
 
-ghost use Rattle.std.specs.Prelude.{◌≡◌, List, ◌∷◌, ◌++◌, not, IfOk};
+ghost use Rattle.std.specs.Prelude.{◌≡◌, List, [], ◌∷◌, ◌++◌, drop, if◌then◌else◌, not, IfOk};
 ghost use Rattle.std.specs.List.{position, position_or_len};
 ghost use Rattle.std.specs.Ordering.{is_lt};
 ghost use Rattle.dns_data.specs.declared.record.Record.{Record as RecordOf};
 ghost use Rattle.zone_core.specs.Sets.{Records, record_order, AreRows};
-ghost use Rattle.zone_core.specs.Merges.{is_first, merged};
+ghost use Rattle.zone_core.specs.Merges.{before, behind, is_first, merged};
 ghost use Rattle.zone_core.specs.Changes.{changed, FitsIn};
 
+use crate::rows::push_copies;
 use dns_data::{Record, record_order};
 use std::alloc::{AllocError, Global};
 
@@ -37,63 +38,73 @@ fn is_first(records: &[Record], rr: &Record) -> bool
     }
 }
 
-/// Rows, and copies of records behind them. The only error is out of memory.
-pub(crate) fn with_copies(
+/// Puts copies of those records behind others that come before a row, and answers which are left. The only error is out of memory.
+fn push_before<'a>(
     alloc: Global,
-    mut rows: Vec<Record>,
-    records: &[Record],
-) -> Result<Vec<Record>, AllocError>
-    ensures { IfOk result (λ all. all.items ≡ rows.items ++ records.now) }
+    rows: &mut Vec<Record>,
+    come: &'a [Record],
+    row: &Record,
+) -> Result<&'a [Record], AllocError>
+    ensures rows { IfOk result (λ _. rows.new.items ≡ rows.old.items ++ before row.now come.now) }
+    ensures left { IfOk result (λ left. left.now ≡ behind row.now come.now) }
 {
-    for record in records {
-        rows.push(record.try_copy(alloc)?)?;
-    }
-    Ok(rows)
+    let count = count_before(come, row);
+    push_copies(alloc, rows, &come[..count])?;
+    Ok(&come[count..])
 }
 
-/// Rows that are merged so far, and what is left of the records that go and of those that come.
-#[derive(Drop)]
-struct Merging<'a> {
-    rows: Vec<Record>,
+/// Puts a row behind others, unless it is the first of those that go, and answers which are left. The only error is out of memory.
+fn push_unless_gone<'a>(
+    rows: &mut Vec<Record>,
+    gone: &'a [Record],
+    row: Record,
+) -> Result<&'a [Record], AllocError>
+    ensures rows { IfOk result (λ _. rows.new.items ≡ rows.old.items ++ (if is_first row gone.now then [] else row ∷ [])) }
+    ensures left { IfOk result (λ left. left.now ≡ (if is_first row gone.now then drop 1 gone.now else gone.now)) }
+{
+    if is_first(gone, &row) {
+        return Ok(&gone[1..]);
+    }
+    rows.push(row)?;
+    Ok(gone)
+}
+
+/// What is left of the records that go out of rows and of those that come into them.
+#[derive(Clone, Copy)]
+struct Left<'a> {
     gone: &'a [Record],
     come: &'a [Record],
 }
 
-impl<'a> Merging<'a> {
-    /// With one row more. The only error is out of memory.
-    fn with_row(self, alloc: Global, row: Record) -> Result<Merging<'a>, AllocError>
-        ensures { IfOk result (λ m. (rest : List RecordOf) → m.rows.items ++ merged rest m.gone.now m.come.now ≡ self.entry.rows.items ++ merged (row ∷ rest) self.entry.gone.now self.entry.come.now) }
+impl<'a> Left<'a> {
+    /// Puts a row behind others, unless it goes, and before it those that come before it; and answers what is left. The only error is
+    /// out of memory.
+    fn put(self, alloc: Global, rows: &mut Vec<Record>, row: Record) -> Result<Left<'a>, AllocError>
+        ensures { IfOk result (λ left. (rest : List RecordOf) → rows.new.items ++ merged rest left.gone.now left.come.now ≡ rows.old.items ++ merged (row ∷ rest) self.entry.gone.now self.entry.come.now) }
     {
-        let Merging { rows, gone, come } = self;
-        let count = count_before(come, &row);
-        let mut rows = with_copies(alloc, rows, &come[..count])?;
-        let come = &come[count..];
-        if is_first(gone, &row) {
-            let gone = &gone[1..];
-            return Ok(Merging { rows, gone, come });
-        }
-        rows.push(row)?;
-        Ok(Merging { rows, gone, come })
+        let come = push_before(alloc, rows, self.come, &row)?;
+        let gone = push_unless_gone(rows, self.gone, row)?;
+        Ok(Left { gone, come })
     }
 }
 
 /// The rows of a set after a change that fits it, from those before. The only error is out of memory.
-pub(crate) fn merged(
+pub(crate) fn merged<'a>(
     alloc: Global,
     rows: Vec<Record>,
-    removed: &[Record],
-    added: &[Record],
+    removed: &'a [Record],
+    added: &'a [Record],
 ) -> Result<Vec<Record>, AllocError>
     ensures { (set : Records) → AreRows rows.items set → FitsIn set removed.now added.now → IfOk result (λ rs. AreRows rs.items (changed set removed.now added.now)) }
 {
-    let len = rows.len().saturating_add(added.len());
-    let mut merging = Merging {
-        rows: Vec::with_capacity(alloc, len)?,
+    let mut all = Vec::with_capacity(alloc, rows.len().saturating_add(added.len()))?;
+    let mut left = Left {
         gone: removed,
         come: added,
     };
     for row in rows {
-        merging = merging.with_row(alloc, row)?;
+        left = left.put(alloc, &mut all, row)?;
     }
-    with_copies(alloc, merging.rows, merging.come)
+    push_copies(alloc, &mut all, left.come)?;
+    Ok(all)
 }

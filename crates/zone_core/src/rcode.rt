@@ -7,27 +7,27 @@ ghost use Rattle.zone_core.specs.Rcodes.{rcode_number, rcode_text, rcode_named};
 #[derive(Clone, Copy, Debug, PartialEq, Eq)]
 pub enum Rcode {
     /// The update was carried out.
-    NoError,
+    NoError = 0,
     /// The update could not be read.
-    FormErr,
+    FormErr = 1,
     /// The server failed.
-    ServFail,
+    ServFail = 2,
     /// A name that ought to be in use is not.
-    NxDomain,
+    NxDomain = 3,
     /// The kind of request is not served.
-    NotImp,
+    NotImp = 4,
     /// The caller may not do this.
-    Refused,
+    Refused = 5,
     /// A name that ought not to be in use is.
-    YxDomain,
+    YxDomain = 6,
     /// A record set that ought not to exist does.
-    YxRrset,
+    YxRrset = 7,
     /// A record set that ought to exist does not, or has other data.
-    NxRrset,
+    NxRrset = 8,
     /// There is no such zone here.
-    NotAuth,
+    NotAuth = 9,
     /// A name is outside the zone.
-    NotZone,
+    NotZone = 10,
 }
 
 impl Rcode {
@@ -46,38 +46,30 @@ impl Rcode {
         Rcode::NotZone,
     ];
 
-    /// The one table of codes.
-    const fn row(self) -> (u8, &'static str)
-        ensures number { result.0 ≡ rcode_number self }
-        ensures text { result.1.now ≡ rcode_text self }
-    {
-        match self {
-            Rcode::NoError => (0, "NOERROR"),
-            Rcode::FormErr => (1, "FORMERR"),
-            Rcode::ServFail => (2, "SERVFAIL"),
-            Rcode::NxDomain => (3, "NXDOMAIN"),
-            Rcode::NotImp => (4, "NOTIMP"),
-            Rcode::Refused => (5, "REFUSED"),
-            Rcode::YxDomain => (6, "YXDOMAIN"),
-            Rcode::YxRrset => (7, "YXRRSET"),
-            Rcode::NxRrset => (8, "NXRRSET"),
-            Rcode::NotAuth => (9, "NOTAUTH"),
-            Rcode::NotZone => (10, "NOTZONE"),
-        }
-    }
-
     /// The number of the code in messages, 0 to 10.
     pub const fn number(self) -> u8
         ensures { result ≡ rcode_number self }
     {
-        self.row().0
+        self as u8
     }
 
     /// The name of the code, in capitals.
     pub const fn text(self) -> &'static str
         ensures { result.now ≡ rcode_text self }
     {
-        self.row().1
+        match self {
+            Rcode::NoError => "NOERROR",
+            Rcode::FormErr => "FORMERR",
+            Rcode::ServFail => "SERVFAIL",
+            Rcode::NxDomain => "NXDOMAIN",
+            Rcode::NotImp => "NOTIMP",
+            Rcode::Refused => "REFUSED",
+            Rcode::YxDomain => "YXDOMAIN",
+            Rcode::YxRrset => "YXRRSET",
+            Rcode::NxRrset => "NXRRSET",
+            Rcode::NotAuth => "NOTAUTH",
+            Rcode::NotZone => "NOTZONE",
+        }
     }
 
     /// The code of this name, which is read only as it is written.

@@ -3,37 +3,29 @@
 ghost use Rattle.std.specs.Prelude.{◌≡◌};
 
 use std::alloc::{AllocError, AllocFailed};
-use thiserror::Error;
+use std::error::Error;
+use std::fmt::{self, Display, Formatter, Write};
 
 /// Why records are no zone.
-#[derive(Clone, Copy, Debug, PartialEq, Eq, Error)]
+#[derive(Clone, Copy, Debug, PartialEq, Eq)]
 pub enum ZoneFault {
     /// The origin is the root, which is no zone's origin here.
-    #[error("the origin is the root")]
     RootOrigin,
     /// An owner is outside the origin, or that of a DS is not below it (RFC 1035 section 5.2, RFC 4034 section 5).
-    #[error("a record is outside the zone")]
     OutOfZone,
     /// An SOA stands elsewhere than at the origin (RFC 1035 section 5.2).
-    #[error("an SOA record is not at the origin")]
     SoaNotAtOrigin,
     /// There is no SOA (RFC 1035 section 5.2).
-    #[error("the zone has no SOA record")]
     NoSoa,
     /// There are two SOA records that are not the same (RFC 1035 section 5.2).
-    #[error("the zone has two SOA records")]
     TwoSoa,
     /// There is no NS at the origin (RFC 1034 section 4.2.1).
-    #[error("the zone has no NS record at its origin")]
     NoOriginNs,
     /// A name has two CNAME records that are not the same (RFC 1034 section 3.6.2).
-    #[error("a name has two CNAME records")]
     TwoCnames,
     /// A name has a CNAME and a record of another type (RFC 1034 section 3.6.2).
-    #[error("a name has a CNAME record and another record")]
     CnameAndOther,
     /// Memory ran out. This says nothing of the records.
-    #[error("out of memory")]
     NoMemory,
 }
 
@@ -58,6 +50,25 @@ impl ZoneFault {
     }
 }
 
+/// What is wrong, in words.
+impl Display for ZoneFault {
+    fn fmt<W: Write>(&self, f: &mut Formatter<W>) -> fmt::Result {
+        f.write_str(match *self {
+            ZoneFault::RootOrigin => "the origin is the root",
+            ZoneFault::OutOfZone => "a record is outside the zone",
+            ZoneFault::SoaNotAtOrigin => "an SOA record is not at the origin",
+            ZoneFault::NoSoa => "the zone has no SOA record",
+            ZoneFault::TwoSoa => "the zone has two SOA records",
+            ZoneFault::NoOriginNs => "the zone has no NS record at its origin",
+            ZoneFault::TwoCnames => "a name has two CNAME records",
+            ZoneFault::CnameAndOther => "a name has a CNAME record and another record",
+            ZoneFault::NoMemory => "out of memory",
+        })
+    }
+}
+
+impl Error for ZoneFault {}
+
 impl From<AllocError> for ZoneFault {
     ghost use Rattle.zone_core.specs.declared.refusals.ZoneFault.TheVariants.{NoMemory};
 
@@ -79,13 +90,11 @@ impl<T: Drop> From<AllocFailed<T>> for ZoneFault {
 }
 
 /// Why prerequisites and operations are no update.
-#[derive(Clone, Copy, Debug, PartialEq, Eq, Error)]
+#[derive(Clone, Copy, Debug, PartialEq, Eq)]
 pub enum UpdateFault {
     /// More than 64 prerequisites or more than 256 operations.
-    #[error("an update has at most 64 prerequisites and 256 operations")]
     TooManyItems,
     /// Two operations add an SOA, be it the same one.
-    #[error("an update adds at most one SOA record")]
     TwoSoa,
 }
 
@@ -103,23 +112,31 @@ impl UpdateFault {
     }
 }
 
+/// What is wrong, in words.
+impl Display for UpdateFault {
+    fn fmt<W: Write>(&self, f: &mut Formatter<W>) -> fmt::Result {
+        f.write_str(match *self {
+            UpdateFault::TooManyItems =>
+                "an update has at most 64 prerequisites and 256 operations",
+            UpdateFault::TwoSoa => "an update adds at most one SOA record",
+        })
+    }
+}
+
+impl Error for UpdateFault {}
+
 /// Why a delegation is no update.
-#[derive(Clone, Copy, Debug, PartialEq, Eq, Error)]
+#[derive(Clone, Copy, Debug, PartialEq, Eq)]
 pub enum DelegationFault {
     /// The child is not below the origin (RFC 1034 section 4.2).
-    #[error("the child is not below the origin of the zone")]
     NotBelowOrigin,
     /// No server is named.
-    #[error("a delegation names at least one server")]
     NoServer,
     /// A server within the child has no address, without which it can't be reached (RFC 1034 section 4.2.1).
-    #[error("a server within the child has no address")]
     GlueMissing,
     /// More than 256 operations.
-    #[error("a delegation makes at most 256 operations")]
     TooManyItems,
     /// Memory ran out. This says nothing of the request.
-    #[error("out of memory")]
     NoMemory,
 }
 
@@ -139,6 +156,21 @@ impl DelegationFault {
         }
     }
 }
+
+/// What is wrong, in words.
+impl Display for DelegationFault {
+    fn fmt<W: Write>(&self, f: &mut Formatter<W>) -> fmt::Result {
+        f.write_str(match *self {
+            DelegationFault::NotBelowOrigin => "the child is not below the origin of the zone",
+            DelegationFault::NoServer => "a delegation names at least one server",
+            DelegationFault::GlueMissing => "a server within the child has no address",
+            DelegationFault::TooManyItems => "a delegation makes at most 256 operations",
+            DelegationFault::NoMemory => "out of memory",
+        })
+    }
+}
+
+impl Error for DelegationFault {}
 
 impl From<AllocError> for DelegationFault {
     ghost use Rattle.zone_core.specs.declared.refusals.DelegationFault.TheVariants.{NoMemory};

@@ -53,19 +53,19 @@ fn is_cut(origin: &Name, rr: &Record) -> bool
     has_type(rr, RecordType::Ns) && is_below(&rr.owner, origin)
 }
 
-/// Names, and the owner of a record, if a zone of this origin is cut there.
-fn with_cut(
+/// Puts the owner of a record behind names, if a zone of this origin is cut there.
+fn push_cut(
     alloc: Global,
-    mut names: Vec<Name>,
+    names: &mut Vec<Name>,
     origin: &Name,
     rr: &Record,
-) -> Result<Vec<Name>, AllocError>
-    ensures { IfOk result (λ all. all.items ≡ names.items ++ cut_owner origin.now rr.now) }
+) -> Result<(), AllocError>
+    ensures { IfOk result (λ _. names.new.items ≡ names.old.items ++ cut_owner origin.now rr.now) }
 {
     if is_cut(origin, rr) {
         names.push(rr.owner.try_copy(alloc)?)?;
     }
-    Ok(names)
+    Ok(())
 }
 
 /// The cuts that records of a zone of this origin make: the names below the origin that own an NS (RFC 2181 section 6), in
@@ -75,19 +75,23 @@ pub fn cuts(alloc: Global, origin: &Name, records: &[Record]) -> Result<Vec<Name
 {
     let mut names = Vec::new(alloc);
     for record in records {
-        names = with_cut(alloc, names, origin, record)?;
+        push_cut(alloc, &mut names, origin, record)?;
     }
     ordered(names)
 }
 
-/// Names, and the server that data name, if they are those of an NS.
-fn with_server(alloc: Global, mut names: Vec<Name>, rdata: &Data) -> Result<Vec<Name>, AllocError>
-    ensures { IfOk result (λ all. all.items ≡ names.items ++ server_in rdata.now) }
+/// Puts the server that data name behind names, if they are those of an NS.
+pub(crate) fn push_server(
+    alloc: Global,
+    names: &mut Vec<Name>,
+    rdata: &Data,
+) -> Result<(), AllocError>
+    ensures { IfOk result (λ _. names.new.items ≡ names.old.items ++ server_in rdata.now) }
 {
     if let Data::Ns(server) = rdata {
         names.push(server.try_copy(alloc)?)?;
     }
-    Ok(names)
+    Ok(())
 }
 
 /// The servers of a child among records in record order.
@@ -98,7 +102,7 @@ fn server_names(alloc: Global, records: &[Record], child: &Name) -> Result<Vec<N
     let set = of_set(records, child, RecordType::Ns);
     let mut names = Vec::new(alloc);
     for record in set {
-        names = with_server(alloc, names, &record.rdata)?;
+        push_server(alloc, &mut names, &record.rdata)?;
     }
     ordered(names)
 }
@@ -135,6 +139,23 @@ fn server_of(
     })
 }
 
+/// The servers of a child, with their glue.
+fn servers_of(
+    alloc: Global,
+    records: &[Record],
+    child: &Name,
+    names: &[Name],
+) -> Result<Vec<DelegatedServer>, AllocError>
+    requires { InOrder records.now }
+    ensures { IfOk result (λ servers. servers.items ≡ map (server_of records.now child.now) names.now) }
+{
+    let mut servers = Vec::with_capacity(alloc, names.len())?;
+    for name in names {
+        servers.push(server_of(alloc, records, child, name)?)?;
+    }
+    Ok(servers)
+}
+
 /// The delegation of a child.
 fn delegation_of(alloc: Global, records: &[Record], child: &Name) -> Result<Delegation, AllocError>
     requires { InOrder records.now }
@@ -142,13 +163,9 @@ fn delegation_of(alloc: Global, records: &[Record], child: &Name) -> Result<Dele
     ensures servers { IfOk result (IsDelegation records.now) }
 {
     let names = server_names(alloc, records, child)?;
-    let mut servers = Vec::with_capacity(alloc, names.len())?;
-    for name in &names {
-        servers.push(server_of(alloc, records, child, name)?)?;
-    }
     Ok(Delegation {
         child: child.try_copy(alloc)?,
-        servers,
+        servers: servers_of(alloc, records, child, &names)?,
     })
 }
 

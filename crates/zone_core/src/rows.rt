@@ -1,10 +1,10 @@
 //! Rows of records in record order, in which what stands at a name, in a set or within a name is found by halving.
 
-ghost use Rattle.std.specs.Prelude.{◌≡◌, ◌==◌, ◌++◌, if◌then◌else◌, not, Some, None, IfOk};
+ghost use Rattle.std.specs.Prelude.{◌≡◌, ◌≤◌, ◌==◌, [], ◌∷◌, ◌++◌, if◌then◌else◌, not, Some, None, IfOk, length};
 ghost use Rattle.std.specs.FinMap.{get};
 ghost use Rattle.std.specs.Option.{option_copied};
 ghost use Rattle.std.specs.Ordering.{is_eq};
-ghost use Rattle.std.specs.List.{filter};
+ghost use Rattle.std.specs.List.{filter, insert};
 ghost use Rattle.std.specs.List.Sorted.{IsSorted};
 ghost use Rattle.zone_core.specs.Sets.{key_of, rank_of, set_of, record_order, same_ttl, has, minus, InOrder, AreRows, at_name, at, within};
 ghost use Rattle.zone_core.specs.Prerequisites.{same_data};
@@ -92,14 +92,59 @@ pub(crate) fn has_name(records: &[Record], name: &Name) -> bool
     !at_name(records, name).is_empty()
 }
 
+/// Puts a copy of a record behind others. The only error is out of memory.
+pub(crate) fn push_copy(
+    alloc: Global,
+    rows: &mut Vec<Record>,
+    rr: &Record,
+) -> Result<(), AllocError>
+    ensures { IfOk result (λ _. rows.new.items ≡ rows.old.items ++ rr.now ∷ []) }
+{
+    rows.push(rr.try_copy(alloc)?)?;
+    Ok(())
+}
+
+/// Puts a copy of a record at a place between others. The only error is out of memory.
+pub(crate) fn insert_copy(
+    alloc: Global,
+    rows: &mut Vec<Record>,
+    place: usize,
+    rr: &Record,
+) -> Result<(), AllocError>
+    requires { place ≤ length rows.old.items }
+    ensures { IfOk result (λ _. rows.new.items ≡ insert rows.old.items place rr.now) }
+{
+    rows.insert(place, rr.try_copy(alloc)?)?;
+    Ok(())
+}
+
+/// A row of one record. The only error is out of memory.
+pub(crate) fn alone(alloc: Global, rr: Record) -> Result<Vec<Record>, AllocError>
+    ensures { IfOk result (λ rows. rows.items ≡ rr ∷ []) }
+{
+    Ok(vec![in alloc; rr]?)
+}
+
+/// Puts copies of records behind others. The only error is out of memory.
+pub(crate) fn push_copies(
+    alloc: Global,
+    rows: &mut Vec<Record>,
+    records: &[Record],
+) -> Result<(), AllocError>
+    ensures { IfOk result (λ _. rows.new.items ≡ rows.old.items ++ records.now) }
+{
+    for record in records {
+        push_copy(alloc, rows, record)?;
+    }
+    Ok(())
+}
+
 /// Equal records in memory of their own. The only error is out of memory.
 pub(crate) fn copied(alloc: Global, records: &[Record]) -> Result<Vec<Record>, AllocError>
     ensures { IfOk result (λ copies. copies.items ≡ records.now) }
 {
     let mut copies = Vec::with_capacity(alloc, records.len())?;
-    for record in records {
-        copies.push(record.try_copy(alloc)?)?;
-    }
+    push_copies(alloc, &mut copies, records)?;
     Ok(copies)
 }
 
@@ -171,22 +216,23 @@ fn differs(rr: &Record, others: &[Record]) -> bool
     }
 }
 
-/// Records, and copies of those of a row that another has not, or has with other TTLs. The only error is out of memory.
-pub(crate) fn with_difference(
+/// Puts copies of those records of a row behind others that another row has not, or has with other TTLs. The only error is out of
+/// memory.
+pub(crate) fn push_difference(
     alloc: Global,
-    mut found: Vec<Record>,
+    found: &mut Vec<Record>,
     records: &[Record],
     others: &[Record],
-) -> Result<Vec<Record>, AllocError>
+) -> Result<(), AllocError>
     requires { InOrder others.now }
-    ensures { IfOk result (λ all. all.items ≡ found.items ++ filter (λ r. not (same_ttl (Some r) (get (set_of others.now) (key_of r)))) records.now) }
+    ensures { IfOk result (λ _. found.new.items ≡ found.old.items ++ filter (λ r. not (same_ttl (Some r) (get (set_of others.now) (key_of r)))) records.now) }
 {
     for record in records {
         if differs(record, others) {
-            found.push(record.try_copy(alloc)?)?;
+            push_copy(alloc, found, record)?;
         }
     }
-    Ok(found)
+    Ok(())
 }
 
 /// Copies of the records of a row that another has not, or has with other TTLs, in record order. The only error is out of memory.
@@ -199,5 +245,7 @@ pub(crate) fn difference(
     requires others { InOrder others.now }
     ensures { IfOk result (λ found. AreRows found.items (minus (set_of records.now) (set_of others.now))) }
 {
-    with_difference(alloc, Vec::new(alloc), records, others)
+    let mut found = Vec::new(alloc);
+    push_difference(alloc, &mut found, records, others)?;
+    Ok(found)
 }

@@ -9,6 +9,7 @@ ghost use Rattle.zone_core.specs.Views.{advances};
 
 use crate::change::{Change, changes};
 use crate::effect::has_some;
+use crate::rows::{alone, insert_copy};
 use crate::serial::serial_add;
 use crate::update::Update;
 use crate::zone::Zone;
@@ -55,7 +56,7 @@ fn with_serial(alloc: Global, soa: &Record, mut change: Change) -> Result<Change
     if !advances(&change) {
         return Ok(change);
     }
-    change.removed.insert(0, soa.try_copy(alloc)?)?;
+    insert_copy(alloc, &mut change.removed, 0, soa)?;
     change.added.insert(0, next_version(alloc, soa)?)?;
     Ok(change)
 }
@@ -82,11 +83,10 @@ fn advance(alloc: Global, soa: &Record) -> Result<Change, AllocError>
     ensures removed { IfOk result (λ c. c.removed.items ≡ soa.now ∷ []) }
     ensures added { IfOk result (λ c. c.added.items ≡ next_version soa.now ∷ []) }
 {
-    let mut removed = Vec::with_capacity(alloc, 1)?;
-    removed.push(soa.try_copy(alloc)?)?;
-    let mut added = Vec::with_capacity(alloc, 1)?;
-    added.push(next_version(alloc, soa)?)?;
-    Ok(Change { removed, added })
+    Ok(Change {
+        removed: alone(alloc, soa.try_copy(alloc)?)?,
+        added: alone(alloc, next_version(alloc, soa)?)?,
+    })
 }
 
 impl Zone {

@@ -155,22 +155,48 @@ impl Operation {
         }
     }
 
+    /// The deletion of a set. The only error is out of memory.
+    pub(crate) fn rrset_deletion(
+        alloc: Global,
+        name: &Name,
+        record_type: RecordType,
+    ) -> Result<Operation, AllocError>
+        ensures { IfOk result (λ op. op ≡ Operation.DeleteRrset name.now record_type) }
+    {
+        Ok(Operation::DeleteRrset {
+            name: name.try_copy(alloc)?,
+            record_type,
+        })
+    }
+
+    /// The deletion of a record. The only error is out of memory.
+    pub(crate) fn record_deletion(
+        alloc: Global,
+        name: &Name,
+        rdata: &Data,
+    ) -> Result<Operation, AllocError>
+        ensures { IfOk result (λ op. op ≡ Operation.DeleteRecord name.now rdata.now) }
+    {
+        Ok(Operation::DeleteRecord {
+            name: name.try_copy(alloc)?,
+            rdata: rdata.try_copy(alloc)?,
+        })
+    }
+
     /// An equal operation in memory of its own. The only error is out of memory.
     pub fn try_copy(&self, alloc: Global) -> Result<Operation, AllocError>
         ensures { IfOk result (λ copy. copy ≡ self.now) }
     {
-        Ok(match self {
-            Operation::Add(record) => Operation::Add(record.try_copy(alloc)?),
-            Operation::DeleteRrset { name, record_type } => Operation::DeleteRrset {
-                name: name.try_copy(alloc)?,
-                record_type: *record_type,
-            },
-            Operation::DeleteName(name) => Operation::DeleteName(name.try_copy(alloc)?),
-            Operation::DeleteRecord { name, rdata } => Operation::DeleteRecord {
-                name: name.try_copy(alloc)?,
-                rdata: rdata.try_copy(alloc)?,
-            },
-        })
+        match self {
+            Operation::Add(record) => Ok(Operation::Add(record.try_copy(alloc)?)),
+            Operation::DeleteRrset { name, record_type } => {
+                Operation::rrset_deletion(alloc, name, *record_type)
+            }
+            Operation::DeleteName(name) => Ok(Operation::DeleteName(name.try_copy(alloc)?)),
+            Operation::DeleteRecord { name, rdata } => {
+                Operation::record_deletion(alloc, name, rdata)
+            }
+        }
     }
 }
 
@@ -269,19 +295,36 @@ impl Update {
     pub fn try_copy(&self, alloc: Global) -> Result<Update, AllocError>
         ensures { IfOk result (λ copy. copy ≡ self.now) }
     {
-        let mut prerequisites = Vec::with_capacity(alloc, self.prerequisites.len())?;
-        for prerequisite in &self.prerequisites {
-            prerequisites.push(prerequisite.try_copy(alloc)?)?;
-        }
-        let mut operations = Vec::with_capacity(alloc, self.operations.len())?;
-        for operation in &self.operations {
-            operations.push(operation.try_copy(alloc)?)?;
-        }
         Ok(Update {
-            prerequisites,
-            operations,
+            prerequisites: copied_prerequisites(alloc, &self.prerequisites)?,
+            operations: copied_operations(alloc, &self.operations)?,
         })
     }
+}
+
+/// Equal prerequisites in memory of their own. The only error is out of memory.
+fn copied_prerequisites(
+    alloc: Global,
+    prerequisites: &[Prerequisite],
+) -> Result<Vec<Prerequisite>, AllocError>
+    ensures { IfOk result (λ copies. copies.items ≡ prerequisites.now) }
+{
+    let mut copies = Vec::with_capacity(alloc, prerequisites.len())?;
+    for prerequisite in prerequisites {
+        copies.push(prerequisite.try_copy(alloc)?)?;
+    }
+    Ok(copies)
+}
+
+/// Equal operations in memory of their own. The only error is out of memory.
+fn copied_operations(alloc: Global, operations: &[Operation]) -> Result<Vec<Operation>, AllocError>
+    ensures { IfOk result (λ copies. copies.items ≡ operations.now) }
+{
+    let mut copies = Vec::with_capacity(alloc, operations.len())?;
+    for operation in operations {
+        copies.push(operation.try_copy(alloc)?)?;
+    }
+    Ok(copies)
 }
 
 /// How many operations add an SOA.

@@ -8,7 +8,7 @@ ghost use Rattle.zone_core.specs.Parts.{part_of, at_names};
 ghost use Rattle.zone_core.specs.Changes.{changed, FitsIn};
 
 use crate::change::Change;
-use crate::merge::{merged, with_copies};
+use crate::merge::merged;
 use crate::rows;
 use dns_data::{Data, Record, RecordType};
 use dns_names::Name;
@@ -142,7 +142,7 @@ impl Zone {
         let origin = self.origin().try_copy(alloc)?;
         let mut records = rows::copied(alloc, self.records_at(&self.origin))?;
         for name in names {
-            records = with_copies(alloc, records, self.records_at(name))?;
+            rows::push_copies(alloc, &mut records, self.records_at(name))?;
         }
         Ok(Zone::of_rows(origin, rows::in_order(alloc, records)?))
     }

@@ -32,51 +32,18 @@ impl ZoneRule {
         ZoneRule::DsWithoutNs,
     ];
 
-    /// The one table of rules: the word, the reason and the source of each.
-    const fn row(self) -> (&'static str, &'static str, &'static str)
-        ensures text { result.0.now ≡ rule_text self }
-        ensures reason { result.1.now ≡ rule_reason self }
-        ensures source { result.2.now ≡ rule_source self }
-    {
-        match self {
-            ZoneRule::HostName => (
-                "host-name",
-                "a name is not that of a host: labels of letters, digits and hyphens, with no hyphen at either end",
-                "RFC 952, RFC 1123 section 2.1",
-            ),
-            ZoneRule::AliasTarget => (
-                "alias-target",
-                "the server that the record names is an alias",
-                "RFC 2181 section 10.3, RFC 2782",
-            ),
-            ZoneRule::MissingAddress => (
-                "missing-address",
-                "the server that the record names is in this zone and has no address there",
-                "RFC 1034 section 3.6, RFC 2782",
-            ),
-            ZoneRule::MissingGlue => (
-                "missing-glue",
-                "the server of the delegation is at or below a cut and has no glue",
-                "RFC 1034 section 4.2.1, RFC 9471 section 2",
-            ),
-            ZoneRule::BelowCut => (
-                "below-cut",
-                "a delegation occludes the record, which is no glue",
-                "RFC 1034 section 4.2.1, RFC 5936 section 3.5",
-            ),
-            ZoneRule::DsWithoutNs => (
-                "ds-without-ns",
-                "a DS is at a name without NS",
-                "RFC 4034 section 5",
-            ),
-        }
-    }
-
     /// The word for it, as `host-name`.
     pub const fn text(self) -> &'static str
         ensures { result.now ≡ rule_text self }
     {
-        self.row().0
+        match self {
+            ZoneRule::HostName => "host-name",
+            ZoneRule::AliasTarget => "alias-target",
+            ZoneRule::MissingAddress => "missing-address",
+            ZoneRule::MissingGlue => "missing-glue",
+            ZoneRule::BelowCut => "below-cut",
+            ZoneRule::DsWithoutNs => "ds-without-ns",
+        }
     }
 
     /// The rule of this word.
@@ -93,14 +60,31 @@ impl ZoneRule {
     pub const fn reason(self) -> &'static str
         ensures { result.now ≡ rule_reason self }
     {
-        self.row().1
+        match self {
+            ZoneRule::HostName =>
+                "a name is not that of a host: labels of letters, digits and hyphens, with no hyphen at either end",
+            ZoneRule::AliasTarget => "the server that the record names is an alias",
+            ZoneRule::MissingAddress =>
+                "the server that the record names is in this zone and has no address there",
+            ZoneRule::MissingGlue =>
+                "the server of the delegation is at or below a cut and has no glue",
+            ZoneRule::BelowCut => "a delegation occludes the record, which is no glue",
+            ZoneRule::DsWithoutNs => "a DS is at a name without NS",
+        }
     }
 
     /// Where the standards have it.
     pub const fn source(self) -> &'static str
         ensures { result.now ≡ rule_source self }
     {
-        self.row().2
+        match self {
+            ZoneRule::HostName => "RFC 952, RFC 1123 section 2.1",
+            ZoneRule::AliasTarget => "RFC 2181 section 10.3, RFC 2782",
+            ZoneRule::MissingAddress => "RFC 1034 section 3.6, RFC 2782",
+            ZoneRule::MissingGlue => "RFC 1034 section 4.2.1, RFC 9471 section 2",
+            ZoneRule::BelowCut => "RFC 1034 section 4.2.1, RFC 5936 section 3.5",
+            ZoneRule::DsWithoutNs => "RFC 4034 section 5",
+        }
     }
 
     /// The place of the rule in `ALL`, from 0.

@@ -1,6 +1,6 @@
 //! What is known of a zone while its records are checked: where it is cut, and which servers its NS records name.
 
-ghost use Rattle.std.specs.Prelude.{◌≡◌, ◌++◌, true, IfOk};
+ghost use Rattle.std.specs.Prelude.{◌≡◌, true, IfOk};
 ghost use Rattle.std.specs.List.{All, find, list_any};
 ghost use Rattle.std.specs.Ordering.{is_le};
 ghost use Rattle.std.specs.Option.{option_copied};
@@ -8,12 +8,13 @@ ghost use Rattle.dns_names.specs.Labels.{is_within};
 ghost use Rattle.dns_names.specs.Order.{canonical_cmp};
 ghost use Rattle.dns_data.specs.Rdata.{type_of};
 ghost use Rattle.zone_core.specs.Sets.{listing};
-ghost use Rattle.zone_core.specs.Delegations.{is_below, server_in};
 ghost use Rattle.zone_core.specs.ZoneRules.{server_of};
 ghost use Rattle.zone_core.specs.Outermost.{AreApart};
 ghost use Rattle.zone_core.specs.ZoneTests.{is_ns, is_cname, is_ds, is_address, some_type, is_cut, is_delegated, is_below_cut, is_occluded, is_server, AreTopCuts, with_cut, AreServers, IsSurvey};
 
+use crate::delegation::is_below;
 use crate::outermost_names::is_within_last;
+use crate::report::push_server;
 use crate::zone::Zone;
 use dns_data::{Data, Record, RecordType};
 use dns_names::Name;
@@ -69,13 +70,6 @@ pub(crate) fn server_of(rdata: &Data) -> Option<&Name>
     }
 }
 
-/// Whether a name is below another.
-fn is_below(name: &Name, top: &Name) -> bool
-    ensures { result ≡ is_below name.now top.now }
-{
-    name.is_within(top) && name != top
-}
-
 /// Whether a record cuts a zone of this origin at its owner.
 pub(crate) fn is_cut(origin: &Name, rr: &Record) -> bool
     ensures { result ≡ is_cut origin.now rr.now }
@@ -108,21 +102,21 @@ fn is_covered(cuts: &[Name], name: &Name) -> bool
     cut_over(cuts, name).is_some()
 }
 
-/// The cuts, and the owner of a record, if that is one more. No cut is behind it.
-fn with_cut(
+/// Puts the owner of a record behind cuts, if that is one more. No cut is behind it.
+fn push_cut(
     alloc: Global,
-    mut cuts: Vec<Name>,
+    cuts: &mut Vec<Name>,
     origin: &Name,
     rr: &Record,
-) -> Result<Vec<Name>, AllocError>
-    requires apart { AreApart cuts.items }
-    requires before { All (λ cut. is_le (canonical_cmp cut rr.now.owner) ≡ true) cuts.items }
-    ensures { IfOk result (λ all. all.items ≡ with_cut cuts.items origin.now rr.now) }
+) -> Result<(), AllocError>
+    requires apart { AreApart cuts.old.items }
+    requires before { All (λ cut. is_le (canonical_cmp cut rr.now.owner) ≡ true) cuts.old.items }
+    ensures { IfOk result (λ _. cuts.new.items ≡ with_cut cuts.old.items origin.now rr.now) }
 {
-    if is_cut(origin, rr) && !is_within_last(&cuts, &rr.owner) {
+    if is_cut(origin, rr) && !is_within_last(cuts, &rr.owner) {
         cuts.push(rr.owner.try_copy(alloc)?)?;
     }
-    Ok(cuts)
+    Ok(())
 }
 
 /// The cuts of a zone that are below no other.
@@ -132,19 +126,9 @@ fn top_cuts(alloc: Global, zone: &Zone) -> Result<Vec<Name>, AllocError>
     let (origin, records) = (zone.origin(), zone.records());
     let mut cuts = Vec::new(alloc);
     for record in records {
-        cuts = with_cut(alloc, cuts, origin, record)?;
+        push_cut(alloc, &mut cuts, origin, record)?;
     }
     Ok(cuts)
-}
-
-/// Names, and the server that data name, if they are those of an NS.
-fn with_server(alloc: Global, mut names: Vec<Name>, rdata: &Data) -> Result<Vec<Name>, AllocError>
-    ensures { IfOk result (λ all. all.items ≡ names.items ++ server_in rdata.now) }
-{
-    if let Data::Ns(server) = rdata {
-        names.push(server.try_copy(alloc)?)?;
-    }
-    Ok(names)
 }
 
 /// The servers that NS records of a zone name, in order.
@@ -154,7 +138,7 @@ fn servers(alloc: Global, zone: &Zone) -> Result<Vec<Name>, AllocError>
     let records = zone.records();
     let mut names = Vec::new(alloc);
     for record in records {
-        names = with_server(alloc, names, &record.rdata)?;
+        push_server(alloc, &mut names, &record.rdata)?;
     }
     names.sort()?;
     Ok(names)

@@ -6,7 +6,7 @@ use Rattle.zone_core.specs.Sets.{set_of, part, minus}
 use Rattle.zone_core.specs.Updates.{acted_name}
 use Rattle.zone_core.specs.Effects.{effects}
 use Rattle.zone_core.proofs.ChangeLemmas.{touched, touch_none, touch_more, touch_again, all_removed, all_added}
-use Rattle.zone_core.proofs.change.changes.Goals.{then-not-acts_at+in_ok-change, else-not-acts_at}
+use Rattle.zone_core.proofs.change.changes.Goals.{then-not-acts_at+in_ok-push_change_at, else-not-acts_at}
 use Rattle.zone_core.proofs.change.changes.Goals as goal
 
 pub loop-i-init : goal.loop-i-init
@@ -25,11 +25,11 @@ loop-i-preserved c =
     let below = c.loop-i-test.true in
     let is = c.index-operations-i.is in
     elim c.if-not-acts_at.branch [
-      | then-not-acts_at+in_ok-change w ↦
-          let grown = w.in_ok-change.ensures in
+      | then-not-acts_at+in_ok-push_change_at w ↦
+          let grown = w.in_ok-push_change_at.ensures in
           rw w.change-is (
-            touch_more (minus a b) ops i op below is c.loop-i.change.removed.items w.in_ok-change.change.removed.items c.loop-i.invariant.0 (rw (sym w.name-then-not-acts_at.ensures) grown.removed),
-            touch_more (minus b a) ops i op below is c.loop-i.change.added.items w.in_ok-change.change.added.items c.loop-i.invariant.1 (rw (sym w.name-then-not-acts_at.ensures) grown.added),
+            touch_more (minus a b) ops i op below is c.loop-i.change.removed.items w.push_change_at.new.change.removed.items c.loop-i.invariant.0 (rw (sym w.name-then-not-acts_at.ensures) grown.removed),
+            touch_more (minus b a) ops i op below is c.loop-i.change.added.items w.push_change_at.new.change.added.items c.loop-i.invariant.1 (rw (sym w.name-then-not-acts_at.ensures) grown.added),
           )
       | else-not-acts_at w ↦
           let before : list_any (λ o. same_name (acted_name o) (acted_name op)) (take i ops) ≡ true = rw (sym c.name.ensures, sym c.acts_at.ensures) w.if-not-acts_at.false in

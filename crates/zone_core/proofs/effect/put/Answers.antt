@@ -1,6 +1,5 @@
-use Rattle.std.proofs.Common.{rules, ◌≡◌, true, false, sym, ap, subst, ◌∙◌}
+use Rattle.std.proofs.Common.{rules, ◌≡◌, true, false, sym, subst, ◌∙◌}
 use Rattle.std.specs.Ordering.{is_lt}
-use Rattle.std.specs.List.{insert as insert_at}
 use Rattle.std.specs.List.Sorted.{IsPartitionPoint, IsPartitionedBy}
 use Rattle.std.proofs.lemmas.List.Sorted.{IsPartitionPoint-from_clause}
 use Rattle.zone_core.specs.Sets.{record_order, set_of, put}
@@ -16,4 +15,4 @@ returns c =
     let is = put_node r c.args.node.items c.requires xs i c.without-others.ensures (search rules) (λ parts.
     subst (λ ys. IsPartitionPoint (λ x. is_lt (record_order x r) ≡ true) (λ x. is_lt (record_order x r) ≡ false) ys i) c.deref.ensures.value
     (IsPartitionPoint-from_clause (λ x. is_lt (record_order x r)) c.deref.result.now i c.partition_point-place.ensures.partitioned (subst (IsPartitionedBy (λ x. is_lt (record_order x r))) (sym c.deref.ensures.value) parts) (λ a b q k. search rules))) in
-    subst (λ ys. Becomes r.owner ys (put (set_of c.args.node.items) r)) (ap (insert_at xs i) (sym c.in_ok-try_copy.ensures) ∙ sym c.in_ok-insert.ensures.items) is
+    subst (λ ys. Becomes r.owner ys (put (set_of c.args.node.items) r)) (sym c.in_ok-insert_copy.ensures) is

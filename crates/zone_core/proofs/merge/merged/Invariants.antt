@@ -5,4 +5,4 @@ use Rattle.zone_core.proofs.merge.merged.Given as goal
 
 -- the rows so far, and then what is left
 abbrev pub invariant-loop-row : goal.invariant-loop-row
-invariant-loop-row l = l.merging.rows.items ++ merged (into_iter_items l.row-iterator) l.merging.gone.now l.merging.come.now ≡ merged l.fn.rows.items l.fn.removed l.fn.added
+invariant-loop-row l = l.all.items ++ merged (into_iter_items l.row-iterator) l.left.gone.now l.left.come.now ≡ merged l.fn.rows.items l.fn.removed l.fn.added

@@ -15,8 +15,8 @@ loop-record-init c =
     let rs = c.records-records.result.now in
     subst (λ (cuts : List Name). IsUnderway origin rs 0 cuts) (sym c.new-cuts.ensures.items) (underway_none origin rs)
 
-pub with_cut-requires : goal.with_cut-requires
-with_cut-requires c =
+pub push_cut-requires : goal.push_cut-requires
+push_cut-requires c =
     let i = c.loop-record.record-index in
     let r = c.record-item.result in
     record {
@@ -29,7 +29,7 @@ loop-record-preserved c =
     let origin = c.origin-origin.result.now in
     let rs = c.records-records.result.now in
     let i = c.loop-record.record-index in
-    let made = c.in_ok-cuts.ensures in
+    let made = c.in_ok-push_cut.ensures in
     subst (λ (cuts : List Name). IsUnderway origin rs (i + 1) cuts) (sym made)
     (underway_more origin rs c.records-records.ensures.order i c.record-item.result c.loop-record-test.true c.record-item.is c.loop-record.cuts.items c.loop-record.invariant)
 

@@ -20,7 +20,7 @@ loop-name-preserved c =
     let set = ap (λ (z : ZoneOf). z.records) c.self.view_is in
     let name = c.name-item.result in
     let here = c.records_at-in-loop-name.result.now in
-    ap set_of c.in_ok-records-2.ensures
+    ap set_of c.in_ok-push_copies.ensures
     ∙ gather_more zone.records zone.origin c.args.names.now c.loop-name.name-index name c.loop-name-test.true c.name-item.is c.loop-name.records.items here c.loop-name.invariant
     (listed_set c.self.inside.records.items zone.records c.self.invariant.order set (at_name name) here c.records_at-in-loop-name.ensures)
 

@@ -1,0 +1,7 @@
+use Rattle.std.proofs.Common.{◌≡◌, ◌++◌, take}
+use Rattle.std.specs.List.{flat_map}
+use Rattle.zone_core.specs.Delegations.{glue_additions}
+use Rattle.zone_core.proofs.delegation.push_all_glue.Given as goal
+
+abbrev pub invariant-loop-server : goal.invariant-loop-server
+invariant-loop-server l = l.operations.items ≡ l.fn.operations.items ++ flat_map (glue_additions l.child l.ttl) (take l.server-index l.servers)
