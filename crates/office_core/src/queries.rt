@@ -3,7 +3,7 @@
 ghost use Rattle.std.specs.Prelude.{◌≡◌, ◌+◌, ◌++◌, [], ◌∷◌, Some, IfOk, IfSome, map, nat_le, option_map};
 ghost use Rattle.std.specs.List.{filter};
 ghost use Rattle.zone_core.specs.Outermost.{AreApart};
-ghost use Rattle.zone_core.specs.Sets.{InOrder, listing};
+ghost use Rattle.zone_core.specs.Sets.{InOrder};
 ghost use Rattle.zone_core.specs.Changes.{change_in};
 ghost use Rattle.grant_policy.specs.Decisions.{decision};
 ghost use Rattle.grant_policy.specs.Reach.{GrantsWithinSome};
@@ -144,22 +144,6 @@ fn none_of<T: ZoneTable>(
     Ok(Some(Vec::new(alloc)))
 }
 
-/// The records of the zone of an origin, where there is one.
-fn all_of<T: ZoneTable>(
-    alloc: Global,
-    table: &mut T,
-    origin: &Name,
-) -> Result<Option<Vec<Record>>, TableFault>
-    ensures answer { T.is_honest table.new → IfOk result (λ found. (s : State) → T.holds table.old s → option_map (λ rs. rs.items) found ≡ option_map (λ held. listing held.records) (s.zones origin.now)) }
-    ensures order { IfOk result (λ found. IfSome found (λ rs. InOrder rs.items)) }
-    ensures reads { ReadsOnly T.holds T.is_honest T.leaves T.failures table.old table.new result }
-{
-    let Some(zone) = table.zone(alloc, origin)? else {
-        return Ok(None);
-    };
-    Ok(Some(zone.into_records()))
-}
-
 /// Records of a zone that have among them all that the caller may list, where there is the zone. Only those are read that are
 /// within the name to which all of the caller's grants reach.
 fn within_reach<T: ZoneTable>(
@@ -176,9 +160,6 @@ fn within_reach<T: ZoneTable>(
     let Some(top) = reach(alloc, policy, caller, Action::List, origin)? else {
         return none_of(alloc, table, origin);
     };
-    if origin.is_within(&top) {
-        return all_of(alloc, table, origin);
-    }
     table.subtree(alloc, origin, &top)
 }
 
