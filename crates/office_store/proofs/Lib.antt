@@ -5,7 +5,9 @@ pub mod TurnLemmas
 pub mod VersionLemmas
 pub mod ZoneLemmas
 pub mod CacheLemmas
-pub mod SubtreeLemmas
+pub mod RecordRowLemmas
+pub mod PieceLemmas
+pub mod OwnerLemmas
 pub mod AdditionLemmas
 pub mod GoneRowLemmas
 pub mod MigratedZoneLemmas

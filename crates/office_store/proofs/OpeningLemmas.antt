@@ -1,5 +1,5 @@
 -- The checks of the tables, one after the other.
-use Rattle.std.proofs.Common.{◌≡◌, ℕ, ℤ, List, pos, false, Option, None, Some, IfSome, Result, Ok, Err, IfOk, IfErr, OnOk, IsPermutation, inl, refl, sym, subst}
+use Rattle.std.proofs.Common.{◌≡◌, ℕ, ℤ, List, pos, false, Option, None, Some, IfSome, Result, Ok, Err, IfOk, IfErr, IsPermutation, inl, refl, sym, subst}
 use Rattle.std.proofs.lemmas.List.Sorted.{IsPermutation-trans, IsPermutation-sym}
 use Rattle.sqlite.specs.Effect.{Database}
 use Rattle.sqlite.specs.State.{State as Shown, HasCleanDisk, Shows}

@@ -1,12 +1,12 @@
--- The zone that a table keeps beside its connection, and the changes of it that wait.
-use Rattle.std.specs.Prelude.{◌≡◌, ℕ, List, [], ◌∷◌, map, if◌then◌else◌, Option, Some, None, option_map}
+-- The zone that a table keeps beside its connection.
+use Rattle.std.specs.Prelude.{◌≡◌, ℕ, List, if◌then◌else◌, Bool, Option, Some, None, option_map}
 use Rattle.sqlite.specs.State.{State as Shown, HasCleanDisk}
-use Rattle.dns_names.specs.Labels.{is_within}
 use Rattle.dns_names.specs.Order.{same_name}
 use Rattle.dns_data.specs.declared.record.Record.{Record}
-use Rattle.zone_core.specs.Sets.{Records, key_of, same_key, listing, cut, part, put, within}
-use Rattle.zone_core.specs.Zones.{ZoneOf}
-use Rattle.zone_core.specs.Changes.{ChangeOf, change_in, changed}
+use Rattle.zone_core.specs.Sets.{Key, set_of, listing, part}
+use Rattle.zone_core.specs.Zones.{ZoneOf, IsZone}
+use Rattle.zone_core.specs.Parts.{part_of, at_names}
+use Rattle.zone_core.specs.Changes.{ChangeOf, changed}
 use Rattle.office_state.specs.States.{State, zone_at}
 use Rattle.office_state.specs.Tables.{AdditionOf}
 use Rattle.office_store.specs.declared.cache.CachedZone.{CachedZone}
@@ -18,35 +18,27 @@ use Rattle.office_store.specs.Holds.{HoldsState}
 abbrev pub with_change : ZoneOf → ChangeOf → ZoneOf
 with_change zone c = record zone { records = changed zone.records c.removed c.added }
 
--- records behind changes, the oldest first
-abbrev pub records_after : Records → List ChangeOf → Records
-records_after set [] = set
-records_after set (c ∷ cs) = records_after (changed set c.removed c.added) cs
-
--- the cached zone: the one that was read, with the changes made that wait
+-- the cached zone: its origin, and the set of its rows
 abbrev pub current_zone : CachedZone → ZoneOf
-current_zone cached = record { origin = cached.zone.origin; records = records_after cached.zone.records (map (λ w. change_in w.change) cached.waiting.items) }
+current_zone cached = record { origin = cached.origin; records = set_of cached.rows }
 
 -- the cached zone, if there is one
 abbrev pub cached_in : Option CachedZone → Option ZoneOf
 cached_in cache = option_map current_zone cache
 
--- records are those within a name of a zone that is cached, which is the one of an origin
-pub record IsSubtreeOf (cached : Option ZoneOf) (origin top : List (List ℕ)) (rs : List Record) : Type 0 where
+-- records are those of a zone that is cached, which is the one of an origin, whose keys pass a test
+pub record AreRecordsOf (cached : Option ZoneOf) (origin : List (List ℕ)) (test : Key → Bool) (rs : List Record) : Type 0 where
   pub zone : ZoneOf
   pub is_cached : cached ≡ Some zone
   pub own : zone.origin ≡ origin
-  pub records : rs ≡ listing (part zone.records (within top))
+  pub records : rs ≡ listing (part zone.records test)
 
--- a set without those of some records that are within a name
-abbrev pub cut_within : List (List ℕ) → List Record → Records → Records
-cut_within top [] set = set
-cut_within top (r ∷ rs) set = cut_within top rs (if is_within r.owner top then cut set (same_key (key_of r)) else set)
-
--- a set with those of some records that are within a name, each in the place of the same one; of two that are the same the first
-abbrev pub put_within : List (List ℕ) → List Record → Records → Records
-put_within top [] set = set
-put_within top (r ∷ rs) set = if is_within r.owner top then put (put_within top rs set) r else put_within top rs set
+-- a zone is the part at some names of a zone that is cached, which is the one of an origin; it is that as long as that one is a zone
+pub record IsPartOf (cached : Option ZoneOf) (origin : List (List ℕ)) (names : List (List (List ℕ))) (whole : ZoneOf) : Type 0 where
+  pub zone : ZoneOf
+  pub is_cached : cached ≡ Some zone
+  pub own : zone.origin ≡ origin
+  pub part : IsZone zone → whole ≡ part_of zone (at_names origin names)
 
 -- ---- when it is one of the state
 

@@ -1,4 +1,6 @@
 pub mod Holds
+pub mod Owners
+pub mod RowPieces
 pub mod Cache
 pub mod Queries
 pub mod Turns

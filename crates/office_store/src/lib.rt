@@ -12,10 +12,12 @@ mod migration_change;
 mod migration_rows;
 mod migration_steps;
 mod opening;
+mod owners;
 mod queries;
 mod reads;
+mod record_rows;
+mod row_pieces;
 mod table;
-mod within;
 mod zones;
 
 pub use file::Unopened;

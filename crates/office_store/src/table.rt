@@ -21,12 +21,11 @@ ghost use Rattle.office_store.specs.Turns.{Turns};
 ghost use Rattle.office_store.specs.Zones.{exported, if_free, if_later, imported, replaced, with_imported, with_replaced};
 
 use crate::cache::{
-    CachedZone, SubtreeRead, cached_first, cached_subtree, cached_zone, commit_cached,
-    export_cached,
+    CachedZone, SubtreeRead, cached_of, cached_part, cached_subtree, commit_cached, export_cached,
 };
 use crate::migration::migrate;
 use crate::opening::{Refused, check_state, make};
-use crate::reads::{changes_at, changes_behind, origins, part_at, receipt_at, receipts, zone_at};
+use crate::reads::{changes_at, changes_behind, origins, receipt_at, receipts, zone_at};
 use crate::zones::{import, put_zone, replace, take_place};
 use dns_data::Record;
 use dns_names::Name;
@@ -170,7 +169,7 @@ impl<S: Alter + Drop, L: Ledger> SqlTable<S, L> {
     {
         let mut conn = conn;
         match check_state(alloc, &mut conn) {
-            Ok(largest) => Ok(SqlTable::over(conn, blank, cached_first(alloc, largest))),
+            Ok(largest) => Ok(SqlTable::over(conn, blank, cached_of(alloc, largest))),
             Err(fault) => Err(Refused { fault, conn, blank }),
         }
     }
@@ -402,7 +401,7 @@ impl<S: Alter + Drop, L: Ledger> ZoneTable for SqlTable<S, L> {
     ghost failures = { λ t. t.book.total };
 
     fn zone(&mut self, alloc: Global, origin: &Name) -> Result<Option<Zone>, TableFault> {
-        match cached_zone(alloc, &mut self.conn, &mut self.cache, origin) {
+        match zone_at(alloc, &mut self.conn, origin) {
             Ok(zone) => Ok(zone),
             Err(fault) => {
                 self.cache = None;
@@ -418,7 +417,7 @@ impl<S: Alter + Drop, L: Ledger> ZoneTable for SqlTable<S, L> {
         origin: &Name,
         names: &[Name],
     ) -> Result<Option<Zone>, TableFault> {
-        match part_at(alloc, &mut self.conn, origin, names) {
+        match cached_part(alloc, &mut self.conn, &self.cache, origin, names) {
             Ok(part) => Ok(part),
             Err(fault) => {
                 self.cache = None;
@@ -495,7 +494,7 @@ impl<S: Alter + Drop, L: Ledger> ZoneTable for SqlTable<S, L> {
     }
 
     fn commit(&mut self, alloc: Global, addition: Addition) -> Result<(), TableFault> {
-        match commit_cached(alloc, &mut self.conn, &mut self.cache, addition) {
+        match commit_cached(alloc, &mut self.conn, &mut self.cache, &addition) {
             Ok(()) => Ok(()),
             Err(fault) => {
                 self.fault = Some(fault);

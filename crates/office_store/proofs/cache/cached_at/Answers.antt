@@ -1,13 +1,7 @@
-use Rattle.std.proofs.Common.{Some, inl, sym, ap, ◌∙◌}
-use Rattle.zone_core.specs.Zones.{ZoneOf}
+use Rattle.std.proofs.Common.{sym, ap, ◌∙◌}
+use Rattle.zone_core.proofs.SetLemmas.{name_is}
+use Rattle.office_store.specs.Cache.{cached_in}
 use Rattle.office_store.proofs.cache.cached_at.Goals as goal
 
-pub returns-clause-found : goal.returns-clause-found
-returns-clause-found c =
-    let told = rw c.in-Some.is at c.in_ok-zone.ensures.found in
-    (ap (λ (z : ZoneOf). Some z) (c.of.ensures ∙ sym c.in_ok-copy.ensures), ap (λ (z : ZoneOf). z.origin) c.in_ok-copy.ensures ∙ told.1)
-
-pub returns-clause-kept : goal.returns-clause-kept
-returns-clause-kept c =
-    let told = rw c.in-Some.is at c.in_ok-zone.ensures.found in
-    inl (ap (λ (z : ZoneOf). Some z) c.of.ensures ∙ sym told.0)
+pub returns-in-Some : goal.returns-in-Some
+returns-in-Some c = (ap cached_in c.in-Some.is, name_is c.in-Some.cached.origin c.args.origin.now (sym c.eq.ensures ∙ c.if-eq.true))

@@ -1,12 +1,10 @@
-use Rattle.std.proofs.Common.{◌≡◌, Option, Some, None, Ok, List, ap, sym, ◌∙◌}
 use Rattle.sqlite.specs.Held.{state}
 use Rattle.office_store.specs.Cache.{cached_in}
-use Rattle.office_store.specs.Zones.{exported}
-use Rattle.office_store.proofs.CacheLemmas.{exported_is, fits_asked, fits_kept, told_of_cache}
+use Rattle.office_store.proofs.CacheLemmas.{fits_asked, fits_kept, told_of_all}
 use Rattle.office_store.proofs.cache.export_cached.Goals as goal
 
-pub returns-in_err-zone-clause-fits : goal.returns-in_err-zone-clause-fits
-returns-in_err-zone-clause-fits g c =
+pub returns-in_err-records-clause-fits : goal.returns-in_err-records-clause-fits
+returns-in_err-records-clause-fits g c =
     fits_kept (state g.S.Store c.args.conn.now) (cached_in c.args.cache.now) (cached_in c.taken_at.new.cache) c.requires.fits c.taken_at.ensures.kept
 
 pub returns-in_err-check_open-clause-fits : goal.returns-in_err-check_open-clause-fits
@@ -23,12 +21,8 @@ returns-in-Some-clause-fits g c =
 
 pub returns-in-Some-clause-answer : goal.returns-in-Some-clause-answer
 returns-in-Some-clause-answer g c = λ clean s h.
-    let old = state g.S.Store c.args.conn.now in
-    let o = c.args.origin.now in
-    let zone = c.in-Some.zone in
-    let told = rw c.in-Some.is at c.in_ok-zone.ensures.found in
-    let is = told_of_cache old (cached_in c.args.cache.now) zone o c.requires.fits (c.check_open.ensures.asks.0.honest clean) (c.in_ok-check_open.ensures.open clean) told.0 told.1 s h in
-    exported_is o (s.zones o) zone is ∙ ap (λ rs. Ok rs) (sym c.into_records.ensures.value)
+    told_of_all (state g.S.Store c.args.conn.now) (cached_in c.args.cache.now) c.args.origin.now c.in-Some.records.items c.requires.fits (c.check_open.ensures.asks.0.honest clean) (c.in_ok-check_open.ensures.open clean)
+    (rw c.in-Some.is at c.in_ok-records.ensures.found) s h
 
 pub returns-clause-fits : goal.returns-clause-fits
 returns-clause-fits g c =

@@ -1,7 +1,7 @@
-use Rattle.std.proofs.Common.{◌≡◌, Bool, true, false, not, Some, sym, ap, ◌∙◌}
+use Rattle.std.proofs.Common.{◌≡◌, Bool, true, false, not, sym, ap, ◌∙◌}
 use Rattle.dns_names.proofs.NameLemmas.{same_name-Decides}
 use Rattle.office_store.specs.Cache.{cached_in, current_zone}
-use Rattle.office_store.proofs.CacheLemmas.{taken}
+use Rattle.office_store.proofs.CacheLemmas.{all_kept, records_are}
 use Rattle.office_store.proofs.cache.taken_at.Goals as goal
 
 not_unlike : (b : Bool) → not b ≡ false → b ≡ true
@@ -10,6 +10,9 @@ not_unlike false e = cc
 
 pub returns-clause-found : goal.returns-clause-found
 returns-clause-found c =
-    let names : c.origin.result.now ≡ c.args.origin.now = (same_name-Decides c.origin.result.now c.args.origin.now).0 (not_unlike _ (sym c.ne.ensures ∙ c.if-ne.false)) in
-    let there : cached_in c.args.cache.now ≡ Some (current_zone c.in-Some.cached) = ap cached_in (sym c.take.ensures.value ∙ c.in-Some.is) in
-    taken c.into_zone.result (cached_in c.args.cache.now) c.in-Some.cached c.args.origin.now there (sym c.origin.ensures.value ∙ names) c.into_zone.ensures
+    record {
+      zone = current_zone c.in-Some.cached;
+      is_cached = ap cached_in (sym c.take.ensures.value ∙ c.in-Some.is);
+      own = (same_name-Decides c.in-Some.cached.origin c.args.origin.now).0 (not_unlike _ (sym c.ne.ensures ∙ c.if-ne.false));
+      records = records_are c.in-Some.cached.rows c.in_ok-into_rows.field-0.items (λ k. true) c.in_ok-into_rows.ensures.rows (c.in_ok-into_rows.ensures.value ∙ sym (all_kept c.in-Some.cached.rows));
+    }

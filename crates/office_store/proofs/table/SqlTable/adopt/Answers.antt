@@ -4,7 +4,7 @@ use Rattle.office_store.proofs.CacheLemmas.{fits_read}
 use Rattle.office_store.proofs.table.SqlTable.adopt.Goals as goal
 
 pub over-requires-clause-fits : goal.over-requires-clause-fits
-over-requires-clause-fits g c = fits_read (state g.S.Store c.check_state.new.conn) (cached_in c.cached_first.result) c.in-Ok.largest c.cached_first.ensures c.in-Ok.ensures.found
+over-requires-clause-fits g c = fits_read (state g.S.Store c.check_state.new.conn) (cached_in c.cached_of.result) c.in-Ok.largest c.cached_of.ensures c.in-Ok.ensures.found
 
 pub returns-in-Err-clause-left : goal.returns-in-Err-clause-left
 returns-in-Err-clause-left g c up clean db may = g.met.S.Store.settled c.args.conn.store db up (c.check_state.ensures.asks.0.left clean db may)
