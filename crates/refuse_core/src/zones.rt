@@ -1,15 +1,16 @@
 //! Zones and updates.
 
 ghost use Rattle.std.specs.Prelude.{◌≡◌, IfOk};
-ghost use Rattle.zone_core.specs.ZoneFindings.{AreFindings};
 ghost use Rattle.zone_core.specs.Effects.{zone_after};
 ghost use Rattle.zone_core.specs.Sets.{listing};
 ghost use Rattle.zone_core.specs.Updates.{ActsWithin};
 ghost use Rattle.zone_core.specs.Zones.{serial_of};
+ghost use Rattle.zone_tools.specs.ZoneFindings.{AreFindings};
 
 use dns_data::same_record;
 use std::alloc::{AllocError, Global};
-use zone_core::{Finding, Outcome, Update, Zone};
+use zone_core::{Outcome, Update, Zone};
+use zone_tools::Finding;
 
 /// `apply`, and the serial of the zone after it.
 pub fn serial_after(
@@ -28,5 +29,5 @@ pub fn serial_after(
 pub fn findings(alloc: Global, zone: &Zone) -> Result<Vec<Finding>, AllocError>
     ensures { IfOk result (λ found. AreFindings zone.now.origin (listing zone.now.records) found.items) }
 {
-    zone_core::findings(alloc, zone)
+    zone_tools::findings(alloc, zone)
 }

@@ -21,15 +21,15 @@ use Rattle.zone_core.specs.Updates.{adds_soa}
 use Rattle.zone_core.specs.Accounts.{Stands}
 use Rattle.zone_core.specs.Met.{AreMet}
 use Rattle.zone_core.specs.Effects.{add, add_cname, add_other, add_soa, delete_record, effects, is_misplaced, is_other_ns, is_other_type, serial_advanced, stays, takes_over}
-use Rattle.zone_core.specs.Differences.{addition, deletion, edits, gone, is_server, needs_soa, next_soa, others, operations, servers}
+use Rattle.zone_tools.specs.Differences.{addition, deletion, edits, gone, is_server, needs_soa, next_soa, others, operations, servers}
 use Rattle.zone_core.proofs.MetLemmas.{Among}
 use Rattle.zone_core.proofs.RowLemmas.{choice}
 use Rattle.zone_core.proofs.SetLemmas.{by_cases, found_by_put, has_found, has_nothing, kept_by_cut, kept_by_put, key_is, key_other, key_self, name_is, name_self, some_is}
 use Rattle.zone_core.proofs.EffectLemmas.{get-with_ttl, retag}
 use Rattle.zone_core.proofs.ZoneLemmas.{There, Heir, Keys, at_has, at_is, both_true, found_given, found_put, found_uncut, is_kind, kind, no}
-use Rattle.zone_core.proofs.DiffListLemmas.{effects-append, left_in, retimed, some_one, there_in}
-use Rattle.zone_core.proofs.DiffLeadLemmas.{IsGone, IsOther, IsServer, are_gone, are_others, are_servers, server_off}
-use Rattle.zone_core.proofs.DiffAddLemmas.{Free}
+use Rattle.zone_tools.proofs.DiffListLemmas.{effects-append, left_in, retimed, some_one, there_in}
+use Rattle.zone_tools.proofs.DiffLeadLemmas.{IsGone, IsOther, IsServer, are_gone, are_others, are_servers, server_off}
+use Rattle.zone_tools.proofs.DiffAddLemmas.{Free}
 use Rattle.zone_core.proofs.LeaveLemmas.{advanced_there}
 use Rattle.text_commands.specs.Guards.{are_equal, changes_set, guards_of, lacks}
 use Rattle.text_commands.specs.GuardPromises.{HasThere, HaveSameSet}

@@ -13,13 +13,13 @@ use Rattle.zone_core.specs.Met.{AreMet}
 use Rattle.command_line.specs.declared.job.DiffForm.{DiffForm}
 use Rattle.command_line.specs.declared.job.DiffForm.TheVariants.{Bare, Guarded}
 use Rattle.zone_core.specs.Effects.{effects, serial_advanced, zone_after}
-use Rattle.zone_core.specs.Differences.{operations}
-use Rattle.zone_core.specs.DifferencePromises.{AddsSoaLast, AreWithin}
+use Rattle.zone_tools.specs.Differences.{operations}
+use Rattle.zone_tools.specs.DifferencePromises.{AddsSoaLast, AreWithin}
 use Rattle.zone_core.proofs.ZoneLemmas.{Keys, effects_heir, keys_of}
 use Rattle.zone_core.proofs.ChangedLemmas.{listed}
 use Rattle.zone_core.proofs.MetLemmas.{met_answer}
 use Rattle.zone_core.proofs.UpdateLemmas.{none_outside}
-use Rattle.zone_core.proofs.DiffPromiseLemmas.{operations_lead, operations_soa, operations_within}
+use Rattle.zone_tools.proofs.DiffPromiseLemmas.{operations_lead, operations_soa, operations_within}
 use Rattle.office_state.proofs.PrintLaws.{update_read}
 use Rattle.text_commands.specs.Apply.{first_unmet, updated, unless, zone_lines}
 use Rattle.text_commands.specs.Diff.{DiffsAreApplied, DiffsAreMadeBeside, DiffsAreMet, DiffsHaveRoom, DiffsLead, DiffsTell, OperationsAreGuarded, OperationsTell, prerequisites_in, target_of, update_between, update_in}

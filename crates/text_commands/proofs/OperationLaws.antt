@@ -19,13 +19,13 @@ use Rattle.zone_core.specs.Updates.{adds_soa}
 use Rattle.zone_core.specs.Accounts.{Stands}
 use Rattle.zone_core.specs.Effects.{effects}
 use Rattle.zone_core.specs.Met.{AreMet}
-use Rattle.zone_core.specs.Differences.{addition, at_serial, deletion, edits, gone, is_equal, is_gone, is_other, is_server, needs_soa, next_soa, operations, others, servers, soa_additions, with_soa_addition}
+use Rattle.zone_tools.specs.Differences.{addition, at_serial, deletion, edits, gone, is_equal, is_gone, is_other, is_server, needs_soa, next_soa, operations, others, servers, soa_additions, with_soa_addition}
 use Rattle.zone_core.proofs.MetLemmas.{Among, among_append, among_of, is_any}
 use Rattle.zone_core.proofs.SetLemmas.{by_cases, found_of_part, key_is, same_parts}
 use Rattle.zone_core.proofs.ZoneLemmas.{Keys, at_is, both_true, is_kind, kind, no, soa_is}
 use Rattle.zone_core.proofs.ChangedLemmas.{kept_in_part}
-use Rattle.zone_core.proofs.DiffLeadLemmas.{edited_other, server_off}
-use Rattle.zone_core.proofs.DiffSoaLemmas.{data_type, is_equal_self}
+use Rattle.zone_tools.proofs.DiffLeadLemmas.{edited_other, server_off}
+use Rattle.zone_tools.proofs.DiffSoaLemmas.{data_type, is_equal_self}
 use Rattle.text_commands.specs.Guards.{are_equal, changes_set, guards_of, is_first, is_new, set_like}
 use Rattle.text_commands.specs.GuardPromises.{HaveSameSet}
 use Rattle.text_commands.proofs.GuardLaws.{among_filter, among_map, guards_tell, is_comer, like_stands, listed_in, none_stands, parts, some_asked, stands_like}

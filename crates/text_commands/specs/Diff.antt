@@ -10,7 +10,7 @@ use Rattle.zone_core.specs.Zones.{ZoneOf, IsZone}
 use Rattle.zone_core.specs.Updates.{UpdateOf}
 use Rattle.zone_core.specs.Effects.{zone_after}
 use Rattle.zone_core.specs.Met.{AreMet}
-use Rattle.zone_core.specs.Differences.{operations, target}
+use Rattle.zone_tools.specs.Differences.{operations, target}
 use Rattle.office_state.specs.Reading.{items_of}
 use Rattle.office_state.specs.Texts.{update_text}
 use Rattle.command_line.specs.declared.job.DiffForm.{DiffForm}

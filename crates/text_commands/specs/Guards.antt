@@ -13,7 +13,7 @@ use Rattle.zone_core.specs.declared.update.Prerequisite.TheVariants.{RrsetEquals
 use Rattle.zone_core.specs.Sets.{Records, key_of, same_key, listing, part, at_name, at}
 use Rattle.zone_core.specs.Zones.{is_soa, is_cname}
 use Rattle.zone_core.specs.Updates.{adds_soa}
-use Rattle.zone_core.specs.Differences.{is_equal}
+use Rattle.zone_tools.specs.Differences.{is_equal}
 
 -- ---- record sets (RFC 2181 section 5)
 

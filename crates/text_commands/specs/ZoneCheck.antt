@@ -5,10 +5,10 @@ use Rattle.dns_data.specs.declared.record.Record.{Record}
 use Rattle.dns_data.specs.Text.{record_line}
 use Rattle.zone_core.specs.Sets.{listing}
 use Rattle.zone_core.specs.Zones.{ZoneOf}
-use Rattle.zone_core.specs.declared.zone_rule.ZoneRule.{ZoneRule}
-use Rattle.zone_core.specs.declared.zone_finding.Finding.{Finding}
-use Rattle.zone_core.specs.ZoneRules.{rule_of, rule_place, rule_text}
-use Rattle.zone_core.specs.ZoneFindings.{AreFindings}
+use Rattle.zone_tools.specs.declared.zone_rule.ZoneRule.{ZoneRule}
+use Rattle.zone_tools.specs.declared.zone_finding.Finding.{Finding}
+use Rattle.zone_tools.specs.ZoneRules.{rule_of, rule_place, rule_text}
+use Rattle.zone_tools.specs.ZoneFindings.{AreFindings}
 use Rattle.command_line.specs.declared.job.RuleChoice.{RuleChoice}
 use Rattle.command_line.specs.declared.job.RuleChoice.TheVariants as choice
 use Rattle.text_commands.specs.declared.check.Findings.{Findings}

@@ -15,7 +15,8 @@ use command_line::DiffForm;
 use dns_master::Sink;
 use office_state::lists_text;
 use std::alloc::{AllocError, Global};
-use zone_core::{Operation, Prerequisite, Zone, operations_between};
+use zone_core::{Operation, Prerequisite, Zone};
+use zone_tools::operations_between;
 
 /// The prerequisites that a diff prints before operations. The only error is out of memory.
 fn prerequisites_in(

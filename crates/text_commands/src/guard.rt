@@ -7,7 +7,7 @@ ghost use Rattle.dns_data.specs.Rdata.{type_of};
 ghost use Rattle.dns_data.specs.RecordOrder.{rank_of};
 ghost use Rattle.zone_core.specs.Sets.{key_of, same_key};
 ghost use Rattle.zone_core.specs.Updates.{adds_soa};
-ghost use Rattle.zone_core.specs.Differences.{is_equal};
+ghost use Rattle.zone_tools.specs.Differences.{is_equal};
 ghost use Rattle.text_commands.specs.Guards.{set_like, begins_with, are_equal, changes_set, changed_firsts, is_unused, lacks, is_new, new_firsts, comes_first, there, absent, types_absent, not_there, guards_of};
 
 use dns_data::{Record, RecordType, record_order};

@@ -12,7 +12,8 @@ use crate::refusal::Refusal;
 use command_line::RuleChoice;
 use dns_data::Record;
 use std::alloc::{AllocError, Global};
-use zone_core::{Finding, Zone, ZoneRule, findings};
+use zone_core::Zone;
+use zone_tools::{Finding, ZoneRule, findings};
 
 /// By which rules a zone is checked.
 #[derive(Clone, Copy)]

@@ -1,10 +1,9 @@
 -- Names within names.
-use Rattle.std.proofs.Common.{◌≡◌, ◌≢◌, ℕ, ◌≤◌, List, [], ◌∷◌, ◌++◌, length, true, false, not, refl, sym, ap, subst, ◌∙◌, arith, append_assoc, length-append}
+use Rattle.std.proofs.Common.{◌≡◌, ◌≢◌, ℕ, ◌≤◌, List, [], ◌++◌, Bool, true, false, not, refl, sym, ap, subst, ◌∙◌, arith, append_assoc}
 use Rattle.std.specs.declared.cmp.Ordering.{Ordering}
 use Rattle.std.specs.declared.cmp.Ordering.TheVariants.{Less, Equal, Greater}
 use Rattle.std.specs.Bool.{Decides}
 use Rattle.std.specs.Ordering.{is_lt, is_le, is_eq, ordering_index, ordering_reverse}
-use Rattle.std.proofs.lemmas.Bool.{and_parts}
 use Rattle.std.proofs.lemmas.Bool.Decides.{Decides-and, Decides-not}
 use Rattle.dns_names.specs.Labels.{IsWithin, IsBelow, is_within}
 use Rattle.dns_names.specs.Order.{canonical_cmp, canonical_total, same_name}
@@ -14,6 +13,11 @@ use Rattle.zone_core.proofs.SetLemmas.{name_is}
 
 abbrev pub Name : Type 0
 Name = List (List ℕ)
+
+-- a test that is passed and failed
+pub no_test : {P : Type 0} (b : Bool) → b ≡ true → b ≡ false → P
+no_test true e f = absurd cc
+no_test false e f = absurd cc
 
 pub below-Decides : (name top : Name) → Decides (is_below name top) (IsBelow name top)
 below-Decides name top =
@@ -27,20 +31,6 @@ within_itself a = ([], refl)
 pub within_within : (a b c : Name) → IsWithin a b → IsWithin b c → IsWithin a c
 within_within a b c p q = (p.0 ++ q.0, p.1 ∙ ap (λ (x : Name). p.0 ++ x) q.1 ∙ sym (append_assoc p.0 q.0 c))
 
--- names within each other are one
-pub within_both : (a b : Name) → IsWithin a b → IsWithin b a → a ≡ b
-within_both a b p q = by_front p.0 p.1
-  where
-    longer : length a ≤ length b
-    longer = omega (arith, ap length q.1, length-append q.0 a)
-
-    by_front : (front : Name) → a ≡ front ++ b → a ≡ b
-    by_front [] e = e
-    by_front (l ∷ front) e = absurd (omega (arith, longer, ap length e, length-append front b))
-
-pub below_within : (a b c : Name) → IsBelow a b → IsWithin b c → IsBelow a c
-below_within a b c p q = (within_within a b c p.0 q, λ e. p.1 (within_both a b p.0 (subst (λ (x : Name). IsWithin b x) (sym e) q)))
-
 -- ---- as tests
 
 pub is_within_itself : (a : Name) → is_within a a ≡ true
@@ -48,9 +38,6 @@ is_within_itself a = (is_within-Decides a a).1 (within_itself a)
 
 pub is_within_within : (a b c : Name) → is_within a b ≡ true → is_within b c ≡ true → is_within a c ≡ true
 is_within_within a b c p q = (is_within-Decides a c).1 (within_within a b c ((is_within-Decides a b).0 p) ((is_within-Decides b c).0 q))
-
-pub below_is_within : (a b : Name) → is_below a b ≡ true → is_within a b ≡ true
-below_is_within a b e = (and_parts (is_within a b) (not (same_name a b)) e).0
 
 -- ---- in canonical order
 

@@ -1,18 +1,15 @@
 -- Names in canonical order, none of which is within another: which of them a name is within.
-use Rattle.std.proofs.Common.{◌≡◌, ℕ, zero, suc, ◌-◌, ◌<◌, ◌≤◌, List, [], ◌∷◌, length, get_or, Bool, true, false, cond, ◌||◌, Option, Some, None, Bor, is_some, refl, sym, ap, subst, ◌∙◌, arith, inl, inr}
-use Rattle.std.specs.declared.cmp.Ordering.TheVariants.{Less}
-use Rattle.std.specs.Ordering.{is_lt, is_le}
-use Rattle.std.specs.Option.{option_copied}
+use Rattle.std.proofs.Common.{◌≡◌, ℕ, zero, suc, ◌-◌, ◌<◌, ◌≤◌, List, [], ◌∷◌, length, get_or, Bool, true, false, cond, ◌||◌, Option, Some, None, is_some, refl, sym, ap, subst, ◌∙◌, arith, inl, inr}
+use Rattle.std.specs.Ordering.{is_le}
 use Rattle.std.specs.List.{All, find, list_any}
 use Rattle.std.specs.List.Sorted.{IsPartitionPoint, IsPartitionedBy}
 use Rattle.std.proofs.lemmas.Bool.{false_from_ne_true, cases_lt}
 use Rattle.std.proofs.lemmas.List.{get_or_default}
 use Rattle.dns_names.specs.Labels.{is_within}
 use Rattle.dns_names.specs.Order.{canonical_cmp}
-use Rattle.zone_core.proofs.MetLemmas.{Among, of_among}
 use Rattle.zone_core.proofs.WithinLemmas.{not_before, between}
 use Rattle.zone_core.specs.Outermost.{AreApart}
-use Rattle.zone_core.proofs.BelowLemmas.{Name, before_then, not_behind, is_behind}
+use Rattle.zone_core.proofs.BelowLemmas.{Name, no_test, before_then, not_behind, is_behind}
 
 -- ---- the first that passes
 
@@ -35,50 +32,9 @@ found_any {X} p (x ∷ xs) = by_test (p x) (found_any p xs)
     by_test true e = refl
     by_test false e = e
 
-pub found_is : {X : Type 0} (p : X → Bool) (xs : List X) (x : X) → find p xs ≡ Some x → Among x xs × (p x ≡ true)
-found_is p [] x e = absurd cc
-found_is {X} p (y ∷ ys) x e = by_test (p y) refl e (found_is p ys x)
-  where
-    by_test : (b : Bool) → p y ≡ b → cond b (Some y) (find p ys) ≡ Some x → (find p ys ≡ Some x → Among x ys × (p x ≡ true)) → Among x (y ∷ ys) × (p x ≡ true)
-    by_test true t f later = let same : y ≡ x = cc in (inl (sym same), ap p (sym same) ∙ t)
-    by_test false t f later = let found = later f in (inr found.0, found.1)
-
-pub copied_some : {T : Type 0} (o : Option (Bor T)) → is_some o ≡ is_some (option_copied o)
-copied_some None = refl
-copied_some (Some x) = refl
-
 -- ---- names apart
 
--- a test that is passed and failed
-no_test : {P : Type 0} (b : Bool) → b ≡ true → b ≡ false → P
-no_test true e f = absurd cc
-no_test false e f = absurd cc
-
 module _ (names : List Name) (apart : AreApart names) where
-  -- two of them of which one is within the other are one
-  pub one_of : (a b : Name) → Among a names → Among b names → is_within a b ≡ true → a ≡ b
-  one_of a b p q inside =
-      let i = of_among names a p in
-      let j = of_among names b q in
-      by_places i.0 j.0 i.1 j.1 i.2 j.2
-    where
-      by_places : (i j : ℕ) → i < length names → j < length names → get_or names i a ≡ a → get_or names j b ≡ b → a ≡ b
-      by_places i j p q e f = (elim (cases_lt i j) [
-        | inl before ↦
-            (let there : get_or names j a ≡ b = get_or_default names j a b q ∙ f in
-            let lt : canonical_cmp a b ≡ Less = sym (λ k. canonical_cmp (e k) (there k)) ∙ (apart i j a before q).0 in
-            no_test (is_within a b) inside (not_before b a (ap is_lt lt)))
-        | inr after ↦ (elim (cases_lt j i) [
-          | inl behind ↦
-              (let there : get_or names i b ≡ a = get_or_default names i b a p ∙ e in
-              no_test (is_within a b) inside (sym (λ k. is_within (there k) (f k)) ∙ (apart j i b behind p).1))
-          | inr same ↦
-              (let there : get_or names j a ≡ b = get_or_default names j a b q ∙ f in
-              let eq : i ≡ j = omega arith in
-              sym e ∙ ap (λ k. get_or names k a) eq ∙ there)
-        ])
-      ])
-
   module _ (name : Name) where
     -- those at or before a name stand before the others
     pub parted : IsPartitionedBy (λ (cut : Name). is_le (canonical_cmp cut name)) names

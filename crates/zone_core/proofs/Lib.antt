@@ -47,15 +47,6 @@ pub mod OwnLemmas
 pub mod OriginLemmas
 pub mod ListedLemmas
 pub mod VisibilityLemmas
-pub mod DiffListLemmas
-pub mod DiffAddLemmas
-pub mod DiffLeadLemmas
-pub mod DiffSoaLemmas
-pub mod DiffPromiseLemmas
 pub mod BelowLemmas
 pub mod CoverLemmas
-pub mod SurveyLemmas
 pub mod OutermostLemmas
-pub mod AnswerLemmas
-pub mod AtFaultLemmas
-pub mod FindingLemmas

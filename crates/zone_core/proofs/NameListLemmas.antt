@@ -72,7 +72,7 @@ sorted_is [] order = tt
 sorted_is (name ∷ names) order = both_true (below_all canonical_cmp name (paired names)) (is_sorted canonical_cmp (paired names)) (below_is name names order.0) (sorted_is names order.1)
 
 module _ (names all : List Name) (are : AreNamesOf names all) where
-  same_test : (name : Name) → list_any (same_name name) all ≡ list_any (same_name name) names
+  pub same_test : (name : Name) → list_any (same_name name) all ≡ list_any (same_name name) names
   same_test name =
       both_ways (list_any (same_name name) all) (list_any (same_name name) names)
       (λ e. list_any-from_Contains same_name_equiv name names ((are.members name).1 (Contains-from_any name_is name all e)))

@@ -15,8 +15,16 @@ use Rattle.dns_names.specs.Labels.{is_within}
 use Rattle.dns_names.specs.Order.{canonical_cmp, canonical_total}
 use Rattle.zone_core.specs.Outermost.{AreApart}
 use Rattle.zone_core.proofs.MetLemmas.{any_is, is_any}
-use Rattle.zone_core.proofs.BelowLemmas.{Name, before_other, is_within_itself, is_within_within, not_above}
-use Rattle.zone_core.proofs.SurveyLemmas.{no_test, or_false, or_kept}
+use Rattle.zone_core.proofs.BelowLemmas.{Name, no_test, before_other, is_within_itself, is_within_within, not_above}
+
+or_false : (a : Bool) → (a || false) ≡ a
+or_false true = refl
+or_false false = refl
+
+or_kept : (a b : Bool) → (b ≡ true → a ≡ true) → (a || b) ≡ a
+or_kept true b f = refl
+or_kept false true f = absurd (let e = f refl in cc)
+or_kept false false f = refl
 
 module _ (names : List Name) where
   -- the outermost of the first names, none of them behind a later name

@@ -10,11 +10,11 @@ use Rattle.std.specs.FinMap.Entries.{below_all}
 use Rattle.std.specs.List.{AllByRecursion, Contains, list_any, filter, flat_map}
 use Rattle.std.specs.List.Sorted.{IsStrictlySortedBy}
 use Rattle.std.proofs.lemmas.Bool.{and_parts}
-use Rattle.std.proofs.lemmas.Bool.Decides.{Decides-and, Decides-not, Decides-or, Decides-like}
+use Rattle.std.proofs.lemmas.Bool.Decides.{Decides-or, Decides-like}
 use Rattle.std.proofs.lemmas.Map.Views.{list_any-from_Contains, Contains-from_any}
 use Rattle.dns_names.specs.Labels.{IsWithin, IsBelow, is_within}
 use Rattle.dns_names.specs.Order.{canonical_cmp, canonical_total, same_name, same_name_equiv}
-use Rattle.dns_names.proofs.NameLemmas.{same_name-Decides, is_within-Decides}
+use Rattle.dns_names.proofs.NameLemmas.{is_within-Decides}
 use Rattle.dns_data.specs.declared.record.Record.{Record}
 use Rattle.dns_data.specs.declared.record_type.RecordType.{RecordType}
 use Rattle.dns_data.specs.declared.record_type.RecordType.TheVariants as types
@@ -31,6 +31,7 @@ use Rattle.zone_core.proofs.RowLemmas.{has_is}
 use Rattle.zone_core.proofs.ZoneLemmas.{at_has, at_is, kind, is_kind}
 use Rattle.zone_core.proofs.MetLemmas.{Among, among_of, of_among, any_is, is_any, among_append}
 use Rattle.zone_core.proofs.NameListLemmas.{Name, Names, paired, is_found}
+use Rattle.zone_core.proofs.BelowLemmas.{below-Decides}
 
 -- ---- the names of a list in order
 
@@ -88,10 +89,6 @@ module _ (all : List Name) where
 
 -- ---- cuts
 
-below-Decides : (name top : Name) → Decides (is_below name top) (IsBelow name top)
-below-Decides name top =
-    Decides-and (is_within name top) (not (same_name name top)) (is_within-Decides name top) (Decides-not (same_name name top) (same_name-Decides name top))
-
 module _ (origin name : Name) where
   -- a record with which the zone is cut at the name
   abbrev Cuts : Record → Type 0
@@ -128,7 +125,7 @@ module _ (origin name : Name) where
         λ c. parts.1 (elim (c.1) [ inl same ↦ inl (one.1 (subst Cuts same c.2)) | inr later ↦ inr (rest.1 (c.0, later, c.2)) ]),
       )
 
-  cut_is : (rs : List Record) → Contains (cut_owners origin rs) name ↔ IsCutAt origin rs name
+  pub cut_is : (rs : List Record) → Contains (cut_owners origin rs) name ↔ IsCutAt origin rs name
   cut_is rs =
       let all = all_cuts rs in (
         λ c. let found = all.0 (among_of (cut_owners origin rs) name c) in (found.2.2, (found.0, of_among rs found.0 found.1, found.2.0, found.2.1)),

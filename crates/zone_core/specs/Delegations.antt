@@ -101,6 +101,10 @@ abbrev pub server_in : Data → List (List (List ℕ))
 server_in (variants.Ns server) = server ∷ []
 server_in rdata = []
 
+-- the servers that NS records name
+abbrev pub servers_in : List Record → List (List (List ℕ))
+servers_in rs = flat_map (λ r. server_in r.rdata) rs
+
 -- the servers of a child among records
 abbrev pub server_names : List (List ℕ) → List Record → List (List (List ℕ))
 server_names child rs = flat_map (λ r. server_in r.rdata) (filter (λ r. at child types.Ns (key_of r)) rs)

@@ -20,10 +20,4 @@ pub mod Accounts
 pub mod Met
 pub mod Versions
 pub mod Delegations
-pub mod Differences
-pub mod DifferencePromises
 pub mod Outermost
-pub mod HostNames
-pub mod ZoneRules
-pub mod ZoneTests
-pub mod ZoneFindings

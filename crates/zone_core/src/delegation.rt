@@ -56,8 +56,8 @@ pub fn delegation_update(
     }
 }
 
-/// Whether a name is below another.
-pub(crate) fn is_below(name: &Name, top: &Name) -> bool
+/// Whether a name is below another: within it, and not equal.
+pub fn is_below(name: &Name, top: &Name) -> bool
     ensures { result ≡ is_below name.now top.now }
 {
     name.is_within(top) && name != top

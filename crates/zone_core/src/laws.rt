@@ -10,7 +10,6 @@ ghost use Rattle.zone_core.specs.Met.{VerdictsAreFirst};
 ghost use Rattle.zone_core.specs.Delegations.{ReportsAreExact};
 ghost use Rattle.zone_core.specs.Updates.{OutsidesAreFirst, EqualUpdatesAreOne};
 ghost use Rattle.zone_core.specs.Versions.{UpdatesKeepZones, UpdatesAdvance};
-ghost use Rattle.zone_core.specs.ZoneFindings.{CleanZonesHaveGlue};
 
 /// The prerequisites of an update read the records at their names, and no others.
 pub fn verdicts_read_their_names()
@@ -118,9 +117,4 @@ pub fn equal_updates_are_one()
 /// The records of a zone, in whatever order and however often they come, are built as that zone.
 pub fn zones_are_built_of_their_records()
     ensures { ZonesAreRebuilt }
-{}
-
-/// In a zone without findings each server of a delegation that is within the child has an address (RFC 1034 section 4.2.1).
-pub fn clean_zones_have_glue()
-    ensures { CleanZonesHaveGlue }
 {}

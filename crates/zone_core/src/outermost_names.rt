@@ -12,7 +12,7 @@ use dns_names::Name;
 use std::alloc::{AllocError, Global};
 
 /// Whether a name that none of some names is behind is within one of them, which then is the last.
-pub(crate) fn is_within_last(tops: &[Name], name: &Name) -> bool
+fn is_within_last(tops: &[Name], name: &Name) -> bool
     requires apart { AreApart tops.now }
     requires before { All (λ top. is_le (canonical_cmp top name.now) ≡ true) tops.now }
     ensures { result ≡ list_any (λ top. is_within name.now top) tops.now }

@@ -4,7 +4,7 @@ ghost use Rattle.std.specs.Prelude.{◌≡◌, ◌++◌, ◌&&◌, ◌==◌, map
 ghost use Rattle.std.specs.List.{flat_map};
 ghost use Rattle.dns_data.specs.declared.record_type.RecordType.TheVariants.{Ns};
 ghost use Rattle.zone_core.specs.Sets.{key_of, rank_of, InOrder};
-ghost use Rattle.zone_core.specs.Delegations.{is_below, AreNamesOf, cut_owner, cut_owners, server_in, server_names, glue_of, server_of, IsDelegation, AreDelegations, report_of, report};
+ghost use Rattle.zone_core.specs.Delegations.{is_below, AreNamesOf, cut_owner, cut_owners, server_in, servers_in, server_names, glue_of, server_of, IsDelegation, AreDelegations, report_of, report};
 
 use crate::delegation::is_below;
 use crate::rows::{has_set, has_type, of_set};
@@ -81,11 +81,7 @@ pub fn cuts(alloc: Global, origin: &Name, records: &[Record]) -> Result<Vec<Name
 }
 
 /// Puts the server that data name behind names, if they are those of an NS.
-pub(crate) fn push_server(
-    alloc: Global,
-    names: &mut Vec<Name>,
-    rdata: &Data,
-) -> Result<(), AllocError>
+fn push_server(alloc: Global, names: &mut Vec<Name>, rdata: &Data) -> Result<(), AllocError>
     ensures { IfOk result (λ _. names.new.items ≡ names.old.items ++ server_in rdata.now) }
 {
     if let Data::Ns(server) = rdata {
@@ -94,17 +90,23 @@ pub(crate) fn push_server(
     Ok(())
 }
 
+/// The servers that the NS records among some name, in canonical order. The only error is out of memory.
+pub fn servers(alloc: Global, records: &[Record]) -> Result<Vec<Name>, AllocError>
+    ensures { IfOk result (λ names. AreNamesOf names.items (servers_in records.now)) }
+{
+    let mut names = Vec::new(alloc);
+    for record in records {
+        push_server(alloc, &mut names, &record.rdata)?;
+    }
+    ordered(names)
+}
+
 /// The servers of a child among records in record order.
 fn server_names(alloc: Global, records: &[Record], child: &Name) -> Result<Vec<Name>, AllocError>
     requires { InOrder records.now }
     ensures { IfOk result (λ names. AreNamesOf names.items (server_names child.now records.now)) }
 {
-    let set = of_set(records, child, RecordType::Ns);
-    let mut names = Vec::new(alloc);
-    for record in set {
-        push_server(alloc, &mut names, &record.rdata)?;
-    }
-    ordered(names)
+    servers(alloc, of_set(records, child, RecordType::Ns))
 }
 
 /// What there is of a server's glue among records in record order.

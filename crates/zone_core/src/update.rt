@@ -170,7 +170,7 @@ impl Operation {
     }
 
     /// The deletion of a record. The only error is out of memory.
-    pub(crate) fn record_deletion(
+    pub fn record_deletion(
         alloc: Global,
         name: &Name,
         rdata: &Data,

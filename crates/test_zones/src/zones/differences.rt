@@ -5,7 +5,8 @@ use crate::zones::lines::push;
 use crate::zones::updates::push_of_update;
 use office_state::items_text;
 use std::alloc::Global;
-use zone_core::{Update, Zone, operations_between};
+use zone_core::{Update, Zone};
+use zone_tools::operations_between;
 
 /// Appends the operations from one zone to another, as item lines, and the serial of the one after them.
 pub fn push_difference(

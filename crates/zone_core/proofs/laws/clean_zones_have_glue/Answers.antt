@@ -1,5 +1,0 @@
-use Rattle.zone_core.proofs.FindingLemmas.{glue_there}
-use Rattle.zone_core.proofs.laws.clean_zones_have_glue.Goals as goal
-
-pub returns : goal.returns
-returns c = glue_there

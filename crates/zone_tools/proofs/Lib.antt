@@ -1,0 +1,9 @@
+pub mod DiffListLemmas
+pub mod DiffAddLemmas
+pub mod DiffLeadLemmas
+pub mod DiffSoaLemmas
+pub mod DiffPromiseLemmas
+pub mod AnswerLemmas
+pub mod AtFaultLemmas
+pub mod SurveyLemmas
+pub mod FindingLemmas
