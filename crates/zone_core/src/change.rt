@@ -60,7 +60,7 @@ impl Change {
         self.removed.is_empty() && self.added.is_empty()
     }
 
-    /// Puts what two rows differ in behind what goes and what comes. The only error is out of memory.
+    /// Appends what two rows differ in to what goes and what comes. The only error is out of memory.
     fn push_between(
         &mut self,
         alloc: Global,
@@ -129,7 +129,7 @@ fn acts_at(operations: &[Operation], name: &Name) -> bool
     operations.iter().any(|operation| operation.name() == name)
 }
 
-/// Puts what operations change at a name into a change. The only error is out of memory.
+/// Appends what operations change at a name to a change. The only error is out of memory.
 fn push_change_at(
     alloc: Global,
     change: &mut Change,

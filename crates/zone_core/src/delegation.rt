@@ -12,7 +12,7 @@ use dns_names::Name;
 use std::alloc::{AllocError, Global};
 use std::net::IpAddr;
 
-/// A server of a child zone, and its addresses. Those of a server that is not within the child are left aside.
+/// A server of a child zone, and its addresses. Those of a server that is not within the child are ignored.
 #[derive(Drop)]
 pub struct ChildServer {
     pub name: Name,
@@ -84,7 +84,7 @@ fn some_lacks_glue(child: &Name, servers: &[ChildServer]) -> bool
     servers.iter().any(|server| lacks_glue(child, server))
 }
 
-/// Puts the deletion of a set behind operations. The only error is out of memory.
+/// Appends the deletion of a set. The only error is out of memory.
 fn push_deletion(
     alloc: Global,
     operations: &mut Vec<Operation>,
@@ -97,7 +97,7 @@ fn push_deletion(
     Ok(())
 }
 
-/// Puts those operations behind others that delete the glue of a server, if it is within the child.
+/// Appends the operations that delete the glue of a server, if it is within the child.
 fn push_glue_deletions(
     alloc: Global,
     operations: &mut Vec<Operation>,
@@ -155,7 +155,7 @@ fn address_addition(
     }))
 }
 
-/// Puts those operations behind others that add addresses.
+/// Appends the operations that add addresses.
 fn push_addresses(
     alloc: Global,
     operations: &mut Vec<Operation>,
@@ -171,7 +171,7 @@ fn push_addresses(
     Ok(())
 }
 
-/// Puts those operations behind others that add the glue of a server, if it is within the child.
+/// Appends the operations that add the glue of a server, if it is within the child.
 fn push_glue(
     alloc: Global,
     operations: &mut Vec<Operation>,
@@ -187,7 +187,7 @@ fn push_glue(
     Ok(())
 }
 
-/// Puts those operations behind others that delete the glue of servers.
+/// Appends the operations that delete the glue of servers.
 fn push_all_glue_deletions(
     alloc: Global,
     operations: &mut Vec<Operation>,
@@ -202,7 +202,7 @@ fn push_all_glue_deletions(
     Ok(())
 }
 
-/// Puts those operations behind others that add servers.
+/// Appends the operations that add servers.
 fn push_servers(
     alloc: Global,
     operations: &mut Vec<Operation>,
@@ -218,7 +218,7 @@ fn push_servers(
     Ok(())
 }
 
-/// Puts those operations behind others that add the glue of servers.
+/// Appends the operations that add the glue of servers.
 fn push_all_glue(
     alloc: Global,
     operations: &mut Vec<Operation>,
@@ -234,7 +234,7 @@ fn push_all_glue(
     Ok(())
 }
 
-/// Puts those operations behind others that add servers, and then those that add their glue.
+/// Appends the operations that add servers, and then those that add their glue.
 fn push_additions(
     alloc: Global,
     operations: &mut Vec<Operation>,

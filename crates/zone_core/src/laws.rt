@@ -41,7 +41,7 @@ pub fn updates_make_records()
 {}
 
 /// The verdict on prerequisites tells the first that is not met, with the code of its kind: those of sets that are given whole
-/// are tested behind all others (RFC 2136 section 3.2.5).
+/// are tested after all others (RFC 2136 section 3.2.5).
 pub fn verdicts_are_first_unmet()
     ensures { VerdictsAreFirst }
 {}

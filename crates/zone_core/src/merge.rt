@@ -38,7 +38,7 @@ fn is_first(records: &[Record], rr: &Record) -> bool
     }
 }
 
-/// Puts copies of those records behind others that come before a row, and answers which are left. The only error is out of memory.
+/// Appends copies of the records that come before a row, and returns the rest. The only error is out of memory.
 fn push_before<'a>(
     alloc: Global,
     rows: &mut Vec<Record>,
@@ -53,7 +53,7 @@ fn push_before<'a>(
     Ok(&come[count..])
 }
 
-/// Puts a row behind others, unless it is the first of those that go, and answers which are left. The only error is out of memory.
+/// Appends a row, unless it is the first of those that go, and returns those that are still to go. The only error is out of memory.
 fn push_unless_gone<'a>(
     rows: &mut Vec<Record>,
     gone: &'a [Record],
@@ -77,8 +77,8 @@ struct Left<'a> {
 }
 
 impl<'a> Left<'a> {
-    /// Puts a row behind others, unless it goes, and before it those that come before it; and answers what is left. The only error is
-    /// out of memory.
+    /// Appends the records that come before a row, and the row unless it goes, and returns the rest. The only error is out of
+    /// memory.
     fn put(self, alloc: Global, rows: &mut Vec<Record>, row: Record) -> Result<Left<'a>, AllocError>
         ensures { IfOk result (λ left. (rest : List RecordOf) → rows.new.items ++ merged rest left.gone.now left.come.now ≡ rows.old.items ++ merged (row ∷ rest) self.entry.gone.now self.entry.come.now) }
     {

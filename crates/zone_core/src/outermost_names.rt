@@ -11,7 +11,7 @@ ghost use Rattle.zone_core.specs.Outermost.{AreApart, AreOutermost};
 use dns_names::Name;
 use std::alloc::{AllocError, Global};
 
-/// Whether a name that none of some names is behind is within one of them, which then is the last.
+/// Whether a name is within one of some names, none of which comes after it; that one is the last.
 fn is_within_last(tops: &[Name], name: &Name) -> bool
     requires apart { AreApart tops.now }
     requires before { All (λ top. is_le (canonical_cmp top name.now) ≡ true) tops.now }

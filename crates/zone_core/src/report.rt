@@ -53,7 +53,7 @@ fn is_cut(origin: &Name, rr: &Record) -> bool
     has_type(rr, RecordType::Ns) && is_below(&rr.owner, origin)
 }
 
-/// Puts the owner of a record behind names, if a zone of this origin is cut there.
+/// Appends the owner of a record, if a zone of this origin is cut there.
 fn push_cut(
     alloc: Global,
     names: &mut Vec<Name>,
@@ -80,7 +80,7 @@ pub fn cuts(alloc: Global, origin: &Name, records: &[Record]) -> Result<Vec<Name
     ordered(names)
 }
 
-/// Puts the server that data name behind names, if they are those of an NS.
+/// Appends the server that data name, if they are those of an NS.
 fn push_server(alloc: Global, names: &mut Vec<Name>, rdata: &Data) -> Result<(), AllocError>
     ensures { IfOk result (λ _. names.new.items ≡ names.old.items ++ server_in rdata.now) }
 {

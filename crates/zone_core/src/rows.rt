@@ -92,7 +92,7 @@ pub(crate) fn has_name(records: &[Record], name: &Name) -> bool
     !at_name(records, name).is_empty()
 }
 
-/// Puts a copy of a record behind others. The only error is out of memory.
+/// Appends a copy of a record. The only error is out of memory.
 pub(crate) fn push_copy(
     alloc: Global,
     rows: &mut Vec<Record>,
@@ -104,7 +104,7 @@ pub(crate) fn push_copy(
     Ok(())
 }
 
-/// Puts a copy of a record at a place between others. The only error is out of memory.
+/// Inserts a copy of a record at a place. The only error is out of memory.
 pub(crate) fn insert_copy(
     alloc: Global,
     rows: &mut Vec<Record>,
@@ -125,7 +125,7 @@ pub(crate) fn alone(alloc: Global, rr: Record) -> Result<Vec<Record>, AllocError
     Ok(vec![in alloc; rr]?)
 }
 
-/// Puts copies of records behind others. The only error is out of memory.
+/// Appends copies of records. The only error is out of memory.
 pub(crate) fn push_copies(
     alloc: Global,
     rows: &mut Vec<Record>,
@@ -205,7 +205,7 @@ fn if_same<'a>(found: &'a Record, rr: &Record) -> Option<&'a Record>
     }
 }
 
-/// Whether a row has not the same record as this one, or has it with another TTL.
+/// Whether a row does not have the same record as this one, or has it with another TTL.
 fn differs(rr: &Record, others: &[Record]) -> bool
     requires { InOrder others.now }
     ensures { result ≡ not (same_ttl (Some rr.now) (get (set_of others.now) (key_of rr.now))) }
@@ -216,8 +216,7 @@ fn differs(rr: &Record, others: &[Record]) -> bool
     }
 }
 
-/// Puts copies of those records of a row behind others that another row has not, or has with other TTLs. The only error is out of
-/// memory.
+/// Appends copies of the records of a row that another row does not have, or has with other TTLs. The only error is out of memory.
 pub(crate) fn push_difference(
     alloc: Global,
     found: &mut Vec<Record>,
@@ -235,7 +234,8 @@ pub(crate) fn push_difference(
     Ok(())
 }
 
-/// Copies of the records of a row that another has not, or has with other TTLs, in record order. The only error is out of memory.
+/// Copies of the records of a row that another does not have, or has with other TTLs, in record order. The only error is out of
+/// memory.
 pub(crate) fn difference(
     alloc: Global,
     records: &[Record],

@@ -1,5 +1,5 @@
 //! Records are sorted by their positions: a sort moves what it sorts some dozen times, and a record is large. Then each record is
-//! moved once. Most pairs are decided by a prefix of 16 octets of their owners' keys, taken behind the octets that all keys share.
+//! moved once. Most pairs are decided by a prefix of 16 octets of their owners' keys, taken after the octets that all keys share.
 
 ghost use Rattle.std.specs.Prelude.{◌≡◌, List, length, drop, map, slice_index_or, IfOk};
 ghost use Rattle.std.specs.List.{range_with_len};
@@ -15,7 +15,7 @@ use dns_names::Name;
 use std::alloc::{AllocError, Global};
 use std::cmp::Ordering;
 
-/// A prefix of a name's key: 16 octets behind those that all keys share, as two numbers.
+/// A prefix of a name's key: 16 octets after those that all keys share, as two numbers.
 #[derive(Clone, Copy)]
 struct KeyPrefix {
     high: u64,
@@ -41,7 +41,7 @@ fn behind(octets: &[u8], count: usize) -> &[u8]
     &octets[count.min(octets.len())..]
 }
 
-/// The prefix of a name's key behind the shared octets.
+/// The prefix of a name's key after the shared octets.
 fn prefix_behind(name: &Name, shared: usize) -> KeyPrefix
     ensures { result ≡ prefix_behind shared name.now }
 {
@@ -52,7 +52,7 @@ fn prefix_behind(name: &Name, shared: usize) -> KeyPrefix
     }
 }
 
-/// The prefixes of the records' owners behind the shared octets.
+/// The prefixes of the records' owners after the shared octets.
 fn prefixes_behind(
     alloc: Global,
     records: &[Record],
@@ -82,7 +82,7 @@ fn prefix_order(first: KeyPrefix, second: KeyPrefix) -> Ordering
         .then(first.low.cmp(&second.low))
 }
 
-/// The record at a position, or another one behind the last.
+/// The record at a position, or another one after the last.
 fn record_at<'a>(records: &'a [Record], place: usize, other: &'a Record) -> &'a Record
     ensures { result.now ≡ slice_index_or records.now place other.now }
 {

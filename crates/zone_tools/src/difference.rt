@@ -61,7 +61,7 @@ fn edits(
     Ok(operations)
 }
 
-/// Puts the addition of a record behind operations. The only error is out of memory.
+/// Appends the addition of a record. The only error is out of memory.
 fn push_addition(
     alloc: Global,
     operations: &mut Vec<Operation>,
@@ -73,7 +73,7 @@ fn push_addition(
     Ok(())
 }
 
-/// Puts the deletion of a record behind operations. The only error is out of memory.
+/// Appends the deletion of a record. The only error is out of memory.
 fn push_deletion(
     alloc: Global,
     operations: &mut Vec<Operation>,
@@ -85,7 +85,7 @@ fn push_deletion(
     Ok(())
 }
 
-/// Puts additions of those records behind operations that are servers of the origin. The only error is out of memory.
+/// Appends the additions of the records that are servers of the origin. The only error is out of memory.
 fn push_servers(
     alloc: Global,
     operations: &mut Vec<Operation>,
@@ -102,7 +102,7 @@ fn push_servers(
     Ok(())
 }
 
-/// Whether a record is no SOA and the new zone has it not.
+/// Whether a record is not an SOA and the new zone does not have it.
 fn is_gone(rr: &Record, new: &[Record]) -> bool
     requires { InOrder new.now }
     ensures { result ≡ is_gone (set_of new.now) (key_of rr.now) }
@@ -110,7 +110,7 @@ fn is_gone(rr: &Record, new: &[Record]) -> bool
     !has_type(rr, RecordType::Soa) && !has_same(new, rr)
 }
 
-/// Puts deletions of those records behind operations that the new zone has not. The only error is out of memory.
+/// Appends the deletions of the records that the new zone does not have. The only error is out of memory.
 fn push_deletions(
     alloc: Global,
     operations: &mut Vec<Operation>,
@@ -135,8 +135,7 @@ fn is_other(origin: &Name, rr: &Record) -> bool
     !has_type(rr, RecordType::Soa) && !is_at(rr, origin, RecordType::Ns)
 }
 
-/// Puts additions of those records behind operations that are neither an SOA nor servers of the origin. The only error is out of
-/// memory.
+/// Appends the additions of the records that are neither an SOA nor servers of the origin. The only error is out of memory.
 fn push_others(
     alloc: Global,
     operations: &mut Vec<Operation>,
@@ -204,7 +203,7 @@ fn next_soa(alloc: Global, old: &Record, new: &Record) -> Result<Record, AllocEr
     at_serial(alloc, serial_add(serial, 1), new)
 }
 
-/// Whether the SOA is added behind operations: they would not make it by themselves. The only error is out of memory.
+/// Whether the SOA is added after operations: they would not make it by themselves. The only error is out of memory.
 fn needs_soa(
     alloc: Global,
     operations: &[Operation],
@@ -220,7 +219,7 @@ fn needs_soa(
     Ok(!is_equal(soa, &next) || is_only_change)
 }
 
-/// The addition of the SOA behind operations, where it is needed. The only error is out of memory.
+/// The addition of the SOA after operations, where it is needed. The only error is out of memory.
 fn soa_addition(
     alloc: Global,
     operations: &[Operation],
@@ -234,7 +233,7 @@ fn soa_addition(
     Ok(is_needed.then_some(Operation::Add(soa)))
 }
 
-/// Operations, and behind them the addition of the SOA where it is needed. The only error is out of memory.
+/// Operations, and after them the addition of the SOA where it is needed. The only error is out of memory.
 fn with_soa(
     alloc: Global,
     mut operations: Vec<Operation>,
