@@ -1,4 +1,4 @@
-use Rattle.std.proofs.Common.{[], ap, subst, IfOk}
+use Rattle.std.proofs.Common.{[], subst, IfOk}
 use Rattle.std.specs.List.{flat_map}
 use Rattle.zone_core.specs.Delegations.{cut_owner, cut_owners, AreNamesOf}
 use Rattle.zone_core.proofs.BehindLemmas.{behind_all, behind_more, flat_map_push}

@@ -1,7 +1,6 @@
-use Rattle.std.proofs.Common.{◌≡◌, List, ◌∙◌}
+use Rattle.std.proofs.Common.{◌∙◌}
 use Rattle.std.proofs.lemmas.Result.{IfOk-weaker}
-use Rattle.dns_data.specs.declared.record.Record.{Record}
-use Rattle.zone_core.specs.Sets.{InOrder, listing, part, within}
+use Rattle.zone_core.specs.Sets.{within}
 use Rattle.zone_core.proofs.ChangedLemmas.{part_in_order}
 use Rattle.zone_core.proofs.zone.Zone.copied_within.Goals as goal
 
