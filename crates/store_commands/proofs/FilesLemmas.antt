@@ -1,5 +1,5 @@
 -- What is done in the store of a path, step by step.
-use Rattle.std.proofs.Common.{◌≡◌, ◌⊎◌, inl, inr, ℕ, Bool, List, Option, Some, Result, Ok, Err, IfOk, IfErr, OnErr, ap, refl}
+use Rattle.std.proofs.Common.{◌≡◌, ◌⊎◌, inl, inr, ℕ, Bool, List, Option, Some, None, Result, Ok, Err, IfOk, IfErr, OnErr, ap, refl}
 use Rattle.std.specs.Result.{result_map_both}
 use Rattle.text_commands.specs.declared.line_fault.JobFault.{JobFault}
 use Rattle.store_commands.specs.Around.{Around}
@@ -7,8 +7,9 @@ use Rattle.store_commands.specs.Serve.{IsServiceTold}
 use Rattle.dns_names.specs.Reading.{absolute_name}
 use Rattle.text_commands.specs.Canon.{zone_read}
 use Rattle.text_commands.specs.declared.line_fault.LineFault.{LineFault}
-use Rattle.text_commands.specs.LineFaults.{Makes, of_names, of_store}
-use Rattle.store_commands.specs.Import.{imported_line, IsPutWithLine, IsImported}
+use Rattle.text_commands.specs.declared.line_fault.LineFault.TheVariants.{NoMemory}
+use Rattle.text_commands.specs.LineFaults.{Makes, GivesOf, of_names, of_store}
+use Rattle.store_commands.specs.Import.{imported_line, IsImported}
 use Rattle.store_commands.specs.Export.{IsExported}
 use Rattle.dns_data.specs.declared.record.Record.{Record}
 use Rattle.sqlite.specs.State.{State as Shown, HasCleanDisk}
@@ -71,18 +72,26 @@ module _ {C : Type 0} (shows : C → Shown) (finds : Bool → Type 0) (refuses :
   got_by got now after (Ok x) opened read = (now, opened, (after, refl, read))
   got_by got now after (Err fault) opened read = inr (now, opened, (after, refl, read))
 
-  -- a zone was put into the store, or refused, and its line was made before
-  pub put_line : {X : Type 0} (view : X → List ℕ) (existing : Existing) (zone : ZoneOf) (conn : Option C) (done : Result (Unit {0}) StoreFault) (line : X)
-      → view line ≡ imported_line zone → IsStored shows finds refuses connects existing zone conn done
-      → IsPutWithLine shows finds refuses connects existing zone conn (result_map_both view (λ fault. fault) (result_map_both (λ _. line) of_store done))
-  put_line view existing zone conn (Ok done) line e stored = (stored, e)
-  put_line view existing zone conn (Err fault) line e refused = inr (fault, refl, refused)
+  -- what is read, seen by a view
+  pub got_seen : {X Y : Type 0} (view : X → Y) (got : Shown → Shown → Result Y StoreFault → Type 0) (conn : Option C) (r : Result X StoreFault)
+      → IsGot shows finds refuses connects (λ now after x. got now after (result_map_both view (λ fault. fault) x)) conn r
+      → IsGot shows finds refuses connects got conn (result_map_both view (λ fault. fault) r)
+  got_seen view got conn (Ok x) is = is
+  got_seen view got conn (Err fault) is = is
 
-  pub put_imported : (left : Option (List ℕ)) (origin : List ℕ) (existing : Existing) (zone : ZoneOf) (conn : Option C) (made : Result (List ℕ) LineFault) (fine failed : Type 0)
-      → Makes left (zone_read origin) (Ok zone) → fine → IsPutWithLine shows finds refuses connects existing zone conn made
-      → IsImported shows left origin finds refuses connects existing conn made fine failed
-  put_imported left origin existing zone conn (Ok line) fine failed read well put = (zone, read, well, put)
-  put_imported left origin existing zone conn (Err fault) fine failed read well put = inr (zone, read, well, put)
+  -- a zone was read, its line was made, and it was put into the store or refused
+  pub put_read : {X : Type 0} (view : X → List ℕ) (left : Option (List ℕ)) (origin : List ℕ) (existing : Existing) (zone : ZoneOf) (conn : Option C) (done : Result (Unit {0}) StoreFault) (line : X) (fine failed : Type 0)
+      → Makes left (zone_read origin) (Ok zone) → fine → view line ≡ imported_line zone → IsStored shows finds refuses connects existing zone conn done
+      → IsImported shows left origin finds refuses connects existing conn (result_map_both view (λ fault. fault) (result_map_both (λ _. line) of_store done)) fine failed
+  put_read view left origin existing zone conn (Ok done) line fine failed read well e stored = (zone, read, well, (stored, e))
+  put_read view left origin existing zone conn (Err fault) line fine failed read well e refused = inr (zone, read, well, inr (fault, refl, refused))
+
+  -- none was read, or memory ran out for its line
+  pub put_unread : (left : Option (List ℕ)) (origin : List ℕ) (existing : Existing) (fault : LineFault) (fine failed : Type 0)
+      → GivesOf {X = ZoneOf} (λ zone. zone) left (zone_read origin) (Err fault) fine failed ⊎ ((zone : ZoneOf) × Makes left (zone_read origin) (Ok zone) × fine × (fault ≡ NoMemory))
+      → IsImported shows left origin finds refuses connects existing None (Err fault) fine failed
+  put_unread left origin existing fault fine failed (inl unread) = inl (unread, refl)
+  put_unread left origin existing fault fine failed (inr read) = inr (read.0, read.1, read.2, inl (read.3, refl))
 
   pub found_exported : {X : Type 0} (view : X → List Record) (word : List ℕ) (origin : List (List ℕ)) (conn : Option C) (held : Result X StoreFault)
       → of_names (absolute_name word) ≡ Ok origin → IsHeld shows finds refuses connects view origin conn held

@@ -18,9 +18,10 @@ use Rattle.text_commands.specs.declared.line_fault.LineFault.TheVariants.{Refuse
 use Rattle.text_commands.specs.Canon.{zone_read}
 use Rattle.text_commands.specs.LineFaults.{◌>>=◌, Gives, Makes, GivesOf, of_names, of_zone, of_store}
 use Rattle.text_commands.proofs.StepLemmas.{refused_before, given_before, reached_before}
-use Rattle.store_commands.specs.Stores.{IsStoreLine}
-use Rattle.store_commands.specs.Import.{imported_line, PutsZones, import_text, IsImported}
-use Rattle.store_commands.specs.Export.{FindsRecords, export_text, IsExported}
+use Rattle.store_commands.specs.Stores.{StoresOf, IsStoreLine}
+use Rattle.store_commands.specs.Import.{imported_line, PutsZones, import_text, IsImported, ImportWritten, ZoneStored}
+use Rattle.store_commands.specs.Export.{FindsRecords, export_text, IsExported, ExportWritten, ZoneExported}
+use Rattle.store_commands.proofs.FilesLemmas.{seen_exported}
 use Rattle.store_commands.specs.Migrate.{Migrates, migrated_line, migration_told}
 use Rattle.store_commands.specs.Reports.{IsReported, IsShown}
 use Rattle.std.specs.Result.{result_map_both}
@@ -192,3 +193,33 @@ pub shown_seen : {A B : Type 0} (text : B → List ℕ) (view : A → B) (old ne
     → IsShown (result_map_both text (λ fault. fault) (result_map_both view (λ fault. fault) found)) old new result writes writes_after
 shown_seen text view old new writes writes_after (Ok a) result shown = shown
 shown_seen text view old new writes writes_after (Err fault) result shown = shown
+
+pub shown_with : {A O : Type 0} (text : O → A → List ℕ) (o : O) (old new : Option (List ℕ)) (writes writes_after : ℕ) (held : Result A StoreFault) (result : Result (Unit {0}) JobFault)
+    → IsShown (result_map_both (λ a. text o a) of_store held) old new result writes writes_after
+    → IsShown (result_map_both (λ (found : O × A). text found.0 found.1) (λ fault. fault) (result_map_both (λ a. (o, a)) of_store held)) old new result writes writes_after
+shown_with text o old new writes writes_after (Ok a) result shown = shown
+shown_with text o old new writes writes_after (Err fault) result shown = shown
+
+-- ---- a command that has done its work
+
+module _ {C : Type 0} (s : StoresOf C) (path word : List ℕ) (conn : Option C) (old new : Option (List ℕ)) (result : Result (Unit {0}) JobFault) (writes writes_after : ℕ) where
+  pub import_told : (existing : Existing) (left : Option (List ℕ)) (made : Result (List ℕ) LineFault) (fine failed : Type 0)
+      → IsImported s.shows left word (s.finds path) (s.refuses path) (s.connects path) existing conn made fine failed → IsReported made old new result writes writes_after
+      → ImportWritten word left old new result fine failed writes writes_after × ZoneStored s path word existing left conn old new result fine failed writes writes_after
+  import_told existing left made fine failed is told =
+      let x = imported_gives s.shows left word (s.finds path) (s.refuses path) (s.connects path) existing conn made fine failed is in
+      ((x.0, x.1, reported_answered left (import_text word x.0) old new fine failed writes writes_after made result x.2 told), (made, is, told))
+
+  pub export_told : {X : Type 0} (form : ZoneForm) (view : X → List Record) (made : Result (List (List ℕ) × X) LineFault)
+      → IsExported s.shows view word (s.finds path) (s.refuses path) (s.connects path) conn made
+      → IsShown (result_map_both (λ (found : List (List ℕ) × X). zone_text_in form found.0 (view found.1)) (λ fault. fault) made) old new result writes writes_after
+      → ExportWritten word form old new result writes writes_after × ZoneExported s path word form conn old new result writes writes_after
+  export_told {X} form view made is shown =
+      let x = exported_gives form s.shows view word (s.finds path) (s.refuses path) (s.connects path) conn made is in (
+        (x.0, x.1, shown_answered (λ (found : List (List ℕ) × X). zone_text_in form found.0 (view found.1)) (export_text form word x.0) old new writes writes_after made result x.2 shown),
+        (
+          result_map_both (λ (found : List (List ℕ) × X). (found.0, view found.1)) (λ fault. fault) made,
+          seen_exported s.shows (s.finds path) (s.refuses path) (s.connects path) view word conn made is,
+          shown_seen (λ (found : List (List ℕ) × List Record). zone_text_in form found.0 found.1) (λ (found : List (List ℕ) × X). (found.0, view found.1)) old new writes writes_after made result shown,
+        ),
+      )

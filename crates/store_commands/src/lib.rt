@@ -16,6 +16,7 @@ mod store_list;
 mod store_log;
 mod streams;
 mod surroundings;
+mod table_job;
 mod trace;
 mod zone_list;
 mod zone_log;

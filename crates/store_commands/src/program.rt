@@ -207,16 +207,29 @@ pub fn do_text_job<M: Surroundings, R: Source, W: Sink>(
     }
 }
 
-/// The connection that a job hands back, if it made one, and the exit status of what was done.
-fn left<S: Alter + Drop, F: Display + Drop>(
-    rt: &HostRuntime,
-    done: (Option<Connection<S>>, Result<(), F>),
-) -> (Option<Connection<S>>, ExitCode)
-    ensures left { result.0 ≡ done.0 }
-    ensures status { exit_status result.1 ≡ status_of done.1 }
+/// Does a job with a store, by the files of stores, with standard input and output and a trace. The connection to the store is handed
+/// back, if one was made.
+fn done<M: Surroundings, S: Alter + Drop, P: StoreFiles<S> + Drop, R: Source, W: Sink, E: Sink>(
+    around: &M,
+    files: P,
+    job: StoreJob<'_>,
+    input: &mut R,
+    output: &mut W,
+    trace: &mut E,
+) -> (Option<Connection<S>>, Result<(), JobFault>)
+    ensures { StoreJobEnds (M.around around.now) (stores_of (state S.Store) (P.finds files) (P.refuses files) (P.connects files)) (record { left = R.remaining input.old; rest = R.remaining input.new; before = R.failures input.old; after = R.failures input.new }) (record { old = W.contents output.old; new = W.contents output.new; before = W.failures output.old; after = W.failures output.new }) (record { old = E.contents trace.old; new = E.contents trace.new; before = E.failures trace.old; after = E.failures trace.new }) job.entry result.0 (status_of result.1) }
 {
-    let (conn, done) = done;
-    (conn, ended(rt, done))
+    let alloc = around.machine().alloc();
+    match job {
+        StoreJob::Import { zone, existing } => {
+            import(alloc, files, (zone, existing), input, output)
+        }
+        StoreJob::Export { zone, form } => export(alloc, files, zone, form, output),
+        StoreJob::Zones { store } => list_zones(alloc, files, store, output),
+        StoreJob::Log { zone, choice } => log(alloc, files, zone, choice, output),
+        StoreJob::Migrate { store } => migrate(alloc, files, store, output),
+        StoreJob::Serve { service } => serve(around, files, service, output, trace),
+    }
 }
 
 /// Does a job with a store, by the files of stores, with standard input and output and a trace. The status is 0 if it went through, else
@@ -239,18 +252,8 @@ pub fn do_store_job<
     // Each job answers to its own words, and what the connection shows is what it left of the store of its path.
     ensures { StoreJobEnds (M.around around.now) (stores_of (state S.Store) (P.finds files) (P.refuses files) (P.connects files)) (record { left = R.remaining input.old; rest = R.remaining input.new; before = R.failures input.old; after = R.failures input.new }) (record { old = W.contents output.old; new = W.contents output.new; before = W.failures output.old; after = W.failures output.new }) (record { old = E.contents trace.old; new = E.contents trace.new; before = E.failures trace.old; after = E.failures trace.new }) job.entry result.0 (exit_status result.1) }
 {
-    let rt = around.machine();
-    let alloc = rt.alloc();
-    match job {
-        StoreJob::Import { zone, existing } => {
-            left(rt, import(alloc, files, (zone, existing), input, output))
-        }
-        StoreJob::Export { zone, form } => left(rt, export(alloc, files, zone, form, output)),
-        StoreJob::Zones { store } => left(rt, list_zones(alloc, files, store, output)),
-        StoreJob::Log { zone, choice } => left(rt, log(alloc, files, zone, choice, output)),
-        StoreJob::Migrate { store } => left(rt, migrate(alloc, files, store, output)),
-        StoreJob::Serve { service } => left(rt, serve(around, files, service, output, trace)),
-    }
+    let (conn, done) = done(around, files, job, input, output, trace);
+    (conn, ended(around.machine(), done))
 }
 
 /// Does a job, with standard input and output, a trace, and the files of stores. The connection to the store that it reached is handed

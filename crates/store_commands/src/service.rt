@@ -5,7 +5,7 @@ ghost use Rattle.office_wire.specs.declared.serve_fault.ServeFault.{ServeFault a
 ghost use Rattle.sqlite.specs.Held.{state};
 ghost use Rattle.text_commands.specs.LineFaults.{GivesOf};
 ghost use Rattle.store_commands.specs.Stores.{stores_of};
-ghost use Rattle.store_commands.specs.Serve.{policy_read, most_of, listening_line, AreReported, IsNoListener, AreServedFrom, IsServiceTold, BeginsBy, Serves};
+ghost use Rattle.store_commands.specs.Serve.{policy_read, most_of, listening_line, AreReported, IsNoListener, AreServedFrom, IsServiceTold, IsServedBy, BeginsBy, Serves};
 
 use crate::cause::{Diagnosis, Remembered};
 use crate::files::StoreFiles;
@@ -148,24 +148,28 @@ fn serve_table<M: Surroundings, T: ZoneTable, D: Diagnosis<T>, W: Sink, E: Sink>
     )
 }
 
-/// Serves connections from a table that was opened for it, and hands it back.
-fn serve_opened<M: Surroundings, T: ZoneTable + Drop, D: Diagnosis<T>, W: Sink, E: Sink>(
+/// Serves connections from the table of a store, and hands its connection back.
+fn serve_opened<M: Surroundings, S: Alter + Drop, L: Ledger, W: Sink, E: Sink>(
     around: &M,
     service: Service<'_>,
     policy: &Policy,
-    table: T,
-    diagnosis: &D,
+    table: SqlTable<S, L>,
     writer: &mut W,
     trace: &mut E,
-) -> (T, Result<(), JobFault>)
-    ensures told { IsServiceTold (M.around around.now) service.entry.listen.now (most_of service.entry) ((result.0 ≡ table) × (E.contents trace.new ≡ E.contents trace.old) × (E.failures trace.new ≡ E.failures trace.old)) (AreServedFrom (T.is_honest result.0) (T.holds table) (T.holds result.0) (T.failures table) (T.failures result.0) policy.now (most_of service.entry) result.1 (E.contents trace.old) (E.contents trace.new) (E.failures trace.old) (E.failures trace.new)) (W.contents writer.old) (W.contents writer.new) result.1 (W.failures writer.old) (W.failures writer.new) }
-    ensures honest { T.is_honest result.0 → T.is_honest table }
+) -> (Connection<S>, Result<(), JobFault>)
+    ensures { IsServedBy (state S.Store) (M.around around.now) service.entry policy.now table.conn result.0 (W.contents writer.old) (W.contents writer.new) result.1 (W.failures writer.old) (W.failures writer.new) (E.contents trace.old) (E.contents trace.new) (E.failures trace.old) (E.failures trace.new) }
 {
     let mut table = table;
     let done = serve_table(
-        around, service, policy, &mut table, diagnosis, writer, trace,
+        around,
+        service,
+        policy,
+        &mut table,
+        &Remembered,
+        writer,
+        trace,
     );
-    (table, done)
+    (table.into_connection(), done)
 }
 
 /// Opens the store, listens, and serves connections by a policy that was read. The connection to the store is handed back, if one was
@@ -188,16 +192,8 @@ fn serve_by<M: Surroundings, S: Alter + Drop, P: StoreFiles<S> + Drop, L: Ledger
     let opened: Result<SqlTable<S, L>, _> = open_store(alloc, files, service.store, blank);
     match opened {
         Ok(table) => {
-            let (table, done) = serve_opened(
-                around,
-                service,
-                policy,
-                table,
-                &Remembered,
-                writer,
-                trace,
-            );
-            (Some(table.into_connection()), done)
+            let (conn, done) = serve_opened(around, service, policy, table, writer, trace);
+            (Some(conn), done)
         }
         Err(unreached) => {
             let fault = LineFault::from(unreached.fault);

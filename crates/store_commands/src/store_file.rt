@@ -94,17 +94,15 @@ fn made_or_adopted<S: Alter + Drop, L: Ledger>(
     ensures opened { IfOk result (λ table. IsAdopted (state S.Store conn) (state S.Store table.conn) ⊎ IsMade (state S.Store conn) (state S.Store table.conn)) }
     ensures refused { IfErr result (λ un. IsLeft un.conn (λ after. IsNoStore (state S.Store conn) (state S.Store after) un.fault ⊎ IsUnmade (state S.Store conn) (state S.Store after) un.fault)) }
 {
-    let refused = match SqlTable::create(conn, blank) {
-        Ok(table) => return Ok(table),
-        Err(refused) => refused,
-    };
-    if refused.fault == StoreFault::WrongVersion {
-        adopted(alloc, refused.conn, refused.blank)
-    } else {
-        Err(Unreached {
-            fault: refused.fault,
-            conn: Some(refused.conn),
-        })
+    match SqlTable::create(conn, blank) {
+        Ok(table) => Ok(table),
+        Err(refused) => match refused.fault {
+            StoreFault::WrongVersion => adopted(alloc, refused.conn, refused.blank),
+            fault => Err(Unreached {
+                fault,
+                conn: Some(refused.conn),
+            }),
+        },
     }
 }
 

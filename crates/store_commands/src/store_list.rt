@@ -1,6 +1,6 @@
 //! The job `zones`: what a store has, printed in a line for each zone.
 
-ghost use Rattle.std.specs.Prelude.{◌≡◌, ◌<◌, IsSome, IfOk, IfErr, length, string_bytes};
+ghost use Rattle.std.specs.Prelude.{◌≡◌, IsSome, IfOk, IfErr, length, string_bytes};
 ghost use Rattle.std.specs.Result.{result_map_both};
 ghost use Rattle.sqlite.specs.Held.{state};
 ghost use Rattle.sqlite.specs.State.{HasCleanDisk};
@@ -11,11 +11,12 @@ ghost use Rattle.office_rows.specs.Listed.{AreOriginsOf};
 ghost use Rattle.office_rows.specs.StoreFaults.{IsFailure};
 ghost use Rattle.office_store.specs.Holds.{HoldsState};
 ghost use Rattle.office_store.specs.Queries.{AsksOnly};
-ghost use Rattle.store_commands.specs.Stores.{stores_of, IsGot};
+ghost use Rattle.store_commands.specs.Stores.{stores_of};
 ghost use Rattle.store_commands.specs.StoreList.{list_in, IsSummary, AreZonesOf, IsListRead, IsListText, ZonesPrinted};
 
 use crate::files::StoreFiles;
-use crate::store_file::{StorePath, open_store};
+use crate::store_file::StorePath;
+use crate::table_job::{TableJob, asked_by};
 use crate::zone_list::{ZoneSummary, zones_text};
 use crate::zones::report;
 use dns_master::Sink;
@@ -88,63 +89,23 @@ fn summaries<S: Alter + Drop, L: Ledger>(
     Ok(zones)
 }
 
-/// What a table has.
-fn read_list<S: Alter + Drop, L: Ledger>(
-    alloc: Global,
-    table: &mut SqlTable<S, L>,
-) -> Result<StoreList, StoreFault>
-    ensures { IsListRead (state S.Store table.old.conn) (state S.Store table.new.conn) (result_map_both list_in (λ fault. fault) result) }
-{
-    let origins = table.origins(alloc)?;
-    let zones = summaries(alloc, table, &origins)?;
-    let kept = table.receipts(alloc)?;
-    Ok(StoreList { zones, kept })
-}
+/// All that a store has.
+#[derive(Drop)]
+struct WholeList;
 
-/// The same of a table whose connection is then handed back.
-fn read_list_at_last<S: Alter + Drop, L: Ledger>(
-    alloc: Global,
-    table: SqlTable<S, L>,
-) -> (Connection<S>, Result<StoreList, StoreFault>)
-    ensures { IsListRead (state S.Store table.conn) (state S.Store result.0) (result_map_both list_in (λ fault. fault) result.1) }
-{
-    let mut table = table;
-    let all = read_list(alloc, &mut table);
-    (table.into_connection(), all)
-}
+impl TableJob<StoreList> for WholeList {
+    ghost does = { λ _ now after result. IsListRead now after (result_map_both list_in (λ fault. fault) result) };
 
-/// What the store of a path has, by a ledger for the table's failures.
-fn list_by<S: Alter + Drop, L: Ledger, P: StoreFiles<S> + Drop>(
-    alloc: Global,
-    files: P,
-    path: StorePath<'_>,
-    blank: Blank,
-) -> (Option<Connection<S>>, Result<StoreList, StoreFault>)
-    requires name { blank.name ≡ L.name }
-    requires parts { blank.parts ≡ L.parts }
-    requires some { 0 < blank.parts }
-    ensures { IsGot (state S.Store) (P.finds files path.entry.0.now) (P.refuses files path.entry.0.now) (P.connects files path.entry.0.now) IsListRead result.0 (result_map_both list_in (λ fault. fault) result.1) }
-{
-    let opened: Result<SqlTable<S, L>, _> = open_store(alloc, files, path.0, blank);
-    match opened {
-        Ok(table) => {
-            let (conn, all) = read_list_at_last(alloc, table);
-            (Some(conn), all)
-        }
-        Err(unreached) => (unreached.conn, Err(unreached.fault)),
+    fn run<S: Alter + Drop, L: Ledger>(
+        &self,
+        alloc: Global,
+        table: &mut SqlTable<S, L>,
+    ) -> Result<StoreList, StoreFault> {
+        let origins = table.origins(alloc)?;
+        let zones = summaries(alloc, table, &origins)?;
+        let kept = table.receipts(alloc)?;
+        Ok(StoreList { zones, kept })
     }
-}
-
-/// What the store of a path has. The connection to it is handed back, if one was made.
-fn stored_list<S: Alter + Drop, P: StoreFiles<S> + Drop>(
-    alloc: Global,
-    files: P,
-    path: &str,
-) -> (Option<Connection<S>>, Result<StoreList, StoreFault>)
-    ensures { IsGot (state S.Store) (P.finds files path.now) (P.refuses files path.now) (P.connects files path.now) IsListRead result.0 (result_map_both list_in (λ fault. fault) result.1) }
-{
-    let blank = Blank::new(1);
-    list_by::<S, Brand, P>(alloc, files, StorePath(path), blank)
 }
 
 /// The text of what was read, or the fault that was met.
@@ -166,7 +127,7 @@ pub fn list_zones<W: Sink, S: Alter + Drop, P: StoreFiles<S> + Drop>(
 ) -> (Option<Connection<S>>, Result<(), JobFault>)
     ensures { ZonesPrinted (stores_of (state S.Store) (P.finds files) (P.refuses files) (P.connects files)) store.now result.0 (W.contents writer.old) (W.contents writer.new) result.1 (W.failures writer.old) (W.failures writer.new) }
 {
-    let (conn, read) = stored_list(alloc, files, store);
-    let made = text_of(alloc, read);
-    (conn, report(alloc, writer, made))
+    let (path, blank) = (StorePath(store), Blank::new(1));
+    let (conn, read) = asked_by::<S, Brand, P, _, _>(alloc, files, path, &WholeList, blank);
+    (conn, report(alloc, writer, text_of(alloc, read)))
 }

@@ -2,18 +2,21 @@
 
 ghost use Rattle.std.specs.Prelude.{◌≡◌, ◌<◌};
 
-use crate::files::MachineFiles;
+use crate::files::{MachineFiles, StoreFiles};
 use crate::program::do_words;
 use crate::surroundings::Surroundings;
 use dns_master::Counted;
+use sqlite::{Alter, File, FileStore};
 use std::io::{Read, Write};
 use std::marker::Brand;
 use std::process::ExitCode;
 use std::sync::ledger::{Blank, Ledger};
 
-/// Does what words ask for with standard input, standard output and a trace, whose failures are counted from none on.
+/// Does what words ask for with files of stores, standard input, standard output and a trace, whose failures are counted from none on.
 fn run_counted<
     M: Surroundings,
+    S: Alter + Drop,
+    P: StoreFiles<S> + Drop,
     I: Read + Drop,
     O: Write + Drop,
     E: Write + Drop,
@@ -22,6 +25,7 @@ fn run_counted<
     C: Ledger,
 >(
     around: &M,
+    files: P,
     words: &[&str],
     streams: (I, O, E),
     reads: Blank,
@@ -42,7 +46,6 @@ fn run_counted<
     let mut input: Counted<I, A> = Counted::new(input, reads);
     let mut output: Counted<O, B> = Counted::new(output, writes);
     let mut trace: Counted<E, C> = Counted::new(trace, traces);
-    let files = MachineFiles(around.machine());
     let (_, status) = do_words(around, files, words, &mut input, &mut output, &mut trace);
     (output.into_inner(), trace.into_inner(), status)
 }
@@ -56,5 +59,8 @@ pub fn run_words<M: Surroundings, I: Read + Drop, O: Write + Drop, E: Write + Dr
     streams: (I, O, E),
 ) -> (O, E, ExitCode) {
     let (reads, writes, traces) = (Blank::new(1), Blank::new(1), Blank::new(1));
-    run_counted::<_, _, _, _, Brand, Brand, Brand>(around, words, streams, reads, writes, traces)
+    let files = MachineFiles(around.machine());
+    run_counted::<_, FileStore<File>, _, _, _, _, Brand, Brand, Brand>(
+        around, files, words, streams, reads, writes, traces,
+    )
 }

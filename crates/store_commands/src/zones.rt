@@ -1,18 +1,20 @@
 //! Putting a zone into a store, and printing one.
 
-ghost use Rattle.std.specs.Prelude.{◌≡◌, ◌<◌, Some, string_bytes, IfOk, IfErr};
+ghost use Rattle.std.specs.Prelude.{◌≡◌, ◌<◌, ◌⊎◌, Some, Ok, Err, string_bytes, IfOk, IfErr};
 ghost use Rattle.std.specs.Result.{result_map_both};
 ghost use Rattle.sqlite.specs.Held.{state};
-ghost use Rattle.text_commands.specs.Canon.{zone_text_in};
-ghost use Rattle.text_commands.specs.Replies.{IsPrinted};
-ghost use Rattle.store_commands.specs.Stores.{stores_of, IsReached, IsUnreached, IsPut, IsStored, IsRead, IsHeld};
-ghost use Rattle.text_commands.specs.LineFaults.{of_store};
-ghost use Rattle.store_commands.specs.Import.{imported_line, IsPutWithLine, IsImported, ImportWritten, ZoneStored};
+ghost use Rattle.text_commands.specs.Canon.{zone_read, zone_text_in};
+ghost use Rattle.zone_core.specs.Zones.{ZoneOf};
+ghost use Rattle.store_commands.specs.Stores.{stores_of, IsReached, IsUnreached, IsPut, IsStored, IsRead};
+ghost use Rattle.text_commands.specs.LineFaults.{Makes, GivesOf, of_store};
+ghost use Rattle.text_commands.specs.declared.line_fault.LineFault.TheVariants.{NoMemory};
+ghost use Rattle.store_commands.specs.Import.{imported_line, ImportWritten, ZoneStored};
 ghost use Rattle.store_commands.specs.Reports.{IsReported, IsShown};
-ghost use Rattle.store_commands.specs.Export.{IsExported, ExportWritten, ZoneExported};
+ghost use Rattle.store_commands.specs.Export.{ExportWritten, ZoneExported};
 
 use crate::files::StoreFiles;
 use crate::store_file::{StorePath, Unreached, open_or_make_store, open_store};
+use crate::table_job::{TableJob, asked_by, done_at};
 use command_line::{Existing, StoredZone, ZoneForm};
 use dns_data::Record;
 use dns_master::Sink;
@@ -55,35 +57,28 @@ fn imported_text(alloc: Global, zone: &Zone) -> Result<String, AllocError>
     format!(in alloc; "{}", ImportedLine(zone))
 }
 
-/// Puts a zone into a table: beside the others, or in the place of the one of its origin. The refusals are those of the table:
+/// A zone that is put into a table: beside the others, or in the place of the one of its origin. The refusals are those of the table:
 /// `ZoneExists`, or `NoZone` and `SerialNotGreater`.
-fn put<S: Alter + Drop, L: Ledger>(
-    alloc: Global,
-    table: &mut SqlTable<S, L>,
-    zone: &Zone,
+#[derive(Drop)]
+struct ZonePut<'a> {
+    zone: &'a Zone,
     existing: Existing,
-) -> Result<(), StoreFault>
-    // It is this zone that is put, whole or not at all.
-    ensures { IsPut existing zone.now (state S.Store table.old.conn) (state S.Store table.new.conn) result }
-{
-    match existing {
-        Existing::Kept => table.put(alloc, zone),
-        Existing::Replaced => table.put_in_place(alloc, zone),
-    }
 }
 
-/// The same of a table whose connection is then handed back.
-fn put_at_last<S: Alter + Drop, L: Ledger>(
-    alloc: Global,
-    table: SqlTable<S, L>,
-    zone: &Zone,
-    existing: Existing,
-) -> (Connection<S>, Result<(), StoreFault>)
-    ensures { IsPut existing zone.now (state S.Store table.conn) (state S.Store result.0) result.1 }
-{
-    let mut table = table;
-    let done = put(alloc, &mut table, zone, existing);
-    (table.into_connection(), done)
+impl TableJob<()> for ZonePut<'_> {
+    // It is this zone that is put, whole or not at all.
+    ghost does = { λ put now after result. IsPut put.existing put.zone.now now after result };
+
+    fn run<S: Alter + Drop, L: Ledger>(
+        &self,
+        alloc: Global,
+        table: &mut SqlTable<S, L>,
+    ) -> Result<(), StoreFault> {
+        match self.existing {
+            Existing::Kept => table.put(alloc, self.zone),
+            Existing::Replaced => table.put_in_place(alloc, self.zone),
+        }
+    }
 }
 
 /// The table of the store of a path for a zone: it is made if it is missing, unless a zone is to be replaced.
@@ -123,43 +118,10 @@ fn put_by<S: Alter + Drop, L: Ledger, P: StoreFiles<S> + Drop>(
     let reached: Result<SqlTable<S, L>, _> = reached(alloc, files, path.0, existing, blank);
     match reached {
         Ok(table) => {
-            let (conn, done) = put_at_last(alloc, table, zone, existing);
+            let (conn, done) = done_at(alloc, table, &ZonePut { zone, existing });
             (Some(conn), done)
         }
         Err(unreached) => (unreached.conn, Err(unreached.fault)),
-    }
-}
-
-/// Puts a zone into the store of a path. The connection to it is handed back, if one was made.
-fn put_into_store<S: Alter + Drop, P: StoreFiles<S> + Drop>(
-    alloc: Global,
-    files: P,
-    path: &str,
-    zone: &Zone,
-    existing: Existing,
-) -> (Option<Connection<S>>, Result<(), StoreFault>)
-    ensures { IsStored (state S.Store) (P.finds files path.now) (P.refuses files path.now) (P.connects files path.now) existing zone.now result.0 result.1 }
-{
-    put_by::<S, Brand, P>(alloc, files, StorePath(path), zone, existing, Blank::new(1))
-}
-
-/// Puts a zone into the store of a path, and answers the line that tells of it. The line is made before the zone is put, so that memory
-/// cannot run out after it.
-fn put_with_line<S: Alter + Drop, P: StoreFiles<S> + Drop>(
-    alloc: Global,
-    files: P,
-    path: &str,
-    zone: &Zone,
-    existing: Existing,
-) -> (Option<Connection<S>>, Result<String, LineFault>)
-    ensures { IsPutWithLine (state S.Store) (P.finds files path.now) (P.refuses files path.now) (P.connects files path.now) existing zone.now result.0 (result_map_both (λ text. string_bytes text) (λ fault. fault) result.1) }
-{
-    match imported_text(alloc, zone) {
-        Ok(text) => {
-            let (conn, done) = put_into_store(alloc, files, path, zone, existing);
-            (conn, line_of(done, text))
-        }
-        Err(_) => (None, Err(LineFault::NoMemory)),
     }
 }
 
@@ -173,19 +135,19 @@ fn line_of(done: Result<(), StoreFault>, text: String) -> Result<String, LineFau
     }
 }
 
-/// Reads a zone, puts it into the store of a path, and answers the line that tells of it.
-fn imported<R: Input, S: Alter + Drop, P: StoreFiles<S> + Drop>(
+/// Reads a zone, and makes the line that tells of it. The line is made before the zone is put, so that memory cannot run out after it.
+fn zone_with_line<R: Input>(
     alloc: Global,
-    files: P,
-    stored: StoredZone<'_>,
-    existing: Existing,
+    origin: &str,
     reader: &mut R,
-) -> (Option<Connection<S>>, Result<String, LineFault>)
-    ensures { IsImported (state S.Store) (R.left reader.old) stored.entry.origin.now (P.finds files stored.entry.store.now) (P.refuses files stored.entry.store.now) (P.connects files stored.entry.store.now) existing result.0 (result_map_both (λ text. string_bytes text) (λ fault. fault) result.1) (R.fine reader.old reader.new) (R.failed reader.old reader.new) }
+) -> Result<(Zone, String), LineFault>
+    ensures made { IfOk result (λ made. Makes (R.left reader.old) (zone_read origin.now) (Ok made.0) × R.fine reader.old reader.new × (string_bytes made.1 ≡ imported_line made.0)) }
+    ensures refused { IfErr result (λ fault. GivesOf {X = ZoneOf} (λ zone. zone) (R.left reader.old) (zone_read origin.now) (Err fault) (R.fine reader.old reader.new) (R.failed reader.old reader.new) ⊎ ((zone : ZoneOf) × Makes (R.left reader.old) (zone_read origin.now) (Ok zone) × R.fine reader.old reader.new × (fault ≡ NoMemory))) }
 {
-    match read_zone(alloc, stored.origin, reader) {
-        Ok(zone) => put_with_line(alloc, files, stored.store, &zone, existing),
-        Err(fault) => (None, Err(fault)),
+    let zone = read_zone(alloc, origin, reader)?;
+    match imported_text(alloc, &zone) {
+        Ok(line) => Ok((zone, line)),
+        Err(_) => Err(LineFault::NoMemory),
     }
 }
 
@@ -225,118 +187,49 @@ pub fn import<R: Input, W: Sink, S: Alter + Drop, P: StoreFiles<S> + Drop>(
     ensures stored { ZoneStored (stores_of (state S.Store) (P.finds files) (P.refuses files) (P.connects files)) what.entry.0.store.now what.entry.0.origin.now what.entry.1 (R.left reader.old) result.0 (W.contents writer.old) (W.contents writer.new) result.1 (R.fine reader.old reader.new) (R.failed reader.old reader.new) (W.failures writer.old) (W.failures writer.new) }
 {
     let (stored, existing) = what;
-    let (conn, made) = imported(alloc, files, stored, existing, reader);
-    (conn, report(alloc, writer, made))
-}
-
-/// The records of a zone of a table. The connection is handed back.
-fn records_in<S: Alter + Drop, L: Ledger>(
-    alloc: Global,
-    table: SqlTable<S, L>,
-    origin: &Name,
-) -> (Connection<S>, Result<Vec<Record>, StoreFault>)
-    ensures { IsRead (λ records. records.items) origin.now (state S.Store table.conn) (state S.Store result.0) result.1 }
-{
-    let mut table = table;
-    let records = table.export_records(alloc, origin);
-    (table.into_connection(), records)
-}
-
-/// The records of a zone of the store of a path, by a ledger for the table's failures.
-fn records_by<S: Alter + Drop, L: Ledger, P: StoreFiles<S> + Drop>(
-    alloc: Global,
-    files: P,
-    path: StorePath<'_>,
-    origin: &Name,
-    blank: Blank,
-) -> (Option<Connection<S>>, Result<Vec<Record>, StoreFault>)
-    requires name { blank.name ≡ L.name }
-    requires parts { blank.parts ≡ L.parts }
-    requires some { 0 < blank.parts }
-    ensures { IsHeld (state S.Store) (P.finds files path.entry.0.now) (P.refuses files path.entry.0.now) (P.connects files path.entry.0.now) (λ records. records.items) origin.now result.0 result.1 }
-{
-    let opened: Result<SqlTable<S, L>, _> = open_store(alloc, files, path.0, blank);
-    match opened {
-        Ok(table) => {
-            let (conn, records) = records_in(alloc, table, origin);
-            (Some(conn), records)
+    match zone_with_line(alloc, stored.origin, reader) {
+        Ok((zone, line)) => {
+            let (path, blank) = (StorePath(stored.store), Blank::new(1));
+            let (conn, done) = put_by::<S, Brand, P>(alloc, files, path, &zone, existing, blank);
+            (conn, report(alloc, writer, line_of(done, line)))
         }
-        Err(unreached) => (unreached.conn, Err(unreached.fault)),
+        Err(fault) => (None, write_refusal(alloc, writer, fault)),
     }
 }
 
-/// The records of a zone of the store of a path. The connection to it is handed back, if one was made.
-fn stored_records<S: Alter + Drop, P: StoreFiles<S> + Drop>(
-    alloc: Global,
-    files: P,
-    path: &str,
-    origin: &Name,
-) -> (Option<Connection<S>>, Result<Vec<Record>, StoreFault>)
-    ensures { IsHeld (state S.Store) (P.finds files path.now) (P.refuses files path.now) (P.connects files path.now) (λ records. records.items) origin.now result.0 result.1 }
-{
-    let blank = Blank::new(1);
-    records_by::<S, Brand, P>(alloc, files, StorePath(path), origin, blank)
-}
+/// The records of the zone of an origin.
+#[derive(Drop)]
+struct RecordsOf<'a>(&'a Name);
 
-/// The origin and the records of a zone of the store of a path. The connection to it is handed back, if one was made.
-fn exported<S: Alter + Drop, P: StoreFiles<S> + Drop>(
-    alloc: Global,
-    files: P,
-    stored: StoredZone<'_>,
-) -> (
-    Option<Connection<S>>,
-    Result<(Name, Vec<Record>), LineFault>,
-)
-    ensures { IsExported (state S.Store) (λ records. records.items) stored.entry.origin.now (P.finds files stored.entry.store.now) (P.refuses files stored.entry.store.now) (P.connects files stored.entry.store.now) result.0 result.1 }
-{
-    match read_name(alloc, stored.origin) {
-        Ok(origin) => {
-            let (conn, held) = stored_records(alloc, files, stored.store, &origin);
-            (conn, with_origin(origin, held))
-        }
-        Err(fault) => (None, Err(fault)),
+impl TableJob<Vec<Record>> for RecordsOf<'_> {
+    ghost does = { λ of now after result. IsRead (λ records. records.items) of.0.now now after result };
+
+    fn run<S: Alter + Drop, L: Ledger>(
+        &self,
+        alloc: Global,
+        table: &mut SqlTable<S, L>,
+    ) -> Result<Vec<Record>, StoreFault> {
+        table.export_records(alloc, self.0)
     }
 }
 
-/// An origin with its records, or the fault that was met.
-fn with_origin(
-    origin: Name,
+/// Prints records of an origin as a master file, in a form, or the line of the fault that was met. Where memory runs out, a line tells
+/// it behind what went out.
+fn print_held<W: Sink>(
+    alloc: Global,
+    form: ZoneForm,
+    origin: &Name,
     held: Result<Vec<Record>, StoreFault>,
-) -> Result<(Name, Vec<Record>), LineFault>
-    ensures { result ≡ result_map_both (λ records. (origin, records)) of_store held }
+    writer: &mut W,
+) -> Result<(), JobFault>
+    ensures { IsShown (result_map_both (λ records. zone_text_in form origin.now records.items) of_store held) (W.contents writer.old) (W.contents writer.new) result (W.failures writer.old) (W.failures writer.new) }
 {
     match held {
-        Ok(records) => Ok((origin, records)),
-        Err(fault) => Err(LineFault::from(fault)),
-    }
-}
-
-/// Prints records of an origin as a master file, in a form. Where memory runs out, a line tells it behind what went out.
-fn print<'a, W: Sink>(
-    alloc: Global,
-    form: ZoneForm,
-    origin: &'a Name,
-    records: &'a [Record],
-    writer: &mut W,
-) -> Result<(), JobFault>
-    ensures { IsPrinted (W.contents writer.old) (W.contents writer.new) (zone_text_in form origin.now records.now) result (W.failures writer.old) (W.failures writer.new) }
-{
-    let printed = print_zone_in(alloc, form, origin, records, writer);
-    ended(writer, printed)
-}
-
-/// Prints what was had of a zone, or the line of the fault.
-fn print_found<W: Sink>(
-    alloc: Global,
-    form: ZoneForm,
-    found: Result<(Name, Vec<Record>), LineFault>,
-    writer: &mut W,
-) -> Result<(), JobFault>
-    ensures { IsShown (result_map_both (λ zone. zone_text_in form zone.0 zone.1.items) (λ fault. fault) found) (W.contents writer.old) (W.contents writer.new) result (W.failures writer.old) (W.failures writer.new) }
-{
-    match found {
-        Ok((origin, records)) => print(alloc, form, &origin, &records, writer),
-        Err(fault) => write_refusal(alloc, writer, fault),
+        Ok(records) => {
+            let printed = print_zone_in(alloc, form, origin, &records, writer);
+            ended(writer, printed)
+        }
+        Err(fault) => write_refusal(alloc, writer, LineFault::from(fault)),
     }
 }
 
@@ -355,6 +248,18 @@ pub fn export<W: Sink, S: Alter + Drop, P: StoreFiles<S> + Drop>(
     // of the table.
     ensures held { ZoneExported (stores_of (state S.Store) (P.finds files) (P.refuses files) (P.connects files)) stored.entry.store.now stored.entry.origin.now form result.0 (W.contents writer.old) (W.contents writer.new) result.1 (W.failures writer.old) (W.failures writer.new) }
 {
-    let (conn, found) = exported(alloc, files, stored);
-    (conn, print_found(alloc, form, found, writer))
+    match read_name(alloc, stored.origin) {
+        Ok(origin) => {
+            let (path, blank) = (StorePath(stored.store), Blank::new(1));
+            let (conn, held) = asked_by::<S, Brand, P, _, _>(
+                alloc,
+                files,
+                path,
+                &RecordsOf(&origin),
+                blank,
+            );
+            (conn, print_held(alloc, form, &origin, held, writer))
+        }
+        Err(fault) => (None, write_refusal(alloc, writer, fault)),
+    }
 }

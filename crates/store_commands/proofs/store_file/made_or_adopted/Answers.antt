@@ -1,4 +1,4 @@
-use Rattle.std.proofs.Common.{◌≡◌, inl, inr, subst, refl, rules}
+use Rattle.std.proofs.Common.{◌≡◌, inl, inr, subst, refl}
 use Rattle.sqlite.specs.Held.{state}
 use Rattle.office_rows.specs.declared.store_fault.StoreFault.TheVariants.{WrongVersion}
 use Rattle.office_rows.specs.StoreFaults.{IsFailure}
@@ -11,16 +11,15 @@ returns-in-Ok-clause-opened g c =
     let e = c.in-Ok.ensures in
     inr (record { bare = λ some. e.wrong.1 some; holds = e.made; left = e.kept; honest = e.honest })
 
-pub returns-then-eq-clause-refused : goal.returns-then-eq-clause-refused
-returns-then-eq-clause-refused g c =
-    let is : c.in-Err.refused.fault ≡ WrongVersion = search rules in
-    let same = c.in-Err.ensures.same is in
+pub returns-in-WrongVersion-clause-refused : goal.returns-in-WrongVersion-clause-refused
+returns-in-WrongVersion-clause-refused g c =
+    let same = c.in-Err.ensures.same c.in-WrongVersion.is in
     map_err c.adopted.result (λ un refused. left_as un.conn (λ after none. inl (subst (λ conn. IsNoStore (state g.S.Store conn) (state g.S.Store after) un.fault) same none)) refused)
     c.adopted.ensures.refused
 
-pub returns-else-eq-clause-refused : goal.returns-else-eq-clause-refused
-returns-else-eq-clause-refused g c =
+pub returns-in_default-clause-refused : goal.returns-in_default-clause-refused
+returns-in_default-clause-refused g c =
     let e = c.in-Err.ensures in
-    let other : ¬ (c.in-Err.refused.fault ≡ WrongVersion) = search rules in
+    let other = c.in_default.not-WrongVersion in
     let failed : IsFailure c.in-Err.refused.fault = elim e.named [ inl is ↦ absurd (other is) | inr failed ↦ failed ] in
     (c.in-Err.refused.conn, refl, inr (record { bare = λ some. other (e.wrong.1 some); failed = failed; none = e.failed other; crash = e.crash }))

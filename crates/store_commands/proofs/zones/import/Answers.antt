@@ -1,17 +1,37 @@
+use Rattle.std.proofs.Common.{Err}
 use Rattle.std.specs.Prelude.{string_bytes}
 use Rattle.std.specs.Result.{result_map_both}
 use Rattle.sqlite.specs.Held.{state}
-use Rattle.store_commands.specs.Import.{import_text}
-use Rattle.store_commands.proofs.StoreLemmas.{imported_gives, reported_answered}
+use Rattle.text_commands.specs.LineFaults.{of_store}
+use Rattle.store_commands.specs.Stores.{stores_of}
+use Rattle.store_commands.proofs.FilesLemmas.{put_read, put_unread}
+use Rattle.store_commands.proofs.StoreLemmas.{import_told}
 use Rattle.store_commands.proofs.zones.import.Goals as goal
 
-pub returns-clause-written : goal.returns-clause-written
-returns-clause-written g c =
-    let made = result_map_both string_bytes (λ fault. fault) c.imported-conn.result.1 in
-    let fine = g.R.Input.fine c.args.reader.now c.imported-conn.new.reader in
-    let failed = g.R.Input.failed c.args.reader.now c.imported-conn.new.reader in
-    let x = imported_gives (state g.S.Store) (g.R.Input.left c.args.reader.now) c.args.what.0.origin.now (g.P.StoreFiles.finds c.args.files c.args.what.0.store.now) (g.P.StoreFiles.refuses c.args.files c.args.what.0.store.now) (g.P.StoreFiles.connects c.args.files c.args.what.0.store.now) c.args.what.1 c.imported-conn.result.0 made fine failed c.imported-conn.ensures in
-    (x.0, x.1, reported_answered (g.R.Input.left c.args.reader.now) (import_text c.args.what.0.origin.now x.0) _ _ fine failed _ _ made c.report.result x.2 c.report.ensures)
+pub returns-in-Ok : goal.returns-in-Ok
+returns-in-Ok g c =
+    let s = stores_of (state g.S.Store) (g.P.StoreFiles.finds c.args.files) (g.P.StoreFiles.refuses c.args.files) (g.P.StoreFiles.connects c.args.files) in
+    let what = c.args.what in
+    let path = what.0.store.now in
+    let left = g.R.Input.left c.args.reader.now in
+    let fine = g.R.Input.fine c.args.reader.now c.zone_with_line.new.reader in
+    let failed = g.R.Input.failed c.args.reader.now c.zone_with_line.new.reader in
+    let made = c.in-Ok.ensures.made in
+    let done = c.put_by-conn.result in
+    let x =
+    import_told s path what.0.origin.now done.0 _ _ _ _ _ what.1 left (result_map_both string_bytes (λ fault. fault) (result_map_both (λ _. c.in-Ok.line) of_store done.1)) fine failed
+    (put_read s.shows (s.finds path) (s.refuses path) (s.connects path) string_bytes left what.0.origin.now what.1 c.in-Ok.zone done.0 done.1 c.in-Ok.line fine failed made.0 made.1 made.2 c.put_by-conn.ensures) (rw c.line_of.ensures at c.report.ensures) in
+    record { written = x.0; stored = x.1 }
 
-pub returns-clause-stored : goal.returns-clause-stored
-returns-clause-stored g c = (result_map_both string_bytes (λ fault. fault) c.imported-conn.result.1, c.imported-conn.ensures, c.report.ensures)
+pub returns-in-Err : goal.returns-in-Err
+returns-in-Err g c =
+    let s = stores_of (state g.S.Store) (g.P.StoreFiles.finds c.args.files) (g.P.StoreFiles.refuses c.args.files) (g.P.StoreFiles.connects c.args.files) in
+    let what = c.args.what in
+    let path = what.0.store.now in
+    let left = g.R.Input.left c.args.reader.now in
+    let fine = g.R.Input.fine c.args.reader.now c.zone_with_line.new.reader in
+    let failed = g.R.Input.failed c.args.reader.now c.zone_with_line.new.reader in
+    let x =
+    import_told s path what.0.origin.now _ _ _ _ _ _ what.1 left (Err c.in-Err.fault) fine failed
+    (put_unread s.shows (s.finds path) (s.refuses path) (s.connects path) left what.0.origin.now what.1 c.in-Err.fault fine failed c.in-Err.ensures.refused) c.write_refusal.ensures in
+    record { written = x.0; stored = x.1 }
