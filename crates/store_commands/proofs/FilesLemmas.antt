@@ -23,7 +23,7 @@ use Rattle.office_rows.specs.declared.store_fault.StoreFault.TheVariants.{WrongV
 use Rattle.office_store.specs.Holds.{IsOfVersion}
 use Rattle.office_store.specs.Migration.{HoldsOld, IsMigrated}
 use Rattle.std.specs.Prelude.{pos}
-use Rattle.store_commands.specs.Stores.{IsLeft, IsMigratedTo, IsUnmigrated, IsMigratedStore, IsReached, IsPut, IsStored, IsOpened, IsRead, IsGot, IsHeld}
+use Rattle.store_commands.specs.Stores.{IsLeft, IsMigratedTo, IsUnmigrated, IsMigratedStore, IsReached, IsPut, IsStored, IsOpened, IsGot, IsHeld}
 
 pub map_ok : {X E : Type 0} {P Q : X → Type 0} (r : Result X E) → ((x : X) → P x → Q x) → IfOk r P → IfOk r Q
 map_ok (Ok x) f p = f x p

@@ -3,6 +3,8 @@ use Rattle.std.proofs.Common.{◌≡◌, ◌<◌, ◌+◌, ℕ, List, [], ◌∷
 use Rattle.std.proofs.lemmas.List.{map-append, take_more}
 use Rattle.std.proofs.lemmas.List.Elements.{Contains-get_or}
 use Rattle.std.specs.List.{AllByRecursion}
+use Rattle.sqlite.specs.State.{State as Shown, HasCleanDisk}
+use Rattle.office_store.specs.Queries.{Asked, AsksOnly, Only}
 use Rattle.zone_core.specs.Sets.{listing}
 use Rattle.zone_core.specs.Changes.{ChangeOf}
 use Rattle.zone_core.specs.Zones.{ZoneOf, serial_of}
@@ -11,6 +13,13 @@ use Rattle.store_commands.specs.declared.zone_list.ZoneSummary.{ZoneSummary}
 use Rattle.office_rows.specs.Listed.{AreOriginsOf}
 use Rattle.office_rows.proofs.ListedLemmas.{origins_are_of_zones}
 use Rattle.store_commands.specs.StoreList.{IsSummary, AreZonesOf}
+
+-- ---- what is answered, or refused
+
+-- a call that only asks, whether it answers or not
+pub asks_both : {X E : Type 0} (old new : Shown) (r : Result X E) → Asked old new → (HasCleanDisk new → Only old new) → AsksOnly old new r
+asks_both old new (Ok x) asked only = (asked, only)
+asks_both old new (Err e) asked only = (asked, λ clean. tt)
 
 -- ---- a zone
 

@@ -1,5 +1,5 @@
 -- The text of a log, by what was read of a store.
-use Rattle.std.proofs.Common.{◌≡◌, inl, inr, ℕ, Bool, List, Option, Result, Ok, Err, refl}
+use Rattle.std.proofs.Common.{◌≡◌, inl, inr, ℕ, Bool, List, Option, Result, Ok, Err}
 use Rattle.sqlite.specs.State.{State as Shown}
 use Rattle.office_rows.specs.declared.store_fault.StoreFault.{StoreFault}
 use Rattle.command_line.specs.declared.job.LogChoice.{LogChoice}

@@ -116,16 +116,14 @@ fn diff<M: Surroundings, R: Source, W: Sink>(
     ensures { DiffersBy (M.around around.now) (record { left = R.remaining input.old; rest = R.remaining input.new; before = R.failures input.old; after = R.failures input.new }) what.entry.1 what.entry.0.now files.entry (record { old = W.contents output.old; new = W.contents output.new; before = W.failures output.old; after = W.failures output.new }) result }
 {
     let alloc = around.machine().alloc();
-    let (mut old, mut new) = (
-        NamedFile {
-            around,
-            path: files.old,
-        },
-        NamedFile {
-            around,
-            path: files.new,
-        },
-    );
+    let mut old = NamedFile {
+        around,
+        path: files.old,
+    };
+    let mut new = NamedFile {
+        around,
+        path: files.new,
+    };
     match (is_standard(files.old), is_standard(files.new)) {
         (false, false) => do_diff(alloc, what, &mut old, &mut new, output),
         (false, true) => do_diff(alloc, what, &mut old, input, output),
@@ -207,6 +205,18 @@ pub fn do_text_job<M: Surroundings, R: Source, W: Sink>(
     }
 }
 
+/// What a job hands back, if anything, and the exit status of what was done.
+fn left<C: Drop, F: Display + Drop>(
+    rt: &HostRuntime,
+    done: (Option<C>, Result<(), F>),
+) -> (Option<C>, ExitCode)
+    ensures left { result.0 ≡ done.0 }
+    ensures status { exit_status result.1 ≡ status_of done.1 }
+{
+    let (conn, done) = done;
+    (conn, ended(rt, done))
+}
+
 /// Does a job with a store, by the files of stores, with standard input and output and a trace. The connection to the store is handed
 /// back, if one was made.
 fn done<M: Surroundings, S: Alter + Drop, P: StoreFiles<S> + Drop, R: Source, W: Sink, E: Sink>(
@@ -252,8 +262,8 @@ pub fn do_store_job<
     // Each job answers to its own words, and what the connection shows is what it left of the store of its path.
     ensures { StoreJobEnds (M.around around.now) (stores_of (state S.Store) (P.finds files) (P.refuses files) (P.connects files)) (record { left = R.remaining input.old; rest = R.remaining input.new; before = R.failures input.old; after = R.failures input.new }) (record { old = W.contents output.old; new = W.contents output.new; before = W.failures output.old; after = W.failures output.new }) (record { old = E.contents trace.old; new = E.contents trace.new; before = E.failures trace.old; after = E.failures trace.new }) job.entry result.0 (exit_status result.1) }
 {
-    let (conn, done) = done(around, files, job, input, output, trace);
-    (conn, ended(around.machine(), done))
+    let rt = around.machine();
+    left(rt, done(around, files, job, input, output, trace))
 }
 
 /// Does a job, with standard input and output, a trace, and the files of stores. The connection to the store that it reached is handed

@@ -2,7 +2,7 @@
 
 ghost use Rattle.std.specs.Prelude.{◌≡◌, ◌<◌, ◌⊎◌, false, IfOk, IfErr};
 ghost use Rattle.sqlite.specs.Held.{state};
-ghost use Rattle.store_commands.specs.Stores.{IsLeft, IsNoStore, IsAdopted, IsMade, IsUnmade, IsUnfound, IsOpened, IsUnopened, IsOpenedOrMade, IsUnopenedOrMade, IsMigratedTo, IsUnmigrated, IsMigratedStore};
+ghost use Rattle.store_commands.specs.Stores.{IsLeft, IsNoStore, IsAdopted, IsMade, IsUnmade, IsUnfound, IsOpened, IsUnopened, IsOpenedOrMade, IsUnopenedOrMade, IsMigratedStore};
 
 use crate::files::StoreFiles;
 use office_store::{SqlTable, StoreFault};
@@ -126,20 +126,6 @@ pub fn open_or_make_store<S: Alter + Drop, L: Ledger, P: StoreFiles<S> + Drop>(
     }
 }
 
-/// Takes the tables of a connection from version 1 to version 2.
-fn migrate_tables<S: Alter + Drop>(
-    alloc: Global,
-    conn: Connection<S>,
-) -> (Connection<S>, Result<usize, StoreFault>)
-    requires { conn.in_transaction ≡ false }
-    ensures migrated { IfOk result.1 (IsMigratedTo (state S.Store conn) (state S.Store result.0)) }
-    ensures refused { IfErr result.1 (IsUnmigrated (state S.Store conn) (state S.Store result.0)) }
-{
-    let mut conn = conn;
-    let migrated = SqlTable::<S, Brand>::migrate(alloc, &mut conn);
-    (conn, migrated)
-}
-
 /// Takes the store of a path from version 1 of the tables to version 2, and tells how many zones that changed. Where there is no file
 /// none is made: that is `NoZone`. `WrongVersion` comes where the file has not the tables of version 1, `BadRow` where their rows are
 /// none that a program of that version wrote, and `Store` where the file is no database or cannot be read or written. Then the file
@@ -153,7 +139,8 @@ pub fn migrate_store<S: Alter + Drop, P: StoreFiles<S> + Drop>(
 {
     match found(files, path) {
         Ok(conn) => {
-            let (conn, migrated) = migrate_tables(alloc, conn);
+            let mut conn = conn;
+            let migrated = SqlTable::<S, Brand>::migrate(alloc, &mut conn);
             (Some(conn), migrated)
         }
         Err(fault) => (None, Err(fault)),

@@ -37,19 +37,22 @@ pub struct StoreList {
     pub kept: Vec<KeptReceipt>,
 }
 
-/// What there is of a zone with its changes.
-fn summed(origin: Name, zone: &Zone, changes: &[Change]) -> ZoneSummary
-    ensures origin { result.origin ≡ origin }
-    ensures serial { result.serial ≡ serial_of zone.now }
-    ensures records { result.records ≡ length (listing zone.now.records) }
-    ensures changes { result.changes ≡ length changes.now }
+/// What there is of the zone of an origin with its changes. The only error is out of memory.
+fn summed(
+    alloc: Global,
+    origin: &Name,
+    zone: &Zone,
+    changes: &[Change],
+) -> Result<ZoneSummary, StoreFault>
+    ensures summed { IfOk result (λ z. (z.origin ≡ origin.now) × (z.serial ≡ serial_of zone.now) × (z.records ≡ length (listing zone.now.records)) × (z.changes ≡ length changes.now)) }
+    ensures failed { IfErr result IsFailure }
 {
-    ZoneSummary {
-        origin,
+    Ok(ZoneSummary {
+        origin: origin.try_copy(alloc)?,
         serial: zone.serial(),
         records: zone.records().len(),
         changes: changes.len(),
-    }
+    })
 }
 
 /// What a table has of the zone of an origin. `NoZone` comes if the zone is missing.
@@ -69,7 +72,7 @@ fn summary<S: Alter + Drop, L: Ledger>(
     let Some(zone) = table.stored_zone(alloc, origin)? else {
         return Err(StoreFault::NoZone);
     };
-    Ok(summed(origin.try_copy(alloc)?, &zone, &changes))
+    summed(alloc, origin, &zone, &changes)
 }
 
 /// What a table has of the zones of some origins.

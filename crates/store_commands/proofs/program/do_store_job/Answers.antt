@@ -1,4 +1,4 @@
 use Rattle.store_commands.proofs.program.do_store_job.Goals as goal
 
 pub returns : goal.returns
-returns g c = rw c.ended.ensures c.done-conn.ensures
+returns g c = rw (c.left.ensures.left, c.left.ensures.status) c.done.ensures

@@ -1,6 +1,5 @@
-use Rattle.std.proofs.Common.{◌≡◌, inl, inr, subst, refl}
+use Rattle.std.proofs.Common.{inl, inr, subst, refl}
 use Rattle.sqlite.specs.Held.{state}
-use Rattle.office_rows.specs.declared.store_fault.StoreFault.TheVariants.{WrongVersion}
 use Rattle.office_rows.specs.StoreFaults.{IsFailure}
 use Rattle.store_commands.specs.Stores.{IsNoStore}
 use Rattle.store_commands.proofs.FilesLemmas.{map_err, left_as}
