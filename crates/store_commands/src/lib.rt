@@ -1,6 +1,7 @@
 //! The commands that need a store: to put a zone into it, to print one, to migrate it, and to serve callers.
 #![tactic(auto)]
 
+mod any_store;
 mod cause;
 mod files;
 mod list_laws;

@@ -2,21 +2,44 @@
 
 ghost use Rattle.std.specs.Prelude.{◌≡◌, ◌<◌};
 
-use crate::files::{MachineFiles, StoreFiles};
+use crate::any_store::{FilesJob, do_on_machine};
+use crate::files::StoreFiles;
 use crate::program::do_words;
 use crate::surroundings::Surroundings;
-use dns_master::Counted;
-use sqlite::{Alter, File, FileStore};
+use dns_master::{Counted, Sink, Source};
+use sqlite::Alter;
 use std::io::{Read, Write};
 use std::marker::Brand;
 use std::process::ExitCode;
 use std::sync::ledger::{Blank, Ledger};
 
-/// Does what words ask for with files of stores, standard input, standard output and a trace, whose failures are counted from none on.
+/// Words of the command line, with the streams of their job.
+#[derive(Drop)]
+struct Words<'a, M, R, W, E> {
+    around: &'a M,
+    words: &'a [&'a str],
+    input: &'a mut R,
+    output: &'a mut W,
+    trace: &'a mut E,
+}
+
+impl<M: Surroundings, R: Source, W: Sink, E: Sink> FilesJob for Words<'_, M, R, W, E> {
+    fn run<S: Alter + Drop, P: StoreFiles<S> + Drop>(self, files: P) -> ExitCode {
+        let Words {
+            around,
+            words,
+            input,
+            output,
+            trace,
+        } = self;
+        let (_, status) = do_words(around, files, words, input, output, trace);
+        status
+    }
+}
+
+/// Does what words ask for with standard input, standard output and a trace, whose failures are counted from none on.
 fn run_counted<
     M: Surroundings,
-    S: Alter + Drop,
-    P: StoreFiles<S> + Drop,
     I: Read + Drop,
     O: Write + Drop,
     E: Write + Drop,
@@ -25,7 +48,6 @@ fn run_counted<
     C: Ledger,
 >(
     around: &M,
-    files: P,
     words: &[&str],
     streams: (I, O, E),
     reads: Blank,
@@ -46,7 +68,14 @@ fn run_counted<
     let mut input: Counted<I, A> = Counted::new(input, reads);
     let mut output: Counted<O, B> = Counted::new(output, writes);
     let mut trace: Counted<E, C> = Counted::new(trace, traces);
-    let (_, status) = do_words(around, files, words, &mut input, &mut output, &mut trace);
+    let job = Words {
+        around,
+        words,
+        input: &mut input,
+        output: &mut output,
+        trace: &mut trace,
+    };
+    let status = do_on_machine(around.machine(), job);
     (output.into_inner(), trace.into_inner(), status)
 }
 
@@ -59,8 +88,5 @@ pub fn run_words<M: Surroundings, I: Read + Drop, O: Write + Drop, E: Write + Dr
     streams: (I, O, E),
 ) -> (O, E, ExitCode) {
     let (reads, writes, traces) = (Blank::new(1), Blank::new(1), Blank::new(1));
-    let files = MachineFiles(around.machine());
-    run_counted::<_, FileStore<File>, _, _, _, _, Brand, Brand, Brand>(
-        around, files, words, streams, reads, writes, traces,
-    )
+    run_counted::<_, _, _, _, Brand, Brand, Brand>(around, words, streams, reads, writes, traces)
 }
