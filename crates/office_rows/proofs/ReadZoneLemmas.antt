@@ -1,7 +1,7 @@
 -- A zone that was read, and the one that a state has.
 use Rattle.std.proofs.Common.{◌≡◌, ℕ, Bool, true, ◌<◌, List, [], ◌∷◌, length, get_or, map, Option, None, Some, IfSome, Ok, IsPermutation, refl, sym, ap, subst, ◌∙◌}
 use Rattle.std.specs.Prelude.{ℤ, bytes_eq, option_map}
-use Rattle.std.specs.List.{AllByRecursion, list_any}
+use Rattle.std.specs.List.{AllByRecursion}
 use Rattle.std.proofs.lemmas.List.Sorted.{IsPermutation-sym, IsPermutation-trans}
 use Rattle.sqlite_rules.specs.Lists.{Has}
 use Rattle.sqlite_rules.proofs.ListLemmas.{all_has, has_at, some_from}
@@ -15,7 +15,7 @@ use Rattle.dns_data.specs.Rdata.{IsRecord}
 use Rattle.zone_core.specs.Zones.{ZoneOf, built}
 use Rattle.zone_core.specs.Views.{zone_in}
 use Rattle.zone_core.proofs.SetLemmas.{by_cases, name_is}
-use Rattle.office_state.specs.States.{Held, State, zone_held, zone_at}
+use Rattle.office_state.specs.States.{State, zone_held, zone_at}
 use Rattle.office_sql.specs.Rows.{RecordRowOf, RowsOf}
 use Rattle.office_sql.specs.Lookups.{records_of}
 use Rattle.office_rows.specs.declared.ordered.ZoneRecord.{ZoneRecord}
@@ -24,7 +24,7 @@ use Rattle.office_rows.specs.Checks.{row_of_record, IsZoneRecord, AreOriginRows}
 use Rattle.office_rows.specs.ReadZones.{own_records, IsReadAmong, IsReadIn, IsReadOf}
 use Rattle.office_rows.specs.RecordRows.{record_row}
 use Rattle.office_rows.specs.RowFaults.{◌>>=◌, of_zones}
-use Rattle.office_rows.specs.RowReading.{each_read, record_in, zone_by}
+use Rattle.office_rows.specs.RowReading.{zone_by}
 use Rattle.office_rows.proofs.ListLemmas.{has_map, has_permutation}
 use Rattle.office_rows.proofs.NameLemmas.{bytes_same, text_same}
 use Rattle.office_rows.proofs.RowSteps.{ok_is}

@@ -10,6 +10,7 @@ ghost use Rattle.office_rows.specs.ChangeRows.{changes_rows, IsChange, IsChanged
 ghost use Rattle.office_rows.specs.RowFaults.{Reads};
 ghost use Rattle.office_rows.specs.RowReading.{each_read, changed_in, changed_behind, changes_among, AreStoredIn, AreStoredBehind};
 
+use crate::ascending::{Ordered, sorted};
 use crate::change_reader::ChangeReader;
 use crate::changes::ChangedRecord;
 use crate::row_fault::RowFault;
@@ -125,6 +126,18 @@ fn changed_order(first: &ChangedRecord, second: &ChangedRecord) -> Ordering
         .then(record_order(&first.changed, &second.changed))
 }
 
+impl Ordered for ChangedRecord {
+    ghost use Rattle.office_rows.specs.ChangeRows.{changed_order, changed_order_total};
+
+    ghost compare = { changed_order };
+
+    fn compare(&self, other: &ChangedRecord) -> Ordering {
+        changed_order(self, other)
+    }
+
+    ghost total = { changed_order_total };
+}
+
 /// What rows of `changes` have, of whatever zones: by origin, then by the number of the change, then by side, and then in record order. A
 /// row that is that of no record on a side of a change is `BadRow`. Each goes as soon as it is read.
 pub fn sorted_changes(alloc: Global, rows: Vec<ChangeRow>) -> Result<Vec<ChangedRecord>, RowFault>
@@ -136,11 +149,10 @@ pub fn sorted_changes(alloc: Global, rows: Vec<ChangeRow>) -> Result<Vec<Changed
 }
 
 /// What rows have, in order. The only error is out of memory.
-pub(crate) fn in_order(mut changed: Vec<ChangedRecord>) -> Result<Vec<ChangedRecord>, AllocError>
+pub(crate) fn in_order(changed: Vec<ChangedRecord>) -> Result<Vec<ChangedRecord>, AllocError>
     ensures { IfOk result (λ cs. IsPermutation changed.items cs.items × IsSorted changed_order cs.items) }
 {
-    changed.sort_by(|first, second| changed_order(first, second))?;
-    Ok(changed)
+    sorted(changed)
 }
 
 /// Whether one stands right behind another: behind it in order; and of the same zone and the same change or the next one, or of the

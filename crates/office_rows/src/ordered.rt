@@ -15,7 +15,7 @@ ghost use Rattle.office_rows.specs.RowFaults.{Answers, Reads, Refuses};
 ghost use Rattle.office_rows.specs.RowReading.{each_read, kept_in};
 ghost use Rattle.office_rows.specs.Checks.{IsOriginText, row_of_record, IsZoneRecord, IsZoneRecordRow, zone_record_order, IsReceiptRow, row_key, receipt_key_order};
 
-use crate::ascending::Ordered;
+use crate::ascending::{Ordered, sorted};
 use crate::columns::{identifier_in, read_origin};
 use crate::receipt_reader::ReceiptReader;
 use crate::receipts::stored_receipt;
@@ -113,6 +113,18 @@ fn zone_record_order(first: &ZoneRecord, second: &ZoneRecord) -> Ordering
         .then(record_order(&first.rr, &second.rr))
 }
 
+impl Ordered for ZoneRecord {
+    ghost use Rattle.office_rows.specs.Checks.{zone_record_order, zone_record_total};
+
+    ghost compare = { zone_record_order };
+
+    fn compare(&self, other: &ZoneRecord) -> Ordering {
+        zone_record_order(self, other)
+    }
+
+    ghost total = { zone_record_total };
+}
+
 /// The records of rows of `records`, by origin, and then in record order. A row that is that of no record of a zone is `BadRow`. Each
 /// goes as soon as it is read.
 pub fn records(alloc: Global, rows: Vec<RecordRow>) -> Result<Vec<ZoneRecord>, RowFault>
@@ -124,11 +136,10 @@ pub fn records(alloc: Global, rows: Vec<RecordRow>) -> Result<Vec<ZoneRecord>, R
 }
 
 /// Records of zones, by origin, and then in record order. The only error is out of memory.
-pub(crate) fn sorted_records(mut records: Vec<ZoneRecord>) -> Result<Vec<ZoneRecord>, AllocError>
+pub(crate) fn sorted_records(records: Vec<ZoneRecord>) -> Result<Vec<ZoneRecord>, AllocError>
     ensures { IfOk result (λ rs. IsPermutation records.items rs.items × IsSorted zone_record_order rs.items) }
 {
-    records.sort_by(|first, second| zone_record_order(first, second))?;
-    Ok(records)
+    sorted(records)
 }
 
 /// Under what the receipt of each row is kept. A row goes as soon as it is read.
@@ -156,13 +167,15 @@ fn receipt_key_order(first: &ReceiptKey, second: &ReceiptKey) -> Ordering
 }
 
 impl Ordered for ReceiptKey {
-    ghost use Rattle.office_rows.specs.Checks.{receipt_key_order};
+    ghost use Rattle.office_rows.specs.Checks.{receipt_key_order, receipt_key_total};
 
     ghost compare = { receipt_key_order };
 
     fn compare(&self, other: &ReceiptKey) -> Ordering {
         receipt_key_order(self, other)
     }
+
+    ghost total = { receipt_key_total };
 }
 
 /// Under what the receipts of rows of `receipts` are kept, by caller, and then by identifier. A row that is that of no receipt is
@@ -171,9 +184,8 @@ pub(crate) fn receipts(alloc: Global, rows: Vec<ReceiptRow>) -> Result<Vec<Recei
     ensures found { IfOk result (λ ks. IsPermutation (map row_key rows.items) ks.items × AllByRecursion IsReceiptRow rows.items × IsSorted receipt_key_order ks.items) }
     ensures only { AllByRecursion IsReceiptRow rows.items → IfErr result (λ e. e ≡ RowFault.NoMemory) }
 {
-    let mut keys = receipt_keys(alloc, rows)?;
-    keys.sort_by(|first, second| receipt_key_order(first, second))?;
-    Ok(keys)
+    let keys = receipt_keys(alloc, rows)?;
+    Ok(sorted(keys)?)
 }
 
 /// The receipt of a row that is known to be that of a receipt, with what it is kept under. Its spelling is not looked at.

@@ -1,4 +1,3 @@
-use Rattle.std.proofs.Common.{rules}
 use Rattle.office_rows.proofs.ReadZoneLemmas.{among_read}
 use Rattle.office_rows.proofs.largest_zone.largest_zone.Goals as goal
 
