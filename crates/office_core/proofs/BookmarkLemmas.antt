@@ -211,39 +211,47 @@ found_start rules s rows i b caller origin from held point right lt is own e sta
 
 -- ---- what is read behind a point
 
--- changes behind the first ones are those of a zone that is there
-pub found_behind : (s : State) (origin : List (List ℕ)) (count : ℕ) (cs : List ChangeOf) → Some cs ≡ option_map (λ cs. drop count cs) (changes_at s origin)
-    → (held : Held) × (s.zones origin ≡ Some held) × (cs ≡ drop count held.changes)
-found_behind s origin count cs e = of_held (s.zones origin) refl e
+-- changes that are read of a zone are those of one that is there
+pub found_behind : (s : State) (origin : List (List ℕ)) (read : List ChangeOf → List ChangeOf) (cs : List ChangeOf) → Some cs ≡ option_map read (changes_at s origin)
+    → (held : Held) × (s.zones origin ≡ Some held) × (cs ≡ read held.changes)
+found_behind s origin read cs e = of_held (s.zones origin) refl e
   where
-    of_held : (h : Option Held) → s.zones origin ≡ h → Some cs ≡ option_map (λ cs. drop count cs) (option_map (λ held. held.changes) h)
-        → (held : Held) × (s.zones origin ≡ Some held) × (cs ≡ drop count held.changes)
+    of_held : (h : Option Held) → s.zones origin ≡ h → Some cs ≡ option_map read (option_map (λ held. held.changes) h)
+        → (held : Held) × (s.zones origin ≡ Some held) × (cs ≡ read held.changes)
     of_held None is e = absurd cc
-    of_held (Some held) is e = (held, is, let it : cs ≡ drop count held.changes = cc in it)
+    of_held (Some held) is e = (held, is, let it : cs ≡ read held.changes = cc in it)
+
+-- and where none are, there is no zone
+pub found_none : (s : State) (origin : List (List ℕ)) (read : List ChangeOf → List ChangeOf) → None ≡ option_map read (changes_at s origin) → s.zones origin ≡ None
+found_none s origin read e = of_held (s.zones origin) e
+  where
+    of_held : (h : Option Held) → None ≡ option_map read (option_map (λ held. held.changes) h) → h ≡ None
+    of_held None e = refl
+    of_held (Some held) e = absurd cc
 
 pub one_held : (s : State) (origin : List (List ℕ)) (a b : Held) → s.zones origin ≡ Some a → s.zones origin ≡ Some b → a ≡ b
 one_held s origin a b e f = let it : Some a ≡ Some b = sym e ∙ f in cc
 
 module _ (rules : List Rule) (caller : List ℕ) where
   -- what is seen there, with its numbers, is the reply
-  pub followed : (s : State) (origin : List (List ℕ)) (from : ℕ) (point : Point) (held : Held) (behind sees : List ChangeOf) (ns : List NumberedOf)
-      → IsStart rules caller from held.changes point → s.zones origin ≡ Some held → behind ≡ drop point.read held.changes → sees ≡ seen rules caller behind
+  pub followed : (s : State) (origin : List (List ℕ)) (from : ℕ) (point : Point) (held : Held) (sees : List ChangeOf) (ns : List NumberedOf)
+      → IsStart rules caller from held.changes point → s.zones origin ≡ Some held → sees ≡ seen rules caller (drop point.read held.changes)
       → ns ≡ filter (λ c. nat_le from c.number) (numbered (point.seen + 1) sees)
       → changes ns ≡ of_zone (s.zones origin) (changes_reply rules caller from)
-  followed s origin from point held behind sees ns start is read there numbers =
+  followed s origin from point held sees ns start is there numbers =
       ap (λ (l : List NumberedOf). changes l)
       (numbers
-      ∙ ap (λ (l : List ChangeOf). filter (λ c. nat_le from c.number) (numbered (point.seen + 1) l)) (there ∙ ap (λ (l : List ChangeOf). seen rules caller l) read)
+      ∙ ap (λ (l : List ChangeOf). filter (λ c. nat_le from c.number) (numbered (point.seen + 1) l)) there
       ∙ from_start rules caller from held.changes point start)
       ∙ ap (λ (h : Option Held). of_zone h (changes_reply rules caller from)) (sym is)
 
   -- and it ends at a point, if numbers can say it
-  pub ended_at : (cs behind sees : List ChangeOf) (began : Point) (ended : Option Point) (read sights : ℕ) → IsPoint rules caller cs began → behind ≡ drop began.read cs
-      → sees ≡ seen rules caller behind → read ≡ length behind → sights ≡ length sees
-      → IfSome ended (λ point. (point.read ≡ began.read + read) × (point.seen ≡ began.seen + sights)) → IfSome ended (λ point. IsPoint rules caller cs point)
-  ended_at cs behind sees began None read sights right is there many some e = tt
-  ended_at cs behind sees began (Some point) read sights right is there many some (a, b) =
-      last_point rules caller cs behind began point right is (a ∙ ap (λ (n : ℕ). began.read + n) many)
+  pub ended_at : (cs sees : List ChangeOf) (began : Point) (ended : Option Point) (read sights : ℕ) → IsPoint rules caller cs began → read ≡ began.read + length (drop began.read cs)
+      → sees ≡ seen rules caller (drop began.read cs) → sights ≡ length sees
+      → IfSome ended (λ point. (point.read ≡ read) × (point.seen ≡ began.seen + sights)) → IfSome ended (λ point. IsPoint rules caller cs point)
+  ended_at cs sees began None read sights right many there some e = tt
+  ended_at cs sees began (Some point) read sights right many there some (a, b) =
+      last_point rules caller cs (drop began.read cs) began point right refl (a ∙ many)
       (b ∙ ap (λ (n : ℕ). began.seen + n) (some ∙ ap (λ (l : List ChangeOf). length l) there))
 
 module _ (holds right : State → Type 0) (rules : List Rule) (s : State) (caller : List ℕ) (request : Request) where

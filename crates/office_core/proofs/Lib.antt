@@ -23,3 +23,4 @@ pub mod PromiseLemmas
 pub mod CallLemmas
 pub mod AnswerLemmas
 pub mod BookmarkLemmas
+mod SeenLemmas

@@ -1,12 +1,12 @@
 -- The records within names that are apart, one name after the other, are those within some of them, in record order.
-use Rattle.std.proofs.Common.{◌≡◌, ◌↔◌, ℕ, zero, suc, ◌+◌, ◌-◌, ◌<◌, ◌≤◌, List, [], ◌∷◌, ◌++◌, length, length-append, take, drop, get_or, Bool, true, false, cond, ◌||◌, Option, Some, None, option_map, refl, sym, ap, subst, ◌∙◌, arith, ⊎_elim}
+use Rattle.std.proofs.Common.{◌≡◌, ◌↔◌, ℕ, suc, ◌+◌, ◌-◌, ◌<◌, List, [], ◌∷◌, ◌++◌, length, length-append, take, drop, get_or, Bool, true, false, cond, ◌||◌, Option, Some, None, option_map, refl, sym, ap, subst, ◌∙◌, arith, ⊎_elim}
 use Rattle.std.specs.declared.cmp.Ordering.{Ordering}
 use Rattle.std.specs.declared.cmp.Ordering.TheVariants.{Less, Equal, Greater}
-use Rattle.std.specs.Ordering.{is_lt, is_le, is_eq, ordering_index}
+use Rattle.std.specs.Ordering.{is_lt, is_le, is_eq}
 use Rattle.std.specs.Cmp.{tied_itself}
-use Rattle.std.specs.List.{AllByRecursion, filter, flat_map, list_any}
+use Rattle.std.specs.List.{AllByRecursion, filter, list_any}
 use Rattle.std.specs.List.Sorted.{IsStrictlySortedBy}
-use Rattle.std.proofs.lemmas.Bool.{cases_Bool, false≢true, false_from_ne_true}
+use Rattle.std.proofs.lemmas.Bool.{cases_Bool, false_from_ne_true}
 use Rattle.std.proofs.lemmas.List.{append-nil, get_or_default, take_more, take-append-drop, get_or_append_left, get_or-append-add}
 use Rattle.std.proofs.lemmas.List.Concat.{flat_map-append}
 use Rattle.dns_names.specs.Labels.{is_within}
@@ -14,15 +14,14 @@ use Rattle.dns_names.specs.Order.{canonical_cmp, canonical_total}
 use Rattle.dns_data.specs.declared.record.Record.{Record}
 use Rattle.dns_data.specs.RecordOrder.{record_order, record_order_total}
 use Rattle.zone_core.specs.Outermost.{AreApart}
-use Rattle.zone_core.specs.Sets.{Records, InOrder, key_of, listing, part, within}
+use Rattle.zone_core.specs.Sets.{Records, InOrder, listing, part, within}
 use Rattle.zone_core.specs.Zones.{AreKept, IsZone, ZoneOf}
 use Rattle.zone_core.proofs.SetLemmas.{name_is}
 use Rattle.zone_core.proofs.RowLemmas.{InOrder-filter, listed_part}
 use Rattle.zone_core.proofs.RangeLemmas.{pair_order, by_owner}
 use Rattle.zone_core.proofs.WithinLemmas.{not_before, between}
 use Rattle.zone_core.proofs.MetLemmas.{Among, any_is, of_among}
-use Rattle.zone_core.proofs.BelowLemmas.{before_then, not_behind, is_behind, not_above}
-use Rattle.zone_core.proofs.SurveyLemmas.{no_test}
+use Rattle.zone_core.proofs.BelowLemmas.{before_then, not_behind, is_behind, not_above, no_test}
 use Rattle.zone_core.proofs.ChangedLemmas as changed
 use Rattle.office_state.specs.States.{AreZones, Held, State, zone_at, zone_held}
 use Rattle.office_core.specs.Subtrees.{subtrees}

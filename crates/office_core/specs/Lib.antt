@@ -6,6 +6,7 @@ pub mod Machine
 pub mod Steps
 pub mod Plans
 pub mod Bookmarks
+pub mod Seen
 pub mod Runs
 pub mod Isolation
 pub mod Memory

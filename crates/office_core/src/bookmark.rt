@@ -24,11 +24,11 @@ impl Point {
     /// The point before all changes.
     const START: Point = Point { read: 0, seen: 0 };
 
-    /// The point behind some more changes, so many of which the caller sees; `None` where a number of 32 bits cannot say it.
-    pub(crate) fn after(self, read: usize, seen: usize) -> Option<Point>
-        ensures { IfSome result (λ point. (point.read ≡ self.read + read) × (point.seen ≡ self.seen + seen)) }
+    /// The point up to which so many changes were read, and of those behind this point so many are seen; `None` where a number of 32
+    /// bits cannot say it.
+    pub(crate) fn after(self, read: u32, seen: usize) -> Option<Point>
+        ensures { IfSome result (λ point. (point.read ≡ read) × (point.seen ≡ self.seen + seen)) }
     {
-        let read = self.read.checked_add(u32::try_from(read).ok()?)?;
         let seen = self.seen.checked_add(u32::try_from(seen).ok()?)?;
         Some(Point { read, seen })
     }

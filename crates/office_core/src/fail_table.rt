@@ -7,8 +7,8 @@ ghost use Rattle.office_core.specs.Memory.{HoldsState};
 use crate::memory::MemTable;
 use dns_data::Record;
 use dns_names::Name;
-use grant_policy::Identifier;
-use office_state::{Addition, Receipt, TableFault, ZoneTable};
+use grant_policy::{Grants, Identifier};
+use office_state::{Addition, Ahead, Receipt, TableFault, ZoneTable};
 use std::alloc::Global;
 use std::sync::ledger::{Blank, Book, Ledger, Share};
 use zone_core::{Change, Zone};
@@ -127,9 +127,20 @@ impl<L: Ledger> ZoneTable for FailTable<L> {
         alloc: Global,
         origin: &Name,
         count: u32,
+        most: u32,
     ) -> Result<Option<Vec<Change>>, TableFault> {
         self.call(TableCall::Changes)?;
-        self.table.changes_behind(alloc, origin, count)
+        self.table.changes_behind(alloc, origin, count, most)
+    }
+
+    fn ahead(
+        &mut self,
+        origin: &Name,
+        count: u32,
+        grants: &mut Grants<'_>,
+    ) -> Result<Ahead, TableFault> {
+        self.call(TableCall::Changes)?;
+        self.table.ahead(origin, count, grants)
     }
 
     fn commit(&mut self, alloc: Global, addition: Addition) -> Result<(), TableFault> {

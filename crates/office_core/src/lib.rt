@@ -2,10 +2,12 @@
 #![tactic(auto)]
 
 mod bookmark;
+mod changes;
 mod fail_table;
 mod footprint;
 mod item;
 mod laws;
+mod listed;
 mod memory;
 mod permission;
 mod queries;

@@ -1,6 +1,6 @@
 //! The table in memory.
 
-ghost use Rattle.std.specs.Prelude.{◌≡◌, ℕ, ◌<◌, List, [], length, IfOk, OnOk, OnErr, drop, map, ◌&&◌, if◌then◌else◌, Some};
+ghost use Rattle.std.specs.Prelude.{◌≡◌, ℕ, ◌<◌, List, [], length, IfOk, OnOk, OnErr, drop, take, map, ◌&&◌, if◌then◌else◌, Some};
 ghost use Rattle.std.specs.Option.{option_copied};
 ghost use Rattle.std.specs.List.{find, position};
 ghost use Rattle.std.specs.BTreeMap.{is_at};
@@ -14,8 +14,8 @@ ghost use Rattle.office_core.specs.Memory.{state_of, is_of, receipt_in, IsPutAt,
 
 use dns_data::Record;
 use dns_names::Name;
-use grant_policy::Identifier;
-use office_state::{Addition, Receipt, TableFault, ZoneTable};
+use grant_policy::{Grants, Identifier};
+use office_state::{Addition, Ahead, Receipt, TableFault, ZoneTable};
 use std::alloc::{AllocError, Global};
 use std::collections::BTreeMap;
 use std::marker::Model;
@@ -143,11 +143,12 @@ fn keep(
     Ok(())
 }
 
-/// The changes behind the first ones, so many.
-fn behind(changes: &[Change], count: u32) -> &[Change]
-    ensures { result.now ≡ drop count changes.now }
+/// The changes behind the first ones, so many, and at most so many of them.
+fn behind(changes: &[Change], count: u32, most: u32) -> &[Change]
+    ensures { result.now ≡ take most (drop count changes.now) }
 {
-    changes.get(count as usize..).unwrap_or_default()
+    let rest = changes.get(count as usize..).unwrap_or_default();
+    rest.get(..most as usize).unwrap_or(rest)
 }
 
 /// Copies of changes. The only error is out of memory.
@@ -242,11 +243,22 @@ impl ZoneTable for MemTable {
         alloc: Global,
         origin: &Name,
         count: u32,
+        most: u32,
     ) -> Result<Option<Vec<Change>>, TableFault> {
         let Some(held) = held(&self.zones, origin) else {
             return Ok(None);
         };
-        Ok(Some(copied_changes(alloc, behind(&held.changes, count))?))
+        let changes = behind(&held.changes, count, most);
+        Ok(Some(copied_changes(alloc, changes)?))
+    }
+
+    fn ahead(
+        &mut self,
+        _origin: &Name,
+        _count: u32,
+        _grants: &mut Grants<'_>,
+    ) -> Result<Ahead, TableFault> {
+        Ok(Ahead::UNKNOWN)
     }
 
     fn commit(&mut self, alloc: Global, addition: Addition) -> Result<(), TableFault> {

@@ -7,7 +7,8 @@ ghost use Rattle.office_core.specs.Bookmarks.{AreBookmarks};
 ghost use Rattle.office_core.specs.Steps.{Steps, Leaves, CountsReply, CountsStep, Takes, LeavesTurn, IsAnswer};
 
 use crate::bookmark::Bookmarks;
-use crate::queries::{changes, delegations, file, list, list_within, right};
+use crate::changes::changes;
+use crate::queries::{delegations, file, list, list_within, right};
 use crate::update::update_reply;
 use grant_policy::{Identifier, Policy};
 use office_state::{Reply, Request, StepFault, ZoneTable};

@@ -1,5 +1,5 @@
 -- What rows that are a state say of it.
-use Rattle.std.specs.Prelude.{◌≡◌, ◌↔◌, ℕ, ℤ, pos, zero, suc, List, [], length, true, Option, Some, None, bytes_eq}
+use Rattle.std.specs.Prelude.{◌≡◌, ◌↔◌, ℕ, ℤ, pos, zero, suc, List, [], length, true, IsPermutation, Option, Some, None, bytes_eq}
 use Rattle.std.specs.List.{list_any}
 use Rattle.dns_names.specs.Keys.{key_of}
 use Rattle.dns_names.specs.Labels.{IsName}
@@ -40,3 +40,9 @@ StatesAreSound = (version : ℤ) (rows : RowsOf) (s : State) → AreOfState vers
 -- the same rows in another order are the same state
 abbrev pub OrderDoesNotCount : Type 0
 OrderDoesNotCount = (version : ℤ) (rows others : RowsOf) (s : State) → AreOfState version rows s → SameRows rows others → AreOfState version others s
+
+-- the rows of changes tell the changes of each zone
+abbrev pub HistoriesAreOne : Type 0
+HistoriesAreOne =
+    (version : ℤ) (rows others : RowsOf) (s t : State) (origin : List (List ℕ)) (held other : Held) → AreOfState version rows s → AreOfState version others t → IsPermutation rows.changes others.changes
+    → s.zones origin ≡ Some held → t.zones origin ≡ Some other → held.changes ≡ other.changes

@@ -5,7 +5,7 @@ ghost use Rattle.office_rows.specs.Checks.{RowsAreByTable, StatesAreByTable};
 ghost use Rattle.office_rows.specs.ReceiptRows.{ReceiptRowsAreApart};
 ghost use Rattle.office_rows.specs.RecordRows.{RecordRowsAreApart, KeysAreOfRecords};
 ghost use Rattle.office_rows.specs.Listed.{OriginsAreOfZones, ReceiptsAreThose};
-ghost use Rattle.office_rows.specs.States.{ZonesAreListed, ZonesStandAtOrigins, LastNumbersCount, StatesAreSound, OrderDoesNotCount};
+ghost use Rattle.office_rows.specs.States.{ZonesAreListed, ZonesStandAtOrigins, LastNumbersCount, StatesAreSound, OrderDoesNotCount, HistoriesAreOne};
 ghost use Rattle.office_rows.specs.Batches.{NewTablesHoldNothing};
 
 /// A row of `records` is of one origin and one record; and two rows have one key, which is origin, owner, type and data, exactly
@@ -65,6 +65,11 @@ pub fn states_are_sound()
 /// The same rows in another order are the same state.
 pub fn order_does_not_count()
     ensures { OrderDoesNotCount }
+{}
+
+/// The rows of `changes` tell the changes of each zone that a state has.
+pub fn histories_are_one()
+    ensures { HistoriesAreOne }
 {}
 
 /// Tables that were just made have the rows of the state without zones and receipts.

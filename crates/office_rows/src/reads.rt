@@ -1,6 +1,6 @@
 //! Parts of a state, read from the rows of them.
 
-ghost use Rattle.std.specs.Prelude.{◌≡◌, ◌+◌, ℕ, ℤ, pos, List, ◌∷◌, map, drop, true, Ok, Some, IfOk, bytes_eq};
+ghost use Rattle.std.specs.Prelude.{◌≡◌, ◌+◌, ℕ, ℤ, pos, List, ◌∷◌, map, drop, take, true, Ok, Some, IfOk, bytes_eq};
 ghost use Rattle.std.specs.List.{list_all};
 ghost use Rattle.std.specs.List.Sorted.{IsPermutation};
 ghost use Rattle.dns_names.specs.Keys.{key_of};
@@ -13,7 +13,7 @@ ghost use Rattle.zone_core.specs.Parts.{part_of as zone_part, at_names};
 ghost use Rattle.zone_core.specs.Changes.{change_in};
 ghost use Rattle.office_state.specs.States.{Held, State, zone_at};
 ghost use Rattle.office_sql.specs.Rows.{RowsOf};
-ghost use Rattle.office_sql.specs.Lookups.{records_of, receipts_of, changes_of as changes_in, changes_from};
+ghost use Rattle.office_sql.specs.Lookups.{records_of, receipts_of, changes_of as changes_in, changes_between};
 ghost use Rattle.office_rows.specs.Contents.{AreOfState};
 ghost use Rattle.office_rows.specs.RowReading.{each_read, record_in, zone_by, receipt_by, AreStoredIn, AreStoredBehind};
 ghost use Rattle.office_rows.specs.RowFaults.{Reads, of_zone, of_zones};
@@ -162,7 +162,7 @@ pub fn changes_of(alloc: Global, rows: Vec<ChangeRow>) -> Result<Vec<Change>, Ro
     stored_changes(alloc, rows)
 }
 
-/// The changes of a zone behind the first ones, so many, the oldest first, by their rows in any order. Rows that are those of no such
+/// Changes of a zone behind the first ones, so many, the oldest first, by their rows in any order. Rows that are those of no such
 /// changes are `BadRow`.
 pub fn changes_behind(
     alloc: Global,
@@ -171,8 +171,9 @@ pub fn changes_behind(
 ) -> Result<Vec<Change>, RowFault>
     // They have what each row says.
     ensures found { IfOk result (λ changes. AreStoredBehind count rows.items (map change_in changes.items)) }
-    // In a state that holds the zone, the rows of its changes with the numbers from there on are read as these, unless memory runs out.
-    ensures held { (version : ℤ) (all : RowsOf) (s : State) (origin : List (List ℕ)) (held : Held) → AreOfState version all s → s.zones origin ≡ Some held → IsPermutation (changes_from (name_text origin) (pos (1 + count)) all.changes) rows.items → Reads (λ changes. map change_in changes.items) result (Ok (drop count held.changes)) }
+    // In a state that holds the zone, the rows of its changes with so many numbers from there on are read as these, unless memory runs
+    // out.
+    ensures held { (version : ℤ) (all : RowsOf) (s : State) (origin : List (List ℕ)) (held : Held) (most : ℕ) → AreOfState version all s → s.zones origin ≡ Some held → IsPermutation (changes_between (name_text origin) (pos (1 + count)) (pos (1 + count + most)) all.changes) rows.items → Reads (λ changes. map change_in changes.items) result (Ok (take most (drop count held.changes))) }
 {
     stored_behind(alloc, rows, count)
 }

@@ -15,6 +15,6 @@ pub mod PlainQueries
 pub mod RowLemmas
 pub mod Selections
 pub mod LastNumbers
-pub mod ChangesFrom
+pub mod ChangesBetween
 pub mod Creations
 pub mod WholeTables

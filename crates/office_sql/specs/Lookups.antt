@@ -24,9 +24,9 @@ receipts_of caller id = filter (λ r. bytes_eq r.caller caller && bytes_eq r.id 
 abbrev pub changes_of : List ℕ → List ChangeRowOf → List ChangeRowOf
 changes_of origin = filter (λ r. bytes_eq r.origin origin)
 
--- those of the changes from a number on
-abbrev pub changes_from : List ℕ → ℤ → List ChangeRowOf → List ChangeRowOf
-changes_from origin number = filter (λ r. bytes_eq r.origin origin && is_ge (int_cmp r.number number))
+-- those of the changes from a number on and below another
+abbrev pub changes_between : List ℕ → ℤ → ℤ → List ChangeRowOf → List ChangeRowOf
+changes_between origin from to = filter (λ r. bytes_eq r.origin origin && (is_ge (int_cmp r.number from) && is_lt (int_cmp r.number to)))
 
 -- none of no rows; else the number of one of them, and none of them has a greater one
 abbrev pub IsLast : List ChangeRowOf → Option ℤ → Type 0

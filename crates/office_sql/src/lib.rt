@@ -19,7 +19,7 @@ pub use batch::write;
 pub use creation::make_tables;
 pub use files::connect;
 pub use lookups::{
-    changes_from, changes_of, has_zone, last_number, receipts_of, records_at, records_between,
+    changes_between, changes_of, has_zone, last_number, receipts_of, records_at, records_between,
     records_of,
 };
 pub use path::connect_at;

@@ -144,15 +144,17 @@ pub fn changes_of<S: Alter>(
     )
 }
 
-/// What the changes of a zone from a number on took away and brought, in any order. They are found without a look at the earlier ones.
-pub fn changes_from<S: Alter>(
+/// What the changes of a zone from a number on and below another took away and brought, in any order. They are found without a look at
+/// the others.
+pub fn changes_between<S: Alter>(
     alloc: Global,
     conn: &mut Connection<S>,
     origin: &str,
-    number: i64,
+    from: i64,
+    to: i64,
 ) -> Result<Vec<ChangeRow>, RowsFault>
     requires { conn.old.in_transaction ≡ false }
-    ensures answer { HasCleanDisk (state S.Store conn.new) → IfOk result (λ xs. (rows : RowsOf) → Holds (state S.Store conn.old) rows → IsPermutation (the.changes_from origin.now number rows.changes) xs.items) }
+    ensures answer { HasCleanDisk (state S.Store conn.new) → IfOk result (λ xs. (rows : RowsOf) → Holds (state S.Store conn.old) rows → IsPermutation (the.changes_between origin.now from to rows.changes) xs.items) }
     ensures asks { OnlyAsks (state S.Store conn.old) (state S.Store conn.new) }
     ensures same { HasCleanDisk (state S.Store conn.new) → OnOk result (Shows (state S.Store conn.old) (state S.Store conn.new) (state S.Store conn.old).now (state S.Store conn.old).now false) }
     ensures only { HasCleanDisk (state S.Store conn.new) → OnOk result ((rows : RowsOf) → Holds (state S.Store conn.new) rows → Holds (state S.Store conn.old) rows) }
@@ -161,8 +163,8 @@ pub fn changes_from<S: Alter>(
     ask(
         alloc,
         conn,
-        "SELECT origin, number, side, owner, type, data, ttl FROM changes WHERE origin = ?1 AND number >= ?2",
-        params![origin, number],
+        "SELECT origin, number, side, owner, type, data, ttl FROM changes WHERE origin = ?1 AND number >= ?2 AND number < ?3",
+        params![origin, from, to],
     )
 }
 

@@ -1,5 +1,8 @@
 -- What a table is asked to add, and what it tells of its calls.
-use Rattle.std.specs.Prelude.{◌≡◌, ℕ, ◌+◌, List, [], ◌∷◌, ◌++◌, false, Option, Some, None, option_map, Result, Ok, Err, OnOk}
+use Rattle.std.specs.Prelude.{◌≡◌, ℕ, ◌+◌, ◌≤◌, List, [], ◌∷◌, ◌++◌, length, take, false, Option, Some, None, option_map, Result, Ok, Err, OnOk}
+use Rattle.std.specs.List.{AllByRecursion}
+use Rattle.dns_data.specs.Rdata.{type_of}
+use Rattle.grant_policy.specs.Grants.{GrantsOf, includes}
 use Rattle.zone_core.specs.Changes.{ChangeOf, FitsIn, change_in, changed, is_empty}
 use Rattle.zone_core.specs.Zones.{IsZone}
 use Rattle.office_state.specs.declared.table_fault.TableFault.{TableFault}
@@ -51,6 +54,17 @@ FitsChange s origin (Some c) = (held : Held) × (s.zones origin ≡ Some held) �
 pub record Fits (s : State) (a : AdditionOf) : Type 0 where
   pub fresh : s.receipts a.caller a.id ≡ None
   pub change : FitsChange s a.receipt.origin a.change
+
+-- ---- what grants leave out of changes
+
+-- grants include no record of a change
+abbrev pub IsHidden : GrantsOf → ChangeOf → Type 0
+IsHidden grants c = AllByRecursion (λ r. includes grants r.owner (type_of r.rdata) ≡ false) (c.removed ++ c.added)
+
+-- there are so many changes, and of the first ones, so many, grants include no record
+pub record AreHidden (grants : GrantsOf) (cs : List ChangeOf) (count : ℕ) : Type 0 where
+  pub there : count ≤ length cs
+  pub hidden : AllByRecursion (IsHidden grants) (take count cs)
 
 -- ---- the count of failures
 

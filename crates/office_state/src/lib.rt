@@ -2,6 +2,7 @@
 //! each of which is one prerequisite or one operation (RFC 2136 sections 2.4 and 2.5).
 #![tactic(auto)]
 
+mod ahead;
 mod item;
 mod item_fault;
 mod items_fault;
@@ -14,6 +15,7 @@ mod table;
 mod table_fault;
 mod text;
 
+pub use ahead::Ahead;
 pub use items_fault::ItemsFault;
 pub use laws::items_are_read;
 pub use lines::{ItemLists, entry_items, read_item_lists, read_items};

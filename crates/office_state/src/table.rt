@@ -1,17 +1,18 @@
 //! What the machine asks of a table.
 
-ghost use Rattle.std.specs.Prelude.{◌≡◌, ℕ, ◌+◌, List, Option, map, drop, option_map, IfOk, IfSome, OnOk, OnErr};
+ghost use Rattle.std.specs.Prelude.{◌≡◌, ℕ, ◌+◌, List, Option, Some, map, drop, take, option_map, IfOk, IfSome, OnOk, OnErr};
 ghost use Rattle.dns_data.specs.declared.record.Record.{Record};
 ghost use Rattle.zone_core.specs.Sets.{InOrder};
 ghost use Rattle.zone_core.specs.Changes.{change_in};
-ghost use Rattle.office_state.specs.States.{State, AreZones, AreReceipts, zone_at, part_at, subtree_at, changes_at};
-ghost use Rattle.office_state.specs.Tables.{Counts, Fits, ReadsOnly, addition_in, committed};
+ghost use Rattle.office_state.specs.States.{Held, State, AreZones, AreReceipts, zone_at, part_at, subtree_at, changes_at};
+ghost use Rattle.office_state.specs.Tables.{AreHidden, Counts, Fits, ReadsOnly, addition_in, committed};
 
+use crate::ahead::Ahead;
 use crate::receipt::{Addition, Receipt};
 use crate::table_fault::TableFault;
 use dns_data::Record;
 use dns_names::Name;
-use grant_policy::Identifier;
+use grant_policy::{Grants, Identifier};
 use std::alloc::Global;
 use zone_core::{Change, Zone};
 
@@ -71,14 +72,26 @@ pub trait ZoneTable {
         ensures answer { is_honest self.new → IfOk result (λ changes. (s : State) → holds self.old s → option_map (λ cs. map change_in cs.items) changes ≡ changes_at s origin.now) }
         ensures reads { ReadsOnly holds is_honest leaves failures self.old self.new result };
 
-    /// The changes of a zone behind the first ones, so many, the oldest first, where there is the zone.
+    /// The changes of a zone behind the first ones, so many, and at most so many of them; the oldest first, where there is the zone.
     fn changes_behind(
         &mut self,
         alloc: Global,
         origin: &Name,
         count: u32,
+        most: u32,
     ) -> Result<Option<Vec<Change>>, TableFault>
-        ensures answer { is_honest self.new → IfOk result (λ changes. (s : State) → holds self.old s → option_map (λ cs. map change_in cs.items) changes ≡ option_map (λ cs. drop count cs) (changes_at s origin.now)) }
+        ensures answer { is_honest self.new → IfOk result (λ changes. (s : State) → holds self.old s → option_map (λ cs. map change_in cs.items) changes ≡ option_map (λ cs. take most (drop count cs)) (changes_at s origin.now)) }
+        ensures reads { ReadsOnly holds is_honest leaves failures self.old self.new result };
+
+    /// What comes next among the changes of a zone behind the first ones, so many, as far as the table remembers what it has read.
+    fn ahead(
+        &mut self,
+        origin: &Name,
+        count: u32,
+        grants: &mut Grants<'_>,
+    ) -> Result<Ahead, TableFault>
+        ensures hidden { is_honest self.new → IfOk result (λ ahead. (s : State) (held : Held) → holds self.old s → s.zones origin.now ≡ Some held → AreHidden grants.old (drop count held.changes) ahead.hidden) }
+        ensures same { grants.new ≡ grants.old }
         ensures reads { ReadsOnly holds is_honest leaves failures self.old self.new result };
 
     /// Makes an addition: all of it, or nothing. The caller's identifier is new; a change has some record, its zone is there,

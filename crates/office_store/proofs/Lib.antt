@@ -5,6 +5,7 @@ pub mod TurnLemmas
 pub mod VersionLemmas
 pub mod ZoneLemmas
 pub mod CacheLemmas
+pub mod HistoryLemmas
 pub mod RecordRowLemmas
 pub mod PieceLemmas
 pub mod OwnerLemmas

@@ -2,6 +2,7 @@ pub mod Holds
 pub mod Owners
 pub mod RowPieces
 pub mod Cache
+pub mod History
 pub mod Queries
 pub mod Turns
 pub mod Additions

@@ -6,6 +6,7 @@
 mod batch;
 mod cache;
 mod file;
+mod history;
 mod laws;
 mod migration;
 mod migration_change;

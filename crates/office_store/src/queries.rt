@@ -9,7 +9,7 @@ ghost use Rattle.dns_names.specs.Spelling.{name_text};
 ghost use Rattle.office_state.specs.States.{State};
 ghost use Rattle.office_sql.specs.Rows.{RowsOf};
 ghost use Rattle.office_sql.specs.Holds.{Holds, Keeps, OnlyAsks};
-ghost use Rattle.office_sql.specs.Lookups.{records_of as rows_of, records_at, changes_of as changes_in, changes_from as changes_in_from};
+ghost use Rattle.office_sql.specs.Lookups.{records_of as rows_of, records_at, changes_of as changes_in, changes_between as changes_in_between};
 ghost use Rattle.office_rows.specs.Contents.{AreOfState};
 ghost use Rattle.office_rows.specs.PartRows.{AreRowsAt, rows_within};
 ghost use Rattle.office_rows.specs.StoreFaults.{IsFailure};
@@ -19,7 +19,7 @@ ghost use Rattle.office_store.specs.Queries.{AsksOnly, Finds, Stands};
 use dns_names::Name;
 use office_rows::StoreFault;
 use office_sql::{
-    ChangeRow, RecordRow, changes_from, changes_of, has_zone, records_at, records_between,
+    ChangeRow, RecordRow, changes_between, changes_of, has_zone, records_at, records_between,
     records_of,
 };
 use sqlite::{Alter, Connection, Error as StoreError, ErrorCode};
@@ -192,19 +192,29 @@ fn first_behind(count: u32) -> i64
     1 + i64::from(count)
 }
 
-/// The rows of a zone's changes behind the first ones, so many, in any order, where there is the zone.
+/// The number of the first change behind so many and some more.
+fn first_after(count: u32, most: u32) -> i64
+    ensures { result ≡ pos (1 + count + most) }
+{
+    first_behind(count) + i64::from(most)
+}
+
+/// The rows of a zone's changes behind the first ones, so many, and of at most so many of them; in any order, where there is the zone.
 pub(crate) fn change_rows_behind<S: Alter>(
     alloc: Global,
     conn: &mut Connection<S>,
     origin: &Name,
     count: u32,
+    most: u32,
 ) -> Result<Option<Vec<ChangeRow>>, StoreFault>
-    ensures found { HasCleanDisk (state S.Store conn.new) → IfOk result (λ found. (s : State) → HoldsState (state S.Store conn.old) s → Finds (λ all rows. IsPermutation (changes_in_from (name_text origin.now) (pos (1 + count)) all.changes) rows.items) s origin.now found) }
+    ensures found { HasCleanDisk (state S.Store conn.new) → IfOk result (λ found. (s : State) → HoldsState (state S.Store conn.old) s → Finds (λ all rows. IsPermutation (changes_in_between (name_text origin.now) (pos (1 + count)) (pos (1 + count + most)) all.changes) rows.items) s origin.now found) }
     ensures asks { AsksOnly (state S.Store conn.old) (state S.Store conn.new) result }
 {
     let Some(text) = held_text(alloc, conn, origin)? else {
         return Ok(None);
     };
-    let rows = changes_from(alloc, conn, &text, first_behind(count))?;
+    let from = first_behind(count);
+    let to = first_after(count, most);
+    let rows = changes_between(alloc, conn, &text, from, to)?;
     Ok(Some(rows))
 }

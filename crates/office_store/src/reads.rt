@@ -1,6 +1,6 @@
 //! Parts of the state that a connection holds.
 
-ghost use Rattle.std.specs.Prelude.{◌≡◌, false, map, drop, option_map, IfOk, IfErr, IfSome, OnOk};
+ghost use Rattle.std.specs.Prelude.{◌≡◌, false, map, drop, take, option_map, IfOk, IfErr, IfSome, OnOk};
 ghost use Rattle.zone_core.specs.Sets.{InOrder};
 ghost use Rattle.zone_core.specs.Changes.{change_in};
 ghost use Rattle.sqlite.specs.Held.{state};
@@ -98,17 +98,18 @@ pub(crate) fn changes_at<S: Alter>(
     Ok(Some(changes))
 }
 
-/// The changes of a zone behind the first ones, so many, the oldest first, where there is the zone.
+/// The changes of a zone behind the first ones, so many, and at most so many of them; the oldest first, where there is the zone.
 pub(crate) fn changes_behind<S: Alter>(
     alloc: Global,
     conn: &mut Connection<S>,
     origin: &Name,
     count: u32,
+    most: u32,
 ) -> Result<Option<Vec<Change>>, StoreFault>
-    ensures answer { HasCleanDisk (state S.Store conn.new) → IfOk result (λ changes. (s : State) → HoldsState (state S.Store conn.old) s → option_map (λ cs. map change_in cs.items) changes ≡ option_map (λ cs. drop count cs) (changes_at s origin.now)) }
+    ensures answer { HasCleanDisk (state S.Store conn.new) → IfOk result (λ changes. (s : State) → HoldsState (state S.Store conn.old) s → option_map (λ cs. map change_in cs.items) changes ≡ option_map (λ cs. take most (drop count cs)) (changes_at s origin.now)) }
     ensures asks { AsksOnly (state S.Store conn.old) (state S.Store conn.new) result }
 {
-    let Some(rows) = change_rows_behind(alloc, conn, origin, count)? else {
+    let Some(rows) = change_rows_behind(alloc, conn, origin, count, most)? else {
         return Ok(None);
     };
     let changes = office_rows::changes_behind(alloc, rows, count)?;

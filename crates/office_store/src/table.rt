@@ -15,6 +15,7 @@ ghost use Rattle.office_rows.specs.declared.store_fault.StoreFault.TheVariants.{
 ghost use Rattle.office_rows.specs.StoreFaults.{CountsFailure, CountsCall, Gives, IsFailure, IsOfRows};
 ghost use Rattle.office_store.specs.Holds.{HoldsState, HasNone, HasVersion, IsOfVersion, IsStateIn, LeavesStates};
 ghost use Rattle.office_store.specs.Cache.{FitsCache, cached_in};
+ghost use Rattle.office_store.specs.History.{FitsHistory};
 ghost use Rattle.office_store.specs.Migration.{HoldsOld, IsMigratedFrom, IsMigrated};
 ghost use Rattle.office_store.specs.Queries.{Asked, AsksOnly, Only};
 ghost use Rattle.office_store.specs.Turns.{Turns};
@@ -23,15 +24,17 @@ ghost use Rattle.office_store.specs.Zones.{exported, if_free, if_later, imported
 use crate::cache::{
     CachedZone, SubtreeRead, cached_of, cached_part, cached_subtree, commit_cached, export_cached,
 };
+use crate::history::{ZoneHistory, ahead_in, remember};
 use crate::migration::migrate;
 use crate::opening::{Refused, check_state, make};
+use crate::queries::check_open;
 use crate::reads::{changes_at, changes_behind, origins, receipt_at, receipts, zone_at};
 use crate::zones::{import, put_zone, replace, take_place};
 use dns_data::Record;
 use dns_names::Name;
-use grant_policy::Identifier;
+use grant_policy::{Grants, Identifier};
 use office_rows::{KeptReceipt, StoreFault};
-use office_state::{Addition, Receipt, TableFault, ZoneTable};
+use office_state::{Addition, Ahead, Receipt, TableFault, ZoneTable};
 use sqlite::{Alter, Connection};
 use std::alloc::Global;
 use std::sync::ledger::{Blank, Book, Ledger, Share};
@@ -39,7 +42,8 @@ use zone_core::{Change, Zone};
 
 /// Zones with their changes, and receipts, in the tables of a database. It counts the failures of its store by a ledger, and caches
 /// the zone that was read last, at first the largest, which follows the commits, until a call fails or a whole zone is written. It
-/// remembers why its last call of the machine failed that did.
+/// remembers what the changes touch of the zone whose first changes were read last, until a whole zone is written, and why its last call
+/// of the machine failed that did.
 #[derive(Drop)]
 pub struct SqlTable<S: Alter + Drop, L: Ledger> {
     conn: Connection<S>,
@@ -47,9 +51,11 @@ pub struct SqlTable<S: Alter + Drop, L: Ledger> {
     share: Share<L>,
     cache: Option<CachedZone>,
     subtree_read: SubtreeRead,
+    history: Option<ZoneHistory>,
     fault: Option<StoreFault>,
     ghost counts: { 0 < share.parts },
     ghost fits: { FitsCache (state S.Store conn) (cached_in cache) },
+    ghost remembers: { FitsHistory (state S.Store conn) history },
 }
 
 /// Counts a fault, if it is a failure of the store.
@@ -97,6 +103,7 @@ impl<S: Alter + Drop, L: Ledger> SqlTable<S, L> {
             share,
             cache,
             subtree_read: SubtreeRead::Rows,
+            history: None,
             fault: None,
         }
     }
@@ -228,6 +235,7 @@ impl<S: Alter + Drop, L: Ledger> SqlTable<S, L> {
         ensures counts { CountsCall self.old.book.total self.new.book.total result }
     {
         self.cache = None;
+        self.history = None;
         match put_zone(alloc, &mut self.conn, zone) {
             Ok(()) => Ok(()),
             Err(fault) => Err(counted(&mut self.book, &mut self.share, fault)),
@@ -246,6 +254,7 @@ impl<S: Alter + Drop, L: Ledger> SqlTable<S, L> {
         ensures counts { CountsCall self.old.book.total self.new.book.total result }
     {
         self.cache = None;
+        self.history = None;
         match take_place(alloc, &mut self.conn, zone) {
             Ok(()) => Ok(()),
             Err(fault) => Err(counted(&mut self.book, &mut self.share, fault)),
@@ -267,6 +276,7 @@ impl<S: Alter + Drop, L: Ledger> SqlTable<S, L> {
         ensures counts { CountsCall self.old.book.total self.new.book.total result }
     {
         self.cache = None;
+        self.history = None;
         match import(alloc, &mut self.conn, origin, records) {
             Ok(zone) => Ok(zone),
             Err(fault) => Err(counted(&mut self.book, &mut self.share, fault)),
@@ -290,6 +300,7 @@ impl<S: Alter + Drop, L: Ledger> SqlTable<S, L> {
         ensures counts { CountsCall self.old.book.total self.new.book.total result }
     {
         self.cache = None;
+        self.history = None;
         match replace(alloc, &mut self.conn, origin, records) {
             Ok(zone) => Ok(zone),
             Err(fault) => Err(counted(&mut self.book, &mut self.share, fault)),
@@ -482,9 +493,35 @@ impl<S: Alter + Drop, L: Ledger> ZoneTable for SqlTable<S, L> {
         alloc: Global,
         origin: &Name,
         count: u32,
+        most: u32,
     ) -> Result<Option<Vec<Change>>, TableFault> {
-        match changes_behind(alloc, &mut self.conn, origin, count) {
-            Ok(changes) => Ok(changes),
+        match changes_behind(alloc, &mut self.conn, origin, count, most) {
+            Ok(None) => Ok(None),
+            Ok(Some(changes)) => {
+                remember(alloc, &mut self.history, origin, count, &changes);
+                Ok(Some(changes))
+            }
+            Err(fault) => {
+                self.cache = None;
+                self.fault = Some(fault);
+                Err(refused(&mut self.book, &mut self.share, fault))
+            }
+        }
+    }
+
+    fn ahead(
+        &mut self,
+        origin: &Name,
+        count: u32,
+        grants: &mut Grants<'_>,
+    ) -> Result<Ahead, TableFault> {
+        let ahead = ahead_in(&self.history, origin, count, grants);
+        if ahead.hidden == 0 {
+            return Ok(ahead);
+        }
+        // a connection that is shut tells nothing of what is held
+        match check_open(&mut self.conn) {
+            Ok(()) => Ok(ahead),
             Err(fault) => {
                 self.cache = None;
                 self.fault = Some(fault);

@@ -1,4 +1,4 @@
-use Rattle.std.proofs.Common.{ℕ, List, option_map, sym, subst, ◌∙◌}
+use Rattle.std.proofs.Common.{option_map, sym, subst, ◌∙◌}
 use Rattle.grant_policy.specs.Reach.{GrantsWithinSome}
 use Rattle.grant_policy.specs.declared.action.Action.TheVariants as action
 use Rattle.zone_core.specs.Outermost.{AreApart}

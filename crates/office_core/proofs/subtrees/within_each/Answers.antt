@@ -1,5 +1,4 @@
 use Rattle.std.proofs.Common.{[], option_map, refl, sym, subst, ◌∙◌}
-use Rattle.dns_data.specs.declared.record.Record.{Record}
 use Rattle.office_state.specs.States.{zone_at}
 use Rattle.office_core.proofs.SubtreeLemmas.{none_in_order}
 use Rattle.office_core.proofs.SubtreesLemmas.{AreSoFar, zones_in_order, so_far_none, so_far_more}

@@ -1,7 +1,7 @@
 use Rattle.std.proofs.Common.{List, Some, ap, option_map, sym, ◌∙◌}
 use Rattle.std.specs.List.{find}
-use Rattle.std.specs.Prelude.{drop, map}
-use Rattle.std.proofs.lemmas.List.{drop-map}
+use Rattle.std.specs.Prelude.{drop, take, map}
+use Rattle.std.proofs.lemmas.List.{drop-map, take-map}
 use Rattle.zone_core.specs.declared.change.Change.{Change}
 use Rattle.zone_core.specs.Changes.{ChangeOf, change_in}
 use Rattle.office_core.specs.Memory.{is_of, receipt_rows}
@@ -15,6 +15,10 @@ returns-clause-answer c = λ u s h.
     let held = c.in-Some.held.now in
     let found = c.in-Some.ensures ∙ ap (find (is_of origin)) c.deref.ensures.value in
     let told = changes_told c.args.self.now zones (receipt_rows c.self.inside.receipts) s origin (Some held) c.self.view_is h found in
-    let behind = λ (cs : List ChangeOf). drop c.args.count cs in
-    ap Some (c.in_ok-copied_changes.ensures ∙ ap (map change_in) (c.behind.ensures ∙ ap (λ (cs : List Change). drop c.args.count cs) c.deref-2.ensures.value) ∙ sym (drop-map change_in c.args.count held.changes.items))
+    let behind = λ (cs : List ChangeOf). take c.args.most (drop c.args.count cs) in
+    ap Some
+    (c.in_ok-copied_changes.ensures
+    ∙ ap (map change_in) (c.behind-changes.ensures ∙ ap (λ (cs : List Change). take c.args.most (drop c.args.count cs)) c.deref-2.ensures.value)
+    ∙ sym (take-map change_in c.args.most (drop c.args.count held.changes.items))
+    ∙ ap (take c.args.most) (sym (drop-map change_in c.args.count held.changes.items)))
     ∙ ap (option_map behind) told

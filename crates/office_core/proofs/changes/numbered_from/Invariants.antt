@@ -4,7 +4,7 @@ use Rattle.std.specs.Vec.Iter.{into_iter_items}
 use Rattle.zone_core.specs.Changes.{change_in}
 use Rattle.office_state.specs.Replies.{NumberedOf, numbered_of}
 use Rattle.office_core.specs.Machine.{numbered}
-use Rattle.office_core.proofs.queries.numbered_from.Given as goal
+use Rattle.office_core.proofs.changes.numbered_from.Given as goal
 
 -- those so far, and then those of the changes that are left
 abbrev pub invariant-loop-change : goal.invariant-loop-change

@@ -4,7 +4,7 @@ use Rattle.zone_core.specs.Changes.{change_in}
 use Rattle.office_state.specs.Replies.{NumberedOf, numbered_of}
 use Rattle.office_core.specs.Machine.{numbered}
 use Rattle.office_core.proofs.NumberLemmas.{from_on, next_numbered}
-use Rattle.office_core.proofs.queries.numbered_from.Goals as goal
+use Rattle.office_core.proofs.changes.numbered_from.Goals as goal
 
 pub loop-change-preserved : goal.loop-change-preserved
 loop-change-preserved c =
@@ -14,7 +14,7 @@ loop-change-preserved c =
     record {
       count = omega (arith, ap length c.in-Some.ensures.steps.0);
       all =
-          ap (λ (l : List NumberedOf). l ++ from_on c.args.from (numbered (number + 1) (map change_in rest))) c.in_ok-all.ensures
+          ap (λ (l : List NumberedOf). l ++ from_on c.args.from (numbered (number + 1) (map change_in rest))) c.in_ok-push_numbered.ensures
           ∙ next_numbered c.args.from number (change_in c.in-Some.change) (map change_in rest) before
           ∙ ap (λ (cs : List Change). before ++ from_on c.args.from (numbered number (map change_in cs))) (sym c.in-Some.ensures.steps.0)
           ∙ c.loop-change.invariant.all;

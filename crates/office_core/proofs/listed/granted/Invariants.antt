@@ -1,7 +1,7 @@
 use Rattle.std.proofs.Common.{◌≡◌, ◌++◌}
 use Rattle.std.specs.Vec.Iter.{into_iter_items}
 use Rattle.office_core.specs.Machine.{listed}
-use Rattle.office_core.proofs.queries.granted.Given as goal
+use Rattle.office_core.proofs.listed.granted.Given as goal
 
 -- those so far, and then those of the records that are left
 abbrev pub invariant-loop-record : goal.invariant-loop-record
