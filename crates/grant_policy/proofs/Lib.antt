@@ -1,3 +1,4 @@
+pub mod IdentifierLemmas
 mod Walks
 pub mod WordLemmas
 pub mod ScopeLemmas

@@ -12,6 +12,7 @@ ghost use Rattle.grant_policy.specs.declared.identifier.IdentifierFault.TheVaria
 use std::alloc::{AllocError, AllocFailed, Global};
 use std::cmp::Ordering;
 use std::marker::Model;
+use std::str;
 use thiserror::Error;
 
 /// Why a text is no identifier.
@@ -101,6 +102,17 @@ impl Identifier {
         ensures identifier { IsIdentifier self.now }
     {
         &self.octets
+    }
+
+    /// The octets, as text.
+    pub fn as_str(&self) -> &str
+        ensures octets { result.now ≡ self.now }
+        ensures identifier { IsIdentifier self.now }
+    {
+        let Ok(text) = str::from_utf8(&self.octets) else {
+            unreachable!()
+        };
+        text
     }
 
     /// An equal identifier in memory of its own. The only error is out of memory.

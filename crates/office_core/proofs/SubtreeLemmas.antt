@@ -8,6 +8,8 @@ use Rattle.dns_data.specs.declared.record.Record.{Record}
 use Rattle.dns_data.specs.Rdata.{type_of}
 use Rattle.grant_policy.specs.declared.action.Action.TheVariants as action
 use Rattle.grant_policy.specs.declared.rule.Rule.{Rule}
+use Rattle.grant_policy.specs.declared.action.Action.{Action}
+use Rattle.grant_policy.specs.Grants.{GrantsOf}
 use Rattle.grant_policy.specs.Reach.{GrantsNowhere, GrantsWithin, GrantsWithinSome}
 use Rattle.zone_core.specs.Outermost.{AreApart}
 use Rattle.zone_core.specs.Sets.{InOrder, key_of, listing, part, within}
@@ -15,6 +17,7 @@ use Rattle.zone_core.specs.Zones.{IsZone}
 use Rattle.zone_core.proofs.RowLemmas.{InOrder-filter, listed_part}
 use Rattle.zone_core.proofs.ChangedLemmas as changed
 use Rattle.office_state.specs.States.{AreZones, Held, State, zone_held, subtree_at}
+use Rattle.office_state.specs.Tables.{included}
 use Rattle.office_core.specs.Machine.{may_list, listed, listed_at}
 use Rattle.office_core.specs.Subtrees.{subtrees, subtrees_at}
 use Rattle.office_core.proofs.SubtreesLemmas.{in_some, subtrees_are}
@@ -48,6 +51,10 @@ none p (x ∷ xs) fails = ap (λ (b : Bool). cond b (x ∷ filter p xs) (filter 
 
 -- ---- what is listed
 
+-- those that grants to list include are those that the caller may list
+pub listed_by : (g : GrantsOf) (rs : List Record) → g.action ≡ action.List → included g rs ≡ listed g.rules g.caller rs
+listed_by g rs is = ap (λ (a : Action). included (record g { action = a }) rs) is
+
 module _ (rules : List Rule) (caller : List ℕ) (origin : List (List ℕ)) where
   listed_within : (top : List (List ℕ)) (held : Held) → IsZone (zone_held origin held) → GrantsWithin rules caller action.List origin top
       → listed rules caller (listing (part held.records (within top))) ≡ listed rules caller (listing held.records)
@@ -63,29 +70,18 @@ module _ (rules : List Rule) (caller : List ℕ) (origin : List (List ℕ)) wher
       let set = held.records in
       sym (none (may_list rules caller) (listing set) (λ r i. nowhere r.owner (type_of r.rdata) (zone.owners r ((in_listing set zone.kept r).0 i))))
 
-  -- by no record
-  pub by_none : (s : State) (found : Option (List Record)) → AreZones s → GrantsNowhere rules caller action.List origin
-      → found ≡ option_map (λ held. []) (s.zones origin) → option_map (λ rs. listed rules caller rs) found ≡ listed_at rules caller s origin
-  by_none s found zones nowhere is = ap (option_map (λ rs. listed rules caller rs)) is ∙ of_held (s.zones origin) (zones origin)
+  -- nothing
+  pub by_none : (s : State) → AreZones s → GrantsNowhere rules caller action.List origin → option_map (λ held. []) (s.zones origin) ≡ listed_at rules caller s origin
+  by_none s zones nowhere = of_held (s.zones origin) (zones origin)
     where
-      of_held : (h : Option Held) → ((held : Held) → h ≡ Some held → IsZone (zone_held origin held))
-          → option_map (λ rs. listed rules caller rs) (option_map (λ held. []) h) ≡ option_map (λ held. listed rules caller (listing held.records)) h
+      of_held : (h : Option Held) → ((held : Held) → h ≡ Some held → IsZone (zone_held origin held)) → option_map (λ held. []) h ≡ option_map (λ held. listed rules caller (listing held.records)) h
       of_held None each = refl
       of_held (Some held) each = ap (λ (rs : List Record). Some rs) (listed_nowhere held (each held refl) nowhere)
 
-  -- by all records of the zone
-  pub by_all : (s : State) (found : Option (List Record)) → found ≡ option_map (λ held. listing held.records) (s.zones origin)
-      → option_map (λ rs. listed rules caller rs) found ≡ listed_at rules caller s origin
-  by_all s found is = ap (option_map (λ rs. listed rules caller rs)) is ∙ of_held (s.zones origin)
-    where
-      of_held : (h : Option Held) → option_map (λ rs. listed rules caller rs) (option_map (λ held. listing held.records) h) ≡ option_map (λ held. listed rules caller (listing held.records)) h
-      of_held None = refl
-      of_held (Some held) = refl
-
   -- by those within a name
-  pub by_subtree : (s : State) (top : List (List ℕ)) (found : Option (List Record)) → AreZones s → GrantsWithin rules caller action.List origin top
-      → found ≡ subtree_at s origin top → option_map (λ rs. listed rules caller rs) found ≡ listed_at rules caller s origin
-  by_subtree s top found zones reaches is = ap (option_map (λ rs. listed rules caller rs)) is ∙ of_held (s.zones origin) (zones origin)
+  pub by_subtree : (s : State) (top : List (List ℕ)) → AreZones s → GrantsWithin rules caller action.List origin top
+      → option_map (λ rs. listed rules caller rs) (subtree_at s origin top) ≡ listed_at rules caller s origin
+  by_subtree s top zones reaches = of_held (s.zones origin) (zones origin)
     where
       of_held : (h : Option Held) → ((held : Held) → h ≡ Some held → IsZone (zone_held origin held))
           → option_map (λ rs. listed rules caller rs) (option_map (λ zone. listing (part zone.records (within top))) (option_map (zone_held origin) h)) ≡ option_map (λ held. listed rules caller (listing held.records)) h
@@ -100,9 +96,9 @@ module _ (rules : List Rule) (caller : List ℕ) (origin : List (List ℕ)) wher
       ∙ twice (may_list rules caller) (in_some tops) (listing set) (λ r i may. reaches r.owner (type_of r.rdata) (zone.owners r ((in_listing set zone.kept r).0 i)) may)
 
   -- by those within several
-  pub by_subtrees : (s : State) (tops : List (List (List ℕ))) (found : Option (List Record)) → AreZones s → AreApart tops → GrantsWithinSome rules caller action.List origin tops
-      → found ≡ subtrees_at s origin tops → option_map (λ rs. listed rules caller rs) found ≡ listed_at rules caller s origin
-  by_subtrees s tops found zones apart reaches is = ap (option_map (λ rs. listed rules caller rs)) is ∙ of_held (s.zones origin) (zones origin)
+  pub by_subtrees : (s : State) (tops : List (List (List ℕ))) → AreZones s → AreApart tops → GrantsWithinSome rules caller action.List origin tops
+      → option_map (λ rs. listed rules caller rs) (subtrees_at s origin tops) ≡ listed_at rules caller s origin
+  by_subtrees s tops zones apart reaches = of_held (s.zones origin) (zones origin)
     where
       of_held : (h : Option Held) → ((held : Held) → h ≡ Some held → IsZone (zone_held origin held))
           → option_map (λ rs. listed rules caller rs) (option_map (λ zone. subtrees zone.records tops) (option_map (zone_held origin) h)) ≡ option_map (λ held. listed rules caller (listing held.records)) h

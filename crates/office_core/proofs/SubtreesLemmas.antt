@@ -9,10 +9,13 @@ use Rattle.std.specs.List.Sorted.{IsStrictlySortedBy}
 use Rattle.std.proofs.lemmas.Bool.{cases_Bool, false_from_ne_true}
 use Rattle.std.proofs.lemmas.List.{append-nil, get_or_default, take_more, take-append-drop, get_or_append_left, get_or-append-add}
 use Rattle.std.proofs.lemmas.List.Concat.{flat_map-append}
+use Rattle.std.proofs.lemmas.List.Elements.{filter-append}
 use Rattle.dns_names.specs.Labels.{is_within}
 use Rattle.dns_names.specs.Order.{canonical_cmp, canonical_total}
 use Rattle.dns_data.specs.declared.record.Record.{Record}
+use Rattle.dns_data.specs.Rdata.{type_of}
 use Rattle.dns_data.specs.RecordOrder.{record_order, record_order_total}
+use Rattle.grant_policy.specs.Grants.{GrantsOf, includes}
 use Rattle.zone_core.specs.Outermost.{AreApart}
 use Rattle.zone_core.specs.Sets.{Records, InOrder, listing, part, within}
 use Rattle.zone_core.specs.Zones.{AreKept, IsZone, ZoneOf}
@@ -24,6 +27,7 @@ use Rattle.zone_core.proofs.MetLemmas.{Among, any_is, of_among}
 use Rattle.zone_core.proofs.BelowLemmas.{before_then, not_behind, is_behind, not_above, no_test}
 use Rattle.zone_core.proofs.ChangedLemmas as changed
 use Rattle.office_state.specs.States.{AreZones, Held, State, zone_at, zone_held}
+use Rattle.office_state.specs.Tables.{included}
 use Rattle.office_core.specs.Subtrees.{subtrees}
 
 abbrev Labels : Type 0
@@ -201,47 +205,55 @@ zones_in_order s origin tops zones apart zone is = of_held (s.zones origin) (zon
 
 -- ---- one name after the other
 
--- the records within the first names, if the zone is there; else no name was asked for
-abbrev pub AreSoFar : Option ZoneOf → List Labels → List Record → Type 0
-AreSoFar None tops rs = tops ≡ []
-AreSoFar (Some zone) tops rs = rs ≡ subtrees zone.records tops
+-- the records within the first names that grants include, if the zone is there; else no name was asked for
+abbrev pub AreSoFar : GrantsOf → Option ZoneOf → List Labels → List Record → Type 0
+AreSoFar g None tops rs = tops ≡ []
+AreSoFar g (Some zone) tops rs = rs ≡ included g (subtrees zone.records tops)
 
-pub so_far_none : (zone : Option ZoneOf) → AreSoFar zone [] []
-so_far_none None = refl
-so_far_none (Some zone) = refl
+pub so_far_none : (g : GrantsOf) (zone : Option ZoneOf) → AreSoFar g zone [] []
+so_far_none g None = refl
+so_far_none g (Some zone) = refl
 
 -- with those within the next
-pub so_far_more : (found : Option ZoneOf) (tops : List Labels) (i : ℕ) (top : Labels) (all more joined : List Record) → i < length tops → top ≡ get_or tops i top
-    → ((zone : ZoneOf) → found ≡ Some zone → InOrder (subtrees zone.records tops)) → Some more ≡ option_map (λ zone. listing (part zone.records (within top))) found
-    → (InOrder (all ++ more) → joined ≡ all ++ more) → AreSoFar found (take i tops) all → AreSoFar found (take (i + 1) tops) joined
-so_far_more None tops i top all more joined lt is order tells joins so_far = absurd cc
-so_far_more (Some zone) tops i top all more joined lt is order tells joins so_far = joins in_order ∙ sym whole
+pub so_far_more : (g : GrantsOf) (found : Option ZoneOf) (tops : List Labels) (i : ℕ) (top : Labels) (all more joined : List Record) → i < length tops → top ≡ get_or tops i top
+    → ((zone : ZoneOf) → found ≡ Some zone → InOrder (subtrees zone.records tops)) → Some more ≡ option_map (included g) (option_map (λ zone. listing (part zone.records (within top))) found)
+    → (InOrder (all ++ more) → joined ≡ all ++ more) → AreSoFar g found (take i tops) all → AreSoFar g found (take (i + 1) tops) joined
+so_far_more g None tops i top all more joined lt is order tells joins so_far = absurd cc
+so_far_more g (Some zone) tops i top all more joined lt is order tells joins so_far = joins (subst InOrder whole in_order) ∙ sym whole
   where
     set : Records
     set = zone.records
 
-    here : more ≡ listing (part set (within top))
+    here : more ≡ included g (listing (part set (within top)))
     here = cc
 
-    whole : subtrees set (take (i + 1) tops) ≡ all ++ more
-    whole =
+    both : subtrees set (take (i + 1) tops) ≡ subtrees set (take i tops) ++ listing (part set (within top))
+    both =
         ap (subtrees set) (take_more tops i top lt ∙ ap (λ (x : Labels). take i tops ++ x ∷ []) (sym is))
         ∙ flat_map-append (λ (t : Labels). listing (part set (within t))) (take i tops) (top ∷ [])
-        ∙ (λ k. sym so_far k ++ append-nil (sym here k) k)
+        ∙ ap (λ (l : List Record). subtrees set (take i tops) ++ l) (append-nil (listing (part set (within top))))
 
-    in_order : InOrder (all ++ more)
+    whole : included g (subtrees set (take (i + 1) tops)) ≡ all ++ more
+    whole =
+        ap (included g) both
+        ∙ filter-append (λ r. includes g r.owner (type_of r.rdata)) (subtrees set (take i tops)) (listing (part set (within top)))
+        ∙ (λ k. sym so_far k ++ sym here k)
+
+    in_order : InOrder (included g (subtrees set (take (i + 1) tops)))
     in_order =
-        subst InOrder whole
+        InOrder-filter (λ r. includes g r.owner (type_of r.rdata)) (subtrees set (take (i + 1) tops))
         (front_order (subtrees set (take (i + 1) tops)) (subtrees set (drop (i + 1) tops))
         (subst InOrder
         (sym (ap (subtrees set) (take-append-drop (i + 1) tops)) ∙ flat_map-append (λ (t : Labels). listing (part set (within t))) (take (i + 1) tops) (drop (i + 1) tops))
         (order zone refl)))
 
 -- of all of them
-pub so_far_all : (found : Option ZoneOf) (tops : List Labels) (all : List Record) → 0 < length tops → AreSoFar found tops all → Some all ≡ option_map (λ zone. subtrees zone.records tops) found
-so_far_all None tops all some none = absurd (omega (arith, some, ap (λ (ts : List Labels). length ts) none))
-so_far_all (Some zone) tops all some is = ap (λ (rs : List Record). Some rs) is
+pub so_far_all : (g : GrantsOf) (found : Option ZoneOf) (tops : List Labels) (all : List Record) → 0 < length tops → AreSoFar g found tops all
+    → Some all ≡ option_map (included g) (option_map (λ zone. subtrees zone.records tops) found)
+so_far_all g None tops all some none = absurd (omega (arith, some, ap (λ (ts : List Labels). length ts) none))
+so_far_all g (Some zone) tops all some is = ap (λ (rs : List Record). Some rs) is
 
-pub none_there : (found : Option ZoneOf) (top : Labels) (tops : List Labels) → None ≡ option_map (λ zone. listing (part zone.records (within top))) found → None ≡ option_map (λ zone. subtrees zone.records tops) found
-none_there None top tops e = refl
-none_there (Some zone) top tops e = absurd cc
+pub none_there : (g : GrantsOf) (found : Option ZoneOf) (top : Labels) (tops : List Labels) → None ≡ option_map (included g) (option_map (λ zone. listing (part zone.records (within top))) found)
+    → None ≡ option_map (included g) (option_map (λ zone. subtrees zone.records tops) found)
+none_there g None top tops e = refl
+none_there g (Some zone) top tops e = absurd cc

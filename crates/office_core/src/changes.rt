@@ -6,18 +6,31 @@ ghost use Rattle.zone_core.specs.Changes.{change_in};
 ghost use Rattle.office_state.specs.Replies.{numbered_of};
 ghost use Rattle.office_state.specs.States.{State};
 ghost use Rattle.office_state.specs.Tables.{ReadsOnly};
-ghost use Rattle.office_core.specs.Machine.{unchanged, of_zone, changes_reply, if_some, seen, seen_of, numbered};
+ghost use Rattle.office_core.specs.Machine.{unchanged, of_zone, changes_reply, if_some, listed, seen, seen_of, numbered};
 ghost use Rattle.office_core.specs.Steps.{IsAnswer, Takes};
 ghost use Rattle.office_core.specs.Bookmarks.{AreBookmarks};
 ghost use Rattle.office_core.specs.Seen.{IsNext, IsSeenBehind};
 
 use crate::bookmark::Bookmarks;
-use crate::listed::granted;
+use dns_data::Record;
 use dns_names::Name;
 use grant_policy::{Action, Grants, Identifier, Policy};
-use office_state::{NumberedChange, Reply, TableFault, ZoneTable};
+use office_state::{NumberedChange, Reply, TableFault, ZoneTable, included};
 use std::alloc::{AllocError, Global};
 use zone_core::Change;
+
+/// Those of some records that a caller may list. The only error is out of memory.
+fn listed(
+    alloc: Global,
+    grants: &mut Grants<'_>,
+    records: Vec<Record>,
+) -> Result<Vec<Record>, AllocError>
+    requires { grants.old.action ≡ Action.List }
+    ensures value { IfOk result (λ rs. rs.items ≡ listed grants.old.rules grants.old.caller records.items) }
+    ensures same { grants.new ≡ grants.old }
+{
+    included(alloc, grants, records)
+}
 
 /// What a caller may list of a change. The only error is out of memory.
 fn seen_of(alloc: Global, grants: &mut Grants<'_>, change: Change) -> Result<Change, AllocError>
@@ -26,8 +39,8 @@ fn seen_of(alloc: Global, grants: &mut Grants<'_>, change: Change) -> Result<Cha
     ensures same { grants.new ≡ grants.old }
 {
     Ok(Change {
-        removed: granted(alloc, grants, change.removed)?,
-        added: granted(alloc, grants, change.added)?,
+        removed: listed(alloc, grants, change.removed)?,
+        added: listed(alloc, grants, change.added)?,
     })
 }
 
@@ -194,7 +207,7 @@ pub(crate) fn changes<T: ZoneTable>(
     ensures reads { ReadsOnly T.holds T.is_honest T.leaves T.failures table.old table.new result }
 {
     let began = bookmarks.start(caller, origin, from);
-    let mut grants = Grants::of(alloc, policy, caller, Action::List)?;
+    let mut grants = Grants::new(alloc, policy, caller, Action::List);
     let Some(seen) = seen_behind(alloc, table, &mut grants, origin, began.read)? else {
         return Ok(Reply::NotAuth);
     };

@@ -102,9 +102,10 @@ impl<L: Ledger> ZoneTable for FailTable<L> {
         alloc: Global,
         origin: &Name,
         top: &Name,
+        grants: &mut Grants<'_>,
     ) -> Result<Option<Vec<Record>>, TableFault> {
         self.call(TableCall::Subtree)?;
-        self.table.subtree(alloc, origin, top)
+        self.table.subtree(alloc, origin, top, grants)
     }
 
     fn receipt(

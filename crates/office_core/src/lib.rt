@@ -7,7 +7,6 @@ mod fail_table;
 mod footprint;
 mod item;
 mod laws;
-mod listed;
 mod memory;
 mod permission;
 mod queries;

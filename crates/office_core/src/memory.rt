@@ -15,7 +15,7 @@ ghost use Rattle.office_core.specs.Memory.{state_of, is_of, receipt_in, IsPutAt,
 use dns_data::Record;
 use dns_names::Name;
 use grant_policy::{Grants, Identifier};
-use office_state::{Addition, Ahead, Receipt, TableFault, ZoneTable};
+use office_state::{Addition, Ahead, Receipt, TableFault, ZoneTable, with_included};
 use std::alloc::{AllocError, Global};
 use std::collections::BTreeMap;
 use std::marker::Model;
@@ -212,11 +212,16 @@ impl ZoneTable for MemTable {
         alloc: Global,
         origin: &Name,
         top: &Name,
+        grants: &mut Grants<'_>,
     ) -> Result<Option<Vec<Record>>, TableFault> {
         let Some(held) = held(&self.zones, origin) else {
             return Ok(None);
         };
-        Ok(Some(held.zone.copied_within(alloc, top)?))
+        // the order of its records follows from that it is a zone
+        let _origin = held.zone.origin();
+        let records = held.zone.records_within(top);
+        let records = with_included(alloc, Vec::new(alloc), grants, records)?;
+        Ok(Some(records))
     }
 
     fn receipt(

@@ -10,14 +10,13 @@ ghost use Rattle.office_state.specs.Replies.{reply_of, right_of, right};
 ghost use Rattle.office_state.specs.States.{State};
 ghost use Rattle.office_state.specs.Tables.{ReadsOnly};
 ghost use Rattle.office_core.specs.Permissions.{question};
-ghost use Rattle.office_core.specs.Machine.{unchanged, of_zone, listed, listed_at, list_reply, list_within_reply, file_reply, delegations_reply};
+ghost use Rattle.office_core.specs.Machine.{unchanged, of_zone, listed_at, list_reply, list_within_reply, file_reply, delegations_reply};
 ghost use Rattle.office_core.specs.Steps.{IsAnswer, Takes};
 
-use crate::listed::listed;
 use crate::subtrees::within_each;
 use dns_data::{Record, RecordType};
 use dns_names::Name;
-use grant_policy::{Action, Decision, Identifier, LookUps, Policy, decide, reach, reaches};
+use grant_policy::{Action, Decision, Grants, Identifier, LookUps, Policy, decide, reach, reaches};
 use office_state::{Reply, Right, TableFault, ZoneTable};
 use std::alloc::{AllocError, Global};
 use zone_core::{delegation_report, outermost};
@@ -56,8 +55,8 @@ fn none_of<T: ZoneTable>(
     Ok(Some(Vec::new(alloc)))
 }
 
-/// Records of a zone that have among them all that the caller may list, where there is the zone. Only those are read that are
-/// within the name to which all of the caller's grants reach.
+/// The records of a zone that the caller may list, where there is the zone. Only those are read that are within the name to which all of
+/// the caller's grants reach.
 fn within_reach<T: ZoneTable>(
     alloc: Global,
     table: &mut T,
@@ -65,37 +64,19 @@ fn within_reach<T: ZoneTable>(
     caller: &Identifier,
     origin: &Name,
 ) -> Result<Option<Vec<Record>>, TableFault>
-    ensures answer { T.is_honest table.new → IfOk result (λ found. (s : State) → T.holds table.old s → option_map (λ rs. listed policy.now caller.now rs.items) found ≡ listed_at policy.now caller.now s origin.now) }
+    ensures answer { T.is_honest table.new → IfOk result (λ found. (s : State) → T.holds table.old s → option_map (λ rs. rs.items) found ≡ listed_at policy.now caller.now s origin.now) }
     ensures order { IfOk result (λ found. IfSome found (λ rs. InOrder rs.items)) }
     ensures reads { ReadsOnly T.holds T.is_honest T.leaves T.failures table.old table.new result }
 {
     let Some(top) = reach(alloc, policy, caller, Action::List, origin)? else {
         return none_of(alloc, table, origin);
     };
-    table.subtree(alloc, origin, &top)
+    let mut grants = Grants::new(alloc, policy, caller, Action::List);
+    table.subtree(alloc, origin, &top, &mut grants)
 }
 
-/// Records of a zone that have among them all that the caller may list, where there is the zone. Only those are read that are
-/// within the names to which the caller's grants reach; if these are many, within the one that all of them are within.
-fn reached<T: ZoneTable>(
-    alloc: Global,
-    table: &mut T,
-    policy: &Policy,
-    caller: &Identifier,
-    origin: &Name,
-) -> Result<Option<Vec<Record>>, TableFault>
-    ensures answer { T.is_honest table.new → IfOk result (λ found. (s : State) → T.holds table.old s → option_map (λ rs. listed policy.now caller.now rs.items) found ≡ listed_at policy.now caller.now s origin.now) }
-    ensures order { IfOk result (λ found. IfSome found (λ rs. InOrder rs.items)) }
-    ensures reads { ReadsOnly T.holds T.is_honest T.leaves T.failures table.old table.new result }
-{
-    let tops = granted_names(alloc, policy, caller, origin)?;
-    if tops.len() < 2 || FEW_NAMES < tops.len() {
-        return within_reach(alloc, table, policy, caller, origin);
-    }
-    within_each(alloc, table, origin, &tops)
-}
-
-/// The records of a zone that the caller may list, where there is the zone.
+/// The records of a zone that the caller may list, where there is the zone. Only those are read that are within the names to which the
+/// caller's grants reach; if these are many, within the one that all of them are within.
 fn listed_of<T: ZoneTable>(
     alloc: Global,
     table: &mut T,
@@ -107,11 +88,12 @@ fn listed_of<T: ZoneTable>(
     ensures order { IfOk result (λ found. IfSome found (λ rs. InOrder rs.items)) }
     ensures reads { ReadsOnly T.holds T.is_honest T.leaves T.failures table.old table.new result }
 {
-    let Some(found) = reached(alloc, table, policy, caller, origin)? else {
-        return Ok(None);
-    };
-    let records = listed(alloc, policy, caller, found)?;
-    Ok(Some(records))
+    let tops = granted_names(alloc, policy, caller, origin)?;
+    if tops.len() < 2 || FEW_NAMES < tops.len() {
+        return within_reach(alloc, table, policy, caller, origin);
+    }
+    let mut grants = Grants::new(alloc, policy, caller, Action::List);
+    within_each(alloc, table, origin, &tops, &mut grants)
 }
 
 /// The records of a zone that the caller may list.
@@ -145,13 +127,13 @@ pub(crate) fn list_within<T: ZoneTable>(
     ensures answers { IfOk result IsAnswer }
     ensures reads { ReadsOnly T.holds T.is_honest T.leaves T.failures table.old table.new result }
 {
-    let Some(records) = table.subtree(alloc, origin, top)? else {
+    let mut grants = Grants::new(alloc, policy, caller, Action::List);
+    let Some(records) = table.subtree(alloc, origin, top, &mut grants)? else {
         return Ok(Reply::NotAuth);
     };
     if !top.is_within(origin) {
         return Ok(Reply::NotZone);
     }
-    let records = listed(alloc, policy, caller, records)?;
     Ok(Reply::Records(records))
 }
 

@@ -4,11 +4,12 @@ ghost use Rattle.std.specs.Prelude.{◌≡◌, ◌↔◌, ◌<◌, ◌++◌, tru
 ghost use Rattle.zone_core.specs.Outermost.{AreApart};
 ghost use Rattle.zone_core.specs.Sets.{InOrder};
 ghost use Rattle.office_state.specs.States.{State};
-ghost use Rattle.office_state.specs.Tables.{ReadsOnly};
+ghost use Rattle.office_state.specs.Tables.{ReadsOnly, included};
 ghost use Rattle.office_core.specs.Subtrees.{subtrees_at};
 
 use dns_data::{Record, record_order};
 use dns_names::Name;
+use grant_policy::Grants;
 use office_state::{TableFault, ZoneTable};
 use std::alloc::{AllocError, Global};
 
@@ -38,24 +39,25 @@ fn joined(mut all: Vec<Record>, mut more: Vec<Record>) -> Result<Vec<Record>, Al
     Ok(all)
 }
 
-/// The records of a zone within each of some names, where there is the zone. The names are in canonical order, and none is within
-/// another.
+/// The records of a zone within each of some names that grants include, where there is the zone. The names are in canonical order, and
+/// none is within another.
 pub(crate) fn within_each<T: ZoneTable>(
     alloc: Global,
     table: &mut T,
     origin: &Name,
     tops: &[Name],
+    grants: &mut Grants<'_>,
 ) -> Result<Option<Vec<Record>>, TableFault>
     requires apart { AreApart tops.now }
     requires some { 0 < length tops.now }
-    ensures answer { T.is_honest table.new → IfOk result (λ found. (s : State) → T.holds table.old s → option_map (λ rs. rs.items) found ≡ subtrees_at s origin.now tops.now) }
+    ensures answer { T.is_honest table.new → IfOk result (λ found. (s : State) → T.holds table.old s → option_map (λ rs. rs.items) found ≡ option_map (included grants.old) (subtrees_at s origin.now tops.now)) }
     // They are in record order, whatever the store has done.
     ensures order { IfOk result (λ found. IfSome found (λ rs. InOrder rs.items)) }
     ensures reads { ReadsOnly T.holds T.is_honest T.leaves T.failures table.old table.new result }
 {
     let mut all = Vec::new(alloc);
     for top in tops {
-        let Some(more) = table.subtree(alloc, origin, top)? else {
+        let Some(more) = table.subtree(alloc, origin, top, grants)? else {
             return Ok(None);
         };
         all = joined(all, more)?;

@@ -157,29 +157,3 @@ text_read id update d text is made utf8 same reads =
     let found = reads (subst (λ (v : Data). depth v ≤ max_depth) (sym same) (value_flat id update)) ∙ ap (λ (v : Data). Some v) same in
     update_only text id update (update_value id update, json_some text (update_value id update) utf8 found, value_said id update is made)
     ∙ ap (λ r. body_with id (of_updates r)) (update_again update made)
-
--- ---- identifiers are text
-
-either : {P : Type 0} (a b : Bool) → (a || b) ≡ true → (a ≡ true → P) → (b ≡ true → P) → P
-either true b e f g = f refl
-either false b e f g = g e
-
-in_range : (low high o : ℕ) → (leb low o && leb o high) ≡ true → o ≤ high
-in_range low high o e = leb-true o high (and_parts (leb low o) (leb o high) e).1
-
-octet_below : (o : ℕ) → is_identifier_octet o ≡ true → o < 128
-octet_below o e =
-    either (is_ascii_alphanumeric o) (eqb o 45 || (eqb o 95 || eqb o 46)) e
-    (λ a. either (is_in_range 48 57 o || is_in_range 65 90 o) (is_in_range 97 122 o) a
-    (λ b. either (is_in_range 48 57 o) (is_in_range 65 90 o) b (λ c. let h = in_range 48 57 o c in omega arith) (λ c. let h = in_range 65 90 o c in omega arith))
-    (λ b. let h = in_range 97 122 o b in omega arith))
-    (λ a. either (eqb o 45) (eqb o 95 || eqb o 46) a (λ b. let h = eqb-true o 45 b in omega arith)
-    (λ b. either (eqb o 95) (eqb o 46) b (λ c. let h = eqb-true o 95 c in omega arith) (λ c. let h = eqb-true o 46 c in omega arith)))
-
-octet_at : (text : List ℕ) → list_all is_identifier_octet text ≡ true → (i : ℕ) → slice_index text i < 128
-octet_at [] e i = omega arith
-octet_at (o ∷ text) e zero = octet_below o (and_parts (is_identifier_octet o) (list_all is_identifier_octet text) e).0
-octet_at (o ∷ text) e (suc i) = octet_at text (and_parts (is_identifier_octet o) (list_all is_identifier_octet text) e).1 i
-
-pub identifier_is_text : (id : List ℕ) → IsIdentifier id → IsUtf8 id
-identifier_is_text id is = IsUtf8-from_ascii id (octet_at id is.octets)

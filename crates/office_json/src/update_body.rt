@@ -19,19 +19,7 @@ use dns_names::Name;
 use grant_policy::Identifier;
 use serde_json::{Map, Value};
 use std::alloc::{AllocError, Global};
-use std::str;
 use zone_core::{Operation, Prerequisite, Update};
-
-/// The octets of an identifier, as text.
-fn identifier_text(id: &Identifier) -> &str
-    ensures octets { result.now ≡ id.now }
-    ensures identifier { IsIdentifier id.now }
-{
-    let Ok(text) = str::from_utf8(id.as_bytes()) else {
-        unreachable!()
-    };
-    text
-}
 
 /// Puts a text at a field. The only error is out of memory.
 fn put_text(
@@ -167,7 +155,7 @@ fn update_value(alloc: Global, id: &Identifier, update: &Update) -> Result<Value
     ensures update { IfOk result (λ _. IsUpdate update.now) }
 {
     let mut members = Map::new(alloc);
-    put_word(&mut members, alloc, Field::Id, identifier_text(id))?;
+    put_word(&mut members, alloc, Field::Id, id.as_str())?;
     let operations = Value::Array(operation_values(alloc, update.operations())?);
     serde_json::put(&mut members, alloc, Field::Operations.text(), operations)?;
     let prerequisites = Value::Array(prerequisite_values(alloc, update.prerequisites())?);

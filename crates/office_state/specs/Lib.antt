@@ -1,5 +1,6 @@
 pub mod TableFaults
 pub mod Replies
+pub mod ReplyWords
 pub mod States
 pub mod Tables
 pub mod ItemFaults

@@ -1,6 +1,7 @@
 -- What a table is asked to add, and what it tells of its calls.
 use Rattle.std.specs.Prelude.{◌≡◌, ℕ, ◌+◌, ◌≤◌, List, [], ◌∷◌, ◌++◌, length, take, false, Option, Some, None, option_map, Result, Ok, Err, OnOk}
-use Rattle.std.specs.List.{AllByRecursion}
+use Rattle.std.specs.List.{AllByRecursion, filter}
+use Rattle.dns_data.specs.declared.record.Record.{Record}
 use Rattle.dns_data.specs.Rdata.{type_of}
 use Rattle.grant_policy.specs.Grants.{GrantsOf, includes}
 use Rattle.zone_core.specs.Changes.{ChangeOf, FitsIn, change_in, changed, is_empty}
@@ -55,7 +56,11 @@ pub record Fits (s : State) (a : AdditionOf) : Type 0 where
   pub fresh : s.receipts a.caller a.id ≡ None
   pub change : FitsChange s a.receipt.origin a.change
 
--- ---- what grants leave out of changes
+-- ---- what grants include, and what they leave out of changes
+
+-- the records that grants include
+abbrev pub included : GrantsOf → List Record → List Record
+included grants rs = filter (λ r. includes grants r.owner (type_of r.rdata)) rs
 
 -- grants include no record of a change
 abbrev pub IsHidden : GrantsOf → ChangeOf → Type 0

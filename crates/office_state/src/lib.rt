@@ -3,6 +3,7 @@
 #![tactic(auto)]
 
 mod ahead;
+mod included_records;
 mod item;
 mod item_fault;
 mod items_fault;
@@ -10,17 +11,20 @@ mod laws;
 mod lines;
 mod receipt;
 mod reply;
+mod reply_text;
 mod request;
 mod table;
 mod table_fault;
 mod text;
 
 pub use ahead::Ahead;
+pub use included_records::{included, with_included};
 pub use items_fault::ItemsFault;
 pub use laws::items_are_read;
 pub use lines::{ItemLists, entry_items, read_item_lists, read_items};
 pub use receipt::{Addition, Receipt};
 pub use reply::{NumberedChange, Reply, Right, UpdateReply};
+pub use reply_text::reply_words;
 pub use request::{Call, Request};
 pub use table::ZoneTable;
 pub use table_fault::{StepFault, TableFault};

@@ -5,7 +5,7 @@ ghost use Rattle.dns_data.specs.declared.record.Record.{Record};
 ghost use Rattle.zone_core.specs.Sets.{InOrder};
 ghost use Rattle.zone_core.specs.Changes.{change_in};
 ghost use Rattle.office_state.specs.States.{Held, State, AreZones, AreReceipts, zone_at, part_at, subtree_at, changes_at};
-ghost use Rattle.office_state.specs.Tables.{AreHidden, Counts, Fits, ReadsOnly, addition_in, committed};
+ghost use Rattle.office_state.specs.Tables.{AreHidden, Counts, Fits, ReadsOnly, addition_in, committed, included};
 
 use crate::ahead::Ahead;
 use crate::receipt::{Addition, Receipt};
@@ -45,16 +45,18 @@ pub trait ZoneTable {
         ensures answer { is_honest self.new → IfOk result (λ zone. (s : State) → holds self.old s → zone ≡ part_at s origin.now names.now) }
         ensures reads { ReadsOnly holds is_honest leaves failures self.old self.new result };
 
-    /// The records of a zone within a name, in record order, where there is the zone.
+    /// The records of a zone within a name that grants include, in record order, where there is the zone. No other record is copied.
     fn subtree(
         &mut self,
         alloc: Global,
         origin: &Name,
         top: &Name,
+        grants: &mut Grants<'_>,
     ) -> Result<Option<Vec<Record>>, TableFault>
-        ensures answer { is_honest self.new → IfOk result (λ records. (s : State) → holds self.old s → option_map (λ rs. rs.items) records ≡ subtree_at s origin.now top.now) }
+        ensures answer { is_honest self.new → IfOk result (λ records. (s : State) → holds self.old s → option_map (λ rs. rs.items) records ≡ option_map (included grants.old) (subtree_at s origin.now top.now)) }
         // They are in record order, whatever the store has done.
         ensures order { IfOk result (λ records. IfSome records (λ rs. InOrder rs.items)) }
+        ensures same { grants.new ≡ grants.old }
         ensures reads { ReadsOnly holds is_honest leaves failures self.old self.new result };
 
     /// The receipt of a caller under an identifier, where there is one.

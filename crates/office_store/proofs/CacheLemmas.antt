@@ -1,10 +1,6 @@
 -- The cached zone, and the state that the connection holds.
-use Rattle.std.proofs.Common.{◌≡◌, ◌⊎◌, ℕ, inl, inr, pos, ◌+◌, ◌<◌, List, [], ◌∷◌, ◌++◌, length, get_or, ◌&&◌, ◌||◌, Bool, bytes_eq, cond, true, false, map, drop, take, Option, Some, None, option_map, Result, Ok, Err, IfOk, IfSome, IsTrue, IsPermutation, filter, refl, sym, ap, subst, ◌∙◌, arith}
+use Rattle.std.proofs.Common.{◌≡◌, ◌⊎◌, ℕ, inl, inr, pos, List, ◌&&◌, bytes_eq, cond, true, false, map, drop, Option, Some, None, option_map, Result, Ok, Err, IfSome, IsTrue, IsPermutation, refl, sym, ap, subst, ◌∙◌}
 use Rattle.std.proofs.Math.Logic.{∥∥₁_map, ∥∥₁_elim}
-use Rattle.std.specs.FinMap.{get}
-use Rattle.std.specs.List.{AllByRecursion, Contains, list_any}
-use Rattle.std.proofs.lemmas.List.Elements.{Contains-append_left, Contains-append_right}
-use Rattle.std.proofs.lemmas.List.Folds.{list_any_more}
 use Rattle.std.specs.Coded.{Coded-set, coded_option}
 use Rattle.std.proofs.lemmas.List.Sorted.{IsPermutation-sym, IsPermutation-trans}
 use Rattle.sqlite_trees.proofs.ListLemmas.{IsPermutation-filter}
@@ -15,21 +11,15 @@ use Rattle.dns_names.specs.Spelling.{name_text}
 use Rattle.dns_names.proofs.NameLemmas.{same_name-Decides}
 use Rattle.dns_data.specs.declared.record.Record.{Record}
 use Rattle.zone_core.specs.Codes.{zone_code}
-use Rattle.zone_core.specs.Sets.{Records, Key, key_of as key_of_record, set_of, listing, part, at_name, within, InOrder, IsIn}
-use Rattle.zone_core.specs.declared.refusals.ZoneFault.{ZoneFault}
-use Rattle.zone_core.specs.Zones.{ZoneOf, IsZone, built}
+use Rattle.zone_core.specs.Sets.{listing, part, within}
+use Rattle.zone_core.specs.Zones.{ZoneOf, IsZone}
 use Rattle.zone_core.specs.Parts.{part_of, at_names}
-use Rattle.zone_core.specs.Rebuilt.{AreAllOf}
 use Rattle.zone_core.specs.Changes.{ChangeOf, changed}
 use Rattle.zone_core.specs.Views.{zone_in}
-use Rattle.zone_core.proofs.SetLemmas.{by_cases, found_of_part, get-part, name_self, same_sets}
-use Rattle.zone_core.proofs.NeedLemmas.{part_is_zone}
-use Rattle.zone_core.proofs.RebuiltLemmas.{zones_are_rebuilt}
-use Rattle.zone_core.proofs.RowLemmas.{each_in, get-set_of, in_has, listing-part, set_of-filter, InOrder-filter}
-use Rattle.office_store.proofs.PieceLemmas.{all_joined}
-use Rattle.zone_core.proofs.ChangedLemmas.{listed}
+use Rattle.zone_core.proofs.SetLemmas.{by_cases}
 use Rattle.office_state.specs.States.{Held, State, zone_held, zone_at, part_at, subtree_at, keep}
-use Rattle.office_state.specs.Tables.{AdditionOf, held_with, with_change_of, committed}
+use Rattle.grant_policy.specs.Grants.{GrantsOf}
+use Rattle.office_state.specs.Tables.{AdditionOf, included, held_with, with_change_of, committed}
 use Rattle.office_sql.specs.Rows.{RecordRowOf, RowsOf}
 use Rattle.office_sql.specs.Tables.{stored_record}
 use Rattle.office_sql.specs.Lookups.{records_of, records_at}
@@ -40,7 +30,8 @@ use Rattle.office_rows.proofs.ListLemmas.{none_moved}
 use Rattle.office_rows.proofs.OriginLaws.{zones_stand_at_origins}
 use Rattle.office_rows.proofs.StateLaws.{states_are_sound}
 use Rattle.office_rows.proofs.ZoneReadLemmas.{rows_moved, zone_of_state, zone_stored}
-use Rattle.office_store.specs.Cache.{AreRecordsOf, FitsCache, IsPartOf, IsZoneIn, cached_after, cached_behind, changed_at, with_change}
+use Rattle.zone_cache.specs.Cache.{AreAllRecordsOf, AreIncludedOf, IsPartOf, cached_after, cached_behind, changed_at, with_change}
+use Rattle.office_store.specs.Cache.{FitsCache, IsZoneIn}
 use Rattle.office_store.specs.Holds.{HoldsState, LeavesStates}
 use Rattle.office_store.specs.Queries.{Asked}
 use Rattle.office_store.specs.Turns.{Turns}
@@ -176,22 +167,18 @@ pub exported_is : (o : Labels) (found : Option Held) (zone : ZoneOf) → Some zo
 exported_is o None zone is = absurd (let none : None ≡ Some zone = sym is in cc)
 exported_is o (Some held) zone is = let same : zone ≡ zone_held o held = cc in ap (λ (z : ZoneOf). Ok (listing z.records)) (sym same)
 
--- and those of its records whose keys pass a test are those of the zone
-pub told_of_subtree : (conn : Shown) (cached : Option ZoneOf) (o top : Labels) (rs : List Record) → FitsCache conn cached → HasCleanDisk conn → IsTrue conn.is_open → AreRecordsOf cached o (within top) rs
-    → (s : State) → HoldsState conn s → Some rs ≡ subtree_at s o top
-told_of_subtree conn cached o top rs fits clean up is s h =
+-- and those of its records within a name that grants include are those of the zone
+pub told_of_subtree : (conn : Shown) (cached : Option ZoneOf) (o top : Labels) (g : GrantsOf) (rs : List Record) → FitsCache conn cached → HasCleanDisk conn → IsTrue conn.is_open → AreIncludedOf cached o top g rs
+    → (s : State) → HoldsState conn s → Some rs ≡ option_map (included g) (subtree_at s o top)
+told_of_subtree conn cached o top g rs fits clean up is s h =
     ap (λ (l : List Record). Some l) is.records
-    ∙ ap (option_map (λ (zone : ZoneOf). listing (part zone.records (within top)))) (told_of_cache conn cached is.zone o fits clean up is.is_cached is.own s h)
+    ∙ ap (λ (found : Option ZoneOf). option_map (included g) (option_map (λ (zone : ZoneOf). listing (part zone.records (within top))) found)) (told_of_cache conn cached is.zone o fits clean up is.is_cached is.own s h)
 
 -- all of them are exported
-pub told_of_all : (conn : Shown) (cached : Option ZoneOf) (o : Labels) (rs : List Record) → FitsCache conn cached → HasCleanDisk conn → IsTrue conn.is_open → AreRecordsOf cached o (λ k. true) rs
+pub told_of_all : (conn : Shown) (cached : Option ZoneOf) (o : Labels) (rs : List Record) → FitsCache conn cached → HasCleanDisk conn → IsTrue conn.is_open → AreAllRecordsOf cached o rs
     → (s : State) → HoldsState conn s → exported (s.zones o) ≡ Ok rs
 told_of_all conn cached o rs fits clean up is s h =
-    exported_is o (s.zones o) is.zone (told_of_cache conn cached is.zone o fits clean up is.is_cached is.own s h)
-    ∙ ap (λ (l : List Record). Ok l) (sym (is.records ∙ ap (λ (set : Records). listing set) (all_keys is.zone.records)))
-  where
-    all_keys : (set : Records) → part set (λ k. true) ≡ set
-    all_keys set = same_sets (part set (λ k. true)) set (λ k. get-part set (λ j. true) k)
+    exported_is o (s.zones o) is.zone (told_of_cache conn cached is.zone o fits clean up is.is_cached is.own s h) ∙ ap (λ (l : List Record). Ok l) (sym is.records)
 
 -- and its part at some names is that of the zone
 pub told_of_part : (conn : Shown) (cached : Option ZoneOf) (o : Labels) (names : List Labels) (whole : ZoneOf) → FitsCache conn cached → HasCleanDisk conn → IsTrue conn.is_open → IsPartOf cached o names whole
@@ -214,104 +201,3 @@ fits_found old new before found None o fits asked own tells is = fits_asked_none
 fits_found old new before found (Some zone) o fits asked own tells is =
     let named : zone.origin ≡ o = subst (λ f. IfSome f (λ z. z.origin ≡ o)) is own in
     record { held = λ clean. ∥∥₁_map (fits.held (asked.honest clean)) (λ it. (it.0, asked.same it.0 it.1, subst (λ n. zone_at it.0 n ≡ Some zone) (sym named) (sym (tells clean it.0 it.1) ∙ is))) }
-
--- ---- what is cached
-
--- the rows of a zone that was read
-pub of_zone : (zone : ZoneOf) (origin : Labels) (rows rs : List Record) → IsZone zone → origin ≡ zone.origin → rows ≡ rs → rs ≡ listing zone.records → record { origin = origin; records = set_of rows } ≡ zone
-of_zone zone origin rows rs is own same listing_is =
-    λ i. record { origin = own i; records = (ap set_of (same ∙ listing_is) ∙ (listed zone.records is.kept).set) i }
-
--- the records of rows whose keys pass a test
-pub records_are : (rows rs : List Record) (test : Key → Bool) → InOrder rows → rs ≡ filter (λ r. test (key_of_record r)) rows → rs ≡ listing (part (set_of rows) test)
-records_are rows rs test order is = is ∙ sym (listing-part test rows order)
-
--- all rows pass where each does
-pub all_kept : (rows : List Record) → filter (λ r. true) rows ≡ rows
-all_kept [] = refl
-all_kept (r ∷ rs) = ap (λ l. r ∷ l) (all_kept rs)
-
--- ---- the records of a part, gathered name by name
-
-all_weaker : {P Q : Record → Type 0} (rs : List Record) → ((r : Record) → P r → Q r) → AllByRecursion P rs → AllByRecursion Q rs
-all_weaker [] f all = tt
-all_weaker (r ∷ rs) f all = (f r all.0, all_weaker rs f all.1)
-
-all_there : (rs : List Record) → AllByRecursion (Contains rs) rs
-all_there [] = tt
-all_there (r ∷ rs) = ((0, omega arith, refl), all_weaker rs (λ s. Contains-append_right (r ∷ []) rs s) (all_there rs))
-
--- rows are all of their set
-all_of_rows : (rs : List Record) → InOrder rs → AreAllOf rs (set_of rs)
-all_of_rows rs order =
-    record {
-      inside = all_weaker rs (λ r e. get-set_of rs (key_of_record r) ∙ e) (each_in rs order);
-      whole = λ r here. in_has (Contains rs) rs r (all_there rs) here;
-    }
-
--- those that pass a test are all of a part
-pub all_filtered : (rows rs : List Record) (test : Key → Bool) → InOrder rows → rs ≡ filter (λ r. test (key_of_record r)) rows → AreAllOf rs (part (set_of rows) test)
-all_filtered rows rs test order is =
-    subst (λ l. AreAllOf l (part (set_of rows) test)) (sym is)
-    (subst (AreAllOf (filter (λ r. test (key_of_record r)) rows)) (set_of-filter test rows) (all_of_rows (filter (λ r. test (key_of_record r)) rows) (InOrder-filter (λ r. test (key_of_record r)) rows order)))
-
--- with those of one more test
-pub all_more : (set : Records) (p q t : Key → Bool) → ((k : Key) → t k ≡ (p k || q k)) → (xs ys : List Record) → AreAllOf xs (part set p) → AreAllOf ys (part set q) → AreAllOf (xs ++ ys) (part set t)
-all_more set p q t both xs ys first second =
-    record {
-      inside = all_joined (λ r. IsIn r (part set t)) xs ys (all_weaker xs (λ r here. wider p (λ k e. both k ∙ ap (λ b. b || q k) e) r here) first.inside)
-          (all_weaker ys (λ r here. wider q (λ k e. both k ∙ ap (λ b. p k || b) e ∙ or_true (p k)) r here) second.inside);
-      whole = λ r here. let found = found_of_part set t (key_of_record r) r here in
-          by_cases (p (key_of_record r)) (Contains (xs ++ ys) r)
-          (λ e. Contains-append_left xs ys r (first.whole r (get-part set p (key_of_record r) ∙ ap (λ b. cond b (get set (key_of_record r)) None) e ∙ found.1)))
-          (λ e. Contains-append_right xs ys r (second.whole r (get-part set q (key_of_record r) ∙ ap (λ b. cond b (get set (key_of_record r)) None) (sym (ap (λ b. b || q (key_of_record r)) e) ∙ sym (both (key_of_record r)) ∙ found.0) ∙ found.1)));
-    }
-  where
-    or_true : (b : Bool) → (b || true) ≡ true
-    or_true true = refl
-    or_true false = refl
-
-    wider : (w : Key → Bool) → ((k : Key) → w k ≡ true → t k ≡ true) → (r : Record) → IsIn r (part set w) → IsIn r (part set t)
-    wider w more r here =
-        let found = found_of_part set w (key_of_record r) r here in
-        get-part set t (key_of_record r) ∙ ap (λ b. cond b (get set (key_of_record r)) None) (more (key_of_record r) found.0) ∙ found.1
-
--- at first those at the origin
-pub all_at_origin : (set : Records) (o : Labels) (xs : List Record) → AreAllOf xs (part set (at_name o)) → AreAllOf xs (part set (at_names o []))
-all_at_origin set o xs all = subst (λ test. AreAllOf xs (part set test)) (λ i k. sym (or_nothing (at_name o k)) i) all
-  where
-    or_nothing : (b : Bool) → (b || false) ≡ b
-    or_nothing true = refl
-    or_nothing false = refl
-
--- and then those at one name more
-pub all_at_name : (set : Records) (o : Labels) (names : List Labels) (i : ℕ) (name : Labels) → i < length names → name ≡ get_or names i name → (xs ys : List Record)
-    → AreAllOf xs (part set (at_names o (take i names))) → AreAllOf ys (part set (at_name name)) → AreAllOf (xs ++ ys) (part set (at_names o (take (i + 1) names)))
-all_at_name set o names i name below is xs ys first second =
-    all_more set (at_names o (take i names)) (at_name name) (at_names o (take (i + 1) names)) (λ k.
-    ap (λ b. at_name o k || b) (list_any_more (λ n. at_name n k) names i name below ∙ ap (λ n. list_any (λ m. at_name m k) (take i names) || at_name n k) (sym is))
-    ∙ or_assoc (at_name o k) (list_any (λ n. at_name n k) (take i names)) (at_name name k)) xs ys first second
-  where
-    or_assoc : (a b c : Bool) → (a || (b || c)) ≡ ((a || b) || c)
-    or_assoc true b c = refl
-    or_assoc false b c = refl
-
--- what is built of them is the part
-pub part_built : (zone whole : ZoneOf) (names : List Labels) (rs : List Record) → AreAllOf rs (part zone.records (at_names zone.origin names)) → built zone.origin rs ≡ Ok whole → IsZone zone → whole ≡ part_of zone (at_names zone.origin names)
-part_built zone whole names rs all made is =
-    let there = part_is_zone zone (at_names zone.origin names) is (λ k name. ap (λ b. b || list_any (λ n. at_name n k) names) (here k name)) in
-    ok_is (sym made ∙ zones_are_rebuilt (part_of zone (at_names zone.origin names)) rs there all)
-  where
-    here : (k : Key) → k.0 ≡ zone.origin → at_name zone.origin k ≡ true
-    here k name = rw name (name_self zone.origin)
-
-    ok_is : {x y : ZoneOf} → ◌≡◌ {A = Result ZoneOf ZoneFault} (Ok x) (Ok y) → x ≡ y
-    ok_is e = cc
-
--- the part of the cached zone, as far as that is a zone
-pub part_told : {E : Type 0} (r : Result (Option ZoneOf) E) (cached : Option ZoneOf) (zone : ZoneOf) (o : Labels) (names : List Labels) → cached ≡ Some zone → zone.origin ≡ o
-    → IfOk r (λ found. IfSome found (λ part. IsZone zone → part ≡ part_of zone (at_names zone.origin names))) → IfOk r (λ found. IfSome found (λ part. IsPartOf cached o names part))
-part_told (Ok None) cached zone o names there own told = tt
-part_told (Ok (Some part)) cached zone o names there own told =
-    record { zone = zone; is_cached = there; own = own; part = λ is. subst (λ n. part ≡ part_of zone (at_names n names)) own (told is) }
-part_told (Err e) cached zone o names there own told = tt

@@ -6,9 +6,6 @@ pub mod VersionLemmas
 pub mod ZoneLemmas
 pub mod CacheLemmas
 pub mod HistoryLemmas
-pub mod RecordRowLemmas
-pub mod PieceLemmas
-pub mod OwnerLemmas
 pub mod AdditionLemmas
 pub mod GoneRowLemmas
 pub mod MigratedZoneLemmas

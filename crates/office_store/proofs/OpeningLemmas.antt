@@ -14,8 +14,9 @@ use Rattle.office_sql.proofs.Selections.{one_stored_zone}
 use Rattle.office_sql.proofs.WholeTables.{reads_all, stored_same}
 use Rattle.office_rows.specs.declared.row_fault.RowFault.{RowFault}
 use Rattle.office_rows.specs.declared.row_fault.RowFault.TheVariants as rows
-use Rattle.office_rows.specs.declared.store_fault.StoreFault.{StoreFault}
-use Rattle.office_rows.specs.StoreFaults.{of_found, of_check, IsFailure}
+use Rattle.store_faults.specs.declared.store_fault.StoreFault.{StoreFault}
+use Rattle.store_faults.specs.StoreFaults.{of_found, IsFailure}
+use Rattle.office_rows.specs.RowRefusals.{of_check}
 use Rattle.zone_core.specs.Zones.{ZoneOf}
 use Rattle.office_rows.specs.Contents.{AreOfState}
 use Rattle.office_rows.specs.ReadZones.{IsReadAmong, IsReadIn}

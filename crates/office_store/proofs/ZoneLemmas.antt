@@ -10,9 +10,9 @@ use Rattle.zone_core.proofs.SetLemmas.{by_cases, same_sets, found_in_part}
 use Rattle.zone_core.proofs.ChangedLemmas.{same_sets_are_one}
 use Rattle.office_state.specs.States.{Held, State, zone_held}
 use Rattle.office_rows.proofs.ZoneReadLemmas.{built_at}
-use Rattle.office_rows.specs.declared.store_fault.StoreFault.{StoreFault}
-use Rattle.office_rows.specs.declared.store_fault.StoreFault.TheVariants.{SerialNotGreater}
-use Rattle.office_rows.specs.StoreFaults.{IsFailure, Gives, of_zones, ◌>>=◌}
+use Rattle.store_faults.specs.declared.store_fault.StoreFault.{StoreFault}
+use Rattle.store_faults.specs.declared.store_fault.StoreFault.TheVariants.{SerialNotGreater}
+use Rattle.store_faults.specs.StoreFaults.{IsFailure, Gives, of_zones, ◌>>=◌}
 use Rattle.office_store.specs.Zones.{if_free, if_later, imported, replaced}
 use Rattle.office_store.proofs.FaultLemmas.{says_nothing}
 

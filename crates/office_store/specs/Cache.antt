@@ -1,46 +1,9 @@
 -- The zone that a table keeps beside its connection.
-use Rattle.std.specs.Prelude.{◌≡◌, ℕ, List, if◌then◌else◌, Bool, Option, Some, None, option_map}
+use Rattle.std.specs.Prelude.{◌≡◌, Option, Some, None}
 use Rattle.sqlite.specs.State.{State as Shown, HasCleanDisk}
-use Rattle.dns_names.specs.Order.{same_name}
-use Rattle.dns_data.specs.declared.record.Record.{Record}
-use Rattle.zone_core.specs.Sets.{Key, set_of, listing, part}
-use Rattle.zone_core.specs.Zones.{ZoneOf, IsZone}
-use Rattle.zone_core.specs.Parts.{part_of, at_names}
-use Rattle.zone_core.specs.Changes.{ChangeOf, changed}
+use Rattle.zone_core.specs.Zones.{ZoneOf}
 use Rattle.office_state.specs.States.{State, zone_at}
-use Rattle.office_state.specs.Tables.{AdditionOf}
-use Rattle.office_store.specs.declared.cache.CachedZone.{CachedZone}
 use Rattle.office_store.specs.Holds.{HoldsState}
-
--- ---- the cached zone
-
--- a zone with a change made
-abbrev pub with_change : ZoneOf → ChangeOf → ZoneOf
-with_change zone c = record zone { records = changed zone.records c.removed c.added }
-
--- the cached zone: its origin, and the set of its rows
-abbrev pub current_zone : CachedZone → ZoneOf
-current_zone cached = record { origin = cached.origin; records = set_of cached.rows }
-
--- the cached zone, if there is one
-abbrev pub cached_in : Option CachedZone → Option ZoneOf
-cached_in cache = option_map current_zone cache
-
--- records are those of a zone that is cached, which is the one of an origin, whose keys pass a test
-pub record AreRecordsOf (cached : Option ZoneOf) (origin : List (List ℕ)) (test : Key → Bool) (rs : List Record) : Type 0 where
-  pub zone : ZoneOf
-  pub is_cached : cached ≡ Some zone
-  pub own : zone.origin ≡ origin
-  pub records : rs ≡ listing (part zone.records test)
-
--- a zone is the part at some names of a zone that is cached, which is the one of an origin; it is that as long as that one is a zone
-pub record IsPartOf (cached : Option ZoneOf) (origin : List (List ℕ)) (names : List (List (List ℕ))) (whole : ZoneOf) : Type 0 where
-  pub zone : ZoneOf
-  pub is_cached : cached ≡ Some zone
-  pub own : zone.origin ≡ origin
-  pub part : IsZone zone → whole ≡ part_of zone (at_names origin names)
-
--- ---- when it is one of the state
 
 -- a zone is the one of its origin in a state
 abbrev pub IsZoneIn : State → Option ZoneOf → Type 0
@@ -50,18 +13,3 @@ IsZoneIn s (Some zone) = zone_at s zone.origin ≡ Some zone
 -- As long as the store has kept its word, the connection holds a state, and the cached zone is a zone of it.
 pub record FitsCache (conn : Shown) (cached : Option ZoneOf) : Type 0 where
   pub held : HasCleanDisk conn → ∥ ((s : State) × HoldsState conn s × IsZoneIn s cached) ∥₁
-
--- ---- behind a commit
-
--- a zone behind a change of the zone of an origin
-abbrev pub changed_at : List (List ℕ) → ChangeOf → ZoneOf → ZoneOf
-changed_at origin c zone = if same_name zone.origin origin then with_change zone c else zone
-
--- a zone behind a change of the zone of an origin, if there is one
-abbrev pub cached_behind : List (List ℕ) → Option ChangeOf → Option ZoneOf → Option ZoneOf
-cached_behind origin None cached = cached
-cached_behind origin (Some c) cached = option_map (changed_at origin c) cached
-
--- the cached zone behind an addition
-abbrev pub cached_after : AdditionOf → Option ZoneOf → Option ZoneOf
-cached_after a cached = cached_behind a.receipt.origin a.change cached

@@ -1,6 +1,4 @@
 pub mod Holds
-pub mod Owners
-pub mod RowPieces
 pub mod Cache
 pub mod History
 pub mod Queries

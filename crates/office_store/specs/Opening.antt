@@ -9,8 +9,8 @@ use Rattle.office_sql.specs.Holds.{HasZones, HasRecords, HasReceipts, HasChanges
 use Rattle.zone_core.specs.Zones.{ZoneOf}
 use Rattle.office_rows.specs.ReadZones.{IsReadAmong, IsReadIn}
 use Rattle.office_rows.specs.Checks.{AreOriginRows, AreRecordsOf, AreChangesOf, AreReceiptRows, AreStateRows}
-use Rattle.office_rows.specs.declared.store_fault.StoreFault.{StoreFault}
-use Rattle.office_rows.specs.StoreFaults.{IsFailure, IsOfRows}
+use Rattle.store_faults.specs.declared.store_fault.StoreFault.{StoreFault}
+use Rattle.store_faults.specs.StoreFaults.{IsFailure, IsOfRows}
 
 -- A check only asks, and what is shown stays as it is. It passes only where this is so of the database; rows of which that is so are
 -- refused only by a failure.

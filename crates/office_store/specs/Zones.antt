@@ -6,9 +6,9 @@ use Rattle.zone_core.specs.Serials.{is_less}
 use Rattle.zone_core.specs.Zones.{ZoneOf, built, serial_of}
 use Rattle.office_state.specs.States.{Held, State, zone_held}
 use Rattle.office_rows.specs.Batches.{with_zone, with_zone_replaced}
-use Rattle.office_rows.specs.declared.store_fault.StoreFault.{StoreFault}
-use Rattle.office_rows.specs.declared.store_fault.StoreFault.TheVariants.{ZoneExists, NoZone, SerialNotGreater}
-use Rattle.office_rows.specs.StoreFaults.{of_zones, ◌>>=◌}
+use Rattle.store_faults.specs.declared.store_fault.StoreFault.{StoreFault}
+use Rattle.store_faults.specs.declared.store_fault.StoreFault.TheVariants.{ZoneExists, NoZone, SerialNotGreater}
+use Rattle.store_faults.specs.StoreFaults.{of_zones, ◌>>=◌}
 
 -- ---- a zone of an origin that has none
 

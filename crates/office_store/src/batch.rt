@@ -9,18 +9,19 @@ ghost use Rattle.office_state.specs.Tables.{Fits, addition_in, committed};
 ghost use Rattle.office_rows.specs.States.{last_of};
 ghost use Rattle.office_rows.specs.Batches.{Leads, IsNext, receipt_rows};
 ghost use Rattle.office_store.specs.Additions.{Writes};
-ghost use Rattle.office_rows.specs.StoreFaults.{IsFailure};
+ghost use Rattle.store_faults.specs.StoreFaults.{IsFailure};
 ghost use Rattle.office_store.specs.Holds.{HoldsState, LeavesStates};
 ghost use Rattle.office_store.specs.Queries.{Asked};
 ghost use Rattle.office_store.specs.Turns.{Turns};
 
 use crate::queries::check_alone;
 use dns_names::Name;
-use office_rows::{StoreFault, addition_batch, receipt_batch};
+use office_rows::{addition_batch, receipt_batch};
 use office_sql::{Batch, last_number, write};
 use office_state::Addition;
 use sqlite::{Alter, Connection, Error as StoreError, ErrorCode};
 use std::alloc::Global;
+use store_faults::StoreFault;
 
 /// The number behind that of the last change, and 1 for the first. Behind 9,223,372,036,854,775,807 there is no number.
 fn number_behind(last: Option<i64>) -> Result<i64, StoreFault>

@@ -7,15 +7,15 @@ ghost use Rattle.sqlite.specs.Files.{file_state, HoldsDatabase};
 ghost use Rattle.sqlite.specs.State.{HasCleanDisk};
 ghost use Rattle.office_state.specs.States.{State};
 ghost use Rattle.office_sql.specs.Holds.{Leaves};
-ghost use Rattle.office_rows.specs.declared.store_fault.StoreFault.TheVariants.{BadRow, WrongVersion};
-ghost use Rattle.office_rows.specs.StoreFaults.{IsFailure, IsOfRows};
+ghost use Rattle.store_faults.specs.declared.store_fault.StoreFault.TheVariants.{BadRow, WrongVersion};
+ghost use Rattle.store_faults.specs.StoreFaults.{IsFailure, IsOfRows};
 ghost use Rattle.office_store.specs.Files.{AreOfVersion, HoldStateIn, HoldVersionIn, ShowsStill};
 ghost use Rattle.office_store.specs.Holds.{HoldsState, IsStateIn, LeavesStates};
 
 use crate::table::SqlTable;
-use office_rows::StoreFault;
 use sqlite::{Alter, Connection, FileFrom, FileStore, Start};
 use std::sync::ledger::{Blank, Ledger};
+use store_faults::StoreFault;
 
 /// Why there is no table in the file of a path.
 #[derive(Drop)]

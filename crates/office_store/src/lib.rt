@@ -6,24 +6,21 @@
 mod batch;
 mod cache;
 mod file;
-mod history;
 mod laws;
 mod migration;
 mod migration_change;
 mod migration_rows;
 mod migration_steps;
 mod opening;
-mod owners;
 mod queries;
 mod reads;
-mod record_rows;
-mod row_pieces;
 mod table;
 mod zones;
 
 pub use file::Unopened;
 pub use laws::migrated_zones_are_even;
 pub use migration_rows::{Migration, migration_of};
-pub use office_rows::{KeptReceipt, StoreFault};
+pub use office_rows::KeptReceipt;
 pub use opening::Refused;
+pub use store_faults::StoreFault;
 pub use table::SqlTable;

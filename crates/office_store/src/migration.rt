@@ -7,18 +7,19 @@ ghost use Rattle.office_sql.specs.Holds.{Keeps, Leaves, SameRows};
 ghost use Rattle.office_rows.specs.Contents.{ContentOf, rows_of};
 ghost use Rattle.office_store.specs.OldZones.{IsOldContent};
 ghost use Rattle.office_store.specs.MigratedContents.{Migrates};
-ghost use Rattle.office_rows.specs.declared.store_fault.StoreFault.TheVariants.{BadRow, WrongVersion};
+ghost use Rattle.store_faults.specs.declared.store_fault.StoreFault.TheVariants.{BadRow, WrongVersion};
 ghost use Rattle.office_store.specs.Queries.{Asked};
-ghost use Rattle.office_rows.specs.StoreFaults.{IsFailure, IsOfRows};
+ghost use Rattle.store_faults.specs.StoreFaults.{IsFailure, IsOfRows};
 ghost use Rattle.office_store.specs.Holds.{IsOfVersion};
 ghost use Rattle.office_store.specs.Migration.{HoldsOld, IsMigratedFrom, IsMigrated, IsRead};
 
 use crate::migration_rows::{Migration, migration_of};
 use crate::opening::{check_version, found};
-use office_rows::{RowFault, StoreFault};
+use office_rows::RowFault;
 use office_sql::{AllRows, all_rows, write};
 use sqlite::{Alter, Connection};
 use std::alloc::Global;
+use store_faults::StoreFault;
 
 /// The version of the tables that are migrated.
 const OLD_VERSION: i64 = 1;

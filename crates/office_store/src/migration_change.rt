@@ -13,7 +13,7 @@ use dns_names::Name;
 use office_rows::RowFault;
 use office_rows::ordered::ZoneRecord;
 use office_rows::reads::{are_in_order, built};
-use office_rows::zones::{are_those, copied};
+use office_rows::zone_records::{are_those, copied};
 use std::alloc::{AllocError, Global};
 use zone_core::{Change, Zone};
 

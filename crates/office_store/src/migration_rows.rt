@@ -40,8 +40,8 @@ fn zone_steps(
     if !are_apart(&origins) {
         return Err(RowFault::BadRow);
     }
-    let records = ordered::records(alloc, records)?;
-    let changes = sorted_changes(alloc, changes)?;
+    let records = ordered::records(alloc, &records)?;
+    let changes = sorted_changes(alloc, &changes)?;
     steps_in_turn(alloc, &origins, &records, &changes)
 }
 

@@ -9,8 +9,9 @@ ghost use Rattle.office_sql.specs.Holds.{Holds, Keeps, Leaves};
 ghost use Rattle.office_sql.specs.Rows.{RowsOf};
 ghost use Rattle.office_sql.specs.Tables.{no_schema, IsOffice};
 ghost use Rattle.office_rows.specs.Batches.{nothing_held};
-ghost use Rattle.office_rows.specs.declared.store_fault.StoreFault.TheVariants.{BadRow, WrongVersion};
-ghost use Rattle.office_rows.specs.StoreFaults.{IsFailure, IsOfRows, of_found, of_check};
+ghost use Rattle.store_faults.specs.declared.store_fault.StoreFault.TheVariants.{BadRow, WrongVersion};
+ghost use Rattle.store_faults.specs.StoreFaults.{IsFailure, IsOfRows, of_found};
+ghost use Rattle.office_rows.specs.RowRefusals.{of_check};
 ghost use Rattle.office_rows.specs.Checks.{Checks, AreOrigins, AreRecordsOf, AreChangesOf, AreReceiptRows, AreStateRows};
 ghost use Rattle.office_store.specs.Cache.{IsZoneIn};
 ghost use Rattle.office_store.specs.Opening.{IsCheck, IsNow, HasOrigins, VersionIn, OriginsIn, RecordsFound, ChangesIn, ReceiptsIn, StateFound};
@@ -20,9 +21,7 @@ ghost use Rattle.office_store.specs.Queries.{Asked, AsksOnly};
 use crate::queries::check_open;
 use dns_names::Name;
 use office_rows::state::is_alone;
-use office_rows::{
-    ChangeReader, OriginReader, RecordReader, RowFault, StoreFault, checked_origins,
-};
+use office_rows::{ChangeReader, OriginReader, RecordReader, RowFault, checked_origins};
 use office_sql::{
     RowsFault, WholeRows, all_changes, all_receipts, all_records, all_zones, has_no_tables,
     has_tables, make_tables, versions,
@@ -30,6 +29,7 @@ use office_sql::{
 use sqlite::{Alter, Connection};
 use std::alloc::Global;
 use std::sync::ledger::Blank;
+use store_faults::StoreFault;
 use zone_core::Zone;
 
 /// The version of the tables, in the one row of `meta`.

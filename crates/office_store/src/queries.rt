@@ -12,18 +12,18 @@ ghost use Rattle.office_sql.specs.Holds.{Holds, Keeps, OnlyAsks};
 ghost use Rattle.office_sql.specs.Lookups.{records_of as rows_of, records_at, changes_of as changes_in, changes_between as changes_in_between};
 ghost use Rattle.office_rows.specs.Contents.{AreOfState};
 ghost use Rattle.office_rows.specs.PartRows.{AreRowsAt, rows_within};
-ghost use Rattle.office_rows.specs.StoreFaults.{IsFailure};
+ghost use Rattle.store_faults.specs.StoreFaults.{IsFailure};
 ghost use Rattle.office_store.specs.Holds.{HoldsState};
 ghost use Rattle.office_store.specs.Queries.{AsksOnly, Finds, Stands};
 
 use dns_names::Name;
-use office_rows::StoreFault;
 use office_sql::{
     ChangeRow, RecordRow, changes_between, changes_of, has_zone, records_at, records_between,
     records_of,
 };
 use sqlite::{Alter, Connection, Error as StoreError, ErrorCode};
 use std::alloc::Global;
+use store_faults::StoreFault;
 
 /// What its type says of a name. It does nothing when it runs.
 fn reveal_name(name: &Name)

@@ -7,7 +7,7 @@ ghost use Rattle.sqlite.specs.Held.{state};
 ghost use Rattle.sqlite.specs.State.{HasCleanDisk};
 ghost use Rattle.office_state.specs.States.{State, zone_at, part_at, subtree_at, changes_at};
 ghost use Rattle.office_rows.specs.Listed.{AreOriginsOf, AreReceiptsOf};
-ghost use Rattle.office_rows.specs.StoreFaults.{IsFailure};
+ghost use Rattle.store_faults.specs.StoreFaults.{IsFailure};
 ghost use Rattle.office_store.specs.Holds.{HoldsState};
 ghost use Rattle.office_store.specs.Queries.{AsksOnly};
 
@@ -18,13 +18,14 @@ use dns_data::Record;
 use dns_names::Name;
 use grant_policy::Identifier;
 use office_rows::{
-    KeptReceipt, OriginReader, StoreFault, changes_of, identifier_text, kept_receipts, part_of,
-    receipt_of, records_within, sorted_origins, zone_of,
+    KeptReceipt, OriginReader, changes_of, kept_receipts, part_of, receipt_of, records_within,
+    sorted_origins, zone_of,
 };
 use office_sql::{WholeRows, all_receipts, all_zones, receipts_of};
 use office_state::Receipt;
 use sqlite::{Alter, Connection};
 use std::alloc::Global;
+use store_faults::StoreFault;
 use zone_core::{Change, Zone};
 
 /// The zone of an origin, where there is one.
@@ -112,7 +113,7 @@ pub(crate) fn changes_behind<S: Alter>(
     let Some(rows) = change_rows_behind(alloc, conn, origin, count, most)? else {
         return Ok(None);
     };
-    let changes = office_rows::changes_behind(alloc, rows, count)?;
+    let changes = office_rows::changes_behind(alloc, &rows, count)?;
     Ok(Some(changes))
 }
 
@@ -127,7 +128,7 @@ pub(crate) fn receipt_at<S: Alter>(
     ensures asks { AsksOnly (state S.Store conn.old) (state S.Store conn.new) result }
 {
     check_alone(conn)?;
-    let rows = receipts_of(alloc, conn, identifier_text(caller), identifier_text(id))?;
+    let rows = receipts_of(alloc, conn, caller.as_str(), id.as_str())?;
     let receipt = receipt_of(alloc, &rows)?;
     Ok(receipt)
 }

@@ -11,20 +11,18 @@ ghost use Rattle.office_sql.specs.Tables.{no_schema, IsOffice};
 ghost use Rattle.office_rows.specs.Contents.{ContentOf};
 ghost use Rattle.office_rows.specs.Batches.{nothing_held};
 ghost use Rattle.office_rows.specs.Listed.{AreOriginsOf, AreReceiptsOf};
-ghost use Rattle.office_rows.specs.declared.store_fault.StoreFault.TheVariants.{BadRow, WrongVersion};
-ghost use Rattle.office_rows.specs.StoreFaults.{CountsFailure, CountsCall, Gives, IsFailure, IsOfRows};
+ghost use Rattle.store_faults.specs.declared.store_fault.StoreFault.TheVariants.{BadRow, WrongVersion};
+ghost use Rattle.store_faults.specs.StoreFaults.{CountsFailure, CountsCall, Gives, IsFailure, IsOfRows};
 ghost use Rattle.office_store.specs.Holds.{HoldsState, HasNone, HasVersion, IsOfVersion, IsStateIn, LeavesStates};
-ghost use Rattle.office_store.specs.Cache.{FitsCache, cached_in};
+ghost use Rattle.zone_cache.specs.Cache.{cached_in};
+ghost use Rattle.office_store.specs.Cache.{FitsCache};
 ghost use Rattle.office_store.specs.History.{FitsHistory};
 ghost use Rattle.office_store.specs.Migration.{HoldsOld, IsMigratedFrom, IsMigrated};
 ghost use Rattle.office_store.specs.Queries.{Asked, AsksOnly, Only};
 ghost use Rattle.office_store.specs.Turns.{Turns};
 ghost use Rattle.office_store.specs.Zones.{exported, if_free, if_later, imported, replaced, with_imported, with_replaced};
 
-use crate::cache::{
-    CachedZone, SubtreeRead, cached_of, cached_part, cached_subtree, commit_cached, export_cached,
-};
-use crate::history::{ZoneHistory, ahead_in, remember};
+use crate::cache::{SubtreeRead, cached_part, cached_subtree, commit_cached, export_cached};
 use crate::migration::migrate;
 use crate::opening::{Refused, check_state, make};
 use crate::queries::check_open;
@@ -33,11 +31,13 @@ use crate::zones::{import, put_zone, replace, take_place};
 use dns_data::Record;
 use dns_names::Name;
 use grant_policy::{Grants, Identifier};
-use office_rows::{KeptReceipt, StoreFault};
+use office_rows::KeptReceipt;
 use office_state::{Addition, Ahead, Receipt, TableFault, ZoneTable};
 use sqlite::{Alter, Connection};
 use std::alloc::Global;
 use std::sync::ledger::{Blank, Book, Ledger, Share};
+use store_faults::StoreFault;
+use zone_cache::{CachedZone, ZoneHistory, ahead_in, cached_of, remember};
 use zone_core::{Change, Zone};
 
 /// Zones with their changes, and receipts, in the tables of a database. It counts the failures of its store by a ledger, and caches
@@ -443,6 +443,7 @@ impl<S: Alter + Drop, L: Ledger> ZoneTable for SqlTable<S, L> {
         alloc: Global,
         origin: &Name,
         top: &Name,
+        grants: &mut Grants<'_>,
     ) -> Result<Option<Vec<Record>>, TableFault> {
         match cached_subtree(
             alloc,
@@ -451,6 +452,7 @@ impl<S: Alter + Drop, L: Ledger> ZoneTable for SqlTable<S, L> {
             &mut self.subtree_read,
             origin,
             top,
+            grants,
         ) {
             Ok(records) => Ok(records),
             Err(fault) => {

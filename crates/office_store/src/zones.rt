@@ -6,7 +6,7 @@ ghost use Rattle.sqlite.specs.State.{HasCleanDisk};
 ghost use Rattle.zone_core.specs.Sets.{is_same};
 ghost use Rattle.zone_core.specs.Zones.{IsZone};
 ghost use Rattle.office_state.specs.States.{Held, State};
-ghost use Rattle.office_rows.specs.StoreFaults.{Gives};
+ghost use Rattle.store_faults.specs.StoreFaults.{Gives};
 ghost use Rattle.office_store.specs.Holds.{HoldsState};
 ghost use Rattle.office_store.specs.Queries.{AsksOnly};
 ghost use Rattle.office_store.specs.Turns.{Turns};
@@ -17,9 +17,10 @@ use crate::queries::{held_text, zone_rows};
 use crate::reads::zone_at;
 use dns_data::Record;
 use dns_names::Name;
-use office_rows::{StoreFault, records_within, replacement_batch, zone_batch};
+use office_rows::{records_within, replacement_batch, zone_batch};
 use sqlite::{Alter, Connection};
 use std::alloc::Global;
+use store_faults::StoreFault;
 use zone_core::{Zone, serial_less};
 
 /// Puts a zone beside the others, unless there is one of its origin.

@@ -5,7 +5,7 @@ use anyhow::Result;
 use dns_data::Record;
 use dns_master::read_file;
 use dns_names::Name;
-use grant_policy::Policy;
+use grant_policy::{Action, Grants, Policy};
 use office_core::{Call, ZoneTable, step};
 use office_store::{KeptReceipt, SqlTable, StoreFault};
 use sqlite::Alter;
@@ -76,7 +76,7 @@ fn answered<S: Alter + Drop, L: Ledger>(
         "export" => exported(alloc, table, text),
         "origins" => origins(alloc, table),
         "receipts" => receipts(alloc, table),
-        "subtree" => subtree(alloc, table, text),
+        "subtree" => subtree(alloc, table, policy, text),
         "receipt" => receipt(alloc, table, text),
         _ => asked(alloc, table, policy, verb, text, body),
     }
@@ -206,11 +206,19 @@ fn receipts_text(alloc: Global, kept: &[KeptReceipt]) -> Result<Vec<u8>> {
     Ok(text)
 }
 
-/// The records that a table has within a name.
-fn subtree<T: ZoneTable>(alloc: Global, table: &mut T, text: &[u8]) -> Result<Vec<u8>> {
-    let (origin, top) = word(text);
-    let origin = name(alloc, origin)?;
-    match table.subtree(alloc, &origin, &name(alloc, top)?)? {
+/// The records that a table has within a name, as far as the policy grants a caller to list them.
+fn subtree<T: ZoneTable>(
+    alloc: Global,
+    table: &mut T,
+    policy: &Policy,
+    text: &[u8],
+) -> Result<Vec<u8>> {
+    let (caller, names) = word(text);
+    let caller = identifier(alloc, caller)?;
+    let (origin, top) = word(names);
+    let (origin, top) = (name(alloc, origin)?, name(alloc, top)?);
+    let mut grants = Grants::new(alloc, policy, &caller, Action::List);
+    match table.subtree(alloc, &origin, &top, &mut grants)? {
         Some(records) => records_text(alloc, &records),
         None => spelled(alloc, "no zone"),
     }

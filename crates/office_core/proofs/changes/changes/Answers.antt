@@ -14,9 +14,9 @@ returns-clause-takes g c = λ honest s holds right.
     let caller = c.args.caller.now in
     let origin = c.args.origin.now in
     let began = c.start-began.result in
-    let found = subst (IsSeenBehind c.in_ok-grants.grants began.read (s.zones origin)) c.in-Some.is (c.in_ok-seen.ensures.answer honest s holds) in
+    let found = subst (IsSeenBehind c.new-grants.result began.read (s.zones origin)) c.in-Some.is (c.in_ok-seen.ensures.answer honest s holds) in
     let start = c.start-began.ensures rules s found.0 right found.1 in
-    let whole = subst (λ grants. IsSeenWhole grants began.read found.0.changes c.in-Some.seen) c.in_ok-grants.ensures found.2 in (
+    let whole = subst (λ grants. IsSeenWhole grants began.read found.0.changes c.in-Some.seen) c.new-grants.ensures found.2 in (
       ap Some (followed rules caller s origin c.args.from began found.0 (map change_in c.in-Some.seen.changes.items) (map numbered_of c.in_ok-changes.changes.items) start found.1 whole.sees c.in_ok-changes.ensures),
       c.in_ok-seen.ensures.reads.0 s holds,
     )
@@ -27,8 +27,8 @@ returns-clause-bookmarks g c = λ honest s holds right.
     let caller = c.args.caller.now in
     let origin = c.args.origin.now in
     let began = c.start-began.result in
-    let found = subst (IsSeenBehind c.in_ok-grants.grants began.read (s.zones origin)) c.in-Some.is (c.in_ok-seen.ensures.answer honest s holds) in
-    let whole = subst (λ grants. IsSeenWhole grants began.read found.0.changes c.in-Some.seen) c.in_ok-grants.ensures found.2 in
+    let found = subst (IsSeenBehind c.new-grants.result began.read (s.zones origin)) c.in-Some.is (c.in_ok-seen.ensures.answer honest s holds) in
+    let whole = subst (λ grants. IsSeenWhole grants began.read found.0.changes c.in-Some.seen) c.new-grants.ensures found.2 in
     c.keep.ensures rules s right
     (λ held is.
     let start = c.start-began.ensures rules s held right is in

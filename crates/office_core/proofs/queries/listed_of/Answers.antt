@@ -1,8 +1,24 @@
-use Rattle.std.proofs.Common.{IfSome, subst}
-use Rattle.zone_core.specs.Sets.{InOrder}
-use Rattle.office_core.proofs.SubtreeLemmas.{listed_in_order}
+use Rattle.std.proofs.Common.{option_map, ap, sym, subst, ◌∙◌}
+use Rattle.grant_policy.specs.Grants.{GrantsOf}
+use Rattle.grant_policy.specs.Reach.{GrantsWithinSome}
+use Rattle.grant_policy.specs.declared.action.Action.TheVariants as action
+use Rattle.zone_core.specs.Outermost.{AreApart}
+use Rattle.office_state.specs.Tables.{included}
+use Rattle.office_core.specs.Subtrees.{subtrees_at}
+use Rattle.office_core.proofs.SubtreeLemmas.{by_subtrees, on_ok}
 use Rattle.office_core.proofs.queries.listed_of.Goals as goal
 
-pub returns-clause-order : goal.returns-clause-order
-returns-clause-order g c =
-    listed_in_order c.args.policy.now c.args.caller.now c.in-Some.found.items c.in_ok-records.records.items (subst (λ f. IfSome f (λ rs. InOrder rs.items)) c.in-Some.is c.in_ok-found.ensures.order) c.in_ok-records.ensures
+pub returns-clause-answer : goal.returns-clause-answer
+returns-clause-answer g c =
+    let rules = c.args.policy.now in
+    let caller = c.args.caller.now in
+    let origin = c.args.origin.now in
+    let tops = c.deref.result.now in
+    let apart = subst AreApart (sym c.deref.ensures.value) c.in_ok-tops.ensures.apart in
+    let granted = subst (GrantsWithinSome rules caller action.List origin) (sym c.deref.ensures.value) c.in_ok-tops.ensures.granted in
+    λ honest. on_ok c.within_each.result
+    (λ found tells s holds.
+    tells s holds
+    ∙ ap (λ (gs : GrantsOf). option_map (included gs) (subtrees_at s origin tops)) c.new-grants.ensures
+    ∙ by_subtrees rules caller origin s tops (g.met.T.ZoneTable.zones c.args.table.now s holds) apart granted)
+    (c.within_each.ensures.answer honest)

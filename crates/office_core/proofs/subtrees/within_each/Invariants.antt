@@ -7,7 +7,8 @@ use Rattle.office_core.proofs.subtrees.within_each.Given as goal
 abbrev pub invariant-loop-top : goal.invariant-loop-top
 invariant-loop-top g l = record {
   order : InOrder l.all.items;
-  so_far : g.T.ZoneTable.is_honest l.table → (s : State) → g.T.ZoneTable.holds l.fn.table s → AreSoFar (zone_at s l.origin) (take l.top-index l.tops) l.all.items;
+  grants : l.grants ≡ l.fn.grants;
+  so_far : g.T.ZoneTable.is_honest l.table → (s : State) → g.T.ZoneTable.holds l.fn.table s → AreSoFar l.fn.grants (zone_at s l.origin) (take l.top-index l.tops) l.all.items;
   same : (s : State) → g.T.ZoneTable.holds l.fn.table s → g.T.ZoneTable.holds l.table s;
   only : g.T.ZoneTable.is_honest l.table → (s : State) → g.T.ZoneTable.holds l.table s → g.T.ZoneTable.holds l.fn.table s;
   crash : (s t : State) → g.T.ZoneTable.leaves l.fn.table s t → g.T.ZoneTable.leaves l.table s t;

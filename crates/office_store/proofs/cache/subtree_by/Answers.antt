@@ -1,9 +1,9 @@
 use Rattle.sqlite.specs.Held.{state}
-use Rattle.office_store.specs.Cache.{cached_in}
+use Rattle.zone_cache.specs.Cache.{cached_in}
 use Rattle.office_store.proofs.CacheLemmas.{told_of_subtree}
 use Rattle.office_store.proofs.cache.subtree_by.Goals as goal
 
 pub returns-in-Some-clause-answer : goal.returns-in-Some-clause-answer
 returns-in-Some-clause-answer g c = λ clean s h.
-    told_of_subtree (state g.S.Store c.args.conn.now) (cached_in c.args.cache.now) c.args.origin.now c.args.top.now c.in-Some.records.items c.requires.fits (c.check_open.ensures.asks.0.honest clean)
+    told_of_subtree (state g.S.Store c.args.conn.now) (cached_in c.args.cache.now) c.args.origin.now c.args.top.now c.args.grants.now c.in-Some.records.items c.requires.fits (c.check_open.ensures.asks.0.honest clean)
     (c.in_ok-check_open.ensures.open clean) (rw c.in-Some.is at c.in_ok-records.ensures.found) s h

@@ -4,7 +4,7 @@ use Rattle.sqlite.specs.Held.{state}
 use Rattle.sqlite.specs.State.{HasCleanDisk}
 use Rattle.office_sql.proofs.Commits.{keeps_then, on_err}
 use Rattle.office_rows.specs.Contents.{ContentOf}
-use Rattle.office_rows.specs.StoreFaults.{IsFailure}
+use Rattle.store_faults.specs.StoreFaults.{IsFailure}
 use Rattle.office_store.specs.Migration.{HoldsOld}
 use Rattle.office_store.proofs.FaultLemmas.{if_err_at, no_refusal, rows_fail}
 use Rattle.office_store.proofs.QueryLemmas.{asked_then}

@@ -1,4 +1,5 @@
-use Rattle.std.proofs.Common.{◌≡◌, ℕ, true, List, sym, ap, subst, ◌∙◌}
+use Rattle.std.proofs.Common.{◌≡◌, ℕ, true, List, map, IsPermutation, sym, ap, subst, ◌∙◌}
+use Rattle.std.specs.List.{AllByRecursion}
 use Rattle.std.proofs.lemmas.Result.{err_from_is_err_and}
 use Rattle.std.specs.Prelude.{Result, Ok, Err, IfOk}
 use Rattle.dns_names.specs.Order.{canonical_cmp}
@@ -7,6 +8,8 @@ use Rattle.office_rows.specs.declared.row_fault.RowFault.{RowFault}
 use Rattle.office_rows.specs.declared.ordered.ZoneRecord.{ZoneRecord}
 use Rattle.office_rows.specs.Orders.{rises}
 use Rattle.office_sql.specs.Rows.{RecordRowOf, ChangeRowOf}
+use Rattle.office_rows.specs.ChangeRows.{IsChangeRow, row_of}
+use Rattle.office_rows.specs.Checks.{IsZoneRecordRow, row_of_record}
 use Rattle.office_rows.specs.Contents.{ZoneRows}
 use Rattle.office_store.specs.declared.migration_steps.MigrationSteps.{MigrationSteps}
 use Rattle.office_store.specs.MigrationSteps.{AreOldZoneRows, AreOldZonesInTurn, zones_in_turn, AreSteps}
@@ -30,12 +33,12 @@ returns-then-not-are_apart-clause-only c = λ are.
 pub returns-in_err-records-clause-only : goal.returns-in_err-records-clause-only
 returns-in_err-records-clause-only c = λ are.
     let p = err_from_is_err_and c.from_residual-in_err-records.result c.from_residual-in_err-records.ensures.1 in
-    rw (p.1, p.2) (c.in_err-records.ensures.only (record_rows c.args.zones.now c.args.records.items c.args.changes.items are))
+    rw (p.1, p.2) (c.in_err-records.ensures.only (subst (AllByRecursion IsZoneRecordRow) (sym c.deref-2.ensures.value) (record_rows c.args.zones.now c.args.records.items c.args.changes.items are)))
 
 pub returns-in_err-changes-clause-only : goal.returns-in_err-changes-clause-only
 returns-in_err-changes-clause-only c = λ are.
     let p = err_from_is_err_and c.from_residual-in_err-changes.result c.from_residual-in_err-changes.ensures.1 in
-    rw (p.1, p.2) (c.in_err-changes.ensures.only (change_rows c.args.zones.now c.args.records.items c.args.changes.items are))
+    rw (p.1, p.2) (c.in_err-changes.ensures.only (subst (AllByRecursion IsChangeRow) (sym c.deref-3.ensures.value) (change_rows c.args.zones.now c.args.records.items c.args.changes.items are)))
 
 joined : (zones : List (List ℕ)) (records : List RecordRowOf) (changes : List ChangeRowOf) (r : Result MigrationSteps RowFault) (T : Type 0) (zs : List ZoneRows)
     → IfOk r (λ s. T) → IfOk r (λ s. AreSteps s zs) → (T → (are : AreOldZoneRows zones records changes) × (are.zones ≡ zs)) → IfOk r (λ s. (are : AreOldZoneRows zones records changes) × AreSteps s are.zones)
@@ -51,20 +54,20 @@ returns-clause-found c =
     let rs = c.in_ok-records.records.items in
     let cs = c.in_ok-changes.changes.items in
     let found = c.in_ok-origins.ensures.found in
-    let of_records = c.in_ok-records.ensures.found in
-    let of_changes = c.in_ok-changes.ensures.found in
+    let of_records = subst (λ (l : List RecordRowOf). IsPermutation (map row_of_record rs) l) c.deref-2.ensures.value c.in_ok-records.ensures.found.0 in
+    let of_changes = subst (λ (l : List ChangeRowOf). IsPermutation (map row_of cs) l) c.deref-3.ensures.value c.in_ok-changes.ensures.found.0 in
     let rise = sym (c.are_apart.ensures ∙ ap (rises canonical_cmp) c.deref.ensures.value) ∙ c.if-not-are_apart.false in
-    let e = c.deref-2.ensures.value in
-    let f = c.deref-3.ensures.value in
-    let g = c.deref-4.ensures.value in
+    let e = c.deref-4.ensures.value in
+    let f = c.deref-5.ensures.value in
+    let g = c.deref-6.ensures.value in
     joined zones records changes c.steps_in_turn.result (AreOldZonesInTurn os rs cs) (zones_in_turn os rs cs)
     (subst (λ (l : List (List (List ℕ))). IfOk c.steps_in_turn.result (λ s. AreOldZonesInTurn l rs cs)) e
-    (subst (λ (l : List ZoneRecord). IfOk c.steps_in_turn.result (λ s. AreOldZonesInTurn c.deref-2.result.now l cs)) f
-    (subst (λ (l : List ChangedRecord). IfOk c.steps_in_turn.result (λ s. AreOldZonesInTurn c.deref-2.result.now c.deref-3.result.now l)) g c.steps_in_turn.ensures.turn)))
+    (subst (λ (l : List ZoneRecord). IfOk c.steps_in_turn.result (λ s. AreOldZonesInTurn c.deref-4.result.now l cs)) f
+    (subst (λ (l : List ChangedRecord). IfOk c.steps_in_turn.result (λ s. AreOldZonesInTurn c.deref-4.result.now c.deref-5.result.now l)) g c.steps_in_turn.ensures.turn)))
     (subst (λ (l : List (List (List ℕ))). IfOk c.steps_in_turn.result (λ s. AreSteps s (zones_in_turn l rs cs))) e
-    (subst (λ (l : List ZoneRecord). IfOk c.steps_in_turn.result (λ s. AreSteps s (zones_in_turn c.deref-2.result.now l cs))) f
-    (subst (λ (l : List ChangedRecord). IfOk c.steps_in_turn.result (λ s. AreSteps s (zones_in_turn c.deref-2.result.now c.deref-3.result.now l))) g c.steps_in_turn.ensures.steps)))
-    (are_old_rows zones records changes os rs cs found.0 found.1 rise of_records.0 of_changes.0 of_changes.1)
+    (subst (λ (l : List ZoneRecord). IfOk c.steps_in_turn.result (λ s. AreSteps s (zones_in_turn c.deref-4.result.now l cs))) f
+    (subst (λ (l : List ChangedRecord). IfOk c.steps_in_turn.result (λ s. AreSteps s (zones_in_turn c.deref-4.result.now c.deref-5.result.now l))) g c.steps_in_turn.ensures.steps)))
+    (are_old_rows zones records changes os rs cs found.0 found.1 rise of_records of_changes c.in_ok-changes.ensures.found.1)
 
 pub returns-clause-only : goal.returns-clause-only
 returns-clause-only c = λ are.
@@ -74,7 +77,9 @@ returns-clause-only c = λ are.
     let found = c.in_ok-origins.ensures.found in
     let records = c.in_ok-records.ensures.found in
     let changes = c.in_ok-changes.ensures.found in
-    let turn = taken_in_turn c.args.zones.now c.args.records.items c.args.changes.items are os found.0 found.1 found.2 rs cs records.0 records.1 records.2 changes.0 changes.1 changes.2 in
+    let of_records = subst (λ (l : List RecordRowOf). IsPermutation (map row_of_record rs) l) c.deref-2.ensures.value records.0 in
+    let of_changes = subst (λ (l : List ChangeRowOf). IsPermutation (map row_of cs) l) c.deref-3.ensures.value changes.0 in
+    let turn = taken_in_turn c.args.zones.now c.args.records.items c.args.changes.items are os found.0 found.1 found.2 rs cs of_records records.1 records.2 of_changes changes.1 changes.2 in
     c.steps_in_turn.ensures.only
-    (subst (λ (l : List (List (List ℕ))). AreOldZonesInTurn l c.deref-3.result.now c.deref-4.result.now) (sym c.deref-2.ensures.value)
-    (subst (λ (l : List ZoneRecord). AreOldZonesInTurn os l c.deref-4.result.now) (sym c.deref-3.ensures.value) (subst (λ (l : List ChangedRecord). AreOldZonesInTurn os rs l) (sym c.deref-4.ensures.value) turn)))
+    (subst (λ (l : List (List (List ℕ))). AreOldZonesInTurn l c.deref-5.result.now c.deref-6.result.now) (sym c.deref-4.ensures.value)
+    (subst (λ (l : List ZoneRecord). AreOldZonesInTurn os l c.deref-6.result.now) (sym c.deref-5.ensures.value) (subst (λ (l : List ChangedRecord). AreOldZonesInTurn os rs l) (sym c.deref-6.ensures.value) turn)))

@@ -1,7 +1,7 @@
 use Rattle.std.proofs.Common.{map, Err, sym, ap, subst}
 use Rattle.sqlite.specs.Held.{state}
 use Rattle.office_sql.specs.Holds.{HasChanges}
-use Rattle.office_rows.specs.declared.store_fault.StoreFault.{StoreFault}
+use Rattle.store_faults.specs.declared.store_fault.StoreFault.{StoreFault}
 use Rattle.office_rows.specs.ChangeRows.{row_of}
 use Rattle.office_rows.specs.Checks.{AreChangesOf}
 use Rattle.office_rows.proofs.ZoneCheckLemmas.{change_rows}

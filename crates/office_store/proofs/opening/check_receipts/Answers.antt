@@ -3,7 +3,7 @@ use Rattle.std.proofs.lemmas.List.{map-id}
 use Rattle.sqlite.specs.Held.{state}
 use Rattle.office_sql.specs.Holds.{HasReceipts}
 use Rattle.office_sql.proofs.WholeTables.{each_itself}
-use Rattle.office_rows.specs.declared.store_fault.StoreFault.{StoreFault}
+use Rattle.store_faults.specs.declared.store_fault.StoreFault.{StoreFault}
 use Rattle.office_rows.specs.Checks.{AreReceiptRows}
 use Rattle.office_store.specs.Opening.{IsCheck, ReceiptsIn}
 use Rattle.office_store.proofs.OpeningLemmas.{checked, unread, passed, was_bad, receipts_moved}

@@ -2,7 +2,7 @@ use Rattle.std.specs.Prelude.{IfSome}
 use Rattle.std.proofs.Common.{map, Err, sym, ap, subst}
 use Rattle.sqlite.specs.Held.{state}
 use Rattle.office_sql.specs.Holds.{HasRecords}
-use Rattle.office_rows.specs.declared.store_fault.StoreFault.{StoreFault}
+use Rattle.store_faults.specs.declared.store_fault.StoreFault.{StoreFault}
 use Rattle.office_rows.specs.Checks.{row_of_record, AreRecordsOf}
 use Rattle.office_rows.proofs.ZoneCheckLemmas.{record_rows}
 use Rattle.office_rows.specs.ReadZones.{IsReadAmong}

@@ -1,4 +1,7 @@
-use Rattle.std.proofs.Common.{◌≡◌, pos, Ok, Some, option_map, sym, ap, ◌∙◌, map, drop, take}
+use Rattle.std.proofs.Common.{◌≡◌, ◌+◌, List, IsPermutation, pos, Ok, Some, option_map, sym, ap, subst, ◌∙◌, map, drop, take}
+use Rattle.office_sql.specs.Lookups.{changes_between}
+use Rattle.office_sql.specs.Rows.{ChangeRowOf}
+use Rattle.dns_names.specs.Spelling.{name_text}
 use Rattle.sqlite.specs.Held.{state}
 use Rattle.zone_core.specs.Changes.{change_in}
 use Rattle.office_store.proofs.QueryLemmas.{asks_refused}
@@ -12,7 +15,7 @@ returns-clause-answer g c =
     λ clean s h.
     let o = c.args.origin.now in
     let f = (rw c.in-Some.is at (c.in_ok-rows.ensures.found clean)) s h in
-    let told : Ok (take c.args.most (drop c.args.count f.2.changes)) ≡ Ok (map change_in c.in_ok-changes.changes.items) = c.in_ok-changes.ensures.held (pos 2) f.0 s o f.2 c.args.most f.1 f.3 f.4 in
+    let told : Ok (take c.args.most (drop c.args.count f.2.changes)) ≡ Ok (map change_in c.in_ok-changes.changes.items) = c.in_ok-changes.ensures.held (pos 2) f.0 s o f.2 c.args.most f.1 f.3 (subst (λ (l : List ChangeRowOf). IsPermutation (changes_between (name_text o) (pos (1 + c.args.count)) (pos (1 + c.args.count + c.args.most)) f.0.changes) l) (sym c.deref.ensures.value) f.4) in
     let same : take c.args.most (drop c.args.count f.2.changes) ≡ map change_in c.in_ok-changes.changes.items = cc in
     sym (ap (λ held. option_map (λ cs. take c.args.most (drop c.args.count cs)) (option_map (λ held. held.changes) held)) f.3 ∙ ap (λ cs. Some cs) same)
 

@@ -2,8 +2,8 @@ use Rattle.std.proofs.Common.{◌≡◌, Ok, Err, sym, ◌∙◌, subst}
 use Rattle.std.proofs.lemmas.Result.{err_from_is_err_and}
 use Rattle.sqlite.specs.Held.{state}
 use Rattle.office_state.specs.States.{State}
-use Rattle.office_rows.specs.declared.store_fault.StoreFault.{StoreFault}
-use Rattle.office_rows.specs.StoreFaults.{Refuses}
+use Rattle.store_faults.specs.declared.store_fault.StoreFault.{StoreFault}
+use Rattle.store_faults.specs.StoreFaults.{Refuses}
 use Rattle.office_store.specs.Turns.{Turns}
 use Rattle.office_store.specs.Zones.{if_later, with_replaced}
 use Rattle.office_store.proofs.QueryLemmas.{asked_nothing}

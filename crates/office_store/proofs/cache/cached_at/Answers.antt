@@ -1,7 +1,0 @@
-use Rattle.std.proofs.Common.{sym, ap, ◌∙◌}
-use Rattle.zone_core.proofs.SetLemmas.{name_is}
-use Rattle.office_store.specs.Cache.{cached_in}
-use Rattle.office_store.proofs.cache.cached_at.Goals as goal
-
-pub returns-in-Some : goal.returns-in-Some
-returns-in-Some c = (ap cached_in c.in-Some.is, name_is c.in-Some.cached.origin c.args.origin.now (sym c.eq.ensures ∙ c.if-eq.true))

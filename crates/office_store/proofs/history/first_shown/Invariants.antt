@@ -1,8 +1,0 @@
-use Rattle.std.proofs.Common.{◌≡◌}
-use Rattle.office_store.proofs.history.first_shown.Given as goal
-
-abbrev pub invariant-loop-touched : goal.invariant-loop-touched
-invariant-loop-touched l = record {
-  same : l.grants ≡ l.fn.grants;
-  count : l.count ≡ l.touched-index;
-}

@@ -1,0 +1,5 @@
+pub mod RecordRowLemmas
+pub mod PieceLemmas
+pub mod OwnerLemmas
+pub mod CacheLemmas
+pub mod HistoryLemmas

@@ -1,0 +1,4 @@
+pub mod Owners
+pub mod RowPieces
+pub mod Cache
+pub mod History
