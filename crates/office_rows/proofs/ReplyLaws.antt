@@ -1,12 +1,9 @@
 -- Replies in words: what is written is read, and what is read was written so.
-use Rattle.std.proofs.Common.{◌≡◌, ℕ, zero, suc, ◌-◌, ◌^◌, ◌<◌, ◌≤◌, Bool, true, false, cond, eqb, leb, not, ◌&&◌, ◌||◌, ◌↔◌, ◌⊎◌, inl, inr, List, [], ◌∷◌, ◌++◌, append_assoc, length, map, Option, Some, None, Ok, Err, refl, sym, ap, subst, ◌∙◌, arith, eqb-true}
-use Rattle.std.proofs.lemmas.Bool.{false≢true, agree_below_at, leb-true, le-leb, lt-ltb, and_parts, and_from}
+use Rattle.std.proofs.Common.{◌≡◌, ℕ, ◌-◌, ◌^◌, ◌<◌, ◌≤◌, Bool, true, false, cond, eqb, not, ◌&&◌, ◌||◌, ◌↔◌, ◌⊎◌, inl, inr, List, [], ◌∷◌, ◌++◌, append_assoc, length, map, Option, Some, None, Ok, Err, refl, sym, ap, subst, ◌∙◌, arith}
+use Rattle.std.proofs.lemmas.Bool.{false≢true, agree_below_at, le-leb, lt-ltb, and_parts, and_from}
 use Rattle.std.proofs.lemmas.List.{append_cancel_right}
 use Rattle.std.proofs.lemmas.Slice.Eq.{bytes_eq-Decides}
-use Rattle.std.proofs.lemmas.Str.{IsUtf8-from_ascii}
-use Rattle.std.specs.Prelude.{nat_le, nat_lt, decimal, slice_index, if◌then◌else◌, IfSome, IsUtf8, bytes_eq, codes}
-use Rattle.std.specs.Char.{is_ascii_alphanumeric}
-use Rattle.std.specs.Int.{is_in_range}
+use Rattle.std.specs.Prelude.{nat_le, nat_lt, decimal, if◌then◌else◌, IfSome, bytes_eq, codes}
 use Rattle.std.specs.List.{AllByRecursion, list_all}
 use Rattle.std.specs.Str.Parse.{digits_value}
 use Rattle.dns_data.specs.declared.item.Item.{Item}
@@ -17,6 +14,7 @@ use Rattle.dns_master.specs.Pieces.{ends_item}
 use Rattle.dns_master.proofs.CleanLaws.{runs, Clean, number_clean}
 use Rattle.dns_master.proofs.LineLaws.{CleanLine}
 use Rattle.grant_policy.specs.Identifiers.{IsIdentifier, is_identifier_octet}
+use Rattle.grant_policy.proofs.IdentifierLemmas.{octet_below}
 use Rattle.zone_core.specs.declared.prerequisite_code.PrerequisiteCode.{PrerequisiteCode}
 use Rattle.zone_core.specs.declared.prerequisite_code.PrerequisiteCode.TheVariants as prerequisites
 use Rattle.zone_core.specs.declared.rcode.Rcode.{Rcode}
@@ -30,7 +28,7 @@ use Rattle.zone_core.proofs.KindLemmas.{list_own, rcode_own}
 use Rattle.office_state.specs.declared.reply.UpdateReply.{UpdateReply}
 use Rattle.office_state.specs.declared.reply.UpdateReply.TheVariants.{NoError, NotAuth, NotZone, Refused, Failed}
 use Rattle.office_rows.specs.declared.row_fault.RowFault.TheVariants.{BadRow}
-use Rattle.office_rows.specs.ReplyWords.{place_items, denier_item, reply_items, reply_words, Wording, Current, Former, is_by_default, items_in, words_in, AreWordsOf, IsReply}
+use Rattle.office_state.specs.ReplyWords.{place_items, denier_item, reply_items, reply_words, Wording, Current, Former, is_by_default, items_in, words_in, AreWordsOf, IsReply}
 use Rattle.office_rows.specs.RowFaults.{◌>>=◌}
 use Rattle.office_rows.specs.RowReading.{or_bad, identifier_in, number_named, reply_with, reply_at, denier_in, denied_by, reply_of, reply_in}
 use Rattle.office_rows.proofs.RowSteps.{done, ok_is}
@@ -122,18 +120,6 @@ place_clean place h = (list_clean place.list, (number_clean place.item h, tt))
 either : {P : Type 0} (a b : Bool) → (a || b) ≡ true → (a ≡ true → P) → (b ≡ true → P) → P
 either true b e f g = f refl
 either false b e f g = g e
-
-in_range : (low high o : ℕ) → (leb low o && leb o high) ≡ true → o ≤ high
-in_range low high o e = leb-true o high (and_parts (leb low o) (leb o high) e).1
-
-pub octet_below : (o : ℕ) → is_identifier_octet o ≡ true → o < 128
-octet_below o e =
-    either (is_ascii_alphanumeric o) (eqb o 45 || (eqb o 95 || eqb o 46)) e
-    (λ a. either (is_in_range 48 57 o || is_in_range 65 90 o) (is_in_range 97 122 o) a
-    (λ b. either (is_in_range 48 57 o) (is_in_range 65 90 o) b (λ c. let h = in_range 48 57 o c in omega arith) (λ c. let h = in_range 65 90 o c in omega arith))
-    (λ b. let h = in_range 97 122 o b in omega arith))
-    (λ a. either (eqb o 45) (eqb o 95 || eqb o 46) a (λ b. let h = eqb-true o 45 b in omega arith)
-    (λ b. either (eqb o 95) (eqb o 46) b (λ c. let h = eqb-true o 95 c in omega arith) (λ c. let h = eqb-true o 46 c in omega arith)))
 
 abbrev ordinary : ℕ → Bool
 ordinary o = not (ends_item o) && not (eqb o 92)
@@ -229,13 +215,3 @@ reply_none (a ∷ b ∷ []) one three four = refl
 reply_none (a ∷ b ∷ d ∷ []) one three four = absurd (three refl)
 reply_none (a ∷ b ∷ d ∷ e ∷ []) one three four = absurd (four refl)
 reply_none (a ∷ b ∷ d ∷ e ∷ f ∷ words) one three four = refl
-
--- ---- identifiers are text
-
-octet_at : (text : List ℕ) → list_all is_identifier_octet text ≡ true → (i : ℕ) → slice_index text i < 128
-octet_at [] e i = omega arith
-octet_at (o ∷ text) e zero = octet_below o (and_parts (is_identifier_octet o) (list_all is_identifier_octet text) e).0
-octet_at (o ∷ text) e (suc i) = octet_at text (and_parts (is_identifier_octet o) (list_all is_identifier_octet text) e).1 i
-
-pub identifier_is_text : (id : List ℕ) → IsIdentifier id → IsUtf8 id
-identifier_is_text id is = IsUtf8-from_ascii id (octet_at id is.octets)

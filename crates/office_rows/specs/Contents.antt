@@ -14,7 +14,7 @@ use Rattle.office_state.specs.States.{Held, State}
 use Rattle.office_sql.specs.Rows.{RecordRowOf, ReceiptRowOf, ChangeRowOf, RowsOf}
 use Rattle.office_sql.specs.Holds.{SameRows}
 use Rattle.office_rows.specs.RecordRows.{record_row}
-use Rattle.office_rows.specs.ReplyWords.{Wording, Current}
+use Rattle.office_state.specs.ReplyWords.{Wording, Current}
 use Rattle.office_rows.specs.ReceiptRows.{receipt_row_in, IsReceipt}
 use Rattle.office_rows.specs.ChangeRows.{changes_rows, IsChange}
 use Rattle.office_rows.specs.declared.ordered.KeptReceipt.{KeptReceipt}

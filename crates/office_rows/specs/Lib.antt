@@ -1,11 +1,10 @@
 pub mod RowFaults
 pub mod RecordRows
-pub mod ReplyWords
 pub mod ReceiptRows
 pub mod ChangeRows
 pub mod Contents
 pub mod RowReading
-pub mod StoreFaults
+pub mod RowRefusals
 pub mod Orders
 pub mod PartRows
 pub mod States

@@ -6,7 +6,7 @@ use Rattle.zone_core.specs.Updates.{IsUpdate}
 use Rattle.office_state.specs.declared.receipt.Receipt.{Receipt}
 use Rattle.office_state.specs.Texts.{update_text}
 use Rattle.office_sql.specs.Rows.{ReceiptRowOf}
-use Rattle.office_rows.specs.ReplyWords.{Wording, Current, words_in, AreWordsOf, IsReply}
+use Rattle.office_state.specs.ReplyWords.{Wording, Current, words_in, AreWordsOf, IsReply}
 
 -- the receipt of a caller under an identifier: the request by its item lines, and the reply by its words, in a wording
 abbrev pub receipt_row_in : Wording → List ℕ → List ℕ → Receipt → ReceiptRowOf

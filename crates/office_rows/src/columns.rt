@@ -17,7 +17,6 @@ use dns_names::Name;
 use grant_policy::Identifier;
 use office_state::entry_items;
 use std::alloc::Global;
-use std::str;
 
 /// Reads the canonical text of a name, as `Name::text` gives it. Any other text is `BadRow`, also another spelling of a name.
 pub fn read_origin(alloc: Global, text: &str) -> Result<Name, RowFault>
@@ -130,14 +129,4 @@ pub(crate) fn identifier_in(alloc: Global, text: &[u8]) -> Result<Identifier, Ro
     ensures { Reads (λ id. id) result (identifier_in text.now) }
 {
     Ok(Identifier::read(alloc, text)?)
-}
-
-/// The octets of an identifier, as text.
-pub fn identifier_text(id: &Identifier) -> &str
-    ensures { result.now ≡ id.now }
-{
-    let Ok(text) = str::from_utf8(id.as_bytes()) else {
-        unreachable!()
-    };
-    text
 }

@@ -24,13 +24,13 @@ mod replies;
 mod row_fault;
 mod side;
 pub mod state;
-mod store_fault;
+pub mod zone_records;
 pub mod zones;
 
 pub use batches::{addition_batch, receipt_batch, replacement_batch, zone_batch};
 pub use change_reader::ChangeReader;
 pub use changes::{ChangedRecord, change_rows};
-pub use columns::{identifier_text, read_origin};
+pub use columns::read_origin;
 pub use gathering::{are_numbered, read_changes, sorted_changes};
 pub use laws::{
     change_rows_are_apart, histories_are_one, last_numbers_count, lists_are_whole,
@@ -44,9 +44,8 @@ pub use reads::{changes_behind, changes_of, part_of, receipt_of, records_within,
 pub use receipts::{read_receipt, receipt_row};
 pub use record_reader::RecordReader;
 pub use records::{read_record, record_row};
-pub use replies::{read_reply, reply_words};
+pub use replies::read_reply;
 pub use row_fault::RowFault;
 pub use side::Side;
 pub use state::check_receipts;
-pub use store_fault::StoreFault;
 pub use zones::{check_changes, check_records, checked_origins};

@@ -7,13 +7,13 @@ ghost use Rattle.office_rows.specs.ReceiptRows.{receipt_row, IsRowOfReceipt, IsR
 ghost use Rattle.office_rows.specs.RowFaults.{Reads};
 ghost use Rattle.office_rows.specs.RowReading.{request_in, request_at, receipt_in};
 
-use crate::columns::{identifier_text, name_from};
+use crate::columns::name_from;
 use crate::receipt_reader::ReceiptReader;
-use crate::replies::{reply_in, reply_words, reveal_reply};
+use crate::replies::{reply_in, reveal_reply};
 use crate::row_fault::RowFault;
 use grant_policy::Identifier;
 use office_sql::ReceiptRow;
-use office_state::{Receipt, items_text, read_items};
+use office_state::{Receipt, items_text, read_items, reply_words};
 use std::alloc::{AllocError, Global};
 use zone_core::Update;
 
@@ -48,8 +48,8 @@ pub fn receipt_row(
     ensures receipt { IsReceiptAt (receipt_under caller.now id.now receipt.now) }
 {
     reveal_caller_receipt(caller, id, receipt);
-    let caller = identifier_text(caller);
-    let id = identifier_text(id);
+    let caller = caller.as_str();
+    let id = id.as_str();
     Ok(ReceiptRow {
         caller: String::from_str(alloc, caller)?,
         id: String::from_str(alloc, id)?,

@@ -1,70 +1,21 @@
-//! Replies to updates, as lines of words.
+//! Replies to updates, read from their words.
 
-ghost use Rattle.std.specs.Prelude.{◌≡◌, ◌↔◌, ◌<◌, ◌^◌, ◌∷◌, ◌++◌, [], map, true, nat_le, if◌then◌else◌, Some, None, Ok, IfOk, decimal, string_bytes, codes};
+ghost use Rattle.std.specs.Prelude.{◌≡◌, ◌↔◌, ◌<◌, ◌^◌, ◌∷◌, ◌++◌, [], map, true, nat_le, if◌then◌else◌, Some, None, Ok, IfOk, codes};
 ghost use Rattle.std.specs.Str.Parse.{digits_value};
-ghost use Rattle.dns_data.specs.Items.{item_of, item_text};
+ghost use Rattle.dns_data.specs.Items.{item_of};
 ghost use Rattle.dns_data.specs.Numbers.{is_number};
 ghost use Rattle.office_state.specs.declared.reply.UpdateReply.{UpdateReply as ReplyOf};
-ghost use Rattle.office_rows.specs.ReplyWords.{denier_item, reply_words, is_by_default, AreWordsOf, IsReply};
+ghost use Rattle.office_state.specs.ReplyWords.{reply_words, is_by_default, AreWordsOf, IsReply};
 ghost use Rattle.office_rows.specs.RowFaults.{Reads};
 ghost use Rattle.office_rows.specs.RowReading.{number_named, reply_alone, reply_with, reply_at, denier_in, denied_by, reply_of, reply_in};
 
-use crate::columns::{fields_of, identifier_in, identifier_text};
+use crate::columns::{fields_of, identifier_in};
 use crate::row_fault::RowFault;
 use dns_data::{Item, is_number};
 use grant_policy::{CLOSING, Identifier};
-use office_state::UpdateReply;
+use office_state::{UpdateReply, reply_words};
 use std::alloc::{AllocError, Global};
 use zone_core::{Failed, ItemList, Place, PrerequisiteCode, Rcode};
-
-/// An identifier that is this word, which no rule of a policy has.
-const QUOTED_CLOSING: &str = "\"closing\"";
-
-/// A reply in words, with one space between them: the name of its code; then, as far as it has them, the list, the item's number
-/// from 0, and the identifier of the rule that denied it or `closing`. The only error is out of memory.
-pub fn reply_words(alloc: Global, reply: &UpdateReply) -> Result<String, AllocError>
-    ensures { IfOk result (λ words. string_bytes words ≡ reply_words reply.now) }
-{
-    let code = reply.rcode().text();
-    match reply {
-        UpdateReply::NoError | UpdateReply::NotAuth => String::from_str(alloc, code),
-        UpdateReply::NotZone(place) => words_at(alloc, code, place.list.text(), place.item),
-        UpdateReply::Refused { place, by } => {
-            let words = words_at(alloc, code, place.list.text(), place.item)?;
-            with_denier(words, by)
-        }
-        UpdateReply::Failed(failed) => {
-            words_at(alloc, code, ItemList::Prerequisites.text(), failed.item)
-        }
-    }
-}
-
-/// A code, a list and the number of an item in it.
-fn words_at(alloc: Global, code: &str, list: &str, item: usize) -> Result<String, AllocError>
-    ensures { IfOk result (λ words. string_bytes words ≡ code.now ++ 32 ∷ (list.now ++ 32 ∷ decimal item)) }
-{
-    format!(in alloc; "{code} {list} {item}")
-}
-
-/// Words and one more.
-fn with_word(mut words: String, word: &str) -> Result<String, AllocError>
-    ensures { IfOk result (λ more. string_bytes more ≡ string_bytes words ++ 32 ∷ word.now) }
-{
-    words.push_str(" ")?;
-    words.push_str(word)?;
-    Ok(words)
-}
-
-/// Words, and who denies an item: a rule, or the closing default.
-fn with_denier(words: String, by: &Option<Identifier>) -> Result<String, AllocError>
-    ensures { IfOk result (λ more. string_bytes more ≡ string_bytes words ++ 32 ∷ item_text (denier_item by.now)) }
-{
-    match by {
-        None => with_word(words, CLOSING),
-        Some(rule) if rule.as_bytes() == CLOSING.as_bytes() => with_word(words, QUOTED_CLOSING),
-        Some(rule) => with_word(words, identifier_text(rule)),
-    }
-}
 
 /// Reads a reply in words, as `reply_words` gives them, or as they were written once: a denial by the closing default had no
 /// word for it. Any other text is `BadRow`.
@@ -74,6 +25,10 @@ pub fn read_reply(alloc: Global, words: &str) -> Result<UpdateReply, RowFault>
     // The words of a reply are read as this reply, unless memory runs out.
     ensures only { (reply : ReplyOf) → IsReply reply → AreWordsOf reply words.now → Reads (λ read. read) result (Ok reply) }
 {
+    // most receipts are of updates that were made
+    if words == Rcode::NoError.text() {
+        return Ok(UpdateReply::NoError);
+    }
     let reply = reply_in(alloc, words)?;
     let written = reply_words(alloc, &reply)?;
     if !are_words_of(words, written.as_str(), &reply) {

@@ -8,7 +8,9 @@ use dns_names::NameFault;
 use grant_policy::IdentifierFault;
 use office_sql::RowsFault;
 use office_state::ItemsFault;
+use sqlite::{Error as StoreError, ErrorCode};
 use std::alloc::{AllocError, AllocFailed};
+use store_faults::StoreFault;
 use thiserror::Error;
 
 /// Why a row was not read.
@@ -116,6 +118,21 @@ impl From<RowFault> for RowsFault {
         match fault {
             RowFault::BadRow => RowsFault::BadRow,
             RowFault::NoMemory => RowsFault::NoMemory,
+        }
+    }
+}
+
+impl From<RowFault> for StoreFault {
+    ghost use Rattle.office_rows.specs.RowRefusals.{of_row};
+
+    ghost from_gives = { λ f e. e ≡ of_row f };
+
+    fn from(fault: RowFault) -> StoreFault {
+        match fault {
+            RowFault::BadRow => StoreFault::Store(StoreError::SqliteFailure(
+                ErrorCode::DatabaseCorrupt,
+            )),
+            RowFault::NoMemory => StoreFault::NoMemory,
         }
     }
 }

@@ -17,7 +17,7 @@ use Rattle.text_commands.specs.Replies.{IsRefusalWritten, line_of}
 use Rattle.text_commands.proofs.JobLemmas.{front_behind}
 use Rattle.office_wire.specs.declared.serve_fault.ServeFault.{ServeFault}
 use Rattle.dns_master.specs.declared.device.DeviceFailed.{DeviceFailed}
-use Rattle.office_rows.specs.declared.store_fault.StoreFault.{StoreFault}
+use Rattle.store_faults.specs.declared.store_fault.StoreFault.{StoreFault}
 use Rattle.office_wire.specs.declared.servfails.Servfails.{Servfails}
 use Rattle.office_wire.specs.Servfails.{servfails, AreNoted}
 use Rattle.text_commands.specs.Replies.{IsSent}

@@ -17,9 +17,9 @@ use Rattle.zone_core.specs.Zones.{ZoneOf}
 use Rattle.command_line.specs.declared.job.Existing.{Existing}
 use Rattle.office_sql.specs.Holds.{Keeps}
 use Rattle.office_rows.specs.Contents.{ContentOf}
-use Rattle.office_rows.specs.StoreFaults.{IsFailure, IsOfRows}
-use Rattle.office_rows.specs.declared.store_fault.StoreFault.{StoreFault}
-use Rattle.office_rows.specs.declared.store_fault.StoreFault.TheVariants.{WrongVersion, BadRow}
+use Rattle.store_faults.specs.StoreFaults.{IsFailure, IsOfRows}
+use Rattle.store_faults.specs.declared.store_fault.StoreFault.{StoreFault}
+use Rattle.store_faults.specs.declared.store_fault.StoreFault.TheVariants.{WrongVersion, BadRow}
 use Rattle.office_store.specs.Holds.{IsOfVersion}
 use Rattle.office_store.specs.Migration.{HoldsOld, IsMigrated}
 use Rattle.std.specs.Prelude.{pos}

@@ -1,7 +1,7 @@
 -- The text of a log, by what was read of a store.
 use Rattle.std.proofs.Common.{◌≡◌, inl, inr, ℕ, Bool, List, Option, Result, Ok, Err}
 use Rattle.sqlite.specs.State.{State as Shown}
-use Rattle.office_rows.specs.declared.store_fault.StoreFault.{StoreFault}
+use Rattle.store_faults.specs.declared.store_fault.StoreFault.{StoreFault}
 use Rattle.command_line.specs.declared.job.LogChoice.{LogChoice}
 use Rattle.text_commands.specs.declared.line_fault.LineFault.{LineFault}
 use Rattle.text_commands.specs.LineFaults.{of_store}

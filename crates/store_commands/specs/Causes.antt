@@ -6,8 +6,8 @@ use Rattle.sqlite.specs.declared.error.ErrorCode.{ErrorCode}
 use Rattle.sqlite.specs.declared.error.ErrorCode.TheVariants.{DatabaseBusy, CannotOpen, DiskFull as Full, SystemIoFailure, DatabaseCorrupt, NotADatabase as NoDatabase, Closed}
 use Rattle.office_state.specs.declared.table_fault.TableFault.{TableFault}
 use Rattle.office_state.specs.declared.table_fault.TableFault.TheVariants as faults
-use Rattle.office_rows.specs.declared.store_fault.StoreFault.{StoreFault}
-use Rattle.office_rows.specs.declared.store_fault.StoreFault.TheVariants.{Store, BadRow}
+use Rattle.store_faults.specs.declared.store_fault.StoreFault.{StoreFault}
+use Rattle.store_faults.specs.declared.store_fault.StoreFault.TheVariants.{Store, BadRow}
 use Rattle.store_commands.specs.declared.cause.Cause.{Cause}
 use Rattle.store_commands.specs.declared.cause.Cause.TheVariants.{NoMemory, Locked, NotOpened, DiskFull, InputOutput, Corrupt, NotADatabase, Shut, StoreFailed}
 

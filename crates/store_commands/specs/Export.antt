@@ -7,7 +7,7 @@ use Rattle.command_line.specs.declared.job.ZoneForm.{ZoneForm}
 use Rattle.text_commands.specs.Canon.{zone_text_in}
 use Rattle.text_commands.specs.declared.refusal.Refusal.{Refusal}
 use Rattle.sqlite.specs.State.{State as Shown}
-use Rattle.office_rows.specs.declared.store_fault.StoreFault.{StoreFault}
+use Rattle.store_faults.specs.declared.store_fault.StoreFault.{StoreFault}
 use Rattle.text_commands.specs.declared.line_fault.LineFault.{LineFault}
 use Rattle.text_commands.specs.LineFaults.{◌>>=◌, of_names, of_store, Gives}
 use Rattle.text_commands.specs.declared.line_fault.JobFault.{JobFault}

@@ -4,7 +4,7 @@ use Rattle.dns_names.specs.Spelling.{name_text}
 use Rattle.sqlite.specs.State.{State as Shown}
 use Rattle.zone_core.specs.Sets.{listing}
 use Rattle.zone_core.specs.Zones.{ZoneOf, serial_of}
-use Rattle.office_rows.specs.declared.store_fault.StoreFault.{StoreFault}
+use Rattle.store_faults.specs.declared.store_fault.StoreFault.{StoreFault}
 use Rattle.command_line.specs.declared.job.Existing.{Existing}
 use Rattle.text_commands.specs.declared.refusal.Refusal.{Refusal}
 use Rattle.text_commands.specs.declared.line_fault.LineFault.{LineFault}

@@ -10,7 +10,7 @@ use Rattle.office_state.specs.Replies.{NumberedOf}
 use Rattle.office_state.specs.Texts.{update_text}
 use Rattle.office_core.specs.Machine.{numbered}
 use Rattle.office_rows.specs.declared.ordered.KeptReceipt.{KeptReceipt}
-use Rattle.office_rows.specs.ReplyWords.{reply_words}
+use Rattle.office_state.specs.ReplyWords.{reply_words}
 use Rattle.text_commands.specs.Plan.{signed_lines}
 use Rattle.store_commands.specs.declared.log_choice.LogAsked.{LogAsked}
 

@@ -1,7 +1,7 @@
 -- What is written of a store that was migrated.
 use Rattle.std.specs.Prelude.{◌≡◌, ⊤, ℕ, List, ◌∷◌, [], ◌++◌, codes, decimal, Option, None, Result, Ok, Err}
 use Rattle.text_commands.specs.declared.refusal.Refusal.{Refusal}
-use Rattle.office_rows.specs.declared.store_fault.StoreFault.{StoreFault}
+use Rattle.store_faults.specs.declared.store_fault.StoreFault.{StoreFault}
 use Rattle.text_commands.specs.declared.line_fault.LineFault.{LineFault}
 use Rattle.text_commands.specs.LineFaults.{of_store}
 use Rattle.text_commands.specs.declared.line_fault.JobFault.{JobFault}

@@ -2,7 +2,7 @@
 use Rattle.std.specs.Prelude.{Result}
 use Rattle.zone_core.specs.Zones.{ZoneOf}
 use Rattle.office_state.specs.States.{State}
-use Rattle.office_rows.specs.declared.store_fault.StoreFault.{StoreFault}
+use Rattle.store_faults.specs.declared.store_fault.StoreFault.{StoreFault}
 use Rattle.office_store.specs.Zones.{if_free, if_later, with_imported, with_replaced}
 use Rattle.command_line.specs.declared.job.Existing.{Existing}
 use Rattle.command_line.specs.declared.job.Existing.TheVariants.{Kept, Replaced}

@@ -12,7 +12,7 @@ use Rattle.office_wire.specs.Exchange.{Turn, Standing, Run}
 use Rattle.office_wire.specs.Promises.{ArePromised}
 use Rattle.office_wire.specs.Refusals.{fault_number}
 use Rattle.office_wire.specs.Servfails.{servfails}
-use Rattle.office_rows.specs.declared.store_fault.StoreFault.{StoreFault}
+use Rattle.store_faults.specs.declared.store_fault.StoreFault.{StoreFault}
 use Rattle.store_commands.specs.Causes.{trace_of}
 use Rattle.command_line.specs.declared.job.Service.{Service}
 use Rattle.text_commands.specs.declared.refusal.Refusal.{Refusal}

@@ -6,9 +6,9 @@ use Rattle.zone_core.specs.Sets.{listing}
 use Rattle.zone_core.specs.Zones.{serial_of}
 use Rattle.office_state.specs.States.{Held, State, zone_held}
 use Rattle.office_rows.specs.declared.ordered.KeptReceipt.{KeptReceipt}
-use Rattle.office_rows.specs.declared.store_fault.StoreFault.{StoreFault}
+use Rattle.store_faults.specs.declared.store_fault.StoreFault.{StoreFault}
 use Rattle.office_rows.specs.Listed.{AreOriginsOf, AreReceiptsOf}
-use Rattle.office_rows.specs.StoreFaults.{IsFailure}
+use Rattle.store_faults.specs.StoreFaults.{IsFailure}
 use Rattle.office_store.specs.Holds.{HoldsState}
 use Rattle.office_store.specs.Queries.{AsksOnly}
 use Rattle.text_commands.specs.declared.line_fault.LineFault.{LineFault}

@@ -5,10 +5,10 @@ use Rattle.dns_names.specs.Reading.{absolute_name}
 use Rattle.zone_core.specs.Changes.{ChangeOf, change_in}
 use Rattle.office_state.specs.States.{State, changes_at}
 use Rattle.office_rows.specs.declared.ordered.KeptReceipt.{KeptReceipt}
-use Rattle.office_rows.specs.declared.store_fault.StoreFault.{StoreFault}
-use Rattle.office_rows.specs.declared.store_fault.StoreFault.TheVariants.{NoZone}
+use Rattle.store_faults.specs.declared.store_fault.StoreFault.{StoreFault}
+use Rattle.store_faults.specs.declared.store_fault.StoreFault.TheVariants.{NoZone}
 use Rattle.office_rows.specs.Listed.{AreReceiptsOf}
-use Rattle.office_rows.specs.StoreFaults.{IsFailure}
+use Rattle.store_faults.specs.StoreFaults.{IsFailure}
 use Rattle.office_store.specs.Holds.{HoldsState}
 use Rattle.office_store.specs.Queries.{AsksOnly}
 use Rattle.command_line.specs.declared.job.LogChoice.{LogChoice}

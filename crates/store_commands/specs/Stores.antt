@@ -9,9 +9,9 @@ use Rattle.office_sql.specs.Holds.{Keeps, Leaves}
 use Rattle.office_sql.specs.Tables.{no_schema}
 use Rattle.office_rows.specs.Batches.{nothing_held}
 use Rattle.office_rows.specs.Contents.{ContentOf}
-use Rattle.office_rows.specs.StoreFaults.{IsFailure, IsOfRows, Gives}
-use Rattle.office_rows.specs.declared.store_fault.StoreFault.{StoreFault}
-use Rattle.office_rows.specs.declared.store_fault.StoreFault.TheVariants.{NoZone, WrongVersion, BadRow}
+use Rattle.store_faults.specs.StoreFaults.{IsFailure, IsOfRows, Gives}
+use Rattle.store_faults.specs.declared.store_fault.StoreFault.{StoreFault}
+use Rattle.store_faults.specs.declared.store_fault.StoreFault.TheVariants.{NoZone, WrongVersion, BadRow}
 use Rattle.office_store.specs.Holds.{HoldsState, HasNone, HasVersion, IsOfVersion, IsStateIn, LeavesStates}
 use Rattle.office_store.specs.Migration.{HoldsOld, IsMigrated}
 use Rattle.office_store.specs.Queries.{Asked, AsksOnly, Only}

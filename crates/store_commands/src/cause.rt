@@ -1,7 +1,7 @@
 //! Why requests were answered SERVFAIL, in words.
 
 ghost use Rattle.std.specs.Prelude.{◌≡◌, Option, None};
-ghost use Rattle.office_rows.specs.declared.store_fault.StoreFault.{StoreFault as StoreFaultOf};
+ghost use Rattle.store_faults.specs.declared.store_fault.StoreFault.{StoreFault as StoreFaultOf};
 ghost use Rattle.store_commands.specs.Causes.{cause_words, cause_of, of_code, of_store};
 
 use office_state::TableFault;

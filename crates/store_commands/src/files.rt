@@ -2,7 +2,7 @@
 
 ghost use Rattle.std.specs.Prelude.{◌≡◌, ℕ, Bool, List, false, ⊤, IfOk, IfErr};
 ghost use Rattle.sqlite.specs.Held.{Held};
-ghost use Rattle.office_rows.specs.declared.store_fault.StoreFault.{StoreFault as StoreFaultOf};
+ghost use Rattle.store_faults.specs.declared.store_fault.StoreFault.{StoreFault as StoreFaultOf};
 
 use office_sql::connect_at;
 use office_store::StoreFault;

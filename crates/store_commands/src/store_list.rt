@@ -8,7 +8,7 @@ ghost use Rattle.zone_core.specs.Sets.{listing};
 ghost use Rattle.zone_core.specs.Zones.{serial_of};
 ghost use Rattle.office_state.specs.States.{State};
 ghost use Rattle.office_rows.specs.Listed.{AreOriginsOf};
-ghost use Rattle.office_rows.specs.StoreFaults.{IsFailure};
+ghost use Rattle.store_faults.specs.StoreFaults.{IsFailure};
 ghost use Rattle.office_store.specs.Holds.{HoldsState};
 ghost use Rattle.office_store.specs.Queries.{AsksOnly};
 ghost use Rattle.store_commands.specs.Stores.{stores_of};

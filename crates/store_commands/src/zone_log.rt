@@ -7,8 +7,8 @@ ghost use Rattle.office_core.specs.Machine.{numbered};
 ghost use Rattle.store_commands.specs.Log.{numbered_as, change_text, receipt_line, receipt_text, asks_change, asks_receipt, changes_asked, receipts_asked, log_text};
 
 use crate::log_choice::LogAsked;
-use office_rows::{KeptReceipt, identifier_text, reply_words};
-use office_state::items_text;
+use office_rows::KeptReceipt;
+use office_state::{items_text, reply_words};
 use std::alloc::{AllocError, Global};
 use std::fmt::Write as _;
 use text_commands::push_signed;
@@ -67,8 +67,8 @@ fn push_receipt_line(alloc: Global, text: &mut String, kept: &KeptReceipt) -> Re
     ensures { OnOk result (string_bytes text.new ≡ string_bytes text.old ++ receipt_line kept.now) }
 {
     let answer = reply_words(alloc, &kept.receipt.reply)?;
-    let caller = identifier_text(&kept.caller);
-    let id = identifier_text(&kept.id);
+    let caller = kept.caller.as_str();
+    let id = kept.id.as_str();
     writeln!(text, "receipt {caller} {id} {answer}")
 }
 

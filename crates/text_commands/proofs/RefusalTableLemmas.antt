@@ -8,7 +8,7 @@ use Rattle.std.proofs.lemmas.List.Splits.{join_with_byte-slice_split}
 use Rattle.text_commands.specs.declared.refusal_row.NumberPlace.{NumberPlace}
 use Rattle.text_commands.specs.declared.refusal_row.NumberPlace.TheVariants as place
 use Rattle.text_commands.specs.RefusalTables.{RowOf, rows, input_rows, name_rows, data_rows, file_rows, zone_rows, policy_rows, store_rows, request_rows, command_rows, code_rows}
-use Rattle.text_commands.specs.RefusalNumbers.{behind, ends, explained, may_be, parts_of, row_in, rows_from}
+use Rattle.text_commands.specs.RefusalNumbers.{behind, ends, may_be, parts_of, row_in, rows_from}
 use Rattle.text_commands.specs.RefusalLaws.{NumbersAreApart, RowsAreOfTheirNumber, TextsArePlain, numbers}
 
 pub apart : NumbersAreApart

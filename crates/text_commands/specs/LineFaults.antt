@@ -10,8 +10,8 @@ use Rattle.office_state.specs.declared.items_fault.ItemsFault.{ItemsFault}
 use Rattle.office_state.specs.declared.items_fault.ItemsFault.TheVariants as items
 use Rattle.grant_policy.specs.declared.policy_fault.PolicyFault.{PolicyFault}
 use Rattle.grant_policy.specs.declared.policy_fault.PolicyFault.TheVariants as policies
-use Rattle.office_rows.specs.declared.store_fault.StoreFault.{StoreFault}
-use Rattle.office_rows.specs.declared.store_fault.StoreFault.TheVariants as stores
+use Rattle.store_faults.specs.declared.store_fault.StoreFault.{StoreFault}
+use Rattle.store_faults.specs.declared.store_fault.StoreFault.TheVariants as stores
 use Rattle.text_commands.specs.declared.refusal.Refusal.{Refusal}
 use Rattle.text_commands.specs.declared.refusal.Refusal.TheVariants.{Name, TooLarge, Master, Zone, Policy, Items, Store}
 use Rattle.text_commands.specs.declared.line_fault.LineFault.{LineFault}

@@ -15,7 +15,7 @@ use Rattle.office_state.specs.declared.reply.UpdateReply.{UpdateReply}
 use Rattle.office_state.specs.declared.reply.UpdateReply.TheVariants.{NoError}
 use Rattle.office_core.specs.Machine.{zone_refusal}
 use Rattle.office_core.specs.Steps.{held_in, change_made}
-use Rattle.office_rows.specs.ReplyWords.{reply_words}
+use Rattle.office_state.specs.ReplyWords.{reply_words}
 use Rattle.text_commands.specs.declared.plan.Asker.{Asker}
 use Rattle.text_commands.specs.declared.refusal.Refusal.{Refusal}
 use Rattle.text_commands.specs.declared.refusal.Refusal.TheVariants.{NoCaller, NoDivider}

@@ -1,5 +1,5 @@
 -- What holds of the table, and of the rows of a number.
-use Rattle.std.specs.Prelude.{◌≡◌, ℕ, Bool, true, ◌&&◌, ◌<◌, not, List, [], ◌∷◌, map, Option, Some, bytes_eq, nat_lt}
+use Rattle.std.specs.Prelude.{◌≡◌, ℕ, Bool, true, ◌&&◌, not, List, [], ◌∷◌, map, Some, bytes_eq, nat_lt}
 use Rattle.std.specs.List.{join_with_byte, list_all, list_any}
 use Rattle.text_commands.specs.RefusalTables.{RowOf, rows}
 use Rattle.text_commands.specs.RefusalNumbers.{explained}

@@ -1,5 +1,5 @@
 -- Which numbers the program prints for refusals, and the rows of their parts.
-use Rattle.std.specs.Prelude.{ℕ, Bool, true, false, ◌&&◌, ◌==◌, List, [], ◌∷◌, ◌++◌, Option, Some, None, option_map, option_and_then, find, bytes_eq}
+use Rattle.std.specs.Prelude.{ℕ, Bool, true, false, ◌&&◌, ◌==◌, List, [], ◌∷◌, Option, Some, None, option_map, option_and_then, find, bytes_eq}
 use Rattle.std.specs.List.{slice_split}
 use Rattle.text_commands.specs.declared.refusal_row.NumberPlace.{NumberPlace}
 use Rattle.text_commands.specs.declared.refusal_row.NumberPlace.TheVariants as place

@@ -9,9 +9,9 @@ use crate::refusal::Refusal;
 use dns_master::{DeviceFailed, MasterFault};
 use dns_names::NameFault;
 use grant_policy::PolicyFault;
-use office_rows::StoreFault;
 use office_state::ItemsFault;
 use std::alloc::AllocError;
+use store_faults::StoreFault;
 use thiserror::Error;
 use zone_core::ZoneFault;
 

@@ -18,7 +18,7 @@ use dns_data::Record;
 use dns_master::Sink;
 use grant_policy::{Identifier, Policy, read_policy};
 use office_core::{UpdateReply, plan};
-use office_rows::reply_words;
+use office_state::reply_words;
 use std::alloc::{AllocError, Global};
 use std::fmt::Write as _;
 use zone_core::{Change, Update, Zone, apply_owned};

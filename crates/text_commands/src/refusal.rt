@@ -7,9 +7,9 @@ use dns_data::DataFault;
 use dns_master::MasterFault;
 use dns_names::NameFault;
 use grant_policy::PolicyFault;
-use office_rows::StoreFault;
 use office_state::ItemsFault;
 use std::fmt::{self, Display, Formatter, Write};
+use store_faults::StoreFault;
 use thiserror::Error;
 use zone_core::{Rcode, ZoneFault};
 

@@ -2,7 +2,7 @@ use Rattle.std.proofs.Common.{◌≡◌, ◌++◌, inr, ⊎_elim, true, sym, ◌
 use Rattle.std.proofs.lemmas.Bool.{false≢true}
 use Rattle.std.proofs.lemmas.Slice.Eq.{bytes_eq-Decides}
 use Rattle.std.specs.Prelude.{codes}
-use Rattle.office_rows.specs.ReplyWords.{is_by_default}
+use Rattle.office_state.specs.ReplyWords.{is_by_default}
 use Rattle.office_rows.proofs.ReplyLaws.{written_or_former}
 use Rattle.office_rows.proofs.replies.are_words_of.Goals as goal
 

@@ -1,8 +1,10 @@
 use Rattle.std.proofs.Common.{◌≡◌, true, sym, ap, subst, ◌∙◌}
 use Rattle.std.proofs.lemmas.Result.{err_from_is_err_and}
-use Rattle.office_rows.specs.ReplyWords.{AreWordsOf}
+use Rattle.office_state.specs.declared.reply.UpdateReply.TheVariants.{NoError}
+use Rattle.office_state.specs.ReplyWords.{AreWordsOf, Current}
 use Rattle.office_rows.specs.RowReading.{reply_in}
-use Rattle.office_rows.proofs.ReplyLaws.{text_read}
+use Rattle.office_rows.proofs.NameLemmas.{bytes_is}
+use Rattle.office_rows.proofs.ReplyLaws.{one_reply, text_read}
 use Rattle.office_rows.proofs.RowSteps.{done, ok_is, refuses_given}
 use Rattle.office_rows.proofs.replies.read_reply.Goals as goal
 
@@ -22,3 +24,10 @@ returns-clause-found c = (c.are_words_of.ensures.0 c.if-not-are_words_of.false, 
 
 pub returns-clause-only : goal.returns-clause-only
 returns-clause-only c = λ reply is are. ap done (ok_is reply c.in_ok-reply.reply (sym (text_read reply c.args.words.now is are) ∙ c.in_ok-reply.ensures))
+
+pub returns-then-eq-clause-found : goal.returns-then-eq-clause-found
+returns-then-eq-clause-found c = ((Current, bytes_is c.args.words.now c.text.result.now (sym c.eq.ensures ∙ c.if-eq.true) ∙ c.text.ensures), tt)
+
+pub returns-then-eq-clause-only : goal.returns-then-eq-clause-only
+returns-then-eq-clause-only c = λ reply is are.
+    ap done (one_reply c.args.words.now reply NoError is tt are (Current, bytes_is c.args.words.now c.text.result.now (sym c.eq.ensures ∙ c.if-eq.true) ∙ c.text.ensures))

@@ -1,6 +1,6 @@
 use Rattle.std.proofs.Common.{inl, inr, subst, refl}
 use Rattle.sqlite.specs.Held.{state}
-use Rattle.office_rows.specs.StoreFaults.{IsFailure}
+use Rattle.store_faults.specs.StoreFaults.{IsFailure}
 use Rattle.store_commands.specs.Stores.{IsNoStore}
 use Rattle.store_commands.proofs.FilesLemmas.{map_err, left_as}
 use Rattle.store_commands.proofs.store_file.made_or_adopted.Goals as goal

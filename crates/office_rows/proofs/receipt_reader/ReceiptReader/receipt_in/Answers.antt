@@ -1,7 +1,7 @@
 use Rattle.std.proofs.Common.{sym, ap, subst, ◌∙◌}
 use Rattle.std.proofs.lemmas.Result.{err_from_is_err_and}
 use Rattle.office_sql.specs.Rows.{ReceiptRowOf}
-use Rattle.office_rows.specs.ReplyWords.{AreWordsOf}
+use Rattle.office_state.specs.ReplyWords.{AreWordsOf}
 use Rattle.office_rows.specs.RowReading.{name_in, request_at}
 use Rattle.office_rows.proofs.ColumnLaws.{name_read, name_found}
 use Rattle.office_rows.proofs.ReceiptRowLaws.{request_again, request_found}

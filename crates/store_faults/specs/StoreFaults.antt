@@ -9,10 +9,8 @@ use Rattle.zone_core.specs.Faults.{zone_fault_number}
 use Rattle.office_sql.specs.Faults.{fault_of}
 use Rattle.office_sql.specs.declared.rows_fault.RowsFault.{RowsFault}
 use Rattle.office_sql.specs.declared.rows_fault.RowsFault.TheVariants as tables
-use Rattle.office_rows.specs.declared.row_fault.RowFault.{RowFault}
-use Rattle.office_rows.specs.declared.row_fault.RowFault.TheVariants as rows
-use Rattle.office_rows.specs.declared.store_fault.StoreFault.{StoreFault}
-use Rattle.office_rows.specs.declared.store_fault.StoreFault.TheVariants.{ZoneExists, NoZone, SerialNotGreater, WrongVersion, Store, BadRow, Zone, NoMemory}
+use Rattle.store_faults.specs.declared.store_fault.StoreFault.{StoreFault}
+use Rattle.store_faults.specs.declared.store_fault.StoreFault.TheVariants.{ZoneExists, NoZone, SerialNotGreater, WrongVersion, Store, BadRow, Zone, NoMemory}
 
 -- the published number of a refusal; that of a zone is its own
 abbrev pub store_fault_number : StoreFault → ℕ
@@ -39,24 +37,9 @@ of_found (tables.Store cause) = Store cause
 of_found tables.BadRow = BadRow
 of_found tables.NoMemory = NoMemory
 
--- the same of a row that was read
-abbrev pub of_checked : RowFault → StoreFault
-of_checked rows.BadRow = BadRow
-of_checked rows.NoMemory = NoMemory
-
--- what a check of rows that somebody else may have written gives
-abbrev pub of_check : {A : Type 0} → Result A RowFault → Result A StoreFault
-of_check (Ok x) = Ok x
-of_check (Err fault) = Err (of_checked fault)
-
 -- an error of the store
 abbrev pub of_store : Error → StoreFault
 of_store error = of_rows (fault_of error)
-
--- a row that is not read is a failure of the store as well
-abbrev pub of_row : RowFault → StoreFault
-of_row rows.BadRow = Store (SqliteFailure DatabaseCorrupt)
-of_row rows.NoMemory = NoMemory
 
 -- records that are no zone
 abbrev pub of_zone : ZoneFault → StoreFault

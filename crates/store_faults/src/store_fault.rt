@@ -1,10 +1,9 @@
-//! Why the table in SQLite refuses a call.
+//! Why the table in SQLite refuses a call, and by which number.
 
 ghost use Rattle.std.specs.Prelude.{◌≡◌};
-ghost use Rattle.office_rows.specs.StoreFaults.{store_fault_number, of_rows, of_store, of_row, of_zone};
-ghost use Rattle.office_rows.specs.declared.store_fault.StoreFault.TheVariants.{NoMemory};
+ghost use Rattle.store_faults.specs.StoreFaults.{store_fault_number, of_rows, of_store, of_zone};
+ghost use Rattle.store_faults.specs.declared.store_fault.StoreFault.TheVariants.{NoMemory};
 
-use crate::row_fault::RowFault;
 use office_sql::RowsFault;
 use sqlite::{Error as StoreError, ErrorCode};
 use std::alloc::{AllocError, AllocFailed};
@@ -77,19 +76,6 @@ impl From<StoreError> for StoreFault {
 
     fn from(error: StoreError) -> StoreFault {
         StoreFault::from(RowsFault::from(error))
-    }
-}
-
-impl From<RowFault> for StoreFault {
-    ghost from_gives = { λ f e. e ≡ of_row f };
-
-    fn from(fault: RowFault) -> StoreFault {
-        match fault {
-            RowFault::BadRow => StoreFault::Store(StoreError::SqliteFailure(
-                ErrorCode::DatabaseCorrupt,
-            )),
-            RowFault::NoMemory => StoreFault::NoMemory,
-        }
     }
 }
 
