@@ -6,7 +6,7 @@ ghost use Rattle.std.specs.List.Sorted.{IsPermutation, IsSorted};
 ghost use Rattle.dns_names.specs.Labels.{IsName};
 ghost use Rattle.dns_names.specs.Order.{same_name};
 ghost use Rattle.zone_core.specs.Changes.{ChangeOf, change_in};
-ghost use Rattle.office_rows.specs.ChangeRows.{changes_rows, IsChange, IsChanged, IsChangeRow, row_of, changed_order, follows, follows_in_number, follow_in_turn, are_numbered, are_of_one, with_record, opened, placed, gathered};
+ghost use Rattle.office_rows.specs.ChangeRows.{changes_rows, IsChange, IsChanged, IsChangeRow, row_of, side_order, changed_order, follows, follows_in_number, follow_in_turn, are_numbered, are_of_one, with_record, opened, placed, gathered};
 ghost use Rattle.office_rows.specs.RowFaults.{Reads};
 ghost use Rattle.office_rows.specs.RowReading.{each_read, changed_in, changed_behind, changes_among, AreStoredIn, AreStoredBehind};
 
@@ -25,11 +25,11 @@ use zone_core::Change;
 /// Reads the rows of the changes of one zone, in any order, as its changes, the oldest first. Rows that are those of no changes are
 /// `BadRow`: one is no row of a change, two are of different origins, two are of the same record on the same side of one change, or
 /// the numbers are not those from 1 on.
-pub fn read_changes(alloc: Global, rows: Vec<ChangeRow>) -> Result<Vec<Change>, RowFault>
+pub fn read_changes(alloc: Global, rows: &[ChangeRow]) -> Result<Vec<Change>, RowFault>
     // The rows are those of what is read, of some zone.
-    ensures found { IfOk result (λ cs. (origin : List (List ℕ)) × IsName origin × AllByRecursion IsChange (map change_in cs.items) × IsPermutation (changes_rows origin 1 (map change_in cs.items)) rows.items) }
+    ensures found { IfOk result (λ cs. (origin : List (List ℕ)) × IsName origin × AllByRecursion IsChange (map change_in cs.items) × IsPermutation (changes_rows origin 1 (map change_in cs.items)) rows.now) }
     // The rows of the changes of a zone are read as these changes, unless memory runs out.
-    ensures only { (origin : List (List ℕ)) (changes : List ChangeOf) → IsName origin → AllByRecursion IsChange changes → IsPermutation (changes_rows origin 1 changes) rows.items → Reads (λ cs. map change_in cs.items) result (Ok changes) }
+    ensures only { (origin : List (List ℕ)) (changes : List ChangeOf) → IsName origin → AllByRecursion IsChange changes → IsPermutation (changes_rows origin 1 changes) rows.now → Reads (λ cs. map change_in cs.items) result (Ok changes) }
 {
     let changed = sorted_changes(alloc, rows)?;
     changes_among(alloc, changed)
@@ -51,13 +51,13 @@ pub(crate) fn stored_changes(alloc: Global, rows: Vec<ChangeRow>) -> Result<Vec<
 /// one of the first ones is `BadRow`.
 pub(crate) fn stored_behind(
     alloc: Global,
-    rows: Vec<ChangeRow>,
+    rows: &[ChangeRow],
     count: u32,
 ) -> Result<Vec<Change>, RowFault>
     // They have what each row says.
-    ensures found { IfOk result (λ cs. AreStoredBehind count rows.items (map change_in cs.items)) }
+    ensures found { IfOk result (λ cs. AreStoredBehind count rows.now (map change_in cs.items)) }
     // The rows of changes with the numbers from there on are read as these changes, unless memory runs out.
-    ensures only { (origin : List (List ℕ)) (changes : List ChangeOf) → IsName origin → AllByRecursion IsChange changes → IsPermutation (changes_rows origin (1 + count) changes) rows.items → Reads (λ cs. map change_in cs.items) result (Ok changes) }
+    ensures only { (origin : List (List ℕ)) (changes : List ChangeOf) → IsName origin → AllByRecursion IsChange changes → IsPermutation (changes_rows origin (1 + count) changes) rows.now → Reads (λ cs. map change_in cs.items) result (Ok changes) }
 {
     let changed = each_behind(alloc, rows, count)?;
     changes_among(alloc, in_order(changed)?)
@@ -85,45 +85,55 @@ fn each_stored(alloc: Global, rows: Vec<ChangeRow>) -> Result<Vec<ChangedRecord>
     Ok(changed)
 }
 
-/// What each row has behind so many changes. A row goes as soon as it is read.
+/// What each row has behind so many changes.
 fn each_behind(
     alloc: Global,
-    rows: Vec<ChangeRow>,
+    rows: &[ChangeRow],
     count: u32,
 ) -> Result<Vec<ChangedRecord>, RowFault>
-    ensures { Reads (λ cs. cs.items) result (each_read (changed_behind count) rows.items) }
+    ensures { Reads (λ cs. cs.items) result (each_read (changed_behind count) rows.now) }
 {
     let mut reader = ChangeReader::new();
     let mut changed = Vec::with_capacity(alloc, rows.len())?;
     for row in rows {
-        changed.push(reader.row_behind(alloc, &row, count)?)?;
+        changed.push(reader.row_behind(alloc, row, count)?)?;
     }
     Ok(changed)
 }
 
-/// What each row has. A row goes as soon as it is read.
-fn each_changed(alloc: Global, rows: Vec<ChangeRow>) -> Result<Vec<ChangedRecord>, RowFault>
-    ensures found { IfOk result (λ cs. (map row_of cs.items ≡ rows.items) × AllByRecursion IsChanged cs.items) }
-    ensures only { AllByRecursion IsChangeRow rows.items → IfErr result (λ e. e ≡ RowFault.NoMemory) }
+/// What each row has.
+fn each_changed(alloc: Global, rows: &[ChangeRow]) -> Result<Vec<ChangedRecord>, RowFault>
+    ensures found { IfOk result (λ cs. (map row_of cs.items ≡ rows.now) × AllByRecursion IsChanged cs.items) }
+    ensures only { AllByRecursion IsChangeRow rows.now → IfErr result (λ e. e ≡ RowFault.NoMemory) }
 {
     let mut reader = ChangeReader::new();
     let mut changed = Vec::with_capacity(alloc, rows.len())?;
     for row in rows {
-        changed.push(reader.read_row(alloc, &row)?)?;
+        changed.push(reader.read_row(alloc, row)?)?;
     }
     Ok(changed)
 }
 
-/// The order of what rows have: by origin, then by the number of the change, then by side, and then in record order.
-fn changed_order(first: &ChangedRecord, second: &ChangedRecord) -> Ordering
-    ensures { result ≡ changed_order first.now second.now }
+/// The order of the changes, and of their sides, in which records are: by origin, then by the number of the change, and then by side.
+fn side_order(first: &ChangedRecord, second: &ChangedRecord) -> Ordering
+    ensures { result ≡ side_order first.now second.now }
 {
     first
         .origin
         .cmp(&second.origin)
         .then(first.number.cmp(&second.number))
         .then(first.side.rank().cmp(&second.side.rank()))
-        .then(record_order(&first.changed, &second.changed))
+}
+
+/// The order of what rows have: by origin, then by the number of the change, then by side, and then in record order.
+fn changed_order(first: &ChangedRecord, second: &ChangedRecord) -> Ordering
+    ensures { result ≡ changed_order first.now second.now }
+{
+    // few records are on one side of one change
+    match side_order(first, second) {
+        Ordering::Equal => record_order(&first.changed, &second.changed),
+        order => order,
+    }
 }
 
 impl Ordered for ChangedRecord {
@@ -139,10 +149,10 @@ impl Ordered for ChangedRecord {
 }
 
 /// What rows of `changes` have, of whatever zones: by origin, then by the number of the change, then by side, and then in record order. A
-/// row that is that of no record on a side of a change is `BadRow`. Each goes as soon as it is read.
-pub fn sorted_changes(alloc: Global, rows: Vec<ChangeRow>) -> Result<Vec<ChangedRecord>, RowFault>
-    ensures found { IfOk result (λ cs. IsPermutation (map row_of cs.items) rows.items × AllByRecursion IsChanged cs.items × IsSorted changed_order cs.items) }
-    ensures only { AllByRecursion IsChangeRow rows.items → IfErr result (λ e. e ≡ RowFault.NoMemory) }
+/// row that is that of no record on a side of a change is `BadRow`.
+pub fn sorted_changes(alloc: Global, rows: &[ChangeRow]) -> Result<Vec<ChangedRecord>, RowFault>
+    ensures found { IfOk result (λ cs. IsPermutation (map row_of cs.items) rows.now × AllByRecursion IsChanged cs.items × IsSorted changed_order cs.items) }
+    ensures only { AllByRecursion IsChangeRow rows.now → IfErr result (λ e. e ≡ RowFault.NoMemory) }
 {
     let changed = each_changed(alloc, rows)?;
     Ok(in_order(changed)?)

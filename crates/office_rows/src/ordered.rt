@@ -90,15 +90,15 @@ pub fn origins(alloc: Global, rows: &[ZoneRow]) -> Result<Vec<Name>, RowFault>
     Ok(sorted_origins(origins)?)
 }
 
-/// The record of each row. A row goes as soon as it is read.
-fn each_record(alloc: Global, rows: Vec<RecordRow>) -> Result<Vec<ZoneRecord>, RowFault>
-    ensures found { IfOk result (λ rs. (map row_of_record rs.items ≡ rows.items) × AllByRecursion IsZoneRecord rs.items) }
-    ensures only { AllByRecursion IsZoneRecordRow rows.items → IfErr result (λ e. e ≡ RowFault.NoMemory) }
+/// The record of each row.
+fn each_record(alloc: Global, rows: &[RecordRow]) -> Result<Vec<ZoneRecord>, RowFault>
+    ensures found { IfOk result (λ rs. (map row_of_record rs.items ≡ rows.now) × AllByRecursion IsZoneRecord rs.items) }
+    ensures only { AllByRecursion IsZoneRecordRow rows.now → IfErr result (λ e. e ≡ RowFault.NoMemory) }
 {
     let mut reader = RecordReader::new();
     let mut records = Vec::with_capacity(alloc, rows.len())?;
     for row in rows {
-        records.push(reader.read_row(alloc, &row)?)?;
+        records.push(reader.read_row(alloc, row)?)?;
     }
     Ok(records)
 }
@@ -107,10 +107,10 @@ fn each_record(alloc: Global, rows: Vec<RecordRow>) -> Result<Vec<ZoneRecord>, R
 fn zone_record_order(first: &ZoneRecord, second: &ZoneRecord) -> Ordering
     ensures { result ≡ zone_record_order first.now second.now }
 {
-    first
-        .origin
-        .cmp(&second.origin)
-        .then(record_order(&first.rr, &second.rr))
+    match first.origin.cmp(&second.origin) {
+        Ordering::Equal => record_order(&first.rr, &second.rr),
+        order => order,
+    }
 }
 
 impl Ordered for ZoneRecord {
@@ -125,11 +125,10 @@ impl Ordered for ZoneRecord {
     ghost total = { zone_record_total };
 }
 
-/// The records of rows of `records`, by origin, and then in record order. A row that is that of no record of a zone is `BadRow`. Each
-/// goes as soon as it is read.
-pub fn records(alloc: Global, rows: Vec<RecordRow>) -> Result<Vec<ZoneRecord>, RowFault>
-    ensures found { IfOk result (λ rs. IsPermutation (map row_of_record rs.items) rows.items × AllByRecursion IsZoneRecord rs.items × IsSorted zone_record_order rs.items) }
-    ensures only { AllByRecursion IsZoneRecordRow rows.items → IfErr result (λ e. e ≡ RowFault.NoMemory) }
+/// The records of rows of `records`, by origin, and then in record order. A row that is that of no record of a zone is `BadRow`.
+pub fn records(alloc: Global, rows: &[RecordRow]) -> Result<Vec<ZoneRecord>, RowFault>
+    ensures found { IfOk result (λ rs. IsPermutation (map row_of_record rs.items) rows.now × AllByRecursion IsZoneRecord rs.items × IsSorted zone_record_order rs.items) }
+    ensures only { AllByRecursion IsZoneRecordRow rows.now → IfErr result (λ e. e ≡ RowFault.NoMemory) }
 {
     let records = each_record(alloc, rows)?;
     Ok(sorted_records(records)?)

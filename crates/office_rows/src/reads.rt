@@ -166,14 +166,14 @@ pub fn changes_of(alloc: Global, rows: Vec<ChangeRow>) -> Result<Vec<Change>, Ro
 /// changes are `BadRow`.
 pub fn changes_behind(
     alloc: Global,
-    rows: Vec<ChangeRow>,
+    rows: &[ChangeRow],
     count: u32,
 ) -> Result<Vec<Change>, RowFault>
     // They have what each row says.
-    ensures found { IfOk result (λ changes. AreStoredBehind count rows.items (map change_in changes.items)) }
+    ensures found { IfOk result (λ changes. AreStoredBehind count rows.now (map change_in changes.items)) }
     // In a state that holds the zone, the rows of its changes with so many numbers from there on are read as these, unless memory runs
     // out.
-    ensures held { (version : ℤ) (all : RowsOf) (s : State) (origin : List (List ℕ)) (held : Held) (most : ℕ) → AreOfState version all s → s.zones origin ≡ Some held → IsPermutation (changes_between (name_text origin) (pos (1 + count)) (pos (1 + count + most)) all.changes) rows.items → Reads (λ changes. map change_in changes.items) result (Ok (take most (drop count held.changes))) }
+    ensures held { (version : ℤ) (all : RowsOf) (s : State) (origin : List (List ℕ)) (held : Held) (most : ℕ) → AreOfState version all s → s.zones origin ≡ Some held → IsPermutation (changes_between (name_text origin) (pos (1 + count)) (pos (1 + count + most)) all.changes) rows.now → Reads (λ changes. map change_in changes.items) result (Ok (take most (drop count held.changes))) }
 {
     stored_behind(alloc, rows, count)
 }

@@ -17,7 +17,6 @@ use crate::changes::ChangedRecord;
 use crate::gathering::{are_numbered, in_order};
 use crate::largest_zone::largest_zone;
 use crate::ordered::{ZoneRecord, sorted_origins, sorted_records};
-use crate::reads::built;
 use crate::row_fault::RowFault;
 use dns_data::{Record, same_record};
 use dns_names::Name;
@@ -50,10 +49,7 @@ pub fn check_records(
     ensures zone { IfOk result (λ found. IfSome found (λ zone. IsReadAmong origins.now (map row_of_record records.items) zone)) }
 {
     let records = sorted_records(records)?;
-    if !are_records_of(alloc, origins, &records)? {
-        return Err(RowFault::BadRow);
-    }
-    Ok(largest_zone(alloc, origins, records))
+    largest_zone(alloc, origins, &records)
 }
 
 /// Checks what the rows of `changes` are read as. It is `BadRow` where these are not the changes of zones of these origins, which are in
@@ -75,26 +71,6 @@ pub fn are_apart(names: &[Name]) -> bool
     ensures { result ≡ rises canonical_cmp names.now }
 {
     rise(names)
-}
-
-/// Whether records are, one after the other, those of zones of these origins, and nothing is left behind the last. The only error is
-/// out of memory.
-fn are_records_of(
-    alloc: Global,
-    origins: &[Name],
-    records: &[ZoneRecord],
-) -> Result<bool, AllocError>
-    ensures { IfOk result (λ yes. (yes ≡ true) ↔ AreRecordsInTurn origins.now records.now) }
-{
-    let mut left = records;
-    for origin in origins {
-        let (own, other) = left.split_at(records_first(origin, left));
-        if !is_zone(alloc, origin, own)? {
-            return Ok(false);
-        }
-        left = other;
-    }
-    Ok(left.is_empty())
 }
 
 /// Whether what changes have is, one zone after the other, that of the changes of zones of these origins, numbered from 1 in each, and
@@ -141,49 +117,4 @@ pub fn changes_first(origin: &Name, changes: &[ChangedRecord]) -> usize
     ensures within { result ≤ length changes.now }
 {
     other_change(origin, changes).unwrap_or(changes.len())
-}
-
-/// Whether records are those of a zone of an origin, in record order: the zone that is built of them has them, and no others. The only
-/// error is out of memory.
-fn is_zone(alloc: Global, origin: &Name, records: &[ZoneRecord]) -> Result<bool, AllocError>
-    ensures { IfOk result (λ yes. (yes ≡ true) ↔ AreOfZone origin.now (map (λ r. r.rr) records.now)) }
-{
-    match built(alloc, origin, copied(alloc, records)?) {
-        Ok(zone) => Ok(are_those(zone.records(), records)),
-        Err(RowFault::BadRow) => Ok(false),
-        Err(RowFault::NoMemory) => Err(AllocError),
-    }
-}
-
-/// Copies of records. The only error is out of memory.
-pub fn copied(alloc: Global, records: &[ZoneRecord]) -> Result<Vec<Record>, AllocError>
-    ensures { IfOk result (λ copies. copies.items ≡ map (λ r. r.rr) records.now) }
-{
-    let mut copies = Vec::with_capacity(alloc, records.len())?;
-    for record in records {
-        copies.push(record.rr.try_copy(alloc)?)?;
-    }
-    Ok(copies)
-}
-
-/// Whether two records are equal, TTLs counted.
-fn is_that(first: &Record, second: &Record) -> bool
-    ensures { (result ≡ true) ↔ (first.now ≡ second.now) }
-{
-    same_record(first, second) && first.ttl.seconds() == second.ttl.seconds()
-}
-
-/// Whether records are these, in the same order, TTLs counted.
-pub fn are_those(first: &[Record], second: &[ZoneRecord]) -> bool
-    ensures { (result ≡ true) ↔ (first.now ≡ map (λ r. r.rr) second.now) }
-{
-    if first.len() != second.len() {
-        return false;
-    }
-    for place in 0..first.len() {
-        if !is_that(&first[place], &second[place].rr) {
-            return false;
-        }
-    }
-    true
 }

@@ -9,10 +9,10 @@ use dns_names::Name;
 use grant_policy::Identifier;
 use office_rows::{
     RowFault, change_rows, read_changes, read_origin, read_receipt, read_record, read_reply,
-    receipt_row, record_row, reply_words,
+    receipt_row, record_row,
 };
 use office_sql::{ReceiptRow, RecordRow};
-use office_state::{Receipt, items_text, read_items};
+use office_state::{Receipt, items_text, read_items, reply_words};
 use std::alloc::{AllocError, Global};
 use test_rows::{Row, word};
 use zone_core::{Change, Operation, Update};
@@ -188,7 +188,7 @@ fn changes(alloc: Global, lines: &str) -> Result<Vec<Change>, Refusal> {
     for line in lines.lines() {
         rows.push(change_of(alloc, line)?)?;
     }
-    Ok(read_changes(alloc, rows)?)
+    Ok(read_changes(alloc, &rows)?)
 }
 
 fn push_change(

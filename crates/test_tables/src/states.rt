@@ -117,8 +117,8 @@ fn check(alloc: Global, version: i64, rows: AllRows) -> Result<(), RowFault> {
     }
     check_receipts(alloc, rows.receipts)?;
     let origins = checked_origins(origins(alloc, &rows.zones)?)?;
-    check_records(alloc, &origins, records(alloc, rows.records)?)?;
-    check_changes(&origins, sorted_changes(alloc, rows.changes)?)
+    check_records(alloc, &origins, records(alloc, &rows.records)?)?;
+    check_changes(&origins, sorted_changes(alloc, &rows.changes)?)
 }
 
 fn push_is_state(alloc: Global, row: &Row<'_>, rows: AllRows, answer: &mut Vec<u8>) -> Result<()> {

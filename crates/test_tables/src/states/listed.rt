@@ -2,7 +2,7 @@
 
 use anyhow::Result;
 use dns_names::Name;
-use office_rows::{KeptReceipt, identifier_text, kept_receipts, origins};
+use office_rows::{KeptReceipt, kept_receipts, origins};
 use office_sql::AllRows;
 use std::alloc::{AllocError, Global};
 use test_rows::Row;
@@ -35,7 +35,7 @@ fn push_receipts(
     answer: &mut Vec<u8>,
 ) -> Result<(), AllocError> {
     for kept in receipts {
-        let (caller, id) = (identifier_text(&kept.caller), identifier_text(&kept.id));
+        let (caller, id) = (kept.caller.as_str(), kept.id.as_str());
         let origin = kept.receipt.origin.text(alloc)?;
         answer.extend_from_slice(format!(in alloc; "{caller} {id} {origin}\n")?.as_bytes())?;
     }

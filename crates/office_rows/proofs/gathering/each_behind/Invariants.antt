@@ -1,7 +1,7 @@
-use Rattle.std.proofs.Common.{◌≡◌, Ok}
+use Rattle.std.proofs.Common.{◌≡◌, take, Ok}
 use Rattle.office_rows.specs.RowReading.{each_read, changed_behind}
 use Rattle.office_rows.proofs.gathering.each_behind.Given as goal
 
 -- what the rows so far have
 abbrev pub invariant-loop-row : goal.invariant-loop-row
-invariant-loop-row l = each_read (changed_behind l.count) l.yielded ≡ Ok l.changed.items
+invariant-loop-row l = each_read (changed_behind l.count) (take l.row-index l.rows) ≡ Ok l.changed.items

@@ -7,7 +7,7 @@ use Rattle.office_rows.proofs.gathering.sorted_changes.Goals as goal
 
 pub returns-clause-found : goal.returns-clause-found
 returns-clause-found c =
-    let rows = c.args.rows.items in
+    let rows = c.args.rows.now in
     let old = c.in_ok-changed.changed.items in
     let new = c.in_ok-in_order.field-0.items in
     let found = c.in_ok-changed.ensures.found in

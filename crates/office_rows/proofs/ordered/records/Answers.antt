@@ -7,7 +7,7 @@ use Rattle.office_rows.proofs.ordered.records.Goals as goal
 
 pub returns-clause-found : goal.returns-clause-found
 returns-clause-found c =
-    let rows = c.args.rows.items in
+    let rows = c.args.rows.now in
     let old = c.in_ok-records.records.items in
     let new = c.in_ok-sorted_records.field-0.items in
     let found = c.in_ok-records.ensures.found in

@@ -13,6 +13,6 @@ returns-clause-held c = λ version all s o held most st e same.
     let z = found.0 in
     let h = is_held version all s st o z found.1 in
     let count = c.args.count in
-    let rows = later_found z o count most all.changes c.args.rows.items h.changes same in
+    let rows = later_found z o count most all.changes c.args.rows.now h.changes same in
     reads_same (λ changes. map change_in changes.items) c.stored_behind.result _ (done (take most (drop count held.changes))) (ap (λ (x : Held). done (take most (drop count x.changes))) (sym found.2))
     (c.stored_behind.ensures.only z.origin (take most (drop count z.changes)) h.is.origin (taken IsChange most (drop count z.changes) (dropped IsChange count z.changes h.is.changes)) rows)

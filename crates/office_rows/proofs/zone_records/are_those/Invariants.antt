@@ -1,5 +1,5 @@
 use Rattle.std.proofs.Common.{◌≡◌, length, map, take}
-use Rattle.office_rows.proofs.zones.are_those.Given as goal
+use Rattle.office_rows.proofs.zone_records.are_those.Given as goal
 
 -- the same so far
 abbrev pub invariant-loop-place : goal.invariant-loop-place
