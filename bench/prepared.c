@@ -5,7 +5,8 @@
 
    A line of input is an identifier and a count. So many records are added to the zone of the origin: their rows, those of the change
    with the SOA of the next serial, and the receipt, in one transaction that is forced to the disk. The answer is a line with the
-   nanoseconds that it took. Nothing is read for an update: it is the least that its rows can take. */
+   nanoseconds that it took. Nothing is read for an update: it is the least that its rows can take. A line `pass` and a number goes over
+   so many megabytes of memory in its place, as a list does. */
 #include <sqlite3.h>
 #include <stdio.h>
 #include <stdlib.h>
@@ -114,6 +115,15 @@ static void look(struct record *r) {
     sqlite3_finalize(it);
 }
 
+/* Goes over so many megabytes, reading one half and writing the other. */
+static void pass(int megabytes) {
+    static char *all;
+    size_t half = (size_t)megabytes << 19;
+    if (!all && !(all = calloc(2, half))) fail("calloc");
+    memcpy(all + half, all, half);
+    all[0]++;
+}
+
 int main(int words, char **word) {
     if (words != 3 || sqlite3_open(word[1], &db) != SQLITE_OK) fail("prepared STORE ORIGIN");
     origin = word[2];
@@ -129,6 +139,12 @@ int main(int words, char **word) {
     char id[TEXT];
     int count;
     while (scanf("%255s %d", id, &count) == 2) {
+        if (!strcmp(id, "pass")) {
+            pass(count);
+            puts("0");
+            fflush(stdout);
+            continue;
+        }
         struct record old = apex, new = apex, *adds = calloc(count, sizeof *adds);
         char *request = calloc(count + 1, 8 * TEXT), *end = request;
         soa(&old);
