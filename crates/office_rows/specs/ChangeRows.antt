@@ -95,10 +95,11 @@ ChangeRowsAreApart = (a b : ChangedRecord) → IsChanged a → IsChanged b → r
 
 -- ---- changes gathered from what rows have
 
--- the order of what rows have: by origin, then by the number of the change, then by side, and then in record order
+-- the order of sides of changes: by origin, then by the number of the change, and then by side
 abbrev pub side_order : ChangedRecord → ChangedRecord → Ordering
 side_order = then_cmp (then_cmp (on (λ c. c.origin) canonical_cmp) (on (λ c. c.number) nat_cmp)) (on (λ c. c.side) side_cmp)
 
+-- the order of what rows have: that of sides, and on one side record order
 abbrev pub changed_order : ChangedRecord → ChangedRecord → Ordering
 changed_order = then_cmp side_order (on (λ c. c.changed) record_order)
 

@@ -4,6 +4,7 @@ pub mod ReceiptRows
 pub mod ChangeRows
 pub mod Contents
 pub mod RowReading
+pub mod SoaTexts
 pub mod RowRefusals
 pub mod Orders
 pub mod PartRows

@@ -11,6 +11,7 @@ mod columns;
 mod data_reader;
 mod gathering;
 mod largest_zone;
+mod last_soa;
 mod laws;
 mod name_reader;
 pub mod ordered;

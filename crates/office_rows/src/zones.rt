@@ -36,8 +36,8 @@ pub fn checked_origins(origins: Vec<Name>) -> Result<Vec<Name>, RowFault>
     Ok(origins)
 }
 
-/// Checks what the rows of `records` are read as, and answers the zone that has most records, as far as there is memory for it. They are
-/// `BadRow` where they are not the records of zones of these origins, which are in canonical order, none twice.
+/// Checks what the rows of `records` are read as, and answers the zone that has most records, if there is a zone. They are `BadRow` where
+/// they are not the records of zones of these origins, which are in canonical order, none twice. `NoMemory` comes where memory runs out.
 pub fn check_records(
     alloc: Global,
     origins: &[Name],

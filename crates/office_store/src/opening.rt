@@ -163,7 +163,7 @@ fn check_zones<S: Alter>(alloc: Global, conn: &mut Connection<S>) -> Result<Vec<
     }
 }
 
-/// Checks the rows of `records`, which are to be of zones of these origins, and reads the largest of these, as far as there is memory.
+/// Checks the rows of `records`, which are to be of zones of these origins, and reads the largest of these.
 fn check_records<S: Alter>(
     alloc: Global,
     conn: &mut Connection<S>,

@@ -42,7 +42,7 @@ pub(crate) enum Progress {
 pub(crate) struct Service<'a> {
     pub(crate) alloc: Global,
     pub(crate) policy: &'a Policy,
-    pub(crate) routes: Routes,
+    pub(crate) routes: &'a Routes,
 }
 
 impl<'a> Service<'a> {
@@ -58,7 +58,7 @@ impl<'a> Service<'a> {
         ensures answers { T.is_honest table.new → (s : State) → T.holds table.old s × AreBookmarks self.now.policy.now s bookmarks.old → (h : RequestHead) → IsAsked heading.now h → (t : State) × (T.holds table.new t × AreBookmarks self.now.policy.now t bookmarks.new) × Answers self.now.policy.now (standing s (T.failures table.old)) (call_of h body.now) result (standing t (T.failures table.new)) }
         ensures honest { T.is_honest table.new → T.is_honest table.old }
     {
-        match read_call(self.alloc, &self.routes, heading, body) {
+        match read_call(self.alloc, self.routes, heading, body) {
             Ok(call) => {
                 let reply = step_with_bookmarks(
                     self.alloc,

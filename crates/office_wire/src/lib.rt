@@ -22,6 +22,7 @@ mod servfails;
 mod serving;
 mod status;
 mod stream;
+mod workspace;
 
 pub use laws::{
     exchanges_are_runs, framing_is_unique, parts_are_segments, routes_are_their_paths,
@@ -32,3 +33,4 @@ pub use serve_fault::ServeFault;
 pub use servfails::Servfails;
 pub use serving::{Served, serve, serve_noting, serve_stream};
 pub use stream::{Apart, Stream};
+pub use workspace::Workspace;

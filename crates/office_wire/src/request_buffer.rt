@@ -101,6 +101,15 @@ impl RequestBuffer {
         self.awaited = 0;
     }
 
+    /// Drops all octets, as if none had been received.
+    pub(crate) fn clear(&mut self)
+        ensures { length self.new ≡ 0 }
+    {
+        self.start = 0;
+        self.end = 0;
+        self.awaited = 0;
+    }
+
     /// Lets the octets wait until so many are there.
     pub(crate) fn await_octets(&mut self, n: usize)
         requires waits { WaitsUpTo self.old n }

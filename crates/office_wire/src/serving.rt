@@ -12,18 +12,17 @@ ghost use Rattle.office_wire.specs.Order.{moment, IsServedInTurn};
 
 use crate::exchange::Service;
 use crate::framing::method_at;
-use crate::head::SPANS;
 use crate::refusal::Refusal;
 use crate::request_buffer::RequestBuffer;
 use crate::response::Response;
 use crate::response_buffer::ResponseBuffer;
-use crate::route::Routes;
 use crate::serve_fault::ServeFault;
 use crate::servfails::Servfails;
 use crate::stream::{Apart, Stream, write_all};
+use crate::workspace::Workspace;
 use dns_master::{DeviceFailed, Sink, Source};
 use grant_policy::Policy;
-use httparse::spans::{EMPTY_HEADER_SPAN, HeaderSpan};
+use httparse::spans::HeaderSpan;
 use office_core::{Bookmarks, ZoneTable};
 use std::alloc::Global;
 
@@ -98,9 +97,10 @@ fn serve_in<S: Stream<R, W>, R: Source, W: Sink, T: ZoneTable>(
     Err(ServeFault::StreamTooLong)
 }
 
-/// Takes memory for a stream, and then answers each of its requests.
+/// Takes what is not there yet of the memory for a stream, and then answers each of its requests.
 fn serve_into<S: Stream<R, W>, R: Source, W: Sink, T: ZoneTable>(
     alloc: Global,
+    workspace: &mut Option<Workspace>,
     reader: &mut R,
     writer: &mut W,
     table: &mut T,
@@ -112,25 +112,25 @@ fn serve_into<S: Stream<R, W>, R: Source, W: Sink, T: ZoneTable>(
     ensures honest { T.is_honest table.new → T.is_honest table.old }
     ensures devices { CountsServed result (R.failures reader.old) (R.failures reader.new) (W.failures writer.old) (W.failures writer.new) }
 {
-    let Ok(routes) = Routes::new(alloc) else {
-        return Err(ServeFault::NoMemory);
-    };
-    let Ok(mut buffer) = RequestBuffer::new(alloc) else {
+    if workspace.is_none() {
+        *workspace = Workspace::new(alloc).ok();
+    }
+    let Some(workspace) = workspace else {
         return Err(ServeFault::NoMemory);
     };
     let Ok(mut out) = ResponseBuffer::new(alloc) else {
         return Err(ServeFault::NoMemory);
     };
+    workspace.requests.clear();
     let service = Service {
         alloc,
         policy,
-        routes,
+        routes: &workspace.routes,
     };
-    let mut spans = [EMPTY_HEADER_SPAN; SPANS];
     serve_in::<S, _, _, _>(
         &service,
-        &mut buffer,
-        &mut spans,
+        &mut workspace.requests,
+        &mut workspace.spans,
         &mut out,
         reader,
         writer,
@@ -153,6 +153,7 @@ pub struct Served {
 /// written whole.
 pub fn serve_stream<S: Stream<R, W>, R: Source, W: Sink, T: ZoneTable>(
     alloc: Global,
+    workspace: &mut Option<Workspace>,
     reader: &mut R,
     writer: &mut W,
     table: &mut T,
@@ -167,6 +168,7 @@ pub fn serve_stream<S: Stream<R, W>, R: Source, W: Sink, T: ZoneTable>(
     let mut servfails = Servfails::none();
     let ended = serve_into::<S, _, _, _>(
         alloc,
+        workspace,
         reader,
         writer,
         table,
@@ -178,9 +180,10 @@ pub fn serve_stream<S: Stream<R, W>, R: Source, W: Sink, T: ZoneTable>(
 }
 
 /// Serves a stream as `serve` does, and tells how many requests were answered SERVFAIL, and why the last of them was. Bookmarks of the
-/// same policy are kept from one stream to the next.
+/// same policy are kept from one stream to the next, and so is the workspace: it is made where there is none.
 pub fn serve_noting<R: Source, W: Sink, T: ZoneTable>(
     alloc: Global,
+    workspace: &mut Option<Workspace>,
     reader: &mut R,
     writer: &mut W,
     table: &mut T,
@@ -192,7 +195,9 @@ pub fn serve_noting<R: Source, W: Sink, T: ZoneTable>(
     ensures honest { T.is_honest table.new → T.is_honest table.old }
     ensures devices { CountsServed result.ended (R.failures reader.old) (R.failures reader.new) (W.failures writer.old) (W.failures writer.new) }
 {
-    serve_stream::<Apart, _, _, _>(alloc, reader, writer, table, policy, bookmarks)
+    serve_stream::<Apart, _, _, _>(
+        alloc, workspace, reader, writer, table, policy, bookmarks,
+    )
 }
 
 /// Answers each request of a stream (RFC 9112), in order, by the policy and over the table, to the end of the stream or to the
@@ -221,6 +226,16 @@ pub fn serve<R: Source, W: Sink, T: ZoneTable>(
     // A fault of a device is reported only if the device failed in this call, and it failed once. `Ok` means that neither failed.
     ensures devices { CountsServed result (R.failures reader.old) (R.failures reader.new) (W.failures writer.old) (W.failures writer.new) }
 {
+    let mut workspace = None;
     let mut bookmarks = Bookmarks::new(alloc);
-    serve_noting(alloc, reader, writer, table, policy, &mut bookmarks).ended
+    serve_noting(
+        alloc,
+        &mut workspace,
+        reader,
+        writer,
+        table,
+        policy,
+        &mut bookmarks,
+    )
+    .ended
 }

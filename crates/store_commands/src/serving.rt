@@ -18,7 +18,7 @@ use dns_master::{Counted, DeviceFailed, Sink};
 use grant_policy::Policy;
 use itoa::Buffer;
 use office_core::{Bookmarks, ZoneTable};
-use office_wire::{ServeFault, Served};
+use office_wire::{ServeFault, Served, Workspace};
 use std::alloc::Global;
 use std::marker::Brand;
 use std::net::TcpStream;
@@ -32,6 +32,7 @@ fn serve_stream<T: ZoneTable, C: Clock, A: Ledger, B: Ledger>(
     stream: &PatientStream<'_, C>,
     table: &mut T,
     policy: &Policy,
+    workspace: &mut Option<Workspace>,
     bookmarks: &mut Bookmarks,
     reads: Blank,
     writes: Blank,
@@ -47,7 +48,15 @@ fn serve_stream<T: ZoneTable, C: Clock, A: Ledger, B: Ledger>(
 {
     let mut source: Counted<&PatientStream<'_, C>, A> = Counted::new(stream, reads);
     let mut sink: Counted<&PatientStream<'_, C>, B> = Counted::new(stream, writes);
-    office_wire::serve_noting(alloc, &mut source, &mut sink, table, policy, bookmarks)
+    office_wire::serve_noting(
+        alloc,
+        workspace,
+        &mut source,
+        &mut sink,
+        table,
+        policy,
+        bookmarks,
+    )
 }
 
 /// Writes the line that reports the fault by which a connection ended. It takes no memory, so running out of memory on one
@@ -73,6 +82,7 @@ fn serve_connection<T: ZoneTable, D: Diagnosis<T>, C: Clock, W: Sink, E: Sink>(
     stream: &PatientStream<'_, C>,
     table: &mut T,
     policy: &Policy,
+    workspace: &mut Option<Workspace>,
     bookmarks: &mut Bookmarks,
     diagnosis: &D,
     writer: &mut W,
@@ -88,6 +98,7 @@ fn serve_connection<T: ZoneTable, D: Diagnosis<T>, C: Clock, W: Sink, E: Sink>(
         stream,
         table,
         policy,
+        workspace,
         bookmarks,
         Blank::new(1),
         Blank::new(1),
@@ -118,6 +129,7 @@ impl<C: Clock, D> Connections<'_, C, D> {
         stream: &TcpStream,
         table: &mut T,
         policy: &Policy,
+        workspace: &mut Option<Workspace>,
         bookmarks: &mut Bookmarks,
         writer: &mut W,
         trace: &mut E,
@@ -137,6 +149,7 @@ impl<C: Clock, D> Connections<'_, C, D> {
             &stream,
             table,
             policy,
+            workspace,
             bookmarks,
             self.diagnosis,
             writer,
@@ -169,11 +182,21 @@ pub fn serve_connections<H: Listener, T: ZoneTable, D: Diagnosis<T>, C: Clock, W
     // A store that has kept its word had kept it before.
     ensures honest { T.is_honest table.new → T.is_honest table.old }
 {
+    let mut workspace = None;
     let mut bookmarks = Bookmarks::new(alloc);
     'accepted: for _ in 0..most {
         match listener.accept() {
             Ok(stream) => {
-                connections.serve_one(alloc, &stream, table, policy, &mut bookmarks, writer, trace)?
+                connections.serve_one(
+                    alloc,
+                    &stream,
+                    table,
+                    policy,
+                    &mut workspace,
+                    &mut bookmarks,
+                    writer,
+                    trace,
+                )?
             }
             Err(_) => return write_refusal(alloc, writer, LineFault::ReadFailed),
         }

@@ -1,0 +1,33 @@
+//! What serving takes once, and not for each stream.
+
+ghost use Rattle.std.specs.Prelude.{◌≡◌, vec_len};
+
+use crate::head::SPANS;
+use crate::request_buffer::RequestBuffer;
+use crate::route::Routes;
+use httparse::spans::{EMPTY_HEADER_SPAN, HeaderSpan};
+use std::alloc::{AllocError, Global};
+
+/// The routes, and the memory for a request. A service keeps them from one stream to the next: of what was received of a stream, nothing
+/// is left for the next one.
+#[derive(Drop)]
+pub struct Workspace {
+    pub(crate) routes: Routes,
+    pub(crate) requests: RequestBuffer,
+    pub(crate) spans: Vec<HeaderSpan>,
+    ghost spans_are: { vec_len spans ≡ 5462 },
+}
+
+impl Workspace {
+    /// The only error is out of memory.
+    pub fn new(alloc: Global) -> Result<Workspace, AllocError> {
+        let Ok(routes) = Routes::new(alloc) else {
+            return Err(AllocError);
+        };
+        Ok(Workspace {
+            routes,
+            requests: RequestBuffer::new(alloc)?,
+            spans: vec![in alloc; EMPTY_HEADER_SPAN; SPANS]?,
+        })
+    }
+}
