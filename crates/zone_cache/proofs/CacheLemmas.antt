@@ -1,12 +1,15 @@
 -- The cached zone.
-use Rattle.std.proofs.Common.{◌≡◌, ℕ, ◌+◌, ◌<◌, List, [], ◌∷◌, ◌++◌, length, get_or, ◌||◌, Bool, cond, true, false, take, Option, Some, None, Result, Ok, Err, IfOk, IfSome, filter, refl, sym, ap, subst, ◌∙◌, arith}
+use Rattle.std.proofs.Common.{◌≡◌, ◌≢◌, ℕ, ◌+◌, ◌<◌, List, [], ◌∷◌, ◌++◌, length, get_or, ◌||◌, Bool, cond, true, false, take, Option, Some, None, is_some, IsNone, Result, Ok, Err, IfOk, IfSome, Bor, filter, refl, sym, ap, subst, ◌∙◌, arith}
 use Rattle.std.specs.FinMap.{get}
 use Rattle.std.specs.List.{AllByRecursion, Contains, list_any}
 use Rattle.std.proofs.lemmas.List.Elements.{Contains-append_left, Contains-append_right}
 use Rattle.std.proofs.lemmas.List.Folds.{list_any_more}
+use Rattle.dns_names.specs.Order.{same_name}
 use Rattle.dns_data.specs.declared.record.Record.{Record}
 use Rattle.zone_core.specs.Sets.{Records, Key, key_of as key_of_record, set_of, listing, part, at_name, InOrder, IsIn}
 use Rattle.zone_core.specs.declared.refusals.ZoneFault.{ZoneFault}
+use Rattle.zone_core.specs.declared.refusals.ZoneFault.TheVariants as faults
+use Rattle.zone_core.specs.Faults.{Refuses}
 use Rattle.zone_core.specs.Zones.{ZoneOf, IsZone, built}
 use Rattle.zone_core.specs.Parts.{part_of, at_names}
 use Rattle.zone_core.specs.Rebuilt.{AreAllOf}
@@ -16,7 +19,8 @@ use Rattle.zone_core.proofs.RebuiltLemmas.{zones_are_rebuilt}
 use Rattle.zone_core.proofs.RowLemmas.{each_in, get-set_of, in_has, listing-part, set_of-filter, InOrder-filter}
 use Rattle.zone_core.proofs.ChangedLemmas.{listed}
 use Rattle.zone_cache.proofs.PieceLemmas.{all_joined}
-use Rattle.zone_cache.specs.Cache.{IsPartOf}
+use Rattle.zone_cache.specs.declared.cached_zone.CachedZone.{CachedZone}
+use Rattle.zone_cache.specs.Cache.{IsPartOf, current_zone, is_cached_of}
 
 abbrev Labels : Type 0
 Labels = List (List ℕ)
@@ -98,21 +102,68 @@ all_at_name set o names i name below is xs ys first second =
     or_assoc false b c = refl
 
 -- what is built of them is the part
-pub part_built : (zone whole : ZoneOf) (names : List Labels) (rs : List Record) → AreAllOf rs (part zone.records (at_names zone.origin names)) → built zone.origin rs ≡ Ok whole → IsZone zone → whole ≡ part_of zone (at_names zone.origin names)
-part_built zone whole names rs all made is =
-    let there = part_is_zone zone (at_names zone.origin names) is (λ k name. ap (λ b. b || list_any (λ n. at_name n k) names) (here k name)) in
-    ok_is (sym made ∙ zones_are_rebuilt (part_of zone (at_names zone.origin names)) rs there all)
+pub part_rebuilt : (zone : ZoneOf) (names : List Labels) (rs : List Record) → AreAllOf rs (part zone.records (at_names zone.origin names)) → IsZone zone → built zone.origin rs ≡ Ok (part_of zone (at_names zone.origin names))
+part_rebuilt zone names rs all is = zones_are_rebuilt (part_of zone (at_names zone.origin names)) rs there all
   where
     here : (k : Key) → k.0 ≡ zone.origin → at_name zone.origin k ≡ true
     here k name = rw name (name_self zone.origin)
 
+    there : IsZone (part_of zone (at_names zone.origin names))
+    there = part_is_zone zone (at_names zone.origin names) is (λ k name. ap (λ b. b || list_any (λ n. at_name n k) names) (here k name))
+
+pub part_built : (zone whole : ZoneOf) (names : List Labels) (rs : List Record) → AreAllOf rs (part zone.records (at_names zone.origin names)) → built zone.origin rs ≡ Ok whole → IsZone zone → whole ≡ part_of zone (at_names zone.origin names)
+part_built zone whole names rs all made is = ok_is (sym made ∙ part_rebuilt zone names rs all is)
+  where
     ok_is : {x y : ZoneOf} → ◌≡◌ {A = Result ZoneOf ZoneFault} (Ok x) (Ok y) → x ≡ y
     ok_is e = cc
 
+-- and nothing else than want of memory refuses them
+pub part_refused : (zone : ZoneOf) (names : List Labels) (rs : List Record) (fault : ZoneFault) → AreAllOf rs (part zone.records (at_names zone.origin names)) → fault ≢ faults.NoMemory → Refuses fault (built zone.origin rs) → IsZone zone → ⊥
+part_refused zone names rs fault all other refused is =
+    let both : Ok (part_of zone (at_names zone.origin names)) ≡ Err fault = sym (part_rebuilt zone names rs all is) ∙ told fault other (built zone.origin rs) refused in
+    absurd cc
+  where
+    told : (fault : ZoneFault) → fault ≢ faults.NoMemory → (made : Result ZoneOf ZoneFault) → Refuses fault made → made ≡ Err fault
+    told faults.RootOrigin other made e = e
+    told faults.OutOfZone other made e = e
+    told faults.SoaNotAtOrigin other made e = e
+    told faults.NoSoa other made e = e
+    told faults.TwoSoa other made e = e
+    told faults.NoOriginNs other made e = e
+    told faults.TwoCnames other made e = e
+    told faults.CnameAndOther other made e = e
+    told faults.NoMemory other made e = absurd (other refl)
+
+-- ---- which zone is cached
+
+-- the one that is found
+pub is_found : (found : Option (Bor CachedZone)) (cached : Option ZoneOf) (o : Labels) → IfSome found (λ x. (cached ≡ Some (current_zone x.now)) × (x.now.origin ≡ o)) → (IsNone found → is_cached_of cached o ≡ false)
+    → is_some found ≡ is_cached_of cached o
+is_found None cached o some none = sym (none refl)
+is_found (Some x) cached o some none = sym (ap (λ z. is_cached_of z o) some.0 ∙ ap (same_name x.now.origin) (sym some.1) ∙ name_self x.now.origin)
+
+-- it is found
+pub none_found : (cached : Option ZoneOf) (zone : ZoneOf) (o : Labels) → is_cached_of cached o ≡ false → cached ≡ Some zone → zone.origin ≡ o → ⊥
+none_found cached zone o none there own =
+    let found : is_cached_of cached o ≡ true = ap (λ z. is_cached_of z o) there ∙ ap (same_name zone.origin) (sym own) ∙ name_self zone.origin in
+    let both : true ≡ false = sym found ∙ none in
+    absurd cc
+
 -- the part of the cached zone, as far as that is a zone
-pub part_told : {E : Type 0} (r : Result (Option ZoneOf) E) (cached : Option ZoneOf) (zone : ZoneOf) (o : Labels) (names : List Labels) → cached ≡ Some zone → zone.origin ≡ o
-    → IfOk r (λ found. IfSome found (λ part. IsZone zone → part ≡ part_of zone (at_names zone.origin names))) → IfOk r (λ found. IfSome found (λ part. IsPartOf cached o names part))
-part_told (Ok None) cached zone o names there own told = tt
-part_told (Ok (Some part)) cached zone o names there own told =
-    record { zone = zone; is_cached = there; own = own; part = λ is. subst (λ n. part ≡ part_of zone (at_names n names)) own (told is) }
-part_told (Err e) cached zone o names there own told = tt
+module _ (cached : Option ZoneOf) (zone : ZoneOf) (o : Labels) (names : List Labels) (there : cached ≡ Some zone) (own : zone.origin ≡ o) where
+  abbrev Made : Option ZoneOf → Type 0
+  Made found = IsZone zone → found ≡ Some (part_of zone (at_names zone.origin names))
+
+  pub part_told : {E : Type 0} (r : Result (Option ZoneOf) E) → IfOk r Made → IfOk r (λ found. IfSome found (λ part. IsPartOf cached o names part))
+  part_told (Ok None) told = tt
+  part_told (Ok (Some part)) told =
+      record { zone = zone; is_cached = there; own = own; part = λ is. subst (λ n. part ≡ part_of zone (at_names n names)) own (let whole : Some part ≡ Some (part_of zone (at_names zone.origin names)) = told is in cc) }
+  part_told (Err e) told = tt
+
+  pub none_told : {E : Type 0} (r : Result (Option ZoneOf) E) → IfOk r Made → IfOk r (λ found. IsNone found → (z : ZoneOf) → cached ≡ Some z → z.origin ≡ o → ¬ IsZone z)
+  none_told (Ok None) told = λ none z also at is.
+      let same : z ≡ zone = (let both : Some z ≡ Some zone = sym also ∙ there in cc) in
+      let whole : None ≡ Some (part_of zone (at_names zone.origin names)) = told (subst IsZone same is) in
+      absurd cc
+  none_told (Ok (Some part)) told = λ none. absurd (let some : true ≡ false = none in cc)
+  none_told (Err e) told = tt

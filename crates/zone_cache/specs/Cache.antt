@@ -1,5 +1,5 @@
 -- A zone that is kept in memory, and follows its changes.
-use Rattle.std.specs.Prelude.{◌≡◌, ℕ, List, if◌then◌else◌, Option, Some, None, option_map}
+use Rattle.std.specs.Prelude.{◌≡◌, ℕ, List, Bool, false, if◌then◌else◌, Option, Some, None, option_map}
 use Rattle.dns_names.specs.Order.{same_name}
 use Rattle.dns_data.specs.declared.record.Record.{Record}
 use Rattle.grant_policy.specs.Grants.{GrantsOf}
@@ -23,6 +23,11 @@ current_zone cached = record { origin = cached.origin; records = set_of cached.r
 -- the cached zone, if there is one
 abbrev pub cached_in : Option CachedZone → Option ZoneOf
 cached_in cache = option_map current_zone cache
+
+-- a zone is cached, and it is the one of an origin
+abbrev pub is_cached_of : Option ZoneOf → List (List ℕ) → Bool
+is_cached_of None origin = false
+is_cached_of (Some zone) origin = same_name zone.origin origin
 
 -- records are all those of a zone that is cached, which is the one of an origin
 pub record AreAllRecordsOf (cached : Option ZoneOf) (origin : List (List ℕ)) (rs : List Record) : Type 0 where

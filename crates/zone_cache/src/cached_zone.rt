@@ -1,13 +1,13 @@
 //! A zone in memory that follows its changes: each is made among its rows at once, in the time of the logarithm of their number.
 
-ghost use Rattle.std.specs.Prelude.{◌≡◌, ◌⊎◌, true, Some, None, IfOk, IfSome};
+ghost use Rattle.std.specs.Prelude.{◌≡◌, ◌⊎◌, false, Some, None, IfOk, IfSome, IsNone};
 ghost use Rattle.zone_core.specs.Sets.{InOrder, part};
-ghost use Rattle.zone_core.specs.Zones.{IsZone};
+ghost use Rattle.zone_core.specs.Zones.{IsZone, ZoneOf};
 ghost use Rattle.zone_core.specs.Parts.{part_of, at_names};
 ghost use Rattle.zone_core.specs.Rebuilt.{AreAllOf};
 ghost use Rattle.zone_core.specs.Changes.{change_in};
 ghost use Rattle.office_state.specs.Tables.{addition_in};
-ghost use Rattle.zone_cache.specs.Cache.{AreAllRecordsOf, AreIncludedOf, IsPartOf, cached_after, cached_in, changed_at, current_zone};
+ghost use Rattle.zone_cache.specs.Cache.{AreAllRecordsOf, AreIncludedOf, IsPartOf, cached_after, cached_in, changed_at, current_zone, is_cached_of};
 
 use crate::row_pieces::RowPieces;
 use dns_data::Record;
@@ -15,7 +15,7 @@ use dns_names::Name;
 use grant_policy::Grants;
 use office_state::Addition;
 use std::alloc::{AllocError, Global};
-use zone_core::{Change, Zone};
+use zone_core::{Change, Zone, ZoneFault};
 
 /// The zone that was read last, as the commits since then have left it.
 #[derive(Drop)]
@@ -61,22 +61,26 @@ impl CachedZone {
     }
 
     /// The part of the zone that has its records at the origin and at some names, if they make one, which they do unless the store has
-    /// broken its word or memory runs out.
+    /// broken its word. The only error is out of memory.
     fn part(&self, alloc: Global, names: &[Name]) -> Result<Option<Zone>, AllocError>
-        ensures { IfOk result (λ found. IfSome found (λ part. IsZone (current_zone self.now) → part ≡ part_of (current_zone self.now) (at_names self.now.origin names.now))) }
+        ensures { IfOk result (λ found. IsZone (current_zone self.now) → found ≡ Some (part_of (current_zone self.now) (at_names self.now.origin names.now))) }
     {
         let records = self.copied_at(alloc, names)?;
         let origin = self.origin.try_copy(alloc)?;
         match Zone::build(alloc, origin, records) {
             Ok(zone) => Ok(Some(zone)),
-            Err(_) => Ok(None),
+            Err(fault) => match fault {
+                ZoneFault::NoMemory => Err(AllocError),
+                _ => Ok(None),
+            },
         }
     }
 }
 
 /// The cached zone, if it is the one of an origin.
 fn cached_at<'a>(cache: &'a Option<CachedZone>, origin: &Name) -> Option<&'a CachedZone>
-    ensures { IfSome result (λ cached. (cached_in cache.entry.now ≡ Some (current_zone cached.now)) × (cached.now.origin ≡ origin.now)) }
+    ensures found { IfSome result (λ cached. (cached_in cache.entry.now ≡ Some (current_zone cached.now)) × (cached.now.origin ≡ origin.now)) }
+    ensures none { IsNone result → is_cached_of (cached_in cache.entry.now) origin.now ≡ false }
 {
     match cache {
         Some(cached) if cached.origin == *origin => Some(cached),
@@ -86,7 +90,7 @@ fn cached_at<'a>(cache: &'a Option<CachedZone>, origin: &Name) -> Option<&'a Cac
 
 /// Whether the cached zone is the one of an origin.
 pub fn is_cached(cache: &Option<CachedZone>, origin: &Name) -> bool
-    ensures { result ≡ true → IfSome (cached_in cache.now) (λ zone. zone.origin ≡ origin.now) }
+    ensures { result ≡ is_cached_of (cached_in cache.now) origin.now }
 {
     cached_at(cache, origin).is_some()
 }
@@ -101,6 +105,7 @@ pub fn subtree_of_cached(
     grants: &mut Grants<'_>,
 ) -> Result<Option<Vec<Record>>, AllocError>
     ensures found { IfOk result (λ found. IfSome found (λ rs. AreIncludedOf (cached_in cache.now) origin.now top.now grants.old rs.items)) }
+    ensures none { IfOk result (λ found. IsNone found → is_cached_of (cached_in cache.now) origin.now ≡ false) }
     ensures order { IfOk result (λ found. IfSome found (λ rs. InOrder rs.items)) }
     ensures same { grants.new ≡ grants.old }
 {
@@ -110,15 +115,16 @@ pub fn subtree_of_cached(
     }
 }
 
-/// The part of the cached zone that has its records at the origin and at some names, if it is the zone of an origin. The only error is
-/// out of memory.
+/// The part of the cached zone that has its records at the origin and at some names, if it is the zone of an origin and its rows make
+/// one. The only error is out of memory.
 pub fn part_of_cached(
     alloc: Global,
     cache: &Option<CachedZone>,
     origin: &Name,
     names: &[Name],
 ) -> Result<Option<Zone>, AllocError>
-    ensures { IfOk result (λ found. IfSome found (λ part. IsPartOf (cached_in cache.now) origin.now names.now part)) }
+    ensures found { IfOk result (λ found. IfSome found (λ part. IsPartOf (cached_in cache.now) origin.now names.now part)) }
+    ensures none { IfOk result (λ found. IsNone found → (zone : ZoneOf) → cached_in cache.now ≡ Some zone → zone.origin ≡ origin.now → ¬ IsZone zone) }
 {
     match cached_at(cache, origin) {
         Some(cached) => cached.part(alloc, names),
@@ -134,6 +140,7 @@ pub fn take_cached(
     origin: &Name,
 ) -> Result<Option<Vec<Record>>, AllocError>
     ensures found { IfOk result (λ found. IfSome found (λ rs. AreAllRecordsOf (cached_in cache.old) origin.now rs.items)) }
+    ensures none { IfOk result (λ found. IsNone found → (is_cached_of (cached_in cache.old) origin.now ≡ false) × (cached_in cache.new ≡ cached_in cache.old)) }
     ensures kept { (cached_in cache.new ≡ cached_in cache.old) ⊎ (cached_in cache.new ≡ None) }
 {
     let Some(cached) = cache.take() else {

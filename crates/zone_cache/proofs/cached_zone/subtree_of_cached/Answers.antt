@@ -13,8 +13,8 @@ returns-in_ok-included_within-in-Some-clause-found c =
     let rows = c.in-Some.cached.now.rows in
     record {
       zone = current_zone c.in-Some.cached.now;
-      is_cached = c.in-Some.ensures.0;
-      own = c.in-Some.ensures.1;
+      is_cached = c.in-Some.ensures.found.0;
+      own = c.in-Some.ensures.found.1;
       records = c.in_ok-included_within-in-Some.ensures.value ∙ ap (included c.args.grants.now) (records_are rows (filter (λ r. within c.args.top.now (key_of r)) rows) (within c.args.top.now) c.in_ok-included_within-in-Some.ensures.rows refl);
     }
 
