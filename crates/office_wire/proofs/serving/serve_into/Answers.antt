@@ -7,6 +7,3 @@ returns-in_default-clause-run g c = λ honest s held. ([], s, held, (refl, refl)
 
 pub returns-in_default-new-clause-run : goal.returns-in_default-new-clause-run
 returns-in_default-new-clause-run g c = λ honest s held. ([], s, held, (refl, refl), (refl, refl, refl), served_none _)
-
-pub returns-in_default-new-2-clause-run : goal.returns-in_default-new-2-clause-run
-returns-in_default-new-2-clause-run g c = λ honest s held. ([], s, held, (refl, refl), (refl, refl, refl), served_none _)
