@@ -19,7 +19,7 @@ use crate::response_buffer::ResponseBuffer;
 use crate::serve_fault::ServeFault;
 use crate::servfails::Servfails;
 use crate::stream::{Apart, Stream, write_all};
-use crate::workspace::Workspace;
+use crate::workspace::{Workspace, make_workspace};
 use dns_master::{DeviceFailed, Sink, Source};
 use grant_policy::Policy;
 use httparse::spans::HeaderSpan;
@@ -97,10 +97,10 @@ fn serve_in<S: Stream<R, W>, R: Source, W: Sink, T: ZoneTable>(
     Err(ServeFault::StreamTooLong)
 }
 
-/// Takes what is not there yet of the memory for a stream, and then answers each of its requests.
-fn serve_into<S: Stream<R, W>, R: Source, W: Sink, T: ZoneTable>(
+/// Answers each request of a stream in a workspace, once there is memory for the responses.
+fn serve_within<S: Stream<R, W>, R: Source, W: Sink, T: ZoneTable>(
     alloc: Global,
-    workspace: &mut Option<Workspace>,
+    workspace: &mut Workspace,
     reader: &mut R,
     writer: &mut W,
     table: &mut T,
@@ -112,12 +112,6 @@ fn serve_into<S: Stream<R, W>, R: Source, W: Sink, T: ZoneTable>(
     ensures honest { T.is_honest table.new → T.is_honest table.old }
     ensures devices { CountsServed result (R.failures reader.old) (R.failures reader.new) (W.failures writer.old) (W.failures writer.new) }
 {
-    if workspace.is_none() {
-        *workspace = Workspace::new(alloc).ok();
-    }
-    let Some(workspace) = workspace else {
-        return Err(ServeFault::NoMemory);
-    };
     let Ok(mut out) = ResponseBuffer::new(alloc) else {
         return Err(ServeFault::NoMemory);
     };
@@ -138,6 +132,30 @@ fn serve_into<S: Stream<R, W>, R: Source, W: Sink, T: ZoneTable>(
         bookmarks,
         servfails,
     )
+}
+
+/// Answers each request of a stream in the workspace, which is made where there is none.
+fn serve_into<S: Stream<R, W>, R: Source, W: Sink, T: ZoneTable>(
+    alloc: Global,
+    workspace: &mut Option<Workspace>,
+    reader: &mut R,
+    writer: &mut W,
+    table: &mut T,
+    policy: &Policy,
+    bookmarks: &mut Bookmarks,
+    servfails: &mut Servfails,
+) -> Result<(), ServeFault>
+    ensures run { T.is_honest table.new → (s : State) → T.holds table.old s × AreBookmarks policy.now s bookmarks.old → (turns : List Turn) × (t : State) × (T.holds table.new t × AreBookmarks policy.now t bookmarks.new) × Leads policy.now (mark s (T.failures table.old) servfails.old) turns (mark t (T.failures table.new) servfails.new) × IsDone turns result (R.remaining reader.old) (R.remaining reader.new) (W.contents writer.old) (W.contents writer.new) × IsServedInTurn turns (S.events reader.old writer.old) (S.events reader.new writer.new) }
+    ensures honest { T.is_honest table.new → T.is_honest table.old }
+    ensures devices { CountsServed result (R.failures reader.old) (R.failures reader.new) (W.failures writer.old) (W.failures writer.new) }
+{
+    make_workspace(alloc, workspace);
+    match workspace {
+        Some(workspace) => serve_within::<S, _, _, _>(
+            alloc, workspace, reader, writer, table, policy, bookmarks, servfails,
+        ),
+        None => Err(ServeFault::NoMemory),
+    }
 }
 
 /// How serving a stream ended, and which of its requests were answered SERVFAIL.
@@ -195,9 +213,7 @@ pub fn serve_noting<R: Source, W: Sink, T: ZoneTable>(
     ensures honest { T.is_honest table.new → T.is_honest table.old }
     ensures devices { CountsServed result.ended (R.failures reader.old) (R.failures reader.new) (W.failures writer.old) (W.failures writer.new) }
 {
-    serve_stream::<Apart, _, _, _>(
-        alloc, workspace, reader, writer, table, policy, bookmarks,
-    )
+    serve_stream::<Apart, _, _, _>(alloc, workspace, reader, writer, table, policy, bookmarks)
 }
 
 /// Answers each request of a stream (RFC 9112), in order, by the policy and over the table, to the end of the stream or to the

@@ -31,3 +31,10 @@ impl Workspace {
         })
     }
 }
+
+/// Makes a workspace where there is none, if there is memory for it.
+pub(crate) fn make_workspace(alloc: Global, workspace: &mut Option<Workspace>) {
+    if workspace.is_none() {
+        *workspace = Workspace::new(alloc).ok();
+    }
+}
