@@ -6,11 +6,12 @@ ghost use Rattle.std.specs.Prelude.{◌≡◌, ◌+◌, List, Option, length};
 ghost use Rattle.std.specs.Process.{exit_status};
 ghost use Rattle.sqlite.specs.Held.{state};
 ghost use Rattle.office_wire.specs.declared.serve_fault.ServeFault.{ServeFault as FaultOf};
-ghost use Rattle.store_commands.specs.Serve.{AreReported, AreServedFrom};
+ghost use Rattle.connections.specs.Connections.{AreReported, AreServedFrom};
 ghost use Rattle.store_commands.specs.Stores.{stores_of};
 ghost use Rattle.store_commands.specs.Program.{JobEnds};
 
 use command_line::{Job, StoreJob};
+use connections::{Connections, Diagnosis, Listener};
 use dns_master::{Sink, Source};
 use grant_policy::Policy;
 use office_state::ZoneTable;
@@ -18,7 +19,7 @@ use sqlite::{Alter, Connection};
 use std::alloc::Global;
 use std::process::ExitCode;
 use std::time::Clock;
-use store_commands::{Connections, Diagnosis, JobFault, Listener, StoreFiles, Surroundings};
+use store_commands::{JobFault, StoreFiles, Surroundings};
 
 /// `serve_connections`.
 pub fn serve_connections<H: Listener, T: ZoneTable, D: Diagnosis<T>, C: Clock, W: Sink, E: Sink>(
@@ -34,7 +35,7 @@ pub fn serve_connections<H: Listener, T: ZoneTable, D: Diagnosis<T>, C: Clock, W
     ensures served { AreServedFrom (T.is_honest table.new) (T.holds table.old) (T.holds table.new) (T.failures table.old) (T.failures table.new) policy.now most result (E.contents trace.old) (E.contents trace.new) (E.failures trace.old) (E.failures trace.new) }
     ensures written { (ends : List (Option FaultOf)) × AreReported (H.cut listener.old) most ends (W.contents writer.old) (W.contents writer.new) result (W.failures writer.old) (W.failures writer.new) × (H.taken listener.new ≡ H.taken listener.old + length ends) }
 {
-    store_commands::serve_connections(alloc, from, listener, table, policy, most, writer, trace)
+    connections::serve_connections(alloc, from, listener, table, policy, most, writer, trace)
 }
 
 /// `do_job`.

@@ -1,5 +1,3 @@
-pub mod SendLemmas
-pub mod ConnectionLemmas
 pub mod StoreLemmas
 pub mod FilesLemmas
 pub mod LogLemmas

@@ -5,7 +5,6 @@ pub mod Reports
 pub mod Import
 pub mod Export
 pub mod Migrate
-pub mod Causes
 pub mod Log
 pub mod ZoneList
 pub mod StoreLog

@@ -2,36 +2,32 @@
 #![tactic(auto)]
 
 mod any_store;
-mod cause;
+mod diagnosis;
 mod files;
 mod list_laws;
 mod listening;
 mod log_choice;
 mod migration;
-mod patience;
 mod program;
 mod service;
-mod serving;
 mod store_file;
 mod store_list;
 mod store_log;
 mod streams;
 mod surroundings;
 mod table_job;
-mod trace;
 mod zone_list;
 mod zone_log;
 mod zones;
 
-pub use cause::{Cause, Diagnosis, Remembered, Undiagnosed};
+pub use diagnosis::Remembered;
 pub use dns_master::DeviceFailed;
 pub use files::{MachineFiles, StoreFiles};
 pub use list_laws::{all_changes_are_asked, asked_is_printed, each_receipt_counts_once};
-pub use listening::{CountedListener, Listener, heard, listen_at, next_of};
+pub use listening::{CountedListener, heard, listen_at, next_of};
 pub use migration::migrate;
 pub use program::{do_job, do_store_job, do_text_job, do_words};
 pub use service::serve;
-pub use serving::{Connections, serve_connections};
 pub use store_list::list_zones;
 pub use store_log::log;
 pub use streams::run_words;

@@ -5,16 +5,16 @@ ghost use Rattle.office_wire.specs.declared.serve_fault.ServeFault.{ServeFault a
 ghost use Rattle.sqlite.specs.Held.{state};
 ghost use Rattle.text_commands.specs.LineFaults.{GivesOf};
 ghost use Rattle.store_commands.specs.Stores.{stores_of};
-ghost use Rattle.store_commands.specs.Serve.{policy_read, most_of, listening_line, AreReported, IsNoListener, AreServedFrom, IsServiceTold, IsServedBy, BeginsBy, Serves};
+ghost use Rattle.connections.specs.Connections.{AreReported, AreServedFrom};
+ghost use Rattle.store_commands.specs.Serve.{policy_read, most_of, listening_line, IsNoListener, IsServiceTold, IsServedBy, BeginsBy, Serves};
 
-use crate::cause::{Diagnosis, Remembered};
+use crate::diagnosis::Remembered;
 use crate::files::StoreFiles;
-use crate::listening::{CountedListener, Listener};
-use crate::patience::patience_of;
-use crate::serving::{Connections, serve_connections};
+use crate::listening::CountedListener;
 use crate::store_file::open_store;
 use crate::surroundings::Surroundings;
 use command_line::Service;
+use connections::{Connections, Diagnosis, patience_of, serve_connections};
 use dns_master::Sink;
 use grant_policy::{Policy, read_policy};
 use office_state::ZoneTable;

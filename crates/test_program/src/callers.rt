@@ -6,6 +6,7 @@ use crate::callers_office::{listening, policy, table};
 use crate::client::{begun, push_answered, sent};
 use crate::program::Given;
 use anyhow::{Result, bail};
+use connections::{Connections, Undiagnosed, serve_connections};
 use dns_master::Counted;
 use grant_policy::Policy;
 use office_state::ZoneTable;
@@ -14,7 +15,7 @@ use std::marker::Brand;
 use std::net::{TcpListener, TcpStream};
 use std::sync::ledger::{Blank, Ledger};
 use std::time::Duration;
-use store_commands::{Connections, CountedListener, JobFault, Undiagnosed, serve_connections};
+use store_commands::{CountedListener, JobFault};
 use test_rows::{Answers, Row, push_unanswered};
 
 /// An office, and those who call it.

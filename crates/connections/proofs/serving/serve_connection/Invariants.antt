@@ -1,4 +1,4 @@
-use Rattle.store_commands.proofs.serving.serve_connection.Given as goal
+use Rattle.connections.proofs.serving.serve_connection.Given as goal
 
 abbrev pub ghosts-serve_stream-A-Ledger : goal.ghosts-serve_stream-A-Ledger
 ghosts-serve_stream-A-Ledger g a = record { name = a.reads.name; parts = a.reads.parts }

@@ -3,13 +3,13 @@
 ghost use Rattle.std.specs.Prelude.{◌≡◌};
 ghost use Rattle.std.specs.List.{flat_map};
 ghost use Rattle.text_commands.specs.Replies.{IsSent};
-ghost use Rattle.store_commands.specs.Causes.{were_answered, trace_by};
+ghost use Rattle.connections.specs.Causes.{were_answered, trace_by};
 
 use crate::cause::Cause;
 use dns_master::{DeviceFailed, Sink};
 use itoa::Buffer;
-use office_store::StoreFault;
 use office_wire::Servfails;
+use store_faults::StoreFault;
 use text_commands::write_text;
 
 /// Writes texts, one behind the other.

@@ -21,8 +21,8 @@ use Rattle.store_faults.specs.declared.store_fault.StoreFault.{StoreFault}
 use Rattle.office_wire.specs.declared.servfails.Servfails.{Servfails}
 use Rattle.office_wire.specs.Servfails.{servfails, AreNoted}
 use Rattle.text_commands.specs.Replies.{IsSent}
-use Rattle.store_commands.specs.Causes.{trace_by, trace_of}
-use Rattle.store_commands.specs.Serve.{joined, ended_line, ended_lines, AreServed, AreReported, AreTraces, AreTraced, IsTraced, IsSoMany}
+use Rattle.connections.specs.Causes.{trace_by, trace_of}
+use Rattle.connections.specs.Connections.{joined, ended_line, ended_lines, AreServed, AreReported, AreTraces, AreTraced, IsTraced, IsSoMany}
 
 rises : (before after : ℕ) → before < after → after ≡ before → ⊥
 rises before after more same = omega (arith, more, same)

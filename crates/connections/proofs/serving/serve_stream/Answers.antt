@@ -1,4 +1,4 @@
-use Rattle.store_commands.proofs.serving.serve_stream.Goals as goal
+use Rattle.connections.proofs.serving.serve_stream.Goals as goal
 
 pub returns-clause-run : goal.returns-clause-run
 returns-clause-run g c = λ honest s held.

@@ -8,10 +8,10 @@ ghost use Rattle.office_wire.specs.Serving.{standing};
 ghost use Rattle.office_wire.specs.Servfails.{AreNoted, servfails};
 ghost use Rattle.office_wire.specs.declared.serve_fault.ServeFault.{ServeFault as FaultOf};
 ghost use Rattle.text_commands.specs.Replies.{IsSent};
-ghost use Rattle.store_commands.specs.Serve.{connection_line, ended_line, IsTraced, AreReported, AreServedFrom};
+ghost use Rattle.connections.specs.Connections.{connection_line, ended_line, IsTraced, AreReported, AreServedFrom};
 
 use crate::cause::Diagnosis;
-use crate::listening::Listener;
+use crate::listener::Listener;
 use crate::patience::PatientStream;
 use crate::trace::{tell_servfails, write_texts};
 use dns_master::{Counted, DeviceFailed, Sink};

@@ -3,8 +3,8 @@ use Rattle.std.proofs.Common.{◌≡◌, ◌<◌, ◌≤◌, ◌∙◌, [], ◌�
 use Rattle.std.proofs.lemmas.Result.{err_from_is_err_and}
 use Rattle.office_wire.specs.Serving.{standing}
 use Rattle.text_commands.specs.declared.line_fault.LineFault.TheVariants.{ReadFailed}
-use Rattle.store_commands.proofs.ConnectionLemmas.{served_more, one_more, one_ended, told_many, are_served, traced_none, traced_more, told_more, told_in_part, told_last}
-use Rattle.store_commands.proofs.serving.serve_connections.Goals as goal
+use Rattle.connections.proofs.ConnectionLemmas.{served_more, one_more, one_ended, told_many, are_served, traced_none, traced_more, told_more, told_in_part, told_last}
+use Rattle.connections.proofs.serving.serve_connections.Goals as goal
 
 pub accepted-init : goal.accepted-init
 accepted-init g c = record {

@@ -8,8 +8,8 @@ use Rattle.office_state.specs.declared.table_fault.TableFault.{TableFault}
 use Rattle.office_state.specs.declared.table_fault.TableFault.TheVariants as faults
 use Rattle.store_faults.specs.declared.store_fault.StoreFault.{StoreFault}
 use Rattle.store_faults.specs.declared.store_fault.StoreFault.TheVariants.{Store, BadRow}
-use Rattle.store_commands.specs.declared.cause.Cause.{Cause}
-use Rattle.store_commands.specs.declared.cause.Cause.TheVariants.{NoMemory, Locked, NotOpened, DiskFull, InputOutput, Corrupt, NotADatabase, Shut, StoreFailed}
+use Rattle.connections.specs.declared.cause.Cause.{Cause}
+use Rattle.connections.specs.declared.cause.Cause.TheVariants.{NoMemory, Locked, NotOpened, DiskFull, InputOutput, Corrupt, NotADatabase, Shut, StoreFailed}
 
 -- in words, which follow "because"
 abbrev pub cause_words : Cause → List ℕ

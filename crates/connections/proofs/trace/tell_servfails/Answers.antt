@@ -1,4 +1,4 @@
-use Rattle.store_commands.proofs.trace.tell_servfails.Goals as goal
+use Rattle.connections.proofs.trace.tell_servfails.Goals as goal
 
 pub returns : goal.returns
 returns g c =

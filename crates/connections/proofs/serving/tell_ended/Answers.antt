@@ -1,4 +1,4 @@
-use Rattle.store_commands.proofs.serving.tell_ended.Goals as goal
+use Rattle.connections.proofs.serving.tell_ended.Goals as goal
 
 pub returns : goal.returns
 returns g c = rw (c.as_bytes.ensures.value, c.format.ensures.text, c.number.ensures) at c.write_texts.ensures

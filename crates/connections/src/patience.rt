@@ -38,7 +38,7 @@ struct Wait {
 }
 
 /// For how long a peer is waited for: the number of seconds, and 30 where none is given; 0 sets no limit.
-pub(crate) fn patience_of(seconds: Option<u64>) -> Option<Duration> {
+pub fn patience_of(seconds: Option<u64>) -> Option<Duration> {
     match seconds {
         None => Some(Duration::from_secs(PATIENCE)),
         Some(0) => None,

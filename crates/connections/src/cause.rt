@@ -2,12 +2,11 @@
 
 ghost use Rattle.std.specs.Prelude.{◌≡◌, Option, None};
 ghost use Rattle.store_faults.specs.declared.store_fault.StoreFault.{StoreFault as StoreFaultOf};
-ghost use Rattle.store_commands.specs.Causes.{cause_words, cause_of, of_code, of_store};
+ghost use Rattle.connections.specs.Causes.{cause_words, cause_of, of_code, of_store};
 
 use office_state::TableFault;
-use office_store::{SqlTable, StoreFault};
-use sqlite::{Alter, Error, ErrorCode};
-use std::sync::ledger::Ledger;
+use sqlite::{Error, ErrorCode};
+use store_faults::StoreFault;
 
 /// Why a request was answered SERVFAIL.
 #[derive(Clone, Copy)]
@@ -107,17 +106,5 @@ impl<T> Diagnosis<T> for Undiagnosed {
 
     fn store_fault(&self, _table: &T) -> Option<StoreFault> {
         None
-    }
-}
-
-/// The diagnosis of the table in SQLite: the table remembers it.
-#[derive(Clone, Copy)]
-pub struct Remembered;
-
-impl<S: Alter + Drop, L: Ledger> Diagnosis<SqlTable<S, L>> for Remembered {
-    ghost fault = { λ _ t. t.fault };
-
-    fn store_fault(&self, table: &SqlTable<S, L>) -> Option<StoreFault> {
-        table.store_fault()
     }
 }

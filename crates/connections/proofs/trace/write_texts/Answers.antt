@@ -1,7 +1,7 @@
 use Rattle.std.proofs.Common.{◌<◌, length, arith}
 use Rattle.std.proofs.lemmas.Result.{err_from_is_err_and}
-use Rattle.store_commands.proofs.SendLemmas.{sent_part}
-use Rattle.store_commands.proofs.trace.write_texts.Goals as goal
+use Rattle.connections.proofs.SendLemmas.{sent_part}
+use Rattle.connections.proofs.trace.write_texts.Goals as goal
 
 pub returns-in_err-write_text : goal.returns-in_err-write_text
 returns-in_err-write_text g c =

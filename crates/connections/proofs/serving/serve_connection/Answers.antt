@@ -1,7 +1,7 @@
 use Rattle.std.proofs.Common.{Some, None, refl}
 use Rattle.std.proofs.KnownBytes.{Appends-nil}
-use Rattle.store_commands.proofs.ConnectionLemmas.{traced_once, counted_once}
-use Rattle.store_commands.proofs.serving.serve_connection.Goals as goal
+use Rattle.connections.proofs.ConnectionLemmas.{traced_once, counted_once}
+use Rattle.connections.proofs.serving.serve_connection.Goals as goal
 
 pub returns-in-Ok-clause-run : goal.returns-in-Ok-clause-run
 returns-in-Ok-clause-run g c = λ honest s held.

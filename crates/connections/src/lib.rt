@@ -1,0 +1,14 @@
+//! Serving callers over TCP, one connection after the other: a peer is waited for, but not for ever, and a line on standard error tells why
+//! requests failed.
+#![tactic(auto)]
+
+mod cause;
+mod listener;
+mod patience;
+mod serving;
+mod trace;
+
+pub use cause::{Cause, Diagnosis, Undiagnosed};
+pub use listener::Listener;
+pub use patience::patience_of;
+pub use serving::{Connections, serve_connections};
