@@ -78,6 +78,17 @@ fn each_stored(alloc: Global, rows: Vec<ChangeRow>) -> Result<Vec<ChangedRecord>
     ensures { Reads (λ cs. cs.items) result (each_read changed_in rows.items) }
 {
     let mut reader = ChangeReader::new();
+    stored_by(alloc, &mut reader, rows)
+}
+
+/// The same, by a reader.
+fn stored_by(
+    alloc: Global,
+    reader: &mut ChangeReader,
+    rows: Vec<ChangeRow>,
+) -> Result<Vec<ChangedRecord>, RowFault>
+    ensures { Reads (λ cs. cs.items) result (each_read changed_in rows.items) }
+{
     let mut changed = Vec::with_capacity(alloc, rows.len())?;
     for row in rows {
         changed.push(reader.stored_row(alloc, &row)?)?;
@@ -94,6 +105,18 @@ fn each_behind(
     ensures { Reads (λ cs. cs.items) result (each_read (changed_behind count) rows.now) }
 {
     let mut reader = ChangeReader::new();
+    behind_by(alloc, &mut reader, rows, count)
+}
+
+/// The same, by a reader.
+fn behind_by(
+    alloc: Global,
+    reader: &mut ChangeReader,
+    rows: &[ChangeRow],
+    count: u32,
+) -> Result<Vec<ChangedRecord>, RowFault>
+    ensures { Reads (λ cs. cs.items) result (each_read (changed_behind count) rows.now) }
+{
     let mut changed = Vec::with_capacity(alloc, rows.len())?;
     for row in rows {
         changed.push(reader.row_behind(alloc, row, count)?)?;
@@ -107,6 +130,18 @@ fn each_changed(alloc: Global, rows: &[ChangeRow]) -> Result<Vec<ChangedRecord>,
     ensures only { AllByRecursion IsChangeRow rows.now → IfErr result (λ e. e ≡ RowFault.NoMemory) }
 {
     let mut reader = ChangeReader::new();
+    changed_by(alloc, &mut reader, rows)
+}
+
+/// The same, by a reader.
+fn changed_by(
+    alloc: Global,
+    reader: &mut ChangeReader,
+    rows: &[ChangeRow],
+) -> Result<Vec<ChangedRecord>, RowFault>
+    ensures found { IfOk result (λ cs. (map row_of cs.items ≡ rows.now) × AllByRecursion IsChanged cs.items) }
+    ensures only { AllByRecursion IsChangeRow rows.now → IfErr result (λ e. e ≡ RowFault.NoMemory) }
+{
     let mut changed = Vec::with_capacity(alloc, rows.len())?;
     for row in rows {
         changed.push(reader.read_row(alloc, row)?)?;

@@ -96,6 +96,18 @@ fn each_record(alloc: Global, rows: &[RecordRow]) -> Result<Vec<ZoneRecord>, Row
     ensures only { AllByRecursion IsZoneRecordRow rows.now → IfErr result (λ e. e ≡ RowFault.NoMemory) }
 {
     let mut reader = RecordReader::new();
+    records_by(alloc, &mut reader, rows)
+}
+
+/// The same, by a reader.
+fn records_by(
+    alloc: Global,
+    reader: &mut RecordReader,
+    rows: &[RecordRow],
+) -> Result<Vec<ZoneRecord>, RowFault>
+    ensures found { IfOk result (λ rs. (map row_of_record rs.items ≡ rows.now) × AllByRecursion IsZoneRecord rs.items) }
+    ensures only { AllByRecursion IsZoneRecordRow rows.now → IfErr result (λ e. e ≡ RowFault.NoMemory) }
+{
     let mut records = Vec::with_capacity(alloc, rows.len())?;
     for row in rows {
         records.push(reader.read_row(alloc, row)?)?;
@@ -147,6 +159,18 @@ fn receipt_keys(alloc: Global, rows: Vec<ReceiptRow>) -> Result<Vec<ReceiptKey>,
     ensures only { AllByRecursion IsReceiptRow rows.items → IfErr result (λ e. e ≡ RowFault.NoMemory) }
 {
     let mut reader = ReceiptReader::new();
+    receipt_keys_by(alloc, &mut reader, rows)
+}
+
+/// The same, by a reader.
+fn receipt_keys_by(
+    alloc: Global,
+    reader: &mut ReceiptReader,
+    rows: Vec<ReceiptRow>,
+) -> Result<Vec<ReceiptKey>, RowFault>
+    ensures found { IfOk result (λ ks. (ks.items ≡ map row_key rows.items) × AllByRecursion IsReceiptRow rows.items) }
+    ensures only { AllByRecursion IsReceiptRow rows.items → IfErr result (λ e. e ≡ RowFault.NoMemory) }
+{
     let mut keys = Vec::with_capacity(alloc, rows.len())?;
     for row in rows {
         let (caller, id, _receipt) = reader.read_row(alloc, &row)?;

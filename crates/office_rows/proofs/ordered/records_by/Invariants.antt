@@ -1,7 +1,7 @@
 use Rattle.std.proofs.Common.{◌≡◌, map, take}
 use Rattle.std.specs.List.{AllByRecursion}
 use Rattle.office_rows.specs.Checks.{row_of_record, IsZoneRecord}
-use Rattle.office_rows.proofs.ordered.each_record.Given as goal
+use Rattle.office_rows.proofs.ordered.records_by.Given as goal
 
 abbrev pub invariant-loop-row : goal.invariant-loop-row
 invariant-loop-row l = record {

@@ -1,6 +1,6 @@
 use Rattle.std.proofs.Common.{◌≡◌, Ok}
 use Rattle.office_rows.specs.RowReading.{each_read, changed_in}
-use Rattle.office_rows.proofs.gathering.each_stored.Given as goal
+use Rattle.office_rows.proofs.gathering.stored_by.Given as goal
 
 -- what the rows so far have
 abbrev pub invariant-loop-row : goal.invariant-loop-row

@@ -1,6 +1,6 @@
 use Rattle.std.proofs.Common.{◌≡◌, take, Ok}
 use Rattle.office_rows.specs.RowReading.{each_read, changed_behind}
-use Rattle.office_rows.proofs.gathering.each_behind.Given as goal
+use Rattle.office_rows.proofs.gathering.behind_by.Given as goal
 
 -- what the rows so far have
 abbrev pub invariant-loop-row : goal.invariant-loop-row

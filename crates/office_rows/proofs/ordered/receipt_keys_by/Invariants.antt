@@ -1,7 +1,7 @@
 use Rattle.std.proofs.Common.{◌≡◌, map}
 use Rattle.std.specs.List.{AllByRecursion}
 use Rattle.office_rows.specs.Checks.{IsReceiptRow, row_key}
-use Rattle.office_rows.proofs.ordered.receipt_keys.Given as goal
+use Rattle.office_rows.proofs.ordered.receipt_keys_by.Given as goal
 
 abbrev pub invariant-loop-row : goal.invariant-loop-row
 invariant-loop-row l = record {

@@ -2,7 +2,7 @@ use Rattle.std.proofs.Common.{arith}
 use Rattle.std.proofs.lemmas.Result.{err_from_is_err_and}
 use Rattle.office_rows.specs.RowReading.{changed_behind}
 use Rattle.office_rows.proofs.StoredLaws.{each_all, each_more, each_refused}
-use Rattle.office_rows.proofs.gathering.each_behind.Goals as goal
+use Rattle.office_rows.proofs.gathering.behind_by.Goals as goal
 
 pub returns-in_err-row_behind : goal.returns-in_err-row_behind
 returns-in_err-row_behind c =

@@ -6,7 +6,7 @@ use Rattle.std.proofs.lemmas.Result.{err_from_is_err_and}
 use Rattle.office_rows.specs.declared.changes.ChangedRecord.{ChangedRecord}
 use Rattle.office_rows.specs.RowReading.{each_read, changed_in}
 use Rattle.office_rows.proofs.StoredLaws.{with_one, refused_in_turn}
-use Rattle.office_rows.proofs.gathering.each_stored.Goals as goal
+use Rattle.office_rows.proofs.gathering.stored_by.Goals as goal
 
 pub returns-in_err-stored_row : goal.returns-in_err-stored_row
 returns-in_err-stored_row c =

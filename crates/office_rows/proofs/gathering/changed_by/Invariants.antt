@@ -1,7 +1,7 @@
 use Rattle.std.proofs.Common.{◌≡◌, map, take}
 use Rattle.std.specs.List.{AllByRecursion}
 use Rattle.office_rows.specs.ChangeRows.{row_of, IsChanged}
-use Rattle.office_rows.proofs.gathering.each_changed.Given as goal
+use Rattle.office_rows.proofs.gathering.changed_by.Given as goal
 
 abbrev pub invariant-loop-row : goal.invariant-loop-row
 invariant-loop-row l = record {

@@ -4,7 +4,7 @@ use Rattle.sqlite_keyed.proofs.ListLemmas.{all-append}
 use Rattle.office_sql.specs.Rows.{ReceiptRowOf}
 use Rattle.office_rows.specs.Checks.{IsReceiptRow, row_key}
 use Rattle.office_rows.proofs.StateChecks.{row_is}
-use Rattle.office_rows.proofs.ordered.receipt_keys.Goals as goal
+use Rattle.office_rows.proofs.ordered.receipt_keys_by.Goals as goal
 
 pub loop-row-preserved : goal.loop-row-preserved
 loop-row-preserved c =
