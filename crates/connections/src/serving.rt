@@ -158,6 +158,37 @@ impl<C: Clock, D> Connections<'_, C, D> {
     }
 }
 
+/// Serves connections one after the other, so many of them, in a workspace and with bookmarks.
+fn serve_each<H: Listener, T: ZoneTable, D: Diagnosis<T>, C: Clock, W: Sink, E: Sink>(
+    alloc: Global,
+    connections: &Connections<'_, C, D>,
+    listener: &mut H,
+    table: &mut T,
+    policy: &Policy,
+    workspace: &mut Option<Workspace>,
+    bookmarks: &mut Bookmarks,
+    most: u64,
+    writer: &mut W,
+    trace: &mut E,
+) -> Result<(), JobFault>
+    requires { (s : State) → AreBookmarks policy.now s bookmarks.old }
+    ensures served { AreServedFrom (T.is_honest table.new) (T.holds table.old) (T.holds table.new) (T.failures table.old) (T.failures table.new) policy.now most result (E.contents trace.old) (E.contents trace.new) (E.failures trace.old) (E.failures trace.new) }
+    ensures written { (ends : List (Option FaultOf)) × AreReported (H.cut listener.old) most ends (W.contents writer.old) (W.contents writer.new) result (W.failures writer.old) (W.failures writer.new) × (H.taken listener.new ≡ H.taken listener.old + length ends) }
+    ensures honest { T.is_honest table.new → T.is_honest table.old }
+{
+    'accepted: for _ in 0..most {
+        match listener.accept() {
+            Ok(stream) => {
+                connections.serve_one(
+                    alloc, &stream, table, policy, workspace, bookmarks, writer, trace,
+                )?
+            }
+            Err(_) => return write_refusal(alloc, writer, LineFault::ReadFailed),
+        }
+    }
+    Ok(())
+}
+
 /// Serves connections one after the other, so many of them. A line tells each that ended by a fault. `ReadFailed` is written where a
 /// connection cannot be had, and `WriteFailed` comes where a line cannot be written. A line of the trace tells of each connection in
 /// which requests were answered SERVFAIL: how many, and why the last of them was.
@@ -184,22 +215,16 @@ pub fn serve_connections<H: Listener, T: ZoneTable, D: Diagnosis<T>, C: Clock, W
 {
     let mut workspace = None;
     let mut bookmarks = Bookmarks::new(alloc);
-    'accepted: for _ in 0..most {
-        match listener.accept() {
-            Ok(stream) => {
-                connections.serve_one(
-                    alloc,
-                    &stream,
-                    table,
-                    policy,
-                    &mut workspace,
-                    &mut bookmarks,
-                    writer,
-                    trace,
-                )?
-            }
-            Err(_) => return write_refusal(alloc, writer, LineFault::ReadFailed),
-        }
-    }
-    Ok(())
+    serve_each(
+        alloc,
+        connections,
+        listener,
+        table,
+        policy,
+        &mut workspace,
+        &mut bookmarks,
+        most,
+        writer,
+        trace,
+    )
 }

@@ -6,7 +6,7 @@ use Rattle.office_core.specs.Bookmarks.{AreBookmarks}
 use Rattle.office_wire.specs.Exchange.{Turn, Run}
 use Rattle.office_wire.specs.Serving.{standing}
 use Rattle.connections.specs.Connections.{ended_lines, joined, AreTraced}
-use Rattle.connections.proofs.serving.serve_connections.Given as goal
+use Rattle.connections.proofs.serving.serve_each.Given as goal
 
 abbrev pub invariant-accepted : goal.invariant-accepted
 invariant-accepted g l = record {
