@@ -1,2 +1,3 @@
+pub mod Patience
 pub mod Causes
 pub mod Connections

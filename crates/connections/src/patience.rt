@@ -1,8 +1,10 @@
 //! Connections whose peers are waited for, but not for ever.
 
-ghost use Rattle.std.specs.Prelude.{◌≡◌, ◌↔◌, IsTrue, IsErrAnd};
+ghost use Rattle.std.specs.Prelude.{◌≡◌, ◌↔◌, ◌*◌, IsTrue, IsErrAnd, option_map};
 ghost use Rattle.std.specs.Io.{ReadsAtMost, WritesAtMost};
 ghost use Rattle.std.specs.IoError.{error_kind};
+ghost use Rattle.std.specs.Duration.{as_nanos};
+ghost use Rattle.connections.specs.Patience.{patience_in};
 
 use std::cell::Cell;
 use std::io::{self, ErrorKind, Read, Write};
@@ -38,7 +40,9 @@ struct Wait {
 }
 
 /// For how long a peer is waited for: the number of seconds, and 30 where none is given; 0 sets no limit.
-pub fn patience_of(seconds: Option<u64>) -> Option<Duration> {
+pub fn patience_of(seconds: Option<u64>) -> Option<Duration>
+    ensures { option_map as_nanos result ≡ option_map (λ n. n * 1_000_000_000) (patience_in seconds) }
+{
     match seconds {
         None => Some(Duration::from_secs(PATIENCE)),
         Some(0) => None,
