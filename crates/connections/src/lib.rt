@@ -12,3 +12,4 @@ pub use cause::{Cause, Diagnosis, Undiagnosed};
 pub use listener::Listener;
 pub use patience::patience_of;
 pub use serving::{Connections, serve_connections};
+pub use trace::write_texts;

@@ -13,7 +13,7 @@ use store_faults::StoreFault;
 use text_commands::write_text;
 
 /// Writes texts, one behind the other.
-pub(crate) fn write_texts<W: Sink>(writer: &mut W, texts: &[&[u8]]) -> Result<(), DeviceFailed>
+pub fn write_texts<W: Sink>(writer: &mut W, texts: &[&[u8]]) -> Result<(), DeviceFailed>
     ensures { IsSent (W.contents writer.old) (W.contents writer.new) (flat_map (λ text. text.now) texts.now) result (W.failures writer.old) (W.failures writer.new) }
 {
     for text in texts {

@@ -1,5 +1,5 @@
 -- Serving callers from a store: where it listens, by which policy, and what is written.
-use Rattle.std.specs.Prelude.{◌≡◌, ◌⊎◌, ⊤, ℕ, ◌<◌, ◌≤◌, List, ◌∷◌, [], ◌++◌, length, codes, decimal, Option, Some, None, Result, Ok, Err, unwrap_or}
+use Rattle.std.specs.Prelude.{◌≡◌, ◌⊎◌, ⊤, ℕ, ◌<◌, List, ◌∷◌, [], ◌++◌, codes, Option, None, Result, Ok, Err, unwrap_or}
 use Rattle.std.specs.Io.KnownBytes.{Appends}
 use Rattle.std.specs.Net.Grammar.{IsSocketText}
 use Rattle.std.specs.declared.net.socket_addr.SocketAddr.{SocketAddr}
@@ -15,11 +15,10 @@ use Rattle.text_commands.specs.LineFaults.{◌>>=◌, limited, of_policies, of_s
 use Rattle.text_commands.specs.declared.line_fault.LineFault.{LineFault}
 use Rattle.text_commands.specs.declared.line_fault.LineFault.TheVariants.{Refused, ReadFailed, NoMemory}
 use Rattle.text_commands.specs.declared.line_fault.JobFault.{JobFault}
-use Rattle.text_commands.specs.declared.line_fault.JobFault.TheVariants.{Reported, WriteFailed}
+use Rattle.text_commands.specs.declared.line_fault.JobFault.TheVariants.{WriteFailed}
 use Rattle.text_commands.specs.Device.{AppendsFront}
-use Rattle.text_commands.specs.Replies.{line_of, IsRefusalWritten}
+use Rattle.text_commands.specs.Replies.{IsRefusalWritten}
 use Rattle.sqlite.specs.State.{State as Shown, HasCleanDisk}
-use Rattle.office_state.specs.States.{State}
 use Rattle.office_store.specs.Holds.{HoldsState}
 use Rattle.store_commands.specs.Around.{Around}
 use Rattle.store_commands.specs.Stores.{StoresOf, IsLeft, IsOpened, IsUnopened}

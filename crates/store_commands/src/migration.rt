@@ -9,7 +9,7 @@ ghost use Rattle.store_commands.specs.Stores.{stores_of};
 
 use crate::files::StoreFiles;
 use crate::store_file::migrate_store;
-use crate::trace::write_texts;
+use connections::write_texts;
 use dns_master::{DeviceFailed, Sink};
 use itoa::Buffer;
 use office_store::StoreFault;
