@@ -17,6 +17,20 @@ use office_state::Ahead;
 use std::alloc::{AllocError, Global};
 use zone_core::Change;
 
+/// How many changes are read at once where nothing says how many are wanted. What they touch is remembered between the pieces in which
+/// they are read, so that small pieces leave the memory that was free behind them in as many places.
+const PIECE: u32 = 4096;
+
+/// What is said where nothing is known.
+fn unknown() -> Ahead
+    ensures { result.hidden ≡ 0 }
+{
+    Ahead {
+        hidden: 0,
+        shown: PIECE,
+    }
+}
+
 /// Whether two types are one.
 fn is_type(first: RecordType, second: RecordType) -> bool
     ensures { result ≡ true → first ≡ second }
@@ -137,7 +151,7 @@ fn first_shown(changes: &[Touched], grants: &mut Grants<'_>) -> u32
         }
         count += 1;
     }
-    Ahead::UNKNOWN.shown
+    PIECE
 }
 
 /// What is behind the first ones, so many.
@@ -187,14 +201,14 @@ impl ZoneHistory {
     {
         // who sees the SOA sees something of nearly each change
         if grants.include(&self.origin, RecordType::Soa) {
-            return Ahead::UNKNOWN;
+            return unknown();
         }
         let rest = behind(&self.changes, count);
         let hidden = first_hidden(rest, grants);
         let shown = first_shown(&rest[hidden..], grants);
         match u32::try_from(hidden) {
             Ok(hidden) => Ahead { hidden, shown },
-            Err(_) => Ahead::UNKNOWN,
+            Err(_) => unknown(),
         }
     }
 }
@@ -263,6 +277,6 @@ pub fn ahead_in(
 {
     match history {
         Some(zone) if zone.origin == *origin => zone.ahead(count, grants),
-        _ => Ahead::UNKNOWN,
+        _ => unknown(),
     }
 }
