@@ -31,7 +31,7 @@ fault_place TooManyRules = None
 fault_place (Name number fault) = Some (places.Key number keys.At)
 fault_place NoMemory = None
 
--- what is wrong, as it is told behind the place
+-- what is wrong, in words that follow the place
 abbrev pub fault_words : PolicyFault → List ℕ
 fault_words NotToml = codes "the policy is no TOML document"
 fault_words (UnknownKey place) = codes " has a key that is not known"

@@ -139,7 +139,7 @@ impl PolicyFault {
         }
     }
 
-    /// What is wrong, as it is told behind the place.
+    /// What is wrong, in words that follow the place.
     const fn words(self) -> &'static str
         ensures { result.now ≡ fault_words self }
     {

@@ -81,7 +81,7 @@ fn each_stored(alloc: Global, rows: Vec<ChangeRow>) -> Result<Vec<ChangedRecord>
     stored_by(alloc, &mut reader, rows)
 }
 
-/// The same, by a reader.
+/// `each_stored` with a given reader.
 fn stored_by(
     alloc: Global,
     reader: &mut ChangeReader,
@@ -108,7 +108,7 @@ fn each_behind(
     behind_by(alloc, &mut reader, rows, count)
 }
 
-/// The same, by a reader.
+/// `each_behind` with a given reader.
 fn behind_by(
     alloc: Global,
     reader: &mut ChangeReader,
@@ -133,7 +133,7 @@ fn each_changed(alloc: Global, rows: &[ChangeRow]) -> Result<Vec<ChangedRecord>,
     changed_by(alloc, &mut reader, rows)
 }
 
-/// The same, by a reader.
+/// `each_changed` with a given reader.
 fn changed_by(
     alloc: Global,
     reader: &mut ChangeReader,

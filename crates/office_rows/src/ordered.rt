@@ -99,7 +99,7 @@ fn each_record(alloc: Global, rows: &[RecordRow]) -> Result<Vec<ZoneRecord>, Row
     records_by(alloc, &mut reader, rows)
 }
 
-/// The same, by a reader.
+/// `each_record` with a given reader.
 fn records_by(
     alloc: Global,
     reader: &mut RecordReader,
@@ -162,7 +162,7 @@ fn receipt_keys(alloc: Global, rows: Vec<ReceiptRow>) -> Result<Vec<ReceiptKey>,
     receipt_keys_by(alloc, &mut reader, rows)
 }
 
-/// The same, by a reader.
+/// `receipt_keys` with a given reader.
 fn receipt_keys_by(
     alloc: Global,
     reader: &mut ReceiptReader,

@@ -134,7 +134,7 @@ fn serve_within<S: Stream<R, W>, R: Source, W: Sink, T: ZoneTable>(
     )
 }
 
-/// Answers each request of a stream in the workspace, which is made where there is none.
+/// Answers each request of a stream in the workspace, which is made first if it is `None`.
 fn serve_into<S: Stream<R, W>, R: Source, W: Sink, T: ZoneTable>(
     alloc: Global,
     workspace: &mut Option<Workspace>,
@@ -197,8 +197,8 @@ pub fn serve_stream<S: Stream<R, W>, R: Source, W: Sink, T: ZoneTable>(
     Served { ended, servfails }
 }
 
-/// Serves a stream as `serve` does, and tells how many requests were answered SERVFAIL, and why the last of them was. Bookmarks of the
-/// same policy are kept from one stream to the next, and so is the workspace: it is made where there is none.
+/// Serves a stream as `serve` does, and counts the requests that were answered SERVFAIL, with the fault of the last. Bookmarks of the
+/// same policy are kept from one stream to the next, and so is the workspace, which is made first if it is `None`.
 pub fn serve_noting<R: Source, W: Sink, T: ZoneTable>(
     alloc: Global,
     workspace: &mut Option<Workspace>,

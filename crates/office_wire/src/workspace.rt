@@ -20,7 +20,7 @@ pub struct Workspace {
 
 impl Workspace {
     /// The only error is out of memory.
-    pub fn new(alloc: Global) -> Result<Workspace, AllocError> {
+    fn new(alloc: Global) -> Result<Workspace, AllocError> {
         let Ok(routes) = Routes::new(alloc) else {
             return Err(AllocError);
         };
@@ -32,7 +32,7 @@ impl Workspace {
     }
 }
 
-/// Makes a workspace where there is none, if there is memory for it.
+/// Makes the workspace if it is `None` and there is memory for it.
 pub(crate) fn make_workspace(alloc: Global, workspace: &mut Option<Workspace>) {
     if workspace.is_none() {
         *workspace = Workspace::new(alloc).ok();

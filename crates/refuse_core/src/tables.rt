@@ -1,6 +1,6 @@
 //! What is asked of a table.
 
-ghost use Rattle.std.specs.Prelude.{◌≡◌, None, IfOk, OnOk};
+ghost use Rattle.std.specs.Prelude.{◌≡◌, None, IfOk, OnOk, OnErr};
 ghost use Rattle.office_state.specs.States.{State, zone_at};
 ghost use Rattle.office_state.specs.Tables.{Fits, addition_in, committed};
 
@@ -49,4 +49,20 @@ pub fn zone_behind<T: ZoneTable>(
 {
     let made = table.commit(alloc, added);
     (made, table.zone(alloc, at), None)
+}
+
+/// `ZoneTable::commit`, and `ZoneTable::zone` behind one that failed, beside the zone that the addition makes.
+pub fn zone_behind_failure<T: ZoneTable>(
+    alloc: Global,
+    table: &mut T,
+    added: Addition,
+    at: &Name,
+    _changed: &mut Option<Zone>,
+) -> (Result<(), TableFault>, Result<Option<Zone>, TableFault>)
+    requires fits { T.is_honest table.old → (s : State) → T.holds table.old s → Fits s (addition_in added) }
+    requires changed { T.is_honest table.old → (s : State) → T.holds table.old s → _changed.old ≡ zone_at (committed (addition_in added) s) at.now }
+    ensures { T.is_honest table.new → OnErr result.0 (IfOk result.1 (λ zone. (s : State) → T.holds table.old s → zone ≡ zone_at s at.now)) }
+{
+    let made = table.commit(alloc, added);
+    (made, table.zone(alloc, at))
 }

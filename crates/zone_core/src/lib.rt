@@ -42,7 +42,6 @@ pub use rcode::Rcode;
 pub use refusals::{DelegationFault, UpdateFault, ZoneFault};
 pub use report::{DelegatedServer, Delegation, Glue, cuts, delegation_report, servers};
 pub use serial::{serial_add, serial_less};
-pub use serial_advance::next_data;
 pub use update::{ItemList, Operation, Place, Prerequisite, Update};
 pub use verdict::{Failed, holds};
 pub use zone::Zone;

@@ -17,7 +17,7 @@ use dns_data::{Data, Record, RecordType, Serial, Soa};
 use std::alloc::{AllocError, Global};
 
 /// The data of an SOA record with its serial one further, and others as they are. The only error is out of memory.
-pub fn next_data(alloc: Global, rdata: &Data) -> Result<Data, AllocError>
+fn next_data(alloc: Global, rdata: &Data) -> Result<Data, AllocError>
     ensures { IfOk result (λ next. next ≡ next_data rdata.now) }
 {
     let Data::Soa(soa) = rdata else {

@@ -124,16 +124,6 @@ impl Zone {
         rows::within(&self.records, name)
     }
 
-    /// Copies of the records within a name, in record order. The only error is out of memory.
-    pub fn copied_within(&self, alloc: Global, name: &Name) -> Result<Vec<Record>, AllocError>
-        ensures value { IfOk result (λ rs. rs.items ≡ listing (part self.now.records (within name.now))) }
-        ensures order { IfOk result (λ rs. InOrder rs.items) }
-    {
-        // the proof needs that it is a zone
-        let _ = self.origin();
-        rows::copied(alloc, self.records_within(name))
-    }
-
     /// The zone that has those records of this one that are at its origin or at one of some names, in memory of its own. It is
     /// all that an update at these names reads. The only error is out of memory.
     pub fn part(&self, alloc: Global, names: &[Name]) -> Result<Zone, AllocError>
