@@ -17,8 +17,8 @@ use crate::trace::{tell_servfails, write_texts};
 use dns_master::{Counted, DeviceFailed, Sink};
 use grant_policy::Policy;
 use itoa::Buffer;
-use office_core::{Bookmarks, ZoneTable};
-use office_wire::{ServeFault, Served, Workspace};
+use office_core::ZoneTable;
+use office_wire::{Responder, ServeFault, Served};
 use std::alloc::Global;
 use std::marker::Brand;
 use std::net::TcpStream;
@@ -28,12 +28,9 @@ use text_commands::{JobFault, LineFault, write_refusal};
 
 /// Serves the requests of a connection, and tells which of them were answered SERVFAIL.
 fn serve_stream<T: ZoneTable, C: Clock, A: Ledger, B: Ledger>(
-    alloc: Global,
+    responder: &mut Responder<'_>,
     stream: &PatientStream<'_, C>,
     table: &mut T,
-    policy: &Policy,
-    workspace: &mut Option<Workspace>,
-    bookmarks: &mut Bookmarks,
     reads: Blank,
     writes: Blank,
 ) -> Served
@@ -43,20 +40,13 @@ fn serve_stream<T: ZoneTable, C: Clock, A: Ledger, B: Ledger>(
     requires writes_name { writes.name ≡ B.name }
     requires writes_parts { writes.parts ≡ B.parts }
     requires writes_some { 0 < writes.parts }
-    ensures run { T.is_honest table.new → (s : State) → T.holds table.old s × AreBookmarks policy.now s bookmarks.old → (turns : List Turn) × (t : State) × (T.holds table.new t × AreBookmarks policy.now t bookmarks.new) × Run policy.now (standing s (T.failures table.old)) turns (standing t (T.failures table.new)) × AreNoted (servfails turns) result.servfails }
+    ensures run { T.is_honest table.new → (s : State) → T.holds table.old s × AreBookmarks responder.old.policy.now s responder.old.bookmarks → (turns : List Turn) × (t : State) × (T.holds table.new t × AreBookmarks responder.old.policy.now t responder.new.bookmarks) × Run responder.old.policy.now (standing s (T.failures table.old)) turns (standing t (T.failures table.new)) × AreNoted (servfails turns) result.servfails }
+    ensures policy { responder.new.policy ≡ responder.old.policy }
     ensures honest { T.is_honest table.new → T.is_honest table.old }
 {
     let mut source: Counted<&PatientStream<'_, C>, A> = Counted::new(stream, reads);
     let mut sink: Counted<&PatientStream<'_, C>, B> = Counted::new(stream, writes);
-    office_wire::serve_noting(
-        alloc,
-        workspace,
-        &mut source,
-        &mut sink,
-        table,
-        policy,
-        bookmarks,
-    )
+    responder.serve_noting(&mut source, &mut sink, table)
 }
 
 /// Writes the line that reports the fault by which a connection ended. It takes no memory, so running out of memory on one
@@ -78,31 +68,21 @@ fn tell_ended<W: Sink>(writer: &mut W, fault: ServeFault) -> Result<(), DeviceFa
 /// Serves a connection. A line tells the fault that ended it, if one did; and a line of the trace tells which of its requests were
 /// answered SERVFAIL, if some were. A line of the trace that cannot be written is let go.
 fn serve_connection<T: ZoneTable, D: Diagnosis<T>, C: Clock, W: Sink, E: Sink>(
-    alloc: Global,
+    responder: &mut Responder<'_>,
     stream: &PatientStream<'_, C>,
     table: &mut T,
-    policy: &Policy,
-    workspace: &mut Option<Workspace>,
-    bookmarks: &mut Bookmarks,
     diagnosis: &D,
     writer: &mut W,
     trace: &mut E,
 ) -> Result<(), DeviceFailed>
-    ensures run { T.is_honest table.new → (s : State) → T.holds table.old s × AreBookmarks policy.now s bookmarks.old → (turns : List Turn) × (t : State) × (T.holds table.new t × AreBookmarks policy.now t bookmarks.new) × Run policy.now (standing s (T.failures table.old)) turns (standing t (T.failures table.new)) × IsTraced turns (D.fault diagnosis.now table.new) (E.contents trace.old) (E.contents trace.new) (E.failures trace.old) (E.failures trace.new) }
+    ensures run { T.is_honest table.new → (s : State) → T.holds table.old s × AreBookmarks responder.old.policy.now s responder.old.bookmarks → (turns : List Turn) × (t : State) × (T.holds table.new t × AreBookmarks responder.old.policy.now t responder.new.bookmarks) × Run responder.old.policy.now (standing s (T.failures table.old)) turns (standing t (T.failures table.new)) × IsTraced turns (D.fault diagnosis.now table.new) (E.contents trace.old) (E.contents trace.new) (E.failures trace.old) (E.failures trace.new) }
+    ensures policy { responder.new.policy ≡ responder.old.policy }
     ensures honest { T.is_honest table.new → T.is_honest table.old }
     ensures written { (end : Option FaultOf) × IsSent (W.contents writer.old) (W.contents writer.new) (ended_line end) result (W.failures writer.old) (W.failures writer.new) }
     ensures traced { E.failures trace.old ≤ E.failures trace.new }
 {
-    let served = serve_stream::<_, _, Brand, Brand>(
-        alloc,
-        stream,
-        table,
-        policy,
-        workspace,
-        bookmarks,
-        Blank::new(1),
-        Blank::new(1),
-    );
+    let (reads, writes) = (Blank::new(1), Blank::new(1));
+    let served = serve_stream::<_, _, Brand, Brand>(responder, stream, table, reads, writes);
     let _ = tell_servfails(trace, served.servfails, diagnosis.store_fault(table));
     match served.ended {
         Ok(()) => Ok(()),
@@ -125,18 +105,16 @@ impl<C: Clock, D> Connections<'_, C, D> {
     /// Serves one connection that was accepted.
     fn serve_one<T: ZoneTable, W: Sink, E: Sink>(
         &self,
-        alloc: Global,
+        responder: &mut Responder<'_>,
         stream: &TcpStream,
         table: &mut T,
-        policy: &Policy,
-        workspace: &mut Option<Workspace>,
-        bookmarks: &mut Bookmarks,
         writer: &mut W,
         trace: &mut E,
     ) -> Result<(), DeviceFailed>
     where
         D: Diagnosis<T>,
-        ensures run { T.is_honest table.new → (s : State) → T.holds table.old s × AreBookmarks policy.now s bookmarks.old → (turns : List Turn) × (t : State) × (T.holds table.new t × AreBookmarks policy.now t bookmarks.new) × Run policy.now (standing s (T.failures table.old)) turns (standing t (T.failures table.new)) × IsTraced turns (D.fault self.now.diagnosis.now table.new) (E.contents trace.old) (E.contents trace.new) (E.failures trace.old) (E.failures trace.new) }
+        ensures run { T.is_honest table.new → (s : State) → T.holds table.old s × AreBookmarks responder.old.policy.now s responder.old.bookmarks → (turns : List Turn) × (t : State) × (T.holds table.new t × AreBookmarks responder.old.policy.now t responder.new.bookmarks) × Run responder.old.policy.now (standing s (T.failures table.old)) turns (standing t (T.failures table.new)) × IsTraced turns (D.fault self.now.diagnosis.now table.new) (E.contents trace.old) (E.contents trace.new) (E.failures trace.old) (E.failures trace.new) }
+        ensures policy { responder.new.policy ≡ responder.old.policy }
         ensures honest { T.is_honest table.new → T.is_honest table.old }
         ensures written { (end : Option FaultOf) × IsSent (W.contents writer.old) (W.contents writer.new) (ended_line end) result (W.failures writer.old) (W.failures writer.new) }
         ensures traced { E.failures trace.old ≤ E.failures trace.new }
@@ -145,12 +123,9 @@ impl<C: Clock, D> Connections<'_, C, D> {
         let _ = stream.set_nodelay(true);
         let stream = PatientStream::new(stream, self.clock, self.patience);
         serve_connection(
-            alloc,
+            responder,
             &stream,
             table,
-            policy,
-            workspace,
-            bookmarks,
             self.diagnosis,
             writer,
             trace,
@@ -158,33 +133,27 @@ impl<C: Clock, D> Connections<'_, C, D> {
     }
 }
 
-/// Serves connections one after the other, so many of them, in a workspace and with bookmarks.
+/// Serves connections one after the other, so many of them, by a responder.
 fn serve_each<H: Listener, T: ZoneTable, D: Diagnosis<T>, C: Clock, W: Sink, E: Sink>(
     alloc: Global,
     connections: &Connections<'_, C, D>,
+    responder: &mut Responder<'_>,
     listener: &mut H,
     table: &mut T,
-    policy: &Policy,
-    workspace: &mut Option<Workspace>,
-    bookmarks: &mut Bookmarks,
     most: u64,
     writer: &mut W,
     trace: &mut E,
 ) -> Result<(), JobFault>
-    requires { (s : State) → AreBookmarks policy.now s bookmarks.old }
-    ensures served { AreServedFrom (T.is_honest table.new) (T.holds table.old) (T.holds table.new) (T.failures table.old) (T.failures table.new) policy.now most result (E.contents trace.old) (E.contents trace.new) (E.failures trace.old) (E.failures trace.new) }
+    requires { (s : State) → AreBookmarks responder.old.policy.now s responder.old.bookmarks }
+    ensures served { AreServedFrom (T.is_honest table.new) (T.holds table.old) (T.holds table.new) (T.failures table.old) (T.failures table.new) responder.old.policy.now most result (E.contents trace.old) (E.contents trace.new) (E.failures trace.old) (E.failures trace.new) }
     ensures written { (ends : List (Option FaultOf)) × AreReported (H.cut listener.old) most ends (W.contents writer.old) (W.contents writer.new) result (W.failures writer.old) (W.failures writer.new) × (H.taken listener.new ≡ H.taken listener.old + length ends) }
     ensures honest { T.is_honest table.new → T.is_honest table.old }
 {
     'accepted: for _ in 0..most {
-        match listener.accept() {
-            Ok(stream) => {
-                connections.serve_one(
-                    alloc, &stream, table, policy, workspace, bookmarks, writer, trace,
-                )?
-            }
-            Err(_) => return write_refusal(alloc, writer, LineFault::ReadFailed),
-        }
+        let Ok(stream) = listener.accept() else {
+            return write_refusal(alloc, writer, LineFault::ReadFailed);
+        };
+        connections.serve_one(responder, &stream, table, writer, trace)?;
     }
     Ok(())
 }
@@ -213,16 +182,13 @@ pub fn serve_connections<H: Listener, T: ZoneTable, D: Diagnosis<T>, C: Clock, W
     // A store that has kept its word had kept it before.
     ensures honest { T.is_honest table.new → T.is_honest table.old }
 {
-    let mut workspace = None;
-    let mut bookmarks = Bookmarks::new(alloc);
+    let mut responder = Responder::new(alloc, policy);
     serve_each(
         alloc,
         connections,
+        &mut responder,
         listener,
         table,
-        policy,
-        &mut workspace,
-        &mut bookmarks,
         most,
         writer,
         trace,

@@ -14,6 +14,7 @@ mod refusal;
 mod request;
 mod request_buffer;
 mod request_fault;
+mod responder;
 mod response;
 mod response_buffer;
 mod route;
@@ -29,8 +30,8 @@ pub use laws::{
     segments_are_between_slashes, targets_have_one_row,
 };
 pub use refusal::Refusal;
+pub use responder::{Responder, serve};
 pub use serve_fault::ServeFault;
 pub use servfails::Servfails;
-pub use serving::{Served, serve, serve_noting, serve_stream};
+pub use serving::Served;
 pub use stream::{Apart, Stream};
-pub use workspace::Workspace;

@@ -8,10 +8,9 @@ use crate::route::Routes;
 use httparse::spans::{EMPTY_HEADER_SPAN, HeaderSpan};
 use std::alloc::{AllocError, Global};
 
-/// The routes, and the memory for a request. A service keeps them from one stream to the next: of what was received of a stream, nothing
-/// is left for the next one.
+/// The routes, and the memory for a request.
 #[derive(Drop)]
-pub struct Workspace {
+pub(crate) struct Workspace {
     pub(crate) routes: Routes,
     pub(crate) requests: RequestBuffer,
     pub(crate) spans: Vec<HeaderSpan>,

@@ -10,8 +10,8 @@ ghost use Rattle.office_wire.specs.Servfails.{AreNoted, servfails};
 
 use dns_master::{Counted, Pieces, Sink, Source};
 use grant_policy::Policy;
-use office_core::{Bookmarks, ZoneTable};
-use office_wire::{ServeFault, Served, Stream, Workspace};
+use office_core::ZoneTable;
+use office_wire::{Responder, ServeFault, Served, Stream};
 use std::alloc::Global;
 use std::sync::ledger::{Blank, Ledger};
 
@@ -29,21 +29,16 @@ pub fn serve_counted<R: Source, W: Sink, T: ZoneTable>(
     ended
 }
 
-/// `serve_stream`, by what it notes, and by the order of what it reads and writes.
+/// `Responder::serve_stream`, by what it notes, and by the order of what it reads and writes.
 pub fn serve_stream<S: Stream<R, W>, R: Source, W: Sink, T: ZoneTable>(
-    alloc: Global,
-    workspace: &mut Option<Workspace>,
+    responder: &mut Responder<'_>,
     reader: &mut R,
     writer: &mut W,
     table: &mut T,
-    policy: &Policy,
-    bookmarks: &mut Bookmarks,
 ) -> Served
-    ensures { T.is_honest table.new → (s : State) → T.holds table.old s × AreBookmarks policy.now s bookmarks.old → (turns : List Turn) × (t : State) × (T.holds table.new t × AreBookmarks policy.now t bookmarks.new) × Run policy.now (standing s (T.failures table.old)) turns (standing t (T.failures table.new)) × AreNoted (servfails turns) result.servfails × IsServedInTurn turns (S.events reader.old writer.old) (S.events reader.new writer.new) }
+    ensures { T.is_honest table.new → (s : State) → T.holds table.old s × AreBookmarks responder.old.policy.now s responder.old.bookmarks → (turns : List Turn) × (t : State) × (T.holds table.new t × AreBookmarks responder.old.policy.now t responder.new.bookmarks) × Run responder.old.policy.now (standing s (T.failures table.old)) turns (standing t (T.failures table.new)) × AreNoted (servfails turns) result.servfails × IsServedInTurn turns (S.events reader.old writer.old) (S.events reader.new writer.new) }
 {
-    let served = office_wire::serve_stream::<S, _, _, _>(
-        alloc, workspace, reader, writer, table, policy, bookmarks,
-    );
+    let served = responder.serve_stream::<S, _, _, _>(reader, writer, table);
     served
 }
 

@@ -12,6 +12,7 @@ accepted-init g c = record {
   served = λ honest s held. ([], s, (held, c.requires s), refl, refl, traced_none _ _);
   written = ([], refl, Appends-nil _);
   fine = refl;
+  policy = refl;
   taken = omega arith;
   same = λ cut. cut;
 }
@@ -21,16 +22,17 @@ accepted-preserved g c = record {
   honest = λ honest. c.accepted.invariant.honest (c.in_ok-serve_one-in-Ok.ensures.honest honest);
   served = λ honest s held.
       let p = c.accepted.invariant.served (c.in_ok-serve_one-in-Ok.ensures.honest honest) s held in
-      let a = c.in_ok-serve_one-in-Ok.ensures.run honest p.1 p.2 in
+      let a = (rw c.accepted.invariant.policy at c.in_ok-serve_one-in-Ok.ensures.run) honest p.1 p.2 in
       let before = standing s (g.T.ZoneTable.failures c.args.table.now) in
       let mid = standing p.1 (g.T.ZoneTable.failures c.accepted.table) in
       let now = standing a.1 (g.T.ZoneTable.failures c.serve_one.new.table) in
-      (p.0 ++ a.0 ∷ [], a.1, a.2, served_more c.args.policy.now before mid now p.0 a.0 p.3 a.3, one_more p.0 a.0 c.accepted.counter p.4, traced_more p.0 a.0 _ _ _ _ _ _ _ p.5 a.4);
+      (p.0 ++ a.0 ∷ [], a.1, a.2, served_more c.args.responder.now.policy.now before mid now p.0 a.0 p.3 a.3, one_more p.0 a.0 c.accepted.counter p.4, traced_more p.0 a.0 _ _ _ _ _ _ _ p.5 a.4);
   written =
       let p = c.accepted.invariant.written in
       let a = c.in_ok-serve_one-in-Ok.ensures.written in
       (p.0 ++ a.0 ∷ [], one_ended p.0 a.0 c.accepted.counter p.1, told_more _ _ _ p.0 a.0 p.2 a.1.0);
   fine = c.in_ok-serve_one-in-Ok.ensures.written.1.1 ∙ c.accepted.invariant.fine;
+  policy = c.in_ok-serve_one-in-Ok.ensures.policy ∙ c.accepted.invariant.policy;
   taken = let one = c.in-Ok.ensures.one in let before = c.accepted.invariant.taken in omega (arith, one, before);
   same = λ cut. c.accepted.invariant.same (c.in-Ok.ensures.same cut);
 }
@@ -38,16 +40,16 @@ accepted-preserved g c = record {
 pub returns-in_err-serve_one-in-Ok-clause-served : goal.returns-in_err-serve_one-in-Ok-clause-served
 returns-in_err-serve_one-in-Ok-clause-served g c = λ honest s held.
     let p = c.accepted.invariant.served (c.in_err-serve_one-in-Ok.ensures.honest honest) s held in
-    let a = c.in_err-serve_one-in-Ok.ensures.run honest p.1 p.2 in
+    let a = (rw c.accepted.invariant.policy at c.in_err-serve_one-in-Ok.ensures.run) honest p.1 p.2 in
     let before = standing s (g.T.ZoneTable.failures c.args.table.now) in
     let mid = standing p.1 (g.T.ZoneTable.failures c.accepted.table) in
     let now = standing a.1 (g.T.ZoneTable.failures c.serve_one.new.table) in
     let turns = p.0 ++ a.0 ∷ [] in
-    let all = served_more c.args.policy.now before mid now p.0 a.0 p.3 a.3 in
+    let all = served_more c.args.responder.now.policy.now before mid now p.0 a.0 p.3 a.3 in
     let count = one_more p.0 a.0 c.accepted.counter p.4 in
     let less : length turns ≤ c.args.most = let in_range = c.accepted-test.true in omega arith in
     let e = err_from_is_err_and c.from_residual.result c.from_residual.ensures.1 in
-    (turns, a.1, a.2.0, are_served c.args.policy.now before now turns (g.met.T.ZoneTable.zones c.args.table.now s held) (g.met.T.ZoneTable.receipts c.args.table.now s held) all, rw e.1 less, traced_more p.0 a.0 _ _ _ _ _ _ _ p.5 a.4)
+    (turns, a.1, a.2.0, are_served c.args.responder.now.policy.now before now turns (g.met.T.ZoneTable.zones c.args.table.now s held) (g.met.T.ZoneTable.receipts c.args.table.now s held) all, rw e.1 less, traced_more p.0 a.0 _ _ _ _ _ _ _ p.5 a.4)
 
 pub returns-in_err-serve_one-in-Ok-clause-written : goal.returns-in_err-serve_one-in-Ok-clause-written
 returns-in_err-serve_one-in-Ok-clause-written g c =
@@ -93,7 +95,7 @@ returns-in-Err-clause-served g c = λ honest s held.
       p.0,
       p.1,
       p.2.0,
-      are_served c.args.policy.now before now p.0 (g.met.T.ZoneTable.zones c.args.table.now s held) (g.met.T.ZoneTable.receipts c.args.table.now s held) p.3,
+      are_served c.args.responder.now.policy.now before now p.0 (g.met.T.ZoneTable.zones c.args.table.now s held) (g.met.T.ZoneTable.receipts c.args.table.now s held) p.3,
       told_many c.args.most (length p.0) c.write_refusal.result (g.W.Sink.contents c.accepted.writer) (g.W.Sink.contents c.write_refusal.new.writer) ReadFailed
           (g.W.FaultCount.failures c.accepted.writer) (g.W.FaultCount.failures c.write_refusal.new.writer) c.write_refusal.ensures less,
       p.5,
@@ -107,7 +109,7 @@ returns-clause-served g c = λ honest s held.
       p.0,
       p.1,
       p.2.0,
-      are_served c.args.policy.now before now p.0 (g.met.T.ZoneTable.zones c.args.table.now s held) (g.met.T.ZoneTable.receipts c.args.table.now s held) p.3,
+      are_served c.args.responder.now.policy.now before now p.0 (g.met.T.ZoneTable.zones c.args.table.now s held) (g.met.T.ZoneTable.receipts c.args.table.now s held) p.3,
       (let past = c.accepted-test.false in let ended = c.accepted.auto.counter-end in let count = p.4 in omega arith),
       p.5,
     )

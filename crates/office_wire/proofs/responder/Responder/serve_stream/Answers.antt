@@ -4,7 +4,7 @@ use Rattle.office_wire.specs.declared.servfails.Servfails.{Servfails}
 use Rattle.office_wire.specs.Servfails.{noted, servfails}
 use Rattle.office_wire.proofs.PromiseLemmas.{exchanges_run}
 use Rattle.office_wire.proofs.ServfailLemmas.{noted_first}
-use Rattle.office_wire.proofs.serving.serve_stream.Goals as goal
+use Rattle.office_wire.proofs.responder.Responder.serve_stream.Goals as goal
 
 pub returns-clause-run : goal.returns-clause-run
 returns-clause-run g c = λ honest s held.
@@ -16,7 +16,7 @@ returns-clause-run g c = λ honest s held.
       r.2,
       r.3.0,
       r.4,
-      exchanges_run c.args.policy.now before now r.0 (g.met.T.ZoneTable.zones c.args.table.now s held.0) (g.met.T.ZoneTable.receipts c.args.table.now s held.0) r.3.0,
+      exchanges_run c.args.self.now.policy.now before now r.0 (g.met.T.ZoneTable.zones c.args.table.now s held.0) (g.met.T.ZoneTable.receipts c.args.table.now s held.0) r.3.0,
       noted_first c.serve_into-ended.new.servfails (servfails r.0) (r.3.1 ∙ ap (λ (n : Servfails). noted n (servfails r.0)) c.none-servfails.ensures),
       r.5,
     )

@@ -1,4 +1,4 @@
-use Rattle.office_wire.proofs.serving.serve_noting.Goals as goal
+use Rattle.office_wire.proofs.responder.Responder.serve_noting.Goals as goal
 
 pub returns-clause-run : goal.returns-clause-run
 returns-clause-run g c = λ honest s held.

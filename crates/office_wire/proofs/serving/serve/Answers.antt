@@ -1,5 +1,0 @@
-use Rattle.office_wire.proofs.serving.serve.Goals as goal
-
-pub returns-clause-run : goal.returns-clause-run
-returns-clause-run g c = λ honest s held.
-    let r = c.serve_noting.ensures.run honest s (held, c.new-bookmarks.ensures c.args.policy.now s) in (r.0, r.1, r.2.0, r.3, r.4, r.5)
