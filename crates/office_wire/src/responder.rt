@@ -32,7 +32,7 @@ pub struct Responder<'a> {
 impl<'a> Responder<'a> {
     /// A responder that has served no stream. It takes no memory before the first one.
     pub fn new(alloc: Global, policy: &'a Policy) -> Responder<'a>
-        ensures policy { result.policy ≡ policy }
+        ensures policy { result.policy ≡ policy.entry }
         ensures bookmarks { (s : State) → AreBookmarks policy.now s result.bookmarks }
     {
         Responder {
