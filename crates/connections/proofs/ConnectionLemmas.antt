@@ -8,19 +8,19 @@ use Rattle.office_state.specs.States.{AreZones, AreReceipts}
 use Rattle.office_wire.specs.Exchange.{Turn, Standing, Run}
 use Rattle.office_wire.proofs.JoinLemmas.{run_join}
 use Rattle.office_wire.proofs.PromiseLemmas.{exchanges_run}
-use Rattle.text_commands.specs.declared.line_fault.LineFault.{LineFault}
-use Rattle.text_commands.specs.declared.line_fault.LineFault.TheVariants.{Refused, ReadFailed, NoMemory}
-use Rattle.text_commands.specs.declared.line_fault.JobFault.{JobFault}
-use Rattle.text_commands.specs.declared.line_fault.JobFault.TheVariants.{Reported, WriteFailed}
-use Rattle.text_commands.specs.Device.{AppendsFront}
-use Rattle.text_commands.specs.Replies.{IsRefusalWritten, line_of}
-use Rattle.text_commands.proofs.JobLemmas.{front_behind}
+use Rattle.job_faults.specs.declared.line_fault.LineFault.{LineFault}
+use Rattle.job_faults.specs.declared.line_fault.LineFault.TheVariants.{Refused, ReadFailed, NoMemory}
+use Rattle.job_faults.specs.declared.line_fault.JobFault.{JobFault}
+use Rattle.job_faults.specs.declared.line_fault.JobFault.TheVariants.{Reported, WriteFailed}
+use Rattle.job_faults.specs.Device.{AppendsFront}
+use Rattle.job_faults.specs.Replies.{IsRefusalWritten, line_of}
+use Rattle.job_faults.proofs.JobLemmas.{front_behind}
 use Rattle.office_wire.specs.declared.serve_fault.ServeFault.{ServeFault}
 use Rattle.dns_master.specs.declared.device.DeviceFailed.{DeviceFailed}
 use Rattle.store_faults.specs.declared.store_fault.StoreFault.{StoreFault}
 use Rattle.office_wire.specs.declared.servfails.Servfails.{Servfails}
 use Rattle.office_wire.specs.Servfails.{servfails, AreNoted}
-use Rattle.text_commands.specs.Replies.{IsSent}
+use Rattle.job_faults.specs.Replies.{IsSent}
 use Rattle.connections.specs.Causes.{trace_by, trace_of}
 use Rattle.connections.specs.Connections.{joined, ended_line, ended_lines, AreServed, AreReported, AreTraces, AreTraced, IsTraced, IsSoMany}
 

@@ -4,9 +4,9 @@ use Rattle.std.specs.List.{flat_map}
 use Rattle.std.proofs.lemmas.Grind.{flat_map-append}
 use Rattle.std.proofs.lemmas.List.{take_more}
 use Rattle.std.specs.Io.KnownBytes.{Appends}
-use Rattle.text_commands.specs.Device.{AppendsFront}
-use Rattle.text_commands.proofs.SendLemmas.{sent_front}
-use Rattle.text_commands.proofs.JobLemmas.{front_behind}
+use Rattle.job_faults.specs.Device.{AppendsFront}
+use Rattle.job_faults.proofs.SendLemmas.{sent_front}
+use Rattle.job_faults.proofs.JobLemmas.{front_behind}
 
 abbrev all_of : List (Bor (List ℕ)) → List ℕ
 all_of texts = flat_map (λ text. text.now) texts

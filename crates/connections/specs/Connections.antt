@@ -10,11 +10,11 @@ use Rattle.office_wire.specs.Refusals.{fault_number}
 use Rattle.office_wire.specs.Servfails.{servfails}
 use Rattle.office_wire.specs.Serving.{standing}
 use Rattle.store_faults.specs.declared.store_fault.StoreFault.{StoreFault}
-use Rattle.text_commands.specs.declared.line_fault.LineFault.TheVariants.{ReadFailed}
-use Rattle.text_commands.specs.declared.line_fault.JobFault.{JobFault}
-use Rattle.text_commands.specs.declared.line_fault.JobFault.TheVariants.{Reported, WriteFailed}
-use Rattle.text_commands.specs.Device.{AppendsFront}
-use Rattle.text_commands.specs.Replies.{line_of}
+use Rattle.job_faults.specs.declared.line_fault.LineFault.TheVariants.{ReadFailed}
+use Rattle.job_faults.specs.declared.line_fault.JobFault.{JobFault}
+use Rattle.job_faults.specs.declared.line_fault.JobFault.TheVariants.{Reported, WriteFailed}
+use Rattle.job_faults.specs.Device.{AppendsFront}
+use Rattle.job_faults.specs.Replies.{line_of}
 use Rattle.office_state.specs.States.{State}
 use Rattle.connections.specs.Causes.{trace_of}
 

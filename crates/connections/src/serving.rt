@@ -7,7 +7,7 @@ ghost use Rattle.office_wire.specs.Exchange.{Turn, Run};
 ghost use Rattle.office_wire.specs.Serving.{standing};
 ghost use Rattle.office_wire.specs.Servfails.{AreNoted, servfails};
 ghost use Rattle.office_wire.specs.declared.serve_fault.ServeFault.{ServeFault as FaultOf};
-ghost use Rattle.text_commands.specs.Replies.{IsSent};
+ghost use Rattle.job_faults.specs.Replies.{IsSent};
 ghost use Rattle.connections.specs.Connections.{connection_line, ended_line, IsTraced, AreReported, AreServedFrom};
 
 use crate::cause::Diagnosis;
@@ -17,6 +17,7 @@ use crate::trace::{tell_servfails, write_texts};
 use dns_master::{Counted, DeviceFailed, Sink};
 use grant_policy::Policy;
 use itoa::Buffer;
+use job_faults::{JobFault, LineFault, write_refusal};
 use office_core::ZoneTable;
 use office_wire::{Responder, ServeFault, Served};
 use std::alloc::Global;
@@ -24,7 +25,6 @@ use std::marker::Brand;
 use std::net::TcpStream;
 use std::sync::ledger::{Blank, Ledger};
 use std::time::{Clock, Duration};
-use text_commands::{JobFault, LineFault, write_refusal};
 
 /// Serves the requests of a connection, and tells which of them were answered SERVFAIL.
 fn serve_stream<T: ZoneTable, C: Clock, A: Ledger, B: Ledger>(
@@ -122,14 +122,7 @@ impl<C: Clock, D> Connections<'_, C, D> {
         // a short response goes out at once
         let _ = stream.set_nodelay(true);
         let stream = PatientStream::new(stream, self.clock, self.patience);
-        serve_connection(
-            responder,
-            &stream,
-            table,
-            self.diagnosis,
-            writer,
-            trace,
-        )
+        serve_connection(responder, &stream, table, self.diagnosis, writer, trace)
     }
 }
 

@@ -2,15 +2,15 @@
 
 ghost use Rattle.std.specs.Prelude.{◌≡◌};
 ghost use Rattle.std.specs.List.{flat_map};
-ghost use Rattle.text_commands.specs.Replies.{IsSent};
+ghost use Rattle.job_faults.specs.Replies.{IsSent};
 ghost use Rattle.connections.specs.Causes.{were_answered, trace_by};
 
 use crate::cause::Cause;
 use dns_master::{DeviceFailed, Sink};
 use itoa::Buffer;
+use job_faults::write_text;
 use office_wire::Servfails;
 use store_faults::StoreFault;
-use text_commands::write_text;
 
 /// Writes texts, one behind the other.
 pub fn write_texts<W: Sink>(writer: &mut W, texts: &[&[u8]]) -> Result<(), DeviceFailed>

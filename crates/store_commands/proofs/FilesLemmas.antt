@@ -1,14 +1,14 @@
 -- What is done in the store of a path, step by step.
 use Rattle.std.proofs.Common.{◌≡◌, ◌⊎◌, inl, inr, ℕ, Bool, List, Option, Some, None, Result, Ok, Err, IfOk, IfErr, OnErr, ap, refl}
 use Rattle.std.specs.Result.{result_map_both}
-use Rattle.text_commands.specs.declared.line_fault.JobFault.{JobFault}
+use Rattle.job_faults.specs.declared.line_fault.JobFault.{JobFault}
 use Rattle.store_commands.specs.Around.{Around}
 use Rattle.store_commands.specs.Serve.{IsServiceTold}
 use Rattle.dns_names.specs.Reading.{absolute_name}
 use Rattle.text_commands.specs.Canon.{zone_read}
-use Rattle.text_commands.specs.declared.line_fault.LineFault.{LineFault}
-use Rattle.text_commands.specs.declared.line_fault.LineFault.TheVariants.{NoMemory}
-use Rattle.text_commands.specs.LineFaults.{Makes, GivesOf, of_names, of_store}
+use Rattle.job_faults.specs.declared.line_fault.LineFault.{LineFault}
+use Rattle.job_faults.specs.declared.line_fault.LineFault.TheVariants.{NoMemory}
+use Rattle.job_faults.specs.LineFaults.{Makes, GivesOf, of_names, of_store}
 use Rattle.store_commands.specs.Import.{imported_line, IsImported}
 use Rattle.store_commands.specs.Export.{IsExported}
 use Rattle.dns_data.specs.declared.record.Record.{Record}

@@ -3,8 +3,8 @@ use Rattle.std.proofs.Common.{◌≡◌, inl, inr, ℕ, Bool, List, Option, Resu
 use Rattle.sqlite.specs.State.{State as Shown}
 use Rattle.store_faults.specs.declared.store_fault.StoreFault.{StoreFault}
 use Rattle.command_line.specs.declared.job.LogChoice.{LogChoice}
-use Rattle.text_commands.specs.declared.line_fault.LineFault.{LineFault}
-use Rattle.text_commands.specs.LineFaults.{of_store}
+use Rattle.job_faults.specs.declared.line_fault.LineFault.{LineFault}
+use Rattle.job_faults.specs.LineFaults.{of_store}
 use Rattle.store_commands.specs.declared.log_choice.LogAsked.{LogAsked}
 use Rattle.store_commands.specs.Stores.{IsGot}
 use Rattle.store_commands.specs.StoreLog.{LogOf, log_asked, IsLogRead, IsTextOf, IsLogged}

@@ -12,12 +12,12 @@ use Rattle.zone_core.specs.declared.refusals.ZoneFault.TheVariants as zones
 use Rattle.zone_core.specs.Zones.{ZoneOf}
 use Rattle.store_faults.specs.declared.store_fault.StoreFault.{StoreFault}
 use Rattle.store_faults.specs.declared.store_fault.StoreFault.TheVariants as stores
-use Rattle.text_commands.specs.declared.refusal.Refusal.{Refusal}
-use Rattle.text_commands.specs.declared.line_fault.LineFault.{LineFault}
-use Rattle.text_commands.specs.declared.line_fault.LineFault.TheVariants.{Refused, ReadFailed, NoMemory}
+use Rattle.job_faults.specs.declared.refusal.Refusal.{Refusal}
+use Rattle.job_faults.specs.declared.line_fault.LineFault.{LineFault}
+use Rattle.job_faults.specs.declared.line_fault.LineFault.TheVariants.{Refused, ReadFailed, NoMemory}
 use Rattle.text_commands.specs.Canon.{zone_read}
-use Rattle.text_commands.specs.LineFaults.{◌>>=◌, Gives, Makes, GivesOf, of_names, of_zone, of_store}
-use Rattle.text_commands.proofs.StepLemmas.{refused_before, given_before, reached_before}
+use Rattle.job_faults.specs.LineFaults.{◌>>=◌, Gives, Makes, GivesOf, of_names, of_zone, of_store}
+use Rattle.job_faults.proofs.StepLemmas.{refused_before, given_before, reached_before}
 use Rattle.store_commands.specs.Stores.{StoresOf, IsStoreLine}
 use Rattle.store_commands.specs.Import.{imported_line, PutsZones, import_text, IsImported, ImportWritten, ZoneStored}
 use Rattle.store_commands.specs.Export.{FindsRecords, export_text, IsExported, ExportWritten, ZoneExported}
@@ -25,10 +25,10 @@ use Rattle.store_commands.proofs.FilesLemmas.{seen_exported}
 use Rattle.store_commands.specs.Migrate.{Migrates, migrated_line, migration_told}
 use Rattle.store_commands.specs.Reports.{IsReported, IsShown}
 use Rattle.std.specs.Result.{result_map_both}
-use Rattle.text_commands.specs.declared.line_fault.JobFault.{JobFault}
-use Rattle.text_commands.specs.declared.line_fault.JobFault.TheVariants.{Reported, WriteFailed}
-use Rattle.text_commands.specs.Replies.{Answered}
-use Rattle.text_commands.proofs.JobLemmas.{answered_sent, answered_front, answered_told, answered_printed}
+use Rattle.job_faults.specs.declared.line_fault.JobFault.{JobFault}
+use Rattle.job_faults.specs.declared.line_fault.JobFault.TheVariants.{Reported, WriteFailed}
+use Rattle.job_faults.specs.Replies.{Answered}
+use Rattle.job_faults.proofs.JobLemmas.{answered_sent, answered_front, answered_told, answered_printed}
 
 zone_line : (fault : ZoneFault) → IsStoreLine (of_zone fault)
 zone_line zones.NoMemory = tt

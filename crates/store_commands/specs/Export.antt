@@ -5,13 +5,13 @@ use Rattle.dns_names.specs.Reading.{absolute_name}
 use Rattle.dns_data.specs.declared.record.Record.{Record}
 use Rattle.command_line.specs.declared.job.ZoneForm.{ZoneForm}
 use Rattle.text_commands.specs.Canon.{zone_text_in}
-use Rattle.text_commands.specs.declared.refusal.Refusal.{Refusal}
+use Rattle.job_faults.specs.declared.refusal.Refusal.{Refusal}
 use Rattle.sqlite.specs.State.{State as Shown}
 use Rattle.store_faults.specs.declared.store_fault.StoreFault.{StoreFault}
-use Rattle.text_commands.specs.declared.line_fault.LineFault.{LineFault}
-use Rattle.text_commands.specs.LineFaults.{◌>>=◌, of_names, of_store, Gives}
-use Rattle.text_commands.specs.declared.line_fault.JobFault.{JobFault}
-use Rattle.text_commands.specs.Replies.{Answered}
+use Rattle.job_faults.specs.declared.line_fault.LineFault.{LineFault}
+use Rattle.job_faults.specs.LineFaults.{◌>>=◌, of_names, of_store, Gives}
+use Rattle.job_faults.specs.declared.line_fault.JobFault.{JobFault}
+use Rattle.job_faults.specs.Replies.{Answered}
 use Rattle.store_commands.specs.Reports.{IsShown}
 use Rattle.store_commands.specs.Stores.{StoresOf, IsOfStore, IsHeld}
 

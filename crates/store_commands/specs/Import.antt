@@ -6,13 +6,13 @@ use Rattle.zone_core.specs.Sets.{listing}
 use Rattle.zone_core.specs.Zones.{ZoneOf, serial_of}
 use Rattle.store_faults.specs.declared.store_fault.StoreFault.{StoreFault}
 use Rattle.command_line.specs.declared.job.Existing.{Existing}
-use Rattle.text_commands.specs.declared.refusal.Refusal.{Refusal}
-use Rattle.text_commands.specs.declared.line_fault.LineFault.{LineFault}
-use Rattle.text_commands.specs.declared.line_fault.LineFault.TheVariants.{NoMemory}
-use Rattle.text_commands.specs.LineFaults.{◌>>=◌, Makes, GivesOf, of_store}
+use Rattle.job_faults.specs.declared.refusal.Refusal.{Refusal}
+use Rattle.job_faults.specs.declared.line_fault.LineFault.{LineFault}
+use Rattle.job_faults.specs.declared.line_fault.LineFault.TheVariants.{NoMemory}
+use Rattle.job_faults.specs.LineFaults.{◌>>=◌, Makes, GivesOf, of_store}
 use Rattle.text_commands.specs.Canon.{zone_read}
-use Rattle.text_commands.specs.declared.line_fault.JobFault.{JobFault}
-use Rattle.text_commands.specs.Replies.{Answered}
+use Rattle.job_faults.specs.declared.line_fault.JobFault.{JobFault}
+use Rattle.job_faults.specs.Replies.{Answered}
 use Rattle.store_commands.specs.Reports.{IsReported}
 use Rattle.store_commands.specs.Stores.{StoresOf, IsOfStore, IsStored}
 

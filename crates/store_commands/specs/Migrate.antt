@@ -1,11 +1,11 @@
 -- What is written of a store that was migrated.
 use Rattle.std.specs.Prelude.{◌≡◌, ⊤, ℕ, List, ◌∷◌, [], ◌++◌, codes, decimal, Option, None, Result, Ok, Err}
-use Rattle.text_commands.specs.declared.refusal.Refusal.{Refusal}
+use Rattle.job_faults.specs.declared.refusal.Refusal.{Refusal}
 use Rattle.store_faults.specs.declared.store_fault.StoreFault.{StoreFault}
-use Rattle.text_commands.specs.declared.line_fault.LineFault.{LineFault}
-use Rattle.text_commands.specs.LineFaults.{of_store}
-use Rattle.text_commands.specs.declared.line_fault.JobFault.{JobFault}
-use Rattle.text_commands.specs.Replies.{Answered}
+use Rattle.job_faults.specs.declared.line_fault.LineFault.{LineFault}
+use Rattle.job_faults.specs.LineFaults.{of_store}
+use Rattle.job_faults.specs.declared.line_fault.JobFault.{JobFault}
+use Rattle.job_faults.specs.Replies.{Answered}
 use Rattle.store_commands.specs.Reports.{IsReported}
 use Rattle.store_commands.specs.Stores.{StoresOf, IsOfStore, IsMigratedStore}
 

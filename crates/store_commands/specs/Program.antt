@@ -15,22 +15,22 @@ use Rattle.command_line.specs.declared.words.WordsFault.{WordsFault}
 use Rattle.command_line.specs.declared.words.WordsFault.TheVariants as fault
 use Rattle.command_line.specs.Words.{asks, job_of}
 use Rattle.command_line.specs.Misuse.{IsReported}
-use Rattle.text_commands.specs.declared.refusal.Refusal.{Refusal}
-use Rattle.text_commands.specs.declared.line_fault.LineFault.TheVariants.{NoMemory}
-use Rattle.text_commands.specs.declared.line_fault.JobFault.{JobFault}
+use Rattle.job_faults.specs.declared.refusal.Refusal.{Refusal}
+use Rattle.job_faults.specs.declared.line_fault.LineFault.TheVariants.{NoMemory}
+use Rattle.job_faults.specs.declared.line_fault.JobFault.{JobFault}
 use Rattle.text_commands.specs.declared.check.Findings.{Findings}
 use Rattle.text_commands.specs.declared.check.Findings.TheVariants.{Absent, Present}
 use Rattle.text_commands.specs.declared.check.Subject.{Subject}
 use Rattle.text_commands.specs.declared.check.Subject.TheVariants.{Rules, Isolation, Rights, Zone}
 use Rattle.text_commands.specs.declared.diff_fault.DiffFault.{DiffFault}
-use Rattle.text_commands.specs.Inputs.{InputOf}
+use Rattle.job_faults.specs.Inputs.{InputOf}
 use Rattle.text_commands.specs.Apply.{apply_text}
 use Rattle.text_commands.specs.Canon.{canon_text}
 use Rattle.text_commands.specs.Request.{request_text}
 use Rattle.text_commands.specs.Split.{split_text}
 use Rattle.text_commands.specs.Rights.{rights_text}
 use Rattle.text_commands.specs.Explain.{explain_text}
-use Rattle.text_commands.specs.Replies.{line_of, IsSent, Answered}
+use Rattle.job_faults.specs.Replies.{line_of, IsSent, Answered}
 use Rattle.text_commands.specs.Check.{Checked}
 use Rattle.text_commands.specs.Diff.{Differs}
 use Rattle.text_commands.specs.Plan.{IsPlanned}

@@ -1,11 +1,11 @@
 -- How what a command made, or the fault that it met, is written.
 use Rattle.std.specs.Prelude.{◌≡◌, ℕ, ◌<◌, List, Option, Result, Ok, Err}
 use Rattle.std.specs.Io.KnownBytes.{Appends}
-use Rattle.text_commands.specs.declared.line_fault.LineFault.{LineFault}
-use Rattle.text_commands.specs.declared.line_fault.JobFault.{JobFault}
-use Rattle.text_commands.specs.declared.line_fault.JobFault.TheVariants.{Reported, WriteFailed}
-use Rattle.text_commands.specs.Device.{AppendsFront}
-use Rattle.text_commands.specs.Replies.{IsRefusalWritten, IsPrinted}
+use Rattle.job_faults.specs.declared.line_fault.LineFault.{LineFault}
+use Rattle.job_faults.specs.declared.line_fault.JobFault.{JobFault}
+use Rattle.job_faults.specs.declared.line_fault.JobFault.TheVariants.{Reported, WriteFailed}
+use Rattle.job_faults.specs.Device.{AppendsFront}
+use Rattle.job_faults.specs.Replies.{IsRefusalWritten, IsPrinted}
 
 -- What was made, what the writer held before and after, how the command went, and the writer's failures before and after: the text is
 -- written, or the line of the fault.

@@ -10,14 +10,14 @@ use Rattle.office_wire.specs.declared.serve_fault.ServeFault.{ServeFault}
 use Rattle.store_faults.specs.declared.store_fault.StoreFault.{StoreFault}
 use Rattle.connections.specs.Connections.{AreReported, AreServedFrom}
 use Rattle.command_line.specs.declared.job.Service.{Service}
-use Rattle.text_commands.specs.declared.refusal.Refusal.{Refusal}
-use Rattle.text_commands.specs.LineFaults.{◌>>=◌, limited, of_policies, of_store, Makes, GivesOf}
-use Rattle.text_commands.specs.declared.line_fault.LineFault.{LineFault}
-use Rattle.text_commands.specs.declared.line_fault.LineFault.TheVariants.{Refused, ReadFailed, NoMemory}
-use Rattle.text_commands.specs.declared.line_fault.JobFault.{JobFault}
-use Rattle.text_commands.specs.declared.line_fault.JobFault.TheVariants.{WriteFailed}
-use Rattle.text_commands.specs.Device.{AppendsFront}
-use Rattle.text_commands.specs.Replies.{IsRefusalWritten}
+use Rattle.job_faults.specs.declared.refusal.Refusal.{Refusal}
+use Rattle.job_faults.specs.LineFaults.{◌>>=◌, limited, of_policies, of_store, Makes, GivesOf}
+use Rattle.job_faults.specs.declared.line_fault.LineFault.{LineFault}
+use Rattle.job_faults.specs.declared.line_fault.LineFault.TheVariants.{Refused, ReadFailed, NoMemory}
+use Rattle.job_faults.specs.declared.line_fault.JobFault.{JobFault}
+use Rattle.job_faults.specs.declared.line_fault.JobFault.TheVariants.{WriteFailed}
+use Rattle.job_faults.specs.Device.{AppendsFront}
+use Rattle.job_faults.specs.Replies.{IsRefusalWritten}
 use Rattle.sqlite.specs.State.{State as Shown, HasCleanDisk}
 use Rattle.office_store.specs.Holds.{HoldsState}
 use Rattle.store_commands.specs.Around.{Around}

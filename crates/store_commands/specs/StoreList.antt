@@ -11,10 +11,10 @@ use Rattle.office_rows.specs.Listed.{AreOriginsOf, AreReceiptsOf}
 use Rattle.store_faults.specs.StoreFaults.{IsFailure}
 use Rattle.office_store.specs.Holds.{HoldsState}
 use Rattle.office_store.specs.Queries.{AsksOnly}
-use Rattle.text_commands.specs.declared.line_fault.LineFault.{LineFault}
-use Rattle.text_commands.specs.declared.line_fault.LineFault.TheVariants.{NoMemory}
-use Rattle.text_commands.specs.declared.line_fault.JobFault.{JobFault}
-use Rattle.text_commands.specs.LineFaults.{of_store}
+use Rattle.job_faults.specs.declared.line_fault.LineFault.{LineFault}
+use Rattle.job_faults.specs.declared.line_fault.LineFault.TheVariants.{NoMemory}
+use Rattle.job_faults.specs.declared.line_fault.JobFault.{JobFault}
+use Rattle.job_faults.specs.LineFaults.{of_store}
 use Rattle.store_commands.specs.declared.zone_list.ZoneSummary.{ZoneSummary}
 use Rattle.store_commands.specs.declared.store_list.StoreList.{StoreList}
 use Rattle.store_commands.specs.ZoneList.{zones_text}

@@ -12,11 +12,11 @@ use Rattle.store_faults.specs.StoreFaults.{IsFailure}
 use Rattle.office_store.specs.Holds.{HoldsState}
 use Rattle.office_store.specs.Queries.{AsksOnly}
 use Rattle.command_line.specs.declared.job.LogChoice.{LogChoice}
-use Rattle.text_commands.specs.declared.refusal.Refusal.{Refusal}
-use Rattle.text_commands.specs.declared.line_fault.LineFault.{LineFault}
-use Rattle.text_commands.specs.declared.line_fault.LineFault.TheVariants.{NoMemory}
-use Rattle.text_commands.specs.declared.line_fault.JobFault.{JobFault}
-use Rattle.text_commands.specs.LineFaults.{◌>>=◌, of_names, of_store, Gives}
+use Rattle.job_faults.specs.declared.refusal.Refusal.{Refusal}
+use Rattle.job_faults.specs.declared.line_fault.LineFault.{LineFault}
+use Rattle.job_faults.specs.declared.line_fault.LineFault.TheVariants.{NoMemory}
+use Rattle.job_faults.specs.declared.line_fault.JobFault.{JobFault}
+use Rattle.job_faults.specs.LineFaults.{◌>>=◌, of_names, of_store, Gives}
 use Rattle.text_commands.specs.Plan.{caller_in}
 use Rattle.text_commands.specs.Check.{name_if}
 use Rattle.store_commands.specs.declared.log_choice.LogAsked.{LogAsked}

@@ -20,10 +20,10 @@ use Rattle.office_store.specs.Zones.{exported}
 use Rattle.command_line.specs.declared.job.Existing.{Existing}
 use Rattle.command_line.specs.declared.job.Existing.TheVariants.{Kept, Replaced}
 use Rattle.std.specs.Prelude.{pos}
-use Rattle.text_commands.specs.declared.refusal.Refusal.{Refusal}
-use Rattle.text_commands.specs.declared.refusal.Refusal.TheVariants.{Zone, Store}
-use Rattle.text_commands.specs.declared.line_fault.LineFault.{LineFault}
-use Rattle.text_commands.specs.declared.line_fault.LineFault.TheVariants.{Refused, ReadFailed, NoMemory}
+use Rattle.job_faults.specs.declared.refusal.Refusal.{Refusal}
+use Rattle.job_faults.specs.declared.refusal.Refusal.TheVariants.{Zone, Store}
+use Rattle.job_faults.specs.declared.line_fault.LineFault.{LineFault}
+use Rattle.job_faults.specs.declared.line_fault.LineFault.TheVariants.{Refused, ReadFailed, NoMemory}
 use Rattle.store_commands.specs.Puts.{put_into, with_put}
 
 -- a refusal of a store: its own, or of records that it builds a zone of

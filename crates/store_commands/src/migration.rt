@@ -2,7 +2,7 @@
 
 ghost use Rattle.std.specs.Prelude.{ℕ};
 ghost use Rattle.sqlite.specs.Held.{state};
-ghost use Rattle.text_commands.specs.Replies.{IsSent};
+ghost use Rattle.job_faults.specs.Replies.{IsSent};
 ghost use Rattle.store_commands.specs.Migrate.{migrated_line, migration_told, MigrationWritten, StoreMigrated};
 ghost use Rattle.store_commands.specs.Reports.{IsReported};
 ghost use Rattle.store_commands.specs.Stores.{stores_of};
@@ -12,10 +12,10 @@ use crate::store_file::migrate_store;
 use connections::write_texts;
 use dns_master::{DeviceFailed, Sink};
 use itoa::Buffer;
+use job_faults::{JobFault, LineFault, write_refusal};
 use office_store::StoreFault;
 use sqlite::{Alter, Connection};
 use std::alloc::Global;
-use text_commands::{JobFault, LineFault, write_refusal};
 
 /// Writes the line that tells how many zones a migration changed. It takes no memory, so that memory cannot run out after the migration.
 fn tell_migrated<W: Sink>(writer: &mut W, zones: usize) -> Result<(), DeviceFailed>

@@ -18,12 +18,13 @@ use command_line::{
     DiffForm, Job, RequestForm, StoreJob, TextJob, WordsFault, ZoneFiles, read_words,
 };
 use dns_master::{Sink, Source};
+use job_faults::{Input, JobFault, NO_MEMORY_LINE, write_text};
 use sqlite::{Alter, Connection};
 use std::fmt::Display;
 use std::process::ExitCode;
 use text_commands::{
-    Apply, Canon, DiffFault, Explain, Findings, Input, JobFault, NO_MEMORY_LINE, Request, Split,
-    Subject, Task, do_check, do_diff, do_plan, write_text,
+    Apply, Canon, DiffFault, Explain, Findings, Request, Split, Subject, Task, do_check, do_diff,
+    do_plan,
 };
 
 /// Says in words on standard error why a job was not done.

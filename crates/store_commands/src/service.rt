@@ -3,7 +3,7 @@
 ghost use Rattle.std.specs.Prelude.{◌≡◌, ◌<◌, ⊤, ℕ, List, Option, IfErr, IfOk, string_bytes};
 ghost use Rattle.office_wire.specs.declared.serve_fault.ServeFault.{ServeFault as FaultOf};
 ghost use Rattle.sqlite.specs.Held.{state};
-ghost use Rattle.text_commands.specs.LineFaults.{GivesOf};
+ghost use Rattle.job_faults.specs.LineFaults.{GivesOf};
 ghost use Rattle.store_commands.specs.Stores.{stores_of};
 ghost use Rattle.connections.specs.Connections.{AreReported, AreServedFrom};
 ghost use Rattle.store_commands.specs.Serve.{policy_read, most_of, listening_line, IsNoListener, IsServiceTold, IsServedBy, BeginsBy, Serves};
@@ -17,6 +17,7 @@ use command_line::Service;
 use connections::{Connections, Diagnosis, patience_of, serve_connections};
 use dns_master::Sink;
 use grant_policy::{Policy, read_policy};
+use job_faults::{JobFault, LineFault, write_refusal, write_text};
 use office_state::ZoneTable;
 use office_store::SqlTable;
 use sqlite::{Alter, Connection};
@@ -24,7 +25,6 @@ use std::alloc::{AllocError, Global};
 use std::marker::Brand;
 use std::net::{SocketAddr, TcpListener};
 use std::sync::ledger::{Blank, Ledger};
-use text_commands::{JobFault, LineFault, write_refusal, write_text};
 
 /// The policy of a path.
 fn policy_of<M: Surroundings>(around: &M, alloc: Global, path: &str) -> Result<Policy, LineFault>

@@ -21,13 +21,13 @@ use crate::zone_list::{ZoneSummary, zones_text};
 use crate::zones::report;
 use dns_master::Sink;
 use dns_names::Name;
+use job_faults::{JobFault, LineFault};
 use office_rows::KeptReceipt;
 use office_store::{SqlTable, StoreFault};
 use sqlite::{Alter, Connection};
 use std::alloc::Global;
 use std::marker::Brand;
 use std::sync::ledger::{Blank, Ledger};
-use text_commands::{JobFault, LineFault};
 use zone_core::{Change, Zone};
 
 /// What a store has: its zones, and its receipts.

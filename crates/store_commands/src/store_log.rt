@@ -3,7 +3,7 @@
 ghost use Rattle.std.specs.Prelude.{◌≡◌, option_map, string_bytes};
 ghost use Rattle.std.specs.Result.{result_map_both};
 ghost use Rattle.sqlite.specs.Held.{state};
-ghost use Rattle.text_commands.specs.LineFaults.{Gives};
+ghost use Rattle.job_faults.specs.LineFaults.{Gives};
 ghost use Rattle.store_commands.specs.Stores.{stores_of};
 ghost use Rattle.store_commands.specs.StoreLog.{caller_if, log_asked, log_in, IsLogRead, IsTextOf, LogPrinted};
 
@@ -17,13 +17,14 @@ use command_line::{LogChoice, StoredZone};
 use dns_master::Sink;
 use dns_names::Name;
 use grant_policy::Identifier;
+use job_faults::{JobFault, LineFault, write_refusal};
 use office_rows::KeptReceipt;
 use office_store::{SqlTable, StoreFault};
 use sqlite::{Alter, Connection};
 use std::alloc::Global;
 use std::marker::Brand;
 use std::sync::ledger::{Blank, Ledger};
-use text_commands::{JobFault, LineFault, name_if, read_caller, read_name, write_refusal};
+use text_commands::{name_if, read_caller, read_name};
 use zone_core::Change;
 
 /// What a store has of a zone: its changes, and the receipts of the store.

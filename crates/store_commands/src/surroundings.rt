@@ -1,13 +1,13 @@
 //! What is around the program: the machine, and the files that words name.
 
 ghost use Rattle.std.specs.Prelude.{⊤, Some, [], OnErr};
-ghost use Rattle.text_commands.specs.LineFaults.{GivesOf, limited};
+ghost use Rattle.job_faults.specs.LineFaults.{GivesOf, limited};
 ghost use Rattle.store_commands.specs.Around.{Around};
 
 use dns_master::DeviceFailed;
+use job_faults::{Input, LineFault};
 use std::alloc::Global;
 use std::net::{SocketAddr, TcpListener, TcpStream};
-use text_commands::{Input, LineFault};
 
 /// What the program runs in, beside its streams and the files of stores.
 pub trait Surroundings {

@@ -6,8 +6,8 @@ ghost use Rattle.sqlite.specs.Held.{state};
 ghost use Rattle.text_commands.specs.Canon.{zone_read, zone_text_in};
 ghost use Rattle.zone_core.specs.Zones.{ZoneOf};
 ghost use Rattle.store_commands.specs.Stores.{stores_of, IsReached, IsUnreached, IsPut, IsStored, IsRead};
-ghost use Rattle.text_commands.specs.LineFaults.{Makes, GivesOf, of_store};
-ghost use Rattle.text_commands.specs.declared.line_fault.LineFault.TheVariants.{NoMemory};
+ghost use Rattle.job_faults.specs.LineFaults.{Makes, GivesOf, of_store};
+ghost use Rattle.job_faults.specs.declared.line_fault.LineFault.TheVariants.{NoMemory};
 ghost use Rattle.store_commands.specs.Import.{imported_line, ImportWritten, ZoneStored};
 ghost use Rattle.store_commands.specs.Reports.{IsReported, IsShown};
 ghost use Rattle.store_commands.specs.Export.{ExportWritten, ZoneExported};
@@ -19,16 +19,14 @@ use command_line::{Existing, StoredZone, ZoneForm};
 use dns_data::Record;
 use dns_master::Sink;
 use dns_names::Name;
+use job_faults::{Input, JobFault, LineFault, ended, write_refusal, write_text};
 use office_store::{SqlTable, StoreFault};
 use sqlite::{Alter, Connection};
 use std::alloc::{AllocError, Global};
 use std::fmt::{self, Display, Formatter, Write};
 use std::marker::Brand;
 use std::sync::ledger::{Blank, Ledger};
-use text_commands::{
-    Input, JobFault, LineFault, ended, print_zone_in, read_name, read_zone, write_refusal,
-    write_text,
-};
+use text_commands::{print_zone_in, read_name, read_zone};
 use zone_core::Zone;
 
 /// The line that tells of a zone that it was imported: its origin, its serial, and the number of its records.

@@ -3,14 +3,14 @@ use Rattle.std.proofs.Common.{◌≡◌, ℕ, ◌<◌, List, Option, Ok, Err, in
 use Rattle.std.specs.Io.KnownBytes.{Appends}
 use Rattle.text_commands.specs.declared.check.Subject.{Subject}
 use Rattle.text_commands.specs.declared.check.Findings.{Findings}
-use Rattle.text_commands.specs.declared.line_fault.LineFault.{LineFault}
-use Rattle.text_commands.specs.declared.line_fault.LineFault.TheVariants.{Refused, ReadFailed, NoMemory}
-use Rattle.text_commands.specs.declared.line_fault.JobFault.{JobFault}
-use Rattle.text_commands.specs.declared.line_fault.JobFault.TheVariants.{Reported, WriteFailed}
-use Rattle.text_commands.specs.Device.{AppendsFront}
-use Rattle.text_commands.specs.LineFaults.{GivesOf}
-use Rattle.text_commands.specs.Refusals.{refused_line}
-use Rattle.text_commands.specs.Replies.{line_of, MayWrite, IsRefusalWritten}
+use Rattle.job_faults.specs.declared.line_fault.LineFault.{LineFault}
+use Rattle.job_faults.specs.declared.line_fault.LineFault.TheVariants.{Refused, ReadFailed, NoMemory}
+use Rattle.job_faults.specs.declared.line_fault.JobFault.{JobFault}
+use Rattle.job_faults.specs.declared.line_fault.JobFault.TheVariants.{Reported, WriteFailed}
+use Rattle.job_faults.specs.Device.{AppendsFront}
+use Rattle.job_faults.specs.LineFaults.{GivesOf}
+use Rattle.job_faults.specs.Refusals.{refused_line}
+use Rattle.job_faults.specs.Replies.{line_of, MayWrite, IsRefusalWritten}
 use Rattle.text_commands.specs.declared.check.Checking.{Checking}
 use Rattle.text_commands.specs.Check.{checked_read, ReportsOn, Reports, Checked}
 

@@ -7,10 +7,10 @@ use Rattle.dns_master.specs.declared.master_fault.MasterFault.{MasterFault}
 use Rattle.zone_core.specs.declared.refusals.ZoneFault.{ZoneFault}
 use Rattle.zone_core.specs.Sets.{Records}
 use Rattle.zone_core.specs.Zones.{ZoneOf, built, fault_in, latest, min_rrset_ttls, unless_fault}
-use Rattle.text_commands.specs.declared.refusal.Refusal.{Refusal}
-use Rattle.text_commands.specs.declared.line_fault.JobFault.{JobFault}
-use Rattle.text_commands.specs.LineFaults.{◌>>=◌, of_masters, of_zones}
-use Rattle.text_commands.specs.Replies.{Answered}
+use Rattle.job_faults.specs.declared.refusal.Refusal.{Refusal}
+use Rattle.job_faults.specs.declared.line_fault.JobFault.{JobFault}
+use Rattle.job_faults.specs.LineFaults.{◌>>=◌, of_masters, of_zones}
+use Rattle.job_faults.specs.Replies.{Answered}
 use Rattle.text_commands.specs.Canon.{zone_of_file}
 
 -- ---- the origin of a zone that was read

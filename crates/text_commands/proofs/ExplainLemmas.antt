@@ -1,9 +1,9 @@
 -- A task that reads nothing.
 use Rattle.std.proofs.Common.{◌≡◌, ℕ, List, [], Option, Some, None, Result, Ok, Err, refl}
-use Rattle.text_commands.specs.declared.refusal.Refusal.{Refusal}
-use Rattle.text_commands.specs.declared.line_fault.LineFault.{LineFault}
-use Rattle.text_commands.specs.declared.line_fault.LineFault.TheVariants.{Refused, ReadFailed, NoMemory}
-use Rattle.text_commands.specs.LineFaults.{Makes, Gives, GivesOf}
+use Rattle.job_faults.specs.declared.refusal.Refusal.{Refusal}
+use Rattle.job_faults.specs.declared.line_fault.LineFault.{LineFault}
+use Rattle.job_faults.specs.declared.line_fault.LineFault.TheVariants.{Refused, ReadFailed, NoMemory}
+use Rattle.job_faults.specs.LineFaults.{Makes, Gives, GivesOf}
 
 -- what is made of no input is made of any
 unread : {Y : Type 0} (left : Option (List ℕ)) (made found : Result Y Refusal) → made ≡ found → Makes left (λ input. made) found

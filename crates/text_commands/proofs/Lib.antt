@@ -1,12 +1,8 @@
-pub mod DeviceLemmas
 pub mod ItemLemmas
-pub mod JobLemmas
 pub mod LineLemmas
 pub mod PartLemmas
 pub mod PlanLemmas
 pub mod ReadAgainLemmas
-pub mod SendLemmas
-pub mod StepLemmas
 pub mod ExplainLemmas
 pub mod GuardLaws
 pub mod OperationLaws
@@ -14,8 +10,6 @@ pub mod BesideLaws
 pub mod CheckLemmas
 pub mod DiffLaws
 pub mod DiffLemmas
-pub mod RefusalNumberLemmas
-pub mod RefusalTableLemmas
 pub mod SlotLemmas
 pub mod FillingLemmas
 pub mod PieceLemmas

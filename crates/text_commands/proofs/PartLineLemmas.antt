@@ -5,9 +5,9 @@ use Rattle.std.proofs.lemmas.List.{map_more}
 use Rattle.zone_core.specs.Updates.{UpdateOf}
 use Rattle.zone_core.proofs.SetLemmas.{by_cases}
 use Rattle.office_json.specs.Reading.{update_of_body}
-use Rattle.text_commands.specs.declared.line_fault.LineFault.{LineFault}
-use Rattle.text_commands.specs.declared.refusal.Refusal.TheVariants.{BodyTooLarge}
-use Rattle.text_commands.specs.LineFaults.{Gives}
+use Rattle.job_faults.specs.declared.line_fault.LineFault.{LineFault}
+use Rattle.job_faults.specs.declared.refusal.Refusal.TheVariants.{BodyTooLarge}
+use Rattle.job_faults.specs.LineFaults.{Gives}
 use Rattle.text_commands.specs.Request.{body_line, identifier_in}
 use Rattle.text_commands.specs.Split.{numbered, part_update}
 use Rattle.text_commands.specs.PartLines.{ArePartLines, IsPartLine}

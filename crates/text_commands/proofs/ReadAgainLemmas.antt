@@ -19,7 +19,7 @@ use Rattle.zone_core.specs.Rebuilt.{AreAllOf}
 use Rattle.zone_core.proofs.RebuiltLemmas.{zones_are_rebuilt}
 use Rattle.zone_core.proofs.RowLemmas.{each_in, get-set_of, in_has}
 use Rattle.text_commands.specs.Canon.{ZonesAreReadAgain, zone_text_in}
-use Rattle.text_commands.specs.LineFaults.{◌>>=◌, of_masters, of_zones}
+use Rattle.job_faults.specs.LineFaults.{◌>>=◌, of_masters, of_zones}
 
 each : {X : Type 0} (P Q : X → Type 0) (xs : List X) → ((x : X) → P x → Q x) → AllByRecursion P xs → AllByRecursion Q xs
 each P Q [] f all = tt

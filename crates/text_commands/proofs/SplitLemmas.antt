@@ -1,7 +1,7 @@
 -- The bodies of parts, one behind the other.
 use Rattle.std.proofs.Common.{◌≡◌, ℕ, ◌+◌, ◌<◌, ◌≤◌, List, length, get_or, map, drop, Ok, ap}
 use Rattle.zone_core.specs.Updates.{UpdateOf}
-use Rattle.text_commands.specs.LineFaults.{◌>>=◌}
+use Rattle.job_faults.specs.LineFaults.{◌>>=◌}
 use Rattle.text_commands.specs.Split.{bodies_behind, with_body}
 use Rattle.text_commands.proofs.FillingLemmas.{drop_all, drop_next}
 

@@ -17,9 +17,9 @@ use Rattle.zone_core.specs.Effects.{zone_after}
 use Rattle.office_state.specs.declared.items_fault.ItemsFault.{ItemsFault}
 use Rattle.office_state.specs.declared.items_fault.ItemsFault.TheVariants.{BadLine}
 use Rattle.office_state.specs.Reading.{items_of}
-use Rattle.text_commands.specs.declared.refusal.Refusal.{Refusal}
-use Rattle.text_commands.specs.declared.refusal.Refusal.TheVariants.{NoDivider, Zone, Unmet}
-use Rattle.text_commands.specs.LineFaults.{◌>>=◌, or_refused, limited, of_masters, of_zones, of_items}
+use Rattle.job_faults.specs.declared.refusal.Refusal.{Refusal}
+use Rattle.job_faults.specs.declared.refusal.Refusal.TheVariants.{NoDivider, Zone, Unmet}
+use Rattle.job_faults.specs.LineFaults.{◌>>=◌, or_refused, limited, of_masters, of_zones, of_items}
 use Rattle.text_commands.specs.Parts.{Parts, divided}
 
 -- ---- the zone before the update

@@ -12,8 +12,8 @@ use Rattle.zone_core.specs.Views.{zone_in, AreOfZone}
 use Rattle.zone_core.specs.Zones.{ZoneOf, built}
 use Rattle.command_line.specs.declared.job.ZoneForm.{ZoneForm}
 use Rattle.command_line.specs.declared.job.ZoneForm.TheVariants.{Whole, Relative}
-use Rattle.text_commands.specs.declared.refusal.Refusal.{Refusal}
-use Rattle.text_commands.specs.LineFaults.{◌>>=◌, limited, of_names, of_masters, of_zones}
+use Rattle.job_faults.specs.declared.refusal.Refusal.{Refusal}
+use Rattle.job_faults.specs.LineFaults.{◌>>=◌, limited, of_names, of_masters, of_zones}
 
 -- the zone of an origin and a master file
 abbrev pub zone_of_file : List (List ℕ) → List ℕ → Result ZoneOf Refusal

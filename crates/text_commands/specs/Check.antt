@@ -26,19 +26,19 @@ use Rattle.text_commands.specs.declared.check.Checking.TheVariants as checking
 use Rattle.text_commands.specs.declared.check.Report.{Report}
 use Rattle.text_commands.specs.declared.check.Subject.{Subject}
 use Rattle.text_commands.specs.declared.check.Subject.TheVariants as subject
-use Rattle.text_commands.specs.declared.refusal.Refusal.{Refusal}
-use Rattle.text_commands.specs.declared.refusal.Refusal.TheVariants.{NoCaller}
-use Rattle.text_commands.specs.declared.line_fault.LineFault.{LineFault}
-use Rattle.text_commands.specs.declared.line_fault.LineFault.TheVariants.{Refused, ReadFailed, NoMemory}
-use Rattle.text_commands.specs.declared.line_fault.JobFault.{JobFault}
-use Rattle.text_commands.specs.declared.line_fault.JobFault.TheVariants.{Reported, WriteFailed}
-use Rattle.text_commands.specs.Device.{AppendsFront}
+use Rattle.job_faults.specs.declared.refusal.Refusal.{Refusal}
+use Rattle.job_faults.specs.declared.refusal.Refusal.TheVariants.{NoCaller}
+use Rattle.job_faults.specs.declared.line_fault.LineFault.{LineFault}
+use Rattle.job_faults.specs.declared.line_fault.LineFault.TheVariants.{Refused, ReadFailed, NoMemory}
+use Rattle.job_faults.specs.declared.line_fault.JobFault.{JobFault}
+use Rattle.job_faults.specs.declared.line_fault.JobFault.TheVariants.{Reported, WriteFailed}
+use Rattle.job_faults.specs.Device.{AppendsFront}
 use Rattle.text_commands.specs.Canon.{zone_of_file}
 use Rattle.text_commands.specs.ZoneCheck.{filter_of, IsZoneReport}
 use Rattle.text_commands.specs.RightsCheck.{IsRightsText}
-use Rattle.text_commands.specs.LineFaults.{◌>>=◌, or_refused, limited, of_names, of_policies, Makes, ReachesInput}
-use Rattle.text_commands.specs.Refusals.{refused_line}
-use Rattle.text_commands.specs.Replies.{line_of}
+use Rattle.job_faults.specs.LineFaults.{◌>>=◌, or_refused, limited, of_names, of_policies, Makes, ReachesInput}
+use Rattle.job_faults.specs.Refusals.{refused_line}
+use Rattle.job_faults.specs.Replies.{line_of}
 
 -- ---- what is checked
 

@@ -15,16 +15,16 @@ use Rattle.office_state.specs.Reading.{items_of}
 use Rattle.office_state.specs.Texts.{update_text}
 use Rattle.command_line.specs.declared.job.DiffForm.{DiffForm}
 use Rattle.command_line.specs.declared.job.DiffForm.TheVariants.{Bare, Guarded}
-use Rattle.text_commands.specs.declared.refusal.Refusal.{Refusal}
-use Rattle.text_commands.specs.declared.line_fault.JobFault.{JobFault}
+use Rattle.job_faults.specs.declared.refusal.Refusal.{Refusal}
+use Rattle.job_faults.specs.declared.line_fault.JobFault.{JobFault}
 use Rattle.text_commands.specs.declared.diff_fault.DiffFault.{DiffFault}
 use Rattle.text_commands.specs.declared.diff_fault.DiffFault.TheVariants.{Old, New}
-use Rattle.text_commands.specs.LineFaults.{◌>>=◌, limited, Makes}
-use Rattle.text_commands.specs.Replies.{Answered}
+use Rattle.job_faults.specs.LineFaults.{◌>>=◌, limited, Makes}
+use Rattle.job_faults.specs.Replies.{Answered}
 use Rattle.text_commands.specs.Canon.{zone_of_file, zone_read}
 use Rattle.text_commands.specs.Apply.{updated, zone_lines}
 use Rattle.text_commands.specs.Guards.{changes_set, guards_of}
-use Rattle.text_commands.specs.Inputs.{InputOf}
+use Rattle.job_faults.specs.Inputs.{InputOf}
 use Rattle.text_commands.specs.GuardPromises.{HaveSameSet, HasRoom, IsOfNoSet, IsOfOperation}
 
 -- the prerequisites before operations between two zones, in a form

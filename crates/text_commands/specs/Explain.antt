@@ -2,12 +2,12 @@
 use Rattle.std.specs.Prelude.{ℕ, List, Option, Some, None, Result, Ok}
 use Rattle.command_line.specs.declared.job.TextForm.{TextForm}
 use Rattle.command_line.specs.declared.job.TextForm.TheVariants.{Plain, Json}
-use Rattle.text_commands.specs.RefusalTables.{RowOf, rows}
-use Rattle.text_commands.specs.RefusalNumbers.{explained}
-use Rattle.text_commands.specs.RefusalTexts.{text_of, json_of}
-use Rattle.text_commands.specs.declared.refusal.Refusal.{Refusal}
-use Rattle.text_commands.specs.declared.refusal.Refusal.TheVariants.{UnknownNumber}
-use Rattle.text_commands.specs.LineFaults.{◌>>=◌, or_refused}
+use Rattle.job_faults.specs.RefusalTables.{RowOf, rows}
+use Rattle.job_faults.specs.RefusalNumbers.{explained}
+use Rattle.job_faults.specs.RefusalTexts.{text_of, json_of}
+use Rattle.job_faults.specs.declared.refusal.Refusal.{Refusal}
+use Rattle.job_faults.specs.declared.refusal.Refusal.TheVariants.{UnknownNumber}
+use Rattle.job_faults.specs.LineFaults.{◌>>=◌, or_refused}
 
 -- a row for each part of a number, and all rows without one
 abbrev pub rows_asked : Option (List ℕ) → Result (List RowOf) Refusal

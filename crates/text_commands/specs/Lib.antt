@@ -1,8 +1,3 @@
-pub mod Device
-pub mod Inputs
-pub mod Refusals
-pub mod LineFaults
-pub mod Replies
 pub mod Canon
 pub mod Parts
 pub mod Apply
@@ -24,7 +19,3 @@ pub mod Split
 pub mod PartLines
 pub mod SplitPromises
 pub mod Plan
-pub mod RefusalTables
-pub mod RefusalNumbers
-pub mod RefusalTexts
-pub mod RefusalLaws

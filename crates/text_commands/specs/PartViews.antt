@@ -2,9 +2,9 @@
 use Rattle.std.specs.Prelude.{ℕ, suc, List, [], ◌∷◌, ◌==◌, if◌then◌else◌, Result}
 use Rattle.dns_data.specs.declared.record.Record.{Record}
 use Rattle.zone_core.specs.Updates.{UpdateOf}
-use Rattle.text_commands.specs.declared.refusal.Refusal.{Refusal}
-use Rattle.text_commands.specs.declared.refusal.Refusal.TheVariants.{NoDivider}
-use Rattle.text_commands.specs.LineFaults.{◌>>=◌, or_refused}
+use Rattle.job_faults.specs.declared.refusal.Refusal.{Refusal}
+use Rattle.job_faults.specs.declared.refusal.Refusal.TheVariants.{NoDivider}
+use Rattle.job_faults.specs.LineFaults.{◌>>=◌, or_refused}
 use Rattle.text_commands.specs.Apply.{records_of, update_behind}
 use Rattle.text_commands.specs.declared.parts.InputParts.{InputParts}
 use Rattle.text_commands.specs.Parts.{Parts, divided}

@@ -17,16 +17,16 @@ use Rattle.office_core.specs.Machine.{zone_refusal}
 use Rattle.office_core.specs.Steps.{held_in, change_made}
 use Rattle.office_state.specs.ReplyWords.{reply_words}
 use Rattle.text_commands.specs.declared.plan.Asker.{Asker}
-use Rattle.text_commands.specs.declared.refusal.Refusal.{Refusal}
-use Rattle.text_commands.specs.declared.refusal.Refusal.TheVariants.{NoCaller, NoDivider}
-use Rattle.text_commands.specs.declared.line_fault.JobFault.{JobFault}
+use Rattle.job_faults.specs.declared.refusal.Refusal.{Refusal}
+use Rattle.job_faults.specs.declared.refusal.Refusal.TheVariants.{NoCaller, NoDivider}
+use Rattle.job_faults.specs.declared.line_fault.JobFault.{JobFault}
 use Rattle.text_commands.specs.declared.plan_fault.PlanFault.{PlanFault}
 use Rattle.text_commands.specs.declared.plan_fault.PlanFault.TheVariants.{Policy, Input}
-use Rattle.text_commands.specs.LineFaults.{◌>>=◌, or_refused, limited, of_policies, Makes}
-use Rattle.text_commands.specs.Replies.{Answered}
+use Rattle.job_faults.specs.LineFaults.{◌>>=◌, or_refused, limited, of_policies, Makes}
+use Rattle.job_faults.specs.Replies.{Answered}
 use Rattle.text_commands.specs.Parts.{divided}
 use Rattle.text_commands.specs.Apply.{zone_of_text, update_behind}
-use Rattle.text_commands.specs.Inputs.{InputOf}
+use Rattle.job_faults.specs.Inputs.{InputOf}
 
 -- ---- who asks
 

@@ -3,9 +3,9 @@ use Rattle.std.specs.Prelude.{ℕ, List, [], ◌∷◌, ◌++◌, length, nat_lt
 use Rattle.grant_policy.specs.Reading.{identifier_of}
 use Rattle.office_state.specs.Reading.{items_of}
 use Rattle.office_json.specs.UpdateTexts.{update_text}
-use Rattle.text_commands.specs.declared.refusal.Refusal.{Refusal}
-use Rattle.text_commands.specs.declared.refusal.Refusal.TheVariants.{NoIdentifier, BodyTooLarge}
-use Rattle.text_commands.specs.LineFaults.{◌>>=◌, limited, of_items, or_refused}
+use Rattle.job_faults.specs.declared.refusal.Refusal.{Refusal}
+use Rattle.job_faults.specs.declared.refusal.Refusal.TheVariants.{NoIdentifier, BodyTooLarge}
+use Rattle.job_faults.specs.LineFaults.{◌>>=◌, limited, of_items, or_refused}
 
 -- the identifier that a word is
 abbrev pub identifier_in : List ℕ → Result (List ℕ) Refusal

@@ -6,11 +6,11 @@ use Rattle.grant_policy.specs.Rules.{Question}
 use Rattle.grant_policy.specs.Decisions.{Verdict, granted, denied, decision, decider}
 use Rattle.grant_policy.specs.Documents.{document_of}
 use Rattle.grant_policy.specs.Reading.{identifier_of, type_of, policy_of}
-use Rattle.text_commands.specs.declared.refusal.Refusal.{Refusal}
-use Rattle.text_commands.specs.declared.refusal.Refusal.TheVariants.{NoCaller, TypeNotKept, NoAction}
+use Rattle.job_faults.specs.declared.refusal.Refusal.{Refusal}
+use Rattle.job_faults.specs.declared.refusal.Refusal.TheVariants.{NoCaller, TypeNotKept, NoAction}
 use Rattle.command_line.specs.declared.job.QuestionWords.{QuestionWords}
 use Rattle.text_commands.specs.declared.rights.QuestionRead.{QuestionRead}
-use Rattle.text_commands.specs.LineFaults.{◌>>=◌, or_refused, limited, of_names, of_policies}
+use Rattle.job_faults.specs.LineFaults.{◌>>=◌, or_refused, limited, of_names, of_policies}
 
 -- what words ask, or the refusal of the first that is refused: the caller, the name, the type, the action
 abbrev pub question_of : QuestionWords → Result Question Refusal

@@ -12,9 +12,9 @@ use Rattle.office_state.specs.Reading.{lists_of}
 use Rattle.office_state.specs.declared.items_fault.ItemsFault.TheVariants.{Update}
 use Rattle.office_state.specs.ItemFaults.{of_updates}
 use Rattle.office_json.specs.UpdateTexts.{update_text}
-use Rattle.text_commands.specs.declared.refusal.Refusal.{Refusal}
-use Rattle.text_commands.specs.declared.refusal.Refusal.TheVariants.{Items}
-use Rattle.text_commands.specs.LineFaults.{◌>>=◌, limited, of_items}
+use Rattle.job_faults.specs.declared.refusal.Refusal.{Refusal}
+use Rattle.job_faults.specs.declared.refusal.Refusal.TheVariants.{Items}
+use Rattle.job_faults.specs.LineFaults.{◌>>=◌, limited, of_items}
 use Rattle.text_commands.specs.Request.{body_line, identifier_in}
 use Rattle.text_commands.specs.Pieces.{split_of}
 

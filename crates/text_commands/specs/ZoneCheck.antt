@@ -15,9 +15,9 @@ use Rattle.text_commands.specs.declared.check.Findings.{Findings}
 use Rattle.text_commands.specs.declared.check.Findings.TheVariants.{Absent, Present}
 use Rattle.text_commands.specs.declared.zone_check.RuleFilter.{RuleFilter}
 use Rattle.text_commands.specs.declared.zone_check.RuleFilter.TheVariants as filter
-use Rattle.text_commands.specs.declared.refusal.Refusal.{Refusal}
-use Rattle.text_commands.specs.declared.refusal.Refusal.TheVariants.{NoRule}
-use Rattle.text_commands.specs.LineFaults.{◌>>=◌, or_refused}
+use Rattle.job_faults.specs.declared.refusal.Refusal.{Refusal}
+use Rattle.job_faults.specs.declared.refusal.Refusal.TheVariants.{NoRule}
+use Rattle.job_faults.specs.LineFaults.{◌>>=◌, or_refused}
 
 -- ---- the rules that are asked for
 

@@ -2,20 +2,17 @@
 
 ghost use Rattle.std.specs.Prelude.{◌≡◌, ◌+◌, ◌<◌, ◌≤◌, ◌^◌, length, [], None, Ok, IfOk, option_map};
 ghost use Rattle.zone_core.specs.Updates.{ActsWithin};
-ghost use Rattle.text_commands.specs.LineFaults.{Gives, GivesOf};
-ghost use Rattle.text_commands.specs.Replies.{IsPrinted};
+ghost use Rattle.job_faults.specs.LineFaults.{Gives, GivesOf};
+ghost use Rattle.job_faults.specs.Replies.{IsPrinted};
 ghost use Rattle.text_commands.specs.PartViews.{parts_in, records_in, update_in};
 ghost use Rattle.text_commands.specs.Apply.{origin_of, zone_of_records, records_of, line_ends, update_behind, first_unmet, zone_lines, updated, text_after, apply_text};
 
-use crate::device::{ended, write_refusal};
-use crate::input::{Input, read_input};
-use crate::line_fault::{JobFault, LineFault};
 use crate::parts::{InputParts, divided};
-use crate::refusal::Refusal;
 use crate::task::Task;
 use dns_data::{Data, Record};
 use dns_master::{Sink, print_records, read_file};
 use dns_names::Name;
+use job_faults::{Input, JobFault, LineFault, Refusal, ended, read_input, write_refusal};
 use office_state::{ItemsFault, read_items};
 use std::alloc::Global;
 use zone_core::{Outcome, Rcode, Update, Zone, ZoneFault, apply_owned, holds};

@@ -3,19 +3,17 @@
 ghost use Rattle.std.specs.Prelude.{◌≡◌};
 ghost use Rattle.dns_names.specs.Reading.{absolute_name};
 ghost use Rattle.dns_master.specs.Files.{file_of};
-ghost use Rattle.text_commands.specs.LineFaults.{Gives, GivesOf, of_names, of_masters};
-ghost use Rattle.text_commands.specs.Replies.{IsPrinted};
+ghost use Rattle.job_faults.specs.LineFaults.{Gives, GivesOf, of_names, of_masters};
+ghost use Rattle.job_faults.specs.Replies.{IsPrinted};
 ghost use Rattle.text_commands.specs.Canon.{zone_of_file, zone_read, zone_text_in, text_of_zone};
 ghost use Rattle.dns_master.specs.Device.{TextWritten};
 
-use crate::device::{ended, write_refusal};
-use crate::input::{Input, read_input};
-use crate::line_fault::{JobFault, LineFault};
 use crate::task::Task;
 use command_line::ZoneForm;
 use dns_data::Record;
 use dns_master::{MasterFault, Sink, print_relative_zone, print_zone, read_file};
 use dns_names::Name;
+use job_faults::{Input, JobFault, LineFault, ended, read_input, write_refusal};
 use std::alloc::Global;
 use zone_core::Zone;
 

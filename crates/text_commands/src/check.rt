@@ -4,13 +4,10 @@
 ghost use Rattle.std.specs.Prelude.{◌≡◌, ◌++◌, ◌<◌, ℕ, IfOk, OnOk, decimal, option_map};
 ghost use Rattle.text_commands.specs.RightsCheck.{IsRightsText};
 ghost use Rattle.dns_names.specs.Spelling.{name_text};
-ghost use Rattle.text_commands.specs.LineFaults.{Gives, GivesOf};
+ghost use Rattle.job_faults.specs.LineFaults.{Gives, GivesOf};
 ghost use Rattle.text_commands.specs.Check.{rules_in, name_if, asked_in, checking_of, checked_read, id_text, idle_head, idle_line, idle_text, findings_of, IsReport, right_text, other_text, exposure_line, isolation_line, exposures_of, IsIsolationReport, IsReportOn, Reports, Checked};
 
 use crate::canon::{read_name, zone_of_file};
-use crate::device::{write_refusal, write_text};
-use crate::input::{Input, read_input};
-use crate::line_fault::{JobFault, LineFault};
 use crate::rights::read_caller;
 use crate::rights_check::rights_list;
 use crate::zone_check::{RuleFilter, filter_of, zone_report};
@@ -20,6 +17,7 @@ use dns_names::Name;
 use grant_policy::{
     Exposure, Identifier, IdleRule, Policy, Right, Rule, idle_rules, isolation, read_policy,
 };
+use job_faults::{Input, JobFault, LineFault, read_input, write_refusal, write_text};
 use std::alloc::{AllocError, Global};
 use zone_core::Zone;
 

@@ -1,18 +1,16 @@
 //! The items that lead from one zone to another.
 
 ghost use Rattle.std.specs.Prelude.{◌≡◌, ◌<◌, ℕ, IfOk, string_bytes};
-ghost use Rattle.text_commands.specs.LineFaults.{Gives, GivesOf};
+ghost use Rattle.job_faults.specs.LineFaults.{Gives, GivesOf};
 ghost use Rattle.text_commands.specs.Diff.{prerequisites_in, items_between, items_to, diff_text, IsOldRead, Differs};
 
 use crate::canon::{read_zone, zone_of_file};
-use crate::device::{write_answer, write_refusal};
 use crate::diff_fault::DiffFault;
 use crate::guard::guards_of;
-use crate::input::{Input, read_input};
-use crate::line_fault::{JobFault, LineFault};
 use crate::task::Task;
 use command_line::DiffForm;
 use dns_master::Sink;
+use job_faults::{Input, JobFault, LineFault, read_input, write_answer, write_refusal};
 use office_state::lists_text;
 use std::alloc::{AllocError, Global};
 use zone_core::{Operation, Prerequisite, Zone};

@@ -1,7 +1,6 @@
 //! Why a diff did not go through.
 
-use crate::line_fault::{JobFault, LineFault};
-use crate::refusal::Refusal;
+use job_faults::{JobFault, LineFault, Refusal};
 use std::fmt::{self, Display, Formatter, Write};
 
 /// Why a diff did not go through, and of which zone's file.

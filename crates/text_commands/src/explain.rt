@@ -1,20 +1,17 @@
 //! The number of a refusal, in words.
 
 ghost use Rattle.std.specs.Prelude.{◌≡◌, IfOk, map, option_map, string_bytes};
-ghost use Rattle.text_commands.specs.RefusalNumbers.{row_of};
-ghost use Rattle.text_commands.specs.LineFaults.{Gives};
+ghost use Rattle.job_faults.specs.RefusalNumbers.{row_of};
+ghost use Rattle.job_faults.specs.LineFaults.{Gives};
 ghost use Rattle.text_commands.specs.Explain.{rows_asked, rows_text, explain_made, explain_text};
 
-use crate::device::write_answer;
-use crate::input::Input;
-use crate::line_fault::{JobFault, LineFault};
-use crate::refusal::Refusal;
-use crate::refusal_number::{all_rows, explained};
-use crate::refusal_row::RefusalRow;
-use crate::refusal_text::{json_text, plain_text};
 use crate::task::Task;
 use command_line::TextForm;
 use dns_master::Sink;
+use job_faults::{
+    Input, JobFault, LineFault, Refusal, RefusalRow, all_rows, explained, json_text, plain_text,
+    write_answer,
+};
 use std::alloc::{AllocError, Global};
 
 /// The rows of a number that the program prints, and all where none is given.

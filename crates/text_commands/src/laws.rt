@@ -5,7 +5,6 @@ ghost use Rattle.text_commands.specs.Canon.{ZonesAreReadAgain};
 ghost use Rattle.text_commands.specs.Diff.{DiffsLead, DiffsAreMet, DiffsTell, OperationsTell, DiffsHaveRoom, DiffsAreMadeBeside, OperationsAreGuarded, DiffsAreApplied};
 ghost use Rattle.text_commands.specs.Parts.{Parts, IsDivided, divided};
 ghost use Rattle.text_commands.specs.SplitPromises.{SplitsArePartsOf, SplitsHaveFewItems, AdvancesKeepOrder};
-ghost use Rattle.text_commands.specs.RefusalLaws.{RowsAreOfTheirNumber, NumbersAreApart, TextsArePlain};
 
 /// A text is parted at its first line that is a divider, and at no other place.
 pub fn text_is_divided()
@@ -45,19 +44,4 @@ pub fn splits_are_parts()
     ensures parts { SplitsArePartsOf }
     ensures few { SplitsHaveFewItems }
     ensures serials { AdvancesKeepOrder }
-{}
-
-/// The rows of a refusal's number are those of its parts.
-pub fn rows_are_of_their_number()
-    ensures { RowsAreOfTheirNumber }
-{}
-
-/// Each number, and each code, has one row.
-pub fn numbers_are_apart()
-    ensures { NumbersAreApart }
-{}
-
-/// No text of the table of refusals needs an escape in JSON.
-pub fn texts_are_plain()
-    ensures { TextsArePlain }
 {}

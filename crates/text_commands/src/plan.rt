@@ -4,19 +4,17 @@ ghost use Rattle.std.specs.Prelude.{◌≡◌, ◌++◌, ◌<◌, ℕ, IfOk, OnO
 ghost use Rattle.zone_core.specs.Changes.{change_in};
 ghost use Rattle.zone_core.specs.Updates.{ActsWithin};
 ghost use Rattle.zone_core.specs.Effects.{zone_after};
-ghost use Rattle.text_commands.specs.LineFaults.{Gives, GivesOf};
+ghost use Rattle.job_faults.specs.LineFaults.{Gives, GivesOf};
 ghost use Rattle.text_commands.specs.Plan.{asker_in, asker_of, asker_read, reply_line, signed_lines, change_lines, serial_line, planned, plan_behind, plan_text, IsAskerRead, IsPlanned};
 
 use crate::apply::{InputRead, read_parts, zone_of_records};
-use crate::device::{write_answer, write_refusal};
-use crate::input::{Input, read_input};
-use crate::line_fault::{JobFault, LineFault};
 use crate::plan_fault::PlanFault;
 use crate::rights::read_caller;
 use crate::task::Task;
 use dns_data::Record;
 use dns_master::Sink;
 use grant_policy::{Identifier, Policy, read_policy};
+use job_faults::{Input, JobFault, LineFault, read_input, write_answer, write_refusal};
 use office_core::{UpdateReply, plan};
 use office_state::reply_words;
 use std::alloc::{AllocError, Global};

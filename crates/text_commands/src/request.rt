@@ -1,17 +1,14 @@
 //! The body of an update, from its items.
 
 ghost use Rattle.std.specs.Prelude.{string_bytes};
-ghost use Rattle.text_commands.specs.LineFaults.{Gives, GivesOf, of_items};
+ghost use Rattle.job_faults.specs.LineFaults.{Gives, GivesOf, of_items};
 ghost use Rattle.text_commands.specs.Request.{identifier_in, body_line, body_of_items, request_text};
 ghost use Rattle.office_state.specs.Reading.{items_of};
 
-use crate::device::write_answer;
-use crate::input::{Input, read_input};
-use crate::line_fault::{JobFault, LineFault};
-use crate::refusal::Refusal;
 use crate::task::Task;
 use dns_master::Sink;
 use grant_policy::{Identifier, IdentifierFault};
+use job_faults::{Input, JobFault, LineFault, Refusal, read_input, write_answer};
 use office_json::update_text;
 use office_state::read_items;
 use std::alloc::Global;

@@ -5,20 +5,17 @@ ghost use Rattle.dns_names.specs.Reading.{absolute_name};
 ghost use Rattle.grant_policy.specs.Decisions.{verdict_of};
 ghost use Rattle.grant_policy.specs.Reading.{identifier_of, type_of};
 ghost use Rattle.grant_policy.specs.Words.{action_of};
-ghost use Rattle.text_commands.specs.LineFaults.{Gives, GivesOf, or_refused};
+ghost use Rattle.job_faults.specs.LineFaults.{Gives, GivesOf, or_refused};
 ghost use Rattle.text_commands.specs.Rights.{question_in, question_of, verdict_line, decided_by, rights_text};
 
 use crate::canon::read_name;
-use crate::device::{write_refusal, write_text};
-use crate::input::{Input, read_input};
-use crate::line_fault::{JobFault, LineFault};
-use crate::refusal::Refusal;
 use crate::task::Task;
 use command_line::QuestionWords;
 use dns_data::RecordType;
 use dns_master::Sink;
 use dns_names::Name;
 use grant_policy::{Action, Decision, Identifier, IdentifierFault, LookUps, decide, read_policy};
+use job_faults::{Input, JobFault, LineFault, Refusal, read_input, write_refusal, write_text};
 use std::alloc::{AllocError, Global};
 
 /// What is asked of a policy.

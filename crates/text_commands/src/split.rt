@@ -4,24 +4,22 @@ ghost use Rattle.std.specs.Prelude.{◌≡◌, ◌<◌, ◌^◌, ◌++◌, ℕ, 
 ghost use Rattle.std.specs.List.{filter};
 ghost use Rattle.zone_core.specs.Updates.{adds_soa};
 ghost use Rattle.office_state.specs.Views.{lists_view};
-ghost use Rattle.text_commands.specs.LineFaults.{Gives, GivesOf};
+ghost use Rattle.job_faults.specs.LineFaults.{Gives, GivesOf};
 ghost use Rattle.text_commands.specs.Request.{identifier_in};
 ghost use Rattle.text_commands.specs.Slots.{lent};
 ghost use Rattle.text_commands.specs.Filling.{lent_operations, part_view};
 ghost use Rattle.text_commands.specs.PartLines.{IsPartLine, ArePartLines};
 ghost use Rattle.text_commands.specs.Split.{numbered, advance, advanced_data, advanced, part_update, part_body, with_body, bodies_behind, lists_in, split_items, split_text};
 
-use crate::device::write_answer;
 use crate::filling::Part;
 use crate::guard::adds_soa;
-use crate::input::{Input, read_input};
-use crate::line_fault::{JobFault, LineFault};
 use crate::pieces::split;
 use crate::request::{body_line, read_identifier};
 use crate::task::Task;
 use dns_data::{Data, Record, Serial, Soa};
 use dns_master::Sink;
 use grant_policy::Identifier;
+use job_faults::{Input, JobFault, LineFault, read_input, write_answer};
 use office_json::update_text;
 use office_state::{ItemLists, ItemsFault, read_item_lists};
 use std::alloc::{AllocError, Global};

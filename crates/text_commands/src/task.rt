@@ -1,12 +1,11 @@
 //! What the program does by reading an input and writing an answer.
 
 ghost use Rattle.std.specs.Prelude.{List, ℕ, Result};
-ghost use Rattle.text_commands.specs.declared.refusal.Refusal.{Refusal};
-ghost use Rattle.text_commands.specs.Replies.{Answered};
+ghost use Rattle.job_faults.specs.declared.refusal.Refusal.{Refusal};
+ghost use Rattle.job_faults.specs.Replies.{Answered};
 
-use crate::input::Input;
-use crate::line_fault::JobFault;
 use dns_master::Sink;
+use job_faults::{Input, JobFault};
 use std::alloc::Global;
 
 /// What is answered to an input.

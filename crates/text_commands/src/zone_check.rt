@@ -3,14 +3,13 @@
 ghost use Rattle.std.specs.Prelude.{◌≡◌, ◌++◌, ◌∷◌, [], IfOk, OnOk, option_map, string_bytes};
 ghost use Rattle.std.specs.List.{flat_map};
 ghost use Rattle.dns_data.specs.Text.{record_line};
-ghost use Rattle.text_commands.specs.LineFaults.{Gives};
+ghost use Rattle.job_faults.specs.LineFaults.{Gives};
 ghost use Rattle.text_commands.specs.ZoneCheck.{rule_named, filter_of, asks_for, line_by, finding_text, told, IsZoneReport};
 
 use crate::check::{Findings, Report};
-use crate::line_fault::LineFault;
-use crate::refusal::Refusal;
 use command_line::RuleChoice;
 use dns_data::Record;
+use job_faults::{LineFault, Refusal};
 use std::alloc::{AllocError, Global};
 use zone_core::Zone;
 use zone_tools::{Finding, ZoneRule, findings};

@@ -3,10 +3,9 @@
 use crate::commands::trials::{Devices, Trial, tried};
 use command_line::{QuestionWords, TextForm, ZoneForm};
 use dns_master::{Pieces, Sink, Source};
+use job_faults::JobFault;
 use std::alloc::{AllocError, Global};
-use text_commands::{
-    Apply, Canon, Explain, Findings, JobFault, Request, Split, Subject, Task, do_check,
-};
+use text_commands::{Apply, Canon, Explain, Findings, Request, Split, Subject, Task, do_check};
 
 /// How a device works.
 #[derive(Clone, Copy)]

@@ -3,7 +3,7 @@ use Rattle.std.specs.Result.{result_map_both}
 use Rattle.dns_data.specs.declared.record.Record.{Record}
 use Rattle.sqlite.specs.Held.{state}
 use Rattle.text_commands.specs.Canon.{zone_text_in}
-use Rattle.text_commands.specs.LineFaults.{of_store}
+use Rattle.job_faults.specs.LineFaults.{of_store}
 use Rattle.store_commands.specs.Stores.{stores_of}
 use Rattle.store_commands.proofs.FilesLemmas.{found_exported}
 use Rattle.store_commands.proofs.StoreLemmas.{export_told, shown_with}

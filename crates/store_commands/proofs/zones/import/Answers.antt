@@ -2,7 +2,7 @@ use Rattle.std.proofs.Common.{Err}
 use Rattle.std.specs.Prelude.{string_bytes}
 use Rattle.std.specs.Result.{result_map_both}
 use Rattle.sqlite.specs.Held.{state}
-use Rattle.text_commands.specs.LineFaults.{of_store}
+use Rattle.job_faults.specs.LineFaults.{of_store}
 use Rattle.store_commands.specs.Stores.{stores_of}
 use Rattle.store_commands.proofs.FilesLemmas.{put_read, put_unread}
 use Rattle.store_commands.proofs.StoreLemmas.{import_told}

@@ -2,8 +2,8 @@ use Rattle.std.proofs.lemmas.Result.{err_from_is_err_and}
 use Rattle.dns_names.specs.Reading.{absolute_name}
 use Rattle.zone_core.specs.Zones.{ZoneOf}
 use Rattle.text_commands.specs.Canon.{zone_of_file}
-use Rattle.text_commands.specs.LineFaults.{of_names}
-use Rattle.text_commands.proofs.StepLemmas.{words_refused, input_refused, made_of}
+use Rattle.job_faults.specs.LineFaults.{of_names}
+use Rattle.job_faults.proofs.StepLemmas.{words_refused, input_refused, made_of}
 use Rattle.text_commands.proofs.canon.read_zone.Goals as goal
 
 pub returns-in_err-origin : goal.returns-in_err-origin

@@ -2,7 +2,7 @@ use Rattle.std.proofs.lemmas.Result.{err_from_is_err_and}
 use Rattle.text_commands.specs.declared.check.Asked.{Asked}
 use Rattle.text_commands.specs.declared.check.Checking.{Checking}
 use Rattle.text_commands.specs.Check.{asked_in, checking_of}
-use Rattle.text_commands.proofs.StepLemmas.{words_refused, input_refused, made_of}
+use Rattle.job_faults.proofs.StepLemmas.{words_refused, input_refused, made_of}
 use Rattle.text_commands.proofs.check.checked_read.Goals as goal
 
 pub returns-in_err-wanted : goal.returns-in_err-wanted

@@ -3,7 +3,7 @@ use Rattle.std.proofs.lemmas.Result.{err_from_is_err_and}
 use Rattle.zone_core.specs.Zones.{ZoneOf}
 use Rattle.text_commands.specs.Canon.{zone_read}
 use Rattle.text_commands.specs.Diff.{old_text}
-use Rattle.text_commands.proofs.JobLemmas.{answered_told, text_refused}
+use Rattle.job_faults.proofs.JobLemmas.{answered_told, text_refused}
 use Rattle.text_commands.proofs.diff.old_zone.Goals as goal
 
 pub returns-in_err-write_refusal-in-Err : goal.returns-in_err-write_refusal-in-Err

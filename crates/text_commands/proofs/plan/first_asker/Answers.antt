@@ -1,7 +1,7 @@
 use Rattle.std.proofs.Common.{[], Err}
 use Rattle.std.proofs.lemmas.Result.{err_from_is_err_and}
 use Rattle.text_commands.specs.Plan.{asker_in, asker_read, asker_text}
-use Rattle.text_commands.proofs.JobLemmas.{answered_told, text_refused}
+use Rattle.job_faults.proofs.JobLemmas.{answered_told, text_refused}
 use Rattle.text_commands.proofs.plan.first_asker.Goals as goal
 
 pub returns-in_err-write_refusal-in-Err : goal.returns-in_err-write_refusal-in-Err

@@ -1,6 +1,6 @@
 use Rattle.std.proofs.lemmas.Result.{err_from_is_err_and}
 use Rattle.text_commands.specs.Plan.{asker_in, asker_of, caller_in}
-use Rattle.text_commands.proofs.StepLemmas.{words_refused, input_refused, made_of}
+use Rattle.job_faults.proofs.StepLemmas.{words_refused, input_refused, made_of}
 use Rattle.text_commands.proofs.plan.read_asker.Goals as goal
 
 pub returns-in_err-caller : goal.returns-in_err-caller

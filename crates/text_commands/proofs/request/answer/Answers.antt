@@ -2,7 +2,7 @@ use Rattle.std.proofs.Common.{Global}
 use Rattle.std.specs.Prelude.{string_bytes}
 use Rattle.std.proofs.lemmas.Result.{err_from_is_err_and}
 use Rattle.text_commands.specs.Request.{body_of_items, identifier_in}
-use Rattle.text_commands.proofs.StepLemmas.{words_refused, input_refused, made_of}
+use Rattle.job_faults.proofs.StepLemmas.{words_refused, input_refused, made_of}
 use Rattle.text_commands.proofs.request.answer.Goals as goal
 
 pub returns-in_err-id : goal.returns-in_err-id

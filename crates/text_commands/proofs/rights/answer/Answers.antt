@@ -1,7 +1,7 @@
 use Rattle.std.proofs.Common.{Vec, Global, ℕ}
 use Rattle.std.proofs.lemmas.Result.{err_from_is_err_and}
 use Rattle.text_commands.specs.Rights.{decided_by, question_in, question_of}
-use Rattle.text_commands.proofs.StepLemmas.{words_refused, input_refused, made_of}
+use Rattle.job_faults.proofs.StepLemmas.{words_refused, input_refused, made_of}
 use Rattle.text_commands.proofs.rights.answer.Goals as goal
 
 pub returns-in_err-asked : goal.returns-in_err-asked

@@ -1,7 +1,7 @@
 use Rattle.std.proofs.Common.{Ok, Err, sym, ap}
 use Rattle.grant_policy.proofs.WordLemmas.{type_read}
-use Rattle.text_commands.specs.LineFaults.{or_refused}
-use Rattle.text_commands.specs.declared.refusal.Refusal.TheVariants.{TypeNotKept}
+use Rattle.job_faults.specs.LineFaults.{or_refused}
+use Rattle.job_faults.specs.declared.refusal.Refusal.TheVariants.{TypeNotKept}
 use Rattle.text_commands.proofs.rights.read_type.Goals as goal
 
 pub returns-in-Ok : goal.returns-in-Ok

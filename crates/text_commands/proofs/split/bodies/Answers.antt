@@ -3,7 +3,7 @@ use Rattle.std.specs.Prelude.{string_bytes}
 use Rattle.text_commands.specs.Filling.{part_view}
 use Rattle.text_commands.specs.PartLines.{ArePartLines}
 use Rattle.text_commands.specs.Split.{bodies_behind, with_body}
-use Rattle.text_commands.proofs.StepLemmas.{given_before}
+use Rattle.job_faults.proofs.StepLemmas.{given_before}
 use Rattle.text_commands.proofs.SplitLemmas.{bodies_next}
 use Rattle.text_commands.proofs.PartLineLemmas.{lines_next}
 use Rattle.text_commands.proofs.split.bodies.Goals as goal

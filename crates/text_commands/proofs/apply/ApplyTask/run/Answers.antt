@@ -1,5 +1,5 @@
 use Rattle.text_commands.specs.Apply.{zone_lines, apply_text}
-use Rattle.text_commands.proofs.JobLemmas.{answered_printed, answered_told}
+use Rattle.job_faults.proofs.JobLemmas.{answered_printed, answered_told}
 use Rattle.text_commands.proofs.apply.ApplyTask.run.Goals as goal
 
 pub returns-in-Ok : goal.returns-in-Ok

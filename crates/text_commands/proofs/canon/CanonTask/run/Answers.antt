@@ -1,6 +1,6 @@
 use Rattle.zone_core.specs.Zones.{ZoneOf}
 use Rattle.text_commands.specs.Canon.{zone_read, text_of_zone, canon_text}
-use Rattle.text_commands.proofs.JobLemmas.{answered_printed, answered_told, text_made, text_refused}
+use Rattle.job_faults.proofs.JobLemmas.{answered_printed, answered_told, text_made, text_refused}
 use Rattle.text_commands.proofs.canon.CanonTask.run.Goals as goal
 
 pub returns-in-Ok : goal.returns-in-Ok

@@ -2,7 +2,7 @@ use Rattle.std.proofs.Common.{option_map}
 use Rattle.std.specs.Prelude.{string_bytes}
 use Rattle.text_commands.specs.Explain.{explain_made, explain_text}
 use Rattle.text_commands.proofs.ExplainLemmas.{unread_given}
-use Rattle.text_commands.proofs.JobLemmas.{answered_written}
+use Rattle.job_faults.proofs.JobLemmas.{answered_written}
 use Rattle.text_commands.proofs.explain.ExplainTask.run.Goals as goal
 
 pub returns : goal.returns

@@ -1,6 +1,6 @@
 use Rattle.std.specs.Prelude.{string_bytes}
 use Rattle.text_commands.specs.Plan.{asker_in, plan_text}
-use Rattle.text_commands.proofs.JobLemmas.{answered_written}
+use Rattle.job_faults.proofs.JobLemmas.{answered_written}
 use Rattle.text_commands.proofs.plan.AskerTask.run.Goals as goal
 
 pub returns : goal.returns

@@ -1,6 +1,6 @@
 use Rattle.std.specs.Prelude.{string_bytes}
 use Rattle.text_commands.specs.Request.{request_text}
-use Rattle.text_commands.proofs.JobLemmas.{answered_written}
+use Rattle.job_faults.proofs.JobLemmas.{answered_written}
 use Rattle.text_commands.proofs.request.RequestTask.run.Goals as goal
 
 pub returns : goal.returns

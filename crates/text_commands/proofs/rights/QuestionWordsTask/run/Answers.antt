@@ -1,7 +1,7 @@
 use Rattle.std.proofs.Common.{Vec, Global, ℕ}
 use Rattle.std.proofs.lemmas.Result.{err_from_is_err_and}
 use Rattle.text_commands.specs.Rights.{rights_text}
-use Rattle.text_commands.proofs.JobLemmas.{answered_front, answered_told}
+use Rattle.job_faults.proofs.JobLemmas.{answered_front, answered_told}
 use Rattle.text_commands.proofs.rights.QuestionWordsTask.run.Goals as goal
 
 pub returns-in_err-write_text-in-Ok : goal.returns-in_err-write_text-in-Ok

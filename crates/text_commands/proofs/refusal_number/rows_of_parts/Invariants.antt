@@ -1,9 +1,0 @@
-use Rattle.std.proofs.Common.{◌≡◌, map}
-use Rattle.text_commands.specs.declared.refusal_row.NumberPlace.TheVariants.{Start}
-use Rattle.text_commands.specs.RefusalNumbers.{row_of, rows_from}
-use Rattle.text_commands.proofs.RefusalNumberLemmas.{parts_from, with_front}
-use Rattle.text_commands.proofs.refusal_number.rows_of_parts.Given as goal
-
-abbrev pub invariant-loop-part : goal.invariant-loop-part
-invariant-loop-part l =
-    rows_from (map row_of l.all) Start (map (λ part. part.now) l.parts) ≡ with_front (map row_of l.found.items) (rows_from (map row_of l.all) l.place (parts_from l.parts l.part-index))
