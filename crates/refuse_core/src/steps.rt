@@ -1,9 +1,11 @@
 //! One step of the machine.
 
 ghost use Rattle.office_state.specs.States.{State};
+ghost use Rattle.office_core.specs.Bookmarks.{AreBookmarks};
 ghost use Rattle.office_core.specs.Steps.{Steps, Leaves, CountsReply};
 
 use grant_policy::{Identifier, Policy};
+use office_core::Bookmarks;
 use office_state::{Reply, Request, StepFault, TableFault, UpdateReply, ZoneTable};
 use std::alloc::Global;
 use zone_core::Failed;
@@ -49,4 +51,19 @@ pub fn left_by_step<T: ZoneTable>(
     ensures { T.is_honest table.new → (s : State) → T.holds table.old s → T.leaves table.old s s → Leaves (T.leaves table.new) policy.now s caller.now wanted.now result }
 {
     office_core::step(alloc, table, policy, caller, wanted)
+}
+
+/// `step_with_bookmarks`, beside another caller whose changes are counted too.
+pub fn step_with_bookmarks<T: ZoneTable>(
+    alloc: Global,
+    table: &mut T,
+    policy: &Policy,
+    bookmarks: &mut Bookmarks,
+    caller: &Identifier,
+    request: &Request,
+    _other: &Identifier,
+) -> Reply
+    ensures { T.is_honest table.new → (s : State) → T.holds table.old s → AreBookmarks policy.now s bookmarks.old → Steps (λ t. T.holds table.new t × AreBookmarks policy.now t bookmarks.new) policy.now s caller.now request.now result }
+{
+    office_core::step_with_bookmarks(alloc, table, policy, bookmarks, caller, request)
 }

@@ -63,6 +63,6 @@ pub fn zone_behind_failure<T: ZoneTable>(
     requires changed { T.is_honest table.old → (s : State) → T.holds table.old s → _changed.old ≡ zone_at (committed (addition_in added) s) at.now }
     ensures { T.is_honest table.new → OnErr result.0 (IfOk result.1 (λ zone. (s : State) → T.holds table.old s → zone ≡ zone_at s at.now)) }
 {
-    let made = table.commit(alloc, added);
-    (made, table.zone(alloc, at))
+    let done = table.commit(alloc, added);
+    (done, table.zone(alloc, at))
 }
