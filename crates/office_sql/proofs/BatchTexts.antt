@@ -1,6 +1,6 @@
 -- What each text means that writes or deletes rows.
 use Rattle.std.proofs.Common.{◌≡◌, ℕ, List, [], codes, refl}
-use Rattle.sqlite_schema.specs.declared.command.Command.TheVariants.{Insert, Delete}
+use Rattle.sqlite_schema.specs.declared.command.Command.TheVariants.{Insert, Update, Delete}
 use Rattle.sqlite_schema.specs.declared.command.Source.TheVariants.{Values}
 use Rattle.sqlite_tied.specs.Compute.{everything}
 use Rattle.sqlite.specs.Listing.{understood}
@@ -8,7 +8,7 @@ use Rattle.sqlite.proofs.Callers.{IsPlain, command_of}
 use Rattle.office_sql.specs.declared.layout.Layout.{Layout}
 use Rattle.office_sql.specs.declared.layout.Layout.TheVariants.{IndexAfterRecords, IndexLast}
 use Rattle.office_sql.specs.Tables.{office_schema}
-use Rattle.office_sql.proofs.Texts.{select_from, by_key, the_rowid, terms_1, terms_5, terms_6, terms_6_two, terms_6_three, terms_7, terms_7_two, terms_7_three}
+use Rattle.office_sql.proofs.Texts.{select_from, by_key, the_rowid, terms_1, terms_5, terms_6, terms_6_two, terms_6_three, terms_7, terms_7_two, terms_7_three, replaced_6}
 
 abbrev pub insert_meta_text : List ℕ
 insert_meta_text = codes "INSERT INTO meta VALUES (?)"
@@ -139,6 +139,19 @@ pub delete_record_plain : (l : Layout) → IsPlain (understood (office_schema l)
 unfolding understood everything
 delete_record_plain IndexAfterRecords = (refl, refl)
 delete_record_plain IndexLast = (refl, refl)
+
+abbrev pub replace_record_text : List ℕ
+replace_record_text = codes "UPDATE records SET origin = ?7, owner = ?8, type = ?9, data = ?10, ttl = ?11, owner_key = ?12 WHERE origin = ?1 AND owner = ?2 AND type = ?3 AND data = ?4"
+
+pub replace_record_is : (l : Layout) → command_of (understood (office_schema l) replace_record_text) ≡ Update 2 (record { lets = []; body = select_from 3 by_key replaced_6 })
+unfolding understood everything
+replace_record_is IndexAfterRecords = refl
+replace_record_is IndexLast = refl
+
+pub replace_record_plain : (l : Layout) → IsPlain (understood (office_schema l) replace_record_text)
+unfolding understood everything
+replace_record_plain IndexAfterRecords = (refl, refl)
+replace_record_plain IndexLast = (refl, refl)
 
 abbrev pub delete_meta_text : List ℕ
 delete_meta_text = codes "DELETE FROM meta"

@@ -1,5 +1,5 @@
 -- The changes of a zone from a number on and below another.
-use Rattle.std.proofs.Common.{◌≡◌, true, false, ◌&&◌, ℕ, ℤ, List, [], ◌∷◌, map, drop, codes, refl, ap, ◌∙◌, IsPermutation, bytes_eq}
+use Rattle.std.proofs.Common.{◌≡◌, false, ◌&&◌, ℕ, ℤ, List, [], ◌∷◌, map, drop, codes, refl, ap, ◌∙◌, IsPermutation, bytes_eq}
 use Rattle.std.specs.List.{list_all}
 use Rattle.std.specs.Ordering.{is_ge, is_lt, int_cmp}
 use Rattle.sqlite_value.specs.declared.keys.Collation.TheVariants.{Binary}

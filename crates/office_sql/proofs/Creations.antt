@@ -14,7 +14,6 @@ use Rattle.sqlite.specs.Listing.{understood}
 use Rattle.sqlite.specs.Does.{Tally, Does, lacks_sequence}
 use Rattle.sqlite.specs.State.{State, mode_of, Writes, Executes}
 use Rattle.sqlite.proofs.Callers.{IsPlain, command_of, statement_of, runs_as}
-use Rattle.office_sql.specs.declared.layout.Layout.{Layout}
 use Rattle.office_sql.specs.declared.layout.Layout.TheVariants.{IndexAfterRecords}
 use Rattle.office_sql.specs.Tables.{keyed, meta_columns, zones_columns, records_columns, receipts_columns, changes_columns, records as the_records, records_by_key, no_schema, with_meta, with_zones, with_records, with_index, with_receipts}
 use Rattle.office_sql.specs.Stores.{Stores}

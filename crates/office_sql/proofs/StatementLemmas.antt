@@ -1,5 +1,5 @@
 -- What each statement of a batch does to all rows.
-use Rattle.std.proofs.Common.{◌≡◌, ◌<◌, ℕ, ℤ, ◌^◌, ◌/◌, length, nat_le, true, false, not, List, [], ◌∷◌, ◌++◌, map, filter, drop, flat_map, codes, Ok, refl, sym, ap, subst, ◌∙◌, append-nil, arith}
+use Rattle.std.proofs.Common.{◌≡◌, ◌⊎◌, inl, inr, nat_lt, cond, ◌&&◌, Ordering, Less, Equal, Greater, ◌<◌, ℕ, ℤ, ◌^◌, ◌/◌, length, nat_le, true, false, not, List, [], ◌∷◌, ◌++◌, map, filter, drop, flat_map, codes, Ok, refl, sym, ap, subst, ◌∙◌, append-nil, arith}
 use Rattle.std.specs.List.{AllByRecursion, list_all}
 use Rattle.sqlite_value.specs.declared.value.Value.TheVariants.{Int, Null, Text}
 use Rattle.sqlite_value.specs.Order.{Row}
@@ -21,20 +21,35 @@ use Rattle.sqlite.proofs.Callers.{IsPlain, command_of}
 use Rattle.office_sql.specs.Rows.{RecordRowOf, ReceiptRowOf, ChangeRowOf, RowsOf, same_key}
 use Rattle.office_sql.specs.declared.layout.Layout.{Layout}
 use Rattle.office_sql.specs.declared.layout.Layout.TheVariants.{IndexAfterRecords, IndexLast}
-use Rattle.office_sql.specs.Tables.{layout_of, layout_in, receipts_tree, changes_tree, meta, zones, records, receipts, changes, meta_columns, zones_columns, records_columns, receipts_columns, changes_columns, office_schema, stored_version, stored_zone, stored_record, stored_receipt, stored_change}
+use Rattle.office_sql.specs.Tables.{layout_of, layout_in, receipts_tree, changes_tree, meta, zones, records, receipts, changes, meta_columns, zones_columns, records_columns, receipts_columns, changes_columns, zones_key, records_key, later_indexes, office_schema, stored_version, stored_zone, stored_record, stored_receipt, stored_change}
 use Rattle.office_sql.specs.Stores.{IsReadableRow, Stores}
 use Rattle.office_sql.specs.Holds.{Reads}
-use Rattle.office_sql.specs.Statements.{with_version, with_zone, with_record, with_receipt, with_change, with_each, without_record}
+use Rattle.office_sql.specs.Statements.{with_version, with_zone, with_record, with_receipt, with_change, with_each, without_record, with_replaced}
 use Rattle.office_sql.proofs.TransactionParts.{with_records, with_changes}
 use Rattle.std.proofs.Common.{bytes_eq}
 use Rattle.std.specs.Ordering.{int_eq}
 use Rattle.std.proofs.lemmas.Cmp.{int_eq_equiv}
 use Rattle.std.proofs.lemmas.List.{map-append}
+use Rattle.std.specs.Ordering.{is_eq, is_ne}
+use Rattle.std.proofs.lemmas.Bool.{and_from, not-true, cases_Bool}
+use Rattle.std.proofs.lemmas.Bool.Decides.{Decides-int_eq}
+use Rattle.std.proofs.lemmas.Slice.Eq.{bytes_eq-Decides}
+use Rattle.sqlite_value.proofs.OrderLemmas.{value_cmp-Int}
+use Rattle.sqlite_value.specs.Keys.{plain, first_key}
+use Rattle.sqlite_value.specs.Order.{value_cmp}
+use Rattle.sqlite_schema.specs.Rules.{agree, clashes, guards, differ, passes}
+use Rattle.sqlite_sql.specs.Ops.{binary, is_true}
+use Rattle.sqlite_sql.specs.declared.ops.BinaryOp.TheVariants.{Compare}
+use Rattle.sqlite_sql.specs.declared.ops.CompareOp.TheVariants.{Eq}
+use Rattle.sqlite_value.specs.declared.keys.Collation.TheVariants.{Binary}
+use Rattle.sqlite_trees.specs.Tree.{rowid}
+use Rattle.sqlite_schema.specs.declared.schema.Constraint.TheVariants.{Unique}
+use Rattle.sqlite_rules.proofs.ListLemmas.{all_has, test_has, some_from}
 use Rattle.office_sql.proofs.BatchTexts as the
-use Rattle.office_sql.proofs.Texts.{by_key, terms_1, terms_5}
-use Rattle.office_sql.proofs.Effects.{inserts, deletes}
+use Rattle.office_sql.proofs.Texts.{by_key, replaced_6, terms_1, terms_5}
+use Rattle.office_sql.proofs.Effects.{inserts, updates, deletes, IsLone}
 use Rattle.office_sql.proofs.Layouts.{reads_in}
-use Rattle.office_sql.proofs.Values.{bytes_eq_sym, same_text, same_number, and_true, cast_null, cast_int, hits, filter_stored}
+use Rattle.office_sql.proofs.Values.{bytes_eq_sym, same_text, same_number, equal_ints, told, and_true, cast_null, cast_int, hits, filter_stored, stores_last}
 
 pub plainly : (tree : ℕ) → nat_le (2 ^ 31) tree ≡ false → (db : Trees) → overlay db [] tree ≡ db tree
 plainly tree low db = rw low refl
@@ -213,6 +228,72 @@ deletes_record old new k count rows ran h =
       receipts = rw (it.0.others (receipts_tree l) (omega arith) (free_of_index_receipts l)) h.tables.receipts;
       changes = rw (it.0.others (changes_tree l) (omega arith) (free_of_index_changes l)) h.tables.changes;
     })
+
+-- ---- a record in the place of another
+
+same_id : (i j : ℤ) → is_eq (value_cmp (Int i) (Int j)) ≡ true → i ≡ j
+same_id i j same = (Decides-int_eq i j).0 (sym (equal_ints i j) ∙ ap is_eq (sym (value_cmp-Int i j)) ∙ same)
+
+differ_ids : (i j : ℤ) → is_eq (value_cmp (Int i) (Int j)) ≡ false → differ (Int i) (Int j) ≡ true
+unfolding binary
+differ_ids i j other = told (is_ne (value_cmp (Int i) (Int j))) ∙ ne_is (value_cmp (Int i) (Int j)) ∙ ap not other
+  where
+    ne_is : (o : Ordering) → is_ne o ≡ not (is_eq o)
+    ne_is Less = refl
+    ne_is Equal = refl
+    ne_is Greater = refl
+
+text_itself : (t : List ℕ) → is_true (binary (Compare Eq Binary) (Text t) (Text t)) ≡ true
+text_itself t = same_text t t ∙ (bytes_eq-Decides t t).1 refl
+
+number_itself : (n : ℤ) → is_true (binary (Compare Eq Binary) (Int n) (Int n)) ≡ true
+number_itself n = same_number n n ∙ (Decides-int_eq n n).1 refl
+
+abbrev record_key : List ℕ
+record_key = 1 ∷ 2 ∷ 3 ∷ 4 ∷ []
+
+agreed : (k : RecordRowOf) (i j : ℤ) → agree plain record_key (Int i ∷ stored_record k) record_key (Int j ∷ stored_record k) ≡ true
+unfolding first_key
+agreed k i j = rw (text_itself k.origin, text_itself k.owner, number_itself k.record_type, text_itself k.rdata) refl
+
+-- the key of `records` is that of one row
+lone_record : (l : Layout) (k : RecordRowOf) → IsLone l (codes "records") 3 records_columns (1 ∷ 2 ∷ 3 ∷ 4 ∷ []) 2 refl (plainly 3 refl) (stored_record k)
+lone_record l k next fits i j a b = go (cases_Bool (is_eq (value_cmp (Int i) (Int j))))
+  where
+    new : ℤ → Row
+    new id = Int id ∷ stored_record k
+
+    go : (is_eq (value_cmp (Int i) (Int j)) ≡ true) ⊎ (is_eq (value_cmp (Int i) (Int j)) ≡ false) → i ≡ j
+    go (inl same) = same_id i j same
+    go (inr other) =
+        let clash : clashes plain record_key (next 3) (new j) ≡ true =
+        some_from (λ r. agree plain record_key r record_key (new j) && differ (rowid r) (Int j)) (next 3) (new i) a (and_from _ _ (agreed k i j) (differ_ids i j other)) in
+        let rule = all_has (λ row. passes Unique (office_schema l) next records row ≡ true) (next 3) (new j) (fits.rules Unique (λ e. absurd (let x = e in cc))).1.1.0 b in
+        let holds : not (clashes plain record_key (next 3) (new j)) ≡ true = test_has (λ i. not (guards i records && clashes i.order i.columns (next 3) (new j))) (zones_key ∷ records_key ∷ later_indexes l) records_key rule (inr (inl refl)) in
+        absurd (let free = not-true _ holds in cc)
+
+pub replaces_record : (old new : State) (gone k : RecordRowOf) (count : ℕ) (rows : RowsOf) → IsReadableRow (stored_record k) → Executes the.replace_record_text (stored_record gone ++ stored_record k) old new (Ok count)
+    → Reads old.now rows → Reads new.now (with_replaced (nat_lt 0 count) gone k rows)
+replaces_record old new gone k count rows readable ran h =
+    let l = layout_in old.now.trees in
+    let r = receipts_between l in
+    let c = changes_between l in
+    let params = stored_record gone ++ stored_record k in
+    let it = updates l (codes "records") 3 records_columns (1 ∷ 2 ∷ 3 ∷ 4 ∷ []) 2 refl (plainly 3 refl) the.replace_record_text params old new h.schema (the.replace_record_plain l) count ran
+    by_key replaced_6 (hits by_key params) (stored_record k) (map stored_record rows.records) (the.replace_record_is l) (key_test params) (λ r. refl) readable (λ id. rw (cast_int id, cast_int k.record_type, cast_int k.ttl) refl) (lone_record l k) h.tables.records in
+    let others = filter_stored stored_record (λ x. not (hits by_key params x)) (λ r. not (same_key gone r)) (λ r. ap not (key_hits gone r)) rows.records in
+    let reads = λ (records : List RecordRowOf) (are : Stores (new.now.trees 3) (map stored_record records)).
+    reads_in l new.now (record rows { records = records }) (ap layout_of (it.0.others catalog_tree (omega arith) (free_of_index_catalog l))) it.0.schema (record {
+      versions = rw (it.0.others 0 (omega arith) (free_of_index_0 l)) h.tables.versions;
+      zones = rw (it.0.others 1 (omega arith) (free_of_index_1 l)) h.tables.zones;
+      records = are;
+      receipts = rw (it.0.others (receipts_tree l) (omega arith) (free_of_index_receipts l)) h.tables.receipts;
+      changes = rw (it.0.others (changes_tree l) (omega arith) (free_of_index_changes l)) h.tables.changes;
+    }) in
+    elim (nat_lt 0 count) as (λ b. Stores (new.now.trees 3) (cond b (stored_record k ∷ filter (λ y. not (hits by_key params y)) (map stored_record rows.records)) (filter (λ y. not (hits by_key params y)) (map stored_record rows.records))) → Reads new.now (with_replaced b gone k rows)) [
+      | true ↦ λ are. reads _ (stores_last stored_record (filter (λ r. not (same_key gone r)) rows.records) k (new.now.trees 3) (rw others at are))
+      | false ↦ λ are. reads _ (rw others at are)
+    ] it.1
 
 none_left : (xs : List Row) → filter (λ x. false) xs ≡ []
 none_left [] = refl

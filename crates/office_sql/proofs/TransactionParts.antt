@@ -1,7 +1,7 @@
 -- Parts of a transaction, and how they go on from one another.
-use Rattle.std.proofs.Common.{◌+◌, ◌<◌, ◌≤◌, ◌++◌, take, length, get_or, ◌≡◌, inl, ℕ, Bool, true, false, not, ◌&&◌, ◌||◌, List, [], ◌∷◌, Ok, Err, Result, OnOk, refl, sym, ap, subst, ◌∙◌, arith, filter, map, cond, append-nil, append_assoc}
+use Rattle.std.proofs.Common.{◌+◌, ◌-◌, ◌<◌, ◌≤◌, ◌++◌, take, drop, length, get_or, ◌≡◌, inl, ℕ, Bool, true, false, not, ◌&&◌, ◌||◌, List, [], ◌∷◌, Ok, Err, Result, OnOk, refl, sym, ap, subst, ◌∙◌, arith, filter, map, cond, append-nil, append_assoc}
 use Rattle.std.specs.List.{list_any}
-use Rattle.std.proofs.lemmas.List.{take_more}
+use Rattle.std.proofs.lemmas.List.{take_more, take_all}
 use Rattle.sqlite_value.specs.Order.{Row}
 use Rattle.sqlite.specs.declared.error.Error.{Error}
 use Rattle.sqlite.specs.State.{State, HasCleanDisk, KeepsCommit, Executes}
@@ -144,20 +144,45 @@ with_zones_of text [] rows = ap (λ (l : List (List ℕ)). let r : RowsOf = reco
 with_zones_of text (x ∷ xs) rows = with_zones_of text xs (with_zone (text x) rows) ∙ ap (λ (l : List (List ℕ)). let r : RowsOf = record rows { zones = l } in r) (push_twice rows.zones (text x) (map text xs))
 
 -- all parts of a batch, in turn
-pub written_in_turn : {X : Type 0} (text : X → List ℕ) (w : BatchOf) (zones : List X) → w.zones ≡ map text zones → (a b c d e f z : State)
-    → Part a b (without_records w.removed) → Part b c (with_each (λ x. with_zone (text x)) zones) → Part c d (with_each with_record w.added) → Part d e (with_each with_change w.changes)
-    → Part e f (with_each with_receipt w.receipts) → Part f z (λ rows. record rows { versions = versions_with w.version rows.versions }) → Part a z (written w)
-written_in_turn text w zones are a b c d e f z one two three four five six =
+pub written_in_turn : {X : Type 0} (text : X → List ℕ) (w : BatchOf) (zones : List X) → w.zones ≡ map text zones → (a b c d e z : State)
+    → Part a b (with_each (λ x. with_zone (text x)) zones) → Part b c (λ rows. with_each with_record w.added (without_records w.removed rows)) → Part c d (with_each with_change w.changes)
+    → Part d e (with_each with_receipt w.receipts) → Part e z (λ rows. record rows { versions = versions_with w.version rows.versions }) → Part a z (written w)
+written_in_turn text w zones are a b c d e z one two three four five =
     part_same a z _ (written w) (λ rows.
-    let gone = without_records w.removed rows in
-    let zoned : RowsOf = record gone { zones = rows.zones ++ w.zones } in
-    let added : RowsOf = record zoned { records = without w.removed rows.records ++ w.added } in
-    let changed : RowsOf = record added { changes = rows.changes ++ w.changes } in
+    let zoned : RowsOf = record rows { zones = rows.zones ++ w.zones } in
+    let changed_records : RowsOf = record zoned { records = without w.removed rows.records ++ w.added } in
+    let changed : RowsOf = record changed_records { changes = rows.changes ++ w.changes } in
     let kept : RowsOf = record changed { receipts = rows.receipts ++ w.receipts } in
-    let at_zones : with_each (λ x. with_zone (text x)) zones gone ≡ zoned = with_zones_of text zones gone ∙ ap (λ (l : List (List ℕ)). let r : RowsOf = record gone { zones = rows.zones ++ l } in r) (sym are) in
-    let at_added : with_each with_record w.added (with_each (λ x. with_zone (text x)) zones gone) ≡ added = ap (with_each with_record w.added) at_zones ∙ with_records w.added zoned in
-    let at_changed : with_each with_change w.changes (with_each with_record w.added (with_each (λ x. with_zone (text x)) zones gone)) ≡ changed = ap (with_each with_change w.changes) at_added ∙ with_changes w.changes added in
-    let at_kept : with_each with_receipt w.receipts (with_each with_change w.changes (with_each with_record w.added (with_each (λ x. with_zone (text x)) zones gone))) ≡ kept =
+    let put = λ (r : RowsOf). with_each with_record w.added (without_records w.removed r) in
+    let at_zones : with_each (λ x. with_zone (text x)) zones rows ≡ zoned = with_zones_of text zones rows ∙ ap (λ (l : List (List ℕ)). let r : RowsOf = record rows { zones = rows.zones ++ l } in r) (sym are) in
+    let at_records : put (with_each (λ x. with_zone (text x)) zones rows) ≡ changed_records = ap put at_zones ∙ with_records w.added (without_records w.removed zoned) in
+    let at_changed : with_each with_change w.changes (put (with_each (λ x. with_zone (text x)) zones rows)) ≡ changed = ap (with_each with_change w.changes) at_records ∙ with_changes w.changes changed_records in
+    let at_kept : with_each with_receipt w.receipts (with_each with_change w.changes (put (with_each (λ x. with_zone (text x)) zones rows))) ≡ kept =
     ap (with_each with_receipt w.receipts) at_changed ∙ with_receipts w.receipts changed in
     ap (λ (r : RowsOf). let q : RowsOf = record r { versions = versions_with w.version r.versions } in q) at_kept)
-    (part_then a f z _ _ (part_then a e f _ _ (part_then a d e _ _ (part_then a c d _ _ (part_then a b c _ _ one two) three) four) five) six)
+    (part_then a e z _ _ (part_then a d e _ _ (part_then a c d _ _ (part_then a b c _ _ one two) three) four) five)
+
+-- one row less before the others or behind them
+pub without_first : (k : RecordRowOf) (gone : List RecordRowOf) (rows : List RecordRowOf) → without (k ∷ gone) rows ≡ filter (λ r. not (same_key k r)) (without gone rows)
+without_first k gone rows =
+    filter_twice (λ r. not (same_key k r)) (λ r. not (list_any (λ g. same_key g r) gone)) (λ r. not (list_any (λ g. same_key g r) (k ∷ gone))) rows
+    (λ r. nor (same_key k r) (list_any (λ g. same_key g r) gone) ∙ both_ways (not (same_key k r)) (not (list_any (λ g. same_key g r) gone)))
+  where
+    both_ways : (a b : Bool) → (a && b) ≡ (b && a)
+    both_ways true true = refl
+    both_ways true false = refl
+    both_ways false true = refl
+    both_ways false false = refl
+
+-- a row in the place of the first that goes, once the others went, and before the others that come
+pub replaced_first : (k : RecordRowOf) (gone : List RecordRowOf) (x : RecordRowOf) (more : List RecordRowOf) (rows : RowsOf)
+    → with_each with_record more (with_record x (without_record k (without_records gone rows))) ≡ with_each with_record (x ∷ more) (without_records (k ∷ gone) rows)
+replaced_first k gone x more rows = ap (λ (l : List RecordRowOf). let r : RowsOf = record rows { records = l } in with_each with_record more (with_record x r)) (sym (without_first k gone rows.records))
+
+-- a slice is its first item and the others
+abbrev pub rest_of : {X : Type 0} → List X → List X
+rest_of xs = take (length xs - 1) (drop 1 xs)
+
+pub the_rest : {X : Type 0} (xs : List X) (x : X) → 1 ≤ length xs → x ≡ get_or xs 0 x → x ∷ rest_of xs ≡ xs
+the_rest [] x low is = absurd (omega (arith, low))
+the_rest (y ∷ xs) x low is = rw (is, take_all (length (y ∷ xs) - 1) xs (omega arith)) refl

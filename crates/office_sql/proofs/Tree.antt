@@ -11,11 +11,11 @@ use Rattle.sqlite_value.proofs.OrderLemmas.{value_cmp_total}
 use Rattle.sqlite_trees.specs.Tree.{rowid, has_rowid, put_row, without_rowid}
 use Rattle.sqlite_trees.specs.View.{is_int}
 use Rattle.sqlite_trees.proofs.TreeLemmas.{all-put_row}
-use Rattle.sqlite_trees.proofs.ListLemmas.{ascending-filter, all-filter, IsPermutation-filter}
+use Rattle.sqlite_trees.proofs.ListLemmas.{ascending-filter, all-filter, all-permutation, IsPermutation-filter}
 use Rattle.sqlite_rules.specs.Lists.{Has}
 use Rattle.sqlite_rules.specs.Edit.{id_in, is_taken, without_all}
 use Rattle.sqlite_rules.specs.Calls.{ids_of}
-use Rattle.sqlite_rules.proofs.ListLemmas.{has_filtered, has_kept, all_has, some_has, some_from}
+use Rattle.sqlite_rules.proofs.ListLemmas.{has_filtered, has_kept, all_has, all_from, some_has, some_from}
 use Rattle.sqlite_rules.proofs.TableLemmas.{int_is}
 use Rattle.office_sql.specs.Stores.{AreApart, IsReadableRow, Stores}
 use Rattle.office_sql.proofs.Rowids.{one_row, apart_put}
@@ -29,6 +29,16 @@ put_free new (r ∷ rows) free = go (value_cmp (rowid r) (rowid new)) (or_parts 
     go Less other more = IsPermutation-trans _ _ _ (IsPermutation-sym _ _ (IsPermutation-middle (r ∷ []) new rows)) (IsPermutation-cons r _ _ more)
     go Equal other more = absurd (let e : true ≡ false = other in cc)
     go Greater other more = IsPermutation-refl _
+
+all_put : (new : Row) (rows : List Row) → is_taken rows new ≡ false → AllByRecursion (Has (put_row new rows)) (new ∷ rows)
+all_put new rows free = all-permutation (Has (put_row new rows)) (put_row new rows) (new ∷ rows) (IsPermutation-sym _ _ (put_free new rows free)) (all_from (Has (put_row new rows)) (put_row new rows) (λ r h. h))
+
+-- the row that comes is there, and so are those that were
+pub has_new : (new : Row) (rows : List Row) → is_taken rows new ≡ false → Has (put_row new rows) new
+has_new new rows free = all_has (Has (put_row new rows)) (new ∷ rows) new (all_put new rows free) (inl refl)
+
+pub has_put : (new : Row) (rows : List Row) (r : Row) → is_taken rows new ≡ false → Has rows r → Has (put_row new rows) r
+has_put new rows r free there = all_has (Has (put_row new rows)) (new ∷ rows) r (all_put new rows free) (inr there)
 
 pub stores_put : (rows xs : List Row) (new : Row) → Stores rows xs → IsReadableRow (drop 1 new) → IsTrue (is_int (rowid new)) → is_taken rows new ≡ false
     → Stores (put_row new rows) (drop 1 new ∷ xs)

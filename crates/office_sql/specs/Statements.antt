@@ -1,5 +1,5 @@
 -- What each statement of a batch makes of all rows.
-use Rattle.std.specs.Prelude.{ℤ, ℕ, List, [], ◌∷◌, ◌++◌, not, filter}
+use Rattle.std.specs.Prelude.{ℤ, ℕ, Bool, true, false, List, [], ◌∷◌, ◌++◌, not, filter}
 use Rattle.office_sql.specs.Rows.{RecordRowOf, ReceiptRowOf, ChangeRowOf, RowsOf, same_key, without}
 
 abbrev pub with_version : ℤ → RowsOf → RowsOf
@@ -27,3 +27,8 @@ without_record gone rows = record rows { records = filter (λ r. not (same_key g
 
 abbrev pub without_records : List RecordRowOf → RowsOf → RowsOf
 without_records gone rows = record rows { records = without gone rows.records }
+
+-- the rows once a row came in the place of the one that had the key of another, if there was one
+abbrev pub with_replaced : Bool → RecordRowOf → RecordRowOf → RowsOf → RowsOf
+with_replaced true gone new rows = with_record new (without_record gone rows)
+with_replaced false gone new rows = without_record gone rows

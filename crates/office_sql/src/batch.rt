@@ -1,12 +1,12 @@
 //! Batch rows, all in one transaction.
 
-ghost use Rattle.std.specs.Prelude.{◌≡◌, ◌⊎◌, ◌∷◌, [], ℕ, Ok, false, IsTrue, OnOk, OnErr};
+ghost use Rattle.std.specs.Prelude.{◌≡◌, ◌⊎◌, ◌∷◌, [], ℕ, Ok, false, IsTrue, IfOk, OnOk, OnErr};
 ghost use Rattle.sqlite.specs.Values.{bound};
 ghost use Rattle.sqlite.specs.Held.{state};
 ghost use Rattle.sqlite.specs.State.{HasCleanDisk, Executes};
 ghost use Rattle.office_sql.specs.Rows.{RowsOf, versions_with, written};
 ghost use Rattle.office_sql.specs.Holds.{AreRows, Holds, Leaves, IsGoing, Keeps, Stays, Part};
-ghost use Rattle.office_sql.specs.Statements.{with_each, without_record, without_records};
+ghost use Rattle.office_sql.specs.Statements.{with_each, with_record, with_replaced, without_record, without_records};
 ghost use Rattle.office_sql.specs.Stores.{IsReadableRow};
 ghost use Rattle.office_sql.specs.Tables.{stored_record, stored_change};
 
@@ -15,6 +15,20 @@ use crate::rows::{Batch, ChangeRow, ReceiptRow, RecordRow};
 use crate::rows_fault::RowsFault;
 use sqlite::{Alter, Connection, Error, Transaction, params};
 use sqlite_value::value::ValueRef;
+
+/// Runs a statement in a transaction that is still open, and answers how many rows it wrote.
+pub(crate) fn run_counted<S: Alter>(
+    tx: &mut Transaction<'_, S>,
+    sql: &str,
+    params: &[ValueRef<'_>],
+) -> Result<usize, Error>
+    ensures same_reference { tx.new.conn.ghost_name ≡ tx.old.conn.ghost_name }
+    ensures stays { Stays (state S.Store tx.old.conn.now) (state S.Store tx.new.conn.now) }
+    ensures ran { HasCleanDisk (state S.Store tx.new.conn.now) → IfOk result (λ count. Executes sql.now (bound params.now) (state S.Store tx.old.conn.now) (state S.Store tx.new.conn.now) (Ok count)) }
+    ensures going { HasCleanDisk (state S.Store tx.new.conn.now) → OnOk result (IsGoing (state S.Store tx.new.conn.now)) }
+{
+    Ok(tx.execute(sql, params)?)
+}
 
 /// Runs a statement in a transaction that is still open.
 pub(crate) fn run<S: Alter>(
@@ -27,7 +41,7 @@ pub(crate) fn run<S: Alter>(
     ensures ran { HasCleanDisk (state S.Store tx.new.conn.now) → OnOk result ((count : ℕ) × Executes sql.now (bound params.now) (state S.Store tx.old.conn.now) (state S.Store tx.new.conn.now) (Ok count)) }
     ensures going { HasCleanDisk (state S.Store tx.new.conn.now) → OnOk result (IsGoing (state S.Store tx.new.conn.now)) }
 {
-    tx.execute(sql, params)?;
+    run_counted(tx, sql, params)?;
     Ok(())
 }
 
@@ -298,6 +312,63 @@ fn delete_records<S: Alter>(tx: &mut Transaction<'_, S>, removed: &[RecordRow]) 
     Ok(())
 }
 
+/// Puts a row in the place of the one that has the key of another, and answers whether there was one.
+fn update_record<'a, S: Alter>(
+    tx: &mut Transaction<'_, S>,
+    gone: &'a RecordRow,
+    new: &'a RecordRow,
+) -> Result<bool, Error>
+    ensures same_reference { tx.new.conn.ghost_name ≡ tx.old.conn.ghost_name }
+    ensures stays { Stays (state S.Store tx.old.conn.now) (state S.Store tx.new.conn.now) }
+    ensures part { IfOk result (λ found. Part (state S.Store tx.old.conn.now) (state S.Store tx.new.conn.now) (with_replaced found gone.now new.now)) }
+    ensures going { HasCleanDisk (state S.Store tx.new.conn.now) → OnOk result (IsGoing (state S.Store tx.new.conn.now)) }
+{
+    let count = run_counted(
+        tx,
+        "UPDATE records SET origin = ?7, owner = ?8, type = ?9, data = ?10, ttl = ?11, owner_key = ?12 WHERE origin = ?1 AND owner = ?2 AND type = ?3 AND data = ?4",
+        [gone.values(), new.values()].as_flattened(),
+    )?;
+    Ok(count > 0)
+}
+
+/// A row goes and another comes, in its place if it is there: what the two have alike is not written again.
+fn replace_record<'a, S: Alter>(
+    tx: &mut Transaction<'_, S>,
+    gone: &'a RecordRow,
+    new: &'a RecordRow,
+) -> Result<(), Error>
+    ensures same_reference { tx.new.conn.ghost_name ≡ tx.old.conn.ghost_name }
+    ensures stays { Stays (state S.Store tx.old.conn.now) (state S.Store tx.new.conn.now) }
+    ensures part { OnOk result (Part (state S.Store tx.old.conn.now) (state S.Store tx.new.conn.now) (λ rows. with_record new.now (without_record gone.now rows))) }
+    ensures going { HasCleanDisk (state S.Store tx.new.conn.now) → OnOk result (IsGoing (state S.Store tx.new.conn.now)) }
+{
+    if update_record(tx, gone, new)? {
+        return Ok(());
+    }
+    new.insert(tx)
+}
+
+/// Records that go, and then others that come. The first of these is put in the place of the first that goes: in a change
+/// of a zone both are its SOA.
+fn write_records<'a, S: Alter>(
+    tx: &mut Transaction<'_, S>,
+    removed: &'a [RecordRow],
+    added: &'a [RecordRow],
+) -> Result<(), Error>
+    ensures same_reference { tx.new.conn.ghost_name ≡ tx.old.conn.ghost_name }
+    ensures stays { Stays (state S.Store tx.old.conn.now) (state S.Store tx.new.conn.now) }
+    ensures part { OnOk result (Part (state S.Store tx.old.conn.now) (state S.Store tx.new.conn.now) (λ rows. with_each with_record added.now (without_records removed.now rows))) }
+    ensures going { IsGoing (state S.Store tx.old.conn.now) → HasCleanDisk (state S.Store tx.new.conn.now) → OnOk result (IsGoing (state S.Store tx.new.conn.now)) }
+{
+    let ([gone, removed @ ..], [new, added @ ..]) = (removed, added) else {
+        delete_records(tx, removed)?;
+        return insert_rows(tx, added);
+    };
+    delete_records(tx, removed)?;
+    replace_record(tx, gone, new)?;
+    insert_rows(tx, added)
+}
+
 fn set_version<S: Alter>(tx: &mut Transaction<'_, S>, version: Option<i64>) -> Result<(), Error>
     ensures same_reference { tx.new.conn.ghost_name ≡ tx.old.conn.ghost_name }
     ensures stays { Stays (state S.Store tx.old.conn.now) (state S.Store tx.new.conn.now) }
@@ -318,9 +389,8 @@ fn write_all<S: Alter>(tx: &mut Transaction<'_, S>, batch: &Batch) -> Result<(),
     ensures part { OnOk result (Part (state S.Store tx.old.conn.now) (state S.Store tx.new.conn.now) (written batch.now)) }
     ensures going { IsGoing (state S.Store tx.old.conn.now) → HasCleanDisk (state S.Store tx.new.conn.now) → OnOk result (IsGoing (state S.Store tx.new.conn.now)) }
 {
-    delete_records(tx, &batch.removed)?;
     insert_all(tx, &batch.zones)?;
-    insert_rows(tx, &batch.added)?;
+    write_records(tx, &batch.removed, &batch.added)?;
     insert_rows(tx, &batch.changes)?;
     insert_all(tx, &batch.receipts)?;
     set_version(tx, batch.version)

@@ -1,14 +1,12 @@
-use Rattle.std.proofs.Common.{◌≡◌, ◌∙◌, true, not, map, Err, IfErr, sym, ap, subst, rules}
+use Rattle.std.proofs.Common.{◌≡◌, ◌∙◌, true, not, map, IfErr, sym, ap, subst, rules}
 use Rattle.std.specs.List.{AllByRecursion, IsDistinct}
 use Rattle.std.specs.Ordering.{int_eq}
 use Rattle.sqlite.specs.Held.{state}
 use Rattle.sqlite.proofs.Callers.{shown_begins}
 use Rattle.office_sql.specs.declared.rows_fault.RowsFault.TheVariants.{BadRow}
 use Rattle.office_sql.specs.Holds.{IsSettled}
-use Rattle.office_sql.specs.Stores.{Stores}
 use Rattle.office_sql.proofs.Commits.{clean_if_open, if_ok_then, only_asks}
 use Rattle.office_sql.proofs.PlainQueries.{asks_only}
-use Rattle.office_sql.proofs.TransactionParts.{on_part}
 use Rattle.office_sql.proofs.WholeTables.{never_twice, stores_read}
 use Rattle.office_sql.proofs.scans.all.Goals as goal
 

@@ -1,9 +1,9 @@
-use Rattle.std.proofs.Common.{◌≡◌, ◌∙◌, ◌++◌, ◌∷◌, [], ℕ, ℤ, List, Err, IsTrue, None, Some, inl, inr, map, ap, sym, subst, arith}
+use Rattle.std.proofs.Common.{◌≡◌, ◌∙◌, ◌++◌, ◌∷◌, [], ℤ, List, Err, None, Some, inl, inr, ap, sym, subst, arith}
 use Rattle.std.specs.Prelude.{option_copied}
 use Rattle.sqlite_value.specs.Order.{Row}
-use Rattle.sqlite.specs.Given.{GivesOn, HasGiven, row_if}
+use Rattle.sqlite.specs.Given.{GivesOn, row_if}
 use Rattle.sqlite.specs.Held.{state}
-use Rattle.sqlite.specs.State.{HasCleanDisk, Begins}
+use Rattle.sqlite.specs.State.{HasCleanDisk}
 use Rattle.sqlite.proofs.Callers.{given_begin}
 use Rattle.office_sql.specs.Stores.{BeginNone, IsOneToOne, Numbers}
 use Rattle.sqlite.proofs.Callers.{unchanged_then}

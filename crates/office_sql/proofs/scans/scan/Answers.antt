@@ -2,8 +2,7 @@ use Rattle.std.proofs.Common.{◌≡◌, [], sym, subst, rules, arith}
 use Rattle.sqlite.specs.Effect.{Database}
 use Rattle.sqlite.specs.Held.{state}
 use Rattle.sqlite.specs.Listing.{understood}
-use Rattle.sqlite.specs.State.{HasCleanDisk, IsUnchanged}
-use Rattle.sqlite.specs.Given.{HasGiven}
+use Rattle.sqlite.specs.State.{HasCleanDisk}
 use Rattle.sqlite.proofs.Callers.{IsPlain, begun_plain}
 use Rattle.office_sql.proofs.Commits.{if_ok_then}
 use Rattle.office_sql.proofs.PlainQueries.{commits_nothing, plain_left, shown_from, writes_on}

@@ -1,4 +1,4 @@
-use Rattle.std.proofs.Common.{◌≡◌, ◌∙◌, [], ◌∷◌, codes, get_or, ap, sym, arith}
+use Rattle.std.proofs.Common.{◌∙◌, [], ◌∷◌, codes, get_or, ap, sym, arith}
 use Rattle.sqlite_schema.specs.declared.schema.Table.{Table}
 use Rattle.office_sql.specs.Tables.{keyed}
 use Rattle.office_sql.proofs.WholeTables.{seven}
