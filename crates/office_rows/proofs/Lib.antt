@@ -23,6 +23,7 @@ pub mod StateChecks
 pub mod ListedLemmas
 pub mod ZoneStepLemmas
 pub mod ReadZoneLemmas
+pub mod ReadChangeLemmas
 pub mod ListingLemmas
 pub mod RecordLemmas
 pub mod ChangeLemmas

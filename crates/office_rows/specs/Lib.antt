@@ -11,5 +11,6 @@ pub mod PartRows
 pub mod States
 pub mod Checks
 pub mod ReadZones
+pub mod ReadChanges
 pub mod Listed
 pub mod Batches

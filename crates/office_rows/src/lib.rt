@@ -25,6 +25,7 @@ mod replies;
 mod row_fault;
 mod side;
 pub mod state;
+mod zone_changes;
 pub mod zone_records;
 pub mod zones;
 
@@ -49,4 +50,5 @@ pub use replies::read_reply;
 pub use row_fault::RowFault;
 pub use side::Side;
 pub use state::check_receipts;
+pub use zone_changes::ZoneChanges;
 pub use zones::{check_changes, check_records, checked_origins};

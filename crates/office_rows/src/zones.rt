@@ -11,6 +11,7 @@ ghost use Rattle.office_rows.specs.ChangeRows.{row_of, IsChanged};
 ghost use Rattle.office_rows.specs.Orders.{rises};
 ghost use Rattle.office_rows.specs.Checks.{row_of_record, IsZoneRecord, AreOrigins, AreOriginRows, AreRecordsOf, AreChangesOf, AreRecordsInTurn, AreChangesInTurn, Checks, records_first, changes_first};
 ghost use Rattle.office_rows.specs.ReadZones.{IsReadAmong};
+ghost use Rattle.office_rows.specs.ReadChanges.{Tells};
 
 use crate::ascending::rise;
 use crate::changes::ChangedRecord;
@@ -18,6 +19,7 @@ use crate::gathering::{are_numbered, in_order};
 use crate::largest_zone::largest_zone;
 use crate::ordered::{ZoneRecord, sorted_origins, sorted_records};
 use crate::row_fault::RowFault;
+use crate::zone_changes::{ZoneChanges, longest_history};
 use dns_data::{Record, same_record};
 use dns_names::Name;
 use std::alloc::{AllocError, Global};
@@ -52,18 +54,24 @@ pub fn check_records(
     largest_zone(alloc, origins, &records)
 }
 
-/// Checks what the rows of `changes` are read as. It is `BadRow` where these are not the changes of zones of these origins, which are in
-/// canonical order, none twice.
-pub fn check_changes(origins: &[Name], changes: Vec<ChangedRecord>) -> Result<(), RowFault>
+/// Checks what the rows of `changes` are read as, and answers the changes of the zone that has most, if there is memory for them. The
+/// rows are `BadRow` where they are not the changes of zones of these origins, which are in canonical order, none twice. `NoMemory` comes
+/// where memory runs out before that is known.
+pub fn check_changes(
+    alloc: Global,
+    origins: &[Name],
+    changes: Vec<ChangedRecord>,
+) -> Result<Option<ZoneChanges>, RowFault>
     requires origins { AreOrigins origins.now }
     requires changes { AllByRecursion IsChanged changes.items }
-    ensures { Checks (AreChangesOf origins.now (map row_of changes.items)) result }
+    ensures check { Checks (AreChangesOf origins.now (map row_of changes.items)) result }
+    ensures longest { IfOk result (λ found. IfSome found (Tells (map row_of changes.items))) }
 {
     let changes = in_order(changes)?;
     if !are_changes_of(origins, &changes) {
         return Err(RowFault::BadRow);
     }
-    Ok(())
+    Ok(longest_history(alloc, origins, changes))
 }
 
 /// Whether each name stands before the next one in canonical order, so that none comes twice.

@@ -22,7 +22,7 @@ use Rattle.zone_cache.specs.History.{Remembers, are_hidden, hides, hides_each}
 use Rattle.zone_cache.proofs.HistoryLemmas.{remembers_committed}
 use Rattle.office_store.specs.History.{FitsHistory}
 use Rattle.office_store.specs.Cache.{FitsCache}
-use Rattle.office_store.specs.Holds.{HoldsState}
+use Rattle.office_store.specs.Holds.{HoldsState, LeavesStates}
 use Rattle.office_store.specs.Queries.{Asked}
 use Rattle.office_store.specs.Turns.{Turns}
 use Rattle.office_store.proofs.CacheLemmas.{one_zone}
@@ -42,6 +42,10 @@ take_few (suc most) (x ∷ xs) = ap (λ (l : List _). x ∷ l) (take_few most xs
 -- nothing is remembered of a state that is held
 pub history_none : (conn : Shown) (cached : _) → FitsCache conn cached → FitsHistory conn None
 history_none conn cached fits = record { held = λ clean. ∥∥₁_map (fits.held clean) (λ it. (it.0, it.1, tt)) }
+
+-- what a check has read is remembered
+pub history_checked : (conn : Shown) (history : Option ZoneHistory) (Other : State → Type 0) → (HasCleanDisk conn → (s : State) × HoldsState conn s × LeavesStates conn s s × Other s × Remembers s history) → FitsHistory conn history
+history_checked conn history Other found = record { held = λ clean. let it = found clean in ∣ (it.0, it.1, it.4) ∣₁ }
 
 -- behind questions
 pub history_asked : (old new : Shown) (history : Option ZoneHistory) → Asked old new → FitsHistory old history → FitsHistory new history

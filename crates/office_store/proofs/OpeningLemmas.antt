@@ -1,6 +1,6 @@
 -- The checks of the tables, one after the other.
 use Rattle.std.proofs.Common.{◌≡◌, ℕ, ℤ, List, pos, false, Option, None, Some, IfSome, Result, Ok, Err, IfOk, IfErr, IsPermutation, inl, refl, sym, subst}
-use Rattle.std.proofs.lemmas.List.Sorted.{IsPermutation-trans, IsPermutation-sym}
+use Rattle.std.proofs.lemmas.List.Sorted.{IsPermutation-refl, IsPermutation-trans, IsPermutation-sym}
 use Rattle.sqlite.specs.Effect.{Database}
 use Rattle.sqlite.specs.State.{State as Shown, HasCleanDisk, Shows}
 use Rattle.office_state.specs.States.{State}
@@ -27,8 +27,11 @@ use Rattle.office_rows.proofs.StateChecks.{state_of_rows, rows_of_state}
 use Rattle.office_rows.proofs.TableLaws.{from_tables, records_by_table, changes_by_table, origins_by_table}
 use Rattle.office_store.specs.Holds.{HoldsState, LeavesStates}
 use Rattle.office_store.specs.Cache.{IsZoneIn}
-use Rattle.office_store.specs.Opening.{IsCheck, IsNow, HasOrigins, VersionIn, OriginsIn, RecordsFound, ChangesIn, ReceiptsIn, StateFound}
+use Rattle.office_store.specs.Opening.{IsCheck, IsNow, HasOrigins, VersionIn, OriginsIn, RecordsFound, ChangesFound, ReceiptsIn, StateFound}
 use Rattle.office_store.specs.Queries.{AsksOnly}
+use Rattle.office_store.specs.declared.opening.Checked.{Checked}
+use Rattle.zone_cache.specs.declared.history.ZoneHistory.{ZoneHistory}
+use Rattle.zone_cache.specs.History.{Remembers}
 use Rattle.office_store.proofs.QueryLemmas.{asked_once, only_of}
 
 abbrev Labels : Type 0
@@ -115,17 +118,23 @@ found_in : (origins : List (List (List ℕ))) (all : RowsOf) (found : Option Zon
 found_in origins all None are read = tt
 found_in origins all (Some zone) are read = read_in origins all zone are read
 
-pub state_found : (db : Database) (origins : List (List (List ℕ))) (found : Option ZoneOf) → VersionIn db → OriginsIn origins db → RecordsFound origins found db → ChangesIn origins db → ReceiptsIn db → StateFound found db
-state_found db origins found versions zones records changes receipts =
+-- what the checks read
+abbrev pub both_found : Option ZoneOf → Option ZoneHistory → Checked
+both_found largest history = record { largest = largest; history = history }
+
+pub state_found : (db : Database) (origins : List (List (List ℕ))) (largest : Option ZoneOf) (history : Option ZoneHistory) → VersionIn db → OriginsIn origins db → RecordsFound origins largest db → ChangesFound origins history db → ReceiptsIn db
+    → StateFound (both_found largest history) db
+state_found db origins largest history versions zones records changes receipts =
     let all : RowsOf = record { versions = versions.0; zones = zones.0; records = records.0; receipts = receipts.0; changes = changes.0 } in (
       all,
       (
         record {
           versions = versions.1;
-          zones = from_tables zones.0 records.0 changes.0 origins zones.1 records.1.0 changes.1;
+          zones = from_tables zones.0 records.0 changes.0 origins zones.1 records.1.0 changes.1.0;
           receipts = receipts.1;
         },
-        found_in origins all found zones.1 records.1.1,
+        found_in origins all largest zones.1 records.1.1,
+        changes.1.1,
       ),
       reads_all db all versions.2 zones.2 records.2 receipts.2 changes.2,
     )
@@ -177,8 +186,8 @@ Named items v db = VersionIn db × OriginsIn (items v) db
 abbrev WithRecords : List Labels → Option ZoneOf → Database → Type 0
 WithRecords origins found db = (VersionIn db × OriginsIn origins db) × RecordsFound origins found db
 
-abbrev WithChanges : List Labels → Option ZoneOf → Unit {0} → Database → Type 0
-WithChanges origins found _ db = WithRecords origins found db × ChangesIn origins db
+abbrev WithChanges : List Labels → Option ZoneOf → Option ZoneHistory → Database → Type 0
+WithChanges origins found history db = WithRecords origins found db × ChangesFound origins history db
 
 pub zones_next : {V : Type 0} (old mid new : Shown) (r : Result V StoreFault) (items : V → List Labels) (u : Unit {0}) → IsCheck old mid (Ok u) (λ _ db. VersionIn db) (λ all. IsNow all.versions)
     → IsCheck mid new r (λ v db. OriginsIn (items v) db) (λ all. HasOrigins all.zones) → IsCheck old new r (Named items) Wanted
@@ -192,20 +201,22 @@ records_next old mid new r v items origins is zones records =
     next_check old mid new v (Named items) Wanted zones (RecordsFound (items v)) (λ all. AreRecordsOf (items v) all.records) (λ db all p reads are. wanted_records db all (items v) p.1 reads are) r
     (subst (λ l. IsCheck mid new r (RecordsFound l) (λ all. AreRecordsOf l all.records)) is records)
 
-module _ (names : List Labels) (found : Option ZoneOf) (old mid new : Shown) (r : Result (Unit {0}) StoreFault) where
-  pub changes_next : (origins : List Labels) → origins ≡ names → IsCheck old mid (Ok found) (WithRecords names) Wanted
-      → IsCheck mid new r (λ _ db. ChangesIn origins db) (λ all. AreChangesOf origins all.changes) → IsCheck old new r (WithChanges names found) Wanted
-  changes_next origins is records changes =
-      next_check old mid new found (WithRecords names) Wanted records (λ _ db. ChangesIn names db) (λ all. AreChangesOf names all.changes) (λ db all p reads are. wanted_changes db all names p.0.1 reads are) r
-      (subst (λ l. IsCheck mid new r (λ _ db. ChangesIn l db) (λ all. AreChangesOf l all.changes)) is changes)
+module _ (names : List Labels) (found : Option ZoneOf) (old mid new : Shown) where
+  pub changes_next : (r : Result (Option ZoneHistory) StoreFault) (origins : List Labels) → origins ≡ names → IsCheck old mid (Ok found) (WithRecords names) Wanted
+      → IsCheck mid new r (ChangesFound origins) (λ all. AreChangesOf origins all.changes) → IsCheck old new r (WithChanges names found) Wanted
+  changes_next r origins is records changes =
+      next_check old mid new found (WithRecords names) Wanted records (ChangesFound names) (λ all. AreChangesOf names all.changes) (λ db all p reads are. wanted_changes db all names p.0.1 reads are) r
+      (subst (λ l. IsCheck mid new r (ChangesFound l) (λ all. AreChangesOf l all.changes)) is changes)
 
-  pub receipts_next : (u : Unit {0}) → IsCheck old mid (Ok u) (WithChanges names found) Wanted → IsCheck mid new r (λ _ db. ReceiptsIn db) (λ all. AreReceiptRows all.receipts) → IsCheck old new r (λ _ db. StateFound found db) Wanted
-  receipts_next u changes receipts =
-      found_more old new r (λ _ db. WithChanges names found tt db × ReceiptsIn db) (λ _ db. StateFound found db) Wanted (λ _ db p. state_found db names found p.0.0.0.0 p.0.0.0.1 p.0.0.1 p.0.1 p.1)
-      (next_check old mid new u (WithChanges names found) Wanted changes (λ _ db. ReceiptsIn db) (λ all. AreReceiptRows all.receipts) (λ db all p reads are. are.receipts) r receipts)
+  pub receipts_next : (r : Result (Unit {0}) StoreFault) (history : Option ZoneHistory) → IsCheck old mid (Ok history) (WithChanges names found) Wanted → IsCheck mid new r (λ _ db. ReceiptsIn db) (λ all. AreReceiptRows all.receipts)
+      → IsCheck old new r (λ _ db. StateFound (both_found found history) db) Wanted
+  receipts_next r history changes receipts =
+      found_more old new r (λ _ db. WithChanges names found history db × ReceiptsIn db) (λ _ db. StateFound (both_found found history) db) Wanted
+      (λ _ db p. state_found db names found history p.0.0.0.0 p.0.0.0.1 p.0.0.1 p.0.1 p.1)
+      (next_check old mid new history (WithChanges names found) Wanted changes (λ _ db. ReceiptsIn db) (λ all. AreReceiptRows all.receipts) (λ db all p reads are. are.receipts) r receipts)
 
 -- what was found on the way is handed on
-pub handed_on : (old new : Shown) (found : Option ZoneOf) (u : Unit {0}) → IsCheck old new (Ok u) (λ _ db. StateFound found db) Wanted → IsCheck old new (Ok found) StateFound Wanted
+pub handed_on : (old new : Shown) (found : Checked) (u : Unit {0}) → IsCheck old new (Ok u) (λ _ db. StateFound found db) Wanted → IsCheck old new (Ok found) StateFound Wanted
 handed_on old new found u c = record { asks = c.asks; same = c.same; found = c.found; good = λ clean. tt; named = tt }
 
 -- what one check refuses is refused
@@ -218,26 +229,26 @@ refused_so old new first r e P P2 W was is c =
 -- ---- the state that was found
 
 module _ (old new : Shown) where
-  abbrev Checked : Result (Option ZoneOf) StoreFault → Type 0
-  Checked r = IsCheck old new r StateFound (AreStateRows (pos 2))
+  abbrev WasChecked : Result Checked StoreFault → Type 0
+  WasChecked r = IsCheck old new r StateFound (AreStateRows (pos 2))
 
   -- the zone that was read is one of the state
   zone_found : (all : RowsOf) (s : State) (found : Option ZoneOf) → AreOfState (pos 2) all s → IfSome found (λ zone. IsReadIn all zone) → IsZoneIn s found
   zone_found all s None are read = tt
   zone_found all s (Some zone) are read = read_is (pos 2) all s zone are read
 
-  pub holds_state : (r : Result (Option ZoneOf) StoreFault) → Checked r → HasCleanDisk new → IfOk r (λ found. (s : State) × HoldsState new s × LeavesStates new s s × IsZoneIn s found)
+  pub holds_state : (r : Result Checked StoreFault) → WasChecked r → HasCleanDisk new → IfOk r (λ found. (s : State) × HoldsState new s × LeavesStates new s s × IsZoneIn s found.largest × Remembers s found.history)
   holds_state (Ok found) c clean =
       let it = c.found clean in
       let s = state_of_rows (pos 2) it.0 it.1.0 in
       let held = held_now old new it.0 c.asks (c.same clean).is_open it.2 in
-      (s.0, record { rows = it.0; are = s.1; held = held.0 }, (λ sure db may. inl (it.0, s.1, held.1 sure db may)), zone_found it.0 s.0 found s.1 it.1.1)
+      (s.0, record { rows = it.0; are = s.1; held = held.0 }, (λ sure db may. inl (it.0, s.1, held.1 sure db may)), zone_found it.0 s.0 found.largest s.1 it.1.1, it.1.2 (pos 2) it.0 s.0 s.1 (IsPermutation-refl it.0.changes))
   holds_state (Err e) c clean = tt
 
-  pub refuses_none : (r : Result (Option ZoneOf) StoreFault) → Checked r → HasCleanDisk new → IfErr r (λ e. (s : State) → HoldsState old s → IsFailure e)
+  pub refuses_none : (r : Result Checked StoreFault) → WasChecked r → HasCleanDisk new → IfErr r (λ e. (s : State) → HoldsState old s → IsFailure e)
   refuses_none (Ok x) c clean = tt
   refuses_none (Err e) c clean = λ s h. c.good clean h.rows h.held (rows_of_state (pos 2) h.rows s h.are)
 
-  pub asks_only : (r : Result (Option ZoneOf) StoreFault) → Checked r → AsksOnly old new r
+  pub asks_only : (r : Result Checked StoreFault) → WasChecked r → AsksOnly old new r
   asks_only (Ok x) c = (asked_once old new c.asks, λ clean. only_of old new (λ all holds. held_before old new all c.asks (c.same clean) holds))
   asks_only (Err e) c = (asked_once old new c.asks, λ clean. tt)

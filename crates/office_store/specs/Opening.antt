@@ -1,5 +1,5 @@
 -- What the checks of the tables say, one after the other.
-use Rattle.std.specs.Prelude.{◌≡◌, ℕ, ℤ, List, [], ◌∷◌, map, pos, false, Option, IfSome, Result, IfOk, IfErr, OnOk}
+use Rattle.std.specs.Prelude.{◌≡◌, ℕ, ℤ, List, [], ◌∷◌, map, pos, false, Option, IfSome, Result, IfOk, IfErr, OnOk, IsPermutation}
 use Rattle.sqlite.specs.Effect.{Database}
 use Rattle.sqlite.specs.State.{State as Shown, HasCleanDisk, Shows}
 use Rattle.office_sql.specs.Rows.{RecordRowOf, ReceiptRowOf, ChangeRowOf, RowsOf}
@@ -7,10 +7,15 @@ use Rattle.office_sql.specs.Tables.{stored_version}
 use Rattle.office_sql.specs.Stores.{Stores}
 use Rattle.office_sql.specs.Holds.{HasZones, HasRecords, HasReceipts, HasChanges, Holds, OnlyAsks, Reads}
 use Rattle.zone_core.specs.Zones.{ZoneOf}
+use Rattle.office_state.specs.States.{State}
+use Rattle.office_rows.specs.Contents.{AreOfState}
 use Rattle.office_rows.specs.ReadZones.{IsReadAmong, IsReadIn}
 use Rattle.office_rows.specs.Checks.{AreOriginRows, AreRecordsOf, AreChangesOf, AreReceiptRows, AreStateRows}
 use Rattle.store_faults.specs.declared.store_fault.StoreFault.{StoreFault}
 use Rattle.store_faults.specs.StoreFaults.{IsFailure, IsOfRows}
+use Rattle.zone_cache.specs.declared.history.ZoneHistory.{ZoneHistory}
+use Rattle.zone_cache.specs.History.{Remembers}
+use Rattle.office_store.specs.declared.opening.Checked.{Checked}
 
 -- A check only asks, and what is shown stays as it is. It passes only where this is so of the database; rows of which that is so are
 -- refused only by a failure.
@@ -40,13 +45,18 @@ OriginsIn origins db = (rows : List (List ℕ)) × AreOriginRows origins rows ×
 abbrev pub RecordsFound : List (List (List ℕ)) → Option ZoneOf → Database → Type 0
 RecordsFound origins found db = (rows : List RecordRowOf) × (AreRecordsOf origins rows × IfSome found (λ zone. IsReadAmong origins rows zone)) × HasRecords db rows
 
-abbrev pub ChangesIn : List (List (List ℕ)) → Database → Type 0
-ChangesIn origins db = (rows : List ChangeRowOf) × AreChangesOf origins rows × HasChanges db rows
+-- in each state that has these rows of changes, in some order, this is remembered of a zone
+abbrev pub AreRemembered : List ChangeRowOf → Option ZoneHistory → Type 0
+AreRemembered rows history = (version : ℤ) (all : RowsOf) (s : State) → AreOfState version all s → IsPermutation rows all.changes → Remembers s history
+
+-- and of which something is remembered
+abbrev pub ChangesFound : List (List (List ℕ)) → Option ZoneHistory → Database → Type 0
+ChangesFound origins history db = (rows : List ChangeRowOf) × (AreChangesOf origins rows × AreRemembered rows history) × HasChanges db rows
 
 -- the rows of `receipts` are those of receipts
 abbrev pub ReceiptsIn : Database → Type 0
 ReceiptsIn db = (rows : List ReceiptRowOf) × AreReceiptRows rows × HasReceipts db rows
 
--- the rows of all tables are those of a state, in which a zone was read, if one was found
-abbrev pub StateFound : Option ZoneOf → Database → Type 0
-StateFound found db = (rows : RowsOf) × (AreStateRows (pos 2) rows × IfSome found (λ zone. IsReadIn rows zone)) × Reads db rows
+-- the rows of all tables are those of a state, of which a zone was read, if one was found, and something is remembered
+abbrev pub StateFound : Checked → Database → Type 0
+StateFound found db = (rows : RowsOf) × (AreStateRows (pos 2) rows × IfSome found.largest (λ zone. IsReadIn rows zone) × AreRemembered rows.changes found.history) × Reads db rows

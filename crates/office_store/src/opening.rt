@@ -1,27 +1,33 @@
 //! The making of the tables, and the test whether those that are there hold a state.
 
-ghost use Rattle.std.specs.Prelude.{◌≡◌, ◌≢◌, ◌⊎◌, ◌↔◌, [], ◌∷◌, pos, false, Err, IfOk, IfErr, OnOk, OnErr};
+ghost use Rattle.std.specs.Prelude.{◌≡◌, ◌≢◌, ◌⊎◌, ◌↔◌, List, [], ◌∷◌, map, pos, false, Err, IfOk, IfErr, IfSome, OnOk, OnErr};
+ghost use Rattle.std.specs.List.{AllByRecursion};
 ghost use Rattle.std.specs.List.Sorted.{IsPermutation};
 ghost use Rattle.sqlite.specs.Held.{state};
 ghost use Rattle.sqlite.specs.State.{HasCleanDisk};
 ghost use Rattle.office_state.specs.States.{State};
 ghost use Rattle.office_sql.specs.Holds.{Holds, Keeps, Leaves};
-ghost use Rattle.office_sql.specs.Rows.{RowsOf};
+ghost use Rattle.office_sql.specs.Rows.{ChangeRowOf, RowsOf};
 ghost use Rattle.office_sql.specs.Tables.{no_schema, IsOffice};
 ghost use Rattle.office_rows.specs.Batches.{nothing_held};
 ghost use Rattle.store_faults.specs.declared.store_fault.StoreFault.TheVariants.{BadRow, WrongVersion};
 ghost use Rattle.store_faults.specs.StoreFaults.{IsFailure, IsOfRows, of_found};
 ghost use Rattle.office_rows.specs.RowRefusals.{of_check};
+ghost use Rattle.office_rows.specs.ChangeRows.{IsChanged, row_of};
+ghost use Rattle.office_rows.specs.ReadChanges.{Tells};
+ghost use Rattle.zone_cache.specs.History.{Remembers};
 ghost use Rattle.office_rows.specs.Checks.{Checks, AreOrigins, AreRecordsOf, AreChangesOf, AreReceiptRows, AreStateRows};
 ghost use Rattle.office_store.specs.Cache.{IsZoneIn};
-ghost use Rattle.office_store.specs.Opening.{IsCheck, IsNow, HasOrigins, VersionIn, OriginsIn, RecordsFound, ChangesIn, ReceiptsIn, StateFound};
+ghost use Rattle.office_store.specs.Opening.{IsCheck, IsNow, AreRemembered, HasOrigins, VersionIn, OriginsIn, RecordsFound, ChangesFound, ReceiptsIn, StateFound};
 ghost use Rattle.office_store.specs.Holds.{HoldsState, HasNone, HasVersion, IsOfVersion, IsStateIn, LeavesStates};
 ghost use Rattle.office_store.specs.Queries.{Asked, AsksOnly};
 
 use crate::queries::check_open;
 use dns_names::Name;
 use office_rows::state::is_alone;
-use office_rows::{ChangeReader, OriginReader, RecordReader, RowFault, checked_origins};
+use office_rows::{
+    ChangeReader, ChangedRecord, OriginReader, RecordReader, RowFault, ZoneChanges, checked_origins,
+};
 use office_sql::{
     RowsFault, WholeRows, all_changes, all_receipts, all_records, all_zones, has_no_tables,
     has_tables, make_tables, versions,
@@ -30,6 +36,7 @@ use sqlite::{Alter, Connection};
 use std::alloc::Global;
 use std::sync::ledger::Blank;
 use store_faults::StoreFault;
+use zone_cache::{ZoneHistory, history_of};
 use zone_core::Zone;
 
 /// The version of the tables, in the one row of `meta`.
@@ -42,6 +49,15 @@ pub struct Refused<S: Alter + Drop> {
     pub conn: Connection<S>,
     /// The ledger for the count of failures.
     pub blank: Blank,
+}
+
+/// What the check of a state reads on its way, and a table keeps in memory.
+#[derive(Drop)]
+pub(crate) struct Checked {
+    /// The largest zone.
+    pub(crate) largest: Option<Zone>,
+    /// What the changes touch of the zone that has most of them.
+    pub(crate) history: Option<ZoneHistory>,
 }
 
 /// Makes the tables, which hold nothing, in a database without tables.
@@ -180,19 +196,46 @@ fn check_records<S: Alter>(
     }
 }
 
-/// Checks the rows of `changes`, which are to be of zones of these origins.
+/// What the changes touch that were read of a zone, if some were.
+fn remembered(alloc: Global, longest: Option<ZoneChanges>) -> Option<ZoneHistory>
+    ensures { (rows : List ChangeRowOf) → IfSome longest (Tells rows) → AreRemembered rows result }
+{
+    match longest {
+        Some(zone) => history_of(alloc, &zone.origin, &zone.changes),
+        None => None,
+    }
+}
+
+/// Checks what the rows of `changes` are read as, which are to be of zones of these origins, and remembers what the changes touch of the
+/// zone that has most.
+fn checked_history(
+    alloc: Global,
+    origins: &[Name],
+    changes: Vec<ChangedRecord>,
+) -> Result<Option<ZoneHistory>, RowFault>
+    requires origins { AreOrigins origins.now }
+    requires changes { AllByRecursion IsChanged changes.items }
+    ensures check { Checks (AreChangesOf origins.now (map row_of changes.items)) result }
+    ensures history { IfOk result (AreRemembered (map row_of changes.items)) }
+{
+    let longest = office_rows::check_changes(alloc, origins, changes)?;
+    Ok(remembered(alloc, longest))
+}
+
+/// Checks the rows of `changes`, which are to be of zones of these origins, and remembers what the changes touch of the zone that has
+/// most.
 fn check_changes<S: Alter>(
     alloc: Global,
     conn: &mut Connection<S>,
     origins: &[Name],
-) -> Result<(), StoreFault>
+) -> Result<Option<ZoneHistory>, StoreFault>
     requires alone { conn.old.in_transaction ≡ false }
     requires origins { AreOrigins origins.now }
-    ensures { IsCheck (state S.Store conn.old) (state S.Store conn.new) result (λ _ db. ChangesIn origins.now db) (λ rows. AreChangesOf origins.now rows.changes) }
+    ensures { IsCheck (state S.Store conn.old) (state S.Store conn.new) result (λ history db. ChangesFound origins.now history db) (λ rows. AreChangesOf origins.now rows.changes) }
 {
     let read = all_changes(alloc, conn, &mut ChangeReader::new());
     match read {
-        Ok(changes) => of_check(office_rows::check_changes(origins, changes)),
+        Ok(changes) => of_check(checked_history(alloc, origins, changes)),
         Err(fault) => Err(found(fault)),
     }
 }
@@ -208,24 +251,23 @@ fn check_receipts<S: Alter>(alloc: Global, conn: &mut Connection<S>) -> Result<(
     }
 }
 
-/// Checks the rows of all tables, one table after the other: the rows of one are gone before the next one is asked for. It reads the
-/// largest zone.
-fn check_each<S: Alter>(alloc: Global, conn: &mut Connection<S>) -> Result<Option<Zone>, StoreFault>
+/// Checks the rows of all tables, one table after the other: the rows of one are gone before the next one is asked for.
+fn check_each<S: Alter>(alloc: Global, conn: &mut Connection<S>) -> Result<Checked, StoreFault>
     requires { conn.old.in_transaction ≡ false }
     ensures { IsCheck (state S.Store conn.old) (state S.Store conn.new) result (λ found db. StateFound found db) (AreStateRows (pos 2)) }
 {
     check_meta(alloc, conn)?;
     let origins = check_zones(alloc, conn)?;
     let largest = check_records(alloc, conn, &origins)?;
-    check_changes(alloc, conn, &origins)?;
+    let history = check_changes(alloc, conn, &origins)?;
     check_receipts(alloc, conn)?;
-    Ok(largest)
+    Ok(Checked { largest, history })
 }
 
-/// Tells whether the rows that the connection shows are a state, and reads its largest zone.
-fn check_rows<S: Alter>(alloc: Global, conn: &mut Connection<S>) -> Result<Option<Zone>, StoreFault>
+/// Tells whether the rows that the connection shows are a state.
+fn check_rows<S: Alter>(alloc: Global, conn: &mut Connection<S>) -> Result<Checked, StoreFault>
     requires { conn.old.in_transaction ≡ false }
-    ensures found { HasCleanDisk (state S.Store conn.new) → IfOk result (λ found. (s : State) × HoldsState (state S.Store conn.new) s × LeavesStates (state S.Store conn.new) s s × IsZoneIn s found) }
+    ensures found { HasCleanDisk (state S.Store conn.new) → IfOk result (λ found. (s : State) × HoldsState (state S.Store conn.new) s × LeavesStates (state S.Store conn.new) s s × IsZoneIn s found.largest × Remembers s found.history) }
     ensures good { HasCleanDisk (state S.Store conn.new) → IfErr result (λ e. (s : State) → HoldsState (state S.Store conn.old) s → IsFailure e) }
     ensures named { IfErr result IsOfRows }
     ensures asks { AsksOnly (state S.Store conn.old) (state S.Store conn.new) result }
@@ -235,14 +277,13 @@ fn check_rows<S: Alter>(alloc: Global, conn: &mut Connection<S>) -> Result<Optio
     check_each(alloc, conn)
 }
 
-/// Tells whether the connection shows the tables of this version, with the rows of a state, and reads the state's largest zone, as far as
-/// there is memory.
+/// Tells whether the connection shows the tables of this version, with the rows of a state, and reads what a table keeps in memory.
 pub(crate) fn check_state<S: Alter>(
     alloc: Global,
     conn: &mut Connection<S>,
-) -> Result<Option<Zone>, StoreFault>
+) -> Result<Checked, StoreFault>
     requires { conn.old.in_transaction ≡ false }
-    ensures found { HasCleanDisk (state S.Store conn.new) → IfOk result (λ found. (s : State) × HoldsState (state S.Store conn.new) s × LeavesStates (state S.Store conn.new) s s × IsZoneIn s found) }
+    ensures found { HasCleanDisk (state S.Store conn.new) → IfOk result (λ found. (s : State) × HoldsState (state S.Store conn.new) s × LeavesStates (state S.Store conn.new) s s × IsZoneIn s found.largest × Remembers s found.history) }
     ensures good { HasCleanDisk (state S.Store conn.new) → IfErr result (λ e. (s : State) → HoldsState (state S.Store conn.old) s → IsFailure e) }
     ensures wrong { HasCleanDisk (state S.Store conn.new) → result ≡ Err WrongVersion → ¬ HasVersion (state S.Store conn.old) }
     ensures bad { HasCleanDisk (state S.Store conn.new) → result ≡ Err BadRow → HasVersion (state S.Store conn.old) }

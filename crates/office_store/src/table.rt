@@ -24,7 +24,7 @@ ghost use Rattle.office_store.specs.Zones.{exported, if_free, if_later, imported
 
 use crate::cache::{SubtreeRead, cached_part, cached_subtree, commit_cached, export_cached};
 use crate::migration::migrate;
-use crate::opening::{Refused, check_state, make};
+use crate::opening::{Checked, Refused, check_state, make};
 use crate::queries::check_open;
 use crate::reads::{changes_at, changes_behind, origins, receipt_at, receipts, zone_at};
 use crate::zones::{import, put_zone, replace, take_place};
@@ -42,8 +42,8 @@ use zone_core::{Change, Zone};
 
 /// Zones with their changes, and receipts, in the tables of a database. It counts the failures of its store by a ledger, and caches
 /// the zone that was read last, at first the largest, which follows the commits, until a call fails or a whole zone is written. It
-/// remembers what the changes touch of the zone whose first changes were read last, until a whole zone is written, and why its last call
-/// of the machine failed that did.
+/// remembers what the changes touch of the zone whose first changes were read last, at first of the one that has most, until a whole zone
+/// is written, and why its last call of the machine failed that did.
 #[derive(Drop)]
 pub struct SqlTable<S: Alter + Drop, L: Ledger> {
     conn: Connection<S>,
@@ -87,12 +87,18 @@ fn refused<L: Ledger>(book: &mut Book<L>, share: &mut Share<L>, fault: StoreFaul
 }
 
 impl<S: Alter + Drop, L: Ledger> SqlTable<S, L> {
-    /// The table over a connection that holds a state, of which a zone may be cached.
-    fn over(conn: Connection<S>, blank: Blank, cache: Option<CachedZone>) -> SqlTable<S, L>
+    /// The table over a connection that holds a state, of which a zone may be cached, and the changes of one remembered.
+    fn over(
+        conn: Connection<S>,
+        blank: Blank,
+        cache: Option<CachedZone>,
+        history: Option<ZoneHistory>,
+    ) -> SqlTable<S, L>
         requires name { blank.name ≡ L.name }
         requires parts { blank.parts ≡ L.parts }
         requires some { 0 < blank.parts }
         requires fits { FitsCache (state S.Store conn) (cached_in cache) }
+        requires remembers { FitsHistory (state S.Store conn) history }
         ensures conn { result.conn ≡ conn }
         ensures none { result.book.total ≡ 0 }
     {
@@ -103,7 +109,7 @@ impl<S: Alter + Drop, L: Ledger> SqlTable<S, L> {
             share,
             cache,
             subtree_read: SubtreeRead::Rows,
-            history: None,
+            history,
             fault: None,
         }
     }
@@ -135,7 +141,7 @@ impl<S: Alter + Drop, L: Ledger> SqlTable<S, L> {
     {
         let mut conn = conn;
         match make(&mut conn) {
-            Ok(()) => Ok(SqlTable::over(conn, blank, None)),
+            Ok(()) => Ok(SqlTable::over(conn, blank, None, None)),
             Err(fault) => Err(Refused { fault, conn, blank }),
         }
     }
@@ -176,7 +182,12 @@ impl<S: Alter + Drop, L: Ledger> SqlTable<S, L> {
     {
         let mut conn = conn;
         match check_state(alloc, &mut conn) {
-            Ok(largest) => Ok(SqlTable::over(conn, blank, cached_of(alloc, largest))),
+            Ok(Checked { largest, history }) => Ok(SqlTable::over(
+                conn,
+                blank,
+                cached_of(alloc, largest),
+                history,
+            )),
             Err(fault) => Err(Refused { fault, conn, blank }),
         }
     }

@@ -18,7 +18,7 @@ pub(crate) struct Workspace {
 }
 
 impl Workspace {
-    /// The only error is out of memory.
+    /// Takes the routes and the memory. The only error is out of memory.
     fn new(alloc: Global) -> Result<Workspace, AllocError> {
         let Ok(routes) = Routes::new(alloc) else {
             return Err(AllocError);

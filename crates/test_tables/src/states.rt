@@ -65,7 +65,12 @@ impl Kept {
             "new-zone" => push_new_zone(alloc, row, answer),
             "replacement" => push_replacement(alloc, row, answer),
             "zone" | "part" | "subtree" | "receipt" | "changes" => push_read(alloc, row, answer),
-            "origins" | "receipts" => push_listed(alloc, row, &self.rows(alloc, row)?, answer),
+            "origins" | "receipts" | "longest" => push_listed(
+                alloc,
+                row,
+                &self.rows(alloc, row)?,
+                answer,
+            ),
             _ => bail!("no such verb"),
         }
     }
@@ -118,7 +123,8 @@ fn check(alloc: Global, version: i64, rows: AllRows) -> Result<(), RowFault> {
     check_receipts(alloc, rows.receipts)?;
     let origins = checked_origins(origins(alloc, &rows.zones)?)?;
     check_records(alloc, &origins, records(alloc, &rows.records)?)?;
-    check_changes(&origins, sorted_changes(alloc, &rows.changes)?)
+    check_changes(alloc, &origins, sorted_changes(alloc, &rows.changes)?)?;
+    Ok(())
 }
 
 fn push_is_state(alloc: Global, row: &Row<'_>, rows: AllRows, answer: &mut Vec<u8>) -> Result<()> {

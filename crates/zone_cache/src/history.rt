@@ -1,7 +1,7 @@
 //! What the changes of a zone touch, as far as they were read. A change stays as it was made, so it need not be read again for who sees
 //! nothing of it.
 
-ghost use Rattle.std.specs.Prelude.{◌≡◌, ◌+◌, ◌≤◌, List, Some, true, false, IfOk, OnOk, IsTrue, length, map, take, drop};
+ghost use Rattle.std.specs.Prelude.{◌≡◌, ◌+◌, ◌≤◌, List, [], Some, true, false, IfOk, OnOk, IsTrue, length, map, take, drop};
 ghost use Rattle.std.specs.List.{list_all};
 ghost use Rattle.dns_data.specs.declared.record_type.RecordType.TheVariants.{Soa};
 ghost use Rattle.dns_data.specs.Rdata.{type_of};
@@ -171,7 +171,8 @@ pub struct ZoneHistory {
 impl ZoneHistory {
     /// Nothing of it yet. The only error is out of memory.
     fn new(alloc: Global, origin: &Name) -> Result<ZoneHistory, AllocError>
-        ensures { IfOk result (λ zone. (cs : List ChangeOf) → AreTouched zone.origin zone.changes.items cs) }
+        ensures origin { IfOk result (λ zone. zone.origin ≡ origin.now) }
+        ensures none { IfOk result (λ zone. zone.changes.items ≡ []) }
     {
         Ok(ZoneHistory {
             origin: origin.try_copy(alloc)?,
@@ -211,6 +212,17 @@ impl ZoneHistory {
             Err(_) => unknown(),
         }
     }
+}
+
+/// What all changes of the zone of an origin touch, as far as there is memory.
+pub fn history_of(alloc: Global, origin: &Name, changes: &[Change]) -> Option<ZoneHistory>
+    ensures { (s : State) → ((held : Held) → s.zones origin.now ≡ Some held → map change_in changes.now ≡ held.changes) → Remembers s result }
+{
+    let Ok(mut zone) = ZoneHistory::new(alloc, origin) else {
+        return None;
+    };
+    zone.push(alloc, changes);
+    Some(zone)
 }
 
 /// Whether what is remembered is of the zone of an origin.

@@ -1,13 +1,17 @@
 //! What is listed of the rows of all tables.
 
+use crate::states::reads::push_changes;
 use anyhow::Result;
 use dns_names::Name;
-use office_rows::{KeptReceipt, kept_receipts, origins};
+use office_rows::{
+    KeptReceipt, ZoneChanges, check_changes, checked_origins, kept_receipts, origins,
+    sorted_changes,
+};
 use office_sql::AllRows;
 use std::alloc::{AllocError, Global};
 use test_rows::Row;
 
-/// Appends the origins of the zones, or the receipts.
+/// Appends the origins of the zones, the receipts, or the changes of the zone that has most.
 pub fn push_listed(
     alloc: Global,
     row: &Row<'_>,
@@ -16,8 +20,28 @@ pub fn push_listed(
 ) -> Result<()> {
     match row.verb {
         "origins" => Ok(push_origins(alloc, &origins(alloc, &rows.zones)?, answer)?),
+        "longest" => push_longest(alloc, rows, answer),
         _ => Ok(push_receipts(alloc, &kept_receipts(alloc, &rows.receipts)?, answer)?),
     }
+}
+
+/// The origin of the zone that has most changes, and these.
+fn push_longest(alloc: Global, rows: &AllRows, answer: &mut Vec<u8>) -> Result<()> {
+    let origins = checked_origins(origins(alloc, &rows.zones)?)?;
+    match check_changes(alloc, &origins, sorted_changes(alloc, &rows.changes)?)? {
+        Some(zone) => Ok(push_zone_changes(alloc, &zone, answer)?),
+        None => Ok(answer.extend_from_slice(b"no change\n")?),
+    }
+}
+
+fn push_zone_changes(
+    alloc: Global,
+    zone: &ZoneChanges,
+    answer: &mut Vec<u8>,
+) -> Result<(), AllocError> {
+    let origin = zone.origin.text(alloc)?;
+    answer.extend_from_slice(format!(in alloc; "{origin}\n")?.as_bytes())?;
+    push_changes(alloc, &zone.changes, answer)
 }
 
 fn push_origins(alloc: Global, origins: &[Name], answer: &mut Vec<u8>) -> Result<(), AllocError> {

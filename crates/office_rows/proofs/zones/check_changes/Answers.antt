@@ -4,11 +4,12 @@ use Rattle.office_rows.specs.declared.changes.ChangedRecord.{ChangedRecord}
 use Rattle.office_rows.specs.ChangeRows.{row_of, IsChanged}
 use Rattle.office_rows.specs.Checks.{AreChangesInTurn}
 use Rattle.office_rows.proofs.ListLemmas.{all_permutation}
+use Rattle.office_rows.proofs.ReadChangeLemmas.{tells_moved}
 use Rattle.office_rows.proofs.ZoneCheckLemmas.{changes_pass, are_changes_of}
 use Rattle.office_rows.proofs.zones.check_changes.Goals as goal
 
-pub returns-then-not-are_changes_of : goal.returns-then-not-are_changes_of
-returns-then-not-are_changes_of c = λ of.
+pub returns-then-not-are_changes_of-clause-check : goal.returns-then-not-are_changes_of-clause-check
+returns-then-not-are_changes_of-clause-check c = λ of.
     let origins = c.args.origins.now in
     let read = c.args.changes.items in
     let rows = map row_of read in
@@ -20,8 +21,8 @@ returns-then-not-are_changes_of c = λ of.
     let bad : true ≡ false = sym seen ∙ c.if-not-are_changes_of.true in
     cc
 
-pub returns : goal.returns
-returns c =
+pub returns-clause-check : goal.returns-clause-check
+returns-clause-check c =
     let origins = c.args.origins.now in
     let read = c.args.changes.items in
     let rows = map row_of read in
@@ -30,3 +31,15 @@ returns c =
     let same = IsPermutation-sym rows (map row_of cs) (IsPermutation-map row_of read cs found.0) in
     let turn = subst (λ (l : List ChangedRecord). AreChangesInTurn origins l) c.deref.ensures.value (c.are_changes_of.ensures.0 c.if-not-are_changes_of.false) in
     are_changes_of origins c.requires.origins rows cs same (all_permutation IsChanged read cs found.0 c.requires.changes) turn
+
+pub longest_history-requires-clause-each : goal.longest_history-requires-clause-each
+longest_history-requires-clause-each c = all_permutation IsChanged c.args.changes.items c.in_ok-changes.changes.items c.in_ok-changes.ensures.0 c.requires.changes
+
+pub longest_history-requires-clause-order : goal.longest_history-requires-clause-order
+longest_history-requires-clause-order c = c.in_ok-changes.ensures.1
+
+pub returns-clause-longest : goal.returns-clause-longest
+returns-clause-longest c =
+    let read = c.args.changes.items in
+    tells_moved (map row_of c.in_ok-changes.changes.items) (map row_of read) c.longest_history.result
+    (IsPermutation-sym (map row_of read) (map row_of c.in_ok-changes.changes.items) (IsPermutation-map row_of read c.in_ok-changes.changes.items c.in_ok-changes.ensures.0)) c.longest_history.ensures

@@ -3,7 +3,7 @@ use Rattle.std.proofs.lemmas.Result.{err_from_is_err_and}
 use Rattle.sqlite.specs.Held.{state}
 use Rattle.office_rows.specs.Checks.{AreOrigins, AreStateRows}
 use Rattle.office_store.specs.Opening.{IsNow, VersionIn, StateFound}
-use Rattle.office_store.proofs.OpeningLemmas.{first_check, zones_next, records_next, changes_next, receipts_next, handed_on, refused_so}
+use Rattle.office_store.proofs.OpeningLemmas.{first_check, zones_next, records_next, changes_next, receipts_next, both_found, handed_on, refused_so}
 use Rattle.office_store.proofs.opening.check_each.Goals as goal
 
 pub returns-in_err-check_meta : goal.returns-in_err-check_meta
@@ -40,8 +40,8 @@ returns-in_err-largest g c =
     let is : c.from_residual-in_err-largest.result ≡ Err e = cc (p.1, p.2) in
     refused_so s0 s3 c.check_records.result c.from_residual-in_err-largest.result e _ StateFound (AreStateRows (pos 2)) c.in_err-largest.was is done
 
-pub returns-in_err-check_changes : goal.returns-in_err-check_changes
-returns-in_err-check_changes g c =
+pub returns-in_err-history : goal.returns-in_err-history
+returns-in_err-history g c =
     let s0 = state g.S.Store c.args.conn.now in
     let s1 = state g.S.Store c.check_meta.new.conn in
     let s2 = state g.S.Store c.check_zones.new.conn in
@@ -52,10 +52,10 @@ returns-in_err-check_changes g c =
     let zones = zones_next s0 s1 s2 (Ok c.in_ok-origins.origins) (λ v. v.items) c.in_ok-check_meta.field-0 c.in_ok-check_meta.ensures c.in_ok-origins.ensures.check in
     let records = records_next s0 s2 s3 (Ok found) c.in_ok-origins.origins (λ v. v.items) c.deref.result.now c.deref.ensures.value zones c.in_ok-largest.ensures in
     let done = changes_next names found s0 s3 s4 c.check_changes.result c.deref-2.result.now c.deref-2.ensures.value records c.check_changes.ensures in
-    let e = c.in_err-check_changes.field-0.0 in
-    let p = err_from_is_err_and c.from_residual-in_err-check_changes.result c.from_residual-in_err-check_changes.ensures.1 in
-    let is : c.from_residual-in_err-check_changes.result ≡ Err e = cc (p.1, p.2) in
-    refused_so s0 s4 c.check_changes.result c.from_residual-in_err-check_changes.result e _ StateFound (AreStateRows (pos 2)) c.in_err-check_changes.was is done
+    let e = c.in_err-history.field-0.0 in
+    let p = err_from_is_err_and c.from_residual-in_err-history.result c.from_residual-in_err-history.ensures.1 in
+    let is : c.from_residual-in_err-history.result ≡ Err e = cc (p.1, p.2) in
+    refused_so s0 s4 c.check_changes.result c.from_residual-in_err-history.result e _ StateFound (AreStateRows (pos 2)) c.in_err-history.was is done
 
 pub returns-in_err-check_receipts : goal.returns-in_err-check_receipts
 returns-in_err-check_receipts g c =
@@ -67,14 +67,15 @@ returns-in_err-check_receipts g c =
     let s5 = state g.S.Store c.check_receipts.new.conn in
     let names = c.in_ok-origins.origins.items in
     let found = c.in_ok-largest.largest in
+    let history = c.in_ok-history.history in
     let zones = zones_next s0 s1 s2 (Ok c.in_ok-origins.origins) (λ v. v.items) c.in_ok-check_meta.field-0 c.in_ok-check_meta.ensures c.in_ok-origins.ensures.check in
     let records = records_next s0 s2 s3 (Ok found) c.in_ok-origins.origins (λ v. v.items) c.deref.result.now c.deref.ensures.value zones c.in_ok-largest.ensures in
-    let changes = changes_next names found s0 s3 s4 (Ok c.in_ok-check_changes.field-0) c.deref-2.result.now c.deref-2.ensures.value records c.in_ok-check_changes.ensures in
-    let done = receipts_next names found s0 s4 s5 c.check_receipts.result c.in_ok-check_changes.field-0 changes c.check_receipts.ensures in
+    let changes = changes_next names found s0 s3 s4 (Ok history) c.deref-2.result.now c.deref-2.ensures.value records c.in_ok-history.ensures in
+    let done = receipts_next names found s0 s4 s5 c.check_receipts.result history changes c.check_receipts.ensures in
     let e = c.in_err-check_receipts.field-0.0 in
     let p = err_from_is_err_and c.from_residual-in_err-check_receipts.result c.from_residual-in_err-check_receipts.ensures.1 in
     let is : c.from_residual-in_err-check_receipts.result ≡ Err e = cc (p.1, p.2) in
-    refused_so s0 s5 c.check_receipts.result c.from_residual-in_err-check_receipts.result e (λ _ db. StateFound found db) StateFound (AreStateRows (pos 2)) c.in_err-check_receipts.was is done
+    refused_so s0 s5 c.check_receipts.result c.from_residual-in_err-check_receipts.result e (λ _ db. StateFound (both_found found history) db) StateFound (AreStateRows (pos 2)) c.in_err-check_receipts.was is done
 
 pub returns : goal.returns
 returns g c =
@@ -86,10 +87,11 @@ returns g c =
     let s5 = state g.S.Store c.check_receipts.new.conn in
     let names = c.in_ok-origins.origins.items in
     let found = c.in_ok-largest.largest in
+    let history = c.in_ok-history.history in
     let zones = zones_next s0 s1 s2 (Ok c.in_ok-origins.origins) (λ v. v.items) c.in_ok-check_meta.field-0 c.in_ok-check_meta.ensures c.in_ok-origins.ensures.check in
     let records = records_next s0 s2 s3 (Ok found) c.in_ok-origins.origins (λ v. v.items) c.deref.result.now c.deref.ensures.value zones c.in_ok-largest.ensures in
-    let changes = changes_next names found s0 s3 s4 (Ok c.in_ok-check_changes.field-0) c.deref-2.result.now c.deref-2.ensures.value records c.in_ok-check_changes.ensures in
-    handed_on s0 s5 found c.in_ok-check_receipts.field-0 (receipts_next names found s0 s4 s5 (Ok c.in_ok-check_receipts.field-0) c.in_ok-check_changes.field-0 changes c.in_ok-check_receipts.ensures)
+    let changes = changes_next names found s0 s3 s4 (Ok history) c.deref-2.result.now c.deref-2.ensures.value records c.in_ok-history.ensures in
+    handed_on s0 s5 (both_found found history) c.in_ok-check_receipts.field-0 (receipts_next names found s0 s4 s5 (Ok c.in_ok-check_receipts.field-0) history changes c.in_ok-check_receipts.ensures)
 
 pub check_records-requires-clause-origins : goal.check_records-requires-clause-origins
 check_records-requires-clause-origins g c = subst AreOrigins (sym c.deref.ensures.value) c.in_ok-origins.ensures.origins

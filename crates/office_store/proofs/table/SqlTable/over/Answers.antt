@@ -1,6 +1,5 @@
 use Rattle.std.proofs.Common.{rules}
-use Rattle.office_store.proofs.HistoryLemmas.{history_none}
 use Rattle.office_store.proofs.table.SqlTable.over.Goals as goal
 
 pub invariant_of-result : goal.invariant_of-result
-invariant_of-result g c = record { counts = search rules; fits = c.requires.fits; remembers = history_none _ _ c.requires.fits }
+invariant_of-result g c = record { counts = search rules; fits = c.requires.fits; remembers = c.requires.remembers }
