@@ -1,5 +1,5 @@
 -- Changes that were read, and those that a state has.
-use Rattle.std.proofs.Common.{◌≡◌, ℕ, ℤ, Bool, List, [], ◌∷◌, map, filter, Ok, Option, None, Some, IfSome, IsPermutation, IsSorted, refl, sym, ap, ◌∙◌}
+use Rattle.std.proofs.Common.{◌≡◌, ℕ, ℤ, Bool, List, [], ◌∷◌, map, filter, Option, None, Some, IfSome, IsPermutation, IsSorted, refl, sym, ap, ◌∙◌}
 use Rattle.std.specs.Prelude.{bytes_eq}
 use Rattle.std.specs.List.{AllByRecursion}
 use Rattle.std.proofs.lemmas.List.Kept.{IsSortedBy-filter}
@@ -8,21 +8,18 @@ use Rattle.sqlite_trees.proofs.ListLemmas.{IsPermutation-filter, IsPermutation-s
 use Rattle.dns_names.specs.Labels.{IsName}
 use Rattle.dns_names.specs.Order.{same_name}
 use Rattle.dns_names.specs.Spelling.{name_text}
-use Rattle.zone_core.specs.Changes.{ChangeOf}
 use Rattle.zone_core.proofs.SetLemmas.{by_cases}
 use Rattle.office_state.specs.States.{Held, State}
 use Rattle.office_sql.specs.Rows.{ChangeRowOf, RowsOf}
 use Rattle.office_sql.specs.Lookups.{changes_of}
 use Rattle.office_rows.specs.declared.changes.ChangedRecord.{ChangedRecord}
-use Rattle.office_rows.specs.ChangeRows.{changed_order, changed_order_total, row_of, IsChanged}
+use Rattle.office_rows.specs.ChangeRows.{changed_order, changed_order_total, gathered, row_of, IsChanged}
 use Rattle.office_rows.specs.Contents.{AreOfState, zone_changes}
-use Rattle.office_rows.specs.RowReading.{changes_among}
 use Rattle.office_rows.specs.declared.zone_changes.ZoneChanges.{ZoneChanges}
 use Rattle.office_rows.specs.ReadChanges.{Tells}
 use Rattle.office_rows.proofs.ContentLemmas.{held_zone, is_held}
-use Rattle.office_rows.proofs.GatheringLaws.{among}
+use Rattle.office_rows.proofs.GatheringLaws.{sorted_gathered}
 use Rattle.office_rows.proofs.NameLemmas.{text_same}
-use Rattle.office_rows.proofs.RowSteps.{ok_is}
 
 module _ (o : List (List ℕ)) (named : IsName o) where
   abbrev is_own : ChangedRecord → Bool
@@ -39,9 +36,9 @@ module _ (o : List (List ℕ)) (named : IsName o) where
       (λ f. rw (told, f) later)
 
   -- they are those of the zone in each state that has the rows
-  pub told_changes : (read : List ChangedRecord) (cs : List ChangeOf) → AllByRecursion IsChanged read → IsSorted changed_order read → changes_among (filter is_own read) ≡ Ok cs → (version : ℤ) (all : RowsOf) (s : State) (held : Held)
-      → AreOfState version all s → IsPermutation (map row_of read) all.changes → s.zones o ≡ Some held → cs ≡ held.changes
-  told_changes read cs each order is version all s held st same e =
+  pub told_changes : (read : List ChangedRecord) → AllByRecursion IsChanged read → IsSorted changed_order read → (version : ℤ) (all : RowsOf) (s : State) (held : Held)
+      → AreOfState version all s → IsPermutation (map row_of read) all.changes → s.zones o ≡ Some held → gathered (filter is_own read) ≡ held.changes
+  told_changes read each order version all s held st same e =
       let found = held_zone version all s st o held e in
       let z = found.0 in
       let h = is_held version all s st o z found.1 in
@@ -49,9 +46,9 @@ module _ (o : List (List ℕ)) (named : IsName o) where
       let of_origin = λ (row : ChangeRowOf). bytes_eq row.origin (name_text o) in
       let rows = IsPermutation-trans (map row_of own) (changes_of (name_text o) (map row_of read)) (zone_changes z) (IsPermutation-same _ _ (sym (own_rows read each)))
       (IsPermutation-trans (changes_of (name_text o) (map row_of read)) (changes_of (name_text o) all.changes) (zone_changes z) (IsPermutation-filter of_origin (map row_of read) all.changes same) (IsPermutation-sym _ _ h.changes)) in
-      let pass = among z.origin z.changes (zone_changes z) h.is.origin h.is.changes (IsPermutation-refl (zone_changes z)) own rows (all-filter IsChanged is_own read each)
+      let made = sorted_gathered z.origin z.changes (zone_changes z) h.is.origin h.is.changes (IsPermutation-refl (zone_changes z)) own rows (all-filter IsChanged is_own read each)
       (IsSortedBy-filter _ (ranks_by changed_order_total (λ (c : ChangedRecord). c)) is_own read order) in
-      ok_is cs z.changes (sym is ∙ pass) ∙ ap (λ (x : Held). x.changes) (sym found.2)
+      made ∙ ap (λ (x : Held). x.changes) (sym found.2)
 
 -- the order of the rows tells nothing
 pub tells_moved : (rows others : List ChangeRowOf) (found : Option ZoneChanges) → IsPermutation rows others → IfSome found (Tells rows) → IfSome found (Tells others)

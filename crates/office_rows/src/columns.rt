@@ -1,6 +1,6 @@
 //! Columns of rows: names, types, data, TTLs and identifiers.
 
-ghost use Rattle.std.specs.Prelude.{◌≡◌, ◌==◌, List, ℕ, Ok, map, IfOk};
+ghost use Rattle.std.specs.Prelude.{◌≡◌, ◌==◌, List, ℕ, Ok, map, IfOk, IfSome};
 ghost use Rattle.std.specs.List.{find};
 ghost use Rattle.dns_names.specs.Labels.{IsName};
 ghost use Rattle.dns_names.specs.Spelling.{name_text};
@@ -17,6 +17,7 @@ use dns_names::Name;
 use grant_policy::Identifier;
 use office_state::entry_items;
 use std::alloc::Global;
+use std::net::Ipv4Addr;
 
 /// Reads the canonical text of a name, as `Name::text` gives it. Any other text is `BadRow`, also another spelling of a name.
 pub fn read_origin(alloc: Global, text: &str) -> Result<Name, RowFault>
@@ -70,6 +71,29 @@ pub(crate) fn type_in(number: i64) -> Result<RecordType, RowFault>
     }
 }
 
+/// The data of a record of type A by the text of their address, which has one spelling.
+fn address_in(text: &str) -> Option<Data>
+    ensures { IfSome result (λ rdata. data_in RecordType.A text.now ≡ Ok rdata) }
+{
+    let Ok(address) = Ipv4Addr::parse_ascii(text.as_bytes()) else {
+        return None;
+    };
+    let rdata = Data::A(address);
+    // the proof needs that these are data
+    let _ = rdata.record_type();
+    Some(rdata)
+}
+
+/// The data of a type by a text that needs not be taken apart into items. Most records are of type A.
+fn plain_data(record_type: RecordType, text: &str) -> Option<Data>
+    ensures { IfSome result (λ rdata. data_in record_type text.now ≡ Ok rdata) }
+{
+    match record_type {
+        RecordType::A => address_in(text),
+        _ => None,
+    }
+}
+
 /// The data of a type by a text.
 pub(crate) fn data_from(
     alloc: Global,
@@ -78,6 +102,9 @@ pub(crate) fn data_from(
 ) -> Result<Data, RowFault>
     ensures { Reads (λ made. made) result (data_from record_type text.now) }
 {
+    if let Some(rdata) = plain_data(record_type, text) {
+        return Ok(rdata);
+    }
     let items = fields_of(alloc, text)?;
     Ok(read_data(alloc, record_type, &items, None)?)
 }
@@ -86,6 +113,9 @@ pub(crate) fn data_from(
 pub(crate) fn data_in(alloc: Global, record_type: RecordType, text: &str) -> Result<Data, RowFault>
     ensures { Reads (λ made. made) result (data_in record_type text.now) }
 {
+    if let Some(rdata) = plain_data(record_type, text) {
+        return Ok(rdata);
+    }
     let rdata = data_from(alloc, record_type, text)?;
     if data_text(alloc, &rdata)?.as_str() != text {
         return Err(RowFault::BadRow);

@@ -64,10 +64,7 @@ pub(crate) fn stored_behind(
 }
 
 /// The changes of what rows have, in order. `BadRow` comes where it is not that of the rows of the changes of one zone.
-pub(crate) fn changes_among(
-    alloc: Global,
-    changed: Vec<ChangedRecord>,
-) -> Result<Vec<Change>, RowFault>
+fn changes_among(alloc: Global, changed: Vec<ChangedRecord>) -> Result<Vec<Change>, RowFault>
     ensures { Reads (λ cs. map change_in cs.items) result (changes_among changed.items) }
 {
     if !are_changes(&changed) {

@@ -1,28 +1,27 @@
-//! The changes of the zone that has most, of rows that are checked.
+//! The rows of `changes` of the zone with the most of them, of rows that are checked.
 
 ghost use Rattle.std.specs.Prelude.{◌≡◌, IfSome, filter, map};
 ghost use Rattle.std.specs.List.{AllByRecursion};
 ghost use Rattle.std.specs.List.Sorted.{IsSorted};
+ghost use Rattle.dns_names.specs.Labels.{IsName};
 ghost use Rattle.dns_names.specs.Order.{same_name};
 ghost use Rattle.office_rows.specs.ChangeRows.{changed_order, row_of, IsChanged};
 ghost use Rattle.office_rows.specs.ReadChanges.{Tells};
 
 use crate::changes::ChangedRecord;
-use crate::gathering::changes_among;
 use crate::zones::changes_first;
 use dns_names::Name;
 use std::alloc::Global;
-use zone_core::Change;
 
-/// The changes of a zone, the oldest first.
+/// What the changes of a zone have, the oldest first.
 #[derive(Drop)]
 pub struct ZoneChanges {
     /// The origin of the zone.
     pub origin: Name,
-    pub changes: Vec<Change>,
+    pub changed: Vec<ChangedRecord>,
 }
 
-/// The origin of whose zone most is, of what the changes of zones have, one zone after the other.
+/// The origin with the most rows, of what the changes of zones have, one zone after the other.
 fn most_changed<'a>(origins: &'a [Name], changed: &[ChangedRecord]) -> Option<&'a Name> {
     let mut left = changed;
     let mut most = 0;
@@ -46,8 +45,15 @@ fn own_changes(mut changed: Vec<ChangedRecord>, origin: &Name) -> Vec<ChangedRec
     changed
 }
 
-/// The changes of the zone that has most, of what those of zones have, in order. There is nothing where there is no change or memory
-/// runs out.
+/// An origin is a name. Only proofs need it.
+fn reveal_origin(origin: &Name)
+    ensures { IsName origin.now }
+{
+    let _ = origin.labels();
+}
+
+/// What the changes have of the zone with the most rows, of what those of zones have, in order. There is nothing if there is no change or
+/// memory runs out.
 pub(crate) fn longest_history(
     alloc: Global,
     origins: &[Name],
@@ -58,8 +64,7 @@ pub(crate) fn longest_history(
     ensures { IfSome result (Tells (map row_of changed.items)) }
 {
     let origin = most_changed(origins, &changed)?.try_copy(alloc).ok()?;
-    match changes_among(alloc, own_changes(changed, &origin)) {
-        Ok(changes) => Some(ZoneChanges { origin, changes }),
-        Err(_) => None,
-    }
+    reveal_origin(&origin);
+    let changed = own_changes(changed, &origin);
+    Some(ZoneChanges { origin, changed })
 }

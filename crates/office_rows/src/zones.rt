@@ -54,9 +54,9 @@ pub fn check_records(
     largest_zone(alloc, origins, &records)
 }
 
-/// Checks what the rows of `changes` are read as, and answers the changes of the zone that has most, if there is memory for them. The
-/// rows are `BadRow` where they are not the changes of zones of these origins, which are in canonical order, none twice. `NoMemory` comes
-/// where memory runs out before that is known.
+/// Checks what the rows of `changes` are read as, and answers what those of the zone with the most rows are read as, if there is memory for
+/// its origin. The rows are `BadRow` where they are not the changes of zones of these origins, which are in canonical order, none twice.
+/// `NoMemory` comes where memory runs out before that is known.
 pub fn check_changes(
     alloc: Global,
     origins: &[Name],

@@ -1,9 +1,9 @@
 -- What is remembered of the changes of a zone, and the state that the connection holds.
-use Rattle.std.proofs.Common.{◌≡◌, ℕ, zero, suc, ◌≤◌, List, [], ◌∷◌, ◌++◌, length, map, take, drop, Bool, true, false, not, nat_le, Option, Some, None, pos, option_map, Result, Ok, Err, IsTrue, IsPermutation, refl, sym, ap, subst, ◌∙◌, arith}
+use Rattle.std.proofs.Common.{◌≡◌, ℕ, zero, suc, ◌+◌, ◌<◌, get_or, append_assoc, cond, nat_lt, ◌≤◌, List, [], ◌∷◌, ◌++◌, length, map, take, drop, Bool, true, false, not, nat_le, Option, Some, None, pos, option_map, Result, Ok, Err, OnOk, IsTrue, IsPermutation, refl, sym, ap, subst, ◌∙◌, arith}
 use Rattle.std.proofs.Math.Bool.{Bool-set}
 use Rattle.std.proofs.Math.Logic.{∥∥₁_map, ∥∥₁_elim}
-use Rattle.std.proofs.lemmas.Bool.{and_parts}
-use Rattle.std.proofs.lemmas.List.{length-map}
+use Rattle.std.proofs.lemmas.Bool.{and_from, and_parts}
+use Rattle.std.proofs.lemmas.List.{length-map, take_more}
 use Rattle.std.proofs.lemmas.List.Sorted.{IsPermutation-sym, IsPermutation-trans}
 use Rattle.std.specs.List.{AllByRecursion, list_all}
 use Rattle.sqlite.specs.State.{State as Shown, HasCleanDisk}
@@ -18,7 +18,13 @@ use Rattle.office_sql.specs.Tables.{changes_tree, layout_in, stored_change}
 use Rattle.office_sql.proofs.Selections.{read_as, one_stored_change}
 use Rattle.office_rows.proofs.LaterChangeLaws.{histories_are_one}
 use Rattle.zone_cache.specs.declared.history.ZoneHistory.{ZoneHistory}
-use Rattle.zone_cache.specs.History.{Remembers, are_hidden, hides, hides_each}
+use Rattle.zone_cache.specs.History.{HasAlso, KnowsAll, Remembers, are_hidden, hides, hides_each, without_records}
+use Rattle.office_rows.specs.declared.changes.ChangedRecord.{ChangedRecord}
+use Rattle.office_rows.specs.declared.side.Side.{Side}
+use Rattle.office_rows.specs.declared.side.Side.TheVariants.{Removed, Added}
+use Rattle.office_rows.specs.ChangeRows.{gathered, nothing, opened, placed, with_last, with_record}
+use Rattle.std.proofs.lemmas.List.Folds.{list_all-append}
+use Rattle.std.proofs.lemmas.List.Sums.{fold_push}
 use Rattle.zone_cache.proofs.HistoryLemmas.{remembers_committed}
 use Rattle.office_store.specs.History.{FitsHistory}
 use Rattle.office_store.specs.Cache.{FitsCache}
@@ -126,3 +132,40 @@ history_read old new before after o count most changes asked fits tells remember
     found : (s : State) → Remembers s before → (h : Option Held) → s.zones o ≡ h → Some (map change_in changes) ≡ option_map (λ cs. take most (drop count cs)) (option_map (λ held. held.changes) h) → Remembers s after
     found s are None is e = absurd cc
     found s are (Some held) is e = remembers s held is (cut held.changes (let it : map change_in changes ≡ take most (drop count held.changes) = cc in it)) are
+
+-- ---- what is noted of rows
+
+-- what one more row has
+pub gathered_more : (xs : List ChangedRecord) (i : ℕ) (x : ChangedRecord) → i < length xs → x ≡ get_or xs i x → gathered (take (i + 1) xs) ≡ placed (gathered (take i xs)) x
+gathered_more xs i x low is = ap gathered (take_more xs i x low ∙ ap (λ (y : ChangedRecord). take i xs ++ y ∷ []) (sym is)) ∙ fold_push placed [] (take i xs) x
+
+all_both : (test : Record → Bool) (xs ys : List Record) → list_all test xs ≡ true → list_all test ys ≡ true → list_all test (xs ++ ys) ≡ true
+all_both test xs ys one two = list_all-append test xs ys ∙ and_from (list_all test xs) (list_all test ys) one two
+
+-- a change has one more record on a side
+also : (c : ChangeOf) (s : Side) (r : Record) → HasAlso r c (with_record c s r)
+also c Removed r test here before =
+    let parts = and_parts (list_all test c.removed) (list_all test c.added) (sym (list_all-append test c.removed c.added) ∙ before) in
+    all_both test (c.removed ++ r ∷ []) c.added (all_both test c.removed (r ∷ []) parts.0 (and_from (test r) true here refl)) parts.1
+also c Added r test here before = ap (list_all test) (sym (append_assoc c.removed c.added (r ∷ []))) ∙ all_both test (c.removed ++ c.added) (r ∷ []) before (and_from (test r) true here refl)
+
+-- the last change has one more record, if there is a change
+module _ (mid new : ZoneHistory) (s : Side) (r : Record) (last : (cs : List ChangeOf) (c more : ChangeOf) → KnowsAll mid (cs ++ c ∷ []) → HasAlso r c more → KnowsAll new (cs ++ more ∷ [])) (none : KnowsAll mid [] → KnowsAll new []) where
+  behind : (front : List ChangeOf) (c : ChangeOf) (cs : List ChangeOf) → KnowsAll mid (front ++ c ∷ cs) → KnowsAll new (front ++ with_last (c ∷ cs) s r)
+  behind front c [] knows = last front c (with_record c s r) knows (also c s r)
+  behind front c (d ∷ cs) knows = subst (KnowsAll new) (append_assoc front (c ∷ []) (with_last (d ∷ cs) s r)) (behind (front ++ c ∷ []) d cs (subst (KnowsAll mid) (sym (append_assoc front (c ∷ []) (d ∷ cs))) knows))
+
+  pub noted_last : (cs : List ChangeOf) → KnowsAll mid cs → KnowsAll new (with_last cs s r)
+  noted_last [] knows = none knows
+  noted_last (c ∷ cs) knows = behind [] c cs knows
+
+-- a change is begun where there are fewer
+pub noted_next : (old mid : ZoneHistory) (cs : List ChangeOf) (number : ℕ) → nat_lt (length cs) number ≡ true → (KnowsAll old cs → KnowsAll mid (cs ++ without_records ∷ [])) → KnowsAll old cs → KnowsAll mid (opened cs number)
+noted_next old mid cs number fewer next knows = subst (λ (b : Bool). KnowsAll mid (cond b (cs ++ nothing ∷ []) cs)) (sym fewer) (next knows)
+
+pub noted_same : (mid : ZoneHistory) (cs : List ChangeOf) (number : ℕ) → nat_lt (length cs) number ≡ false → KnowsAll mid cs → KnowsAll mid (opened cs number)
+noted_same mid cs number many knows = subst (λ (b : Bool). KnowsAll mid (cond b (cs ++ nothing ∷ []) cs)) (sym many) knows
+
+pub on_ok_both : {X E : Type 0} (r : Result X E) (A B C : Type 0) → (A → B → C) → OnOk r A → OnOk r B → OnOk r C
+on_ok_both (Ok x) A B C both one two = both one two
+on_ok_both (Err e) A B C both one two = tt

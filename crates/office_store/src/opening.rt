@@ -13,9 +13,10 @@ ghost use Rattle.office_rows.specs.Batches.{nothing_held};
 ghost use Rattle.store_faults.specs.declared.store_fault.StoreFault.TheVariants.{BadRow, WrongVersion};
 ghost use Rattle.store_faults.specs.StoreFaults.{IsFailure, IsOfRows, of_found};
 ghost use Rattle.office_rows.specs.RowRefusals.{of_check};
-ghost use Rattle.office_rows.specs.ChangeRows.{IsChanged, row_of};
+ghost use Rattle.office_rows.specs.ChangeRows.{IsChanged, gathered, opened, placed, row_of};
 ghost use Rattle.office_rows.specs.ReadChanges.{Tells};
-ghost use Rattle.zone_cache.specs.History.{Remembers};
+ghost use Rattle.zone_cache.specs.History.{KnowsAll, Remembers};
+ghost use Rattle.zone_core.specs.Changes.{ChangeOf};
 ghost use Rattle.office_rows.specs.Checks.{Checks, AreOrigins, AreRecordsOf, AreChangesOf, AreReceiptRows, AreStateRows};
 ghost use Rattle.office_store.specs.Cache.{IsZoneIn};
 ghost use Rattle.office_store.specs.Opening.{IsCheck, IsNow, AreRemembered, HasOrigins, VersionIn, OriginsIn, RecordsFound, ChangesFound, ReceiptsIn, StateFound};
@@ -33,10 +34,10 @@ use office_sql::{
     has_tables, make_tables, versions,
 };
 use sqlite::{Alter, Connection};
-use std::alloc::Global;
+use std::alloc::{AllocError, Global};
 use std::sync::ledger::Blank;
 use store_faults::StoreFault;
-use zone_cache::{ZoneHistory, history_of};
+use zone_cache::ZoneHistory;
 use zone_core::Zone;
 
 /// The version of the tables, in the one row of `meta`.
@@ -56,7 +57,7 @@ pub struct Refused<S: Alter + Drop> {
 pub(crate) struct Checked {
     /// The largest zone.
     pub(crate) largest: Option<Zone>,
-    /// What the changes touch of the zone that has most of them.
+    /// What the changes touch of the zone with the most rows of them.
     pub(crate) history: Option<ZoneHistory>,
 }
 
@@ -196,18 +197,66 @@ fn check_records<S: Alter>(
     }
 }
 
-/// What the changes touch that were read of a zone, if some were.
+/// Goes on to the change of a number, where that is not the last one. The only error is out of memory.
+fn open_change(alloc: Global, history: &mut ZoneHistory, number: u64) -> Result<(), AllocError>
+    ensures origin { history.new.origin ≡ history.old.origin }
+    ensures opened { OnOk result ((cs : List ChangeOf) → KnowsAll history.old cs → KnowsAll history.new (opened cs number)) }
+{
+    if (history.count() as u64) < number {
+        return history.begin_change(alloc);
+    }
+    Ok(())
+}
+
+/// Notes what one more row of `changes` has, behind those before it. The only error is out of memory.
+fn note(alloc: Global, history: &mut ZoneHistory, changed: &ChangedRecord) -> Result<(), AllocError>
+    ensures origin { history.new.origin ≡ history.old.origin }
+    ensures placed { OnOk result ((cs : List ChangeOf) → KnowsAll history.old cs → KnowsAll history.new (placed cs changed.now)) }
+{
+    open_change(alloc, history, changed.number)?;
+    history.note(alloc, &changed.changed)
+}
+
+/// Notes what the changes of a zone have. The only error is out of memory.
+fn note_all(
+    alloc: Global,
+    history: &mut ZoneHistory,
+    changed: &[ChangedRecord],
+) -> Result<(), AllocError>
+    ensures origin { history.new.origin ≡ history.old.origin }
+    ensures gathered { OnOk result (KnowsAll history.old [] → KnowsAll history.new (gathered changed.now)) }
+{
+    for one in changed {
+        note(alloc, history, one)?;
+    }
+    Ok(())
+}
+
+/// What the changes of a zone touch. The only error is out of memory.
+fn history_of(alloc: Global, zone: &ZoneChanges) -> Result<ZoneHistory, AllocError>
+    ensures origin { IfOk result (λ history. history.origin ≡ zone.now.origin) }
+    ensures all { IfOk result (λ history. KnowsAll history (gathered zone.now.changed.items)) }
+{
+    let mut history = ZoneHistory::new(alloc, &zone.origin)?;
+    note_all(alloc, &mut history, &zone.changed)?;
+    Ok(history)
+}
+
+/// What the changes touch that were read of a zone, if some were, and there is memory.
 fn remembered(alloc: Global, longest: Option<ZoneChanges>) -> Option<ZoneHistory>
     ensures { (rows : List ChangeRowOf) → IfSome longest (Tells rows) → AreRemembered rows result }
 {
-    match longest {
-        Some(zone) => history_of(alloc, &zone.origin, &zone.changes),
-        None => None,
+    let Some(zone) = longest else {
+        return None;
+    };
+    match history_of(alloc, &zone) {
+        Ok(history) => Some(history),
+        Err(_) => None,
     }
 }
 
-/// Checks what the rows of `changes` are read as, which are to be of zones of these origins, and remembers what the changes touch of the
-/// zone that has most.
+/// Checks what the rows of `changes` are read as, which are to be of zones of these origins, and remembers what those of the zone with the
+/// most rows touch.
 fn checked_history(
     alloc: Global,
     origins: &[Name],
@@ -222,8 +271,7 @@ fn checked_history(
     Ok(remembered(alloc, longest))
 }
 
-/// Checks the rows of `changes`, which are to be of zones of these origins, and remembers what the changes touch of the zone that has
-/// most.
+/// Checks the rows of `changes`, which are to be of zones of these origins, and remembers what those of the zone with the most rows touch.
 fn check_changes<S: Alter>(
     alloc: Global,
     conn: &mut Connection<S>,

@@ -1,5 +1,5 @@
 -- What is remembered of the changes of a zone.
-use Rattle.std.proofs.Common.{◌≡◌, ℕ, zero, suc, ◌+◌, ◌<◌, ◌≤◌, List, [], ◌∷◌, ◌++◌, length, get_or, map, take, drop, Bool, true, false, not, nat_le, cond, Option, Some, None, option_map, Result, Ok, Err, IsTrue, refl, sym, ap, subst, ◌∙◌, arith}
+use Rattle.std.proofs.Common.{◌≡◌, ℕ, zero, suc, ◌+◌, ◌<◌, ◌≤◌, List, [], ◌∷◌, ◌++◌, length, length-append, get_or, map, take, drop, Bool, true, false, not, nat_le, cond, Option, Some, None, option_map, Result, Ok, Err, IsTrue, refl, sym, ap, subst, ◌∙◌, arith}
 use Rattle.std.proofs.lemmas.Bool.{and_parts, and_from}
 use Rattle.std.specs.List.{list_all}
 use Rattle.std.specs.Result.{is_err, is_ok}
@@ -62,6 +62,21 @@ module _ (o : Labels) where
       each (suc n) (t ∷ ts) (c ∷ cs) are few none =
           let both = and_parts (includes_none g t.points.items) (list_all (λ t. includes_none g t.points.items) (take n ts)) none in
           and_from (hides g c) (list_all (hides g) (take n cs)) (are.0 g soa both.0) (each n ts cs are.1 (omega arith) both.1)
+
+  -- one more change, of which nothing is to be remembered yet
+  pub touched_empty : (ts : List Touched) (cs : List ChangeOf) (t : Touched) (c : ChangeOf) → AreTouched o ts cs → length ts ≡ length cs → Covers o t c → AreTouched o (ts ++ t ∷ []) (cs ++ c ∷ [])
+  touched_empty [] [] t c are same covers = (covers, tt)
+  touched_empty [] (d ∷ cs) t c are same covers = absurd (omega (arith, same))
+  touched_empty (u ∷ ts) [] t c are same covers = absurd are
+  touched_empty (u ∷ ts) (d ∷ cs) t c are same covers = (are.0, touched_empty ts cs t c are.1 (omega (arith, same)) covers)
+
+  -- the last of some changes, and what of it is remembered, in the place of another
+  pub touched_last : (ts : List Touched) (cs : List ChangeOf) (t u : Touched) (c d : ChangeOf) → AreTouched o (ts ++ t ∷ []) (cs ++ c ∷ []) → length (ts ++ t ∷ []) ≡ length (cs ++ c ∷ []) → (Covers o t c → Covers o u d)
+      → AreTouched o (ts ++ u ∷ []) (cs ++ d ∷ [])
+  touched_last [] [] t u c d are same covers = (covers are.0, tt)
+  touched_last [] (x ∷ cs) t u c d are same covers = absurd (omega (arith, same, length-append cs (c ∷ [])))
+  touched_last (x ∷ ts) [] t u c d are same covers = absurd (omega (arith, same, length-append ts (t ∷ [])))
+  touched_last (x ∷ ts) (y ∷ cs) t u c d are same covers = (are.0, touched_last ts cs t u c d are.1 (omega (arith, same)) covers)
 
 -- one more record that grants leave out
 pub hides_more : (g : GrantsOf) (rs : List Record) (i : ℕ) (r : Record) → i < length rs → r ≡ get_or rs i r → IsTrue (hides_each g (take i rs)) → includes g r.owner (type_of r.rdata) ≡ false → IsTrue (hides_each g (take (i + 1) rs))

@@ -1,5 +1,5 @@
 -- What is remembered of the changes of a zone.
-use Rattle.std.specs.Prelude.{◌≡◌, ℕ, List, [], ◌∷◌, ◌++◌, Bool, false, not, ◌&&◌, nat_le, Option, Some, None, length, take, IsTrue}
+use Rattle.std.specs.Prelude.{◌≡◌, ℕ, List, [], ◌∷◌, ◌++◌, Bool, true, false, not, ◌&&◌, nat_le, Option, Some, None, length, take, IsTrue}
 use Rattle.std.specs.List.{list_all}
 use Rattle.dns_data.specs.declared.record.Record.{Record}
 use Rattle.dns_data.specs.declared.record_type.RecordType.TheVariants.{Soa}
@@ -40,6 +40,18 @@ abbrev pub AreTouched : List (List ℕ) → List Touched → List ChangeOf → T
 AreTouched origin [] cs = Unit {0}
 AreTouched origin (touched ∷ more) [] = ⊥
 AreTouched origin (touched ∷ more) (c ∷ cs) = Covers origin touched c × AreTouched origin more cs
+
+-- of each of some changes it is remembered what it touches, and of no more
+abbrev pub KnowsAll : ZoneHistory → List ChangeOf → Type 0
+KnowsAll zone cs = AreTouched zone.origin zone.changes.items cs × (length zone.changes.items ≡ length cs)
+
+-- a change without a record
+abbrev pub without_records : ChangeOf
+without_records = record { removed = []; added = [] }
+
+-- each record of a change is a record, or one of another change
+abbrev pub HasAlso : Record → ChangeOf → ChangeOf → Type 0
+HasAlso r c more = (test : Record → Bool) → test r ≡ true → list_all test (c.removed ++ c.added) ≡ true → list_all test (more.removed ++ more.added) ≡ true
 
 -- the changes of a zone of a state begin with those that are remembered
 abbrev pub Remembers : State → Option ZoneHistory → Type 0

@@ -1,14 +1,14 @@
 //! What the changes of a zone touch, as far as they were read. A change stays as it was made, so it need not be read again for who sees
 //! nothing of it.
 
-ghost use Rattle.std.specs.Prelude.{◌≡◌, ◌+◌, ◌≤◌, List, [], Some, true, false, IfOk, OnOk, IsTrue, length, map, take, drop};
+ghost use Rattle.std.specs.Prelude.{◌≡◌, ◌+◌, ◌++◌, ◌∷◌, ◌≤◌, List, [], Some, true, false, IfOk, OnOk, IsTrue, length, map, take, drop};
 ghost use Rattle.std.specs.List.{list_all};
 ghost use Rattle.dns_data.specs.declared.record_type.RecordType.TheVariants.{Soa};
 ghost use Rattle.dns_data.specs.Rdata.{type_of};
 ghost use Rattle.grant_policy.specs.Grants.{GrantsOf, includes};
 ghost use Rattle.zone_core.specs.Changes.{ChangeOf, change_in};
 ghost use Rattle.office_state.specs.States.{Held, State};
-ghost use Rattle.zone_cache.specs.History.{AreTouched, Covers, Remembers, are_hidden, hides_each, includes_none};
+ghost use Rattle.zone_cache.specs.History.{AreTouched, Covers, HasAlso, KnowsAll, Remembers, are_hidden, hides_each, includes_none, without_records};
 
 use dns_data::{Record, RecordType};
 use dns_names::Name;
@@ -169,15 +169,47 @@ pub struct ZoneHistory {
 }
 
 impl ZoneHistory {
-    /// Nothing of it yet. The only error is out of memory.
-    fn new(alloc: Global, origin: &Name) -> Result<ZoneHistory, AllocError>
+    /// Nothing of the zone of an origin yet. The only error is out of memory.
+    pub fn new(alloc: Global, origin: &Name) -> Result<ZoneHistory, AllocError>
         ensures origin { IfOk result (λ zone. zone.origin ≡ origin.now) }
-        ensures none { IfOk result (λ zone. zone.changes.items ≡ []) }
+        ensures none { IfOk result (λ zone. KnowsAll zone []) }
     {
         Ok(ZoneHistory {
             origin: origin.try_copy(alloc)?,
             changes: Vec::new(alloc),
         })
+    }
+
+    /// How many changes are remembered.
+    pub fn count(&self) -> usize
+        ensures { (cs : List ChangeOf) → KnowsAll self.now cs → result ≡ length cs }
+    {
+        self.changes.len()
+    }
+
+    /// Goes on to the next change, which has no record yet. The only error is out of memory.
+    pub fn begin_change(&mut self, alloc: Global) -> Result<(), AllocError>
+        ensures origin { self.new.origin ≡ self.old.origin }
+        ensures next { OnOk result ((cs : List ChangeOf) → KnowsAll self.old cs → KnowsAll self.new (cs ++ without_records ∷ [])) }
+    {
+        let points = Vec::new(alloc);
+        self.changes.push(Touched { points })?;
+        Ok(())
+    }
+
+    /// Notes one more record of the last change, if there is a change. Behind an error, which is out of memory, the last change may be
+    /// forgotten.
+    pub fn note(&mut self, alloc: Global, rr: &Record) -> Result<(), AllocError>
+        ensures origin { self.new.origin ≡ self.old.origin }
+        ensures last { OnOk result ((cs : List ChangeOf) (c more : ChangeOf) → KnowsAll self.old (cs ++ c ∷ []) → HasAlso rr.now c more → KnowsAll self.new (cs ++ more ∷ [])) }
+        ensures none { OnOk result (KnowsAll self.old [] → KnowsAll self.new []) }
+    {
+        let Some(mut last) = self.changes.pop() else {
+            return Ok(());
+        };
+        push_point(alloc, &mut last.points, &self.origin, rr)?;
+        self.changes.push(last)?;
+        Ok(())
     }
 
     /// Appends what the next changes touch, as far as there is memory.
@@ -212,17 +244,6 @@ impl ZoneHistory {
             Err(_) => unknown(),
         }
     }
-}
-
-/// What all changes of the zone of an origin touch, as far as there is memory.
-pub fn history_of(alloc: Global, origin: &Name, changes: &[Change]) -> Option<ZoneHistory>
-    ensures { (s : State) → ((held : Held) → s.zones origin.now ≡ Some held → map change_in changes.now ≡ held.changes) → Remembers s result }
-{
-    let Ok(mut zone) = ZoneHistory::new(alloc, origin) else {
-        return None;
-    };
-    zone.push(alloc, changes);
-    Some(zone)
 }
 
 /// Whether what is remembered is of the zone of an origin.

@@ -10,4 +10,4 @@ mod row_pieces;
 pub use cached_zone::{
     CachedZone, cached_of, follow, is_cached, part_of_cached, subtree_of_cached, take_cached,
 };
-pub use history::{ZoneHistory, ahead_in, history_of, remember};
+pub use history::{ZoneHistory, ahead_in, remember};

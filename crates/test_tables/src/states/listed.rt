@@ -1,17 +1,16 @@
 //! What is listed of the rows of all tables.
 
-use crate::states::reads::push_changes;
 use anyhow::Result;
 use dns_names::Name;
 use office_rows::{
-    KeptReceipt, ZoneChanges, check_changes, checked_origins, kept_receipts, origins,
-    sorted_changes,
+    ChangedRecord, KeptReceipt, ZoneChanges, check_changes, checked_origins, kept_receipts,
+    origins, sorted_changes,
 };
 use office_sql::AllRows;
 use std::alloc::{AllocError, Global};
 use test_rows::Row;
 
-/// Appends the origins of the zones, the receipts, or the changes of the zone that has most.
+/// Appends the origins of the zones, the receipts, or the changes of the zone with the most rows of them.
 pub fn push_listed(
     alloc: Global,
     row: &Row<'_>,
@@ -25,7 +24,7 @@ pub fn push_listed(
     }
 }
 
-/// The origin of the zone that has most changes, and these.
+/// The origin of the zone with the most rows of changes, and what these have.
 fn push_longest(alloc: Global, rows: &AllRows, answer: &mut Vec<u8>) -> Result<()> {
     let origins = checked_origins(origins(alloc, &rows.zones)?)?;
     match check_changes(alloc, &origins, sorted_changes(alloc, &rows.changes)?)? {
@@ -41,7 +40,20 @@ fn push_zone_changes(
 ) -> Result<(), AllocError> {
     let origin = zone.origin.text(alloc)?;
     answer.extend_from_slice(format!(in alloc; "{origin}\n")?.as_bytes())?;
-    push_changes(alloc, &zone.changes, answer)
+    for changed in &zone.changed {
+        push_changed(alloc, changed, answer)?;
+    }
+    Ok(())
+}
+
+/// The number of the change, its side and the record.
+fn push_changed(
+    alloc: Global,
+    changed: &ChangedRecord,
+    answer: &mut Vec<u8>,
+) -> Result<(), AllocError> {
+    let (number, side, record) = (changed.number, changed.side.number(), &changed.changed);
+    answer.extend_from_slice(format!(in alloc; "{number} {side} {record}\n")?.as_bytes())
 }
 
 fn push_origins(alloc: Global, origins: &[Name], answer: &mut Vec<u8>) -> Result<(), AllocError> {

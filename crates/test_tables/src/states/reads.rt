@@ -22,12 +22,7 @@ fn push_records(
     Ok(())
 }
 
-/// Appends changes, each with the records that went and those that came.
-pub fn push_changes(
-    alloc: Global,
-    changes: &[Change],
-    answer: &mut Vec<u8>,
-) -> Result<(), AllocError> {
+fn push_changes(alloc: Global, changes: &[Change], answer: &mut Vec<u8>) -> Result<(), AllocError> {
     for change in changes {
         answer.extend_from_slice(b"change\n")?;
         push_records(alloc, "- ", &change.removed, answer)?;

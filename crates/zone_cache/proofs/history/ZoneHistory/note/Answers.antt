@@ -1,0 +1,25 @@
+use Rattle.std.proofs.Common.{◌≡◌, List, [], ◌∷◌, ◌++◌, not, length, length-append, sym, ap, subst, ◌∙◌, arith}
+use Rattle.dns_data.specs.declared.record.Record.{Record}
+use Rattle.dns_data.specs.Rdata.{type_of}
+use Rattle.grant_policy.specs.Grants.{includes}
+use Rattle.zone_cache.specs.declared.history.Touched.{Touched}
+use Rattle.zone_cache.specs.History.{AreTouched}
+use Rattle.zone_cache.proofs.HistoryLemmas.{touched_last}
+use Rattle.zone_cache.proofs.history.ZoneHistory.note.Goals as goal
+
+pub returns-clause-last : goal.returns-clause-last
+returns-clause-last c = λ cs d more knows also.
+    let o = c.args.self.now.origin in
+    let front = c.pop.new.self.items in
+    let was = c.in-Some.last in
+    let is = c.in_ok-push_point.ensures in
+    let before : c.args.self.now.changes.items ≡ front ++ was ∷ [] = c.in-Some.ensures.items in
+    let many : length (front ++ was ∷ []) ≡ length (cs ++ d ∷ []) = ap (λ (l : List Touched). length l) (sym before) ∙ knows.1 in
+    let new : Touched = record { points = c.push_point.new.points } in
+    let made : AreTouched o (front ++ new ∷ []) (cs ++ more ∷ []) =
+    touched_last o front cs was new d more (subst (λ l. AreTouched o l (cs ++ d ∷ [])) before knows.0) many (λ covers g soa none.
+    let parts = is g soa none in
+    also (λ (r : Record). not (includes g r.owner (type_of r.rdata))) (ap not parts.1) (covers g soa parts.0)) in (
+      subst (λ l. AreTouched o l (cs ++ more ∷ [])) (sym c.in_ok-push.ensures.items) made,
+      ap (λ (l : List Touched). length l) c.in_ok-push.ensures.items ∙ (let e : length (front ++ new ∷ []) ≡ length (cs ++ more ∷ []) = omega (arith, many, length-append front (was ∷ []), length-append front (new ∷ []), length-append cs (d ∷ []), length-append cs (more ∷ [])) in e),
+    )
