@@ -18,6 +18,7 @@ use std::alloc::Global;
 pub struct ZoneChanges {
     /// The origin of the zone.
     pub origin: Name,
+    /// The records that they remove and add.
     pub changed: Vec<ChangedRecord>,
 }
 

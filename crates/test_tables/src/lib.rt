@@ -15,7 +15,8 @@
 //! `record ORIGIN OWNER TYPE TTL KEY DATA`, `change ORIGIN NUMBER SIDE OWNER TYPE TTL DATA` or
 //! `receipt CALLER ID ORIGIN ITEM|..|REPLY`. `rows` keeps the rows of its body. `state VERSION` tells whether they are a state of that
 //! version, `reversed` the same of them the other way round, `also` of them and those of the body, and `without` of them without
-//! those. `origins` and `receipts` print what is listed of them, and `longest` those of the changes of the zone with the most of them. `zone ORIGIN`, `part ORIGIN`, `subtree`, `receipt` and `changes` print what is read of the rows of the body.
+//! those. `origins` and `receipts` print what is listed of them, and `longest` the changes of the zone with the most rows of changes.
+//! `zone ORIGIN`, `part ORIGIN`, `subtree`, `receipt` and `changes` print what is read of the rows of the body.
 //! `addition NUMBER REPLY` prints what is written for an update of the items that lines `item` say, whose change lines `gone` and
 //! `come` say; `new-zone` for the zone of the records of the body; and `replacement NUMBER` for that of lines `new` in the place of
 //! that of lines `old`.

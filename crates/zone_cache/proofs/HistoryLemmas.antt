@@ -1,5 +1,5 @@
 -- What is remembered of the changes of a zone.
-use Rattle.std.proofs.Common.{◌≡◌, ℕ, zero, suc, ◌+◌, ◌<◌, ◌≤◌, List, [], ◌∷◌, ◌++◌, length, length-append, get_or, map, take, drop, Bool, true, false, not, nat_le, cond, Option, Some, None, option_map, Result, Ok, Err, IsTrue, refl, sym, ap, subst, ◌∙◌, arith}
+use Rattle.std.proofs.Common.{◌≡◌, ℕ, zero, suc, ◌+◌, ◌<◌, ◌≤◌, List, [], ◌∷◌, ◌++◌, length, length-append, get_or, map, take, drop, Bool, true, false, not, nat_le, cond, Option, Some, None, option_map, Result, Ok, Err, OnErr, IsTrue, refl, sym, ap, subst, ◌∙◌, arith}
 use Rattle.std.proofs.lemmas.Bool.{and_parts, and_from}
 use Rattle.std.specs.List.{list_all}
 use Rattle.std.specs.Result.{is_err, is_ok}
@@ -77,6 +77,26 @@ module _ (o : Labels) where
   touched_last [] (x ∷ cs) t u c d are same covers = absurd (omega (arith, same, length-append cs (c ∷ [])))
   touched_last (x ∷ ts) [] t u c d are same covers = absurd (omega (arith, same, length-append ts (t ∷ [])))
   touched_last (x ∷ ts) (y ∷ cs) t u c d are same covers = (are.0, touched_last ts cs t u c d are.1 (omega (arith, same)) covers)
+
+  -- the last of some changes goes, with what of it is remembered
+  touched_front : (ts : List Touched) (t : Touched) (cs : List ChangeOf) → AreTouched o (ts ++ t ∷ []) cs → length (ts ++ t ∷ []) ≡ length cs
+      → (front : List ChangeOf) × (last : ChangeOf) × (cs ≡ front ++ last ∷ []) × (AreTouched o ts front × (length ts ≡ length front))
+  touched_front [] t [] are same = absurd are
+  touched_front [] t (c ∷ []) are same = ([], c, refl, (tt, refl))
+  touched_front [] t (c ∷ d ∷ cs) are same = absurd (omega (arith, same))
+  touched_front (u ∷ ts) t [] are same = absurd are
+  touched_front (u ∷ ts) t (c ∷ cs) are same =
+      let it = touched_front ts t cs are.1 (omega (arith, same)) in
+      (c ∷ it.0, it.1, ap (λ (l : List ChangeOf). c ∷ l) it.2, ((are.0, it.3.0), ap suc it.3.1))
+
+  -- the same of what a history knows
+  pub knows_front : (known ts : List Touched) (t : Touched) (cs : List ChangeOf) → known ≡ ts ++ t ∷ [] → AreTouched o known cs → length known ≡ length cs
+      → (front : List ChangeOf) × (last : ChangeOf) × (cs ≡ front ++ last ∷ []) × (AreTouched o ts front × (length ts ≡ length front))
+  knows_front known ts t cs is are same = touched_front ts t cs (subst (λ l. AreTouched o l cs) is are) (ap (λ (l : List Touched). length l) (sym is) ∙ same)
+
+pub on_err : {X E : Type 0} (r : Result X E) (A : Type 0) → A → OnErr r A
+on_err (Ok x) A a = tt
+on_err (Err e) A a = a
 
 -- one more record that grants leave out
 pub hides_more : (g : GrantsOf) (rs : List Record) (i : ℕ) (r : Record) → i < length rs → r ≡ get_or rs i r → IsTrue (hides_each g (take i rs)) → includes g r.owner (type_of r.rdata) ≡ false → IsTrue (hides_each g (take (i + 1) rs))

@@ -49,7 +49,7 @@ KnowsAll zone cs = AreTouched zone.origin zone.changes.items cs × (length zone.
 abbrev pub without_records : ChangeOf
 without_records = record { removed = []; added = [] }
 
--- each record of a change is a record, or one of another change
+-- a change has no record besides those of another one and one more: what holds of these holds of all that it has
 abbrev pub HasAlso : Record → ChangeOf → ChangeOf → Type 0
 HasAlso r c more = (test : Record → Bool) → test r ≡ true → list_all test (c.removed ++ c.added) ≡ true → list_all test (more.removed ++ more.added) ≡ true
 

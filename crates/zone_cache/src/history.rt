@@ -1,7 +1,7 @@
 //! What the changes of a zone touch, as far as they were read. A change stays as it was made, so it need not be read again for who sees
 //! nothing of it.
 
-ghost use Rattle.std.specs.Prelude.{◌≡◌, ◌+◌, ◌++◌, ◌∷◌, ◌≤◌, List, [], Some, true, false, IfOk, OnOk, IsTrue, length, map, take, drop};
+ghost use Rattle.std.specs.Prelude.{◌≡◌, ◌+◌, ◌++◌, ◌∷◌, ◌≤◌, List, [], Some, true, false, IfOk, OnOk, OnErr, IsTrue, length, map, take, drop};
 ghost use Rattle.std.specs.List.{list_all};
 ghost use Rattle.dns_data.specs.declared.record_type.RecordType.TheVariants.{Soa};
 ghost use Rattle.dns_data.specs.Rdata.{type_of};
@@ -187,22 +187,23 @@ impl ZoneHistory {
         self.changes.len()
     }
 
-    /// Goes on to the next change, which has no record yet. The only error is out of memory.
+    /// Goes on to the next change, which has no record yet. The only error is out of memory, behind which nothing has changed.
     pub fn begin_change(&mut self, alloc: Global) -> Result<(), AllocError>
         ensures origin { self.new.origin ≡ self.old.origin }
         ensures next { OnOk result ((cs : List ChangeOf) → KnowsAll self.old cs → KnowsAll self.new (cs ++ without_records ∷ [])) }
+        ensures failed { OnErr result ((cs : List ChangeOf) → KnowsAll self.old cs → KnowsAll self.new cs) }
     {
         let points = Vec::new(alloc);
         self.changes.push(Touched { points })?;
         Ok(())
     }
 
-    /// Notes one more record of the last change, if there is a change. Behind an error, which is out of memory, the last change may be
-    /// forgotten.
+    /// Notes one more record of the last change, if there is one. The only error is out of memory, behind which that change is forgotten.
     pub fn note(&mut self, alloc: Global, rr: &Record) -> Result<(), AllocError>
         ensures origin { self.new.origin ≡ self.old.origin }
         ensures last { OnOk result ((cs : List ChangeOf) (c more : ChangeOf) → KnowsAll self.old (cs ++ c ∷ []) → HasAlso rr.now c more → KnowsAll self.new (cs ++ more ∷ [])) }
         ensures none { OnOk result (KnowsAll self.old [] → KnowsAll self.new []) }
+        ensures failed { OnErr result ((cs : List ChangeOf) → KnowsAll self.old cs → (front : List ChangeOf) × (last : ChangeOf) × (cs ≡ front ++ last ∷ []) × KnowsAll self.new front) }
     {
         let Some(mut last) = self.changes.pop() else {
             return Ok(());

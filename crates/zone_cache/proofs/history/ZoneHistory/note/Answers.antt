@@ -4,7 +4,7 @@ use Rattle.dns_data.specs.Rdata.{type_of}
 use Rattle.grant_policy.specs.Grants.{includes}
 use Rattle.zone_cache.specs.declared.history.Touched.{Touched}
 use Rattle.zone_cache.specs.History.{AreTouched}
-use Rattle.zone_cache.proofs.HistoryLemmas.{touched_last}
+use Rattle.zone_cache.proofs.HistoryLemmas.{knows_front, on_err, touched_last}
 use Rattle.zone_cache.proofs.history.ZoneHistory.note.Goals as goal
 
 pub returns-clause-last : goal.returns-clause-last
@@ -23,3 +23,12 @@ returns-clause-last c = λ cs d more knows also.
       subst (λ l. AreTouched o l (cs ++ more ∷ [])) (sym c.in_ok-push.ensures.items) made,
       ap (λ (l : List Touched). length l) c.in_ok-push.ensures.items ∙ (let e : length (front ++ new ∷ []) ≡ length (cs ++ more ∷ []) = omega (arith, many, length-append front (was ∷ []), length-append front (new ∷ []), length-append cs (d ∷ []), length-append cs (more ∷ [])) in e),
     )
+
+pub returns-in_err-push_point-clause-failed : goal.returns-in_err-push_point-clause-failed
+returns-in_err-push_point-clause-failed c = on_err c.from_residual.result _ (λ cs knows. knows_front c.args.self.now.origin c.args.self.now.changes.items c.pop.new.self.items c.in-Some.last cs c.in-Some.ensures.items knows.0 knows.1)
+
+pub returns-in_err-push-clause-failed : goal.returns-in_err-push-clause-failed
+returns-in_err-push-clause-failed c =
+    let last = c.in-Some.last in
+    let before : c.args.self.now.changes.items ≡ c.push.new.self.items ++ last ∷ [] = c.in-Some.ensures.items ∙ ap (λ (l : List Touched). l ++ last ∷ []) (sym c.in_err-push.ensures.items) in
+    on_err c.from_residual-in_err-push.result _ (λ cs knows. knows_front c.args.self.now.origin c.args.self.now.changes.items c.push.new.self.items last cs before knows.0 knows.1)
