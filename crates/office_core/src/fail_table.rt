@@ -82,6 +82,11 @@ impl<L: Ledger> ZoneTable for FailTable<L> {
 
     ghost failures = { λ t. t.book.total };
 
+    fn has_zone(&mut self, alloc: Global, origin: &Name) -> Result<bool, TableFault> {
+        self.call(TableCall::Zone)?;
+        self.table.has_zone(alloc, origin)
+    }
+
     fn zone(&mut self, alloc: Global, origin: &Name) -> Result<Option<Zone>, TableFault> {
         self.call(TableCall::Zone)?;
         self.table.zone(alloc, origin)

@@ -188,6 +188,10 @@ impl ZoneTable for MemTable {
 
     ghost failures = { λ _. 0 };
 
+    fn has_zone(&mut self, _alloc: Global, origin: &Name) -> Result<bool, TableFault> {
+        Ok(held(&self.zones, origin).is_some())
+    }
+
     fn zone(&mut self, alloc: Global, origin: &Name) -> Result<Option<Zone>, TableFault> {
         let Some(held) = held(&self.zones, origin) else {
             return Ok(None);

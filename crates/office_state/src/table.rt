@@ -1,6 +1,7 @@
 //! What the machine asks of a table.
 
 ghost use Rattle.std.specs.Prelude.{◌≡◌, ℕ, ◌+◌, List, Option, Some, map, drop, take, option_map, IfOk, IfSome, OnOk, OnErr};
+ghost use Rattle.std.specs.Option.{is_some};
 ghost use Rattle.dns_data.specs.declared.record.Record.{Record};
 ghost use Rattle.zone_core.specs.Sets.{InOrder};
 ghost use Rattle.zone_core.specs.Changes.{change_in};
@@ -29,6 +30,11 @@ pub trait ZoneTable {
 
     // How many calls have answered `Store` so far. The count has no greatest value.
     ghost failures: { Self → ℕ };
+
+    /// Whether there is the zone of an origin. None of its records is read.
+    fn has_zone(&mut self, alloc: Global, origin: &Name) -> Result<bool, TableFault>
+        ensures answer { is_honest self.new → IfOk result (λ found. (s : State) → holds self.old s → found ≡ is_some (s.zones origin.now)) }
+        ensures reads { ReadsOnly holds is_honest leaves failures self.old self.new result };
 
     /// The zone of an origin, where there is one.
     fn zone(&mut self, alloc: Global, origin: &Name) -> Result<Option<Zone>, TableFault>
