@@ -138,7 +138,7 @@ class Office:
 def set_up_front(users, password):
     """Sets up the office's files and the front server as operations.md tells it, by the commands that it shows."""
     top = os.path.join(HERE, "../..")
-    must("rm -f /etc/nginx/sites-enabled/* /etc/nginx/conf.d/*")
+    must("rm -f /etc/nginx/sites-enabled/* /etc/nginx/conf.d/* && echo 127.0.0.1 office.example.org >> /etc/hosts")
     for command in shown("operations.md", "useradd --system").splitlines():
         if not command.startswith(("install -m 755 crates/", "systemctl", "install -m 644 examples/office/zoneoffice.service")):
             must(command, cwd=top)
