@@ -1086,9 +1086,12 @@ async function askRights() {
     }
     say(`Asking for ${read.name} ${type} …`);
     const path = `/rights/${part(read.name)}/${type}`;
-    const replies = await Promise.all(Object.keys(ACTIONS).map((action) => request("GET", `${path}/${action}`)));
-    if (asked !== rightAsks) {
-        return;
+    const replies = [];
+    for (const action of Object.keys(ACTIONS)) {
+        replies.push(await request("GET", `${path}/${action}`));
+        if (asked !== rightAsks) {
+            return;
+        }
     }
     $("ask-caption").textContent = `${caller}, with ${type} at ${read.name}`;
     $("answers").replaceChildren(...Object.entries(ACTIONS).map(([action, what], at) => {
