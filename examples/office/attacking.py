@@ -200,6 +200,7 @@ class Attack:
         return time.monotonic() < self.until
 
     def run(self):
+        os.nice(10)  # an attacker has a machine of its own, and takes no time of this one
         one = self.half_open if self.kind == "half-open" else self.streams if self.kind in STREAMS else self.requests
         for _ in range(1 if self.kind == "half-open" else self.clients):
             threading.Thread(target=one, daemon=True).start()

@@ -147,7 +147,7 @@ def set_up_front(users, password):
             for user in users:
                 must(f"htpasswd -i /etc/zoneoffice/front/users '{user}'", input=password(user))
         elif command.startswith("install -m 644 cert"):
-            must("openssl req -x509 -newkey rsa:2048 -nodes -subj /CN=office.example.org -days 2 "
+            must("openssl req -x509 -newkey ec -pkeyopt ec_paramgen_curve:P-256 -nodes -subj /CN=office.example.org -days 2 "
                  "-keyout /etc/zoneoffice/front/key.pem -out /etc/zoneoffice/front/cert.pem")
         elif not command.startswith(("systemctl", "install -m 600 key")):
             must(command, cwd=top)
