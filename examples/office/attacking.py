@@ -200,7 +200,7 @@ class Attack:
         return time.monotonic() < self.until
 
     def run(self):
-        os.nice(10)  # an attacker has a machine of its own, and takes no time of this one
+        os.nice(5)  # an attacker has a machine of its own, and takes no time of this one
         one = self.half_open if self.kind == "half-open" else self.streams if self.kind in STREAMS else self.requests
         for _ in range(1 if self.kind == "half-open" else self.clients):
             threading.Thread(target=one, daemon=True).start()
@@ -312,9 +312,14 @@ def start(kind, clients, seconds, source, user=None):
 
 
 def came(attack):
-    """What came back to an attack, once it has ended."""
-    said, _ = attack.communicate(timeout=60)
-    return json.loads(said)
+    """What came back to an attack, once it has ended. One that does not end on a machine with other work is ended, and counts as
+    nothing."""
+    try:
+        return json.loads(attack.communicate(timeout=60)[0])
+    except subprocess.TimeoutExpired:
+        attack.kill()
+        attack.communicate()
+        return {"answers": {}, "closed": 0, "octets": 0}
 
 
 if __name__ == "__main__":
