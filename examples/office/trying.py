@@ -169,11 +169,6 @@ def set_up_front(users, password):
     must("nginx")
 
 
-def groups():
-    """The control groups of this machine."""
-    return {folder for folder, _, _ in os.walk("/sys/fs/cgroup")}
-
-
 class Machine:
     """A container that systemd boots, over the files of this machine."""
 
@@ -196,12 +191,16 @@ class Machine:
         self.root = os.path.join(folder, "root")
         must(f"mkdir {folder}/up {folder}/work {self.root} && "
              f"mount -t overlay overlay -o lowerdir={base},upperdir={folder}/up,workdir={folder}/work {self.root}")
-        self.groups = groups()
+        # where no systemd runs, control groups of its own, or containers that run at the same time would share theirs
+        self.group = None
+        if not os.path.isdir("/run/systemd/system"):
+            self.group = f"{folder}/groups/{os.path.basename(os.environ['TRYING'])}"
+            must(f"mkdir {folder}/groups && mount -t cgroup2 cgroup2 {folder}/groups && mkdir {self.group}")
 
     def boot(self):
-        keep = "" if os.path.isdir("/run/systemd/system") else "--keep-unit"
+        keep = f"echo 0 > {self.group}/cgroup.procs && exec systemd-nspawn --keep-unit" if self.group else "exec systemd-nspawn"
         self.nspawn = subprocess.Popen(
-            f"exec systemd-nspawn --quiet --directory={self.root} --register=no {keep} --private-network "
+            f"{keep} --quiet --directory={self.root} --register=no --private-network "
             f"--machine=office{os.getpid()} --console=pipe --boot", shell=True, stdin=subprocess.DEVNULL, stdout=subprocess.DEVNULL,
             stderr=subprocess.STDOUT, env={**os.environ, "SYSTEMD_NSPAWN_UNIFIED_HIERARCHY": "1"})
         self.leader = wait_for(lambda: run(f"pgrep -P {self.nspawn.pid} -x systemd")[1])
@@ -219,8 +218,8 @@ class Machine:
     def end(self):
         """What systemd-nspawn leaves of its control groups goes too."""
         self.halt()
-        for group in sorted(groups() - self.groups, reverse=True):
-            run(f"rmdir {group}")
+        if self.group:
+            run(f"find {self.group} -depth -type d -exec rmdir {{}} ';'")
 
     def run(self, command, **more):
         return run(f"""exec nsenter -t {self.leader} -m -u -i -n -p -C -- sh -c 'cd /srv/zoneoffice && eval "$COMMAND"'""",
