@@ -219,7 +219,7 @@ class Machine:
         """What systemd-nspawn leaves of its control groups goes too."""
         self.halt()
         if self.group:
-            run(f"find {self.group} -depth -type d -exec rmdir {{}} ';'")
+            run(f"find {self.group} /sys/fs/cgroup/systemd/{os.path.basename(self.group)} -depth -type d -exec rmdir {{}} ';'")
 
     def run(self, command, **more):
         return run(f"""exec nsenter -t {self.leader} -m -u -i -n -p -C -- sh -c 'cd /srv/zoneoffice && eval "$COMMAND"'""",
