@@ -48,7 +48,7 @@ def need(**packages):
 def run(command, **more):
     """Runs a command of the shell, and gives its status and what it printed, errors too."""
     done = subprocess.run(command, shell=True, text=True, stdout=subprocess.PIPE, stderr=subprocess.STDOUT,
-                          **{"timeout": 60, **more})
+                          **{"timeout": 300, **more})
     return done.returncode, done.stdout.strip()
 
 
@@ -60,7 +60,7 @@ def must(command, **more):
     return said
 
 
-def wait_for(what, seconds=10):
+def wait_for(what, seconds=30):
     """Asks until the answer is true, and gives it; or the last one, when the time is over."""
     until = time.monotonic() + seconds
     while True:
@@ -204,13 +204,13 @@ class Machine:
             f"--machine=office{os.getpid()} --console=pipe --boot", shell=True, stdin=subprocess.DEVNULL, stdout=subprocess.DEVNULL,
             stderr=subprocess.STDOUT, env={**os.environ, "SYSTEMD_NSPAWN_UNIFIED_HIERARCHY": "1"})
         self.leader = wait_for(lambda: run(f"pgrep -P {self.nspawn.pid} -x systemd")[1])
-        if not wait_for(lambda: self.run("systemctl is-system-running --wait")[1] in ("running", "degraded"), 60):
+        if not wait_for(lambda: self.run("systemctl is-system-running --wait")[1] in ("running", "degraded"), 300):
             raise RuntimeError(f"the container does not boot: {self.run('systemctl list-jobs')[1]}")
 
     def halt(self):
         self.run("systemctl poweroff")
         try:
-            self.nspawn.wait(30)
+            self.nspawn.wait(120)
         except subprocess.TimeoutExpired:
             self.nspawn.kill()
             self.nspawn.wait()
