@@ -238,7 +238,7 @@ class Machine:
         return self.run(f"systemctl is-active {unit}")[1]
 
     def answers(self, user="www-data", socket=FRONT):
-        return self.run(f"runuser -u {user} -- curl -s -m 5 --unix-socket {socket} -H 'X-Office-Caller: admin' "
+        return self.run(f"runuser -u {user} -- curl -s -m 20 --unix-socket {socket} -H 'X-Office-Caller: admin' "
                         "http://office/rights/www.example.org./A/list")[1] == '{"by":"hostmasters","granted":true}'
 
     def is_back(self):
