@@ -1,5 +1,6 @@
-"""What try-front, try-page, try-service and try-backup share: lines of results, the program, a machine of their own, and an office on it."""
+"""What the scripts that try the office share: lines of results, the program, a machine of their own, and an office on it."""
 
+import glob
 import os
 import re
 import shutil
@@ -47,7 +48,7 @@ def need(**packages):
 def run(command, **more):
     """Runs a command of the shell, and gives its status and what it printed, errors too."""
     done = subprocess.run(command, shell=True, text=True, stdout=subprocess.PIPE, stderr=subprocess.STDOUT,
-                          **{"timeout": 60, **more})
+                          **{"timeout": 300, **more})
     return done.returncode, done.stdout.strip()
 
 
@@ -59,7 +60,7 @@ def must(command, **more):
     return said
 
 
-def wait_for(what, seconds=10):
+def wait_for(what, seconds=30):
     """Asks until the answer is true, and gives it; or the last one, when the time is over."""
     until = time.monotonic() + seconds
     while True:
@@ -113,11 +114,20 @@ def shown(page, start):
     raise LookupError(f"{page} shows no {start}")
 
 
+FRONT = "/run/zoneoffice/front.sock"
+PROXY = "/lib/systemd/systemd-socket-proxyd"
+
+
 class Office:
-    """The office as a process, since systemd is not here."""
+    """The office as a process, since systemd is not here, and what hands it the connections to the front server's socket."""
 
     def __init__(self):
         self.start()
+        must(f"mkdir -p {os.path.dirname(FRONT)}")
+        self.front = subprocess.Popen(["systemd-socket-activate", f"--listen={FRONT}", PROXY, "--connections-max=1024", "127.0.0.1:8053"],
+                                      stdout=subprocess.DEVNULL, stderr=subprocess.DEVNULL)
+        wait_for(lambda: os.path.exists(FRONT))
+        must(f"chown www-data {FRONT} && chmod 600 {FRONT}")
 
     def start(self):
         self.process = subprocess.Popen(
@@ -135,13 +145,18 @@ class Office:
         self.process.wait()
 
 
+# what of the pages' commands is for systemd
+SYSTEMD = "systemctl", "systemd-tmpfiles"
+
+
 def set_up_front(users, password):
-    """Sets up the office's files and the front server as operations.md tells it, by the commands that it shows."""
+    """Sets up the office's files and the front server by the commands that operations.md shows."""
     top = os.path.join(HERE, "../..")
     must("rm -f /etc/nginx/sites-enabled/* /etc/nginx/conf.d/* && echo 127.0.0.1 office.example.org >> /etc/hosts")
     for command in shown("operations.md", "useradd --system").splitlines():
-        if not command.startswith(("install -m 755 crates/", "systemctl", "install -m 644 examples/office/zoneoffice.service")):
+        if not command.startswith(("install -m 755 crates/", *SYSTEMD)):
             must(command, cwd=top)
+    must("install -d -m 750 -g publisher /run/zoneoffice-publisher")
     for command in shown("operations.md", "install -d -m 755 /etc/zoneoffice/front").splitlines():
         if command.startswith("htpasswd"):
             for user in users:
@@ -149,6 +164,94 @@ def set_up_front(users, password):
         elif command.startswith("install -m 644 cert"):
             must("openssl req -x509 -newkey ec -pkeyopt ec_paramgen_curve:P-256 -nodes -subj /CN=office.example.org -days 2 "
                  "-keyout /etc/zoneoffice/front/key.pem -out /etc/zoneoffice/front/cert.pem")
-        elif not command.startswith(("systemctl", "install -m 600 key")):
+        elif not command.startswith((*SYSTEMD, "install -m 600 key")):
             must(command, cwd=top)
-    must("nft -f /etc/nftables.conf && nginx")
+    must("nginx")
+
+
+class Machine:
+    """A container that systemd boots, over the files of this machine."""
+
+    def __init__(self, folder):
+        self.mount(folder, "/")
+        # no service of this machine starts there, but nginx, which Debian's package has enabled
+        for links in glob.glob(f"{self.root}/etc/systemd/system/*.wants") + glob.glob(f"{self.root}/etc/rc?.d"):
+            shutil.rmtree(links)
+        must(f"chroot {self.root} systemctl enable nginx")
+        must(f"rm -rf {self.root}/etc/nginx/sites-enabled/* {self.root}/etc/nginx/conf.d/* {self.root}/usr/sbin/policy-rc.d")
+        top = f"{self.root}/srv/zoneoffice"
+        os.makedirs(f"{top}/crates/zoneoffice/out")
+        shutil.copy(PROGRAM, f"{top}/crates/zoneoffice/out/zoneoffice")
+        shutil.copytree(HERE, f"{top}/examples/office")
+        shutil.copytree(f"{HERE}/../../docs", f"{top}/docs")
+        self.boot()
+
+    def mount(self, folder, base):
+        """Puts a layer in memory over the files of a machine."""
+        self.root = os.path.join(folder, "root")
+        must(f"mkdir {folder}/up {folder}/work {self.root} && "
+             f"mount -t overlay overlay -o lowerdir={base},upperdir={folder}/up,workdir={folder}/work {self.root}")
+        # where no systemd runs, control groups of its own, or containers that run at the same time would share theirs
+        self.group = None
+        if not os.path.isdir("/run/systemd/system"):
+            self.group = f"{folder}/groups/{os.path.basename(os.environ['TRYING'])}"
+            must(f"mkdir {folder}/groups && mount -t cgroup2 cgroup2 {folder}/groups && mkdir {self.group}")
+
+    def boot(self):
+        keep = f"echo 0 > {self.group}/cgroup.procs && exec systemd-nspawn --keep-unit" if self.group else "exec systemd-nspawn"
+        self.nspawn = subprocess.Popen(
+            f"{keep} --quiet --directory={self.root} --register=no --private-network "
+            f"--machine=office{os.getpid()} --console=pipe --boot", shell=True, stdin=subprocess.DEVNULL, stdout=subprocess.DEVNULL,
+            stderr=subprocess.STDOUT, env={**os.environ, "SYSTEMD_NSPAWN_UNIFIED_HIERARCHY": "1"})
+        self.leader = wait_for(lambda: run(f"pgrep -P {self.nspawn.pid} -x systemd")[1])
+        if not wait_for(lambda: self.run("systemctl is-system-running --wait")[1] in ("running", "degraded"), 300):
+            raise RuntimeError(f"the container does not boot: {self.run('systemctl list-jobs')[1]}")
+
+    def halt(self):
+        self.run("systemctl poweroff")
+        try:
+            self.nspawn.wait(120)
+        except subprocess.TimeoutExpired:
+            self.nspawn.kill()
+            self.nspawn.wait()
+
+    def end(self):
+        """What systemd-nspawn leaves of its control groups goes too."""
+        self.halt()
+        if self.group:
+            run(f"find {self.group} /sys/fs/cgroup/systemd/{os.path.basename(self.group)} -depth -type d -exec rmdir {{}} ';'")
+
+    def run(self, command, **more):
+        return run(f"""exec nsenter -t {self.leader} -m -u -i -n -p -C -- sh -c 'cd /srv/zoneoffice && eval "$COMMAND"'""",
+                   env={"PATH": os.environ["PATH"], "COMMAND": command}, **more)
+
+    def must(self, command, **more):
+        status, said = self.run(command, **more)
+        if status:
+            raise RuntimeError(f"{command}: status {status}: {said}")
+        return said
+
+    def main_pid(self, unit="zoneoffice"):
+        return self.must(f"systemctl show -p MainPID --value {unit}")
+
+    def state(self, unit="zoneoffice"):
+        return self.run(f"systemctl is-active {unit}")[1]
+
+    def answers(self, user="www-data", socket=FRONT):
+        return self.run(f"runuser -u {user} -- curl -s -m 20 --unix-socket {socket} -H 'X-Office-Caller: admin' "
+                        "http://office/rights/www.example.org./A/list")[1] == '{"by":"hostmasters","granted":true}'
+
+    def is_back(self):
+        return self.answers() and self.state() == "active"
+
+
+def set_up_service(machine):
+    """All commands of the two blocks of operations.md by which an office is set up, in their order and as they stand."""
+    for command in shown("operations.md", "useradd --system").splitlines():
+        machine.must(command)
+    machine.must("echo 127.0.0.1 office.example.org >> /etc/hosts")
+    machine.must("openssl req -x509 -newkey rsa:2048 -nodes -subj /CN=office.example.org -days 2 -keyout key.pem -out cert.pem")
+    for command in shown("operations.md", "install -d -m 755 /etc/zoneoffice/front").splitlines():
+        if command.startswith("htpasswd"):
+            command = command.replace("htpasswd", "echo secret | htpasswd -i", 1)
+        machine.must(command)
