@@ -22,6 +22,7 @@ pub mod NodeLemmas
 pub mod RetainLemmas
 pub mod PutLemmas
 pub mod RuleLemmas
+pub mod SeekLemmas
 pub mod EffectLemmas
 pub mod ChangeLemmas
 pub mod MergeLemmas
@@ -37,6 +38,7 @@ pub mod NeedLemmas
 pub mod GatherLemmas
 pub mod MetLemmas
 pub mod UnmetLemmas
+pub mod WholeSetLemmas
 pub mod OutsideLemmas
 pub mod NameListLemmas
 pub mod ReportLemmas

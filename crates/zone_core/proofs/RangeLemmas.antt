@@ -4,7 +4,7 @@ use Rattle.std.specs.declared.cmp.Ordering.{Ordering}
 use Rattle.std.specs.declared.cmp.Ordering.TheVariants.{Less, Equal, Greater}
 use Rattle.std.specs.Ordering.{nat_cmp, ordering_then, ordering_index, is_lt, is_le, is_eq, ordering_reverse, on, then_cmp}
 use Rattle.std.specs.Cmp.{IsTotalOrder, on_total, then_total, nat_cmp_total}
-use Rattle.std.specs.List.{All, filter}
+use Rattle.std.specs.List.{All, filter, slice_range}
 use Rattle.std.specs.List.Sorted.{IsSortedBy, IsStrictlySortedBy, IsPartitionPoint, IsPartitionedBy, IsNonDecreasingBy}
 use Rattle.std.proofs.lemmas.Bool.Decides.{nat_tests}
 use Rattle.std.proofs.lemmas.List.{take-append-drop, take_all}
@@ -15,7 +15,7 @@ use Rattle.dns_data.specs.declared.record.Record.{Record}
 use Rattle.dns_data.specs.declared.record_type.RecordType.{RecordType}
 use Rattle.dns_data.specs.Rdata.{type_of}
 use Rattle.zone_core.specs.Sets.{key_of, rank_of, record_order, InOrder, at}
-use Rattle.zone_core.specs.Views.{set_order}
+use Rattle.zone_core.specs.Views.{set_order, IsRun}
 
 -- ---- places of a row in order
 
@@ -122,6 +122,59 @@ module _ (before upto chosen : Record → Bool) where
       ∙ ap (filter chosen) (sym e ∙ sym (take-append-drop n rest)) ∙ filter-append chosen (take n rest) (drop n rest) ∙ ap (λ ys. ys ++ filter chosen (drop n rest)) whole
       ∙ ap (λ ys. take n rest ++ ys) over ∙ append-nil (take n rest))
 
+  -- the same by its two ends
+  pub run_bounds : Tells → (rs rest : List Record) (i n : ℕ) → rest ≡ drop i rs → i ≤ length rs → n ≤ length rest
+      → IsPartitionPoint (λ r. before r ≡ true) (λ r. before r ≡ false) rs i
+      → IsPartitionPoint (λ r. upto r ≡ true) (λ r. upto r ≡ false) rest n
+      → IsRun chosen rs i (i + n)
+  run_bounds tells rs rest i n e within also first second =
+      let count : length rest ≡ length rs - i = ap length e ∙ length-drop i rs in
+      let at : (k : ℕ) (d : Record) → get_or rest k d ≡ get_or rs (i + k) d = λ k d. ap (λ xs. get_or xs k d) e ∙ get_or-drop i rs k d in
+      let past : (k : ℕ) (d : Record) → k < length rest → before (get_or rest k d) ≡ false =
+      λ k d below. subst (λ r. before r ≡ false) (sym (at k d)) (first.1 (i + k) d (omega arith) (omega arith)) in
+      let some : take n rest ≡ slice_range rs i (i + n) = ap (take n) e ∙ ap (λ m. take m (drop i rs)) (omega arith) in
+      record {
+        order = omega arith;
+        within = omega arith;
+        before = λ k d below.
+            let short : k < i = omega (arith, length-take i rs) in
+            subst (λ r. chosen r ≡ false) (sym (get_or-take i rs k d short)) (tells.lower (get_or rs k d) (first.0 k d (omega arith) short));
+        here = subst (All (λ r. chosen r ≡ true)) some (λ k d below.
+            let short : k < n = omega (arith, length-take n rest) in
+            subst (λ r. chosen r ≡ true) (sym (get_or-take n rest k d short)) (tells.here (get_or rest k d) (past k d (omega arith)) (second.0 k d (omega arith) short)));
+        behind = λ k d below.
+            let long : n + k < length rest = omega (arith, length-drop (i + n) rs) in
+            let place : get_or rest (n + k) d ≡ get_or (drop (i + n) rs) k d = at (n + k) d ∙ ap (λ m. get_or rs m d) (omega arith) ∙ sym (get_or-drop (i + n) rs k d) in
+            subst (λ r. chosen r ≡ false) place (tells.above (get_or rest (n + k) d) (past (n + k) d long) (second.1 (n + k) d (omega arith) long));
+      }
+
+-- what is in a run, and what is not
+no_more : (k : ℕ) → drop {A = Record} k [] ≡ []
+no_more zero = refl
+no_more (suc k) = refl
+
+drop_on : (i j : ℕ) (rs : List Record) → drop j (drop i rs) ≡ drop (i + j) rs
+drop_on zero j rs = ap (λ k. drop k rs) (omega arith)
+drop_on (suc i) j [] = no_more j ∙ sym (no_more (suc i + j))
+drop_on (suc i) j (r ∷ rs) =
+    let further : suc (i + j) ≡ suc i + j = omega arith in
+    drop_on i j rs ∙ ap (λ k. drop k (r ∷ rs)) further
+
+pub run_parts : (rs : List Record) (start end : ℕ) → start ≤ end → take start rs ++ (slice_range rs start end ++ drop end rs) ≡ rs
+run_parts rs start end order =
+    ap (λ ys. take start rs ++ (slice_range rs start end ++ ys)) (ap (λ k. drop k rs) (omega arith) ∙ sym (drop_on start (end - start) rs))
+    ∙ ap (λ ys. take start rs ++ ys) (take-append-drop (end - start) (drop start rs)) ∙ take-append-drop start rs
+
+pub filter_run : (chosen : Record → Bool) (rs : List Record) (start end : ℕ) → IsRun chosen rs start end → slice_range rs start end ≡ filter chosen rs
+filter_run chosen rs start end run =
+    let mid = slice_range rs start end in
+    sym (ap (filter chosen) (sym (run_parts rs start end run.order))
+    ∙ filter-append chosen (take start rs) (mid ++ drop end rs)
+    ∙ ap (λ ys. ys ++ filter chosen (mid ++ drop end rs)) (filter_none chosen (take start rs) run.before)
+    ∙ filter-append chosen mid (drop end rs)
+    ∙ (λ i. filter_all chosen mid run.here i ++ filter_none chosen (drop end rs) run.behind i)
+    ∙ append-nil mid)
+
 -- ---- runs of one order
 
 pub lt_down : (a b : Ordering) → ordering_index a ≤ ordering_index b → is_lt b ≡ true → is_lt a ≡ true
@@ -156,20 +209,33 @@ order_above Equal e = absurd cc
 order_above Greater e = refl
 
 module _ (f : Record → Ordering) where
+  upper_part : (rs rest : List Record) (i : ℕ) → IsNonDecreasingBy (λ (r : Record). ordering_index (f r)) rs → rest ≡ drop i rs → IsPartitionedBy (λ r. is_le (f r)) rest
+  upper_part rs rest i rises e =
+      subst (IsPartitionedBy (λ r. is_le (f r))) (sym e) (λ a b d up below h.
+      let long : i + b < length rs = omega (arith, length-drop i rs) in
+      subst (λ r. is_le (f r) ≡ true) (sym (get_or-drop i rs a d)) (le_down (f (get_or rs (i + a) d)) (f (get_or rs (i + b) d)) (rises (i + a) (i + b) d (omega arith) long) (subst (λ r. is_le (f r) ≡ true) (get_or-drop i rs b d) h)))
+
   -- the records that tie, in a row along which an order rises
   pub tied_run : (rs rest : List Record) (i n : ℕ) → IsNonDecreasingBy (λ (r : Record). ordering_index (f r)) rs → rest ≡ drop i rs → i ≤ length rs → n ≤ length rest
       → (IsPartitionedBy (λ r. is_lt (f r)) rs → IsPartitionPoint (λ r. is_lt (f r) ≡ true) (λ r. is_lt (f r) ≡ false) rs i)
       → (IsPartitionedBy (λ r. is_le (f r)) rest → IsPartitionPoint (λ r. is_le (f r) ≡ true) (λ r. is_le (f r) ≡ false) rest n)
       → take n rest ≡ filter (λ r. is_eq (f r)) rs
   tied_run rs rest i n rises e within also first second =
-      let upper : IsPartitionedBy (λ r. is_le (f r)) rest =
-      subst (IsPartitionedBy (λ r. is_le (f r))) (sym e) (λ a b d up below h.
-      let long : i + b < length rs = omega (arith, length-drop i rs) in
-      subst (λ r. is_le (f r) ≡ true) (sym (get_or-drop i rs a d)) (le_down (f (get_or rs (i + a) d)) (f (get_or rs (i + b) d)) (rises (i + a) (i + b) d (omega arith) long) (subst (λ r. is_le (f r) ≡ true) (get_or-drop i rs b d) h))) in
       run_is (λ r. is_lt (f r)) (λ r. is_le (f r)) (λ r. is_eq (f r))
       (record { lower = λ r e. order_lower (f r) e; here = λ r e h. order_here (f r) e h; above = λ r e h. order_above (f r) h })
       rs rest i n e within also
-      (first (λ a b d up below h. lt_down (f (get_or rs a d)) (f (get_or rs b d)) (rises a b d up below) h)) (second upper)
+      (first (λ a b d up below h. lt_down (f (get_or rs a d)) (f (get_or rs b d)) (rises a b d up below) h)) (second (upper_part rs rest i rises e))
+
+  -- the same by its two ends
+  pub tied_bounds : (rs rest : List Record) (i n : ℕ) → IsNonDecreasingBy (λ (r : Record). ordering_index (f r)) rs → rest ≡ drop i rs → i ≤ length rs → n ≤ length rest
+      → (IsPartitionedBy (λ r. is_lt (f r)) rs → IsPartitionPoint (λ r. is_lt (f r) ≡ true) (λ r. is_lt (f r) ≡ false) rs i)
+      → (IsPartitionedBy (λ r. is_le (f r)) rest → IsPartitionPoint (λ r. is_le (f r) ≡ true) (λ r. is_le (f r) ≡ false) rest n)
+      → IsRun (λ r. is_eq (f r)) rs i (i + n)
+  tied_bounds rs rest i n rises e within also first second =
+      run_bounds (λ r. is_lt (f r)) (λ r. is_le (f r)) (λ r. is_eq (f r))
+      (record { lower = λ r e. order_lower (f r) e; here = λ r e h. order_here (f r) e h; above = λ r e h. order_above (f r) h })
+      rs rest i n e within also
+      (first (λ a b d up below h. lt_down (f (get_or rs a d)) (f (get_or rs b d)) (rises a b d up below) h)) (second (upper_part rs rest i rises e))
 
 -- ---- record sets
 
@@ -184,6 +250,16 @@ both_tie name t r = by_owner_tie (canonical_cmp r.owner name) (rank_of (type_of 
         nat_tie : (a b : ℕ) → is_eq (nat_cmp a b) ≡ (a == b)
         nat_tie a b = grind (arith, nat_tests)
     by_owner_tie Greater a b = refl
+
+-- a run of a test is one of another that agrees with it
+pub run_alike : (p q : Record → Bool) → ((r : Record) → p r ≡ q r) → (rs : List Record) (start end : ℕ) → IsRun p rs start end → IsRun q rs start end
+run_alike p q same rs start end run = record {
+  order = run.order;
+  within = run.within;
+  before = λ k d below. sym (same (get_or (take start rs) k d)) ∙ run.before k d below;
+  here = λ k d below. sym (same (get_or (slice_range rs start end) k d)) ∙ run.here k d below;
+  behind = λ k d below. sym (same (get_or (drop end rs) k d)) ∙ run.behind k d below;
+}
 
 pub filter_at : (name : List (List ℕ)) (t : RecordType) (rs : List Record) → filter (λ r. is_eq (set_order name t r)) rs ≡ filter (λ r. at name t (key_of r)) rs
 filter_at name t rs = filter_agree (λ r. is_eq (set_order name t r)) (λ r. at name t (key_of r)) (both_tie name t) rs

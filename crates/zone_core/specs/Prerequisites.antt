@@ -1,5 +1,5 @@
 -- What prerequisites test (RFC 2136 sections 2.4 and 3.2).
-use Rattle.std.specs.Prelude.{ℕ, suc, List, [], ◌∷◌, map, Bool, ◌&&◌, ◌==◌, if◌then◌else◌, Option, Some, None, Result, Ok, Err}
+use Rattle.std.specs.Prelude.{ℕ, suc, List, [], ◌∷◌, map, Bool, false, ◌&&◌, ◌==◌, if◌then◌else◌, Option, Some, None, Result, Ok, Err}
 use Rattle.std.specs.List.{list_any, list_all, flat_map}
 use Rattle.std.specs.Option.{option_or, option_map}
 use Rattle.std.specs.Ordering.{is_eq}
@@ -33,6 +33,16 @@ same_data a b = is_eq (data_order a b)
 abbrev pub given_for : List (List ℕ) → RecordType → Prerequisite → List Data
 given_for name record_type (RrsetEquals n rdata) = if same_name n name && (rank_of (type_of rdata) == rank_of record_type) then rdata ∷ [] else []
 given_for name record_type p = []
+
+-- whether a test gives a set whole, of a name and a type
+abbrev pub is_of_set : List (List ℕ) → RecordType → Prerequisite → Bool
+is_of_set name record_type (RrsetEquals n rdata) = same_name n name && (rank_of (type_of rdata) == rank_of record_type)
+is_of_set name record_type p = false
+
+-- whether a test gives the same set whole as another
+abbrev pub are_of_one_set : Prerequisite → Prerequisite → Bool
+are_of_one_set p (RrsetEquals name rdata) = is_of_set name (type_of rdata) p
+are_of_one_set p q = false
 
 -- whether each of these data is among those
 abbrev pub all_among : List Data → List Data → Bool

@@ -1,5 +1,5 @@
 -- An update: prerequisites and operations (RFC 2136 sections 2.4 and 2.5).
-use Rattle.std.specs.Prelude.{◌≡◌, ◌↔◌, ◌⊎◌, ℕ, ◌<◌, ◌≤◌, List, length, Bool, true, false, not, ◌&&◌, ◌||◌, ◌==◌, nat_lt, if◌then◌else◌, Option, Some, Result, Ok, Err, slice_get}
+use Rattle.std.specs.Prelude.{◌≡◌, ◌↔◌, ◌⊎◌, ℕ, ◌<◌, ◌≤◌, List, map, ◌++◌, length, Bool, true, false, not, ◌&&◌, ◌||◌, ◌==◌, nat_lt, if◌then◌else◌, Option, Some, Result, Ok, Err, slice_get}
 use Rattle.std.specs.List.{filter, AllByRecursion, position}
 use Rattle.std.specs.Option.{option_map, option_or}
 use Rattle.std.specs.Cmp.Lexicographic.{pointwise}
@@ -39,6 +39,10 @@ acted_name (Add r) = r.owner
 acted_name (DeleteRrset name record_type) = name
 acted_name (DeleteName name) = name
 acted_name (DeleteRecord name rdata) = name
+
+-- the names of the items of an update
+abbrev pub item_names : UpdateOf → List (List (List ℕ))
+item_names update = map tested_name update.prerequisites ++ map acted_name update.operations
 
 -- whether an operation adds an SOA
 abbrev pub adds_soa : Operation → Bool

@@ -1,6 +1,6 @@
 -- Zones as rows of records in record order.
-use Rattle.std.specs.Prelude.{◌≡◌, ◌<◌, slice_index, slice_index_or, ℕ, List, [], ◌∷◌, length, map, Bool, not, ◌&&◌, ◌||◌, ◌==◌}
-use Rattle.std.specs.List.{filter, list_any, range_with_len}
+use Rattle.std.specs.Prelude.{◌≡◌, ◌<◌, ◌≤◌, slice_index, slice_index_or, ℕ, List, [], ◌∷◌, length, map, take, drop, Bool, true, false, not, ◌&&◌, ◌||◌, ◌==◌}
+use Rattle.std.specs.List.{All, filter, list_any, range_with_len, slice_range}
 use Rattle.std.specs.List.Sorted.{IsPermutation}
 use Rattle.std.specs.declared.cmp.Ordering.{Ordering}
 use Rattle.std.specs.Ordering.{nat_cmp, ordering_then}
@@ -16,6 +16,14 @@ use Rattle.zone_core.specs.Zones.{ZoneOf, IsZone, is_soa, is_cname, beside, leas
 -- the order of a record to the records of a set: by owner, and then by type
 abbrev pub set_order : List (List ℕ) → RecordType → Record → Ordering
 set_order name record_type r = ordering_then (canonical_cmp r.owner name) (nat_cmp (rank_of (type_of r.rdata)) (rank_of record_type))
+
+-- the records that pass a test are those from a place of a row up to another, and no others
+pub record IsRun (chosen : Record → Bool) (rs : List Record) (start end : ℕ) : Type 0 where
+  pub order : start ≤ end
+  pub within : end ≤ length rs
+  pub before : All (λ r. chosen r ≡ false) (take start rs)
+  pub here : All (λ r. chosen r ≡ true) (slice_range rs start end)
+  pub behind : All (λ r. chosen r ≡ false) (drop end rs)
 
 -- the zone of an origin and records
 abbrev pub zone_in : List (List ℕ) → List Record → ZoneOf

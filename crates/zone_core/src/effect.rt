@@ -1,7 +1,7 @@
 //! What an operation does to the records at its name (RFC 2136 section 3.4.2): a function for each of its rules. The records
 //! at one name, in record order, are a node.
 
-ghost use Rattle.std.specs.Prelude.{◌≡◌, ◌&&◌, ◌==◌, if◌then◌else◌, not, map, IfOk, true};
+ghost use Rattle.std.specs.Prelude.{◌≡◌, ◌&&◌, ◌==◌, not, map, IfOk, true};
 ghost use Rattle.std.specs.List.{list_any, filter, find};
 ghost use Rattle.std.specs.Option.{option_copied};
 ghost use Rattle.dns_data.specs.declared.record_type.RecordType.TheVariants.{Ns};
@@ -10,12 +10,12 @@ ghost use Rattle.zone_core.specs.Zones.{is_soa, soa_at, serial_in};
 ghost use Rattle.zone_core.specs.Updates.{acted_name};
 ghost use Rattle.zone_core.specs.Prerequisites.{same_data};
 ghost use Rattle.zone_core.specs.Effects.{effect, effects, add, add_soa, add_cname, add_other, is_misplaced, takes_over, delete_rrset, delete_name, delete_record, key_at, is_guarded, stays};
-ghost use Rattle.zone_core.specs.Nodes.{IsNode, Becomes, with_type_ttl};
+ghost use Rattle.zone_core.specs.Nodes.{IsNode, IsPlaceOf, Becomes, with_type_ttl};
 
-use crate::rows::{alone, has_type, insert_copy, same_data};
+use crate::rows::{alone, has_set, has_type, insert_copy, same_data, set_bounds};
 use crate::serial::serial_less;
 use crate::update::Operation;
-use dns_data::{Data, Record, RecordType, Ttl, record_order};
+use dns_data::{Data, Record, RecordType, Ttl, data_order, record_order};
 use dns_names::Name;
 use std::alloc::{AllocError, Global};
 
@@ -74,7 +74,7 @@ fn add_soa(alloc: Global, node: Vec<Record>, rr: &Record) -> Result<Vec<Record>,
     ensures { IfOk result (λ after. Becomes rr.now.owner after.items (add_soa (set_of node.items) rr.now)) }
 {
     if takes_over(&node, rr) {
-        put(alloc, without_type(node, RecordType::Soa), rr)
+        put(alloc, without_type(node, &rr.owner, RecordType::Soa), rr)
     } else {
         Ok(node)
     }
@@ -96,10 +96,11 @@ fn add_other(alloc: Global, node: Vec<Record>, rr: &Record) -> Result<Vec<Record
     requires { IsNode rr.now.owner node.items }
     ensures { IfOk result (λ after. Becomes rr.now.owner after.items (add_other (set_of node.items) rr.now)) }
 {
-    if has_some(&node, RecordType::Cname) {
+    if has_some_at(&node, &rr.owner, RecordType::Cname) {
         return Ok(node);
     }
-    put(alloc, with_ttl(node, rr.record_type(), rr.ttl), rr)
+    let record_type = rr.record_type();
+    put(alloc, with_ttl(node, &rr.owner, record_type, rr.ttl), rr)
 }
 
 /// The SOA among records.
@@ -135,6 +136,14 @@ pub(crate) fn has_some(node: &[Record], record_type: RecordType) -> bool
     ensures { result ≡ list_any (λ r. (key_of r).1 == rank_of record_type) node.now }
 {
     node.iter().any(|record| has_type(record, record_type))
+}
+
+/// Whether there is a record of a type at a name.
+fn has_some_at(node: &[Record], name: &Name, record_type: RecordType) -> bool
+    requires { IsNode name.now node.now }
+    ensures { result ≡ list_any (λ r. (key_of r).1 == rank_of record_type) node.now }
+{
+    has_set(node, name, record_type)
 }
 
 /// Whether a record has another type.
@@ -178,37 +187,32 @@ fn put(alloc: Global, node: Vec<Record>, rr: &Record) -> Result<Vec<Record>, All
     requires { IsNode rr.now.owner node.items }
     ensures { IfOk result (λ after. Becomes rr.now.owner after.items (put (set_of node.items) rr.now)) }
 {
-    let mut others = without(node, &rr.rdata);
+    let mut others = without(node, &rr.owner, &rr.rdata);
     let place = others.partition_point(|record| record_order(record, rr).is_lt());
     insert_copy(alloc, &mut others, place, rr)?;
     Ok(others)
 }
 
-/// The TTL of a record, if a set has this one.
-fn ttl_in_set(rr: &Record, record_type: RecordType, ttl: Ttl) -> Ttl
-    ensures { result ≡ (if (key_of rr.now).1 == rank_of record_type then ttl else rr.now.ttl) }
-{
-    if has_type(rr, record_type) {
-        ttl
-    } else {
-        rr.ttl
-    }
-}
-
 /// The records, those of a type with this TTL.
-fn with_ttl(mut node: Vec<Record>, record_type: RecordType, ttl: Ttl) -> Vec<Record>
+fn with_ttl(mut node: Vec<Record>, name: &Name, record_type: RecordType, ttl: Ttl) -> Vec<Record>
+    requires { IsNode name.now node.items }
     ensures { result.items ≡ map (with_type_ttl record_type ttl) node.items }
 {
-    for i in 0..node.len() {
-        node[i].ttl = ttl_in_set(&node[i], record_type, ttl);
+    let (start, end) = set_bounds(&node, name, record_type);
+    for i in start..end {
+        node[i].ttl = ttl;
     }
     node
 }
 
 /// The records without those of a type.
-fn without_type(mut node: Vec<Record>, record_type: RecordType) -> Vec<Record>
+fn without_type(mut node: Vec<Record>, name: &Name, record_type: RecordType) -> Vec<Record>
+    requires { IsNode name.now node.items }
     ensures { result.items ≡ filter (λ r. not ((key_of r).1 == rank_of record_type)) node.items }
 {
+    if !has_some_at(&node, name, record_type) {
+        return node;
+    }
     node.retain(|record| is_of_other_type(record, record_type));
     node
 }
@@ -226,7 +230,7 @@ fn delete_rrset(
     if name == origin && is_guarded(record_type) {
         node
     } else {
-        without_type(node, record_type)
+        without_type(node, name, record_type)
     }
 }
 
@@ -272,23 +276,38 @@ fn delete_record(origin: &Name, node: Vec<Record>, name: &Name, rdata: &Data) ->
     if stays(origin, &node, name, rdata) {
         node
     } else {
-        without(node, rdata)
+        without(node, name, rdata)
     }
 }
 
-/// Whether a record has other data.
-fn has_other_data(rr: &Record, rdata: &Data) -> bool
-    ensures { result ≡ not (same_data rdata.now rr.now.rdata) }
+/// The place of data among those of the records at a name, if they are there.
+fn place_of(node: &[Record], name: &Name, rdata: &Data) -> Option<usize>
+    requires { IsNode name.now node.now }
+    ensures { IsPlaceOf (λ r. same_data rdata.now r.rdata) node.now result }
 {
-    !same_data(rdata, &rr.rdata)
+    let place = node.partition_point(|record| data_order(&record.rdata, rdata).is_lt());
+    if place >= node.len() {
+        return None;
+    }
+    if same_data(rdata, &node[place].rdata) {
+        Some(place)
+    } else {
+        None
+    }
 }
 
 /// The records without that of some data.
-fn without(mut node: Vec<Record>, rdata: &Data) -> Vec<Record>
+fn without(mut node: Vec<Record>, name: &Name, rdata: &Data) -> Vec<Record>
+    requires { IsNode name.now node.items }
     ensures { result.items ≡ filter (λ r. not (same_data rdata.now r.rdata)) node.items }
 {
-    node.retain(|record| has_other_data(record, rdata));
-    node
+    match place_of(&node, name, rdata) {
+        Some(place) => {
+            node.remove(place);
+            node
+        }
+        None => node,
+    }
 }
 
 /// What the operations at a name make of its records. The only error is out of memory.

@@ -10,6 +10,7 @@ mod invariants;
 mod kind;
 mod laws;
 mod merge;
+mod ordered_names;
 mod outcome;
 mod outermost_names;
 mod prerequisite_code;

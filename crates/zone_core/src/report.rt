@@ -7,6 +7,7 @@ ghost use Rattle.zone_core.specs.Sets.{key_of, rank_of, InOrder};
 ghost use Rattle.zone_core.specs.Delegations.{is_below, AreNamesOf, cut_owner, cut_owners, server_in, servers_in, server_names, glue_of, server_of, IsDelegation, AreDelegations, report_of, report};
 
 use crate::delegation::is_below;
+use crate::ordered_names::ordered;
 use crate::rows::{has_set, has_type, of_set};
 use dns_data::{Data, Record, RecordType};
 use dns_names::Name;
@@ -35,15 +36,6 @@ pub struct DelegatedServer {
 pub struct Delegation {
     pub child: Name,
     pub servers: Vec<DelegatedServer>,
-}
-
-/// Names in canonical order (RFC 4034 section 6.1), each once. The only error is out of memory.
-fn ordered(mut names: Vec<Name>) -> Result<Vec<Name>, AllocError>
-    ensures { IfOk result (λ ordered. AreNamesOf ordered.items names.items) }
-{
-    names.sort()?;
-    names.dedup();
-    Ok(names)
 }
 
 /// Whether a zone of this origin is cut at the owner of a record.

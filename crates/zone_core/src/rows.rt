@@ -9,7 +9,7 @@ ghost use Rattle.std.specs.List.Sorted.{IsSorted};
 ghost use Rattle.zone_core.specs.Sets.{key_of, rank_of, set_of, record_order, same_ttl, has, minus, InOrder, AreRows, at_name, at, within};
 ghost use Rattle.zone_core.specs.Prerequisites.{same_data};
 ghost use Rattle.zone_core.specs.KeyPrefixes.{ShareOctets};
-ghost use Rattle.zone_core.specs.Views.{set_order};
+ghost use Rattle.zone_core.specs.Views.{set_order, IsRun};
 
 use crate::sorting::{arranged, sources};
 use dns_data::{Data, Record, RecordType, data_order, record_order};
@@ -50,6 +50,17 @@ fn set_order(rr: &Record, name: &Name, record_type: RecordType) -> Ordering
     rr.owner.cmp(name).then(by_type)
 }
 
+/// Where the records of a set begin and end.
+pub(crate) fn set_bounds(records: &[Record], name: &Name, record_type: RecordType) -> (usize, usize)
+    requires { InOrder records.now }
+    ensures { IsRun (λ r. at name.now record_type (key_of r)) records.now result.0 result.1 }
+{
+    let start = records.partition_point(|record| set_order(record, name, record_type).is_lt());
+    let rest = &records[start..];
+    let count = rest.partition_point(|record| set_order(record, name, record_type).is_le());
+    (start, start + count)
+}
+
 /// The records of a set.
 pub(crate) fn of_set<'a>(
     records: &'a [Record],
@@ -59,10 +70,8 @@ pub(crate) fn of_set<'a>(
     requires { InOrder records.now }
     ensures { result.now ≡ filter (λ r. at name.now record_type (key_of r)) records.now }
 {
-    let start = records.partition_point(|record| set_order(record, name, record_type).is_lt());
-    let rest = &records[start..];
-    let count = rest.partition_point(|record| set_order(record, name, record_type).is_le());
-    &rest[..count]
+    let (start, end) = set_bounds(records, name, record_type);
+    &records[start..end]
 }
 
 /// The records within a name.

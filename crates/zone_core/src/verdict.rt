@@ -1,11 +1,11 @@
 //! Whether the prerequisites of an update hold (RFC 2136 section 3.2).
 
-ghost use Rattle.std.specs.Prelude.{◌≡◌, ◌↔◌, Ok};
+ghost use Rattle.std.specs.Prelude.{◌≡◌, ◌↔◌, Ok, None};
 ghost use Rattle.std.specs.Option.{option_copied, option_to_list};
-ghost use Rattle.std.specs.List.{list_any, list_all, flat_map};
+ghost use Rattle.std.specs.List.{AllByRecursion, list_any, list_all, flat_map};
 ghost use Rattle.zone_core.specs.Sets.{set_of, part, at, InOrder};
 ghost use Rattle.zone_core.specs.Met.{AreMet};
-ghost use Rattle.zone_core.specs.Prerequisites.{fails, set_fails, same_data, given_for, are_data, first_failed, verdict, failure};
+ghost use Rattle.zone_core.specs.Prerequisites.{fails, set_fails, same_data, given_for, is_of_set, are_of_one_set, are_data, first_failed, verdict, failure};
 
 use crate::prerequisite_code::PrerequisiteCode;
 use crate::rows::{has_name, has_set, of_set, same_data};
@@ -89,11 +89,59 @@ fn first_set_failed(records: &[Record], prerequisites: &[Prerequisite]) -> Optio
     ensures { result ≡ first_failed (set_fails (set_of records.now) prerequisites.now) 0 prerequisites.now }
 {
     for (item, prerequisite) in prerequisites.iter().enumerate() {
-        if let Some(code) = set_fails(records, prerequisites, prerequisite) {
+        let earlier = &prerequisites[..item];
+        if let Some(code) = next_set_fails(records, prerequisites, earlier, prerequisite) {
             return Some(Failed { code, item });
         }
     }
     None
+}
+
+/// Whether a test gives a set whole, of a name and a type.
+fn is_of_set(test: &Prerequisite, name: &Name, record_type: RecordType) -> bool
+    ensures { result ≡ is_of_set name.now record_type test.now }
+{
+    match test {
+        Prerequisite::RrsetEquals { name: given, rdata } => {
+            given == name && rdata.record_type().rank() == record_type.rank()
+        }
+        _ => false,
+    }
+}
+
+/// Whether a test gives the same set whole as another.
+fn are_of_one_set(test: &Prerequisite, other: &Prerequisite) -> bool
+    ensures { result ≡ are_of_one_set test.now other.now }
+{
+    match other {
+        Prerequisite::RrsetEquals { name, rdata } => is_of_set(test, name, rdata.record_type()),
+        _ => false,
+    }
+}
+
+/// Whether one of some tests gives the same set whole as another test does.
+fn is_tested(tests: &[Prerequisite], prerequisite: &Prerequisite) -> bool
+    ensures { result ≡ list_any (λ p. are_of_one_set p prerequisite.now) tests.now }
+{
+    tests.iter().any(|test| are_of_one_set(test, prerequisite))
+}
+
+/// The code with which a set that is given whole fails, where no earlier one does. All tests of one set fail or hold together, so a
+/// set is compared once.
+fn next_set_fails(
+    records: &[Record],
+    all: &[Prerequisite],
+    earlier: &[Prerequisite],
+    prerequisite: &Prerequisite,
+) -> Option<PrerequisiteCode>
+    requires order { InOrder records.now }
+    requires earlier { AllByRecursion (λ p. set_fails (set_of records.now) all.now p ≡ None) earlier.now }
+    ensures { result ≡ set_fails (set_of records.now) all.now prerequisite.now }
+{
+    if is_tested(earlier, prerequisite) {
+        return None;
+    }
+    set_fails(records, all, prerequisite)
 }
 
 /// The code with which a set that is given whole fails.

@@ -1,21 +1,6 @@
-use Rattle.std.proofs.Common.{◌-◌, rules, length, drop, take, ◌∙◌}
-use Rattle.std.specs.declared.cmp.Ordering.{Ordering}
-use Rattle.std.specs.Ordering.{is_lt, is_le}
-use Rattle.std.proofs.lemmas.List.Sorted.{IsPartitionPoint-from_clause}
-use Rattle.dns_data.specs.declared.record.Record.{Record}
-use Rattle.zone_core.specs.Views.{set_order}
-use Rattle.zone_core.proofs.RangeLemmas.{tied_run, rest_is, by_head, filter_at}
+use Rattle.zone_core.specs.Sets.{at, key_of}
+use Rattle.zone_core.proofs.RangeLemmas.{filter_run}
 use Rattle.zone_core.proofs.rows.of_set.Goals as goal
 
 pub returns : goal.returns
-returns c =
-    let rs = c.args.records.now in
-    let name = c.args.name.now in
-    let t = c.args.record_type in
-    let i = c.partition_point-start.result in
-    let rest = take (length rs - i) (drop i rs) in
-    let f : Record → Ordering = λ r. set_order name t r in
-    tied_run f rs rest i c.partition_point-count.result (by_head rs c.requires name t) (rest_is rs i) c.partition_point-start.ensures.bound c.partition_point-count.ensures.bound
-    (λ parts. IsPartitionPoint-from_clause (λ r. is_lt (f r)) rs i c.partition_point-start.ensures.partitioned parts (λ a r q k. search rules))
-    (λ parts. IsPartitionPoint-from_clause (λ r. is_le (f r)) rest c.partition_point-count.result c.partition_point-count.ensures.partitioned parts (λ a r q k. search rules))
-    ∙ filter_at name t rs
+returns c = filter_run (λ r. at c.args.name.now c.args.record_type (key_of r)) c.args.records.now c.set_bounds-start.result.0 c.set_bounds-start.result.1 c.set_bounds-start.ensures

@@ -2,7 +2,7 @@ use Rattle.std.proofs.lemmas.List.Filters.{dedup_is}
 use Rattle.std.proofs.lemmas.List.Sorted.{IsPermutation-sym}
 use Rattle.dns_names.specs.Order.{same_name}
 use Rattle.zone_core.proofs.NameListLemmas.{ordered_are}
-use Rattle.zone_core.proofs.report.ordered.Goals as goal
+use Rattle.zone_core.proofs.ordered_names.ordered.Goals as goal
 
 pub returns : goal.returns
 returns c =

@@ -1,6 +1,6 @@
 use Rattle.std.proofs.Common.{◌≡◌, ◌++◌, map, take}
 use Rattle.zone_core.specs.Updates.{tested_name, acted_name}
-use Rattle.office_core.proofs.update.item_names.Given as goal
+use Rattle.zone_core.proofs.ordered_names.item_names.Given as goal
 
 abbrev pub invariant-loop-prerequisite : goal.invariant-loop-prerequisite
 invariant-loop-prerequisite l = l.names.items ≡ map tested_name (take l.prerequisite-index l.prerequisite-items)
