@@ -1,52 +1,28 @@
--- What is kept of an update that is answered by what it reads of its zone: the machine's own turn.
-use Rattle.std.proofs.Common.{◌≡◌, ℕ, List, ◌∷◌, [], ◌++◌, map, length, Bool, true, false, ◌&&◌, ◌||◌, ◌==◌, if◌then◌else◌, Option, Some, None, option_map, refl, sym, ap, subst, ◌∙◌}
-use Rattle.std.specs.List.{list_any}
+-- What is kept of an update that is answered by its zone: the machine's own turn.
+use Rattle.std.proofs.Common.{◌≡◌, ℕ, List, ◌∷◌, [], ◌++◌, length, Bool, true, false, ◌&&◌, ◌==◌, if◌then◌else◌, Option, Some, None, option_map, refl, sym, ap, subst, ◌∙◌}
 use Rattle.std.specs.Option.{option_or}
 use Rattle.std.specs.FinMap.{len, entries, len-entries}
 use Rattle.std.proofs.lemmas.List.{length-map}
-use Rattle.std.proofs.lemmas.List.Folds.{list_any-append}
 use Rattle.dns_names.specs.Order.{same_name}
 use Rattle.dns_data.specs.declared.record.Record.{Record}
 use Rattle.grant_policy.specs.declared.rule.Rule.{Rule}
 use Rattle.zone_core.specs.declared.update.Place.{Place}
-use Rattle.zone_core.specs.declared.verdict.Failed.{Failed}
-use Rattle.zone_core.specs.Sets.{Records, Key, listing, minus, is_same, at_name}
+use Rattle.zone_core.specs.Sets.{Records, Key, listing, minus, is_same}
 use Rattle.zone_core.specs.Zones.{ZoneOf, IsZone}
-use Rattle.zone_core.specs.Updates.{UpdateOf, IsUpdate, ActsWithin, tested_name, acted_name, first_outside}
+use Rattle.zone_core.specs.Updates.{UpdateOf, IsUpdate, ActsWithin, first_outside}
 use Rattle.zone_core.specs.Effects.{zone_after}
 use Rattle.zone_core.specs.Changes.{changed, FitsIn, ChangeOf, is_empty, change_between}
-use Rattle.zone_core.specs.Parts.{part_of, at_names, tested, touched, Covers, DoesForZone}
 use Rattle.zone_core.proofs.SetLemmas.{name_is}
 use Rattle.zone_core.proofs.UpdateLemmas.{none_outside}
-use Rattle.zone_core.proofs.NeedLemmas.{updates_need}
 use Rattle.zone_core.proofs.VersionLemmas.{updates_keep}
 use Rattle.zone_core.proofs.ChangedLemmas.{changes_make, same_sets_are_one}
 use Rattle.office_state.specs.declared.reply.UpdateReply.{UpdateReply}
-use Rattle.office_state.specs.declared.reply.UpdateReply.TheVariants.{NoError, NotAuth, NotZone, Failed as FailedReply}
+use Rattle.office_state.specs.declared.reply.UpdateReply.TheVariants.{NoError, NotAuth, NotZone}
 use Rattle.office_state.specs.Replies.{to_update}
-use Rattle.office_state.specs.States.{Held, State, AreZones, zone_held, part_at, hold, keep}
+use Rattle.office_state.specs.States.{Held, State, AreZones, zone_held, zone_at, hold, keep}
 use Rattle.office_state.specs.Tables.{AdditionOf, held_with, committed, FitsHeld}
-use Rattle.office_core.specs.Machine.{Turn, denied_reply, failed_reply, zone_refusal, refusal, with_change, held_after, answered}
+use Rattle.office_core.specs.Machine.{Turn, outside_reply, denied_reply, failed_reply, zone_refusal, refusal, with_change, held_after, answered}
 use Rattle.office_core.specs.Steps.{Commits, held_in, change_made, Makes, MakesAt, addition_of}
-
-same_Some : {T : Type 0} (a b : T) → Some a ≡ Some b → a ≡ b
-same_Some a b e = cc
-
--- ---- names of items
-
-list_any-map : {A B : Type 0} (p : B → Bool) (f : A → B) (xs : List A) → list_any p (map f xs) ≡ list_any (λ x. p (f x)) xs
-list_any-map p f [] = refl
-list_any-map p f (x ∷ xs) = ap (λ b. p (f x) || b) (list_any-map p f xs)
-
--- the names of an update's items are all that it reads beside the origin
-covers : (origin : List (List ℕ)) (update : UpdateOf) (names : List (List (List ℕ))) → names ≡ map tested_name update.prerequisites ++ map acted_name update.operations → Covers origin update (at_names origin names)
-covers origin update names named k found =
-    let at : List (List ℕ) → Bool = λ name. at_name name k in
-    let all : list_any at names ≡ (tested update.prerequisites k || touched update.operations k) =
-    ap (list_any at) named
-    ∙ list_any-append at (map tested_name update.prerequisites) (map acted_name update.operations)
-    ∙ (λ i. list_any-map at tested_name update.prerequisites i || list_any-map at acted_name update.operations i) in
-    ap (λ b. at_name origin k || b) all ∙ found
 
 -- ---- a change
 
@@ -57,7 +33,7 @@ nothing_same : (a b : Records) → is_empty (change_between a b) ≡ is_same a b
 nothing_same a b = λ i. (length-listing (minus a b) i == 0) && (length-listing (minus b a) i == 0)
 
 -- what is changed, by what two sets differ in
-abbrev change_by : Records → Records → Option ChangeOf
+abbrev pub change_by : Records → Records → Option ChangeOf
 change_by m n = if (len m == 0) && (len n == 0) then None else Some (record { removed = listing m; added = listing n })
 
 -- ---- a state in which the same is held
@@ -72,9 +48,19 @@ same_state s origin held is = λ i. record s { zones = λ o. each o i }
     each : (o : List (List ℕ)) → (if same_name o origin then Some held else s.zones o) ≡ s.zones o
     each o = by_name o (same_name o origin) refl
 
+-- ---- updates that are not refused
+
+-- they act within the origin
+pub acts_within : (rules : List Rule) (caller : List ℕ) (origin : List (List ℕ)) (update : UpdateOf) (set : Records) → option_or (outside_reply origin update) (option_or (denied_reply rules caller origin update) (failed_reply set update)) ≡ None → ActsWithin origin update
+acts_within rules caller origin update set none = by_place (first_outside origin update) refl none
+  where
+    by_place : (o : Option Place) → first_outside origin update ≡ o → option_or (option_map NotZone o) (option_or (denied_reply rules caller origin update) (failed_reply set update)) ≡ None → ActsWithin origin update
+    by_place None e none = (none_outside origin update None (sym e)).0 refl
+    by_place (Some place) e none = absurd cc
+
 -- ---- what is kept of an update
 
-module _ (rules : List Rule) (s : State) (caller id : List ℕ) (origin : List (List ℕ)) (update : UpdateOf) (names : List (List (List ℕ))) (zones : AreZones s) (fresh : s.receipts caller id ≡ None) (is : IsUpdate update) (named : names ≡ map tested_name update.prerequisites ++ map acted_name update.operations) where
+module _ (rules : List Rule) (s : State) (caller id : List ℕ) (origin : List (List ℕ)) (update : UpdateOf) (zones : AreZones s) (fresh : s.receipts caller id ≡ None) (is : IsUpdate update) where
   abbrev Told : Option UpdateReply → UpdateReply → Option ChangeOf → Type 0
   Told refused reply change = Commits s (answered s caller id origin update refused) (addition_of caller id origin update reply change) reply
 
@@ -88,40 +74,15 @@ module _ (rules : List Rule) (s : State) (caller id : List ℕ) (origin : List (
     abbrev whole : ZoneOf
     whole = zone_held origin held
 
-    abbrev less : ZoneOf
-    less = part_of whole (at_names origin names)
-
     abbrev after : Records
     after = (zone_after whole update).records
 
     z : IsZone whole
     z = zones origin held there
 
-    needs : ActsWithin origin update → DoesForZone whole update (at_names origin names)
-    needs acts = updates_need whole update (at_names origin names) z is acts (covers origin update names named)
-
-    -- it is refused by the part as by the whole
-    same_refusal : zone_refusal rules caller origin update (held_in less) ≡ zone_refusal rules caller origin update held
-    same_refusal = by_place (first_outside origin update) refl
-      where
-        by_place : (o : Option Place) → first_outside origin update ≡ o → option_or (option_map NotZone o) (option_or (denied_reply rules caller origin update) (failed_reply less.records update)) ≡ option_or (option_map NotZone o) (option_or (denied_reply rules caller origin update) (failed_reply held.records update))
-        by_place None e = ap (λ (v : Option Failed). option_or (denied_reply rules caller origin update) (option_map FailedReply v)) (needs ((none_outside origin update None (sym e)).0 refl)).verdict
-        by_place (Some place) e = refl
-
-    -- an update that is not refused acts within the origin
-    acts_within : zone_refusal rules caller origin update held ≡ None → ActsWithin origin update
-    acts_within none = by_place (first_outside origin update) refl none
-      where
-        by_place : (o : Option Place) → first_outside origin update ≡ o → option_or (option_map NotZone o) (option_or (denied_reply rules caller origin update) (failed_reply held.records update)) ≡ None → ActsWithin origin update
-        by_place None e none = (none_outside origin update None (sym e)).0 refl
-        by_place (Some place) e none = absurd cc
-
     module _ (acts : ActsWithin origin update) where
       z_after : IsZone (zone_after whole update)
       z_after = updates_keep whole update z is acts
-
-      same_change : change_made less.records (zone_after less update).records ≡ change_made held.records after
-      same_change = let does = needs acts in λ i. change_by (does.removed i) (does.added i)
 
       made : FitsIn held.records (change_between held.records after).removed (change_between held.records after).added × (changed held.records (change_between held.records after).removed (change_between held.records after).added ≡ after)
       made = changes_make held.records after z.kept z_after.kept
@@ -172,31 +133,27 @@ module _ (rules : List Rule) (s : State) (caller id : List ℕ) (origin : List (
       }
 
       -- an update that is made
-      made_told : (reply : UpdateReply) (change : Option ChangeOf) → reply ≡ NoError → change ≡ change_made less.records (zone_after less update).records → Told None reply change
+      made_told : (reply : UpdateReply) (change : Option ChangeOf) → reply ≡ NoError → change ≡ change_made held.records after → Told None reply change
       made_told reply change no_error is_change =
           let exact : Told None NoError (change_made held.records after) = by_same (is_same held.records after) refl in
-          subst (λ x. Told None x change) (sym no_error) (subst (λ c. Told None NoError c) (sym (is_change ∙ same_change)) exact)
+          subst (λ x. Told None x change) (sym no_error) (subst (λ c. Told None NoError c) (sym is_change) exact)
 
-    by_refusal : (r : Option UpdateReply) → zone_refusal rules caller origin update held ≡ r → (reply : UpdateReply) (change : Option ChangeOf) → Makes less update r reply change → Told r reply change
+    by_refusal : (r : Option UpdateReply) → zone_refusal rules caller origin update held ≡ r → (reply : UpdateReply) (change : Option ChangeOf) → Makes whole update r reply change → Told r reply change
     by_refusal (Some r) e reply change makes = refused r reply change makes.0 makes.1
-    by_refusal None e reply change makes = made_told (acts_within e) reply change makes.0 makes.1
+    by_refusal None e reply change makes = made_told (acts_within rules caller origin update held.records e) reply change makes.0 makes.1
 
-    of_zone : (reply : UpdateReply) (change : Option ChangeOf) → Makes less update (zone_refusal rules caller origin update (held_in less)) reply change → Told (zone_refusal rules caller origin update held) reply change
-    of_zone reply change makes =
-        by_refusal (zone_refusal rules caller origin update held) refl reply change (subst (λ r. Makes less update r reply change) same_refusal makes)
+    of_zone : (reply : UpdateReply) (change : Option ChangeOf) → Makes whole update (zone_refusal rules caller origin update (held_in whole)) reply change → Told (zone_refusal rules caller origin update held) reply change
+    of_zone reply change makes = by_refusal (zone_refusal rules caller origin update held) refl reply change makes
 
-  by_held : (h : Option Held) → s.zones origin ≡ h → (zone : Option ZoneOf) → zone ≡ option_map (λ whole. part_of whole (at_names origin names)) (option_map (zone_held origin) h) → (reply : UpdateReply) (change : Option ChangeOf) → MakesAt rules caller update zone reply change → Told (refusal rules caller origin update h) reply change
-  by_held None e None same reply change makes = refused NotAuth reply change makes.0 makes.1
-  by_held None e (Some zone) same reply change makes = absurd cc
-  by_held (Some held) e None same reply change makes = absurd cc
-  by_held (Some held) e (Some zone) same reply change makes =
-      of_zone held e reply change (subst (λ w. Makes w update (zone_refusal rules caller w.origin update (held_in w)) reply change) (same_Some zone (less held e) same) makes)
+  by_held : (h : Option Held) → s.zones origin ≡ h → (reply : UpdateReply) (change : Option ChangeOf) → MakesAt rules caller update (option_map (zone_held origin) h) reply change → Told (refusal rules caller origin update h) reply change
+  by_held None e reply change makes = refused NotAuth reply change makes.0 makes.1
+  by_held (Some held) e reply change makes = of_zone held e reply change makes
 
-  -- what is answered by the part of a zone that an update reads, and what is kept of it then, are the machine's
-  pub commits : (zone : Option ZoneOf) → zone ≡ part_at s origin names → (reply : UpdateReply) (change : Option ChangeOf) → MakesAt rules caller update zone reply change → (a : AdditionOf) → a ≡ addition_of caller id origin update reply change → Commits s (answered s caller id origin update (refusal rules caller origin update (s.zones origin))) a reply
-  commits zone same reply change makes a of =
+  -- what is answered by the zone, and what is kept of it then, are the machine's
+  pub commits : (reply : UpdateReply) (change : Option ChangeOf) → MakesAt rules caller update (zone_at s origin) reply change → (a : AdditionOf) → a ≡ addition_of caller id origin update reply change → Commits s (answered s caller id origin update (refusal rules caller origin update (s.zones origin))) a reply
+  commits reply change makes a of =
       subst (λ x. Commits s (answered s caller id origin update (refusal rules caller origin update (s.zones origin))) x reply) (sym of)
-      (by_held (s.zones origin) refl zone same reply change makes)
+      (by_held (s.zones origin) refl reply change makes)
 
 -- ---- what a commit leaves
 

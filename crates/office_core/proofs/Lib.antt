@@ -9,6 +9,7 @@ pub mod IsolationLemmas
 pub mod NumberLemmas
 pub mod EmptyChangeLemmas
 pub mod CommitLemmas
+pub mod PartLemmas
 pub mod RunLemmas
 pub mod AloneLemmas
 pub mod ListLemmas

@@ -1,5 +1,6 @@
 -- What one call of `step` does, over any table.
 use Rattle.std.specs.Prelude.{◌≡◌, ℕ, List, [], if◌then◌else◌, Option, Some, None, Result, Ok, Err}
+use Rattle.std.specs.Option.{option_or}
 use Rattle.grant_policy.specs.declared.rule.Rule.{Rule}
 use Rattle.zone_core.specs.Sets.{Records, is_same}
 use Rattle.zone_core.specs.Zones.{ZoneOf}
@@ -17,7 +18,7 @@ use Rattle.office_state.specs.declared.reply.UpdateReply.TheVariants.{NoError, N
 use Rattle.office_state.specs.Replies.{reply_of, to_update}
 use Rattle.office_state.specs.States.{Held, State}
 use Rattle.office_state.specs.Tables.{CountsFault, AdditionOf, Fits, committed}
-use Rattle.office_core.specs.Machine.{Turn, step, zone_refusal, receipt}
+use Rattle.office_core.specs.Machine.{Turn, step, outside_reply, denied_reply, failed_reply, zone_refusal, receipt}
 
 -- What a request is answered from a state, and that the state after it is held: a step of the machine; or the table failed or
 -- memory ran out, and nothing changed.
@@ -77,6 +78,15 @@ Makes zone update None reply change = (reply ≡ NoError) × (change ≡ change_
 abbrev pub MakesAt : List Rule → List ℕ → UpdateOf → Option ZoneOf → UpdateReply → Option ChangeOf → Type 0
 MakesAt rules caller update None reply change = (reply ≡ NotAuth) × (change ≡ None)
 MakesAt rules caller update (Some zone) reply change = Makes zone update (zone_refusal rules caller zone.origin update (held_in zone)) reply change
+
+-- why an update is refused before a record is read: the first that applies of its names and the policy
+abbrev pub unread_refusal : List Rule → List ℕ → List (List ℕ) → UpdateOf → Option UpdateReply
+unread_refusal rules caller origin update = option_or (outside_reply origin update) (denied_reply rules caller origin update)
+
+-- what an update that is not refused so is answered, and what it changes, where the zone is that of the origin
+abbrev pub MakesOf : List (List ℕ) → UpdateOf → Option ZoneOf → UpdateReply → Option ChangeOf → Type 0
+MakesOf origin update None reply change = (reply ≡ NotAuth) × (change ≡ None)
+MakesOf origin update (Some zone) reply change = zone.origin ≡ origin → Makes zone update (failed_reply zone.records update) reply change
 
 -- what is kept of an update: its receipt, and the change that it made
 abbrev pub addition_of : List ℕ → List ℕ → List (List ℕ) → UpdateOf → UpdateReply → Option ChangeOf → AdditionOf

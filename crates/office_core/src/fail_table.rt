@@ -16,6 +16,7 @@ use zone_core::{Change, Zone};
 /// A kind of call of a table.
 #[derive(Clone, Copy, PartialEq, Eq)]
 pub enum TableCall {
+    HasZone,
     Zone,
     Part,
     Subtree,
@@ -83,7 +84,7 @@ impl<L: Ledger> ZoneTable for FailTable<L> {
     ghost failures = { λ t. t.book.total };
 
     fn has_zone(&mut self, alloc: Global, origin: &Name) -> Result<bool, TableFault> {
-        self.call(TableCall::Zone)?;
+        self.call(TableCall::HasZone)?;
         self.table.has_zone(alloc, origin)
     }
 

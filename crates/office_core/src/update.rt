@@ -1,14 +1,14 @@
 //! Updates: whether they are made, and what is kept of them.
 
-ghost use Rattle.std.specs.Prelude.{◌≡◌, ◌++◌, None, Some, IfOk, map, option_map};
-ghost use Rattle.zone_core.specs.Updates.{tested_name, acted_name, IsUpdate, ActsWithin};
+ghost use Rattle.std.specs.Prelude.{◌≡◌, None, Some, IfOk, option_map};
+ghost use Rattle.zone_core.specs.Updates.{IsUpdate, ActsWithin};
 ghost use Rattle.zone_core.specs.Changes.{change_in};
 ghost use Rattle.office_state.specs.Replies.{reply_of};
-ghost use Rattle.office_state.specs.States.{State};
+ghost use Rattle.office_state.specs.States.{State, zone_at};
 ghost use Rattle.office_state.specs.Tables.{ReadsOnly, addition_in};
 ghost use Rattle.office_state.specs.declared.reply.UpdateReply.TheVariants.{NoError};
-ghost use Rattle.office_core.specs.Machine.{again, answered, updated, refusal, zone_refusal};
-ghost use Rattle.office_core.specs.Steps.{CountsStep, IsAnswer, Takes, LeavesTurn, Commits, Makes, MakesAt, held_in, addition_of};
+ghost use Rattle.office_core.specs.Machine.{again, answered, updated, refusal, zone_refusal, failed_reply};
+ghost use Rattle.office_core.specs.Steps.{CountsStep, IsAnswer, Takes, LeavesTurn, Commits, Makes, MakesAt, MakesOf, held_in, unread_refusal, addition_of};
 ghost use Rattle.office_core.specs.Plans.{Plans};
 
 use crate::permission::denied;
@@ -90,11 +90,36 @@ fn prepared<T: ZoneTable>(
     ensures commits { T.is_honest table.new → IfOk result (λ r. (s : State) → T.holds table.new s → Commits s (answered s caller.now id.now origin.now update.now (refusal policy.now caller.now origin.now update.now (s.zones origin.now))) (addition_in r.1) r.0) }
     ensures reads { ReadsOnly T.holds T.is_honest T.leaves T.failures table.old table.new result }
 {
-    let names = item_names(alloc, update)?;
-    let part = table.part(alloc, origin, &names)?;
-    let (reply, change) = made_at(alloc, policy, caller, part, update)?;
+    let (reply, change) = decided(alloc, table, policy, caller, origin, update)?;
     let addition = addition(alloc, caller, id, origin, update, &reply, change)?;
     Ok((reply, addition))
+}
+
+/// The reply to an update that has no receipt, and what it changes, if it is made and changes something. The policy is asked before a
+/// record is read, and the records at each name are read once.
+fn decided<T: ZoneTable>(
+    alloc: Global,
+    table: &mut T,
+    policy: &Policy,
+    caller: &Identifier,
+    origin: &Name,
+    update: &Update,
+) -> Result<(UpdateReply, Option<Change>), TableFault>
+    ensures makes { T.is_honest table.new → IfOk result (λ r. (s : State) → T.holds table.old s → MakesAt policy.now caller.now update.now (zone_at s origin.now) r.0 (option_map change_in r.1)) }
+    ensures update { IsUpdate update.now }
+    ensures reads { ReadsOnly T.holds T.is_honest T.leaves T.failures table.old table.new result }
+{
+    // that it is an update follows from that it has operations
+    let _operations = update.operations();
+    if !table.has_zone(alloc, origin)? {
+        return Ok((UpdateReply::NotAuth, None));
+    }
+    if let Some(reply) = unread_refusal(alloc, policy, caller, origin, update)? {
+        return Ok((reply, None));
+    }
+    let names = update.names(alloc)?;
+    let part = table.part(alloc, origin, &names)?;
+    Ok(made_at(alloc, origin, part, update)?)
 }
 
 /// What is kept of an update: its receipt, and the change that it made. The only error is out of memory.
@@ -122,36 +147,37 @@ fn addition(
     })
 }
 
-/// The names of the items of an update: all that it reads beside the origin. The only error is out of memory.
-fn item_names(alloc: Global, update: &Update) -> Result<Vec<Name>, AllocError>
-    ensures update { IsUpdate update.now }
-    ensures names { IfOk result (λ names. names.items ≡ map tested_name update.now.prerequisites ++ map acted_name update.now.operations) }
-{
-    let mut names = Vec::new(alloc);
-    for prerequisite in update.prerequisites() {
-        names.push(prerequisite.name().try_copy(alloc)?)?;
-    }
-    for operation in update.operations() {
-        names.push(operation.name().try_copy(alloc)?)?;
-    }
-    Ok(names)
-}
-
-/// The reply to an update, by what it reads of its zone, where there is the zone, and what it changes, if it is made and changes
-/// something. The only error is out of memory.
+/// The reply to an update that its names and the policy allow, by what it reads of its zone, where there is the zone, and what it
+/// changes, if it is made and changes something. The only error is out of memory.
 fn made_at(
     alloc: Global,
-    policy: &Policy,
-    caller: &Identifier,
+    origin: &Name,
     part: Option<Zone>,
     update: &Update,
 ) -> Result<(UpdateReply, Option<Change>), AllocError>
-    ensures { IfOk result (λ r. MakesAt policy.now caller.now update.now part r.0 (option_map change_in r.1)) }
+    requires { ActsWithin origin.now update.now }
+    ensures { IfOk result (λ r. MakesOf origin.now update.now part r.0 (option_map change_in r.1)) }
 {
     match part {
-        Some(zone) => made(alloc, policy, caller, &zone, update),
+        Some(zone) => made_of(alloc, origin, &zone, update),
         None => Ok((UpdateReply::NotAuth, None)),
     }
+}
+
+/// The same where there is a zone. A store that has broken its word may answer that of another origin, for which nothing is made.
+fn made_of(
+    alloc: Global,
+    origin: &Name,
+    zone: &Zone,
+    update: &Update,
+) -> Result<(UpdateReply, Option<Change>), AllocError>
+    requires { ActsWithin origin.now update.now }
+    ensures { IfOk result (λ r. MakesOf origin.now update.now (Some zone.now) r.0 (option_map change_in r.1)) }
+{
+    if zone.origin() == origin {
+        return made(alloc, zone, update);
+    }
+    Ok((UpdateReply::NotAuth, None))
 }
 
 /// What the office would answer to an update of a zone, and what it would change, if it is made and changes something. The only error
@@ -170,11 +196,11 @@ pub fn plan(
     // An update that is made acts within the zone.
     ensures inside { IfOk result (λ r. r.0 ≡ NoError → ActsWithin zone.now.origin update.now) }
 {
-    made(alloc, policy, caller, zone, update)
+    planned(alloc, policy, caller, zone, update)
 }
 
 /// The reply to an update of a zone, and what it changes, if it is made and changes something. The only error is out of memory.
-fn made(
+fn planned(
     alloc: Global,
     policy: &Policy,
     caller: &Identifier,
@@ -183,9 +209,37 @@ fn made(
 ) -> Result<(UpdateReply, Option<Change>), AllocError>
     ensures { IfOk result (λ r. Makes zone.now update.now (zone_refusal policy.now caller.now zone.now.origin update.now (held_in zone.now)) r.0 (option_map change_in r.1)) }
 {
-    if let Some(reply) = refusal(alloc, policy, caller, zone, update)? {
-        return Ok((reply, None));
+    match unread_refusal(alloc, policy, caller, zone.origin(), update)? {
+        Some(reply) => Ok((reply, None)),
+        None => made(alloc, zone, update),
     }
+}
+
+/// The reply to an update of a zone that its names and the policy allow, and what it changes, if its prerequisites hold and it changes
+/// something. The only error is out of memory.
+fn made(
+    alloc: Global,
+    zone: &Zone,
+    update: &Update,
+) -> Result<(UpdateReply, Option<Change>), AllocError>
+    requires { ActsWithin zone.now.origin update.now }
+    ensures { IfOk result (λ r. Makes zone.now update.now (failed_reply zone.now.records update.now) r.0 (option_map change_in r.1)) }
+{
+    match holds(zone, update) {
+        Ok(()) => changed(alloc, zone, update),
+        Err(failed) => Ok((UpdateReply::Failed(failed), None)),
+    }
+}
+
+/// The reply to an update that is made, and what it changes, if it changes something. The only error is out of memory.
+fn changed(
+    alloc: Global,
+    zone: &Zone,
+    update: &Update,
+) -> Result<(UpdateReply, Option<Change>), AllocError>
+    requires { ActsWithin zone.now.origin update.now }
+    ensures { IfOk result (λ r. Makes zone.now update.now None r.0 (option_map change_in r.1)) }
+{
     let change = Change::of_update(alloc, zone, update)?;
     let change = if change.is_empty() {
         None
@@ -195,36 +249,32 @@ fn made(
     Ok((UpdateReply::NoError, change))
 }
 
-/// Why an update of a zone is not made, if it is not: the first that applies of its names, the policy and its prerequisites. The
+/// Why an update of the zone of an origin is not made, whatever its records: the first that applies of its names and the policy. The
 /// only error is out of memory.
-fn refusal(
+fn unread_refusal(
     alloc: Global,
     policy: &Policy,
     caller: &Identifier,
-    zone: &Zone,
+    origin: &Name,
     update: &Update,
 ) -> Result<Option<UpdateReply>, AllocError>
     // An update that is not refused acts within the zone.
-    ensures inside { IfOk result (λ reply. reply ≡ None → ActsWithin zone.now.origin update.now) }
-    ensures reply { IfOk result (λ reply. reply ≡ zone_refusal policy.now caller.now zone.now.origin update.now (held_in zone.now)) }
+    ensures inside { IfOk result (λ reply. reply ≡ None → ActsWithin origin.now update.now) }
+    ensures reply { IfOk result (λ reply. reply ≡ unread_refusal policy.now caller.now origin.now update.now) }
 {
-    let origin = zone.origin();
     if let Some(place) = update.outside(origin) {
         return Ok(Some(UpdateReply::NotZone(place)));
     }
     let mut look_ups = LookUps::new();
-    if let Some(denial) = denied(policy, caller, origin, update, &mut look_ups) {
-        let by = match denial.by {
-            Some(id) => Some(id.try_copy(alloc)?),
-            None => None,
-        };
-        return Ok(Some(UpdateReply::Refused {
-            place: denial.place,
-            by,
-        }));
-    }
-    match holds(zone, update) {
-        Ok(()) => Ok(None),
-        Err(failed) => Ok(Some(UpdateReply::Failed(failed))),
-    }
+    let Some(denial) = denied(policy, caller, origin, update, &mut look_ups) else {
+        return Ok(None);
+    };
+    let by = match denial.by {
+        Some(id) => Some(id.try_copy(alloc)?),
+        None => None,
+    };
+    Ok(Some(UpdateReply::Refused {
+        place: denial.place,
+        by,
+    }))
 }

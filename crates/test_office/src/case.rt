@@ -25,6 +25,7 @@ pub struct Case {
 
 fn table_call(word: &[u8]) -> Result<TableCall> {
     match word {
+        b"has-zone" => Ok(TableCall::HasZone),
         b"zone" => Ok(TableCall::Zone),
         b"part" => Ok(TableCall::Part),
         b"subtree" => Ok(TableCall::Subtree),

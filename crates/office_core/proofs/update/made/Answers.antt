@@ -1,21 +1,14 @@
-use Rattle.std.proofs.Common.{sym, ap, option_map, ◌∙◌}
+use Rattle.std.proofs.Common.{◌≡◌, None, ap, option_map, subst}
+use Rattle.std.proofs.lemmas.Result.{IfOk-weaker}
 use Rattle.zone_core.specs.Changes.{change_in}
-use Rattle.zone_core.specs.Effects.{zone_after}
-use Rattle.office_core.proofs.EmptyChangeLemmas.{none_made, some_made, makes}
+use Rattle.office_state.specs.declared.reply.UpdateReply.TheVariants.{Failed}
+use Rattle.office_core.specs.Machine.{failed_reply}
+use Rattle.office_core.specs.Steps.{Makes}
 use Rattle.office_core.proofs.update.made.Goals as goal
-use Rattle.office_core.proofs.update.made.Goals.{then-is_empty, else-is_empty}
 
-pub returns : goal.returns
-returns c =
-    let zone = c.args.zone.now in
-    let after = (zone_after zone c.args.update.now).records in
-    let made = c.in_ok-change.ensures in
-    let none = sym c.in_default.is ∙ c.in_ok-reply.ensures.reply in
-    elim c.if-is_empty.branch [
-      | then-is_empty w ↦
-          makes zone c.args.update.now _ _ none
-          (ap (option_map change_in) w.change-is ∙ none_made zone.records after (change_in c.in_ok-change.change) made (sym c.is_empty.ensures ∙ w.if-is_empty.true))
-      | else-is_empty w ↦
-          makes zone c.args.update.now _ _ none
-          (ap (option_map change_in) w.change-is ∙ some_made zone.records after (change_in c.in_ok-change.change) made (sym c.is_empty.ensures ∙ w.if-is_empty.false))
-    ]
+pub returns-in-Ok : goal.returns-in-Ok
+returns-in-Ok c =
+    let none : None ≡ failed_reply c.args.zone.now.records c.args.update.now = ap (option_map Failed) c.in-Ok.ensures.exact in
+    IfOk-weaker c.changed.result _ _
+    (λ r makes. subst (λ x. Makes c.args.zone.now c.args.update.now x r.0 (option_map change_in r.1)) none makes)
+    c.changed.ensures

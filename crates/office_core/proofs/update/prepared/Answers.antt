@@ -1,4 +1,4 @@
-use Rattle.std.proofs.Common.{option_map, ◌∙◌}
+use Rattle.std.proofs.Common.{option_map}
 use Rattle.zone_core.specs.Changes.{change_in}
 use Rattle.office_state.specs.Tables.{addition_in}
 use Rattle.office_core.proofs.CommitLemmas.{commits}
@@ -6,8 +6,7 @@ use Rattle.office_core.proofs.update.prepared.Goals as goal
 
 pub returns-clause-commits : goal.returns-clause-commits
 returns-clause-commits g c honest s held =
-    let holds = c.in_ok-part.ensures.reads.1 honest s held in
-    commits c.args.policy.now s c.args.caller.now c.args.id.now c.args.origin.now c.args.update.now c.deref.result.now
-    (g.met.T.ZoneTable.zones c.args.table.now s holds) (c.requires.fresh (c.part.ensures.reads.3 honest) s holds) c.item_names.ensures.update
-    (c.deref.ensures.value ∙ c.in_ok-names.ensures.names) c.in_ok-part.part (c.in_ok-part.ensures.answer honest s holds)
-    c.in_ok-reply.reply (option_map change_in c.in_ok-reply.change) c.in_ok-reply.ensures (addition_in c.in_ok-addition.addition) c.in_ok-addition.ensures
+    let holds = c.in_ok-reply.ensures.reads.1 honest s held in
+    commits c.args.policy.now s c.args.caller.now c.args.id.now c.args.origin.now c.args.update.now
+    (g.met.T.ZoneTable.zones c.args.table.now s holds) (c.requires.fresh (c.decided.ensures.reads.3 honest) s holds) c.decided.ensures.update
+    c.in_ok-reply.reply (option_map change_in c.in_ok-reply.change) (c.in_ok-reply.ensures.makes honest s holds) (addition_in c.in_ok-addition.addition) c.in_ok-addition.ensures
