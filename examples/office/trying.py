@@ -91,6 +91,8 @@ def go_inside(seconds, machine=True):
         inside.terminate()
         inside.wait()
         shutil.rmtree(folder)
+        # of a container that was killed
+        run(f"find /sys/fs/cgroup/*/{os.path.basename(folder)} -depth -type d -exec rmdir {{}} ';'")
     if status not in (0, 1):
         print(f"{sys.argv[0]}: ended with status {status} (124: after {seconds} seconds)")
     sys.exit(1 if status else 0)
