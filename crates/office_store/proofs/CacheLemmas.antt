@@ -1,5 +1,5 @@
 -- The cached zone, and the state that the connection holds.
-use Rattle.std.proofs.Common.{◌≡◌, ◌⊎◌, ℕ, inl, inr, pos, List, ◌&&◌, bytes_eq, cond, true, false, map, drop, Option, Some, None, option_map, Result, Ok, Err, IfSome, IsTrue, IsPermutation, refl, sym, ap, subst, ◌∙◌}
+use Rattle.std.proofs.Common.{◌≡◌, ◌⊎◌, ℕ, inl, inr, pos, List, ◌&&◌, bytes_eq, cond, true, false, map, drop, Option, Some, None, option_map, Result, Ok, Err, IfSome, IsTrue, IsPermutation, is_some, refl, sym, ap, subst, ◌∙◌}
 use Rattle.std.proofs.Math.Logic.{∥∥₁_map, ∥∥₁_elim}
 use Rattle.std.specs.Coded.{Coded-set, coded_option}
 use Rattle.std.proofs.lemmas.List.Sorted.{IsPermutation-sym, IsPermutation-trans}
@@ -30,7 +30,7 @@ use Rattle.office_rows.proofs.ListLemmas.{none_moved}
 use Rattle.office_rows.proofs.OriginLaws.{zones_stand_at_origins}
 use Rattle.office_rows.proofs.StateLaws.{states_are_sound}
 use Rattle.office_rows.proofs.ZoneReadLemmas.{rows_moved, zone_of_state, zone_stored}
-use Rattle.zone_cache.specs.Cache.{AreAllRecordsOf, AreIncludedOf, IsPartOf, cached_after, cached_behind, changed_at, with_change}
+use Rattle.zone_cache.specs.Cache.{AreAllRecordsOf, AreIncludedOf, IsPartOf, cached_after, cached_behind, changed_at, is_cached_of, with_change}
 use Rattle.office_store.specs.Cache.{FitsCache, IsZoneIn}
 use Rattle.office_store.specs.Holds.{HoldsState, LeavesStates}
 use Rattle.office_store.specs.Queries.{Asked}
@@ -161,6 +161,18 @@ pub told_of_cache : (conn : Shown) (cached : Option ZoneOf) (zone : ZoneOf) (o :
 told_of_cache conn cached zone o fits clean up some own s h =
     let held = (subst (FitsCache conn) some fits).held clean in
     ∥∥₁_elim held (Coded-set (coded_option zone_code) _ _) (λ it. subst (λ n. Some zone ≡ zone_at s n) own (sym (one_zone conn up it.0 s it.1 h zone.origin zone it.2)))
+
+-- it is there
+is_held : (found : Option Held) (zone : ZoneOf) (o : Labels) → Some zone ≡ option_map (zone_held o) found → true ≡ is_some found
+is_held None zone o at = absurd (let none : None ≡ Some zone = sym at in cc)
+is_held (Some held) zone o at = refl
+
+-- so a state that is held has the zone of an origin that is cached
+pub told_of_cached : (conn : Shown) (cached : Option ZoneOf) (o : Labels) → FitsCache conn cached → HasCleanDisk conn → IsTrue conn.is_open → is_cached_of cached o ≡ true
+    → (s : State) → HoldsState conn s → true ≡ is_some (s.zones o)
+told_of_cached conn None o fits clean up t s h = absurd (let no : false ≡ true = t in cc)
+told_of_cached conn (Some zone) o fits clean up t s h =
+    is_held (s.zones o) zone o (told_of_cache conn (Some zone) zone o fits clean up refl ((same_name-Decides zone.origin o).0 t) s h)
 
 -- the records of a zone of a state are exported
 pub exported_is : (o : Labels) (found : Option Held) (zone : ZoneOf) → Some zone ≡ option_map (zone_held o) found → exported found ≡ Ok (listing zone.records)

@@ -1,6 +1,6 @@
 //! What is read of the zone that was read last, and of others by their rows. The cached zone follows the commits.
 
-ghost use Rattle.std.specs.Prelude.{◌≡◌, IfOk, IfSome, option_map};
+ghost use Rattle.std.specs.Prelude.{◌≡◌, IfOk, IfSome, is_some, option_map};
 ghost use Rattle.sqlite.specs.Held.{state};
 ghost use Rattle.sqlite.specs.State.{HasCleanDisk};
 ghost use Rattle.zone_core.specs.Sets.{InOrder};
@@ -16,7 +16,7 @@ ghost use Rattle.office_store.specs.Cache.{FitsCache};
 
 use crate::batch::commit;
 use crate::queries::check_open;
-use crate::reads::{part_at, subtree_at, zone_at};
+use crate::reads::{is_held, part_at, subtree_at, zone_at};
 use crate::zones::export;
 use dns_data::Record;
 use dns_names::Name;
@@ -45,6 +45,24 @@ fn cache_zone<S: Alter>(
     let found = zone_at(alloc, conn, origin)?;
     *cache = cached_of(alloc, found);
     Ok(())
+}
+
+/// Whether there is the zone of an origin, none of whose records is read: it is the cached one, or else its row is there.
+pub(crate) fn cached_or_held<S: Alter>(
+    alloc: Global,
+    conn: &mut Connection<S>,
+    cache: &Option<CachedZone>,
+    origin: &Name,
+) -> Result<bool, StoreFault>
+    requires fits { FitsCache (state S.Store conn.old) (cached_in cache.now) }
+    ensures answer { HasCleanDisk (state S.Store conn.new) → IfOk result (λ found. (s : State) → HoldsState (state S.Store conn.old) s → found ≡ is_some (s.zones origin.now)) }
+    ensures asks { AsksOnly (state S.Store conn.old) (state S.Store conn.new) result }
+{
+    if is_cached(cache, origin) {
+        check_open(conn)?;
+        return Ok(true);
+    }
+    is_held(alloc, conn, origin)
 }
 
 /// The records of the zone of an origin, in record order: those of the cached zone, which are handed over, or else those of its rows.

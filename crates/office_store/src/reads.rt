@@ -1,6 +1,6 @@
 //! Parts of the state that a connection holds.
 
-ghost use Rattle.std.specs.Prelude.{◌≡◌, false, map, drop, take, option_map, IfOk, IfErr, IfSome, OnOk};
+ghost use Rattle.std.specs.Prelude.{◌≡◌, false, map, drop, take, option_map, IfOk, IfErr, IfSome, OnOk, is_some};
 ghost use Rattle.zone_core.specs.Sets.{InOrder};
 ghost use Rattle.zone_core.specs.Changes.{change_in};
 ghost use Rattle.sqlite.specs.Held.{state};
@@ -12,7 +12,7 @@ ghost use Rattle.office_store.specs.Holds.{HoldsState};
 ghost use Rattle.office_store.specs.Queries.{AsksOnly};
 
 use crate::queries::{
-    change_rows, change_rows_behind, check_alone, part_rows, subtree_rows, zone_rows,
+    change_rows, change_rows_behind, check_alone, held_text, part_rows, subtree_rows, zone_rows,
 };
 use dns_data::Record;
 use dns_names::Name;
@@ -27,6 +27,19 @@ use sqlite::{Alter, Connection};
 use std::alloc::Global;
 use store_faults::StoreFault;
 use zone_core::{Change, Zone};
+
+/// Whether there is the zone of an origin.
+pub(crate) fn is_held<S: Alter>(
+    alloc: Global,
+    conn: &mut Connection<S>,
+    origin: &Name,
+) -> Result<bool, StoreFault>
+    ensures answer { HasCleanDisk (state S.Store conn.new) → IfOk result (λ found. (s : State) → HoldsState (state S.Store conn.old) s → found ≡ is_some (s.zones origin.now)) }
+    ensures asks { AsksOnly (state S.Store conn.old) (state S.Store conn.new) result }
+{
+    let text = held_text(alloc, conn, origin)?;
+    Ok(text.is_some())
+}
 
 /// The zone of an origin, where there is one.
 pub(crate) fn zone_at<S: Alter>(

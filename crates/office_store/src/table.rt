@@ -22,7 +22,9 @@ ghost use Rattle.office_store.specs.Queries.{Asked, AsksOnly, Only};
 ghost use Rattle.office_store.specs.Turns.{Turns};
 ghost use Rattle.office_store.specs.Zones.{exported, if_free, if_later, imported, replaced, with_imported, with_replaced};
 
-use crate::cache::{SubtreeRead, cached_part, cached_subtree, commit_cached, export_cached};
+use crate::cache::{
+    SubtreeRead, cached_or_held, cached_part, cached_subtree, commit_cached, export_cached,
+};
 use crate::migration::migrate;
 use crate::opening::{Checked, Refused, check_state, make};
 use crate::queries::check_open;
@@ -421,6 +423,17 @@ impl<S: Alter + Drop, L: Ledger> ZoneTable for SqlTable<S, L> {
     ghost leaves = { λ t s u. LeavesStates (state S.Store t.conn) s u };
 
     ghost failures = { λ t. t.book.total };
+
+    fn has_zone(&mut self, alloc: Global, origin: &Name) -> Result<bool, TableFault> {
+        match cached_or_held(alloc, &mut self.conn, &self.cache, origin) {
+            Ok(found) => Ok(found),
+            Err(fault) => {
+                self.cache = None;
+                self.fault = Some(fault);
+                Err(refused(&mut self.book, &mut self.share, fault))
+            }
+        }
+    }
 
     fn zone(&mut self, alloc: Global, origin: &Name) -> Result<Option<Zone>, TableFault> {
         match zone_at(alloc, &mut self.conn, origin) {
