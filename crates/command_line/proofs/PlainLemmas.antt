@@ -21,7 +21,7 @@ use Rattle.command_line.specs.declared.job.ZoneForm.TheVariants.{Whole, Relative
 use Rattle.command_line.specs.declared.job.TextForm.{TextForm}
 use Rattle.command_line.specs.declared.job.TextForm.TheVariants.{Plain, Json}
 use Rattle.command_line.specs.PlainForms.{IsChoice, IsNumberGiven, IsPlain, IsValue, IsValueIfGiven, choice_words, diff_form_words, existing_words, form_words, given, given_if, place_words, request_words, zone_form_words}
-use Rattle.command_line.specs.Words.{JobOf, apply, canon, diff, request, files_at, files_by, is_input, imports, export, zones, log, LogOf, migrate, rights, plan, serve, ChoiceOf, by_all, by_only, by_others, check_policy, check_isolation, check_rights, check_zone, explain, job_by, job_of, stored_at}
+use Rattle.command_line.specs.Words.{JobOf, apply, canon, diff, request, files_at, files_by, is_input, imports, export, zones, log, LogOf, migrate, rights, plan, serve, ChoiceOf, by_all, by_only, by_others, check_policy, check_isolation, check_rights, check_zone, explain, job_by, job_of, number_in, stored_at}
 use Rattle.command_line.proofs.CommandLemmas.{job_of_command, no_words, place_walked, rows_from, rules_of, standing, value_walked}
 
 -- ---- steps
@@ -202,26 +202,49 @@ module _ (s p l : Text) (is_s : IsValue s) (is_p : IsValue p) (is_l : IsValue l)
       ∙ (option_read command.Serve (valued command.Serve start argument.Store s) argument.Policy p (given argument.Listen l ++ words) is_p refl
       ∙ option_read command.Serve (valued command.Serve (valued command.Serve start argument.Store s) argument.Policy p) argument.Listen l words is_l refl)
 
-  abbrev served_by : Option (Option ℕ) → Option (Option ℕ) → Option JobOf
-  served_by n w = option_and_then (λ x. option_map (λ y. serve s p l x y) w) n
+  abbrev served_by : Option (Option ℕ) → Option (Option ℕ) → Option (Option ℕ) → Option JobOf
+  served_by n w g = option_and_then (λ x. option_and_then (λ y. option_map (λ z. serve s p l x y z) g) w) n
 
   abbrev some : Option ℕ → Option (Option ℕ)
   some = option_map (λ x. Some x)
 
-  numbers_read : (n w : Option ℕ) (ns ws : List Text) → IsNumberGiven argument.Connections n ns → IsNumberGiven argument.Patience w ws
-      → job_from command.Serve (ns ++ ws) (standing 1 served idle) ≡ Some (serve s p l n w)
+  -- the options that may follow, and what is held after some of them
+  abbrev counted : Text → Held
+  counted n = valued command.Serve served argument.Connections n
+
+  abbrev patient : Held → Text → Held
+  patient h w = valued command.Serve h argument.Patience w
+
+  numbers_read : (n w g : Option ℕ) (ns ws gs : List Text) → IsNumberGiven argument.Connections n ns → IsNumberGiven argument.Patience w ws → IsNumberGiven argument.Longest g gs
+      → job_from command.Serve (ns ++ ws ++ gs) (standing 1 served idle) ≡ Some (serve s p l n w g)
   unfolding clap_on_literals
-  numbers_read None None ns ws is_n is_w = rw (is_n, is_w) refl
-  numbers_read (Some n) None ns ws is_n is_w =
-      rw (is_n.3, is_w) (option_read command.Serve served argument.Connections is_n.0 [] is_n.1 refl
-      ∙ ap (λ x. served_by (some x) (Some None)) is_n.2)
-  numbers_read None (Some w) ns ws is_n is_w =
-      rw (is_n, is_w.3) (option_read command.Serve served argument.Patience is_w.0 [] is_w.1 refl
-      ∙ ap (λ x. served_by (Some None) (some x)) is_w.2)
-  numbers_read (Some n) (Some w) ns ws is_n is_w =
-      rw (is_n.3, is_w.3) (option_read command.Serve served argument.Connections is_n.0 (given argument.Patience is_w.0) is_n.1 refl
-      ∙ (option_read command.Serve (valued command.Serve served argument.Connections is_n.0) argument.Patience is_w.0 [] is_w.1 refl
-      ∙ ap₂ (λ x y. served_by (some x) (some y)) is_n.2 is_w.2))
+  numbers_read None None None ns ws gs is_n is_w is_g = rw (is_n, is_w, is_g) refl
+  numbers_read (Some n) None None ns ws gs is_n is_w is_g =
+      rw (is_n.3, is_w, is_g) (option_read command.Serve served argument.Connections is_n.0 [] is_n.1 refl
+      ∙ ap (λ x. served_by (some x) (Some None) (Some None)) is_n.2)
+  numbers_read None (Some w) None ns ws gs is_n is_w is_g =
+      rw (is_n, is_w.3, is_g) (option_read command.Serve served argument.Patience is_w.0 [] is_w.1 refl
+      ∙ ap (λ x. served_by (Some None) (some x) (Some None)) is_w.2)
+  numbers_read None None (Some g) ns ws gs is_n is_w is_g =
+      rw (is_n, is_w, is_g.3) (option_read command.Serve served argument.Longest is_g.0 [] is_g.1 refl
+      ∙ ap (λ x. served_by (Some None) (Some None) (some x)) is_g.2)
+  numbers_read (Some n) (Some w) None ns ws gs is_n is_w is_g =
+      rw (is_n.3, is_w.3, is_g) (option_read command.Serve served argument.Connections is_n.0 (given argument.Patience is_w.0) is_n.1 refl
+      ∙ (option_read command.Serve (counted is_n.0) argument.Patience is_w.0 [] is_w.1 refl
+      ∙ ap₂ (λ x y. served_by (some x) (some y) (Some None)) is_n.2 is_w.2))
+  numbers_read (Some n) None (Some g) ns ws gs is_n is_w is_g =
+      rw (is_n.3, is_w, is_g.3) (option_read command.Serve served argument.Connections is_n.0 (given argument.Longest is_g.0) is_n.1 refl
+      ∙ (option_read command.Serve (counted is_n.0) argument.Longest is_g.0 [] is_g.1 refl
+      ∙ ap₂ (λ x y. served_by (some x) (Some None) (some y)) is_n.2 is_g.2))
+  numbers_read None (Some w) (Some g) ns ws gs is_n is_w is_g =
+      rw (is_n, is_w.3, is_g.3) (option_read command.Serve served argument.Patience is_w.0 (given argument.Longest is_g.0) is_w.1 refl
+      ∙ (option_read command.Serve (patient served is_w.0) argument.Longest is_g.0 [] is_g.1 refl
+      ∙ ap₂ (λ x y. served_by (Some None) (some x) (some y)) is_w.2 is_g.2))
+  numbers_read (Some n) (Some w) (Some g) ns ws gs is_n is_w is_g =
+      rw (is_n.3, is_w.3, is_g.3) (option_read command.Serve served argument.Connections is_n.0 (given argument.Patience is_w.0 ++ given argument.Longest is_g.0) is_n.1 refl
+      ∙ (option_read command.Serve (counted is_n.0) argument.Patience is_w.0 (given argument.Longest is_g.0) is_w.1 refl
+      ∙ (option_read command.Serve (patient (counted is_n.0) is_w.0) argument.Longest is_g.0 [] is_g.1 refl
+      ∙ (ap₂ (λ x y. served_by (some x) (some y) (some (number_in is_g.0))) is_n.2 is_w.2 ∙ ap (λ x. served_by (Some (Some n)) (Some (Some w)) (some x)) is_g.2))))
 
 -- the value of an option behind a word in its place
 option_read_behind : (c : Command) (k : ℕ) (h : Held) (a : Argument) (v : Text) (words : List Text) → IsValue v
@@ -303,9 +326,9 @@ plain_read words (migrate s) is = ap job_of is.1 ∙ (job_of_command command.Mig
 plain_read words (rights p q n t a) is =
     ap job_of is.5 ∙ (job_of_command command.Rights _ ∙ rights_read p q n t a is.0 is.1 is.2 is.3 is.4)
 plain_read words (plan p q) is = ap job_of is.2 ∙ (job_of_command command.Plan _ ∙ plan_read p q is.0 is.1)
-plain_read words (serve s p l n w) is =
-    ap job_of is.7 ∙ (job_of_command command.Serve _ ∙ (needed_read s p l is.0 is.1 is.2 (is.3 ++ is.5)
-    ∙ numbers_read s p l is.0 is.1 is.2 n w is.3 is.5 is.4 is.6))
+plain_read words (serve s p l n w g) is =
+    ap job_of is.9 ∙ (job_of_command command.Serve _ ∙ (needed_read s p l is.0 is.1 is.2 (is.3 ++ is.5 ++ is.7)
+    ∙ numbers_read s p l is.0 is.1 is.2 n w g is.3 is.5 is.7 is.4 is.6 is.8))
 plain_read words (check_policy p) is = ap job_of is.1 ∙ (job_of_command command.Check _ ∙ check_read p is.0)
 plain_read words (check_isolation p q) is = ap job_of is.2 ∙ (job_of_command command.Check _ ∙ isolation_read p q is.0 is.1)
 plain_read words (check_rights p n) is = ap job_of is.2 ∙ (job_of_command command.Check _ ∙ list_read p n is.0 is.1)

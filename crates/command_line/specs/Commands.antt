@@ -27,6 +27,7 @@ argument_row argument.Replace = (codes "replace", Flag)
 argument_row argument.Relative = (codes "relative", Flag)
 argument_row argument.Connections = (codes "connections", Number)
 argument_row argument.Patience = (codes "patience", Number)
+argument_row argument.Longest = (codes "longest", Number)
 argument_row argument.Number = (codes "number", OptionalPlace)
 argument_row argument.Subject = (codes "subject", Place)
 argument_row argument.CheckedPolicy = (codes "policy", Optional)
@@ -68,7 +69,7 @@ command_row command.Rights =
     (codes "rights", argument.Policy ∷ argument.Caller ∷ argument.Name ∷ argument.Type ∷ argument.Action ∷ [])
 command_row command.Plan = (codes "plan", argument.Policy ∷ argument.Caller ∷ [])
 command_row command.Serve =
-    (codes "serve", argument.Store ∷ argument.Policy ∷ argument.Listen ∷ argument.Connections ∷ argument.Patience ∷ [])
+    (codes "serve", argument.Store ∷ argument.Policy ∷ argument.Listen ∷ argument.Connections ∷ argument.Patience ∷ argument.Longest ∷ [])
 command_row command.Check =
     (codes "check", argument.Subject ∷ argument.CheckedName ∷ argument.CheckedPolicy ∷ argument.Isolated ∷ argument.CheckedOrigin ∷ argument.Only ∷ argument.Not ∷ [])
 command_row command.Explain = (codes "explain", argument.Number ∷ argument.Json ∷ [])

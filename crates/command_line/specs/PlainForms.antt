@@ -107,10 +107,11 @@ IsPlain words (rights policy caller name record_type action) =
     × (words ≡ codes "rights" ∷ (given argument.Policy policy ++ given argument.Caller caller ++ name ∷ record_type ∷ action ∷ []))
 IsPlain words (plan policy caller) = IsValue policy × IsValue caller
     × (words ≡ codes "plan" ∷ (given argument.Policy policy ++ given argument.Caller caller))
-IsPlain words (serve store policy listen connections patience) = IsValue store × IsValue policy × IsValue listen
+IsPlain words (serve store policy listen connections patience longest) = IsValue store × IsValue policy × IsValue listen
     × (ns : List Text) × IsNumberGiven argument.Connections connections ns
     × (ws : List Text) × IsNumberGiven argument.Patience patience ws
-    × (words ≡ codes "serve" ∷ (given argument.Store store ++ given argument.Policy policy ++ given argument.Listen listen ++ ns ++ ws))
+    × (gs : List Text) × IsNumberGiven argument.Longest longest gs
+    × (words ≡ codes "serve" ∷ (given argument.Store store ++ given argument.Policy policy ++ given argument.Listen listen ++ ns ++ ws ++ gs))
 IsPlain words (check_policy policy) = IsValue policy × (words ≡ codes "check" ∷ codes "policy" ∷ given argument.CheckedPolicy policy)
 IsPlain words (check_isolation policy caller) = IsValue policy × IsValue caller
     × (words ≡ codes "check" ∷ codes "isolation" ∷ (given argument.CheckedPolicy policy ++ given argument.Isolated caller))

@@ -68,7 +68,7 @@ pub data JobOf : Type 0 where
   migrate : (store : Text) → JobOf
   rights : (policy caller name record_type action : Text) → JobOf
   plan : (policy caller : Text) → JobOf
-  serve : (store policy listen : Text) → (connections patience : Option ℕ) → JobOf
+  serve : (store policy listen : Text) → (connections patience longest : Option ℕ) → JobOf
   check_policy : (policy : Text) → JobOf
   check_isolation : (policy caller : Text) → JobOf
   check_rights : (policy : Text) → (name : Option Text) → JobOf
@@ -108,7 +108,8 @@ asks_store (store_job.Export zone form) = export (zone_asked zone) form
 asks_store (store_job.Zones store) = zones store.now
 asks_store (store_job.Log zone asked) = log (zone_asked zone) (log_asked asked)
 asks_store (store_job.Migrate store) = migrate store.now
-asks_store (store_job.Serve service) = serve service.store.now service.policy.now service.listen.now service.connections service.patience
+asks_store (store_job.Serve service) =
+    serve service.store.now service.policy.now service.listen.now service.connections service.patience service.longest
 
 abbrev pub asks : Job → JobOf
 asks (job.Text j) = asks_text j
@@ -219,8 +220,9 @@ plan_of rows =
 
 abbrev pub serve_of : List Row → Option JobOf
 serve_of rows =
-    option_and_then (λ s. option_and_then (λ p. option_and_then (λ l. option_and_then (λ n. option_map (λ w. serve s p l n w)
-    (number_if (one_of (argument_name argument.Patience) rows))) (number_if (one_of (argument_name argument.Connections) rows)))
+    option_and_then (λ s. option_and_then (λ p. option_and_then (λ l. option_and_then (λ n. option_and_then (λ w. option_map (λ g. serve s p l n w g)
+    (number_if (one_of (argument_name argument.Longest) rows))) (number_if (one_of (argument_name argument.Patience) rows)))
+    (number_if (one_of (argument_name argument.Connections) rows)))
     (first_of (argument_name argument.Listen) rows)) (first_of (argument_name argument.Policy) rows)) (first_of (argument_name argument.Store) rows)
 
 abbrev pub checked_of : List Row → Option JobOf

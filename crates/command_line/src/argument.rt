@@ -22,6 +22,7 @@ pub enum Argument {
     Relative,
     Connections,
     Patience,
+    Longest,
     Number,
     Subject,
     CheckedPolicy,
@@ -134,6 +135,11 @@ impl Argument {
                 name: "patience",
                 form: Form::Number,
                 help: "Seconds to wait for a peer, 30 if left out",
+            },
+            Argument::Longest => &Row {
+                name: "longest",
+                form: Form::Number,
+                help: "Seconds until a connection ends between requests, 60 if left out",
             },
             Argument::Number => &Row {
                 name: "number",

@@ -155,6 +155,7 @@ impl Command {
                     Argument::Listen,
                     Argument::Connections,
                     Argument::Patience,
+                    Argument::Longest,
                 ],
             },
             Command::Check => &Row {

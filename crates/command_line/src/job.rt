@@ -238,4 +238,6 @@ pub struct Service<'a> {
     pub connections: Option<u64>,
     /// For how many seconds to wait for a peer, where a number is given.
     pub patience: Option<u64>,
+    /// After how many seconds to end a connection between two requests, where a number is given.
+    pub longest: Option<u64>,
 }

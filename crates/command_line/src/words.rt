@@ -221,12 +221,14 @@ fn serve_in<'a>(matches: &ArgMatches<'a>) -> Option<StoreJob<'a>>
     let listen = text_at(matches, Argument::Listen)?;
     let connections = number_at(matches, Argument::Connections)?;
     let patience = number_at(matches, Argument::Patience)?;
+    let longest = number_at(matches, Argument::Longest)?;
     let service = Service {
         store,
         policy,
         listen,
         connections,
         patience,
+        longest,
     };
     Some(StoreJob::Serve { service })
 }
@@ -403,7 +405,7 @@ fn reported(alloc: Global, error: Error) -> WordsFault
 /// `import --store PATH --origin NAME [--replace]`; `export --store PATH --origin NAME [--relative]`; `zones --store PATH`;
 /// `log --store PATH --origin NAME [--from N] [--name NAME] [--caller CALLER]`; `migrate --store PATH`;
 /// `rights --policy PATH --caller CALLER NAME TYPE ACTION`; `plan --policy PATH --caller CALLER`;
-/// `serve --store PATH --policy PATH --listen ADDRESS:PORT [--connections N] [--patience SECONDS]`;
+/// `serve --store PATH --policy PATH --listen ADDRESS:PORT [--connections N] [--patience SECONDS] [--longest SECONDS]`;
 /// `check policy --policy PATH`; `check isolation --policy PATH --caller CALLER`; `check rights [NAME] --policy PATH`;
 /// `check zone --origin NAME [--only RULE | --not RULE]`; and
 /// `explain [NUMBER] [--json]`. The words behind a command may come in any order.

@@ -1,3 +1,4 @@
-pub mod Patience
+pub mod Limits
+pub mod Lingering
 pub mod Causes
 pub mod Connections

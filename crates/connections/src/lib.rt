@@ -2,14 +2,17 @@
 //! requests failed.
 #![tactic(auto)]
 
+mod age;
 mod cause;
+mod limits;
+mod lingering;
 mod listener;
 mod patience;
 mod serving;
 mod trace;
 
 pub use cause::{Cause, Diagnosis, Undiagnosed};
+pub use limits::{longest_of, patience_of};
 pub use listener::Listener;
-pub use patience::patience_of;
 pub use serving::{Connections, serve_connections};
 pub use trace::write_texts;

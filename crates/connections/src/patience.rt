@@ -1,21 +1,15 @@
 //! Connections whose peers are waited for, but not for ever.
 
-ghost use Rattle.std.specs.Prelude.{◌≡◌, ◌↔◌, ◌*◌, IsTrue, IsErrAnd, option_map};
+ghost use Rattle.std.specs.Prelude.{◌↔◌, ◌≡◌, IsTrue, IsErrAnd};
 ghost use Rattle.std.specs.Io.{ReadsAtMost, WritesAtMost};
 ghost use Rattle.std.specs.IoError.{error_kind};
-ghost use Rattle.std.specs.Duration.{as_nanos};
-ghost use Rattle.connections.specs.Patience.{patience_in};
 
+use crate::age::Age;
+use crate::lingering::linger;
 use std::cell::Cell;
 use std::io::{self, ErrorKind, Read, Write};
 use std::net::TcpStream;
 use std::time::{Clock, Duration, Instant};
-
-/// For how many seconds a peer is waited for, where nothing else is said.
-const PATIENCE: u64 = 30;
-
-/// The most seconds that sockets are asked for, some thirty years.
-const PATIENCE_MAX: u64 = 1_000_000_000;
 
 /// How often in a row a read or a write is begun again that a signal has cut short. A process that is stopped and goes on, as for a
 /// backup, has its waits cut short so, where they have a limit (signal(7)).
@@ -39,24 +33,24 @@ struct Wait {
     left: Option<Duration>,
 }
 
-/// For how long a peer is waited for: the number of seconds, and 30 where none is given; 0 sets no limit.
-pub fn patience_of(seconds: Option<u64>) -> Option<Duration>
-    ensures { option_map as_nanos result ≡ option_map (λ n. n * 1_000_000_000) (patience_in seconds) }
-{
-    match seconds {
-        None => Some(Duration::from_secs(PATIENCE)),
-        Some(0) => None,
-        Some(seconds) => Some(Duration::from_secs(seconds.min(PATIENCE_MAX))),
+/// The shorter of two times, where each may have no limit.
+fn shorter(a: Option<Duration>, b: Option<Duration>) -> Option<Duration> {
+    match (a, b) {
+        (Some(a), Some(b)) => Some(a.min(b)),
+        (Some(a), None) => Some(a),
+        (None, b) => b,
     }
 }
 
 /// A stream whose reads and writes fail once its peer has been waited for too long: for a request to begin, for the rest of one that has
-/// begun, or for what is written to be taken. Only the time spent in waiting counts, and it counts anew for each of the three.
+/// begun, or for what is written to be taken. Only the time spent in waiting counts, and it counts anew for each of the three. A request
+/// after the first is not waited for beyond the age that the connection gets.
 #[derive(Drop)]
 pub(crate) struct PatientStream<'a, C: Clock> {
     stream: &'a TcpStream,
     clock: &'a C,
     patience: Option<Duration>,
+    age: Age<'a, C>,
     wait: Cell<Wait>,
 }
 
@@ -66,16 +60,28 @@ impl<'a, C: Clock> PatientStream<'a, C> {
         stream: &'a TcpStream,
         clock: &'a C,
         patience: Option<Duration>,
+        longest: Option<Duration>,
     ) -> PatientStream<'a, C> {
         PatientStream {
             stream,
             clock,
             patience,
+            age: Age::new(clock, longest),
             wait: Cell::new(Wait {
                 awaited: Awaited::Request,
                 left: patience,
             }),
         }
+    }
+
+    /// How old the connection is.
+    pub(crate) fn age(&self) -> &Age<'a, C> {
+        &self.age
+    }
+
+    /// Lets the peer take the last response, before the stream is closed.
+    pub(crate) fn linger(&self) {
+        linger(self.stream, self.clock);
     }
 
     /// For how long a peer is still waited for that is to send something.
@@ -84,7 +90,7 @@ impl<'a, C: Clock> PatientStream<'a, C> {
         if wait.awaited == Awaited::Taking {
             Wait {
                 awaited: Awaited::Request,
-                left: self.patience,
+                left: shorter(self.patience, self.age.left()),
             }
         } else {
             wait

@@ -10,6 +10,7 @@ ghost use Rattle.office_wire.specs.declared.serve_fault.ServeFault.{ServeFault a
 ghost use Rattle.job_faults.specs.Replies.{IsSent};
 ghost use Rattle.connections.specs.Connections.{connection_line, ended_line, IsTraced, AreReported, AreServedFrom};
 
+use crate::age::AgeLimit;
 use crate::cause::Diagnosis;
 use crate::listener::Listener;
 use crate::patience::PatientStream;
@@ -27,12 +28,13 @@ use std::sync::ledger::{Blank, Ledger};
 use std::time::{Clock, Duration};
 
 /// Serves the requests of a connection, and tells which of them were answered SERVFAIL.
-fn serve_stream<T: ZoneTable, C: Clock, A: Ledger, B: Ledger>(
+fn serve_stream<T: ZoneTable, C: Clock, A: Ledger, B: Ledger, L: Ledger>(
     responder: &mut Responder<'_>,
     stream: &PatientStream<'_, C>,
     table: &mut T,
     reads: Blank,
     writes: Blank,
+    asks: Blank,
 ) -> Served
     requires reads_name { reads.name ≡ A.name }
     requires reads_parts { reads.parts ≡ A.parts }
@@ -40,13 +42,17 @@ fn serve_stream<T: ZoneTable, C: Clock, A: Ledger, B: Ledger>(
     requires writes_name { writes.name ≡ B.name }
     requires writes_parts { writes.parts ≡ B.parts }
     requires writes_some { 0 < writes.parts }
+    requires asks_name { asks.name ≡ L.name }
+    requires asks_parts { asks.parts ≡ L.parts }
+    requires asks_some { 1 < asks.parts }
     ensures run { T.is_honest table.new → (s : State) → T.holds table.old s × AreBookmarks responder.old.policy.now s responder.old.bookmarks → (turns : List Turn) × (t : State) × (T.holds table.new t × AreBookmarks responder.old.policy.now t responder.new.bookmarks) × Run responder.old.policy.now (standing s (T.failures table.old)) turns (standing t (T.failures table.new)) × AreNoted (servfails turns) result.servfails }
     ensures policy { responder.new.policy ≡ responder.old.policy }
     ensures honest { T.is_honest table.new → T.is_honest table.old }
 {
     let mut source: Counted<&PatientStream<'_, C>, A> = Counted::new(stream, reads);
     let mut sink: Counted<&PatientStream<'_, C>, B> = Counted::new(stream, writes);
-    responder.serve_noting(&mut source, &mut sink, table)
+    let mut deadline: AgeLimit<'_, C, L> = AgeLimit::new(stream.age(), asks);
+    responder.serve_noting(&mut source, &mut sink, table, &mut deadline)
 }
 
 /// Writes the line that reports the fault by which a connection ended. It takes no memory, so running out of memory on one
@@ -66,7 +72,8 @@ fn tell_ended<W: Sink>(writer: &mut W, fault: ServeFault) -> Result<(), DeviceFa
 }
 
 /// Serves a connection. A line tells the fault that ended it, if one did; and a line of the trace tells which of its requests were
-/// answered SERVFAIL, if some were. A line of the trace that cannot be written is let go.
+/// answered SERVFAIL, if some were. A line of the trace that cannot be written is let go. Where no fault ended it, the peer has time to
+/// take the last response.
 fn serve_connection<T: ZoneTable, D: Diagnosis<T>, C: Clock, W: Sink, E: Sink>(
     responder: &mut Responder<'_>,
     stream: &PatientStream<'_, C>,
@@ -81,22 +88,29 @@ fn serve_connection<T: ZoneTable, D: Diagnosis<T>, C: Clock, W: Sink, E: Sink>(
     ensures written { (end : Option FaultOf) × IsSent (W.contents writer.old) (W.contents writer.new) (ended_line end) result (W.failures writer.old) (W.failures writer.new) }
     ensures traced { E.failures trace.old ≤ E.failures trace.new }
 {
-    let (reads, writes) = (Blank::new(1), Blank::new(1));
-    let served = serve_stream::<_, _, Brand, Brand>(responder, stream, table, reads, writes);
+    let (reads, writes, asks) = (Blank::new(1), Blank::new(1), Blank::new(2));
+    let served = serve_stream::<_, _, Brand, Brand, Brand>(
+        responder, stream, table, reads, writes, asks,
+    );
     let _ = tell_servfails(trace, served.servfails, diagnosis.store_fault(table));
     match served.ended {
-        Ok(()) => Ok(()),
+        Ok(_) => {
+            stream.linger();
+            Ok(())
+        }
         Err(fault) => tell_ended(writer, fault),
     }
 }
 
-/// For how long to wait for the peers of connections, and what tells why a table failed them.
+/// For how long to wait for the peers of connections, how old these get, and what tells why a table failed them.
 #[derive(Drop)]
 pub struct Connections<'a, C: Clock, D> {
     /// What tells the time.
     pub clock: &'a C,
     /// For how long a peer is waited for that sends no request or takes no response, where there is a limit.
     pub patience: Option<Duration>,
+    /// At what age a connection ends between two requests, where there is a limit. Its clock counts from when it was accepted.
+    pub longest: Option<Duration>,
     /// What tells why the store of the table failed.
     pub diagnosis: &'a D,
 }
@@ -121,7 +135,7 @@ impl<C: Clock, D> Connections<'_, C, D> {
     {
         // a short response goes out at once
         let _ = stream.set_nodelay(true);
-        let stream = PatientStream::new(stream, self.clock, self.patience);
+        let stream = PatientStream::new(stream, self.clock, self.patience, self.longest);
         serve_connection(responder, &stream, table, self.diagnosis, writer, trace)
     }
 }

@@ -1,5 +1,5 @@
 -- What follows one part of a stream joins what was answered before it.
-use Rattle.std.proofs.Common.{◌≡◌, ℕ, drop, List, [], ◌∷◌, ◌++◌, ◌∙◌, sym, ap, refl, subst, append_assoc, append-nil, Option}
+use Rattle.std.proofs.Common.{◌≡◌, ◌+◌, ℕ, arith, length, length-append, drop, List, [], ◌∷◌, ◌++◌, ◌∙◌, sym, ap, refl, subst, append_assoc, append-nil, Option}
 use Rattle.std.specs.List.{AllByRecursion}
 use Rattle.std.specs.Io.KnownBytes.{Appends}
 use Rattle.std.proofs.KnownBytes.{Appends-trans}
@@ -75,64 +75,68 @@ module _ (rules : List Rule) (c : Mark) where
   three a b e m d p q = subst (λ (l : List Turn). Leads rules c l d) (sym (append_assoc a b e)) (leads_join rules c m d a (b ++ e) p q)
 
   -- nothing is answered yet
-  pub none_served : (rest : List ℕ) (a : Moment) → IsCurrent rules c rest rest a a c
-  none_served rest a = ([], (refl, refl), record { octets_are = refl; are_open = tt }, Writes-nil a)
+  pub none_served : (rest : List ℕ) (a : Moment) (asked : ℕ) → IsCurrent rules c rest rest a a asked asked c
+  none_served rest a asked = ([], (refl, refl), record { octets_are = refl; are_open = tt }, Writes-nil a, omega arith)
 
   -- ---- one turn of the loop
 
-  pub next_served : (d e : Mark) (n : ℕ) (stream rest pending left out text : List ℕ) (before mid after : Moment) → pending ≡ rest → left ≡ drop n rest → text ≡ out
-      → IsCurrent rules c stream rest before mid d → IsProgress rules d pending (Next n) out e → Writes mid after text → IsCurrent rules c stream left before after e
-  next_served d e n stream rest pending left out text before mid after is_rest is_left is_out p q wrote =
-      let octets_are = subst (λ (l : List ℕ). l ≡ octets_of q.0 ++ drop n l) is_rest q.3 ∙ ap (λ (l : List ℕ). octets_of q.0 ++ l) (sym is_left) in
-      let turn = one_turn q.0 rest left q.2 octets_are in
-      let same : text ≡ texts (q.0 ∷ []) = is_out ∙ q.4 ∙ sym (append-nil (turn_text q.0)) in (
-        p.0 ++ q.0 ∷ [],
-        leads_join rules c d e p.0 (q.0 ∷ []) p.1 q.1,
-        exchange_join stream rest left p.0 (q.0 ∷ []) p.2 turn,
-        subst (λ (l : List ℕ). Writes before after l) (ap (λ (l : List ℕ). texts p.0 ++ l) same ∙ sym (texts_join p.0 (q.0 ∷ []))) (Writes-trans before mid after _ _ p.3 wrote),
-      )
+  module _ (d e : Mark) (stream rest : List ℕ) (before mid after : Moment) (asked asked_mid : ℕ) (p : IsCurrent rules c stream rest before mid asked asked_mid d) where
+    -- one more is answered, and the deadline asked
+    pub next_served : (n asked_now : ℕ) (pending left out text : List ℕ) → pending ≡ rest → left ≡ drop n rest → text ≡ out → IsProgress rules d pending (Next n) out e
+        → Writes mid after text → asked_now ≡ asked_mid + 1 → IsCurrent rules c stream left before after asked asked_now e
+    next_served n asked_now pending left out text is_rest is_left is_out q wrote once =
+        let octets_are = subst (λ (l : List ℕ). l ≡ octets_of q.0 ++ drop n l) is_rest q.3 ∙ ap (λ (l : List ℕ). octets_of q.0 ++ l) (sym is_left) in
+        let turn = one_turn q.0 rest left q.2 octets_are in
+        let same : text ≡ texts (q.0 ∷ []) = is_out ∙ q.4 ∙ sym (append-nil (turn_text q.0)) in (
+          p.0 ++ q.0 ∷ [],
+          leads_join rules c d e p.0 (q.0 ∷ []) p.1 q.1,
+          exchange_join stream rest left p.0 (q.0 ∷ []) p.2 turn,
+          subst (λ (l : List ℕ). Writes before after l) (ap (λ (l : List ℕ). texts p.0 ++ l) same ∙ sym (texts_join p.0 (q.0 ∷ []))) (Writes-trans before mid after _ _ p.3 wrote),
+          omega (arith, once, p.4, length-append p.0 (q.0 ∷ [])),
+        )
 
-  pub next_broken : (d e : Mark) (n : ℕ) (stream rest pending out text : List ℕ) (before mid after : Moment) → pending ≡ rest → text ≡ out
-      → IsCurrent rules c stream rest before mid d → IsProgress rules d pending (Next n) out e → ((part : List ℕ) × IsProperPrefix part text × Writes mid after part)
-      → IsBroken rules c stream before after e
-  next_broken d e n stream rest pending out text before mid after is_rest is_out p q wrote = (
-    p.0,
-    q.0 ∷ [],
-    rest,
-    text,
-    wrote.0,
-    leads_join rules c d e p.0 (q.0 ∷ []) p.1 q.1,
-    p.2,
-    next q.0 _ q.2 (subst (λ (l : List ℕ). l ≡ octets_of q.0 ++ drop n l) is_rest q.3) refl (is_out ∙ q.4),
-    wrote.1,
-    Writes-trans before mid after _ _ p.3 wrote.2,
-  )
+    pub next_broken : (n : ℕ) (pending out text : List ℕ) → pending ≡ rest → text ≡ out → IsProgress rules d pending (Next n) out e
+        → ((part : List ℕ) × IsProperPrefix part text × Writes mid after part) → IsBroken rules c stream before after asked asked_mid e
+    next_broken n pending out text is_rest is_out q wrote = (
+      p.0,
+      q.0 ∷ [],
+      rest,
+      text,
+      wrote.0,
+      leads_join rules c d e p.0 (q.0 ∷ []) p.1 q.1,
+      p.2,
+      next q.0 _ q.2 (subst (λ (l : List ℕ). l ≡ octets_of q.0 ++ drop n l) is_rest q.3) refl (is_out ∙ q.4),
+      wrote.1,
+      Writes-trans before mid after _ _ p.3 wrote.2,
+      p.4,
+    )
 
-  pub last_broken : (d e : Mark) (stream rest pending out text : List ℕ) (us : List Turn) (before mid after : Moment) → pending ≡ rest → text ≡ out
-      → IsCurrent rules c stream rest before mid d → Leads rules d us e → Closes pending us out → ((part : List ℕ) × IsProperPrefix part text × Writes mid after part)
-      → IsBroken rules c stream before after e
-  last_broken d e stream rest pending out text us before mid after is_rest is_out p ran q wrote = (
-    p.0,
-    us,
-    rest,
-    text,
-    wrote.0,
-    leads_join rules c d e p.0 us p.1 ran,
-    p.2,
-    closing (subst (λ (l : List ℕ). Closes rest us l) (sym is_out) (subst (λ (l : List ℕ). Closes l us out) is_rest q)),
-    wrote.1,
-    Writes-trans before mid after _ _ p.3 wrote.2,
-  )
+    pub last_broken : (pending out text : List ℕ) (us : List Turn) → pending ≡ rest → text ≡ out → Leads rules d us e → Closes pending us out
+        → ((part : List ℕ) × IsProperPrefix part text × Writes mid after part) → IsBroken rules c stream before after asked asked_mid e
+    last_broken pending out text us is_rest is_out ran q wrote = (
+      p.0,
+      us,
+      rest,
+      text,
+      wrote.0,
+      leads_join rules c d e p.0 us p.1 ran,
+      p.2,
+      closing (subst (λ (l : List ℕ). Closes rest us l) (sym is_out) (subst (λ (l : List ℕ). Closes l us out) is_rest q)),
+      wrote.1,
+      Writes-trans before mid after _ _ p.3 wrote.2,
+      p.4,
+    )
 
-  pub last_closed : (d e : Mark) (stream rest pending out text : List ℕ) (us : List Turn) (before mid after : Moment) → pending ≡ rest → text ≡ out
-      → IsCurrent rules c stream rest before mid d → Leads rules d us e → Closes pending us out → Writes mid after text → IsClosed rules c stream before after e
-  last_closed d e stream rest pending out text us before mid after is_rest is_out p ran q wrote = (
-    p.0,
-    us,
-    rest,
-    text,
-    leads_join rules c d e p.0 us p.1 ran,
-    p.2,
-    subst (λ (l : List ℕ). Closes rest us l) (sym is_out) (subst (λ (l : List ℕ). Closes l us out) is_rest q),
-    Writes-trans before mid after _ _ p.3 wrote,
-  )
+    pub last_closed : (pending out text : List ℕ) (us : List Turn) → pending ≡ rest → text ≡ out → Leads rules d us e → Closes pending us out → Writes mid after text
+        → IsClosed rules c stream before after asked asked_mid e
+    last_closed pending out text us is_rest is_out ran q wrote = (
+      p.0,
+      us,
+      rest,
+      text,
+      leads_join rules c d e p.0 us p.1 ran,
+      p.2,
+      subst (λ (l : List ℕ). Closes rest us l) (sym is_out) (subst (λ (l : List ℕ). Closes l us out) is_rest q),
+      Writes-trans before mid after _ _ p.3 wrote,
+      p.4,
+    )

@@ -4,6 +4,7 @@ pub mod TurnLemmas
 pub mod ServfailLemmas
 pub mod OrderLemmas
 pub mod JoinLemmas
+pub mod DeadlineLemmas
 pub mod ServingLemmas
 pub mod UniqueLemmas
 pub mod PromiseLemmas

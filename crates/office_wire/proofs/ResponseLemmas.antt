@@ -1,5 +1,5 @@
 -- A response that there is no memory for.
-use Rattle.std.proofs.Common.{◌≡◌, ℕ, Bool, true, false, List, Option, Some, None, Result, Ok, refl, sym, subst, ◌∙◌}
+use Rattle.std.proofs.Common.{◌≡◌, ◌||◌, ℕ, Bool, true, false, List, Option, Some, None, Result, Ok, refl, sym, ap, subst, ◌∙◌}
 use Rattle.std.specs.Prelude.{option_map}
 use Rattle.httparse.specs.Grammar.{RequestHead}
 use Rattle.grant_policy.specs.declared.rule.Rule.{Rule}
@@ -23,14 +23,14 @@ use Rattle.office_wire.specs.declared.method.Method.{Method}
 use Rattle.office_wire.specs.declared.request_fault.RequestFault.{RequestFault}
 use Rattle.office_wire.specs.declared.request_fault.RequestFault.TheVariants as wrong
 use Rattle.office_wire.specs.declared.response.Response.{Response}
-use Rattle.office_wire.specs.declared.response.Response.TheVariants.{Replied}
+use Rattle.office_wire.specs.declared.response.Response.TheVariants.{Refused, BadBody, Replied}
 use Rattle.office_wire.specs.declared.head.Heading.{Heading}
 use Rattle.office_wire.specs.Framing.{IsAsked}
 use Rattle.office_wire.specs.Requests.{Refuses, call_by, call_of}
 use Rattle.office_wire.specs.Serving.{standing, Mark, IsReplied}
 use Rattle.office_wire.specs.Servfails.{servfail_in, noted, one_more}
 use Rattle.office_wire.specs.ShortResponses.{IsShortResponse, IsPut, servfail}
-use Rattle.office_wire.specs.Exchange.{Standing, Answers, replied, failed, refused, refusing}
+use Rattle.office_wire.specs.Exchange.{Standing, Answers, names_nobody, replied, failed, refused, refusing}
 
 -- a reply to an update is short
 short_update : (reply : Reply) (x : UpdateReply) → reply_of reply ≡ Some (to_update x) → IsShort reply
@@ -102,18 +102,28 @@ unfolding call_of
 asked_call g h body is = λ i. call_by (is.caller i) (is.method i) (is.target i) body
 
 -- what is put is the text of what is answered, and is noted
-pub put_whole : (rules : List Rule) (c d : Mark) (read : Result Call RequestFault) (response : Response) (method : Method) (closing whole : Bool) (text : List ℕ) → Answers rules c.standing read response d.standing
-    → IsPut method response closing whole text → whole ≡ true → d.note ≡ noted c.note (servfail_in response) → IsReplied rules c read method closing text d
-put_whole rules c d read response method closing true text a put is note = record { response = response; answers = a; text_is = put; note = note }
-put_whole rules c d read response method closing false text a put is note = absurd cc
+pub put_whole : (rules : List Rule) (c d : Mark) (read : Result Call RequestFault) (response : Response) (method : Method) (closing last whole : Bool) (text : List ℕ) → Answers rules c.standing read response d.standing
+    → last ≡ closing || names_nobody response → IsPut method response last whole text → whole ≡ true → d.note ≡ noted c.note (servfail_in response)
+    → IsReplied rules c read method closing last text d
+put_whole rules c d read response method closing last true text a last_is put is note =
+    record { response = response; answers = a; last_is = last_is; text_is = put; note = note }
+put_whole rules c d read response method closing last false text a last_is put is note = absurd cc
+
+-- a long response names a caller
+long_names : (response : Response) → (IsShortResponse response → ⊥) → names_nobody response ≡ names_nobody servfail
+long_names (Refused refusal) long = absurd (long tt)
+long_names (BadBody number) long = refl
+long_names (Replied reply) long = refl
 
 -- and SERVFAIL where there was no memory for it
-pub put_servfail : (rules : List Rule) (c d : Mark) (read : Result Call RequestFault) (response : Response) (method : Method) (closing whole : Bool) (text : List ℕ) → Answers rules c.standing read response d.standing
-    → IsPut method response closing whole text → whole ≡ false → d.note ≡ one_more c.note faults.NoMemory → IsReplied rules c read method closing text d
-put_servfail rules c d read response method closing true text a put is note = absurd cc
-put_servfail rules c d read response method closing false text a put is note = record {
+pub put_servfail : (rules : List Rule) (c d : Mark) (read : Result Call RequestFault) (response : Response) (method : Method) (closing last whole : Bool) (text : List ℕ) → Answers rules c.standing read response d.standing
+    → last ≡ closing || names_nobody response → IsPut method response last whole text → whole ≡ false → d.note ≡ one_more c.note faults.NoMemory
+    → IsReplied rules c read method closing last text d
+put_servfail rules c d read response method closing last true text a last_is put is note = absurd cc
+put_servfail rules c d read response method closing last false text a last_is put is note = record {
   response = servfail;
   answers = servfail_instead rules c.standing d.standing read response a put.0;
+  last_is = last_is ∙ ap (λ (b : Bool). closing || b) (long_names response put.0);
   text_is = put.1;
   note = note;
 }

@@ -1,5 +1,5 @@
 -- What was read of a stream, and what was answered to it.
-use Rattle.std.proofs.Common.{◌≡◌, ◌<◌, ◌≤◌, ◌+◌, length-append, ℕ, true, false, length, List, [], ◌++◌, ◌∷◌, ◌∙◌, sym, ap, refl, subst, arith, append-nil, append_assoc, Option, IfSome, ◌⊎◌, inl, inr}
+use Rattle.std.proofs.Common.{◌≡◌, ◌<◌, ◌≤◌, ◌+◌, length-append, ℕ, true, false, length, List, [], ◌++◌, ◌∷◌, ◌∙◌, sym, ap, refl, subst, arith, append-nil, append_assoc, Option, IfSome, Ok, Err, ◌⊎◌, inl, inr}
 use Rattle.std.specs.List.{list_all}
 use Rattle.std.specs.Io.KnownBytes.{Appends, Consumes, Keeps, IsAtEnd}
 use Rattle.std.proofs.lemmas.List.{nil_from_length}
@@ -11,7 +11,11 @@ use Rattle.office_wire.specs.declared.refusal.Refusal.TheVariants.{CutShort}
 use Rattle.office_wire.specs.declared.response.Response.TheVariants.{Refused}
 use Rattle.office_wire.specs.Texts.{text_of}
 use Rattle.office_wire.specs.Exchange.{Turn, texts, Exchange, Waits, nothing, IsMethodAt, Ends, closed, quiet, cut, is_line_end}
-use Rattle.office_wire.specs.Serving.{Mark, Leads, IsCurrent, IsClosed, IsBroken, IsAnswered, IsCut, IsRead}
+use Rattle.office_wire.specs.declared.ending.Ending.TheVariants.{Answered, Overdue}
+use Rattle.office_wire.specs.declared.serve_fault.ServeFault.TheVariants.{WriteFailed}
+use Rattle.office_wire.specs.Serving.{Mark, Leads, AskedAfter, IsCurrent, IsClosed, IsBroken, IsAnswered, IsCut, IsRead, IsHalted}
+use Rattle.office_wire.specs.Deadlines.{open_turns, CountsAsked}
+use Rattle.office_wire.proofs.DeadlineLemmas.{counts_open, counts_closed, counts_cut}
 use Rattle.std.proofs.KnownBytes.{Appends-nil, Appends-trans, Consumes-nil, Consumes-trans, Consumes-kept, Consumes-whole}
 use Rattle.office_wire.proofs.KnownLemmas.{on_stream}
 use Rattle.office_wire.proofs.TurnLemmas.{head_some}
@@ -35,26 +39,30 @@ waits_nil rest none = record {
   under_way = nothing none;
 }
 
-module _ (rules : List Rule) (c : Mark) where
+module _ (rules : List Rule) (c : Mark) (asked : ℕ) where
   -- turns that were run, and of which P holds
   abbrev pub Ran : Mark → (List Turn → Type 0) → Type 0
   Ran d P = (all : List Turn) × Leads rules c all d × P all
 
-  -- all that was read and is answered, of at least so many octets, each read in turn
-  abbrev pub IsAnsweredRead : ℕ → Option (List ℕ) → Option (List ℕ) → List ℕ → Moment → Moment → Mark → Type 0
-  IsAnsweredRead least known left rest before after d =
+  -- all that was read and is answered, of at least so many octets, each read in turn, and the deadline asked after each response
+  abbrev pub IsAnsweredRead : ℕ → Option (List ℕ) → Option (List ℕ) → List ℕ → Moment → Moment → ℕ → Mark → Type 0
+  IsAnsweredRead least known left rest before after now d =
       (turns : List Turn) × (got : List ℕ) × Leads rules c turns d × Exchange got turns rest × Appends before.contents after.contents (texts turns)
-      × (least ≤ length got) × Consumes known left got × IsInTurn turns got (texts turns) before.events after.events
+      × (least ≤ length got) × Consumes known left got × IsInTurn turns got (texts turns) before.events after.events × AskedAfter turns asked now
 
-  pub first_read : (known : Option (List ℕ)) (rest : List ℕ) (a : Moment) → length rest ≡ 0 → IsAnsweredRead 0 known known rest a a c
+  -- and what came after these turns
+  went_far : (us vs : List Turn) (now later : ℕ) → AskedAfter us asked now → AskedAfter vs now later → AskedAfter (us ++ vs) asked later
+  went_far us vs now later first second = omega (arith, first, second, length-append us vs)
+
+  pub first_read : (known : Option (List ℕ)) (rest : List ℕ) (a : Moment) → length rest ≡ 0 → IsAnsweredRead 0 known known rest a a asked c
   first_read known rest a none =
-      ([], [], (refl, refl), record { octets_are = sym (nil_from_length rest none); are_open = tt }, Appends-nil a.contents, omega arith, Consumes-nil known, nothing_yet a.events)
+      ([], [], (refl, refl), record { octets_are = sym (nil_from_length rest none); are_open = tt }, Appends-nil a.contents, omega arith, Consumes-nil known, nothing_yet a.events, omega arith)
 
   -- a read gave octets
-  pub went_read : (d : Mark) (least n : ℕ) (old now got : List ℕ) (known left left' : Option (List ℕ)) (before mid mid' : Moment) → Waits old → now ≡ old ++ got → length got ≡ n
+  pub went_read : (d : Mark) (least n : ℕ) (now : ℕ) (old new got : List ℕ) (known left left' : Option (List ℕ)) (before mid mid' : Moment) → Waits old → new ≡ old ++ got → length got ≡ n
       → Consumes left left' got → Follows mid.events mid'.events (read got ∷ []) → mid'.contents ≡ mid.contents
-      → IsAnsweredRead least known left old before mid d → IsAnsweredRead (least + n) known left' now before mid' d
-  went_read d least n old now got known left left' before mid mid' waits is len more follows same p = (
+      → IsAnsweredRead least known left old before mid now d → IsAnsweredRead (least + n) known left' new before mid' now d
+  went_read d least n now old new got known left left' before mid mid' waits is len more follows same p = (
     p.0,
     p.1 ++ got,
     p.2,
@@ -63,13 +71,14 @@ module _ (rules : List Rule) (c : Mark) where
     (let whole = length-append p.1 got in omega (arith, p.5)),
     Consumes-trans known left left' p.1 got p.6 more,
     read_next p.0 p.1 (texts p.0) old got before.events mid.events mid'.events p.3 waits refl p.7 follows,
+    p.8,
   )
 
   -- a read failed
-  pub went_nowhere : (d : Mark) (least : ℕ) (rest : List ℕ) (known left left' : Option (List ℕ)) (before mid mid' : Moment) → Waits rest → Keeps left left'
+  pub went_nowhere : (d : Mark) (least now : ℕ) (rest : List ℕ) (known left left' : Option (List ℕ)) (before mid mid' : Moment) → Waits rest → Keeps left left'
       → Follows mid.events mid'.events (read [] ∷ []) → mid'.contents ≡ mid.contents
-      → IsAnsweredRead least known left rest before mid d → IsAnsweredRead least known left' rest before mid' d
-  went_nowhere d least rest known left left' before mid mid' waits kept follows same p = (
+      → IsAnsweredRead least known left rest before mid now d → IsAnsweredRead least known left' rest before mid' now d
+  went_nowhere d least now rest known left left' before mid mid' waits kept follows same p = (
     p.0,
     p.1,
     p.2,
@@ -78,14 +87,15 @@ module _ (rules : List Rule) (c : Mark) where
     p.5,
     Consumes-kept known left left' p.1 p.6 kept,
     subst (λ (l : List ℕ). IsInTurn p.0 l (texts p.0) before.events mid'.events) (append-nil p.1) (read_next p.0 p.1 (texts p.0) rest [] before.events mid.events mid'.events p.3 waits refl p.7 follows),
+    p.8,
   )
 
   -- the stream ended there
-  pub ended : (d : Mark) (least : ℕ) (rest : List ℕ) (known left : Option (List ℕ)) (before mid after : Moment) → IsAtEnd left → Waits rest
-      → IsAnsweredRead least known left rest before mid d
+  pub ended : (d : Mark) (least now : ℕ) (rest : List ℕ) (known left : Option (List ℕ)) (before mid after : Moment) → IsAtEnd left → Waits rest
+      → IsAnsweredRead least known left rest before mid now d
       → ((text : List ℕ) × Writes mid after text × (((list_all is_line_end rest ≡ true) × (text ≡ [])) ⊎ ((list_all is_line_end rest ≡ false) × (m : Method) × IsMethodAt rest m × (text ≡ text_of m (Refused CutShort) true))))
-      → Ran d (λ all. IfSome known (λ stream. IsAnswered all stream before.contents after.contents) × IsServedInTurn all before.events after.events)
-  ended d least rest known left before mid after at_end waits p said =
+      → Ran d (λ all. IfSome known (λ stream. IsAnswered all stream before.contents after.contents) × IsServedInTurn all before.events after.events × CountsAsked all (Ok Answered) asked now)
+  ended d least now rest known left before mid after at_end waits p said =
       let ends : Ends rest [] said.0 = elim said.2 [ inl both ↦ quiet both.0 refl both.1 | inr both ↦ cut both.1 waits both.2 both.0 refl both.3 ] in
       let order = written_next p.0 [] p.1 (texts p.0) said.0 before.events mid.events after.events p.7 said.1.1 in (
         p.0,
@@ -94,14 +104,15 @@ module _ (rules : List Rule) (c : Mark) where
           Consumes-whole known left p.1 (λ stream. IsAnswered p.0 stream before.contents after.contents) p.6 at_end
               (p.0, [], rest, said.0, sym (append-nil p.0), p.3, ends, Appends-trans before.contents mid.contents after.contents _ _ p.4 said.1.0),
           subst (λ (l : List Turn). IsServedInTurn l before.events after.events) (append-nil p.0) (in_turn (p.0 ++ []) _ _ before.events after.events order),
+          counts_open asked now p.0 p.3.are_open p.8,
         ),
       )
 
-  pub ended_part : (d : Mark) (least : ℕ) (rest : List ℕ) (known left : Option (List ℕ)) (before mid after : Moment) → IsAtEnd left → Waits rest
-      → IsAnsweredRead least known left rest before mid d
+  pub ended_part : (d : Mark) (least now : ℕ) (rest : List ℕ) (known left : Option (List ℕ)) (before mid after : Moment) → IsAtEnd left → Waits rest
+      → IsAnsweredRead least known left rest before mid now d
       → ((list_all is_line_end rest ≡ false) × (m : Method) × IsMethodAt rest m × (part : List ℕ) × IsProperPrefix part (text_of m (Refused CutShort) true) × Writes mid after part)
-      → Ran d (λ all. IfSome known (λ stream. IsCut all stream before.contents after.contents) × IsServedInTurn all before.events after.events)
-  ended_part d least rest known left before mid after at_end waits p wrote =
+      → Ran d (λ all. IfSome known (λ stream. IsCut all stream before.contents after.contents) × IsServedInTurn all before.events after.events × CountsAsked all (Err WriteFailed) asked now)
+  ended_part d least now rest known left before mid after at_end waits p wrote =
       let order = written_next p.0 [] p.1 (texts p.0) wrote.3 before.events mid.events after.events p.7 wrote.5.1 in (
         p.0,
         p.2,
@@ -109,16 +120,17 @@ module _ (rules : List Rule) (c : Mark) where
           Consumes-whole known left p.1 (λ stream. IsCut p.0 stream before.contents after.contents) p.6 at_end
               (p.0, [], rest, text_of wrote.1 (Refused CutShort) true, wrote.3, sym (append-nil p.0), p.3, inr (cut wrote.1 waits wrote.2 wrote.0 refl refl), wrote.4, Appends-trans before.contents mid.contents after.contents _ _ p.4 wrote.5.0),
           subst (λ (l : List Turn). IsServedInTurn l before.events after.events) (append-nil p.0) (in_turn (p.0 ++ []) _ _ before.events after.events order),
+          (let each = counts_open asked now p.0 p.3.are_open p.8 in (omega (arith, each), omega (arith, each))),
         ),
       )
 
   -- what had come was answered, up to the last response
-  pub went_closed : (d e : Mark) (least : ℕ) (now : List ℕ) (known left : Option (List ℕ)) (before mid after : Moment) → IsAnsweredRead least known left now before mid d
-      → IsClosed rules d now mid after e
-      → Ran e (λ all. IfSome known (λ stream. IsAnswered all stream before.contents after.contents) × IsServedInTurn all before.events after.events)
-  went_closed d e least now known left before mid after p q =
+  pub went_closed : (d e : Mark) (least now later : ℕ) (new : List ℕ) (known left : Option (List ℕ)) (before mid after : Moment) → IsAnsweredRead least known left new before mid now d
+      → IsClosed rules d new mid after now later e
+      → Ran e (λ all. IfSome known (λ stream. IsAnswered all stream before.contents after.contents) × IsServedInTurn all before.events after.events × CountsAsked all (Ok Answered) asked later)
+  went_closed d e least now later new known left before mid after p q =
       let turns = p.0 ++ q.0 in
-      let exchanged = exchange_join p.1 now q.2 p.0 q.0 p.3 q.5 in
+      let exchanged = exchange_join p.1 new q.2 p.0 q.0 p.3 q.5 in
       let order = written_next p.0 (q.0 ++ q.1) p.1 (texts p.0) (texts q.0 ++ q.3) before.events mid.events after.events p.7 q.7.1 in (
         turns ++ q.1,
         three rules c p.0 q.0 q.1 d e p.2 q.4,
@@ -126,15 +138,16 @@ module _ (rules : List Rule) (c : Mark) where
           on_stream known left p.1 (λ stream. IsAnswered (turns ++ q.1) stream before.contents after.contents) p.6
               (λ rest. (turns, q.1, q.2 ++ rest, q.3, refl, exchange_more _ _ rest _ exchanged, closed (closes_more _ _ rest _ q.6), said_join before.contents mid.contents after.contents p.0 q.0 q.3 p.4 q.7.0)),
           subst (λ (l : List Turn). IsServedInTurn l before.events after.events) (sym (append_assoc p.0 q.0 q.1)) (in_turn (p.0 ++ (q.0 ++ q.1)) _ _ before.events after.events order),
+          counts_closed asked later turns exchanged.are_open (went_far p.0 q.0 now later p.8 q.8) q.2 q.3 q.1 q.6,
         ),
       )
 
-  pub went_broken : (d e : Mark) (least : ℕ) (now : List ℕ) (known left : Option (List ℕ)) (before mid after : Moment) → IsAnsweredRead least known left now before mid d
-      → IsBroken rules d now mid after e
-      → Ran e (λ all. IfSome known (λ stream. IsCut all stream before.contents after.contents) × IsServedInTurn all before.events after.events)
-  went_broken d e least now known left before mid after p q =
+  pub went_broken : (d e : Mark) (least now later : ℕ) (new : List ℕ) (known left : Option (List ℕ)) (before mid after : Moment) → IsAnsweredRead least known left new before mid now d
+      → IsBroken rules d new mid after now later e
+      → Ran e (λ all. IfSome known (λ stream. IsCut all stream before.contents after.contents) × IsServedInTurn all before.events after.events × CountsAsked all (Err WriteFailed) asked later)
+  went_broken d e least now later new known left before mid after p q =
       let turns = p.0 ++ q.0 in
-      let exchanged = exchange_join p.1 now q.2 p.0 q.0 p.3 q.6 in
+      let exchanged = exchange_join p.1 new q.2 p.0 q.0 p.3 q.6 in
       let order = written_next p.0 (q.0 ++ q.1) p.1 (texts p.0) (texts q.0 ++ q.4) before.events mid.events after.events p.7 q.9.1 in (
         turns ++ q.1,
         three rules c p.0 q.0 q.1 d e p.2 q.5,
@@ -142,26 +155,48 @@ module _ (rules : List Rule) (c : Mark) where
           on_stream known left p.1 (λ stream. IsCut (turns ++ q.1) stream before.contents after.contents) p.6
               (λ rest. (turns, q.1, q.2 ++ rest, q.3, q.4, refl, exchange_more _ _ rest _ exchanged, inl (says_more _ _ rest _ q.7), q.8, said_join before.contents mid.contents after.contents p.0 q.0 q.4 p.4 q.9.0)),
           subst (λ (l : List Turn). IsServedInTurn l before.events after.events) (sym (append_assoc p.0 q.0 q.1)) (in_turn (p.0 ++ (q.0 ++ q.1)) _ _ before.events after.events order),
+          counts_cut asked later turns exchanged.are_open (went_far p.0 q.0 now later p.8 q.10) q.2 q.3 q.1 q.7,
         ),
       )
 
   -- it was answered, and more may come
-  pub went_on : (d e : Mark) (least least' : ℕ) (now rest : List ℕ) (known left left' : Option (List ℕ)) (before mid after : Moment) → least' ≤ least → left' ≡ left
-      → IsAnsweredRead least known left now before mid d → IsCurrent rules d now rest mid after e → IsAnsweredRead least' known left' rest before after e
-  went_on d e least least' now rest known left left' before mid after less same p q =
+  pub went_on : (d e : Mark) (least least' now later : ℕ) (new rest : List ℕ) (known left left' : Option (List ℕ)) (before mid after : Moment) → least' ≤ least → left' ≡ left
+      → IsAnsweredRead least known left new before mid now d → IsCurrent rules d new rest mid after now later e → IsAnsweredRead least' known left' rest before after later e
+  went_on d e least least' now later new rest known left left' before mid after less same p q =
       let order = written_next p.0 q.0 p.1 (texts p.0) (texts q.0) before.events mid.events after.events p.7 q.3.1 in (
         p.0 ++ q.0,
         p.1,
         leads_join rules c d e p.0 q.0 p.2 q.1,
-        exchange_join p.1 now rest p.0 q.0 p.3 q.2,
+        exchange_join p.1 new rest p.0 q.0 p.3 q.2,
         subst (λ (l : List ℕ). Appends before.contents after.contents l) (sym (texts_join p.0 q.0)) (Appends-trans before.contents mid.contents after.contents _ _ p.4 q.3.0),
         omega (arith, less, p.5),
         subst (λ (o : Option (List ℕ)). Consumes known o p.1) (sym same) p.6,
         subst (λ (l : List ℕ). IsInTurn (p.0 ++ q.0) p.1 l before.events after.events) (sym (texts_join p.0 q.0)) order,
+        went_far p.0 q.0 now later p.8 q.4,
       )
 
-  pub stayed : (d : Mark) (least least' : ℕ) (rest : List ℕ) (known left : Option (List ℕ)) (before after : Moment) → Waits rest → least' ≤ least
-      → IsAnsweredRead least known left rest before after d
-      → Ran d (λ all. IsRead least' all known left before.contents after.contents × IsServedInTurn all before.events after.events)
-  stayed d least least' rest known left before after waits less p =
-      (p.0, p.2, ((p.1, rest, omega (arith, less, p.5), p.6, waits, p.3, p.4), in_turn p.0 p.1 (texts p.0) before.events after.events p.7))
+  -- it was answered, and then the deadline had passed
+  pub halted : (d : Mark) (least now : ℕ) (rest : List ℕ) (known left : Option (List ℕ)) (before after : Moment) → asked < now → IsAnsweredRead least known left rest before after now d
+      → Ran d (λ all. IsHalted all known left before.contents after.contents × IsServedInTurn all before.events after.events × CountsAsked all (Ok Overdue) asked now)
+  halted d least now rest known left before after some p = (
+    p.0,
+    p.2,
+    (
+      (p.1, rest, omega (arith, some, p.8), p.6, p.3, p.4),
+      in_turn p.0 p.1 (texts p.0) before.events after.events p.7,
+      counts_open asked now p.0 p.3.are_open p.8,
+    ),
+  )
+
+  pub stayed : (d : Mark) (least least' now : ℕ) (rest : List ℕ) (known left : Option (List ℕ)) (before after : Moment) → Waits rest → least' ≤ least
+      → IsAnsweredRead least known left rest before after now d
+      → Ran d (λ all. IsRead least' all known left before.contents after.contents × IsServedInTurn all before.events after.events × (now ≡ asked + length (open_turns all)))
+  stayed d least least' now rest known left before after waits less p = (
+    p.0,
+    p.2,
+    (
+      (p.1, rest, omega (arith, less, p.5), p.6, waits, p.3, p.4),
+      in_turn p.0 p.1 (texts p.0) before.events after.events p.7,
+      counts_open asked now p.0 p.3.are_open p.8,
+    ),
+  )

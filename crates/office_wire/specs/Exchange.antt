@@ -17,7 +17,7 @@ use Rattle.office_core.specs.Runs.{HasUpdate, turn}
 use Rattle.office_wire.specs.declared.method.Method.{Method}
 use Rattle.office_wire.specs.declared.method.Method.TheVariants.{Other}
 use Rattle.office_wire.specs.declared.refusal.Refusal.{Refusal}
-use Rattle.office_wire.specs.declared.refusal.Refusal.TheVariants.{BadHead, CutShort}
+use Rattle.office_wire.specs.declared.refusal.Refusal.TheVariants.{BadHead, CutShort, NoCaller}
 use Rattle.office_wire.specs.declared.request_fault.RequestFault.{RequestFault}
 use Rattle.office_wire.specs.declared.request_fault.RequestFault.TheVariants as wrong
 use Rattle.office_wire.specs.declared.response.Response.{Response}
@@ -31,7 +31,7 @@ use Rattle.office_wire.specs.Texts.{text_of}
 
 -- ---- requests
 
--- The response to this head is the last: its version is 1.0, or it has a `Connection` field with the value `close`, in either
+-- This head asks that the response be the last: its version is 1.0, or it has a `Connection` field with the value `close`, in either
 -- letter case (RFC 9112 section 9.3).
 abbrev pub closes_by : ℕ → List (List ℕ × List ℕ) → Bool
 closes_by minor fields = minor == 0 || list_any (λ v. is_same_text v (codes "close")) (values_of (codes "connection") fields)
@@ -50,13 +50,22 @@ pub record Turn : Type 0 where
   pub body : List ℕ
   pub response : Response
 
+-- the refusal of a request that names no caller
+abbrev pub names_nobody : Response → Bool
+names_nobody (Refusing NoCaller) = true
+names_nobody response = false
+
+-- Its response is the last: its head asks for that, or it names no caller.
+abbrev pub is_last : Turn → Bool
+is_last t = closes t.head || names_nobody t.response
+
 -- its octets on the stream
 unfoldable pub octets_of : Turn → List ℕ
 octets_of t = print_request t.head ++ t.body
 
 -- the text of its response
 unfoldable pub turn_text : Turn → List ℕ
-turn_text t = text_of (method_of t.head.method) t.response (closes t.head)
+turn_text t = text_of (method_of t.head.method) t.response (is_last t)
 
 abbrev pub octets : List Turn → List ℕ
 octets turns = flat_map octets_of turns
@@ -72,7 +81,7 @@ pub record IsTurn (t : Turn) : Type 0 where
 -- it is one, and its response is not the last
 pub record IsOpenTurn (t : Turn) : Type 0 where
   pub turn : IsTurn t
-  pub stays : closes t.head ≡ false
+  pub stays : is_last t ≡ false
 
 -- ---- what is answered
 
@@ -138,7 +147,7 @@ is_line_end b = b == 13 || b == 10
 -- What stands at the front of the rest is answered by the last response, of this text: a request, which is the last turn; a head that
 -- is refused; or what is no head, however it goes on.
 pub data Closes (rest : List ℕ) (last : List Turn) (text : List ℕ) : Type 0 where
-  whole : (t : Turn) (more : List ℕ) → IsTurn t → closes t.head ≡ true → rest ≡ octets_of t ++ more → last ≡ t ∷ [] → text ≡ turn_text t
+  whole : (t : Turn) (more : List ℕ) → IsTurn t → is_last t ≡ true → rest ≡ octets_of t ++ more → last ≡ t ∷ [] → text ≡ turn_text t
       → Closes rest last text
   bad_length : (h : RequestHead) (more : List ℕ) (r : Refusal) → IsHead h → ask_of h ≡ Refused r → rest ≡ print_request h ++ more
       → last ≡ [] → text ≡ text_of (method_of h.method) (Refusing r) true → Closes rest last text

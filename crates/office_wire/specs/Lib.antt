@@ -13,3 +13,4 @@ pub mod Servfails
 pub mod Promises
 pub mod Order
 pub mod Serving
+pub mod Deadlines

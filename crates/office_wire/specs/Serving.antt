@@ -1,5 +1,5 @@
 -- What serving a stream does.
-use Rattle.std.specs.Prelude.{◌≡◌, ℕ, ◌+◌, ◌-◌, ◌^◌, ◌<◌, ◌≤◌, ◌⊎◌, Bool, true, false, List, [], ◌∷◌, ◌++◌, length, drop, Option, Result, Ok, Err, IfSome, ⊤}
+use Rattle.std.specs.Prelude.{◌≡◌, ℕ, ◌+◌, ◌-◌, ◌^◌, ◌<◌, ◌≤◌, ◌⊎◌, ◌||◌, Bool, true, false, List, [], ◌∷◌, ◌++◌, length, drop, Option, Result, Ok, Err, IfSome, ⊤}
 use Rattle.std.specs.List.{list_all}
 use Rattle.std.specs.Io.KnownBytes.{Appends, Consumes}
 use Rattle.dns_master.specs.declared.device.DeviceFailed.{DeviceFailed}
@@ -12,14 +12,18 @@ use Rattle.office_wire.specs.declared.refusal.Refusal.TheVariants.{CutShort}
 use Rattle.office_wire.specs.declared.request_fault.RequestFault.{RequestFault}
 use Rattle.office_wire.specs.declared.response.Response.{Response}
 use Rattle.office_wire.specs.declared.response.Response.TheVariants.{Refused}
+use Rattle.office_wire.specs.declared.ending.Ending.{Ending}
+use Rattle.office_wire.specs.declared.ending.Ending.TheVariants as ending
 use Rattle.office_wire.specs.declared.exchange.Progress.{Progress}
 use Rattle.office_wire.specs.declared.exchange.Progress.TheVariants.{Waiting, Next, Last}
+use Rattle.office_wire.specs.declared.exchange.Stage.{Stage}
+use Rattle.office_wire.specs.declared.exchange.Stage.TheVariants.{Open, Closed, Overdue}
 use Rattle.office_wire.specs.declared.serve_fault.ServeFault.{ServeFault}
 use Rattle.office_wire.specs.declared.serve_fault.ServeFault.TheVariants.{ReadFailed, WriteFailed, StreamTooLong, NoMemory}
 use Rattle.office_wire.specs.Texts.{text_of}
 use Rattle.office_wire.specs.Framing.{WaitsUpTo}
 use Rattle.office_wire.specs.declared.servfails.Servfails.{Servfails}
-use Rattle.office_wire.specs.Exchange.{Turn, octets_of, turn_text, texts, IsOpenTurn, Standing, Answers, Run, Exchange, Waits, IsMethodAt, Closes, Ends, Says, is_line_end}
+use Rattle.office_wire.specs.Exchange.{Turn, names_nobody, octets_of, turn_text, texts, IsOpenTurn, Standing, Answers, Run, Exchange, Waits, IsMethodAt, Closes, Ends, Says, is_line_end}
 use Rattle.office_wire.specs.Servfails.{noted, servfails, servfail_in}
 use Rattle.office_wire.specs.Order.{Moment, Writes}
 
@@ -56,12 +60,29 @@ IsDone all (Err ReadFailed) known left before after = IsRead 0 all known left be
 IsDone all (Err StreamTooLong) known left before after = IsRead (2 ^ 64 - 1) all known left before after
 IsDone all (Err NoMemory) known left before after = (all ≡ []) × (left ≡ known) × (after ≡ before)
 
+-- All requests of what was read were answered up to some place, one at least, and all of the responses went out. None of them was the
+-- last, and what follows was neither answered nor read further.
+abbrev pub IsHalted : List Turn → Option (List ℕ) → Option (List ℕ) → Option (List ℕ) → Option (List ℕ) → Type 0
+IsHalted all known left before after =
+    (read rest : List ℕ) × (0 < length all) × Consumes known left read × Exchange read all rest × Appends before after (texts all)
+
+-- What serving a stream did, by how it ended: halted by the deadline, or done.
+abbrev pub IsEnded : List Turn → Result Ending ServeFault → Option (List ℕ) → Option (List ℕ) → Option (List ℕ) → Option (List ℕ) → Type 0
+IsEnded all (Ok ending.Answered) known left before after = IsDone all (Ok tt) known left before after
+IsEnded all (Ok ending.Overdue) known left before after = IsHalted all known left before after
+IsEnded all (Err fault) known left before after = IsDone all (Err fault) known left before after
+
 -- How often the reader and the writer failed, by the result: neither at Ok, at StreamTooLong and at NoMemory; at ReadFailed the reader
 -- once and the writer not; at WriteFailed the writer once and the reader not. So a read or a write that failed is not tried again.
 abbrev pub CountsServed : Result (Unit {0}) ServeFault → ℕ → ℕ → ℕ → ℕ → Type 0
 CountsServed (Err ReadFailed) reads reads_now writes writes_now = (reads_now ≡ reads + 1) × (writes_now ≡ writes)
 CountsServed (Err WriteFailed) reads reads_now writes writes_now = (reads_now ≡ reads) × (writes_now ≡ writes + 1)
 CountsServed result reads reads_now writes writes_now = (reads_now ≡ reads) × (writes_now ≡ writes)
+
+-- the same by how it ended
+abbrev pub CountsEnded : Result Ending ServeFault → ℕ → ℕ → ℕ → ℕ → Type 0
+CountsEnded (Ok ended) reads reads_now writes writes_now = CountsServed (Ok tt) reads reads_now writes writes_now
+CountsEnded (Err fault) reads reads_now writes writes_now = CountsServed (Err fault) reads reads_now writes writes_now
 
 -- ---- on the way
 
@@ -79,11 +100,12 @@ Leads rules c turns d = Run rules c.standing turns d.standing × (d.note ≡ not
 
 -- ---- one request
 
--- this was answered to what was read of a request, in this text, and how the table stands behind it
-pub record IsReplied (rules : List Rule) (c : Mark) (read : Result Call RequestFault) (method : Method) (closing : Bool) (text : List ℕ) (d : Mark) : Type 0 where
+-- this was answered to what was read of a request, in this text, whether it is the last, and how the table stands behind it
+pub record IsReplied (rules : List Rule) (c : Mark) (read : Result Call RequestFault) (method : Method) (closing last : Bool) (text : List ℕ) (d : Mark) : Type 0 where
   pub response : Response
   pub answers : Answers rules c.standing read response d.standing
-  pub text_is : text ≡ text_of method response closing
+  pub last_is : last ≡ closing || names_nobody response
+  pub text_is : text ≡ text_of method response last
   pub note : d.note ≡ noted c.note (servfail_in response)
 
 -- this was answered to what the octets begin with, in this text, and how the table stands behind it
@@ -102,33 +124,42 @@ Stands pending Last = ⊤
 -- ---- what has come
 
 -- the octets that are left are no request yet
-abbrev pub IsIdle : Result Bool DeviceFailed → List ℕ → Type 0
-IsIdle (Ok false) rest = Waits rest × (length rest < 81920)
-IsIdle (Ok true) rest = ⊤
-IsIdle (Err e) rest = ⊤
+abbrev pub IsIdle : Result Stage DeviceFailed → List ℕ → Type 0
+IsIdle (Ok Open) rest = Waits rest × (length rest < 81920)
+IsIdle result rest = ⊤
+
+-- the deadline was asked after the response to each of these turns
+abbrev pub AskedAfter : List Turn → ℕ → ℕ → Type 0
+AskedAfter turns asked asked_now = asked_now ≡ asked + length turns
 
 -- the octets were answered so far, up to rest
-abbrev pub IsCurrent : List Rule → Mark → List ℕ → List ℕ → Moment → Moment → Mark → Type 0
-IsCurrent rules c stream rest before after d =
-    (turns : List Turn) × Leads rules c turns d × Exchange stream turns rest × Writes before after (texts turns)
+abbrev pub IsCurrent : List Rule → Mark → List ℕ → List ℕ → Moment → Moment → ℕ → ℕ → Mark → Type 0
+IsCurrent rules c stream rest before after asked asked_now d =
+    (turns : List Turn) × Leads rules c turns d × Exchange stream turns rest × Writes before after (texts turns) × AskedAfter turns asked asked_now
 
 -- they were answered up to the last response
-abbrev pub IsClosed : List Rule → Mark → List ℕ → Moment → Moment → Mark → Type 0
-IsClosed rules c stream before after d =
+abbrev pub IsClosed : List Rule → Mark → List ℕ → Moment → Moment → ℕ → ℕ → Mark → Type 0
+IsClosed rules c stream before after asked asked_now d =
     (turns last : List Turn) × (rest text : List ℕ) × Leads rules c (turns ++ last) d × Exchange stream turns rest × Closes rest last text
-    × Writes before after (texts turns ++ text)
+    × Writes before after (texts turns ++ text) × AskedAfter turns asked asked_now
 
 -- they were answered, and the last response that was written went out in part
-abbrev pub IsBroken : List Rule → Mark → List ℕ → Moment → Moment → Mark → Type 0
-IsBroken rules c stream before after d =
+abbrev pub IsBroken : List Rule → Mark → List ℕ → Moment → Moment → ℕ → ℕ → Mark → Type 0
+IsBroken rules c stream before after asked asked_now d =
     (turns last : List Turn) × (rest text part : List ℕ) × Leads rules c (turns ++ last) d × Exchange stream turns rest × Says rest last text
-    × IsProperPrefix part text × Writes before after (texts turns ++ part)
+    × IsProperPrefix part text × Writes before after (texts turns ++ part) × AskedAfter turns asked asked_now
 
 -- what had come was served so
-abbrev pub IsServed : List Rule → Mark → List ℕ → Result Bool DeviceFailed → List ℕ → Moment → Moment → Mark → Type 0
-IsServed rules c stream (Ok false) rest before after d = IsCurrent rules c stream rest before after d
-IsServed rules c stream (Ok true) rest before after d = IsClosed rules c stream before after d
-IsServed rules c stream (Err e) rest before after d = IsBroken rules c stream before after d
+abbrev pub IsServed : List Rule → Mark → List ℕ → Result Stage DeviceFailed → List ℕ → Moment → Moment → ℕ → ℕ → Mark → Type 0
+IsServed rules c stream (Ok Open) rest before after asked asked_now d = IsCurrent rules c stream rest before after asked asked_now d
+IsServed rules c stream (Ok Closed) rest before after asked asked_now d = IsClosed rules c stream before after asked asked_now d
+IsServed rules c stream (Ok Overdue) rest before after asked asked_now d = IsCurrent rules c stream rest before after asked asked_now d × (asked < asked_now)
+IsServed rules c stream (Err e) rest before after asked asked_now d = IsBroken rules c stream before after asked asked_now d
+
+-- the deadline answered that it had passed: once where that halted it, and else never
+abbrev pub CountsHalt : Result Stage DeviceFailed → ℕ → ℕ → Type 0
+CountsHalt (Ok Overdue) passed passed_now = passed_now ≡ passed + 1
+CountsHalt result passed passed_now = passed_now ≡ passed
 
 -- how the end of the stream is answered
 abbrev pub Finishes : List ℕ → Result (Unit {0}) DeviceFailed → Moment → Moment → Type 0

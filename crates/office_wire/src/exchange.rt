@@ -1,15 +1,16 @@
 //! Answering requests, one after the other.
 
-ghost use Rattle.std.specs.Prelude.{◌≡◌, ◌+◌, length, IsUtf8, OnOk, OnErr};
+ghost use Rattle.std.specs.Prelude.{◌≡◌, ◌+◌, ◌||◌, length, IsUtf8, OnOk, OnErr};
 ghost use Rattle.httparse.specs.Grammar.{RequestHead};
 ghost use Rattle.office_state.specs.States.{State};
 ghost use Rattle.office_core.specs.Bookmarks.{AreBookmarks};
-ghost use Rattle.office_wire.specs.Exchange.{Answers};
+ghost use Rattle.office_wire.specs.Exchange.{Answers, names_nobody};
 ghost use Rattle.office_wire.specs.Framing.{IsAsked};
 ghost use Rattle.office_wire.specs.Requests.{call_of};
 ghost use Rattle.office_wire.specs.Order.{moment};
-ghost use Rattle.office_wire.specs.Serving.{standing, mark, IsReplied, IsProgress, Stands, IsIdle, IsServed};
+ghost use Rattle.office_wire.specs.Serving.{standing, mark, IsReplied, IsProgress, Stands, IsIdle, IsServed, CountsHalt};
 
+use crate::deadline::Deadline;
 use crate::framing::{Framing, framing_of};
 use crate::head::Heading;
 use crate::method::Method;
@@ -37,12 +38,29 @@ pub(crate) enum Progress {
     Last,
 }
 
+/// How serving goes on after the requests that had come whole.
+pub(crate) enum Stage {
+    /// More requests may come.
+    Open,
+    /// The last response was among the responses.
+    Closed,
+    /// The deadline had passed after one of the responses, and none followed.
+    Overdue,
+}
+
 /// What requests are answered by.
 #[derive(Drop)]
 pub(crate) struct Service<'a> {
     pub(crate) alloc: Global,
     pub(crate) policy: &'a Policy,
     pub(crate) routes: &'a Routes,
+}
+
+/// Whether a response is the last: the head asks for that, or the response refuses a request that names no caller.
+fn is_last(heading: &Heading<'_>, response: &Response) -> bool
+    ensures { result ≡ heading.now.closes || names_nobody response.now }
+{
+    heading.closes || response.names_nobody()
 }
 
 impl<'a> Service<'a> {
@@ -74,7 +92,8 @@ impl<'a> Service<'a> {
         }
     }
 
-    /// Puts what is answered to a request; where there is no memory for a long response, SERVFAIL, which is noted.
+    /// Puts what is answered to a request, and answers whether it is the last response. Where there is no memory for a long response
+    /// it is SERVFAIL, which is noted.
     fn reply<T: ZoneTable>(
         &self,
         table: &mut T,
@@ -83,17 +102,19 @@ impl<'a> Service<'a> {
         body: &[u8],
         out: &mut ResponseBuffer,
         servfails: &mut Servfails,
-    )
+    ) -> bool
         requires { IsUtf8 heading.now.target.now }
-        ensures answered { T.is_honest table.new → (s : State) → T.holds table.old s × AreBookmarks self.now.policy.now s bookmarks.old → (h : RequestHead) → IsAsked heading.now h → (t : State) × (T.holds table.new t × AreBookmarks self.now.policy.now t bookmarks.new) × IsReplied self.now.policy.now (mark s (T.failures table.old) servfails.old) (call_of h body.now) heading.now.method heading.now.closes out.new (mark t (T.failures table.new) servfails.new) }
+        ensures answered { T.is_honest table.new → (s : State) → T.holds table.old s × AreBookmarks self.now.policy.now s bookmarks.old → (h : RequestHead) → IsAsked heading.now h → (t : State) × (T.holds table.new t × AreBookmarks self.now.policy.now t bookmarks.new) × IsReplied self.now.policy.now (mark s (T.failures table.old) servfails.old) (call_of h body.now) heading.now.method heading.now.closes result out.new (mark t (T.failures table.new) servfails.new) }
         ensures honest { T.is_honest table.new → T.is_honest table.old }
     {
         let response = self.respond(table, bookmarks, heading, body);
-        if out.put(heading.method, &response, heading.closes) {
+        let last = is_last(heading, &response);
+        if out.put(heading.method, &response, last) {
             servfails.note(&response);
-        } else {
-            servfails.add(TableFault::NoMemory);
+            return last;
         }
+        servfails.add(TableFault::NoMemory);
+        last
     }
 
     /// Answers the request that the octets begin with, where it is complete.
@@ -123,15 +144,9 @@ impl<'a> Service<'a> {
             }
             Framing::Ready(heading, n) => {
                 let end = heading.len + n;
-                self.reply(
-                    table,
-                    bookmarks,
-                    &heading,
-                    &pending[heading.len..end],
-                    out,
-                    servfails,
-                );
-                if heading.closes {
+                let body = &pending[heading.len..end];
+                let last = self.reply(table, bookmarks, &heading, body, out, servfails);
+                if last {
                     Progress::Last
                 } else {
                     Progress::Next(end)
@@ -140,9 +155,8 @@ impl<'a> Service<'a> {
         }
     }
 
-    /// Answers each request that stands whole among the octets that have come, and answers whether the last response was among
-    /// the responses.
-    pub(crate) fn answer_all<S: Stream<R, W>, R: Source, W: Sink, T: ZoneTable>(
+    /// Answers each request that has come whole, and asks the deadline after each response that is not the last.
+    pub(crate) fn answer_all<S: Stream<R, W>, R: Source, W: Sink, T: ZoneTable, D: Deadline>(
         &self,
         buffer: &mut RequestBuffer,
         spans: &mut [HeaderSpan],
@@ -152,32 +166,37 @@ impl<'a> Service<'a> {
         bookmarks: &mut Bookmarks,
         out: &mut ResponseBuffer,
         servfails: &mut Servfails,
-    ) -> Result<bool, DeviceFailed>
+        deadline: &mut D,
+    ) -> Result<Stage, DeviceFailed>
         requires { length spans.old ≡ 5462 }
         ensures idle { IsIdle result buffer.new }
-        ensures served { T.is_honest table.new → (s : State) → T.holds table.old s × AreBookmarks self.now.policy.now s bookmarks.old → (t : State) × (T.holds table.new t × AreBookmarks self.now.policy.now t bookmarks.new) × IsServed self.now.policy.now (mark s (T.failures table.old) servfails.old) buffer.old result buffer.new (moment (W.contents writer.old) (S.events reader.old writer.old)) (moment (W.contents writer.new) (S.events reader.new writer.new)) (mark t (T.failures table.new) servfails.new) }
+        ensures served { T.is_honest table.new → (s : State) → T.holds table.old s × AreBookmarks self.now.policy.now s bookmarks.old → (t : State) × (T.holds table.new t × AreBookmarks self.now.policy.now t bookmarks.new) × IsServed self.now.policy.now (mark s (T.failures table.old) servfails.old) buffer.old result buffer.new (moment (W.contents writer.old) (S.events reader.old writer.old)) (moment (W.contents writer.new) (S.events reader.new writer.new)) (D.asked deadline.old) (D.asked deadline.new) (mark t (T.failures table.new) servfails.new) }
         ensures honest { T.is_honest table.new → T.is_honest table.old }
+        ensures passed { CountsHalt result (D.passed deadline.old) (D.passed deadline.new) }
         ensures same { OnOk result (W.failures writer.new ≡ W.failures writer.old) }
         ensures rose { OnErr result (W.failures writer.new ≡ W.failures writer.old + 1) }
         ensures unread { R.remaining reader.new ≡ R.remaining reader.old }
         ensures still { R.failures reader.new ≡ R.failures reader.old }
     {
         if buffer.is_awaiting() {
-            return Ok(false);
+            return Ok(Stage::Open);
         }
         'turns: loop {
             match self.answer(buffer.as_slice(), spans, table, bookmarks, out, servfails) {
                 Progress::Waiting(n) => {
                     buffer.await_octets(n);
-                    return Ok(false);
+                    return Ok(Stage::Open);
                 }
                 Progress::Next(n) => {
                     write_all::<S, _, _>(reader, writer, out.as_slice())?;
                     buffer.consume(n);
+                    if deadline.has_passed() {
+                        return Ok(Stage::Overdue);
+                    }
                 }
                 Progress::Last => {
                     write_all::<S, _, _>(reader, writer, out.as_slice())?;
-                    return Ok(true);
+                    return Ok(Stage::Closed);
                 }
             }
         }

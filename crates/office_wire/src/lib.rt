@@ -1,7 +1,9 @@
 //! The office over HTTP/1.1 (RFC 9112): requests are read from a stream, asked of the office one after the other, and answered on it.
 #![tactic(auto)]
 
+mod deadline;
 mod digits;
+mod ending;
 mod exchange;
 mod field;
 mod framing;
@@ -25,6 +27,8 @@ mod status;
 mod stream;
 mod workspace;
 
+pub use deadline::{Deadline, Never};
+pub use ending::Ending;
 pub use laws::{
     exchanges_are_runs, framing_is_unique, parts_are_segments, routes_are_their_paths,
     segments_are_between_slashes, targets_have_one_row,

@@ -1,14 +1,17 @@
 //! Serving streams, one after the other.
 
-ghost use Rattle.std.specs.Prelude.{◌≡◌, List};
+ghost use Rattle.std.specs.Prelude.{◌≡◌, ◌<◌, List};
 ghost use Rattle.office_state.specs.States.{State};
 ghost use Rattle.office_core.specs.Bookmarks.{AreBookmarks};
 ghost use Rattle.office_wire.specs.Exchange.{Turn, Run};
 ghost use Rattle.office_wire.specs.Promises.{ArePromised};
-ghost use Rattle.office_wire.specs.Serving.{standing, mark, Leads, IsDone, CountsServed};
+ghost use Rattle.office_wire.specs.Serving.{standing, mark, Leads, IsDone, IsEnded, CountsServed, CountsEnded};
+ghost use Rattle.office_wire.specs.Deadlines.{CountsAsked, CountsPassed};
 ghost use Rattle.office_wire.specs.Servfails.{AreNoted, servfails};
 ghost use Rattle.office_wire.specs.Order.{IsServedInTurn};
 
+use crate::deadline::{Deadline, Never};
+use crate::ending::Ending;
 use crate::serve_fault::ServeFault;
 use crate::servfails::Servfails;
 use crate::serving::{Served, serve_within};
@@ -18,6 +21,8 @@ use dns_master::{Sink, Source};
 use grant_policy::Policy;
 use office_core::{Bookmarks, ZoneTable};
 use std::alloc::Global;
+use std::marker::Brand;
+use std::sync::ledger::{Blank, Ledger};
 
 /// Answers the requests of streams by a policy, one stream after the other. The bookmarks of callers and the memory for a request are
 /// kept from one stream to the next; of what a stream sent, nothing is.
@@ -44,21 +49,23 @@ impl<'a> Responder<'a> {
     }
 
     /// Answers each request of a stream in the workspace, which is made first if it is `None`.
-    fn serve_into<S: Stream<R, W>, R: Source, W: Sink, T: ZoneTable>(
+    fn serve_into<S: Stream<R, W>, R: Source, W: Sink, T: ZoneTable, D: Deadline>(
         &mut self,
         reader: &mut R,
         writer: &mut W,
         table: &mut T,
         servfails: &mut Servfails,
-    ) -> Result<(), ServeFault>
-        ensures run { T.is_honest table.new → (s : State) → T.holds table.old s × AreBookmarks self.old.policy.now s self.old.bookmarks → (turns : List Turn) × (t : State) × (T.holds table.new t × AreBookmarks self.old.policy.now t self.new.bookmarks) × Leads self.old.policy.now (mark s (T.failures table.old) servfails.old) turns (mark t (T.failures table.new) servfails.new) × IsDone turns result (R.remaining reader.old) (R.remaining reader.new) (W.contents writer.old) (W.contents writer.new) × IsServedInTurn turns (S.events reader.old writer.old) (S.events reader.new writer.new) }
+        deadline: &mut D,
+    ) -> Result<Ending, ServeFault>
+        ensures run { T.is_honest table.new → (s : State) → T.holds table.old s × AreBookmarks self.old.policy.now s self.old.bookmarks → (turns : List Turn) × (t : State) × (T.holds table.new t × AreBookmarks self.old.policy.now t self.new.bookmarks) × Leads self.old.policy.now (mark s (T.failures table.old) servfails.old) turns (mark t (T.failures table.new) servfails.new) × IsEnded turns result (R.remaining reader.old) (R.remaining reader.new) (W.contents writer.old) (W.contents writer.new) × IsServedInTurn turns (S.events reader.old writer.old) (S.events reader.new writer.new) × CountsAsked turns result (D.asked deadline.old) (D.asked deadline.new) }
         ensures policy { self.new.policy ≡ self.old.policy }
         ensures honest { T.is_honest table.new → T.is_honest table.old }
-        ensures devices { CountsServed result (R.failures reader.old) (R.failures reader.new) (W.failures writer.old) (W.failures writer.new) }
+        ensures passed { CountsPassed result (D.passed deadline.old) (D.passed deadline.new) }
+        ensures devices { CountsEnded result (R.failures reader.old) (R.failures reader.new) (W.failures writer.old) (W.failures writer.new) }
     {
         make_workspace(self.alloc, &mut self.workspace);
         match &mut self.workspace {
-            Some(workspace) => serve_within::<S, _, _, _>(
+            Some(workspace) => serve_within::<S, _, _, _, _>(
                 self.alloc,
                 workspace,
                 reader,
@@ -67,6 +74,7 @@ impl<'a> Responder<'a> {
                 self.policy,
                 &mut self.bookmarks,
                 servfails,
+                deadline,
             ),
             None => Err(ServeFault::NoMemory),
         }
@@ -74,37 +82,70 @@ impl<'a> Responder<'a> {
 
     /// Serves a stream as `serve_noting` does, and reads only when all whole requests received before are answered, and their
     /// responses written whole.
-    pub fn serve_stream<S: Stream<R, W>, R: Source, W: Sink, T: ZoneTable>(
+    pub fn serve_stream<S: Stream<R, W>, R: Source, W: Sink, T: ZoneTable, D: Deadline>(
         &mut self,
         reader: &mut R,
         writer: &mut W,
         table: &mut T,
+        deadline: &mut D,
     ) -> Served
         // Each response goes out whole before the next read, so a peer that waits for it before it sends more gets it.
-        ensures run { T.is_honest table.new → (s : State) → T.holds table.old s × AreBookmarks self.old.policy.now s self.old.bookmarks → (turns : List Turn) × (t : State) × (T.holds table.new t × AreBookmarks self.old.policy.now t self.new.bookmarks) × Run self.old.policy.now (standing s (T.failures table.old)) turns (standing t (T.failures table.new)) × IsDone turns result.ended (R.remaining reader.old) (R.remaining reader.new) (W.contents writer.old) (W.contents writer.new) × ArePromised self.old.policy.now s turns t × AreNoted (servfails turns) result.servfails × IsServedInTurn turns (S.events reader.old writer.old) (S.events reader.new writer.new) }
+        ensures run { T.is_honest table.new → (s : State) → T.holds table.old s × AreBookmarks self.old.policy.now s self.old.bookmarks → (turns : List Turn) × (t : State) × (T.holds table.new t × AreBookmarks self.old.policy.now t self.new.bookmarks) × Run self.old.policy.now (standing s (T.failures table.old)) turns (standing t (T.failures table.new)) × IsEnded turns result.ended (R.remaining reader.old) (R.remaining reader.new) (W.contents writer.old) (W.contents writer.new) × ArePromised self.old.policy.now s turns t × AreNoted (servfails turns) result.servfails × CountsAsked turns result.ended (D.asked deadline.old) (D.asked deadline.new) × IsServedInTurn turns (S.events reader.old writer.old) (S.events reader.new writer.new) }
         ensures policy { self.new.policy ≡ self.old.policy }
         ensures honest { T.is_honest table.new → T.is_honest table.old }
-        ensures devices { CountsServed result.ended (R.failures reader.old) (R.failures reader.new) (W.failures writer.old) (W.failures writer.new) }
+        // No further request is answered where the deadline has passed, and only there.
+        ensures passed { CountsPassed result.ended (D.passed deadline.old) (D.passed deadline.new) }
+        ensures devices { CountsEnded result.ended (R.failures reader.old) (R.failures reader.new) (W.failures writer.old) (W.failures writer.new) }
     {
         let mut servfails = Servfails::none();
-        let ended = self.serve_into::<S, _, _, _>(reader, writer, table, &mut servfails);
+        let ended = self.serve_into::<S, _, _, _, _>(reader, writer, table, &mut servfails, deadline);
         Served { ended, servfails }
     }
 
-    /// Serves a stream as `serve` does, and counts the requests that were answered SERVFAIL, with the fault of the last.
-    pub fn serve_noting<R: Source, W: Sink, T: ZoneTable>(
+    /// Serves a stream as `serve` does, and counts the requests that were answered SERVFAIL, with the fault of the last. After each
+    /// response that is not the last it asks a deadline, and leaves the stream there if that has passed.
+    pub fn serve_noting<R: Source, W: Sink, T: ZoneTable, D: Deadline>(
         &mut self,
         reader: &mut R,
         writer: &mut W,
         table: &mut T,
+        deadline: &mut D,
     ) -> Served
         // What is noted is noted of the turns of the stream.
-        ensures run { T.is_honest table.new → (s : State) → T.holds table.old s × AreBookmarks self.old.policy.now s self.old.bookmarks → (turns : List Turn) × (t : State) × (T.holds table.new t × AreBookmarks self.old.policy.now t self.new.bookmarks) × Run self.old.policy.now (standing s (T.failures table.old)) turns (standing t (T.failures table.new)) × IsDone turns result.ended (R.remaining reader.old) (R.remaining reader.new) (W.contents writer.old) (W.contents writer.new) × ArePromised self.old.policy.now s turns t × AreNoted (servfails turns) result.servfails }
+        ensures run { T.is_honest table.new → (s : State) → T.holds table.old s × AreBookmarks self.old.policy.now s self.old.bookmarks → (turns : List Turn) × (t : State) × (T.holds table.new t × AreBookmarks self.old.policy.now t self.new.bookmarks) × Run self.old.policy.now (standing s (T.failures table.old)) turns (standing t (T.failures table.new)) × IsEnded turns result.ended (R.remaining reader.old) (R.remaining reader.new) (W.contents writer.old) (W.contents writer.new) × ArePromised self.old.policy.now s turns t × AreNoted (servfails turns) result.servfails × CountsAsked turns result.ended (D.asked deadline.old) (D.asked deadline.new) }
         ensures policy { self.new.policy ≡ self.old.policy }
         ensures honest { T.is_honest table.new → T.is_honest table.old }
-        ensures devices { CountsServed result.ended (R.failures reader.old) (R.failures reader.new) (W.failures writer.old) (W.failures writer.new) }
+        // No further request is answered where the deadline has passed, and only there.
+        ensures passed { CountsPassed result.ended (D.passed deadline.old) (D.passed deadline.new) }
+        ensures devices { CountsEnded result.ended (R.failures reader.old) (R.failures reader.new) (W.failures writer.old) (W.failures writer.new) }
     {
-        self.serve_stream::<Apart, _, _, _>(reader, writer, table)
+        self.serve_stream::<Apart, _, _, _, _>(reader, writer, table, deadline)
+    }
+}
+
+/// Answers each request of a stream without a deadline.
+fn serve_whole<R: Source, W: Sink, T: ZoneTable, L: Ledger>(
+    alloc: Global,
+    reader: &mut R,
+    writer: &mut W,
+    table: &mut T,
+    policy: &Policy,
+    blank: Blank,
+) -> Result<(), ServeFault>
+    requires name { blank.name ≡ L.name }
+    requires parts { blank.parts ≡ L.parts }
+    requires some { 0 < blank.parts }
+    ensures run { T.is_honest table.new → (s : State) → T.holds table.old s → (turns : List Turn) × (t : State) × T.holds table.new t × Run policy.now (standing s (T.failures table.old)) turns (standing t (T.failures table.new)) × IsDone turns result (R.remaining reader.old) (R.remaining reader.new) (W.contents writer.old) (W.contents writer.new) × ArePromised policy.now s turns t }
+    ensures honest { T.is_honest table.new → T.is_honest table.old }
+    ensures devices { CountsServed result (R.failures reader.old) (R.failures reader.new) (W.failures writer.old) (W.failures writer.new) }
+{
+    let mut responder = Responder::new(alloc, policy);
+    let mut never: Never<L> = Never::new(blank);
+    let served = responder.serve_noting(reader, writer, table, &mut never);
+    match served.ended {
+        Ok(Ending::Answered) => Ok(()),
+        Ok(Ending::Overdue) => unreachable!(),
+        Err(fault) => Err(fault),
     }
 }
 
@@ -134,6 +175,6 @@ pub fn serve<R: Source, W: Sink, T: ZoneTable>(
     // A fault of a device is reported only if the device failed in this call, and it failed once. `Ok` means that neither failed.
     ensures devices { CountsServed result (R.failures reader.old) (R.failures reader.new) (W.failures writer.old) (W.failures writer.new) }
 {
-    let mut responder = Responder::new(alloc, policy);
-    responder.serve_noting(reader, writer, table).ended
+    let blank = Blank::new(1);
+    serve_whole::<R, W, T, Brand>(alloc, reader, writer, table, policy, blank)
 }

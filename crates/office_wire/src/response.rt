@@ -2,7 +2,7 @@
 
 ghost use Rattle.std.specs.Prelude.{◌≡◌, ◌≤◌, ◌+◌, ◌++◌, length, IsOk, OnOk, OnErr};
 ghost use Rattle.std.specs.Vec.{vec_capacity};
-ghost use Rattle.office_wire.specs.Exchange.{refusing};
+ghost use Rattle.office_wire.specs.Exchange.{names_nobody, refusing};
 ghost use Rattle.office_wire.specs.Texts.{phrase_of, status_of, type_of, reply_type, response_body};
 ghost use Rattle.office_wire.specs.ShortResponses.{IsShortResponse};
 
@@ -48,6 +48,13 @@ impl Response {
                 TableFault::NoMemory,
             ))),
         }
+    }
+
+    /// Whether it refuses a request that names no caller.
+    pub(crate) const fn names_nobody(&self) -> bool
+        ensures { result ≡ names_nobody self.now }
+    {
+        matches!(self, Response::Refused(Refusal::NoCaller))
     }
 
     /// The status.

@@ -5,10 +5,13 @@ ghost use Rattle.std.specs.List.{list_all};
 ghost use Rattle.office_state.specs.States.{State};
 ghost use Rattle.office_core.specs.Bookmarks.{AreBookmarks};
 ghost use Rattle.office_wire.specs.Exchange.{Turn, Waits, is_line_end};
-ghost use Rattle.office_wire.specs.Serving.{mark, Leads, IsDone, CountsServed, Finishes};
+ghost use Rattle.office_wire.specs.Serving.{mark, Leads, IsEnded, CountsEnded, Finishes};
+ghost use Rattle.office_wire.specs.Deadlines.{CountsAsked, CountsPassed};
 ghost use Rattle.office_wire.specs.Order.{moment, IsServedInTurn};
 
-use crate::exchange::Service;
+use crate::deadline::Deadline;
+use crate::ending::Ending;
+use crate::exchange::{Service, Stage};
 use crate::framing::method_at;
 use crate::refusal::Refusal;
 use crate::request_buffer::RequestBuffer;
@@ -56,7 +59,7 @@ fn finish<S: Stream<R, W>, R: Source, W: Sink>(
 }
 
 /// Answers each request of a stream, in the rooms that were made for it, and notes those that are answered SERVFAIL.
-fn serve_in<S: Stream<R, W>, R: Source, W: Sink, T: ZoneTable>(
+fn serve_in<S: Stream<R, W>, R: Source, W: Sink, T: ZoneTable, D: Deadline>(
     service: &Service<'_>,
     buffer: &mut RequestBuffer,
     spans: &mut [HeaderSpan],
@@ -66,12 +69,14 @@ fn serve_in<S: Stream<R, W>, R: Source, W: Sink, T: ZoneTable>(
     table: &mut T,
     bookmarks: &mut Bookmarks,
     servfails: &mut Servfails,
-) -> Result<(), ServeFault>
+    deadline: &mut D,
+) -> Result<Ending, ServeFault>
     requires empty { length buffer.old ≡ 0 }
     requires spans { length spans.old ≡ 5462 }
-    ensures run { T.is_honest table.new → (s : State) → T.holds table.old s × AreBookmarks service.now.policy.now s bookmarks.old → (turns : List Turn) × (t : State) × (T.holds table.new t × AreBookmarks service.now.policy.now t bookmarks.new) × Leads service.now.policy.now (mark s (T.failures table.old) servfails.old) turns (mark t (T.failures table.new) servfails.new) × IsDone turns result (R.remaining reader.old) (R.remaining reader.new) (W.contents writer.old) (W.contents writer.new) × IsServedInTurn turns (S.events reader.old writer.old) (S.events reader.new writer.new) }
+    ensures run { T.is_honest table.new → (s : State) → T.holds table.old s × AreBookmarks service.now.policy.now s bookmarks.old → (turns : List Turn) × (t : State) × (T.holds table.new t × AreBookmarks service.now.policy.now t bookmarks.new) × Leads service.now.policy.now (mark s (T.failures table.old) servfails.old) turns (mark t (T.failures table.new) servfails.new) × IsEnded turns result (R.remaining reader.old) (R.remaining reader.new) (W.contents writer.old) (W.contents writer.new) × IsServedInTurn turns (S.events reader.old writer.old) (S.events reader.new writer.new) × CountsAsked turns result (D.asked deadline.old) (D.asked deadline.new) }
     ensures honest { T.is_honest table.new → T.is_honest table.old }
-    ensures devices { CountsServed result (R.failures reader.old) (R.failures reader.new) (W.failures writer.old) (W.failures writer.new) }
+    ensures passed { CountsPassed result (D.passed deadline.old) (D.passed deadline.new) }
+    ensures devices { CountsEnded result (R.failures reader.old) (R.failures reader.new) (W.failures writer.old) (W.failures writer.new) }
 {
     'reads: for _ in 0..u64::MAX {
         let got = match buffer.fill::<S, _, _>(reader, writer) {
@@ -81,22 +86,23 @@ fn serve_in<S: Stream<R, W>, R: Source, W: Sink, T: ZoneTable>(
         if got == 0 {
             match finish::<S, _, _>(buffer.as_slice(), spans, reader, writer, out) {
                 Err(_) => return Err(ServeFault::WriteFailed),
-                Ok(()) => return Ok(()),
+                Ok(()) => return Ok(Ending::Answered),
             }
         }
-        match service.answer_all::<S, _, _, _>(
-            buffer, spans, reader, writer, table, bookmarks, out, servfails,
+        match service.answer_all::<S, _, _, _, _>(
+            buffer, spans, reader, writer, table, bookmarks, out, servfails, deadline,
         ) {
             Err(_) => return Err(ServeFault::WriteFailed),
-            Ok(true) => return Ok(()),
-            Ok(false) => {}
+            Ok(Stage::Closed) => return Ok(Ending::Answered),
+            Ok(Stage::Overdue) => return Ok(Ending::Overdue),
+            Ok(Stage::Open) => {}
         }
     }
     Err(ServeFault::StreamTooLong)
 }
 
 /// Answers each request of a stream in a workspace, once there is memory for the responses.
-pub(crate) fn serve_within<S: Stream<R, W>, R: Source, W: Sink, T: ZoneTable>(
+pub(crate) fn serve_within<S: Stream<R, W>, R: Source, W: Sink, T: ZoneTable, D: Deadline>(
     alloc: Global,
     workspace: &mut Workspace,
     reader: &mut R,
@@ -105,10 +111,12 @@ pub(crate) fn serve_within<S: Stream<R, W>, R: Source, W: Sink, T: ZoneTable>(
     policy: &Policy,
     bookmarks: &mut Bookmarks,
     servfails: &mut Servfails,
-) -> Result<(), ServeFault>
-    ensures run { T.is_honest table.new → (s : State) → T.holds table.old s × AreBookmarks policy.now s bookmarks.old → (turns : List Turn) × (t : State) × (T.holds table.new t × AreBookmarks policy.now t bookmarks.new) × Leads policy.now (mark s (T.failures table.old) servfails.old) turns (mark t (T.failures table.new) servfails.new) × IsDone turns result (R.remaining reader.old) (R.remaining reader.new) (W.contents writer.old) (W.contents writer.new) × IsServedInTurn turns (S.events reader.old writer.old) (S.events reader.new writer.new) }
+    deadline: &mut D,
+) -> Result<Ending, ServeFault>
+    ensures run { T.is_honest table.new → (s : State) → T.holds table.old s × AreBookmarks policy.now s bookmarks.old → (turns : List Turn) × (t : State) × (T.holds table.new t × AreBookmarks policy.now t bookmarks.new) × Leads policy.now (mark s (T.failures table.old) servfails.old) turns (mark t (T.failures table.new) servfails.new) × IsEnded turns result (R.remaining reader.old) (R.remaining reader.new) (W.contents writer.old) (W.contents writer.new) × IsServedInTurn turns (S.events reader.old writer.old) (S.events reader.new writer.new) × CountsAsked turns result (D.asked deadline.old) (D.asked deadline.new) }
     ensures honest { T.is_honest table.new → T.is_honest table.old }
-    ensures devices { CountsServed result (R.failures reader.old) (R.failures reader.new) (W.failures writer.old) (W.failures writer.new) }
+    ensures passed { CountsPassed result (D.passed deadline.old) (D.passed deadline.new) }
+    ensures devices { CountsEnded result (R.failures reader.old) (R.failures reader.new) (W.failures writer.old) (W.failures writer.new) }
 {
     let Ok(mut out) = ResponseBuffer::new(alloc) else {
         return Err(ServeFault::NoMemory);
@@ -119,7 +127,7 @@ pub(crate) fn serve_within<S: Stream<R, W>, R: Source, W: Sink, T: ZoneTable>(
         policy,
         routes: &workspace.routes,
     };
-    serve_in::<S, _, _, _>(
+    serve_in::<S, _, _, _, _>(
         &service,
         &mut workspace.requests,
         &mut workspace.spans,
@@ -129,14 +137,15 @@ pub(crate) fn serve_within<S: Stream<R, W>, R: Source, W: Sink, T: ZoneTable>(
         table,
         bookmarks,
         servfails,
+        deadline,
     )
 }
 
 /// How serving a stream ended, and which of its requests were answered SERVFAIL.
 #[derive(Clone, Copy, Debug, PartialEq, Eq)]
 pub struct Served {
-    /// Why it ended before the stream did, and before the last response; `Ok` if it did not.
-    pub ended: Result<(), ServeFault>,
+    /// Why it ended before the stream did, before the last response and before the deadline; `Ok` if it did not.
+    pub ended: Result<Ending, ServeFault>,
     /// The requests that were answered SERVFAIL.
     pub servfails: Servfails,
 }

@@ -5,13 +5,14 @@ ghost use Rattle.office_state.specs.States.{State};
 ghost use Rattle.office_core.specs.Bookmarks.{AreBookmarks};
 ghost use Rattle.office_wire.specs.Exchange.{Turn, Run};
 ghost use Rattle.office_wire.specs.Serving.{standing, IsDone, CountsServed};
+ghost use Rattle.office_wire.specs.Deadlines.{CountsPassed};
 ghost use Rattle.office_wire.specs.Order.{IsServedInTurn};
 ghost use Rattle.office_wire.specs.Servfails.{AreNoted, servfails};
 
 use dns_master::{Counted, Pieces, Sink, Source};
 use grant_policy::Policy;
 use office_core::ZoneTable;
-use office_wire::{Responder, ServeFault, Served, Stream};
+use office_wire::{Deadline, Responder, ServeFault, Served, Stream};
 use std::alloc::Global;
 use std::sync::ledger::{Blank, Ledger};
 
@@ -30,16 +31,31 @@ pub fn serve_counted<R: Source, W: Sink, T: ZoneTable>(
 }
 
 /// `Responder::serve_stream`, by what it notes, and by the order of what it reads and writes.
-pub fn serve_stream<S: Stream<R, W>, R: Source, W: Sink, T: ZoneTable>(
+pub fn serve_stream<S: Stream<R, W>, R: Source, W: Sink, T: ZoneTable, D: Deadline>(
     responder: &mut Responder<'_>,
     reader: &mut R,
     writer: &mut W,
     table: &mut T,
+    deadline: &mut D,
 ) -> Served
     ensures { T.is_honest table.new → (s : State) → T.holds table.old s × AreBookmarks responder.old.policy.now s responder.old.bookmarks → (turns : List Turn) × (t : State) × (T.holds table.new t × AreBookmarks responder.old.policy.now t responder.new.bookmarks) × Run responder.old.policy.now (standing s (T.failures table.old)) turns (standing t (T.failures table.new)) × AreNoted (servfails turns) result.servfails × IsServedInTurn turns (S.events reader.old writer.old) (S.events reader.new writer.new) }
 {
-    let served = responder.serve_stream::<S, _, _, _>(reader, writer, table);
+    let served = responder.serve_stream::<S, _, _, _, _>(reader, writer, table, deadline);
     served
+}
+
+/// `Responder::serve_noting`, by what its deadline answers.
+pub fn serve_until<R: Source, W: Sink, T: ZoneTable, D: Deadline>(
+    responder: &mut Responder<'_>,
+    reader: &mut R,
+    writer: &mut W,
+    table: &mut T,
+    deadline: &mut D,
+) -> Served
+    ensures { CountsPassed result.ended (D.passed deadline.old) (D.passed deadline.new) }
+{
+    let until = responder.serve_noting(reader, writer, table, deadline);
+    until
 }
 
 /// `serve`, of octets in memory, to a text in memory.

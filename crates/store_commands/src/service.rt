@@ -14,7 +14,7 @@ use crate::listening::CountedListener;
 use crate::store_file::open_store;
 use crate::surroundings::Surroundings;
 use command_line::Service;
-use connections::{Connections, Diagnosis, patience_of, serve_connections};
+use connections::{Connections, Diagnosis, longest_of, patience_of, serve_connections};
 use dns_master::Sink;
 use grant_policy::{Policy, read_policy};
 use job_faults::{JobFault, LineFault, write_refusal, write_text};
@@ -109,6 +109,7 @@ fn serve_listening<M: Surroundings, L: Ledger, T: ZoneTable, D: Diagnosis<T>, W:
     let connections = Connections {
         clock: rt,
         patience: patience_of(service.patience),
+        longest: longest_of(service.longest),
         diagnosis,
     };
     let most = service.connections.unwrap_or(u64::MAX);

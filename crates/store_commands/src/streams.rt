@@ -6,8 +6,11 @@ use crate::any_store::{FilesJob, do_on_machine};
 use crate::files::StoreFiles;
 use crate::program::do_words;
 use crate::surroundings::Surroundings;
+use connections::Cause;
 use dns_master::{Counted, Sink, Source};
-use sqlite::Alter;
+use office_state::TableFault;
+use office_store::StoreFault;
+use sqlite::{Alter, Connection};
 use std::io::{Read, Write};
 use std::marker::Brand;
 use std::process::ExitCode;
@@ -32,8 +35,28 @@ impl<M: Surroundings, R: Source, W: Sink, E: Sink> FilesJob for Words<'_, M, R, 
             output,
             trace,
         } = self;
-        let (_, status) = do_words(around, files, words, input, output, trace);
+        let (conn, status) = do_words(around, files, words, input, output, trace);
+        if let Some(conn) = conn {
+            close::<S, P>(around.machine(), conn);
+        }
         status
+    }
+}
+
+/// Ends the connection to a store, so that the file has all of it. If that fails it is said on standard error, and is no failure of the
+/// job: all is in the store with its log.
+fn close<S: Alter + Drop, P: StoreFiles<S>>(rt: &HostRuntime, conn: Connection<S>) {
+    if let Err(fault) = P::close(conn) {
+        complain(rt, fault);
+    }
+}
+
+/// Says on standard error that the log of a store could not be copied into its file, and why.
+fn complain(rt: &HostRuntime, fault: StoreFault) {
+    let cause = Cause::of(TableFault::Store, Some(fault)).words();
+    let line = format!(in rt.alloc(); "zoneoffice: the log of the store could not be copied into it because {cause}");
+    if let Ok(line) = line {
+        let _ = rt.eprintln(line.as_str());
     }
 }
 

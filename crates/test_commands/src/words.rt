@@ -262,7 +262,8 @@ fn push_service(
     push_all(&["serve (", service.store, ") (", service.policy], answer)?;
     push_all(&[") (", service.listen, ")"], answer)?;
     push_number(alloc, " ", service.connections, answer)?;
-    push_number(alloc, " patience ", service.patience, answer)
+    push_number(alloc, " patience ", service.patience, answer)?;
+    push_number(alloc, " longest ", service.longest, answer)
 }
 
 /// Appends a number behind a word where one was given.

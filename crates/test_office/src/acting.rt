@@ -4,10 +4,46 @@ use crate::acts::done;
 use crate::deed::Deed;
 use anyhow::Result;
 use grant_policy::Policy;
-use sqlite::Files;
+use sqlite::{Connection, FileStore, Files};
 use sqlite_disk::Disk;
 use std::alloc::Global;
 use test_tables::{Held, Stop, opened};
+
+/// How a connection ends.
+#[derive(Clone, Copy)]
+enum End {
+    /// The log stays as it is.
+    Dropped,
+    /// The log is copied into the database.
+    Closed,
+}
+
+/// The disks behind a connection, and whether the log was copied.
+#[derive(Drop)]
+struct Left<D: Disk> {
+    disks: Files<D>,
+    copied: bool,
+}
+
+fn left<D: Disk + Drop>(conn: Connection<FileStore<D>>, end: End) -> Left<D> {
+    match end {
+        End::Dropped => unclosed(conn.into_store().close()),
+        End::Closed => match conn.close_files() {
+            Ok(disks) => Left {
+                disks,
+                copied: true,
+            },
+            Err((_, store)) => unclosed(store.close()),
+        },
+    }
+}
+
+fn unclosed<D: Disk>(disks: Files<D>) -> Left<D> {
+    Left {
+        disks,
+        copied: false,
+    }
+}
 
 /// Does something to the store on some disks.
 fn acted<D: Disk + Drop>(
@@ -15,13 +51,14 @@ fn acted<D: Disk + Drop>(
     disks: Files<D>,
     policy: &Policy,
     deed: &Deed,
-) -> (Result<Vec<u8>>, Files<D>) {
+    end: End,
+) -> (Result<Vec<u8>>, Left<D>) {
     match opened(alloc, disks) {
         Ok(conn) => {
             let (told, conn) = done(alloc, conn, policy, deed);
-            (told, conn.into_store().close())
+            (told, left(conn, end))
         }
-        Err(disks) => (unopened(alloc), disks),
+        Err(disks) => (unopened(alloc), unclosed(disks)),
     }
 }
 
@@ -38,9 +75,36 @@ pub fn act(
     deed: &Deed,
 ) -> Result<(Vec<u8>, Held)> {
     let disks = held.disks(alloc, stop)?;
-    let (told, disks) = acted(alloc, disks, policy, deed);
-    let held = Held::behind(alloc, disks, stop)?;
+    let (told, left) = acted(alloc, disks, policy, deed, End::Dropped);
+    let held = Held::behind(alloc, left.disks, stop)?;
     Ok((told?, held))
+}
+
+/// What is told of something that was done to a store before it was closed, what the disks hold then, and whether the log was copied.
+#[derive(Drop)]
+pub struct Closing {
+    pub told: Vec<u8>,
+    pub held: Held,
+    pub copied: bool,
+}
+
+/// Does something to the store on disks that stop, and closes it.
+pub fn act_and_close(
+    alloc: Global,
+    held: &Held,
+    stop: Stop,
+    policy: &Policy,
+    deed: &Deed,
+) -> Result<Closing> {
+    let disks = held.disks(alloc, stop)?;
+    let (told, left) = acted(alloc, disks, policy, deed, End::Closed);
+    let Left { disks, copied } = left;
+    let held = Held::behind(alloc, disks, stop)?;
+    Ok(Closing {
+        told: told?,
+        held,
+        copied,
+    })
 }
 
 /// Does something to the store on disks that never stop, and copies the log into the database.

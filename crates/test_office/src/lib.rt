@@ -15,8 +15,8 @@
 //! `Stops`: what is done to a store is found whole or not at all behind each stop, and can be done then. `policy` takes its text from
 //! the body, and `look` the lines by which a store is looked at. `disks` begins with empty disks, and the same things are done to the
 //! store on them. `stop` prints what the look tells before and behind what the row says, and what is told of that
-//! and of the same once more. Then it does it again and again over disks of which one stops at one call after the other, until none
-//! does, and tells whether each stop left the store as it was or as it is to be, and never as it was where it was told to be done;
+//! and of the same once more. Then it does it again and again, and closes the store, over disks of which one stops at one call after the
+//! other, until it is done and closed without a stop, and tells whether each stop left the store as it was or as it is to be, and never as it was where it was told to be done;
 //! and whether the same, done behind the stop, is told and found as it is to be.
 //!
 //! `Office`: what the office answers, over HTTP and in words, over a table in memory and over SQLite in files of memory, which answer the

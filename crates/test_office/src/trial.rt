@@ -1,6 +1,6 @@
 //! What is found behind stops.
 
-use crate::acting::act;
+use crate::acting::{Closing, act, act_and_close};
 use crate::deed::Deed;
 use anyhow::{Result, bail};
 use grant_policy::Policy;
@@ -88,8 +88,8 @@ impl Trial {
         Ok(())
     }
 
-    /// Does it over disks that stop, and sees what is found behind that, unless the last stop left the same on the disks. Tells
-    /// whether it was done.
+    /// Does it over disks that stop and closes the store, and sees what is found behind that, unless the last stop left the same on the
+    /// disks. Tells whether it was done, and the store closed.
     fn is_done(
         &self,
         alloc: Global,
@@ -98,9 +98,11 @@ impl Trial {
         stop: Stop,
         seen: &mut Seen,
     ) -> Result<bool> {
-        let (told, left) = act(alloc, held, stop, &self.policy, &self.deed)?;
-        self.see_left(alloc, whole, left, seen)?;
-        kept_if_done(told == whole.told, seen.found)
+        let closing = act_and_close(alloc, held, stop, &self.policy, &self.deed)?;
+        let Closing { told, held, copied } = closing;
+        self.see_left(alloc, whole, held, seen)?;
+        let done = kept_if_done(told == whole.told, seen.found)?;
+        Ok(done && copied)
     }
 
     fn see_left(&self, alloc: Global, whole: &Whole, left: Held, seen: &mut Seen) -> Result<()> {
@@ -111,7 +113,7 @@ impl Trial {
         Ok(())
     }
 
-    /// Lets a disk stop at one call after the other, until it is done without a stop.
+    /// Lets a disk stop at one call after the other, until it is done and the store closed without a stop.
     pub fn go_through(
         &self,
         alloc: Global,

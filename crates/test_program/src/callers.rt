@@ -54,7 +54,8 @@ impl<'a> Callers<'a> {
             "call" => self.call(&row.body),
             "begin" => self.begin(&row.body),
             "leave" => self.leave(number(&row.text)?, &row.body),
-            "answer" => self.serve(number(&row.text)?, answer),
+            "answer" => self.serve(number(&row.text)?, None, answer),
+            "once" => self.serve(number(&row.text)?, Some(Duration::ZERO), answer),
             _ => bail!("no such verb"),
         }
     }
@@ -96,9 +97,14 @@ impl<'a> Callers<'a> {
         Ok(())
     }
 
-    /// Serves so many connections, and appends what was told and answered.
-    fn serve(&mut self, connections: u64, answer: &mut Vec<u8>) -> Result<()> {
-        push_served(self.rt, self.listener()?, connections, answer)?;
+    /// Serves so many connections, up to an age between requests, and appends what was told and answered.
+    fn serve(
+        &mut self,
+        connections: u64,
+        longest: Option<Duration>,
+        answer: &mut Vec<u8>,
+    ) -> Result<()> {
+        push_served(self.rt, self.listener()?, connections, longest, answer)?;
         for caller in &mut self.callers {
             push_answered(caller, answer)?;
             answer.push(b'\n')?;
@@ -117,12 +123,13 @@ fn push_served(
     rt: &HostRuntime,
     listener: &TcpListener,
     connections: u64,
+    longest: Option<Duration>,
     answer: &mut Vec<u8>,
 ) -> Result<()> {
     let alloc = rt.alloc();
     let policy = policy(alloc)?;
     let mut table = table(alloc)?;
-    let served = served_from(rt, listener, connections, &mut table, &policy);
+    let served = served_from(rt, listener, connections, longest, &mut table, &policy);
     push_told(&served, answer)
 }
 
@@ -150,6 +157,7 @@ fn served_from<T: ZoneTable>(
     rt: &HostRuntime,
     listener: &TcpListener,
     connections: u64,
+    longest: Option<Duration>,
     table: &mut T,
     policy: &Policy,
 ) -> Served {
@@ -158,6 +166,7 @@ fn served_from<T: ZoneTable>(
         rt,
         listener,
         connections,
+        longest,
         table,
         policy,
         taken,
@@ -170,6 +179,7 @@ fn served_in<T: ZoneTable, L: Ledger, A: Ledger, B: Ledger>(
     rt: &HostRuntime,
     listener: &TcpListener,
     connections: u64,
+    longest: Option<Duration>,
     table: &mut T,
     policy: &Policy,
     taken: Blank,
@@ -194,6 +204,7 @@ fn served_in<T: ZoneTable, L: Ledger, A: Ledger, B: Ledger>(
     let from = Connections {
         clock: rt,
         patience: Some(Duration::from_millis(PATIENCE)),
+        longest,
         diagnosis: &Undiagnosed,
     };
     let result = serve_connections(

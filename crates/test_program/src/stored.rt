@@ -107,6 +107,7 @@ impl<'a> Files<'a> {
     /// Removes the files.
     fn end(&self) -> Result<()> {
         remove(self.rt, self.store.as_str())?;
+        remove(self.rt, self.log()?.as_str())?;
         remove(self.rt, self.policy.as_str())
     }
 
@@ -126,6 +127,7 @@ impl<'a> Files<'a> {
         match row.verb {
             "look" => self.look(),
             "pages" => self.pages(),
+            "frames" => self.frames(),
             "migrate" => Ok(self.told_of(&["migrate", "--store", self.store.as_str()], &[])),
             "serve" => Ok(self.served(text_of(&row.text))),
             "listens" => self.without_port(text_of(&row.text)),
@@ -157,6 +159,27 @@ impl<'a> Files<'a> {
     fn pages(&self) -> Result<Vec<u8>> {
         let octets = fs::read(self.rt, self.store.as_str())?;
         Ok(Vec::from_slice(self.rt.alloc(), octets.get(16..18).unwrap_or(&[]))?)
+    }
+
+    /// How many frames the log of the store has. It has a header of 32 octets, and each frame 24 octets before its page.
+    fn frames(&self) -> Result<Vec<u8>> {
+        let log = fs::read(self.rt, self.log()?.as_str())?;
+        let frames = log.len().saturating_sub(32) / (24 + self.page_size()?);
+        let text = format!(in self.rt.alloc(); "{frames} frames")?;
+        spelled(self.rt.alloc(), text.as_str())
+    }
+
+    /// The path of the log of the store.
+    fn log(&self) -> Result<String> {
+        Ok(format!(in self.rt.alloc(); "{}-wal", self.store.as_str())?)
+    }
+
+    /// The size of the store's pages, in octets.
+    fn page_size(&self) -> Result<usize> {
+        match self.pages()?.as_slice() {
+            [high, low] => Ok(usize::from(*high) * 256 + usize::from(*low)),
+            _ => bail!("no database"),
+        }
     }
 
     /// What `serve` prints of a service for no connection.

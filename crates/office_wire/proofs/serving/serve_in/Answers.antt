@@ -1,8 +1,8 @@
-use Rattle.std.proofs.Common.{◌∙◌, ◌+◌, ℕ, List, refl, sym, subst, arith, rules}
+use Rattle.std.proofs.Common.{◌∙◌, ◌+◌, ◌<◌, ℕ, List, refl, sym, subst, arith, rules}
 use Rattle.office_wire.specs.Exchange.{Waits}
 use Rattle.office_wire.specs.Order.{moment}
 use Rattle.office_wire.specs.Serving.{mark}
-use Rattle.office_wire.proofs.ServingLemmas.{IsAnsweredRead, none_came, first_read, went_read, went_nowhere, ended, ended_part, went_closed, went_broken, went_on, waits_nil, stayed}
+use Rattle.office_wire.proofs.ServingLemmas.{IsAnsweredRead, none_came, first_read, went_read, went_nowhere, ended, ended_part, went_closed, went_broken, went_on, halted, waits_nil, stayed}
 use Rattle.office_wire.proofs.serving.serve_in.Goals as goal
 
 pub reads-init : goal.reads-init
@@ -11,9 +11,10 @@ reads-init g c = record {
   waits = waits_nil _ c.requires.empty;
   room = omega (arith, c.requires.empty);
   honest = λ honest. honest;
-  served = λ honest s held. (s, held, first_read c.args.service.now.policy.now (mark s (g.T.ZoneTable.failures c.args.table.now) c.args.servfails.now) _ _ _ c.requires.empty);
+  served = λ honest s held. (s, held, first_read c.args.service.now.policy.now (mark s (g.T.ZoneTable.failures c.args.table.now) c.args.servfails.now) (g.D.Deadline.asked c.args.deadline.now) _ _ _ c.requires.empty);
   reads = refl;
   writes = refl;
+  passed = refl;
 }
 
 pub fill-requires : goal.fill-requires
@@ -24,14 +25,15 @@ returns-in-Err-clause-run g c = λ honest s held.
     let p = c.reads.invariant.served honest s held in
     let policy = c.args.service.now.policy.now in
     let first = mark s (g.T.ZoneTable.failures c.args.table.now) c.args.servfails.now in
+    let asked = g.D.Deadline.asked c.args.deadline.now in
     let now = mark p.0 (g.T.ZoneTable.failures c.reads.table) c.reads.servfails in
     let before = moment (g.W.Sink.contents c.args.writer.now) (g.S.Stream.events c.args.reader.now c.args.writer.now) in
     let mid = moment (g.W.Sink.contents c.reads.writer) (g.S.Stream.events c.reads.reader c.reads.writer) in
     let read = moment (g.W.Sink.contents c.fill.new.writer) (g.S.Stream.events c.fill.new.reader c.fill.new.writer) in
     let k = c.in-Err.ensures.kept in
-    let q = went_nowhere policy first now c.reads.counter c.reads.buffer _ _ _ before mid read c.reads.invariant.waits k.1 k.2 c.in-Err.ensures.same p.2 in
-    let r = stayed policy first now c.reads.counter 0 c.reads.buffer _ _ before read c.reads.invariant.waits (omega arith) q in
-    (r.0, p.0, p.1, r.1, r.2.0, r.2.1)
+    let q = went_nowhere policy first asked now c.reads.counter _ c.reads.buffer _ _ _ before mid read c.reads.invariant.waits k.1 k.2 c.in-Err.ensures.same p.2 in
+    let r = stayed policy first asked now c.reads.counter 0 _ c.reads.buffer _ _ before read c.reads.invariant.waits (omega arith) q in
+    (r.0, p.0, p.1, r.1, r.2.0, r.2.1, r.2.2)
 
 pub returns-in-Err-clause-honest : goal.returns-in-Err-clause-honest
 returns-in-Err-clause-honest g c = c.reads.invariant.honest
@@ -49,19 +51,20 @@ returns-in-Ok-finish-clause-run g c = λ honest s held.
     let p = c.reads.invariant.served honest s held in
     let policy = c.args.service.now.policy.now in
     let first = mark s (g.T.ZoneTable.failures c.args.table.now) c.args.servfails.now in
+    let asked = g.D.Deadline.asked c.args.deadline.now in
     let now = mark p.0 (g.T.ZoneTable.failures c.reads.table) c.reads.servfails in
     let before = moment (g.W.Sink.contents c.args.writer.now) (g.S.Stream.events c.args.reader.now c.args.writer.now) in
     let mid = moment (g.W.Sink.contents c.reads.writer) (g.S.Stream.events c.reads.reader c.reads.writer) in
     let read = moment (g.W.Sink.contents c.fill.new.writer) (g.S.Stream.events c.fill.new.reader c.fill.new.writer) in
     let f = c.in-Ok.ensures.got in
-    let q = went_read policy first now c.reads.counter c.in-Ok.got c.reads.buffer c.fill.new.self f.0 _ _ _ before mid read c.reads.invariant.waits f.1 f.2 f.3 f.5 c.in-Ok.ensures.same p.2 in
+    let q = went_read policy first asked now c.reads.counter c.in-Ok.got _ c.reads.buffer c.fill.new.self f.0 _ _ _ before mid read c.reads.invariant.waits f.1 f.2 f.3 f.5 c.in-Ok.ensures.same p.2 in
     let none = c.if-got-eq0.true in
     let old = none_came c.fill.new.self c.reads.buffer f.0 c.in-Ok.got f.1 f.2 none in
     let waits = subst (λ (l : List ℕ). Waits l) (sym (c.as_slice.ensures.value ∙ old)) c.reads.invariant.waits in
-    let here = subst (λ (l : List ℕ). IsAnsweredRead policy first (c.reads.counter + c.in-Ok.got) (g.R.Source.remaining c.args.reader.now) (g.R.Source.remaining c.fill.new.reader) l before read now) (sym c.as_slice.ensures.value) q in
+    let here = subst (λ (l : List ℕ). IsAnsweredRead policy first asked (c.reads.counter + c.in-Ok.got) (g.R.Source.remaining c.args.reader.now) (g.R.Source.remaining c.fill.new.reader) l before read (g.D.Deadline.asked c.reads.deadline) now) (sym c.as_slice.ensures.value) q in
     let after = moment (g.W.Sink.contents c.finish.new.writer) (g.S.Stream.events c.finish.new.reader c.finish.new.writer) in
-    let r = ended policy first now _ c.as_slice.result.now _ _ before read after (f.4 none) waits here c.in-Ok-finish.ensures.finishes in
-    (r.0, p.0, p.1, r.1, r.2.0, r.2.1)
+    let r = ended policy first asked now _ _ c.as_slice.result.now _ _ before read after (f.4 none) waits here c.in-Ok-finish.ensures.finishes in
+    (r.0, p.0, p.1, r.1, r.2.0, r.2.1, r.2.2)
 
 pub returns-in-Ok-finish-clause-honest : goal.returns-in-Ok-finish-clause-honest
 returns-in-Ok-finish-clause-honest g c = c.reads.invariant.honest
@@ -75,19 +78,20 @@ returns-in-Err-finish-clause-run g c = λ honest s held.
     let p = c.reads.invariant.served honest s held in
     let policy = c.args.service.now.policy.now in
     let first = mark s (g.T.ZoneTable.failures c.args.table.now) c.args.servfails.now in
+    let asked = g.D.Deadline.asked c.args.deadline.now in
     let now = mark p.0 (g.T.ZoneTable.failures c.reads.table) c.reads.servfails in
     let before = moment (g.W.Sink.contents c.args.writer.now) (g.S.Stream.events c.args.reader.now c.args.writer.now) in
     let mid = moment (g.W.Sink.contents c.reads.writer) (g.S.Stream.events c.reads.reader c.reads.writer) in
     let read = moment (g.W.Sink.contents c.fill.new.writer) (g.S.Stream.events c.fill.new.reader c.fill.new.writer) in
     let f = c.in-Ok.ensures.got in
-    let q = went_read policy first now c.reads.counter c.in-Ok.got c.reads.buffer c.fill.new.self f.0 _ _ _ before mid read c.reads.invariant.waits f.1 f.2 f.3 f.5 c.in-Ok.ensures.same p.2 in
+    let q = went_read policy first asked now c.reads.counter c.in-Ok.got _ c.reads.buffer c.fill.new.self f.0 _ _ _ before mid read c.reads.invariant.waits f.1 f.2 f.3 f.5 c.in-Ok.ensures.same p.2 in
     let none = c.if-got-eq0.true in
     let old = none_came c.fill.new.self c.reads.buffer f.0 c.in-Ok.got f.1 f.2 none in
     let waits = subst (λ (l : List ℕ). Waits l) (sym (c.as_slice.ensures.value ∙ old)) c.reads.invariant.waits in
-    let here = subst (λ (l : List ℕ). IsAnsweredRead policy first (c.reads.counter + c.in-Ok.got) (g.R.Source.remaining c.args.reader.now) (g.R.Source.remaining c.fill.new.reader) l before read now) (sym c.as_slice.ensures.value) q in
+    let here = subst (λ (l : List ℕ). IsAnsweredRead policy first asked (c.reads.counter + c.in-Ok.got) (g.R.Source.remaining c.args.reader.now) (g.R.Source.remaining c.fill.new.reader) l before read (g.D.Deadline.asked c.reads.deadline) now) (sym c.as_slice.ensures.value) q in
     let after = moment (g.W.Sink.contents c.finish.new.writer) (g.S.Stream.events c.finish.new.reader c.finish.new.writer) in
-    let r = ended_part policy first now _ c.as_slice.result.now _ _ before read after (f.4 none) waits here c.in-Err-finish.ensures.finishes in
-    (r.0, p.0, p.1, r.1, r.2.0, r.2.1)
+    let r = ended_part policy first asked now _ _ c.as_slice.result.now _ _ before read after (f.4 none) waits here c.in-Err-finish.ensures.finishes in
+    (r.0, p.0, p.1, r.1, r.2.0, r.2.1, r.2.2)
 
 pub returns-in-Err-finish-clause-honest : goal.returns-in-Err-finish-clause-honest
 returns-in-Err-finish-clause-honest g c = c.reads.invariant.honest
@@ -101,17 +105,18 @@ returns-in-Err-answer_all-clause-run g c = λ honest s held.
     let p = c.reads.invariant.served (c.in-Err-answer_all.ensures.honest honest) s held in
     let policy = c.args.service.now.policy.now in
     let first = mark s (g.T.ZoneTable.failures c.args.table.now) c.args.servfails.now in
+    let asked = g.D.Deadline.asked c.args.deadline.now in
     let now = mark p.0 (g.T.ZoneTable.failures c.reads.table) c.reads.servfails in
     let before = moment (g.W.Sink.contents c.args.writer.now) (g.S.Stream.events c.args.reader.now c.args.writer.now) in
     let mid = moment (g.W.Sink.contents c.reads.writer) (g.S.Stream.events c.reads.reader c.reads.writer) in
     let read = moment (g.W.Sink.contents c.fill.new.writer) (g.S.Stream.events c.fill.new.reader c.fill.new.writer) in
     let f = c.in-Ok.ensures.got in
-    let q = went_read policy first now c.reads.counter c.in-Ok.got c.reads.buffer c.fill.new.self f.0 _ _ _ before mid read c.reads.invariant.waits f.1 f.2 f.3 f.5 c.in-Ok.ensures.same p.2 in
+    let q = went_read policy first asked now c.reads.counter c.in-Ok.got _ c.reads.buffer c.fill.new.self f.0 _ _ _ before mid read c.reads.invariant.waits f.1 f.2 f.3 f.5 c.in-Ok.ensures.same p.2 in
     let a = c.in-Err-answer_all.ensures.served honest p.0 p.1 in
     let last = mark a.0 (g.T.ZoneTable.failures c.answer_all.new.table) c.answer_all.new.servfails in
     let after = moment (g.W.Sink.contents c.answer_all.new.writer) (g.S.Stream.events c.answer_all.new.reader c.answer_all.new.writer) in
-    let r = went_broken policy first now last _ c.fill.new.self _ _ before read after q a.2 in
-    (r.0, a.0, a.1, r.1, r.2.0, r.2.1)
+    let r = went_broken policy first asked now last _ _ _ c.fill.new.self _ _ before read after q a.2 in
+    (r.0, a.0, a.1, r.1, r.2.0, r.2.1, r.2.2)
 
 pub returns-in-Err-answer_all-clause-honest : goal.returns-in-Err-answer_all-clause-honest
 returns-in-Err-answer_all-clause-honest g c = λ honest. c.reads.invariant.honest (c.in-Err-answer_all.ensures.honest honest)
@@ -120,58 +125,89 @@ pub returns-in-Err-answer_all-clause-devices : goal.returns-in-Err-answer_all-cl
 returns-in-Err-answer_all-clause-devices g c =
     (c.in-Err-answer_all.ensures.still ∙ c.in-Ok.ensures.fine ∙ c.reads.invariant.reads, omega (arith, c.in-Err-answer_all.ensures.rose, c.in-Ok.ensures.still, c.reads.invariant.writes))
 
-pub returns-in-Ok-true-clause-run : goal.returns-in-Ok-true-clause-run
-returns-in-Ok-true-clause-run g c = λ honest s held.
-    let p = c.reads.invariant.served (c.in-Ok-true.ensures.honest honest) s held in
+pub returns-in-Ok-Closed-clause-run : goal.returns-in-Ok-Closed-clause-run
+returns-in-Ok-Closed-clause-run g c = λ honest s held.
+    let p = c.reads.invariant.served (c.in-Ok-Closed.ensures.honest honest) s held in
     let policy = c.args.service.now.policy.now in
     let first = mark s (g.T.ZoneTable.failures c.args.table.now) c.args.servfails.now in
+    let asked = g.D.Deadline.asked c.args.deadline.now in
     let now = mark p.0 (g.T.ZoneTable.failures c.reads.table) c.reads.servfails in
     let before = moment (g.W.Sink.contents c.args.writer.now) (g.S.Stream.events c.args.reader.now c.args.writer.now) in
     let mid = moment (g.W.Sink.contents c.reads.writer) (g.S.Stream.events c.reads.reader c.reads.writer) in
     let read = moment (g.W.Sink.contents c.fill.new.writer) (g.S.Stream.events c.fill.new.reader c.fill.new.writer) in
     let f = c.in-Ok.ensures.got in
-    let q = went_read policy first now c.reads.counter c.in-Ok.got c.reads.buffer c.fill.new.self f.0 _ _ _ before mid read c.reads.invariant.waits f.1 f.2 f.3 f.5 c.in-Ok.ensures.same p.2 in
-    let a = c.in-Ok-true.ensures.served honest p.0 p.1 in
+    let q = went_read policy first asked now c.reads.counter c.in-Ok.got _ c.reads.buffer c.fill.new.self f.0 _ _ _ before mid read c.reads.invariant.waits f.1 f.2 f.3 f.5 c.in-Ok.ensures.same p.2 in
+    let a = c.in-Ok-Closed.ensures.served honest p.0 p.1 in
     let last = mark a.0 (g.T.ZoneTable.failures c.answer_all.new.table) c.answer_all.new.servfails in
     let after = moment (g.W.Sink.contents c.answer_all.new.writer) (g.S.Stream.events c.answer_all.new.reader c.answer_all.new.writer) in
-    let r = went_closed policy first now last _ c.fill.new.self _ _ before read after q (rw c.in-Ok-true.field-0-test at a.2) in
-    (r.0, a.0, a.1, r.1, r.2.0, r.2.1)
+    let r = went_closed policy first asked now last _ _ _ c.fill.new.self _ _ before read after q (rw c.in-Ok-Closed.field-0-is at a.2) in
+    (r.0, a.0, a.1, r.1, r.2.0, r.2.1, r.2.2)
 
-pub returns-in-Ok-true-clause-honest : goal.returns-in-Ok-true-clause-honest
-returns-in-Ok-true-clause-honest g c = λ honest. c.reads.invariant.honest (c.in-Ok-true.ensures.honest honest)
+pub returns-in-Ok-Closed-clause-honest : goal.returns-in-Ok-Closed-clause-honest
+returns-in-Ok-Closed-clause-honest g c = λ honest. c.reads.invariant.honest (c.in-Ok-Closed.ensures.honest honest)
 
-pub returns-in-Ok-true-clause-devices : goal.returns-in-Ok-true-clause-devices
-returns-in-Ok-true-clause-devices g c =
-    (c.in-Ok-true.ensures.still ∙ c.in-Ok.ensures.fine ∙ c.reads.invariant.reads, c.in-Ok-true.ensures.same ∙ c.in-Ok.ensures.still ∙ c.reads.invariant.writes)
+pub returns-in-Ok-Closed-clause-devices : goal.returns-in-Ok-Closed-clause-devices
+returns-in-Ok-Closed-clause-devices g c =
+    (c.in-Ok-Closed.ensures.still ∙ c.in-Ok.ensures.fine ∙ c.reads.invariant.reads, c.in-Ok-Closed.ensures.same ∙ c.in-Ok.ensures.still ∙ c.reads.invariant.writes)
+
+pub returns-in-Ok-Overdue-clause-run : goal.returns-in-Ok-Overdue-clause-run
+returns-in-Ok-Overdue-clause-run g c = λ honest s held.
+    let p = c.reads.invariant.served (c.in-Ok-Overdue.ensures.honest honest) s held in
+    let policy = c.args.service.now.policy.now in
+    let first = mark s (g.T.ZoneTable.failures c.args.table.now) c.args.servfails.now in
+    let asked = g.D.Deadline.asked c.args.deadline.now in
+    let now = mark p.0 (g.T.ZoneTable.failures c.reads.table) c.reads.servfails in
+    let before = moment (g.W.Sink.contents c.args.writer.now) (g.S.Stream.events c.args.reader.now c.args.writer.now) in
+    let mid = moment (g.W.Sink.contents c.reads.writer) (g.S.Stream.events c.reads.reader c.reads.writer) in
+    let read = moment (g.W.Sink.contents c.fill.new.writer) (g.S.Stream.events c.fill.new.reader c.fill.new.writer) in
+    let f = c.in-Ok.ensures.got in
+    let q = went_read policy first asked now c.reads.counter c.in-Ok.got _ c.reads.buffer c.fill.new.self f.0 _ _ _ before mid read c.reads.invariant.waits f.1 f.2 f.3 f.5 c.in-Ok.ensures.same p.2 in
+    let a = c.in-Ok-Overdue.ensures.served honest p.0 p.1 in
+    let served = rw c.in-Ok-Overdue.field-0-is at a.2 in
+    let last = mark a.0 (g.T.ZoneTable.failures c.answer_all.new.table) c.answer_all.new.servfails in
+    let after = moment (g.W.Sink.contents c.answer_all.new.writer) (g.S.Stream.events c.answer_all.new.reader c.answer_all.new.writer) in
+    let here = went_on policy first asked now last (c.reads.counter + c.in-Ok.got) 0 _ _ c.fill.new.self c.answer_all.new.buffer _ _ _ before read after (omega arith) c.in-Ok-Overdue.ensures.unread q served.0 in
+    let some : asked < g.D.Deadline.asked c.answer_all.new.deadline = let each = q.8 in let more = served.1 in omega (arith, each, more) in
+    let r = halted policy first asked last _ _ _ _ _ before after some here in
+    (r.0, a.0, a.1, r.1, r.2.0, r.2.1, r.2.2)
+
+pub returns-in-Ok-Overdue-clause-honest : goal.returns-in-Ok-Overdue-clause-honest
+returns-in-Ok-Overdue-clause-honest g c = λ honest. c.reads.invariant.honest (c.in-Ok-Overdue.ensures.honest honest)
+
+pub returns-in-Ok-Overdue-clause-devices : goal.returns-in-Ok-Overdue-clause-devices
+returns-in-Ok-Overdue-clause-devices g c =
+    (c.in-Ok-Overdue.ensures.still ∙ c.in-Ok.ensures.fine ∙ c.reads.invariant.reads, c.in-Ok-Overdue.ensures.same ∙ c.in-Ok.ensures.still ∙ c.reads.invariant.writes)
 
 pub reads-preserved : goal.reads-preserved
 reads-preserved g c =
-    let idle = rw c.in-Ok-false.field-0-test at c.in-Ok-false.ensures.idle in
+    let idle = rw c.in-Ok-Open.field-0-is at c.in-Ok-Open.ensures.idle in
     record {
       spans = search rules;
       waits = idle.0;
       room = idle.1;
-      honest = λ honest. c.reads.invariant.honest (c.in-Ok-false.ensures.honest honest);
+      honest = λ honest. c.reads.invariant.honest (c.in-Ok-Open.ensures.honest honest);
       served = λ honest s held.
-          let p = c.reads.invariant.served (c.in-Ok-false.ensures.honest honest) s held in
+          let p = c.reads.invariant.served (c.in-Ok-Open.ensures.honest honest) s held in
           let policy = c.args.service.now.policy.now in
           let first = mark s (g.T.ZoneTable.failures c.args.table.now) c.args.servfails.now in
+          let asked = g.D.Deadline.asked c.args.deadline.now in
+    let asked = g.D.Deadline.asked c.args.deadline.now in
           let now = mark p.0 (g.T.ZoneTable.failures c.reads.table) c.reads.servfails in
           let before = moment (g.W.Sink.contents c.args.writer.now) (g.S.Stream.events c.args.reader.now c.args.writer.now) in
           let mid = moment (g.W.Sink.contents c.reads.writer) (g.S.Stream.events c.reads.reader c.reads.writer) in
           let read = moment (g.W.Sink.contents c.fill.new.writer) (g.S.Stream.events c.fill.new.reader c.fill.new.writer) in
           let f = c.in-Ok.ensures.got in
-          let q = went_read policy first now c.reads.counter c.in-Ok.got c.reads.buffer c.fill.new.self f.0 _ _ _ before mid read c.reads.invariant.waits f.1 f.2 f.3 f.5 c.in-Ok.ensures.same p.2 in
-          let a = c.in-Ok-false.ensures.served honest p.0 p.1 in
+          let q = went_read policy first asked now c.reads.counter c.in-Ok.got _ c.reads.buffer c.fill.new.self f.0 _ _ _ before mid read c.reads.invariant.waits f.1 f.2 f.3 f.5 c.in-Ok.ensures.same p.2 in
+          let a = c.in-Ok-Open.ensures.served honest p.0 p.1 in
           let last = mark a.0 (g.T.ZoneTable.failures c.answer_all.new.table) c.answer_all.new.servfails in
           let after = moment (g.W.Sink.contents c.answer_all.new.writer) (g.S.Stream.events c.answer_all.new.reader c.answer_all.new.writer) in (
             a.0,
             a.1,
-            went_on policy first now last _ _ c.fill.new.self c.answer_all.new.buffer _ _ _ before read after (let some = c.if-got-eq0.false in omega arith) c.in-Ok-false.ensures.unread q
-                (rw c.in-Ok-false.field-0-test at a.2),
+            went_on policy first asked now last _ _ _ _ c.fill.new.self c.answer_all.new.buffer _ _ _ before read after (let some = c.if-got-eq0.false in omega arith) c.in-Ok-Open.ensures.unread q
+                (rw c.in-Ok-Open.field-0-is at a.2),
           );
-      reads = c.in-Ok-false.ensures.still ∙ c.in-Ok.ensures.fine ∙ c.reads.invariant.reads;
-      writes = c.in-Ok-false.ensures.same ∙ c.in-Ok.ensures.still ∙ c.reads.invariant.writes;
+      reads = c.in-Ok-Open.ensures.still ∙ c.in-Ok.ensures.fine ∙ c.reads.invariant.reads;
+      writes = c.in-Ok-Open.ensures.same ∙ c.in-Ok.ensures.still ∙ c.reads.invariant.writes;
     }
 
 pub returns-clause-run : goal.returns-clause-run
@@ -179,11 +215,12 @@ returns-clause-run g c = λ honest s held.
     let p = c.reads.invariant.served honest s held in
     let policy = c.args.service.now.policy.now in
     let first = mark s (g.T.ZoneTable.failures c.args.table.now) c.args.servfails.now in
+    let asked = g.D.Deadline.asked c.args.deadline.now in
     let now = mark p.0 (g.T.ZoneTable.failures c.reads.table) c.reads.servfails in
     let before = moment (g.W.Sink.contents c.args.writer.now) (g.S.Stream.events c.args.reader.now c.args.writer.now) in
     let mid = moment (g.W.Sink.contents c.reads.writer) (g.S.Stream.events c.reads.reader c.reads.writer) in
-    let r = stayed policy first now c.reads.counter _ c.reads.buffer _ _ before mid c.reads.invariant.waits (let past = c.reads-test.false in omega arith) p.2 in
-    (r.0, p.0, p.1, r.1, r.2.0, r.2.1)
+    let r = stayed policy first asked now c.reads.counter _ _ c.reads.buffer _ _ before mid c.reads.invariant.waits (let past = c.reads-test.false in omega arith) p.2 in
+    (r.0, p.0, p.1, r.1, r.2.0, r.2.1, r.2.2)
 
 pub returns-clause-honest : goal.returns-clause-honest
 returns-clause-honest g c = c.reads.invariant.honest

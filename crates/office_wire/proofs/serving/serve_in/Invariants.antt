@@ -14,9 +14,10 @@ invariant-reads g l = record {
   room : length l.buffer < 81920;
   honest : g.T.ZoneTable.is_honest l.table → g.T.ZoneTable.is_honest l.fn.table;
   served : g.T.ZoneTable.is_honest l.table → (s : State) → g.T.ZoneTable.holds l.fn.table s × AreBookmarks l.service.policy.now s l.fn.bookmarks → (t : State) × (g.T.ZoneTable.holds l.table t × AreBookmarks l.service.policy.now t l.bookmarks)
-      × IsAnsweredRead l.service.policy.now (mark s (g.T.ZoneTable.failures l.fn.table) l.fn.servfails) l.counter (g.R.Source.remaining l.fn.reader) (g.R.Source.remaining l.reader) l.buffer
+      × IsAnsweredRead l.service.policy.now (mark s (g.T.ZoneTable.failures l.fn.table) l.fn.servfails) (g.D.Deadline.asked l.fn.deadline) l.counter (g.R.Source.remaining l.fn.reader) (g.R.Source.remaining l.reader) l.buffer
       (moment (g.W.Sink.contents l.fn.writer) (g.S.Stream.events l.fn.reader l.fn.writer)) (moment (g.W.Sink.contents l.writer) (g.S.Stream.events l.reader l.writer))
-      (mark t (g.T.ZoneTable.failures l.table) l.servfails);
+      (g.D.Deadline.asked l.deadline) (mark t (g.T.ZoneTable.failures l.table) l.servfails);
   reads : g.R.FaultCount.failures l.reader ≡ g.R.FaultCount.failures l.fn.reader;
   writes : g.W.FaultCount.failures l.writer ≡ g.W.FaultCount.failures l.fn.writer;
+  passed : g.D.Deadline.passed l.deadline ≡ g.D.Deadline.passed l.fn.deadline;
 }

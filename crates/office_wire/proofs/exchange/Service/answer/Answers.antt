@@ -15,26 +15,26 @@ pub returns-in-Refused-clause-answered : goal.returns-in-Refused-clause-answered
 returns-in-Refused-clause-answered g c = λ honest s held. let f = c.in-Refused.ensures in
     (s, held, ([], (refl, refl), bad_length f.0 f.1 c.in-Refused.refusal f.2 f.4 f.5 refl (c.put_short-in-Refused.ensures ∙ ap (λ (m : Method). text_of m (Refused c.in-Refused.refusal) true) f.3)))
 
-pub returns-then-heading-clause-answered : goal.returns-then-heading-clause-answered
-returns-then-heading-clause-answered g c = λ honest s held.
+pub returns-then-last-clause-answered : goal.returns-then-last-clause-answered
+returns-then-last-clause-answered g c = λ honest s held.
     let f = c.in-Ready.ensures in
-    let a = c.reply.ensures.answered honest s held f.0 f.1.asked in
+    let a = c.reply-last.ensures.answered honest s held f.0 f.1.asked in
     let before = standing s (g.T.ZoneTable.failures c.args.table.now) in
-    let now = standing a.0 (g.T.ZoneTable.failures c.reply.new.table) in
-    let t = ready c.args.self.now.policy.now before now c.args.pending.now c.reply.new.out f.0 c.in-Ready.heading c.in-Ready.n a.2.response f.1 f.2 f.3 f.4 f.5 a.2.answers a.2.text_is in
-    (a.0, a.1, (t.turn ∷ [], (t.run, a.2.note ∙ one_noted c.args.servfails.now t.turn a.2.response t.said), whole t.turn _ t.is (t.closing ∙ c.if-heading.true) t.octets refl t.text))
+    let now = standing a.0 (g.T.ZoneTable.failures c.reply-last.new.table) in
+    let t = ready c.args.self.now.policy.now before now c.args.pending.now c.reply-last.new.out f.0 c.in-Ready.heading c.in-Ready.n a.2.response c.reply-last.result f.1 f.2 f.3 f.4 f.5 a.2.answers a.2.last_is a.2.text_is in
+    (a.0, a.1, (t.turn ∷ [], (t.run, a.2.note ∙ one_noted c.args.servfails.now t.turn a.2.response t.said), whole t.turn _ t.is (t.closing ∙ c.if-last.true) t.octets refl t.text))
 
-pub returns-else-heading-clause-answered : goal.returns-else-heading-clause-answered
-returns-else-heading-clause-answered g c = λ honest s held.
+pub returns-else-last-clause-answered : goal.returns-else-last-clause-answered
+returns-else-last-clause-answered g c = λ honest s held.
     let f = c.in-Ready.ensures in
-    let a = c.reply.ensures.answered honest s held f.0 f.1.asked in
+    let a = c.reply-last.ensures.answered honest s held f.0 f.1.asked in
     let before = standing s (g.T.ZoneTable.failures c.args.table.now) in
-    let now = standing a.0 (g.T.ZoneTable.failures c.reply.new.table) in
-    let t = ready c.args.self.now.policy.now before now c.args.pending.now c.reply.new.out f.0 c.in-Ready.heading c.in-Ready.n a.2.response f.1 f.2 f.3 f.4 f.5 a.2.answers a.2.text_is in
-    (a.0, a.1, (t.turn, (t.run, a.2.note ∙ one_noted c.args.servfails.now t.turn a.2.response t.said), record { turn = t.is; stays = t.closing ∙ c.if-heading.false }, t.octets, t.text))
+    let now = standing a.0 (g.T.ZoneTable.failures c.reply-last.new.table) in
+    let t = ready c.args.self.now.policy.now before now c.args.pending.now c.reply-last.new.out f.0 c.in-Ready.heading c.in-Ready.n a.2.response c.reply-last.result f.1 f.2 f.3 f.4 f.5 a.2.answers a.2.last_is a.2.text_is in
+    (a.0, a.1, (t.turn, (t.run, a.2.note ∙ one_noted c.args.servfails.now t.turn a.2.response t.said), record { turn = t.is; stays = t.closing ∙ c.if-last.false }, t.octets, t.text))
 
-pub returns-else-heading-clause-stands : goal.returns-else-heading-clause-stands
-returns-else-heading-clause-stands g c =
+pub returns-else-last-clause-stands : goal.returns-else-last-clause-stands
+returns-else-last-clause-stands g c =
     let f = c.in-Ready.ensures in
     let len = f.1.len in
     let some = head_some f.0 in

@@ -9,7 +9,7 @@ pub returns-then-is_awaiting-clause-served : goal.returns-then-is_awaiting-claus
 returns-then-is_awaiting-clause-served g c = λ honest s held.
     let now = mark s (g.T.ZoneTable.failures c.args.table.now) c.args.servfails.now in
     let here = moment (g.W.Sink.contents c.args.writer.now) (g.S.Stream.events c.args.reader.now c.args.writer.now) in
-    (s, held, none_served c.args.self.now.policy.now now c.args.buffer.now here)
+    (s, held, none_served c.args.self.now.policy.now now c.args.buffer.now here (g.D.Deadline.asked c.args.deadline.now))
 
 pub turns-init : goal.turns-init
 turns-init g c = record {
@@ -18,17 +18,18 @@ turns-init g c = record {
   served = λ honest s held.
       let now = mark s (g.T.ZoneTable.failures c.args.table.now) c.args.servfails.now in
       let here = moment (g.W.Sink.contents c.args.writer.now) (g.S.Stream.events c.args.reader.now c.args.writer.now) in
-      (s, held, none_served c.args.self.now.policy.now now c.args.buffer.now here);
+      (s, held, none_served c.args.self.now.policy.now now c.args.buffer.now here (g.D.Deadline.asked c.args.deadline.now));
   unread = refl;
   still = refl;
   same = refl;
+  passed = refl;
 }
 
 pub returns-in_err-write_all-in-Next-clause-served : goal.returns-in_err-write_all-in-Next-clause-served
 returns-in_err-write_all-in-Next-clause-served g c = λ honest s held.
     let p = c.turns.invariant.served (c.in-Next.ensures.honest honest) s held in
     let a = c.in-Next.ensures.answered honest p.0 p.1 in
-    (a.0, a.1, rw (err_from_is_err_and c.from_residual.result c.from_residual.ensures.1).1 (next_broken _ _ _ _ c.in-Next.n _ _ _ _ _ _ _ _ c.as_slice.ensures.value c.as_slice-in-Next.ensures p.2 a.2 c.in_err-write_all-in-Next.ensures.written))
+    (a.0, a.1, rw (err_from_is_err_and c.from_residual.result c.from_residual.ensures.1).1 (next_broken _ _ _ _ _ _ _ _ _ _ _ p.2 c.in-Next.n _ _ _ c.as_slice.ensures.value c.as_slice-in-Next.ensures a.2 c.in_err-write_all-in-Next.ensures.written))
 
 pub consume-requires : goal.consume-requires
 consume-requires g c = subst (λ (l : List ℕ). c.in-Next.n ≤ length l) c.as_slice.ensures.value c.in-Next.ensures.stands.1
@@ -44,13 +45,20 @@ pub returns-in_err-write_all-in-Last-clause-served : goal.returns-in_err-write_a
 returns-in_err-write_all-in-Last-clause-served g c = λ honest s held.
     let p = c.turns.invariant.served (c.in-Last.ensures.honest honest) s held in
     let a = c.in-Last.ensures.answered honest p.0 p.1 in
-    (a.0, a.1, rw (err_from_is_err_and c.from_residual-in_err-write_all-in-Last.result c.from_residual-in_err-write_all-in-Last.ensures.1).1 (last_broken _ _ _ _ _ _ _ _ _ a.2.0 _ _ _ c.as_slice.ensures.value c.as_slice-in-Last.ensures p.2 a.2.1 a.2.2 c.in_err-write_all-in-Last.ensures.written))
+    (a.0, a.1, rw (err_from_is_err_and c.from_residual-in_err-write_all-in-Last.result c.from_residual-in_err-write_all-in-Last.ensures.1).1 (last_broken _ _ _ _ _ _ _ _ _ _ _ p.2 _ _ _ a.2.0 c.as_slice.ensures.value c.as_slice-in-Last.ensures a.2.1 a.2.2 c.in_err-write_all-in-Last.ensures.written))
 
 pub returns-in-Last-clause-served : goal.returns-in-Last-clause-served
 returns-in-Last-clause-served g c = λ honest s held.
     let p = c.turns.invariant.served (c.in-Last.ensures.honest honest) s held in
     let a = c.in-Last.ensures.answered honest p.0 p.1 in
-    (a.0, a.1, last_closed _ _ _ _ _ _ _ _ _ a.2.0 _ _ _ c.as_slice.ensures.value c.as_slice-in-Last.ensures p.2 a.2.1 a.2.2 c.in_ok-write_all-in-Last.ensures.written)
+    (a.0, a.1, last_closed _ _ _ _ _ _ _ _ _ _ _ p.2 _ _ _ a.2.0 c.as_slice.ensures.value c.as_slice-in-Last.ensures a.2.1 a.2.2 c.in_ok-write_all-in-Last.ensures.written)
+
+pub returns-then-has_passed-clause-served : goal.returns-then-has_passed-clause-served
+returns-then-has_passed-clause-served g c = λ honest s held.
+    let p = c.turns.invariant.served (c.in-Next.ensures.honest honest) s held in
+    let a = c.in-Next.ensures.answered honest p.0 p.1 in
+    let q = next_served _ _ _ _ _ _ _ _ _ _ _ p.2 c.in-Next.n _ _ _ _ _ c.as_slice.ensures.value c.consume.ensures c.as_slice-in-Next.ensures a.2 c.in_ok-write_all-in-Next.ensures.written c.has_passed.ensures.asked in
+    (a.0, a.1, (q, let once = c.has_passed.ensures.asked in let each = p.2.4 in omega (arith, once, each)))
 
 pub turns-preserved : goal.turns-preserved
 turns-preserved g c = record {
@@ -59,8 +67,9 @@ turns-preserved g c = record {
   served = λ honest s held.
       let p = c.turns.invariant.served (c.in-Next.ensures.honest honest) s held in
       let a = c.in-Next.ensures.answered honest p.0 p.1 in
-      (a.0, a.1, next_served _ _ _ _ c.in-Next.n _ _ _ _ _ _ _ _ _ c.as_slice.ensures.value c.consume.ensures c.as_slice-in-Next.ensures p.2 a.2 c.in_ok-write_all-in-Next.ensures.written);
+      (a.0, a.1, next_served _ _ _ _ _ _ _ _ _ _ _ p.2 c.in-Next.n _ _ _ _ _ c.as_slice.ensures.value c.consume.ensures c.as_slice-in-Next.ensures a.2 c.in_ok-write_all-in-Next.ensures.written c.has_passed.ensures.asked);
   unread = c.in_ok-write_all-in-Next.ensures.same ∙ c.turns.invariant.unread;
   still = c.in_ok-write_all-in-Next.ensures.still ∙ c.turns.invariant.still;
   same = c.in_ok-write_all-in-Next.ensures.fine ∙ c.turns.invariant.same;
+  passed = rw c.if-has_passed.false at c.has_passed.ensures.passed ∙ c.turns.invariant.passed;
 }

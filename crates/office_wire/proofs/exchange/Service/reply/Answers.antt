@@ -10,8 +10,8 @@ returns-then-put-clause-answered g c = λ honest s held h asked.
     let now = mark a.0 (g.T.ZoneTable.failures c.respond-response.new.table) c.note.new.self in (
       a.0,
       a.1,
-      put_whole c.args.self.now.policy.now before now (call_of h c.args.body.now) c.respond-response.result c.args.heading.now.method c.args.heading.now.closes c.put.result c.put.new.self a.2
-          c.put.ensures c.if-put.true c.note.ensures,
+      put_whole c.args.self.now.policy.now before now (call_of h c.args.body.now) c.respond-response.result c.args.heading.now.method c.args.heading.now.closes _ c.put.result c.put.new.self a.2
+          c.is_last-last.ensures c.put.ensures c.if-put.true c.note.ensures,
     )
 
 pub returns-clause-answered : goal.returns-clause-answered
@@ -21,6 +21,6 @@ returns-clause-answered g c = λ honest s held h asked.
     let now = mark a.0 (g.T.ZoneTable.failures c.respond-response.new.table) c.add.new.self in (
       a.0,
       a.1,
-      put_servfail c.args.self.now.policy.now before now (call_of h c.args.body.now) c.respond-response.result c.args.heading.now.method c.args.heading.now.closes c.put.result c.put.new.self a.2
-          c.put.ensures c.if-put.false c.add.ensures,
+      put_servfail c.args.self.now.policy.now before now (call_of h c.args.body.now) c.respond-response.result c.args.heading.now.method c.args.heading.now.closes _ c.put.result c.put.new.self a.2
+          c.is_last-last.ensures c.put.ensures c.if-put.false c.add.ensures,
     )

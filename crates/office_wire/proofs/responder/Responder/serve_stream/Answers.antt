@@ -18,5 +18,6 @@ returns-clause-run g c = λ honest s held.
       r.4,
       exchanges_run c.args.self.now.policy.now before now r.0 (g.met.T.ZoneTable.zones c.args.table.now s held.0) (g.met.T.ZoneTable.receipts c.args.table.now s held.0) r.3.0,
       noted_first c.serve_into-ended.new.servfails (servfails r.0) (r.3.1 ∙ ap (λ (n : Servfails). noted n (servfails r.0)) c.none-servfails.ensures),
+      r.6,
       r.5,
     )
