@@ -56,15 +56,27 @@ def receipts(history):
         yield "admin", "h%06d" % number, ORIGIN, "add h%06d.old.%s 300 A 192.0.2.5\n" % (number, ORIGIN), "NOERROR"
 
 
-def put_history(store, history):
-    """Writes so many changes of one addition each into a store, with their receipts."""
+def refused(count, items, name):
+    """The receipts of so many updates that were refused, each of so many items at a name, under identifiers in no order."""
+    for number in range(count):
+        request = "add h%07d.%s.%s 300 A 192.0.2.5\n" % (number, name, ORIGIN) * items
+        yield "monitor", "%016x" % (number * 0x9E3779B97F4A7C15 % 2**64), ORIGIN, request, "REFUSED operations 0 closing"
+
+
+def put_rows(store, tables):
+    """Writes rows of some tables into a store."""
     db = sqlite3.connect(store, isolation_level=None)
     db.execute("BEGIN")
-    db.executemany("INSERT INTO changes(origin, number, side, owner, type, data, ttl) VALUES(?, ?, ?, ?, ?, ?, ?)", changes(history))
-    db.executemany("INSERT INTO receipts(caller, id, origin, request, reply) VALUES(?, ?, ?, ?, ?)", receipts(history))
+    for table, width, rows in tables:
+        db.executemany("INSERT INTO %s VALUES(%s)" % (table, ", ".join("?" * width)), rows)
     db.execute("COMMIT")
     db.execute("PRAGMA wal_checkpoint(TRUNCATE)")
     db.close()
+
+
+def put_history(store, history):
+    """Writes so many changes of one addition each into a store, with their receipts."""
+    put_rows(store, [("changes", 7, changes(history)), ("receipts", 5, receipts(history))])
 
 
 def posted(path, body, caller="admin"):

@@ -1,20 +1,23 @@
 -- Rows of receipts, and all rows: they pass the check exactly where they are a state's.
-use Rattle.std.proofs.Common.{◌≡◌, ℕ, ℤ, true, List, [], ◌∷◌, map, Err, IsPermutation, IsSorted, refl, sym, ap, subst, ◌∙◌}
+use Rattle.std.proofs.Common.{◌≡◌, ℕ, ℤ, true, false, List, [], ◌∷◌, map, Err, IsPermutation, IsSorted, refl, sym, ap, subst, ◌∙◌}
+use Rattle.std.proofs.lemmas.Bool.{and_from}
 use Rattle.std.proofs.lemmas.Cmp.{tied_itself}
 use Rattle.std.proofs.lemmas.List.Sorted.{IsPermutation-sym, IsPermutation-trans, IsPermutation-map}
+use Rattle.std.proofs.lemmas.Map.Keys.{IsDistinct-head, IsDistinct-tail}
+use Rattle.std.proofs.lemmas.Slice.Eq.{bytes_eq-Decides}
 use Rattle.std.specs.Prelude.{option_map}
 use Rattle.std.specs.declared.cmp.Ordering.{Ordering}
 use Rattle.std.specs.declared.cmp.Ordering.TheVariants.{Less, Equal, Greater}
 use Rattle.std.specs.Cmp.Lexicographic.{slice_cmp, nat_list_cmp_total}
-use Rattle.std.specs.List.{AllByRecursion}
+use Rattle.std.specs.List.{AllByRecursion, IsDistinct}
 use Rattle.std.specs.Ordering.{nat_cmp, ordering_then}
-use Rattle.sqlite_trees.proofs.ListLemmas.{IsPermutation-same}
+use Rattle.sqlite_trees.proofs.ListLemmas.{all_from_map, IsPermutation-same}
 use Rattle.sqlite_keyed.proofs.ListLemmas.{all_weaker, all_map, ascending-map, ascending_from_map, ascending_weaker, map-map}
 use Rattle.sqlite_trees.specs.Tree.{IsAscending}
 use Rattle.dns_names.proofs.KeyLaws.{octets_exact}
 use Rattle.office_state.specs.States.{State}
 use Rattle.office_state.specs.declared.receipt.Receipt.{Receipt}
-use Rattle.office_sql.specs.Rows.{ReceiptRowOf, RowsOf}
+use Rattle.office_sql.specs.Rows.{ReceiptRowOf, RowsOf, same_receipt_key}
 use Rattle.office_rows.specs.ReceiptRows.{IsRowOfReceipt}
 use Rattle.office_rows.specs.declared.row_fault.RowFault.{RowFault}
 use Rattle.office_rows.specs.declared.row_fault.RowFault.TheVariants.{BadRow, NoMemory}
@@ -98,6 +101,31 @@ module _ (rows : List ReceiptRowOf) where
           each = all.2;
           same = IsPermutation-same (map row_of_receipt all.0) rows (sym all.1);
         }
+
+-- receipts whose rows do not have one key differ
+differ_by_key : (a b : ReceiptAt) → same_receipt_key (row_of_receipt a) (row_of_receipt b) ≡ false → Differ a b
+differ_by_key a b other same =
+    let tie : same_receipt_key (row_of_receipt a) (row_of_receipt b) ≡ true = and_from _ _ ((bytes_eq-Decides a.caller b.caller).1 same.0) ((bytes_eq-Decides a.id b.id).1 same.1) in
+    let bad : true ≡ false = sym tie ∙ other in
+    cc
+
+all_differ : (rs : List ReceiptAt) → IsDistinct same_receipt_key (map row_of_receipt rs) → IsAscending Differ rs
+all_differ [] own = tt
+all_differ (r ∷ rs) own =
+    let rows = map row_of_receipt rs in
+    let first = all_from_map (λ row. same_receipt_key (row_of_receipt r) row ≡ false) row_of_receipt rs (IsDistinct-head same_receipt_key (row_of_receipt r) rows own) in
+    (all_weaker (λ b. same_receipt_key (row_of_receipt r) (row_of_receipt b) ≡ false) (Differ r) (differ_by_key r) rs first, all_differ rs (IsDistinct-tail same_receipt_key (row_of_receipt r) rows own))
+
+-- rows of receipts without two of one key
+pub with_own_keys : (rows : List ReceiptRowOf) → AllByRecursion IsReceiptRow rows → IsDistinct same_receipt_key rows → AreReceiptRows rows
+with_own_keys rows each own =
+    let all = chosen IsReceiptAt row_of_receipt rows each in
+    record {
+      receipts = all.0;
+      apart = pairs_from_ascending Differ all.0 (all_differ all.0 (subst (IsDistinct same_receipt_key) all.1 own));
+      each = all.2;
+      same = IsPermutation-same (map row_of_receipt all.0) rows (sym all.1);
+    }
 
 -- ---- all rows
 

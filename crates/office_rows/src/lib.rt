@@ -43,6 +43,7 @@ pub use laws::{
 pub use ordered::{KeptReceipt, kept_receipts, origins, sorted_origins};
 pub use origin_reader::OriginReader;
 pub use reads::{changes_behind, changes_of, part_of, receipt_of, records_within, zone_of};
+pub use receipt_reader::ReceiptReader;
 pub use receipts::{read_receipt, receipt_row};
 pub use record_reader::RecordReader;
 pub use records::{read_record, record_row};

@@ -1,10 +1,12 @@
 //! The rows of `receipts`, read one after the other.
 
 ghost use Rattle.std.specs.Prelude.{◌≡◌, List, ℕ, Ok, IfOk};
+ghost use Rattle.std.specs.List.{AllByRecursion};
 ghost use Rattle.office_state.specs.declared.receipt.Receipt.{Receipt as ReceiptOf};
 ghost use Rattle.office_rows.specs.Contents.{ReceiptAt, receipt_under, row_of_receipt, IsReceiptAt};
 ghost use Rattle.office_rows.specs.ReceiptRows.{HasReceipt, IsRowOfReceipt, IsReceipt};
 ghost use Rattle.office_rows.specs.RowFaults.{Reads};
+ghost use Rattle.office_rows.specs.Checks.{Checks, IsReceiptRow};
 
 use crate::columns::identifier_in;
 use crate::name_reader::NameReader;
@@ -12,19 +14,20 @@ use crate::receipts::{request_at, reveal_caller_receipt, reveal_receipt};
 use crate::replies::read_reply;
 use crate::row_fault::RowFault;
 use grant_policy::Identifier;
-use office_sql::ReceiptRow;
+use office_sql::{ReceiptRow, RowCheck, RowsFault};
 use office_state::Receipt;
 use std::alloc::Global;
 
-/// Reads rows of `receipts`, as `read_receipt` does. It keeps the last origin, so that a text that comes again is not read again.
+/// Reads rows of `receipts`, as `read_receipt` does. It keeps the last origin, so that a text that comes again is not read again. As a
+/// check it takes the rows that are read so, and keeps nothing of them.
 #[derive(Drop)]
-pub(crate) struct ReceiptReader {
+pub struct ReceiptReader {
     origins: NameReader,
 }
 
 impl ReceiptReader {
     /// A reader that has read nothing.
-    pub(crate) const fn new() -> ReceiptReader {
+    pub const fn new() -> ReceiptReader {
         ReceiptReader {
             origins: NameReader::new(),
         }
@@ -63,5 +66,23 @@ impl ReceiptReader {
         let receipt = self.receipt_in(alloc, row)?;
         reveal_caller_receipt(&caller, &id, &receipt);
         Ok((caller, id, receipt))
+    }
+
+    /// Checks the next row, which is `BadRow` where it is that of no receipt.
+    fn check_row(&mut self, alloc: Global, row: &ReceiptRow) -> Result<(), RowFault>
+        ensures { Checks (IsReceiptRow row.now) result }
+    {
+        let _read = self.read_row(alloc, row)?;
+        Ok(())
+    }
+}
+
+impl RowCheck<ReceiptRow> for ReceiptReader {
+    ghost has_taken = { λ _ rows. AllByRecursion IsReceiptRow rows };
+
+    ghost is_good = { IsReceiptRow };
+
+    fn take(&mut self, alloc: Global, row: ReceiptRow) -> Result<(), RowsFault> {
+        Ok(self.check_row(alloc, &row)?)
     }
 }

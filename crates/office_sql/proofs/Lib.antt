@@ -17,4 +17,5 @@ pub mod Selections
 pub mod LastNumbers
 pub mod ChangesBetween
 pub mod Creations
+pub mod ReceiptKeys
 pub mod WholeTables

@@ -234,7 +234,7 @@ deletes_record old new k count rows ran h =
 same_id : (i j : ℤ) → is_eq (value_cmp (Int i) (Int j)) ≡ true → i ≡ j
 same_id i j same = (Decides-int_eq i j).0 (sym (equal_ints i j) ∙ ap is_eq (sym (value_cmp-Int i j)) ∙ same)
 
-differ_ids : (i j : ℤ) → is_eq (value_cmp (Int i) (Int j)) ≡ false → differ (Int i) (Int j) ≡ true
+pub differ_ids : (i j : ℤ) → is_eq (value_cmp (Int i) (Int j)) ≡ false → differ (Int i) (Int j) ≡ true
 unfolding binary
 differ_ids i j other = told (is_ne (value_cmp (Int i) (Int j))) ∙ ne_is (value_cmp (Int i) (Int j)) ∙ ap not other
   where

@@ -3,6 +3,7 @@ pub mod Rows
 pub mod Faults
 pub mod Tables
 pub mod Stores
+pub mod Taken
 pub mod Holds
 pub mod Lookups
 pub mod Statements

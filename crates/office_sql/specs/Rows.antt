@@ -91,6 +91,10 @@ rows_code =
 abbrev pub same_key : RecordRowOf → RecordRowOf → Bool
 same_key a b = bytes_eq a.origin b.origin && (bytes_eq a.owner b.owner && (int_eq a.record_type b.record_type && bytes_eq a.rdata b.rdata))
 
+-- whether two receipts have one key: they are of one caller, under one identifier
+abbrev pub same_receipt_key : ReceiptRowOf → ReceiptRowOf → Bool
+same_receipt_key a b = bytes_eq a.caller b.caller && bytes_eq a.id b.id
+
 -- the rows without those that have the key of one of some rows
 abbrev pub without : List RecordRowOf → List RecordRowOf → List RecordRowOf
 without gone rows = filter (λ r. not (list_any (λ g. same_key g r) gone)) rows

@@ -9,6 +9,7 @@ mod layout;
 mod lookups;
 mod path;
 mod query;
+mod row_check;
 mod row_reader;
 mod rows;
 mod rows_fault;
@@ -23,8 +24,11 @@ pub use lookups::{
     records_of,
 };
 pub use path::connect_at;
+pub use row_check::RowCheck;
 pub use row_reader::{RowReader, WholeRows};
 pub use rows::{Batch, ChangeRow, ReceiptRow, RecordRow, ZoneRow};
 pub use rows_fault::RowsFault;
-pub use scans::{AllRows, all_changes, all_receipts, all_records, all_rows, all_zones, versions};
+pub use scans::{
+    AllRows, all_changes, all_receipts, all_records, all_rows, all_zones, each_receipt, versions,
+};
 pub use schema::{has_no_tables, has_tables};

@@ -1,6 +1,6 @@
 //! All rows of the tables, of a store that somebody else may have written.
 
-ghost use Rattle.std.specs.Prelude.{◌≡◌, ◌↔◌, ◌++◌, ◌∷◌, ℤ, List, [], Err, IfErr, IfOk, OnOk, IsPermutation, IsTrue, true, false, map};
+ghost use Rattle.std.specs.Prelude.{◌≡◌, ◌↔◌, ◌++◌, ◌∷◌, ℤ, List, [], Err, IfOk, OnOk, MatchResult, IsPermutation, IsTrue, true, false, map};
 ghost use Rattle.std.specs.List.{AllByRecursion, IsDistinct};
 ghost use Rattle.std.specs.Ordering.{int_eq};
 ghost use Rattle.sqlite.specs.Effect.{IsDatabase};
@@ -8,14 +8,16 @@ ghost use Rattle.sqlite.specs.Given.{HasGiven, IsPlain};
 ghost use Rattle.sqlite.specs.Held.{state};
 ghost use Rattle.sqlite.specs.Listing.{understood};
 ghost use Rattle.sqlite.specs.State.{Begins, HasCleanDisk, IsUnchanged, Shows, Shown};
-ghost use Rattle.office_sql.specs.Rows.{RowsOf};
+ghost use Rattle.office_sql.specs.Rows.{ReceiptRowOf, RowsOf, same_receipt_key};
 ghost use Rattle.office_sql.specs.Tables.{IsOffice, stored_version};
-ghost use Rattle.office_sql.specs.Stores.{AreNumbered, BeginNone, IsOneToOne, Numbers, Stores};
+ghost use Rattle.office_sql.specs.Stores.{BeginNone, IsOneToOne, Numbers, Stores};
+ghost use Rattle.office_sql.specs.Taken.{AreTaken, TakesMore};
 ghost use Rattle.office_sql.specs.Holds.{AreRows, HasChanges, HasReceipts, HasRecords, HasZones, Holds, Leaves, OnlyAsks, SameRows, WritesNothing};
 ghost use Rattle.office_sql.specs.declared.rows_fault.RowsFault.TheVariants.{BadRow};
 
 use crate::from_row::{FromRow, number_at};
 use crate::query::check_open;
+use crate::row_check::RowCheck;
 use crate::row_reader::{RowReader, WholeRows};
 use crate::rows::{ChangeRow, ReceiptRow, RecordRow, ZoneRow};
 use crate::rows_fault::RowsFault;
@@ -23,6 +25,9 @@ use crate::schema::has_tables;
 use sqlite::{Alter, Connection, Row, Rows};
 use std::alloc::Global;
 use std::marker::Model;
+
+/// The text that asks for the rows of `receipts`.
+const RECEIPT_ROWS: &str = "SELECT rowid, caller, id, origin, request, reply FROM receipts";
 
 /// All rows of the tables.
 #[derive(Drop)]
@@ -58,117 +63,124 @@ fn are_apart(mut numbers: Vec<i64>) -> bool
     true
 }
 
-/// Reads a row that shows its rowid first, and hands it to a reader. `BadRow` comes where it is no such row, or the reader says so.
-fn read_numbered<R: FromRow, T: Drop, Q: RowReader<R, T>>(
+/// Tells whether each of some numbers comes once; else `BadRow`.
+fn check_apart(numbers: Vec<i64>) -> Result<(), RowsFault>
+    ensures { MatchResult result (λ _. IsDistinct int_eq numbers.items) (λ e. (e ≡ BadRow) × ¬ IsDistinct int_eq numbers.items) }
+{
+    if are_apart(numbers) {
+        return Ok(());
+    }
+    Err(RowsFault::BadRow)
+}
+
+/// Has a check take a row that shows its rowid first, and notes the rowid. `BadRow` comes where it is no such row, or the check refuses
+/// it.
+fn take_numbered<R: FromRow, C: RowCheck<R>>(
     alloc: Global,
-    reader: &mut Q,
+    rowids: &mut Vec<i64>,
+    check: &mut C,
     row: &Row,
-) -> Result<(i64, T), RowsFault>
-    ensures found { IfOk result (λ it. Numbers R.FromRow.stored row.now it.0 (Q.row_of it.1) × Q.is_read it.1) }
-    ensures bad { result ≡ Err BadRow → IsOneToOne R.FromRow.stored → (id : ℤ) (x : T) → Numbers R.FromRow.stored row.now id (Q.row_of x) → Q.is_read x → ⊥ }
+) -> Result<(), RowsFault>
+    ensures taken { OnOk result ((start : C) (given : _) → AreTaken R.FromRow.stored C.has_taken start check.old given rowids.old.items → AreTaken R.FromRow.stored C.has_taken start check.new (given ++ row.now ∷ []) rowids.new.items) }
+    ensures bad { result ≡ Err BadRow → IsOneToOne R.FromRow.stored → (id : ℤ) (x : R) → Numbers R.FromRow.stored row.now id x → C.is_good x → ⊥ }
 {
     let rowid = number_at(row, 0, 0)?;
-    let read = reader.read(alloc, R::read(row, 1)?)?;
-    Ok((rowid, read))
+    check.take(alloc, R::read(row, 1)?)?;
+    rowids.push(rowid)?;
+    Ok(())
 }
 
-/// What was read of rows that show their rowids first, in their order.
-#[derive(Drop)]
-struct Numbered<T> {
-    rowids: Vec<i64>,
-    values: Vec<T>,
-}
-
-impl<T: Drop> Numbered<T> {
-    fn new(alloc: Global) -> Numbered<T>
-        ensures rowids { result.rowids.items ≡ [] }
-        ensures values { result.values.items ≡ [] }
-    {
-        Numbered {
-            rowids: Vec::new(alloc),
-            values: Vec::new(alloc),
-        }
-    }
-
-    /// Reads one more row. `BadRow` comes where it is no such row, or the reader says so.
-    fn read<R: FromRow, Q: RowReader<R, T>>(
-        &mut self,
-        alloc: Global,
-        reader: &mut Q,
-        row: &Row,
-    ) -> Result<(), RowsFault>
-        ensures found { OnOk result ((rows : _) → AreNumbered R.FromRow.stored rows self.old.rowids.items (map Q.row_of self.old.values.items) → AreNumbered R.FromRow.stored (rows ++ row.now ∷ []) self.new.rowids.items (map Q.row_of self.new.values.items)) }
-        ensures read { OnOk result (AllByRecursion Q.is_read self.old.values.items → AllByRecursion Q.is_read self.new.values.items) }
-        ensures bad { result ≡ Err BadRow → IsOneToOne R.FromRow.stored → (id : ℤ) (x : T) → Numbers R.FromRow.stored row.now id (Q.row_of x) → Q.is_read x → ⊥ }
-    {
-        let (rowid, value) = read_numbered::<R, T, Q>(alloc, reader, row)?;
-        self.rowids.push(rowid)?;
-        self.values.push(value)?;
-        Ok(())
-    }
-
-    /// The values, where no rowid came twice; else `BadRow`.
-    fn apart(self) -> Result<Vec<T>, RowsFault>
-        ensures found { IfOk result (λ xs. (xs.items ≡ self.values.items) × IsDistinct int_eq self.rowids.items) }
-        ensures bad { IfErr result (λ e. (e ≡ BadRow) × ¬ IsDistinct int_eq self.rowids.items) }
-    {
-        if are_apart(self.rowids) {
-            Ok(self.values)
-        } else {
-            Err(RowsFault::BadRow)
-        }
-    }
-}
-
-/// Reads the rows of an answer as the store hands them over, up to the first that cannot be read.
-fn read_each<S: Alter, R: FromRow, T: Drop, Q: RowReader<R, T>>(
+/// Has a check take the rows of an answer as the store hands them over, up to the first that is refused, and returns their rowids.
+fn take_each<S: Alter, R: FromRow, C: RowCheck<R>>(
     alloc: Global,
     rows: &mut Rows<'_, S>,
-    reader: &mut Q,
-) -> Result<Numbered<T>, RowsFault>
+    check: &mut C,
+) -> Result<Vec<i64>, RowsFault>
     requires idle { rows.old.conn.now.in_transaction ≡ false }
     requires open { HasCleanDisk (state S.Store rows.old.conn.now) → IsTrue (state S.Store rows.old.conn.now).is_open }
     ensures same_reference { rows.new.conn.ghost_name ≡ rows.old.conn.ghost_name }
     ensures writes { WritesNothing (state S.Store rows.old.conn.now) (state S.Store rows.new.conn.now) }
     ensures same { HasCleanDisk (state S.Store rows.new.conn.now) → OnOk result (IsUnchanged (state S.Store rows.old.conn.now) (state S.Store rows.new.conn.now)) }
-    ensures shown { HasCleanDisk (state S.Store rows.new.conn.now) → IfOk result (λ all. (sql : _) → IsPlain (understood rows.old.conn.now.schema sql) → HasGiven S.Store sql [] rows.old.conn.now [] → (given : _) × Shown sql [] (state S.Store rows.old.conn.now) (state S.Store rows.new.conn.now) given × AreNumbered R.FromRow.stored given all.rowids.items (map Q.row_of all.values.items)) }
-    ensures read { IfOk result (λ all. AllByRecursion Q.is_read all.values.items) }
-    ensures bad { HasCleanDisk (state S.Store rows.new.conn.now) → result ≡ Err BadRow → IsTrue (state S.Store rows.new.conn.now).is_open × ((sql : _) → HasGiven S.Store sql [] rows.old.conn.now [] → (given : _) × Begins sql [] (state S.Store rows.new.conn.now) given × BeginNone R.FromRow.stored (λ row. (x : T) × Q.is_read x × (row ≡ Q.row_of x)) given) }
+    ensures taken { IfOk result (λ rowids. (given : _) × AreTaken R.FromRow.stored C.has_taken check.old check.new given rowids.items × (HasCleanDisk (state S.Store rows.new.conn.now) → (sql : _) → IsPlain (understood rows.old.conn.now.schema sql) → HasGiven S.Store sql [] rows.old.conn.now [] → Shown sql [] (state S.Store rows.old.conn.now) (state S.Store rows.new.conn.now) given)) }
+    ensures bad { HasCleanDisk (state S.Store rows.new.conn.now) → result ≡ Err BadRow → IsTrue (state S.Store rows.new.conn.now).is_open × ((sql : _) → HasGiven S.Store sql [] rows.old.conn.now [] → (given : _) × Begins sql [] (state S.Store rows.new.conn.now) given × BeginNone R.FromRow.stored C.is_good given) }
 {
-    let mut found = Numbered::new(alloc);
+    let mut rowids = Vec::new(alloc);
     'rows: for _ in 0..u64::MAX {
         rows.advance()?;
         let Some(row) = rows.get() else {
-            return Ok(found);
+            return Ok(rowids);
         };
-        found.read::<R, Q>(alloc, reader, row)?;
+        take_numbered::<R, C>(alloc, &mut rowids, check, row)?;
     }
     // No memory holds so many rows.
     Err(RowsFault::NoMemory)
 }
 
-/// Reads the rows of a table as the store hands them over, and their rowids, up to the first that cannot be read.
-fn scan<S: Alter, R: FromRow, T: Drop, Q: RowReader<R, T>>(
+/// Has a check take the rows of a table as the store hands them over, up to the first that is refused, and returns their rowids.
+fn scan<S: Alter, R: FromRow, C: RowCheck<R>>(
     alloc: Global,
     conn: &mut Connection<S>,
-    reader: &mut Q,
+    check: &mut C,
     sql: &str,
-) -> Result<Numbered<T>, RowsFault>
+) -> Result<Vec<i64>, RowsFault>
     requires idle { conn.old.in_transaction ≡ false }
     requires plain { IsPlain (understood conn.old.schema sql.now) }
     ensures writes { WritesNothing (state S.Store conn.old) (state S.Store conn.new) }
     ensures same { HasCleanDisk (state S.Store conn.new) → OnOk result (IsUnchanged (state S.Store conn.old) (state S.Store conn.new)) }
-    ensures shown { HasCleanDisk (state S.Store conn.new) → IfOk result (λ all. (rows : _) × Shown sql.now [] (state S.Store conn.old) (state S.Store conn.new) rows × AreNumbered R.FromRow.stored rows all.rowids.items (map Q.row_of all.values.items)) }
-    ensures read { IfOk result (λ all. AllByRecursion Q.is_read all.values.items) }
-    ensures bad { HasCleanDisk (state S.Store conn.new) → result ≡ Err BadRow → IsTrue (state S.Store conn.new).is_open × ((rows : _) × Begins sql.now [] (state S.Store conn.new) rows × BeginNone R.FromRow.stored (λ row. (x : T) × Q.is_read x × (row ≡ Q.row_of x)) rows) }
+    ensures taken { IfOk result (λ rowids. (given : _) × AreTaken R.FromRow.stored C.has_taken check.old check.new given rowids.items × (HasCleanDisk (state S.Store conn.new) → Shown sql.now [] (state S.Store conn.old) (state S.Store conn.new) given)) }
+    ensures bad { HasCleanDisk (state S.Store conn.new) → result ≡ Err BadRow → IsTrue (state S.Store conn.new).is_open × ((given : _) × Begins sql.now [] (state S.Store conn.new) given × BeginNone R.FromRow.stored C.is_good given) }
 {
     let mut rows = conn.query(sql, &[])?;
-    read_each::<S, R, T, Q>(alloc, &mut rows, reader)
+    take_each::<S, R, C>(alloc, &mut rows, check)
 }
 
-/// All rows of a table, by a text that asks for their rowids and then for their columns. `BadRow` comes where the tables are not those
-/// of the office, a row is not one of the table or of what is read, or a rowid comes twice in the answer. No statement here makes such
-/// a row, but a connection that is handed in says nothing of its own.
+/// Has a check take all rows of a table, by a text that asks for their rowids and then for their columns. `BadRow` comes where the tables
+/// are not those of the office, a row is not one of the table or one that the check refuses, or a rowid comes twice in the answer. No
+/// statement here makes such a row, but a connection that is handed in says nothing of its own.
+fn each<S: Alter, R: FromRow, C: RowCheck<R>>(
+    alloc: Global,
+    conn: &mut Connection<S>,
+    check: &mut C,
+    sql: &str,
+) -> Result<(), RowsFault>
+    requires idle { conn.old.in_transaction ≡ false }
+    requires plain { IsOffice conn.old.schema → IsPlain (understood conn.old.schema sql.now) }
+    ensures asks { OnlyAsks (state S.Store conn.old) (state S.Store conn.new) }
+    ensures same { HasCleanDisk (state S.Store conn.new) → OnOk result (Shows (state S.Store conn.old) (state S.Store conn.new) (state S.Store conn.old).now (state S.Store conn.old).now false) }
+    ensures live { HasCleanDisk (state S.Store conn.new) → OnOk result (IsOffice (state S.Store conn.old).now.schema × IsDatabase (state S.Store conn.old).now) }
+    ensures taken { OnOk result ((rows : List R) × TakesMore C.has_taken check.old check.new rows × (HasCleanDisk (state S.Store conn.new) → (given : _) × Shown sql.now [] (state S.Store conn.old) (state S.Store conn.new) given × Stores given (map R.FromRow.stored rows))) }
+    ensures bad { HasCleanDisk (state S.Store conn.new) → result ≡ Err BadRow → IsTrue (state S.Store conn.new).is_open × (IsOffice (state S.Store conn.new).now.schema → (given : _) × Begins sql.now [] (state S.Store conn.new) given × BeginNone R.FromRow.stored C.is_good given) }
+{
+    let is_alone = conn.is_autocommit();
+    prove!(is_alone);
+    if !has_tables(conn) {
+        // A store that is shut says so, and not that a row is bad.
+        check_open(conn)?;
+        return Err(RowsFault::BadRow);
+    }
+    check_apart(scan::<S, R, C>(alloc, conn, check, sql)?)
+}
+
+/// What a reader has read of rows, in their order.
+#[derive(Drop)]
+struct Gathered<'a, Q, T> {
+    reader: &'a mut Q,
+    values: Vec<T>,
+}
+
+impl<'a, R, T: Drop, Q: RowReader<R, T>> RowCheck<R> for Gathered<'a, Q, T> {
+    ghost has_taken = { λ gathered rows. (map Q.row_of gathered.values.items ≡ rows) × AllByRecursion Q.is_read gathered.values.items };
+
+    ghost is_good = { λ row. (x : T) × Q.is_read x × (row ≡ Q.row_of x) };
+
+    fn take(&mut self, alloc: Global, row: R) -> Result<(), RowsFault> {
+        let value = self.reader.read(alloc, row)?;
+        self.values.push(value)?;
+        Ok(())
+    }
+}
+
+/// All rows of a table, as a reader reads them, by such a text. `BadRow` also comes where the reader says so.
 fn all<S: Alter, R: FromRow, T: Drop, Q: RowReader<R, T>>(
     alloc: Global,
     conn: &mut Connection<S>,
@@ -184,14 +196,14 @@ fn all<S: Alter, R: FromRow, T: Drop, Q: RowReader<R, T>>(
     ensures read { IfOk result (λ xs. AllByRecursion Q.is_read xs.items) }
     ensures bad { HasCleanDisk (state S.Store conn.new) → result ≡ Err BadRow → IsTrue (state S.Store conn.new).is_open × (IsOffice (state S.Store conn.new).now.schema → (rows : _) × Begins sql.now [] (state S.Store conn.new) rows × BeginNone R.FromRow.stored (λ row. (x : T) × Q.is_read x × (row ≡ Q.row_of x)) rows) }
 {
-    let is_alone = conn.is_autocommit();
-    prove!(is_alone);
-    if !has_tables(conn) {
-        // A store that is shut says so, and not that a row is bad.
-        check_open(conn)?;
-        return Err(RowsFault::BadRow);
+    let mut gathered = Gathered {
+        reader,
+        values: Vec::new(alloc),
+    };
+    match each::<S, R, Gathered<'_, Q, T>>(alloc, conn, &mut gathered, sql) {
+        Ok(()) => Ok(gathered.values),
+        Err(fault) => Err(fault),
     }
-    scan::<S, R, T, Q>(alloc, conn, reader, sql)?.apart()
 }
 
 /// The rows of `meta`. Each of these fails with `Store` where the store does, with `NoMemory` where memory runs out, and with
@@ -269,12 +281,26 @@ pub fn all_receipts<S: Alter, T: Drop, Q: RowReader<ReceiptRow, T>>(
     ensures only { HasCleanDisk (state S.Store conn.new) → OnOk result ((rows : RowsOf) → Holds (state S.Store conn.new) rows → Holds (state S.Store conn.old) rows) }
     ensures bad { HasCleanDisk (state S.Store conn.new) → result ≡ Err BadRow → (rows : RowsOf) → Holds (state S.Store conn.old) rows → AllByRecursion (λ row. (x : T) × Q.is_read x × (row ≡ Q.row_of x)) rows.receipts → ⊥ }
 {
-    all::<S, ReceiptRow, T, Q>(
-        alloc,
-        conn,
-        reader,
-        "SELECT rowid, caller, id, origin, request, reply FROM receipts",
-    )
+    all::<S, ReceiptRow, T, Q>(alloc, conn, reader, RECEIPT_ROWS)
+}
+
+/// Has a check take all receipts, each of which goes as soon as it was taken. `BadRow` also comes where the check refuses a row.
+pub fn each_receipt<S: Alter, C: RowCheck<ReceiptRow>>(
+    alloc: Global,
+    conn: &mut Connection<S>,
+    check: &mut C,
+) -> Result<(), RowsFault>
+    requires { conn.old.in_transaction ≡ false }
+    // It has taken all rows of the table, each once, in some order; and so those that were held.
+    ensures found { OnOk result ((rows : List ReceiptRowOf) × TakesMore C.has_taken check.old check.new rows × (HasCleanDisk (state S.Store conn.new) → HasReceipts (state S.Store conn.new).now rows × ((all : RowsOf) → Holds (state S.Store conn.old) all → IsPermutation all.receipts rows))) }
+    // The key of the table is that of one row.
+    ensures keys { HasCleanDisk (state S.Store conn.new) → OnOk result ((rows : List ReceiptRowOf) → HasReceipts (state S.Store conn.new).now rows → IsDistinct same_receipt_key rows) }
+    ensures asks { OnlyAsks (state S.Store conn.old) (state S.Store conn.new) }
+    ensures same { HasCleanDisk (state S.Store conn.new) → OnOk result (Shows (state S.Store conn.old) (state S.Store conn.new) (state S.Store conn.old).now (state S.Store conn.old).now false) }
+    ensures only { HasCleanDisk (state S.Store conn.new) → OnOk result ((rows : RowsOf) → Holds (state S.Store conn.new) rows → Holds (state S.Store conn.old) rows) }
+    ensures bad { HasCleanDisk (state S.Store conn.new) → result ≡ Err BadRow → (rows : RowsOf) → Holds (state S.Store conn.old) rows → AllByRecursion C.is_good rows.receipts → ⊥ }
+{
+    each::<S, ReceiptRow, C>(alloc, conn, check, RECEIPT_ROWS)
 }
 
 /// What all changes took away and brought, each as a reader reads it. `BadRow` also comes where a row is that of nothing that is read.

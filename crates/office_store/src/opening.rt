@@ -27,11 +27,12 @@ use crate::queries::check_open;
 use dns_names::Name;
 use office_rows::state::is_alone;
 use office_rows::{
-    ChangeReader, ChangedRecord, OriginReader, RecordReader, RowFault, ZoneChanges, checked_origins,
+    ChangeReader, ChangedRecord, OriginReader, ReceiptReader, RecordReader, RowFault, ZoneChanges,
+    checked_origins,
 };
 use office_sql::{
-    RowsFault, WholeRows, all_changes, all_receipts, all_records, all_zones, has_no_tables,
-    has_tables, make_tables, versions,
+    RowsFault, all_changes, all_records, all_zones, each_receipt, has_no_tables, has_tables,
+    make_tables, versions,
 };
 use sqlite::{Alter, Connection};
 use std::alloc::{AllocError, Global};
@@ -288,13 +289,13 @@ fn check_changes<S: Alter>(
     }
 }
 
-/// Checks the rows of `receipts`.
+/// Checks the rows of `receipts`, each of which goes as soon as it was checked.
 fn check_receipts<S: Alter>(alloc: Global, conn: &mut Connection<S>) -> Result<(), StoreFault>
     requires { conn.old.in_transaction ≡ false }
     ensures { IsCheck (state S.Store conn.old) (state S.Store conn.new) result (λ _ db. ReceiptsIn db) (λ rows. AreReceiptRows rows.receipts) }
 {
-    match all_receipts(alloc, conn, &mut WholeRows) {
-        Ok(rows) => of_check(office_rows::check_receipts(alloc, rows)),
+    match each_receipt(alloc, conn, &mut ReceiptReader::new()) {
+        Ok(()) => Ok(()),
         Err(fault) => Err(found(fault)),
     }
 }

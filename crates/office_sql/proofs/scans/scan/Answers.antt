@@ -23,23 +23,25 @@ pub returns-clause-writes : goal.returns-clause-writes
 returns-clause-writes g c =
     let start = c.args.conn.now in
     let begun = c.in_ok-rows.rows.conn.now in
-    let read = c.read_each.ensures.writes in
-    let same : c.read_each.new.rows.conn.now ≡ c.conn-2-1.given.0 = search rules in
-    rw (← same) (writes_on (state g.S.Store start) (state g.S.Store begun) (state g.S.Store c.read_each.new.rows.conn.now)
+    let read = c.take_each.ensures.writes in
+    let same : c.take_each.new.rows.conn.now ≡ c.conn-2-1.given.0 = search rules in
+    rw (← same) (writes_on (state g.S.Store start) (state g.S.Store begun) (state g.S.Store c.take_each.new.rows.conn.now)
     (commits_nothing c.args.sql.now [] (state g.S.Store start) (state g.S.Store begun) c.requires.plain c.in_ok-rows.ensures.survives)
     (λ clean. (begun_plain g.S.Store c.args.sql.now [] start begun c.requires.plain (c.in_ok-rows.ensures.begun clean)).1)
     read.survives read.ended read.left)
 
-pub returns-clause-shown : goal.returns-clause-shown
-returns-clause-shown g c =
+pub returns-clause-taken : goal.returns-clause-taken
+returns-clause-taken g c =
     let start = c.args.conn.now in
     let begun = c.in_ok-rows.rows.conn.now in
-    let new = state g.S.Store c.read_each.new.rows.conn.now in
-    let same : c.read_each.new.rows.conn.now ≡ c.conn-2-1.given.0 = search rules in
-    rw (← same) (λ (clean : HasCleanDisk new).
-    let early : HasCleanDisk (state g.S.Store begun) = omega (arith, c.read_each.ensures.writes.survives.clean) in
-    let given = begun_plain g.S.Store c.args.sql.now [] start begun c.requires.plain (c.in_ok-rows.ensures.begun early) in
-    let plain = subst (λ (d : Database). IsPlain (understood d.schema c.args.sql.now)) (sym given.1.0.now_is) c.requires.plain in
-    if_ok_then c.read_each.result _ _ (c.read_each.ensures.shown clean) (λ all shown.
-    let it = shown c.args.sql.now plain given.0 in
-    (it.0, shown_from c.args.sql.now [] (state g.S.Store start) (state g.S.Store begun) new it.0 c.requires.plain given.1 it.1, it.2)))
+    let new = state g.S.Store c.take_each.new.rows.conn.now in
+    let same : c.take_each.new.rows.conn.now ≡ c.conn-2-1.given.0 = search rules in
+    rw (← same) (if_ok_then c.take_each.result _ _ c.take_each.ensures.taken (λ rowids it. (
+      it.0,
+      it.1,
+      λ (clean : HasCleanDisk new).
+          let early : HasCleanDisk (state g.S.Store begun) = omega (arith, c.take_each.ensures.writes.survives.clean) in
+          let given = begun_plain g.S.Store c.args.sql.now [] start begun c.requires.plain (c.in_ok-rows.ensures.begun early) in
+          let plain = subst (λ (d : Database). IsPlain (understood d.schema c.args.sql.now)) (sym given.1.0.now_is) c.requires.plain in
+          shown_from c.args.sql.now [] (state g.S.Store start) (state g.S.Store begun) new it.0 c.requires.plain given.1 (it.2 clean c.args.sql.now plain given.0),
+    )))

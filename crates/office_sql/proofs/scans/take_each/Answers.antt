@@ -1,47 +1,42 @@
-use Rattle.std.proofs.Common.{◌≡◌, ◌∙◌, ◌++◌, ◌∷◌, [], ℤ, List, Err, None, Some, inl, inr, ap, sym, subst, arith}
+use Rattle.std.proofs.Common.{◌≡◌, ◌∙◌, ◌++◌, ◌∷◌, [], Err, None, Some, inl, inr, ap, sym, subst, arith}
 use Rattle.std.specs.Prelude.{option_copied}
-use Rattle.sqlite_value.specs.Order.{Row}
 use Rattle.sqlite.specs.Given.{GivesOn, row_if}
 use Rattle.sqlite.specs.Held.{state}
 use Rattle.sqlite.specs.State.{HasCleanDisk}
-use Rattle.sqlite.proofs.Callers.{given_begin}
-use Rattle.office_sql.specs.Stores.{BeginNone, IsOneToOne, Numbers}
-use Rattle.sqlite.proofs.Callers.{unchanged_then}
+use Rattle.sqlite.proofs.Callers.{given_begin, unchanged_then}
 use Rattle.sqlite.proofs.StateLemmas.{survives_then}
 use Rattle.office_sql.proofs.PlainQueries.{shown_from, writes_on}
 use Rattle.office_sql.proofs.WholeTables.{begin_none}
-use Rattle.office_sql.proofs.scans.read_each.Goals as goal
+use Rattle.office_sql.proofs.scans.take_each.Goals as goal
 
--- a row is not read
-stops_at : {X Y : Type 0} (stored : X → Row) (row_of : Y → X) (is_read : Y → Type 0) (rows : List Row) (row : Row)
-    → (IsOneToOne stored → (id : ℤ) (y : Y) → Numbers stored row id (row_of y) → is_read y → ⊥)
-    → BeginNone stored (λ (x : X). (y : Y) × is_read y × (x ≡ row_of y)) (rows ++ row ∷ [])
-stops_at {X} {Y} stored row_of is_read rows row bad =
-    begin_none stored (λ (x : X). (y : Y) × is_read y × (x ≡ row_of y)) rows row (λ one id x numbers it. bad one id it.0 (subst (Numbers stored row id) it.2 numbers) it.1)
-
-pub returns-in_default-clause-shown : goal.returns-in_default-clause-shown
-returns-in_default-clause-shown g c clean sql plain begun =
+pub returns-in_default-clause-taken : goal.returns-in_default-clause-taken
+returns-in_default-clause-taken g c =
     let old = c.args.rows.now.conn.now in
     let before = c.rows.rows.conn.now in
     let now = c.advance.new.self.conn.now in
-    let early : HasCleanDisk (state g.S.Store before) = omega (arith, c.advance.ensures.survives.clean) in
-    let was = c.rows.invariant.given early sql begun in
-    let none : row_if c.advance.new.self.has_row now ≡ None = sym c.get.ensures ∙ ap option_copied c.in_default.is in
-    let shown = subst (GivesOn g.S.Store sql [] before now was.0) none (c.in_ok-advance.ensures.ok clean sql [] was.0 was.1) in
-    (was.0, shown_from sql [] (state g.S.Store old) (state g.S.Store before) (state g.S.Store now) was.0 plain (c.rows.invariant.same early) shown, was.2)
+    let inv = c.rows.invariant in
+    let was = inv.taken in
+    let none : row_if c.advance.new.self.has_row now ≡ None = sym c.get.ensures ∙ ap option_copied c.in_default.is in (
+      was.0,
+      was.1,
+      λ clean sql plain begun.
+          let early : HasCleanDisk (state g.S.Store before) = omega (arith, c.advance.ensures.survives.clean) in
+          let shown = subst (GivesOn g.S.Store sql [] before now was.0) none (c.in_ok-advance.ensures.ok clean sql [] was.0 (was.2 early sql begun)) in
+          shown_from sql [] (state g.S.Store old) (state g.S.Store before) (state g.S.Store now) was.0 plain (inv.same early) shown,
+    )
 
-pub returns-in_err-read-clause-bad : goal.returns-in_err-read-clause-bad
-returns-in_err-read-clause-bad g c clean is =
+pub returns-in_err-take_numbered-clause-bad : goal.returns-in_err-take_numbered-clause-bad
+returns-in_err-take_numbered-clause-bad g c clean is =
     let before = c.rows.rows.conn.now in
     let now = c.advance.new.self.conn.now in
     let early : HasCleanDisk (state g.S.Store before) = omega (arith, c.advance.ensures.survives.clean) in
-    let told = rw is at c.from_residual-in_err-read.ensures.1 in
+    let told = rw is at c.from_residual-in_err-take_numbered.ensures.1 in
+    let was = c.rows.invariant.taken in
     let some : row_if c.advance.new.self.has_row now ≡ Some c.in-Some.row.now = sym c.get.ensures ∙ ap option_copied c.in-Some.is in (
       (c.in_ok-advance.ensures.same clean).0.is_open,
       λ sql begun.
-          let was = c.rows.invariant.given early sql begun in
-          let given = subst (GivesOn g.S.Store sql [] before now was.0) some (c.in_ok-advance.ensures.ok clean sql [] was.0 was.1) in
-          (was.0 ++ c.in-Some.row.now ∷ [], given_begin g.S.Store sql [] now _ given, stops_at g.R.FromRow.stored g.Q.RowReader.row_of g.Q.RowReader.is_read was.0 c.in-Some.row.now (c.in_err-read.ensures.bad (ap Err (sym told)))),
+          let given = subst (GivesOn g.S.Store sql [] before now was.0) some (c.in_ok-advance.ensures.ok clean sql [] was.0 (was.2 early sql begun)) in
+          (was.0 ++ c.in-Some.row.now ∷ [], given_begin g.S.Store sql [] now _ given, begin_none g.R.FromRow.stored g.C.RowCheck.is_good was.0 c.in-Some.row.now (c.in_err-take_numbered.ensures.bad (ap Err (sym told)))),
     )
 
 pub returns-in_err-advance-clause-writes : goal.returns-in_err-advance-clause-writes
@@ -58,8 +53,8 @@ returns-in_default-clause-writes g c =
     writes_on (state g.S.Store c.args.rows.now.conn.now) (state g.S.Store c.rows.rows.conn.now) (state g.S.Store c.advance.new.self.conn.now) inv.survives inv.same moved.survives (moved.mode inv.ended)
     (λ clean. inl (c.in_ok-advance.ensures.same clean))
 
-pub returns-in_err-read-clause-writes : goal.returns-in_err-read-clause-writes
-returns-in_err-read-clause-writes g c =
+pub returns-in_err-take_numbered-clause-writes : goal.returns-in_err-take_numbered-clause-writes
+returns-in_err-take_numbered-clause-writes g c =
     let moved = c.advance.ensures in
     let inv = c.rows.invariant in
     writes_on (state g.S.Store c.args.rows.now.conn.now) (state g.S.Store c.rows.rows.conn.now) (state g.S.Store c.advance.new.self.conn.now) inv.survives inv.same moved.survives (moved.mode inv.ended)
@@ -75,15 +70,17 @@ rows-preserved g c =
     let now = state g.S.Store c.advance.new.self.conn.now in
     let moved = c.advance.ensures in
     let inv = c.rows.invariant in
+    let was = inv.taken in
     let some : row_if c.advance.new.self.has_row c.advance.new.self.conn.now ≡ Some c.in-Some.row.now = sym c.get.ensures ∙ ap option_copied c.in-Some.is in
     record {
       same_reference = moved.same_reference ∙ inv.same_reference;
       survives = survives_then old before now _ _ _ (λ _ db none. none) (λ _ db none. none) inv.survives moved.survives;
       ended = moved.mode inv.ended;
-      read = c.in_ok-read.ensures.read inv.read;
       same = λ clean. unchanged_then old before now (inv.same (omega (arith, moved.survives.clean))) (c.in_ok-advance.ensures.same clean);
-      given = λ clean sql begun.
-          let was = inv.given (omega (arith, moved.survives.clean)) sql begun in
-          let given = subst (GivesOn g.S.Store sql [] c.rows.rows.conn.now c.advance.new.self.conn.now was.0) some (c.in_ok-advance.ensures.ok clean sql [] was.0 was.1) in
-          (was.0 ++ c.in-Some.row.now ∷ [], given, c.in_ok-read.ensures.found was.0 was.2);
+      taken = (
+        was.0 ++ c.in-Some.row.now ∷ [],
+        c.in_ok-take_numbered.ensures.taken c.args.check.now was.0 was.1,
+        λ clean sql begun.
+            subst (GivesOn g.S.Store sql [] c.rows.rows.conn.now c.advance.new.self.conn.now was.0) some (c.in_ok-advance.ensures.ok clean sql [] was.0 (was.2 (omega (arith, moved.survives.clean)) sql begun)),
+      );
     }
