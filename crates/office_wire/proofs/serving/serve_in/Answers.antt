@@ -191,7 +191,6 @@ reads-preserved g c =
           let policy = c.args.service.now.policy.now in
           let first = mark s (g.T.ZoneTable.failures c.args.table.now) c.args.servfails.now in
           let asked = g.D.Deadline.asked c.args.deadline.now in
-    let asked = g.D.Deadline.asked c.args.deadline.now in
           let now = mark p.0 (g.T.ZoneTable.failures c.reads.table) c.reads.servfails in
           let before = moment (g.W.Sink.contents c.args.writer.now) (g.S.Stream.events c.args.reader.now c.args.writer.now) in
           let mid = moment (g.W.Sink.contents c.reads.writer) (g.S.Stream.events c.reads.reader c.reads.writer) in
@@ -208,6 +207,7 @@ reads-preserved g c =
           );
       reads = c.in-Ok-Open.ensures.still ∙ c.in-Ok.ensures.fine ∙ c.reads.invariant.reads;
       writes = c.in-Ok-Open.ensures.same ∙ c.in-Ok.ensures.still ∙ c.reads.invariant.writes;
+      passed = (rw c.in-Ok-Open.field-0-is at c.in-Ok-Open.ensures.passed) ∙ c.reads.invariant.passed;
     }
 
 pub returns-clause-run : goal.returns-clause-run
