@@ -20,8 +20,8 @@ returns-in-Ok g c = record {
   named = tt;
 }
 
-pub returns-in-Err : goal.returns-in-Err
-returns-in-Err g c =
+pub returns : goal.returns
+returns g c =
     let old = state g.S.Store c.args.conn.now in
     let new = state g.S.Store c.each_receipt.new.conn in
     subst (λ (e : StoreFault). IsCheck old new (Err e) (λ _ db. ReceiptsIn db) (λ all. AreReceiptRows all.receipts)) (sym c.found.ensures)
