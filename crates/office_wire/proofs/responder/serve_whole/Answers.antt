@@ -9,7 +9,8 @@ pub returns-in-Ok-Answered-clause-run : goal.returns-in-Ok-Answered-clause-run
 returns-in-Ok-Answered-clause-run g c = λ honest s held.
     let same = c.new-responder.ensures.policy in
     let r = (rw same at c.serve_noting-served.ensures.run) honest s (held, c.new-responder.ensures.bookmarks s) in
-    let answered : c.serve_noting-served.result.ended ≡ Ok Answered = c.in-Ok-Answered.is ∙ ap (λ (e : Ending). Ok e) c.in-Ok-Answered.field-0-is in
+    let inner : c.in-Ok-Answered.field-0 ≡ Answered = rw c.in-Ok-Answered.is at c.in-Ok-Answered.field-0-is in
+    let answered : c.serve_noting-served.result.ended ≡ Ok Answered = c.in-Ok-Answered.is ∙ ap (λ (e : Ending). Ok e) inner in
     let done =
     subst (λ (e : Result Ending ServeFault). IsEnded r.0 e (g.R.Source.remaining c.args.reader.now) (g.R.Source.remaining c.serve_noting-served.new.reader) (g.W.Sink.contents c.args.writer.now) (g.W.Sink.contents c.serve_noting-served.new.writer))
     answered r.4 in
