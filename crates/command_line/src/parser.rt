@@ -9,7 +9,7 @@ use crate::command::Command;
 use std::alloc::{AllocError, Global};
 
 /// The version of the program, which `--version` prints.
-const VERSION: &str = "0.9.0";
+const VERSION: &str = "1.0.0";
 
 /// One command, with what it takes.
 fn command_parser<'a>(alloc: Global, command: Command) -> Result<clap::Command<'a>, AllocError>

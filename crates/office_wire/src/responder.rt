@@ -98,7 +98,13 @@ impl<'a> Responder<'a> {
         ensures devices { CountsEnded result.ended (R.failures reader.old) (R.failures reader.new) (W.failures writer.old) (W.failures writer.new) }
     {
         let mut servfails = Servfails::none();
-        let ended = self.serve_into::<S, _, _, _, _>(reader, writer, table, &mut servfails, deadline);
+        let ended = self.serve_into::<S, _, _, _, _>(
+            reader,
+            writer,
+            table,
+            &mut servfails,
+            deadline,
+        );
         Served { ended, servfails }
     }
 

@@ -54,7 +54,9 @@ fn close<S: Alter + Drop, P: StoreFiles<S>>(rt: &HostRuntime, conn: Connection<S
 /// Says on standard error that the log of a store could not be copied into its file, and why.
 fn complain(rt: &HostRuntime, fault: StoreFault) {
     let cause = Cause::of(TableFault::Store, Some(fault)).words();
-    let line = format!(in rt.alloc(); "zoneoffice: the log of the store could not be copied into it because {cause}");
+    let line = format!(in rt.alloc();
+        "zoneoffice: the log of the store could not be copied into it because {cause}"
+    );
     if let Ok(line) = line {
         let _ = rt.eprintln(line.as_str());
     }

@@ -1,0 +1,2 @@
+runtime! syntax/rust.vim
+syntax keyword rustKeyword ghost requires ensures
