@@ -30,10 +30,6 @@ pub trait StoreFiles<S: Alter + Drop> {
         ensures connected { IfOk result (connects self path.now) }
         ensures alone { IfOk result (λ conn. conn.in_transaction ≡ false) }
         ensures refused { IfErr result (refuses self path.now) };
-
-    /// Ends a connection: what its log has is copied into the database file, and both are closed. After an error all is in the two
-    /// files still. A store that is reached again shows the same either way, so this is for who copies the file alone.
-    fn close(conn: Connection<S>) -> Result<(), StoreFault>;
 }
 
 /// The files of this machine. No contract can say what they hold.
@@ -56,9 +52,5 @@ impl StoreFiles<FileStore<File>> for MachineFiles<'_> {
 
     fn connect(self, path: &str) -> Result<Connection<FileStore<File>>, StoreFault> {
         Ok(connect_at(self.0, path, Unknown)?)
-    }
-
-    fn close(conn: Connection<FileStore<File>>) -> Result<(), StoreFault> {
-        Ok(conn.close()?)
     }
 }

@@ -4,6 +4,7 @@
 mod any_store;
 mod diagnosis;
 mod files;
+mod folding;
 mod list_laws;
 mod listening;
 mod log_choice;

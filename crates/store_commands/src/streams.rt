@@ -6,10 +6,7 @@ use crate::any_store::{FilesJob, do_on_machine};
 use crate::files::StoreFiles;
 use crate::program::do_words;
 use crate::surroundings::Surroundings;
-use connections::Cause;
 use dns_master::{Counted, Sink, Source};
-use office_state::TableFault;
-use office_store::StoreFault;
 use sqlite::{Alter, Connection};
 use std::io::{Read, Write};
 use std::marker::Brand;
@@ -27,7 +24,10 @@ struct Words<'a, M, R, W, E> {
 }
 
 impl<M: Surroundings, R: Source, W: Sink, E: Sink> FilesJob for Words<'_, M, R, W, E> {
-    fn run<S: Alter + Drop, P: StoreFiles<S> + Drop>(self, files: P) -> ExitCode {
+    fn run<S: Alter + Drop, P: StoreFiles<S> + Drop>(
+        self,
+        files: P,
+    ) -> (Option<Connection<S>>, ExitCode) {
         let Words {
             around,
             words,
@@ -35,30 +35,7 @@ impl<M: Surroundings, R: Source, W: Sink, E: Sink> FilesJob for Words<'_, M, R, 
             output,
             trace,
         } = self;
-        let (conn, status) = do_words(around, files, words, input, output, trace);
-        if let Some(conn) = conn {
-            close::<S, P>(around.machine(), conn);
-        }
-        status
-    }
-}
-
-/// Ends the connection to a store, so that the file has all of it. If that fails it is said on standard error, and is no failure of the
-/// job: all is in the store with its log.
-fn close<S: Alter + Drop, P: StoreFiles<S>>(rt: &HostRuntime, conn: Connection<S>) {
-    if let Err(fault) = P::close(conn) {
-        complain(rt, fault);
-    }
-}
-
-/// Says on standard error that the log of a store could not be copied into its file, and why.
-fn complain(rt: &HostRuntime, fault: StoreFault) {
-    let cause = Cause::of(TableFault::Store, Some(fault)).words();
-    let line = format!(in rt.alloc();
-        "zoneoffice: the log of the store could not be copied into it because {cause}"
-    );
-    if let Ok(line) = line {
-        let _ = rt.eprintln(line.as_str());
+        do_words(around, files, words, input, output, trace)
     }
 }
 
@@ -105,8 +82,8 @@ fn run_counted<
 }
 
 /// Does what words ask for, as `do_words` says, with standard input, standard output and a trace of std and the stores of this machine,
-/// closes the store that it reached, and hands back both writers. It has no contract: of streams that do not count their failures one could say only that there are
-/// counts.
+/// ends the connection to the store that it reached, and hands back both writers. It has no contract: of streams that do not count their
+/// failures one could say only that there are counts.
 pub fn run_words<M: Surroundings, I: Read + Drop, O: Write + Drop, E: Write + Drop>(
     around: &M,
     words: &[&str],
