@@ -11,7 +11,9 @@ import tempfile
 import time
 
 HERE = os.path.dirname(os.path.abspath(__file__))
-PROGRAM = os.environ.get("ZONEOFFICE") or os.path.join(HERE, "../../crates/zoneoffice/out/zoneoffice")
+TOP = os.path.dirname(HERE)
+EXAMPLE = os.path.join(TOP, "examples/office")
+PROGRAM = os.environ.get("ZONEOFFICE") or os.path.join(TOP, "crates/zoneoffice/out/zoneoffice")
 differing = 0
 
 
@@ -109,7 +111,7 @@ def make_machine(folder):
 
 def shown(page, start):
     """The commands that a page shows in the indented block which begins with this text."""
-    text = open(os.path.join(HERE, "../../docs", page)).read()
+    text = open(os.path.join(TOP, "docs", page)).read()
     for block in re.findall(r"(?:^    .*\n)+", text, re.M):
         if block.strip().startswith(start):
             return re.sub(r"^    ", "", block, flags=re.M)
@@ -153,11 +155,10 @@ SYSTEMD = "systemctl", "systemd-tmpfiles"
 
 def set_up_front(users, password):
     """Sets up the office's files and the front server by the commands that operations.md shows."""
-    top = os.path.join(HERE, "../..")
     must("rm -f /etc/nginx/sites-enabled/* /etc/nginx/conf.d/* && echo 127.0.0.1 office.example.org >> /etc/hosts")
     for command in shown("operations.md", "useradd --system").splitlines():
         if not command.startswith(("install -m 755 crates/", *SYSTEMD)):
-            must(command, cwd=top)
+            must(command, cwd=TOP)
     must("install -d -m 750 -g publisher /run/zoneoffice-publisher")
     for command in shown("operations.md", "install -d -m 755 /etc/zoneoffice/front").splitlines():
         if command.startswith("htpasswd"):
@@ -167,7 +168,7 @@ def set_up_front(users, password):
             must("openssl req -x509 -newkey ec -pkeyopt ec_paramgen_curve:P-256 -nodes -subj /CN=office.example.org -days 2 "
                  "-keyout /etc/zoneoffice/front/key.pem -out /etc/zoneoffice/front/cert.pem")
         elif not command.startswith((*SYSTEMD, "install -m 600 key")):
-            must(command, cwd=top)
+            must(command, cwd=TOP)
     must("nginx")
 
 
@@ -184,8 +185,8 @@ class Machine:
         top = f"{self.root}/srv/zoneoffice"
         os.makedirs(f"{top}/crates/zoneoffice/out")
         shutil.copy(PROGRAM, f"{top}/crates/zoneoffice/out/zoneoffice")
-        shutil.copytree(HERE, f"{top}/examples/office")
-        shutil.copytree(f"{HERE}/../../docs", f"{top}/docs")
+        for part in "client", "deploy", "docs", "examples", "web":
+            shutil.copytree(f"{TOP}/{part}", f"{top}/{part}")
         self.boot()
 
     def mount(self, folder, base):
