@@ -94,7 +94,7 @@ def go_inside(seconds, machine=True):
         inside.wait()
         shutil.rmtree(folder)
         # of a container that was killed
-        run(f"find /sys/fs/cgroup/*/{os.path.basename(folder)} -depth -type d -exec rmdir {{}} ';'")
+        run(f"find /sys/fs/cgroup/*/{os.path.basename(folder)}* -depth -type d -exec rmdir {{}} ';'")
     if status not in (0, 1):
         print(f"{sys.argv[0]}: ended with status {status} (124: after {seconds} seconds)")
     sys.exit(1 if status else 0)
@@ -172,10 +172,15 @@ def set_up_front(users, password):
     must("nginx")
 
 
-class Machine:
-    """A container that systemd boots, over the files of this machine."""
+# what the commands of the pages take from the top folder
+SOURCES = "client", "crates/job_faults/src", "deploy", "docs", "examples", "package", "web"
 
-    def __init__(self, folder):
+
+class Machine:
+    """A container that systemd boots, over the files of this machine. Of several, each has a name and a folder of its own."""
+
+    def __init__(self, folder, name="office"):
+        self.name = name
         self.mount(folder, "/")
         # no service of this machine starts there, but nginx, which Debian's package has enabled
         for links in glob.glob(f"{self.root}/etc/systemd/system/*.wants") + glob.glob(f"{self.root}/etc/rc?.d"):
@@ -185,7 +190,7 @@ class Machine:
         top = f"{self.root}/srv/zoneoffice"
         os.makedirs(f"{top}/crates/zoneoffice/out")
         shutil.copy(PROGRAM, f"{top}/crates/zoneoffice/out/zoneoffice")
-        for part in "client", "deploy", "docs", "examples", "web":
+        for part in SOURCES:
             shutil.copytree(f"{TOP}/{part}", f"{top}/{part}")
         self.boot()
 
@@ -197,14 +202,14 @@ class Machine:
         # where no systemd runs, control groups of its own, or containers that run at the same time would share theirs
         self.group = None
         if not os.path.isdir("/run/systemd/system"):
-            self.group = f"{folder}/groups/{os.path.basename(os.environ['TRYING'])}"
+            self.group = f"{folder}/groups/{os.path.basename(os.environ['TRYING'])}-{self.name}"
             must(f"mkdir {folder}/groups && mount -t cgroup2 cgroup2 {folder}/groups && mkdir {self.group}")
 
     def boot(self):
         keep = f"echo 0 > {self.group}/cgroup.procs && exec systemd-nspawn --keep-unit" if self.group else "exec systemd-nspawn"
         self.nspawn = subprocess.Popen(
             f"{keep} --quiet --directory={self.root} --register=no --private-network "
-            f"--machine=office{os.getpid()} --console=pipe --boot", shell=True, stdin=subprocess.DEVNULL, stdout=subprocess.DEVNULL,
+            f"--machine={self.name}{os.getpid()} --console=pipe --boot", shell=True, stdin=subprocess.DEVNULL, stdout=subprocess.DEVNULL,
             stderr=subprocess.STDOUT, env={**os.environ, "SYSTEMD_NSPAWN_UNIFIED_HIERARCHY": "1"})
         self.leader = wait_for(lambda: run(f"pgrep -P {self.nspawn.pid} -x systemd")[1])
         if not wait_for(lambda: self.run("systemctl is-system-running --wait")[1] in ("running", "degraded"), 300):
