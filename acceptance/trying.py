@@ -11,7 +11,9 @@ import tempfile
 import time
 
 HERE = os.path.dirname(os.path.abspath(__file__))
-PROGRAM = os.environ.get("ZONEOFFICE") or os.path.join(HERE, "../../crates/zoneoffice/out/zoneoffice")
+TOP = os.path.dirname(HERE)
+EXAMPLE = os.path.join(TOP, "examples/office")
+PROGRAM = os.environ.get("ZONEOFFICE") or os.path.join(TOP, "crates/zoneoffice/out/zoneoffice")
 differing = 0
 
 
@@ -92,7 +94,7 @@ def go_inside(seconds, machine=True):
         inside.wait()
         shutil.rmtree(folder)
         # of a container that was killed
-        run(f"find /sys/fs/cgroup/*/{os.path.basename(folder)} -depth -type d -exec rmdir {{}} ';'")
+        run(f"find /sys/fs/cgroup/*/{os.path.basename(folder)}* -depth -type d -exec rmdir {{}} ';'")
     if status not in (0, 1):
         print(f"{sys.argv[0]}: ended with status {status} (124: after {seconds} seconds)")
     sys.exit(1 if status else 0)
@@ -109,7 +111,7 @@ def make_machine(folder):
 
 def shown(page, start):
     """The commands that a page shows in the indented block which begins with this text."""
-    text = open(os.path.join(HERE, "../../docs", page)).read()
+    text = open(os.path.join(TOP, "docs", page)).read()
     for block in re.findall(r"(?:^    .*\n)+", text, re.M):
         if block.strip().startswith(start):
             return re.sub(r"^    ", "", block, flags=re.M)
@@ -153,11 +155,10 @@ SYSTEMD = "systemctl", "systemd-tmpfiles"
 
 def set_up_front(users, password):
     """Sets up the office's files and the front server by the commands that operations.md shows."""
-    top = os.path.join(HERE, "../..")
     must("rm -f /etc/nginx/sites-enabled/* /etc/nginx/conf.d/* && echo 127.0.0.1 office.example.org >> /etc/hosts")
     for command in shown("operations.md", "useradd --system").splitlines():
         if not command.startswith(("install -m 755 crates/", *SYSTEMD)):
-            must(command, cwd=top)
+            must(command, cwd=TOP)
     must("install -d -m 750 -g publisher /run/zoneoffice-publisher")
     for command in shown("operations.md", "install -d -m 755 /etc/zoneoffice/front").splitlines():
         if command.startswith("htpasswd"):
@@ -167,14 +168,19 @@ def set_up_front(users, password):
             must("openssl req -x509 -newkey ec -pkeyopt ec_paramgen_curve:P-256 -nodes -subj /CN=office.example.org -days 2 "
                  "-keyout /etc/zoneoffice/front/key.pem -out /etc/zoneoffice/front/cert.pem")
         elif not command.startswith((*SYSTEMD, "install -m 600 key")):
-            must(command, cwd=top)
+            must(command, cwd=TOP)
     must("nginx")
 
 
-class Machine:
-    """A container that systemd boots, over the files of this machine."""
+# what the commands of the pages take from the top folder
+SOURCES = "client", "crates/job_faults/src", "deploy", "docs", "examples", "package", "web"
 
-    def __init__(self, folder):
+
+class Machine:
+    """A container that systemd boots, over the files of this machine. Of several, each has a name and a folder of its own."""
+
+    def __init__(self, folder, name="office"):
+        self.name = name
         self.mount(folder, "/")
         # no service of this machine starts there, but nginx, which Debian's package has enabled
         for links in glob.glob(f"{self.root}/etc/systemd/system/*.wants") + glob.glob(f"{self.root}/etc/rc?.d"):
@@ -184,8 +190,8 @@ class Machine:
         top = f"{self.root}/srv/zoneoffice"
         os.makedirs(f"{top}/crates/zoneoffice/out")
         shutil.copy(PROGRAM, f"{top}/crates/zoneoffice/out/zoneoffice")
-        shutil.copytree(HERE, f"{top}/examples/office")
-        shutil.copytree(f"{HERE}/../../docs", f"{top}/docs")
+        for part in SOURCES:
+            shutil.copytree(f"{TOP}/{part}", f"{top}/{part}")
         self.boot()
 
     def mount(self, folder, base):
@@ -196,14 +202,14 @@ class Machine:
         # where no systemd runs, control groups of its own, or containers that run at the same time would share theirs
         self.group = None
         if not os.path.isdir("/run/systemd/system"):
-            self.group = f"{folder}/groups/{os.path.basename(os.environ['TRYING'])}"
+            self.group = f"{folder}/groups/{os.path.basename(os.environ['TRYING'])}-{self.name}"
             must(f"mkdir {folder}/groups && mount -t cgroup2 cgroup2 {folder}/groups && mkdir {self.group}")
 
     def boot(self):
         keep = f"echo 0 > {self.group}/cgroup.procs && exec systemd-nspawn --keep-unit" if self.group else "exec systemd-nspawn"
         self.nspawn = subprocess.Popen(
             f"{keep} --quiet --directory={self.root} --register=no --private-network "
-            f"--machine=office{os.getpid()} --console=pipe --boot", shell=True, stdin=subprocess.DEVNULL, stdout=subprocess.DEVNULL,
+            f"--machine={self.name}{os.getpid()} --console=pipe --boot", shell=True, stdin=subprocess.DEVNULL, stdout=subprocess.DEVNULL,
             stderr=subprocess.STDOUT, env={**os.environ, "SYSTEMD_NSPAWN_UNIFIED_HIERARCHY": "1"})
         self.leader = wait_for(lambda: run(f"pgrep -P {self.nspawn.pid} -x systemd")[1])
         if not wait_for(lambda: self.run("systemctl is-system-running --wait")[1] in ("running", "degraded"), 300):
