@@ -25,7 +25,7 @@ struct Left<D: Disk> {
     copied: bool,
 }
 
-fn left<D: Disk + Drop>(conn: Connection<FileStore<D>>, end: End) -> Left<D> {
+fn end_of<D: Disk + Drop>(conn: Connection<FileStore<D>>, end: End) -> Left<D> {
     match end {
         End::Dropped => unclosed(conn.into_store().close()),
         End::Closed => match conn.close_files() {
@@ -56,7 +56,7 @@ fn acted<D: Disk + Drop>(
     match opened(alloc, disks) {
         Ok(conn) => {
             let (told, conn) = done(alloc, conn, policy, deed);
-            (told, left(conn, end))
+            (told, end_of(conn, end))
         }
         Err(disks) => (unopened(alloc), unclosed(disks)),
     }
