@@ -164,7 +164,7 @@ impl<'a> Files<'a> {
     /// How many frames the log of the store has. It has a header of 32 octets, and each frame 24 octets before its page.
     fn frames(&self) -> Result<Vec<u8>> {
         let log = fs::read(self.rt, self.log()?.as_str())?;
-        let frames = log.len().saturating_sub(32) / (24 + self.page_size()?);
+        let frames = log.len().saturating_sub(32) / (24 + usize::from(self.page_size()?));
         let text = format!(in self.rt.alloc(); "{frames} frames")?;
         spelled(self.rt.alloc(), text.as_str())
     }
@@ -175,9 +175,9 @@ impl<'a> Files<'a> {
     }
 
     /// The size of the store's pages, in octets.
-    fn page_size(&self) -> Result<usize> {
+    fn page_size(&self) -> Result<u16> {
         match self.pages()?.as_slice() {
-            [high, low] => Ok(usize::from(*high) * 256 + usize::from(*low)),
+            [high, low] => Ok(u16::from_be_bytes([*high, *low])),
             _ => bail!("no database"),
         }
     }
