@@ -28,14 +28,12 @@ NO_ANSWER = "the row above has no answer: a line `= TEXT` for each line that it 
 PLAIN = re.compile(r"[ -~]*")
 # An octet, as <0D>, and a repetition, as <a*63>.
 SPELLED = re.compile(r"<(?:[0-9A-Fa-f]{2}|[^<>*]*\*[0-9]+)>")
+# At the head of a file: by which verbs rows begin a case, and which rows above it each case needs, the last of a verb.
+CASES = re.compile(r"# A case begins with ([a-z, -]+)(?:; each needs ([a-z, -]+))?\.")
 
 
 class Refused(Exception):
     """Why nothing can be said, in words."""
-
-
-# At the head of a file: by which verbs rows begin a case, and which rows above it each case needs, the last of a verb.
-CASES = re.compile(r"# A case begins with ([a-z, -]+)(?:; each needs ([a-z, -]+))?\.")
 
 
 class Row:
