@@ -4,10 +4,14 @@ import glob
 import os
 import re
 import tempfile
+from typing import NamedTuple
 
 TOP = os.path.dirname(os.path.dirname(os.path.abspath(__file__)))
 FOLDER = os.path.join(TOP, "crates/test_all")
 ROWS = os.path.join(FOLDER, "rows")
+
+# Rows that need none of those above are run so many at a time, so that what differs is shown as it is found.
+BATCH = 64
 
 # What a line is, by its form.
 FORMS = {
@@ -24,6 +28,8 @@ NO_ANSWER = "the row above has no answer: a line `= TEXT` for each line that it 
 PLAIN = re.compile(r"[ -~]*")
 # An octet, as <0D>, and a repetition, as <a*63>.
 SPELLED = re.compile(r"<(?:[0-9A-Fa-f]{2}|[^<>*]*\*[0-9]+)>")
+# At the head of a file: by which verbs rows begin a case, and which rows above it each case needs, the last of a verb.
+CASES = re.compile(r"# A case begins with ([a-z, -]+)(?:; each needs ([a-z, -]+))?\.")
 
 
 class Refused(Exception):
@@ -36,12 +42,22 @@ class Row:
     def __init__(self, first, line, text):
         self.first, self.line, self.asked, self.wanted = first, line, [text], []
 
+    def verb(self):
+        return self.asked[0].partition(" ")[0]
+
     def last(self):
         return self.line + len(self.asked) + len(self.wanted) - 1
 
     def line_of_answer(self, at):
         """Where a line of the answer is; that of the last one for those that it does not have."""
         return min(self.line + len(self.asked) + at, self.last())
+
+
+class Run(NamedTuple):
+    """Rows that are run together, and those above that these need."""
+
+    needed: list
+    rows: list
 
 
 class Section:
@@ -69,11 +85,40 @@ class Section:
     def rows(self):
         return [part for part in self.parts if isinstance(part, Row)]
 
-    def rows_to(self, line):
-        """The rows up to that at a line, which may be any line of it, of its answer, or of the comment right above it."""
-        for place, row in enumerate(self.rows()):
-            if row.first <= line <= row.last():
-                return self.rows()[:place + 1]
+    def verbs_of_cases(self):
+        """The verbs of the rows that begin a case, and those of the rows that each case needs."""
+        begin, need = [], []
+        for line, text in enumerate(self.head, 1):
+            if text.startswith("# A case"):
+                found = CASES.fullmatch(text)
+                begin, need = (words.split(", ") if words else [] for words in found.groups()) if found else ([], [])
+                known = {row.verb() for row in self.rows()}
+                if not found or not known.issuperset(begin + need):
+                    raise Refused(f"{self.place(line)}: not `# A case begins with VERB, ..; each needs VERB, ...`, with verbs of rows below")
+        return begin, need
+
+    def runs(self, keeps):
+        """The rows as they are run; keeps says whether an answer can rest on what rows above it left."""
+        rows = self.rows()
+        if not keeps:
+            return [Run([], rows[at:at + BATCH]) for at in range(0, len(rows), BATCH)]
+        begin, need = self.verbs_of_cases()
+        runs, last = [Run([], [])], {}
+        for row in rows:
+            if row.verb() in begin:
+                runs.append(Run(list(last.values()), []))
+            if row.verb() in need:
+                last.pop(row.verb(), None)
+                last[row.verb()] = row
+            runs[-1].rows.append(row)
+        return [run for run in runs if run.rows]
+
+    def run_at(self, line, keeps):
+        """The run of the one row at a line, which may be any line of it, of its answer, or of the comment right above it."""
+        for run in self.runs(keeps):
+            for place, row in enumerate(run.rows):
+                if row.first <= line <= row.last():
+                    return Run(run.needed + run.rows[:place] if keeps else [], [row])
         raise Refused(f"{self.place(line)}: no row is at that line")
 
     def asked(self):
