@@ -128,8 +128,9 @@ class Office:
     def __init__(self):
         self.start()
         must(f"mkdir -p {os.path.dirname(FRONT)}")
+        # it ignores SIGPIPE, as what systemd starts does, or a client that goes away ends it
         self.front = subprocess.Popen(["systemd-socket-activate", f"--listen={FRONT}", PROXY, "--connections-max=1024", "127.0.0.1:8053"],
-                                      stdout=subprocess.DEVNULL, stderr=subprocess.DEVNULL)
+                                      stdout=subprocess.DEVNULL, stderr=subprocess.DEVNULL, restore_signals=False)
         wait_for(lambda: os.path.exists(FRONT))
         must(f"chown www-data {FRONT} && chmod 600 {FRONT}")
 
