@@ -11,7 +11,7 @@ use crate::piece::{push_all, push_comma, push_quoted};
 use dns_data::Record;
 use dns_names::Name;
 use itoa::Buffer;
-use office_state::NumberedChange;
+use office_state::{NumberedChange, RecordLines};
 use std::alloc::AllocError;
 use std::fmt::Write;
 use zone_core::{DelegatedServer, Delegation, Glue};
@@ -58,6 +58,28 @@ fn push_lines(out: &mut Vec<u8>, line: &mut String, records: &[Record]) -> Resul
     Ok(())
 }
 
+/// Lines of records as strings, with commas between them.
+fn push_each_line(out: &mut Vec<u8>, lines: &RecordLines) -> Result<(), AllocError>
+    ensures { Appends out.old out.new (listed (map line_value lines.now)) result }
+{
+    for (i, line) in lines.lines().enumerate() {
+        push_comma(out, i)?;
+        push_quoted(out, line.as_bytes())?;
+    }
+    Ok(())
+}
+
+/// Lines of records.
+#[tactic(auto, using(crate::proofs::AppendLemmas::front_on))]
+fn push_record_lines(out: &mut Vec<u8>, lines: &RecordLines) -> Result<(), AllocError>
+    ensures { Appends out.old out.new (lines_value lines.now) result }
+{
+    out.push(b'[')?;
+    push_each_line(out, lines)?;
+    out.push(b']')?;
+    Ok(())
+}
+
 /// Records.
 #[tactic(auto, using(crate::proofs::AppendLemmas::front_on))]
 pub(crate) fn push_records(out: &mut Vec<u8>, records: &[Record]) -> Result<(), AllocError>
@@ -74,7 +96,6 @@ pub(crate) fn push_records(out: &mut Vec<u8>, records: &[Record]) -> Result<(), 
 #[tactic(auto, using(crate::proofs::AppendLemmas::front_on))]
 fn push_change(
     out: &mut Vec<u8>,
-    line: &mut String,
     number: usize,
     change: &NumberedChange,
 ) -> Result<(), AllocError>
@@ -83,7 +104,7 @@ fn push_change(
     let mut digits = Buffer::new();
     push_comma(out, number)?;
     push_all(out, &[r#"{"added":"#.as_bytes()])?;
-    push_lines(out, line, &change.change.added)?;
+    push_record_lines(out, &change.change.added)?;
     push_all(
         out,
         &[
@@ -92,7 +113,7 @@ fn push_change(
             r#","removed":"#.as_bytes(),
         ],
     )?;
-    push_lines(out, line, &change.change.removed)?;
+    push_record_lines(out, &change.change.removed)?;
     out.push(b'}')?;
     Ok(())
 }
@@ -102,9 +123,8 @@ fn push_change(
 fn push_listed_changes(out: &mut Vec<u8>, changes: &[NumberedChange]) -> Result<(), AllocError>
     ensures { Appends out.old out.new (listed (map change_value changes.now)) result }
 {
-    let mut line = String::new(*out.allocator());
     for (i, change) in changes.iter().enumerate() {
-        push_change(out, &mut line, i, change)?;
+        push_change(out, i, change)?;
     }
     Ok(())
 }
