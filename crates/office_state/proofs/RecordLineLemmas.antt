@@ -1,12 +1,10 @@
 -- A text of record lines has the records whose lines they are, and each is one line.
-use Rattle.std.proofs.Common.{◌≡◌, ℕ, zero, suc, ◌-◌, ◌<◌, ◌^◌, Bool, cond, true, false, eqb, not, ◌&&◌, List, [], ◌∷◌, ◌++◌, length, map, take, Ok, refl, sym, ap, ◌∙◌, arith, append_assoc}
+use Rattle.std.proofs.Common.{◌≡◌, ℕ, zero, suc, ◌+◌, ◌<◌, ◌^◌, Bool, cond, true, false, eqb, not, ◌&&◌, List, [], ◌∷◌, ◌++◌, length, take, drop, Ok, refl, sym, ap, ◌∙◌, arith, append_assoc, length-append, Option, Some, None, Bor}
 use Rattle.std.proofs.lemmas.Bool.{and_parts, and_from, agree_below_at}
-use Rattle.std.proofs.lemmas.List.Elements.{All-from_recursion}
 use Rattle.std.proofs.lemmas.List.Folds.{list_all-append}
-use Rattle.std.proofs.lemmas.List.Splits.{slice_split_at, length-slice_split}
-use Rattle.std.specs.Prelude.{decimal, slice_index}
-use Rattle.std.specs.List.{AllByRecursion, All, flat_map, list_all, slice_split}
-use Rattle.std.specs.Str.Lines.{lines, lines_of_parts, strip_carriage_return}
+use Rattle.std.proofs.Math.Seq.{take-append_seam, drop-append-add}
+use Rattle.std.specs.Prelude.{decimal, MatchOption}
+use Rattle.std.specs.List.{AllByRecursion, flat_map, list_all, position_or_len, before_first, after_first}
 use Rattle.dns_names.specs.Labels.{IsFolded, IsLabel, IsName}
 use Rattle.dns_names.specs.Spelling.{name_text, label_text}
 use Rattle.dns_names.specs.Spelling as names
@@ -24,7 +22,7 @@ use Rattle.dns_master.specs.Files.{placed_file}
 use Rattle.dns_master.specs.ZoneText.{ended_line, records_text, zone_text}
 use Rattle.dns_master.proofs.ZoneLaws.{zone_read}
 use Rattle.dns_master.proofs.FileLaws.{file_only}
-use Rattle.office_state.specs.RecordLines.{read_records, records_in}
+use Rattle.office_state.specs.RecordLines.{read_records, records_in, IsFirst}
 
 root_is : IsName []
 root_is = record { labels = tt; short = omega arith }
@@ -101,34 +99,39 @@ not_true : (b : Bool) → not b ≡ true → b ≡ false
 not_true false e = refl
 not_true true e = absurd cc
 
-no_return : (text : List ℕ) (k : ℕ) → Stays text → eqb (slice_index text k) 13 ≡ false
-no_return [] k h = refl
-no_return (o ∷ text) zero h = not_true (eqb o 13) (and_parts (not (eqb o 10)) (not (eqb o 13)) (and_parts (stays o) (list_all stays text) h).0).1
-no_return (o ∷ text) (suc k) h = no_return text k (and_parts (stays o) (list_all stays text) h).1
+-- the first line ends where the line of the first record does
+line_ends : (line rest : List ℕ) → Stays line → position_or_len (λ o. eqb o 10) (line ++ 10 ∷ rest) ≡ length line
+line_ends [] rest h = refl
+line_ends (o ∷ line) rest h =
+    let both = and_parts (stays o) (list_all stays line) h in
+    let other = not_true (eqb o 10) (and_parts (not (eqb o 10)) (not (eqb o 13)) both.0).0 in
+    let more : position_or_len (λ o. eqb o 10) ((o ∷ line) ++ 10 ∷ rest) ≡ 1 + position_or_len (λ o. eqb o 10) (line ++ 10 ∷ rest) =
+    ap (λ (b : Bool). cond (not b) (1 + position_or_len (λ o. eqb o 10) (line ++ 10 ∷ rest)) 0) other in
+    omega (arith, more, line_ends line rest both.1)
 
-no_line_end : (text : List ℕ) → Stays text → All (λ o. eqb o 10 ≡ false) text
-no_line_end text h = All-from_recursion (λ (o : ℕ). eqb o 10 ≡ false) text (each text h)
-  where
-    each : (text : List ℕ) → Stays text → AllByRecursion (λ o. eqb o 10 ≡ false) text
-    each [] h = tt
-    each (o ∷ text) h =
-        let both = and_parts (stays o) (list_all stays text) h in
-        (not_true (eqb o 10) (and_parts (not (eqb o 10)) (not (eqb o 13)) both.0).0, each text both.1)
+pub first_cut : (r : Record) (rs : List Record) → IsRecord r → position_or_len (λ o. eqb o 10) (records_text (r ∷ rs)) ≡ length (record_line r)
+first_cut r rs is = ap (position_or_len (λ o. eqb o 10)) (append_assoc (record_line r) (10 ∷ []) (records_text rs)) ∙ line_ends (record_line r) (records_text rs) (line_stays r is)
 
-line_kept : (text : List ℕ) → Stays text → strip_carriage_return text ≡ text
-line_kept text h = ap (λ (b : Bool). cond b (take (length text - 1) text) text) (no_return text (length text - 1) h)
-
-one_more : (x : List ℕ) (parts : List (List ℕ)) → 0 < length parts → lines_of_parts (x ∷ parts) ≡ strip_carriage_return x ∷ lines_of_parts parts
-one_more x [] some = absurd (omega arith)
-one_more x (y ∷ more) some = refl
-
-pub printed_lines : (rs : List Record) → AllByRecursion IsRecord rs → lines (records_text rs) ≡ map record_line rs
-printed_lines [] are = refl
-printed_lines (r ∷ rs) are =
+pub line_before : (r : Record) (rs : List Record) → IsRecord r → before_first (λ o. eqb o 10) (records_text (r ∷ rs)) ≡ record_line r
+line_before r rs is =
+    let line = record_line r in
     let rest = records_text rs in
-    let fine = line_stays r are.0 in
-    let parts = slice_split (λ o. eqb o 10) rest in
-    let cut : slice_split (λ o. eqb o 10) (records_text (r ∷ rs)) ≡ record_line r ∷ parts =
-    ap (slice_split (λ o. eqb o 10)) (append_assoc (record_line r) (10 ∷ []) rest) ∙ slice_split_at (λ o. eqb o 10) (record_line r) 10 rest (no_line_end (record_line r) fine) refl in
-    let some : 0 < length parts = omega (arith, length-slice_split (λ o. eqb o 10) rest) in
-    ap lines_of_parts cut ∙ one_more (record_line r) parts some ∙ ap (λ (l : List ℕ). l ∷ lines rest) (line_kept (record_line r) fine) ∙ ap (λ (ls : List (List ℕ)). record_line r ∷ ls) (printed_lines rs are.1)
+    ap (λ (n : ℕ). take n (records_text (r ∷ rs))) (first_cut r rs is) ∙ ap (take (length line)) (append_assoc line (10 ∷ []) rest) ∙ take-append_seam line (10 ∷ rest)
+
+pub lines_after : (r : Record) (rs : List Record) → IsRecord r → after_first (λ o. eqb o 10) (records_text (r ∷ rs)) ≡ records_text rs
+lines_after r rs is =
+    let line = record_line r in
+    let rest = records_text rs in
+    ap (λ (n : ℕ). drop (n + 1) (records_text (r ∷ rs))) (first_cut r rs is) ∙ ap (drop (length line + 1)) (append_assoc line (10 ∷ []) rest) ∙ drop-append-add line (10 ∷ rest) 1
+
+-- so a text that is cut at its first line end is cut behind the line of its first record
+abbrev pub IsCut : List ℕ → Option (Bor (List ℕ) × Bor (List ℕ)) → Type 0
+IsCut text found =
+    MatchOption found (position_or_len (λ o. eqb o 10) text ≡ length text)
+    (λ x. (x.0.now ≡ before_first (λ o. eqb o 10) text) × (x.1.now ≡ after_first (λ o. eqb o 10) text) × (position_or_len (λ o. eqb o 10) text < length text))
+
+pub cut_at_first : (rs : List Record) (found : Option (Bor (List ℕ) × Bor (List ℕ))) → AllByRecursion IsRecord rs → IsCut (records_text rs) found → IsFirst rs found
+cut_at_first [] None are cut = refl
+cut_at_first [] (Some x) are cut = absurd (omega (arith, cut.2))
+cut_at_first (r ∷ rs) None are cut = absurd (omega (arith, cut, first_cut r rs are.0, length-append (record_line r ++ 10 ∷ []) (records_text rs), length-append (record_line r) (10 ∷ [])))
+cut_at_first (r ∷ rs) (Some x) are cut = (cut.0 ∙ line_before r rs are.0, cut.1 ∙ lines_after r rs are.0)

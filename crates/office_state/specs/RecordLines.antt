@@ -1,8 +1,10 @@
 -- The records that a text of record lines has.
-use Rattle.std.specs.Prelude.{◌≡◌, ℕ, List, [], ◌++◌, Result, Ok, Err}
+use Rattle.std.specs.Prelude.{◌≡◌, ℕ, List, [], ◌∷◌, ◌++◌, Option, None, Result, Ok, Err, IsSomeAnd}
+use Rattle.std.specs.Borrow.{Bor}
 use Rattle.std.specs.List.{AllByRecursion}
 use Rattle.dns_data.specs.declared.record.Record.{Record}
 use Rattle.dns_data.specs.Rdata.{IsRecord}
+use Rattle.dns_data.specs.Text.{record_line}
 use Rattle.dns_master.specs.Files.{placed_file}
 use Rattle.dns_master.specs.ZoneText.{origin_line, records_text}
 
@@ -19,3 +21,8 @@ records_in text = read_records (placed_file (origin_line [] ++ text) [])
 pub record AreLines (text : List ℕ) : Type 0 where
   pub records : AllByRecursion IsRecord (records_in text)
   pub lines : text ≡ records_text (records_in text)
+
+-- the line of the first record, and the lines of the others; nothing where there is no record
+abbrev pub IsFirst : List Record → Option (Bor (List ℕ) × Bor (List ℕ)) → Type 0
+IsFirst [] found = found ≡ None
+IsFirst (r ∷ rs) found = IsSomeAnd found (λ cut. (cut.0.now ≡ record_line r) × (cut.1.now ≡ records_text rs))

@@ -24,7 +24,7 @@ pub use items_fault::ItemsFault;
 pub use laws::items_are_read;
 pub use lines::{ItemLists, entry_items, read_item_lists, read_items};
 pub use receipt::{Addition, Receipt};
-pub use record_lines::RecordLines;
+pub use record_lines::{RecordLines, first_line};
 pub use reply::{NumberedChange, Reply, Right, SeenChange, UpdateReply};
 pub use reply_text::reply_words;
 pub use request::{Call, Request};

@@ -1,20 +1,16 @@
 //! Records as lines of a master file, in one piece of memory.
 
-ghost use Rattle.std.specs.Prelude.{◌≡◌, IfOk, List, map, string_bytes};
+ghost use Rattle.std.specs.Prelude.{◌≡◌, IfOk, List, string_bytes};
 ghost use Rattle.std.specs.List.{AllByRecursion};
-ghost use Rattle.std.specs.Str.Iter.{lines_rest};
-ghost use Rattle.std.specs.Str.Lines.{lines};
-ghost use Rattle.dns_data.specs.Text.{record_line};
 ghost use Rattle.dns_data.specs.declared.record.Record.{Record as RecordOf};
 ghost use Rattle.dns_data.specs.Rdata.{IsRecord};
 ghost use Rattle.dns_master.specs.ZoneText.{records_text};
-ghost use Rattle.office_state.specs.RecordLines.{records_in, AreLines};
+ghost use Rattle.office_state.specs.RecordLines.{records_in, AreLines, IsFirst};
 
 use dns_data::Record;
 use std::alloc::{AllocError, Global};
 use std::fmt::Write;
 use std::marker::Model;
-use std::str::Lines;
 
 /// Records are such.
 fn reveal_records(records: &[Record])
@@ -62,10 +58,18 @@ impl RecordLines {
         Ok(RecordLines { text })
     }
 
-    /// The lines of the records, in their order, without line ends.
-    pub fn lines(&self) -> Lines<'_>
-        ensures { lines (lines_rest result) ≡ map record_line self.now }
+    /// The lines, each with its line end.
+    pub fn text(&self) -> &str
+        ensures text { result.now ≡ records_text self.now }
+        ensures records { AllByRecursion IsRecord self.now }
     {
-        self.text.lines()
+        &self.text
     }
+}
+
+/// The first line of a text of record lines, without its line end, and the text behind it.
+pub fn first_line(text: &str) -> Option<(&str, &str)>
+    ensures { (rs : List RecordOf) → AllByRecursion IsRecord rs → text.now ≡ records_text rs → IsFirst rs result }
+{
+    text.split_once('\n')
 }
