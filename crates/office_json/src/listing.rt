@@ -11,7 +11,7 @@ use crate::piece::{push_all, push_comma, push_quoted};
 use dns_data::Record;
 use dns_names::Name;
 use itoa::Buffer;
-use office_state::{NumberedChange, RecordLines};
+use office_state::{NumberedChange, RecordLines, first_line};
 use std::alloc::AllocError;
 use std::fmt::Write;
 use zone_core::{DelegatedServer, Delegation, Glue};
@@ -58,13 +58,26 @@ fn push_lines(out: &mut Vec<u8>, line: &mut String, records: &[Record]) -> Resul
     Ok(())
 }
 
+/// A text of this number among others, as a string.
+#[tactic(auto, using(crate::proofs::AppendLemmas::front_on))]
+fn push_text(out: &mut Vec<u8>, number: usize, text: &str) -> Result<(), AllocError>
+    ensures { Appends out.old out.new (comma_before number ++ quoted text.now) result }
+{
+    push_comma(out, number)?;
+    push_quoted(out, text.as_bytes())
+}
+
 /// Lines of records as strings, with commas between them.
+#[tactic(auto, using(crate::proofs::AppendLemmas::front_on, crate::proofs::AppendLemmas::items_done))]
 fn push_each_line(out: &mut Vec<u8>, lines: &RecordLines) -> Result<(), AllocError>
     ensures { Appends out.old out.new (listed (map line_value lines.now)) result }
 {
-    for (i, line) in lines.lines().enumerate() {
-        push_comma(out, i)?;
-        push_quoted(out, line.as_bytes())?;
+    let mut rest = lines.text();
+    let mut number = 0;
+    while let Some((line, more)) = first_line(rest) {
+        push_text(out, number, line)?;
+        rest = more;
+        number += 1;
     }
     Ok(())
 }
