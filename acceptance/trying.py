@@ -174,7 +174,7 @@ def set_up_front(users, password):
 
 
 # what the commands of the pages take from the top folder
-SOURCES = "client", "crates/job_faults/src", "deploy", "docs", "examples", "package", "web"
+SOURCES = "CHANGELOG.md", "client", "crates/command_line/src", "crates/job_faults/src", "deploy", "docs", "examples", "package", "tools", "web"
 
 
 class Machine:
@@ -192,7 +192,8 @@ class Machine:
         os.makedirs(f"{top}/crates/zoneoffice/out")
         shutil.copy(PROGRAM, f"{top}/crates/zoneoffice/out/zoneoffice")
         for part in SOURCES:
-            shutil.copytree(f"{TOP}/{part}", f"{top}/{part}")
+            copy = shutil.copytree if os.path.isdir(f"{TOP}/{part}") else shutil.copy
+            copy(f"{TOP}/{part}", f"{top}/{part}")
         self.boot()
 
     def mount(self, folder, base):
