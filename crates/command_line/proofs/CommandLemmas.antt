@@ -95,7 +95,7 @@ read_back command.Explain = refl
 pub job_of_command : (c : Command) (words : List Text) → job_of (command_word c ∷ words) ≡ job_by c (rows_after (rules_of c) [] words)
 unfolding office
 job_of_command c words =
-    ap job_met (ap entered_at (gathered (built office).top.rules (names_of (built office)) (first_walked c) (command_word c) [] words (met c)) ∙ entered_by c words)
+    ap (job_met (command_word c ∷ words)) (ap entered_at (gathered (built office).top.rules (names_of (built office)) (first_walked c) (command_word c) [] words (met c)) ∙ entered_by c words)
     ∙ ap (option_and_then (λ x. job_by x (rows_after (rules_of c) [] words))) (read_back c)
 
 -- ---- the words of options and places

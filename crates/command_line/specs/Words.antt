@@ -290,11 +290,15 @@ job_by command.Explain rows = Some (explain_of rows)
 abbrev pub job_named : Text → List Row → Option JobOf
 job_named word rows = option_and_then (λ c. job_by c rows) (command_of word)
 
--- no command is `apply`
-abbrev pub job_met : Option (Text × List Row) → Option JobOf
-job_met None = Some apply
-job_met (Some p) = job_named p.0 p.1
+-- no word at all is `apply`, and words without a command, as `--`, are no job
+abbrev pub job_without_command : List Text → Option JobOf
+job_without_command [] = Some apply
+job_without_command (_ ∷ _) = None
+
+abbrev pub job_met : List Text → Option (Text × List Row) → Option JobOf
+job_met words None = job_without_command words
+job_met words (Some p) = job_named p.0 p.1
 
 -- the job of words, as they are told apart by the rules of the commands
 abbrev pub job_of : List Text → Option JobOf
-job_of words = job_met (subcommand_of office words)
+job_of words = job_met words (subcommand_of office words)

@@ -4,7 +4,7 @@ ghost use Rattle.std.specs.Prelude.{◌≡◌, [], IfErr, IfOk, map, option_map,
 ghost use Rattle.std.specs.Option.{option_zip};
 ghost use Rattle.clap.specs.Words.{Text, app_of, fault_of, first_of, found_of, kind_of, one_of, rows_of, subcommand_rows_of, takes};
 ghost use Rattle.command_line.specs.Commands.{office, argument_name};
-ghost use Rattle.command_line.specs.Words.{asks, asks_store, asks_text, chosen, JobOf, canon_of, files_asked, files_by, files_of, diff_of, request_of, zone_asked, stored_of, import_of, export_of, zones_of, log_asked, log_choice_of, log_of, migrate_of, rights_of, plan_of, serve_of, checked_of, isolated_of, listed_of, choice_of, linted_of, check_of, explain_of, number_if, existing_of, zone_form_of, diff_form_of, form_of, job_by, job_named, job_met, job_of};
+ghost use Rattle.command_line.specs.Words.{asks, asks_store, asks_text, chosen, JobOf, canon_of, files_asked, files_by, files_of, diff_of, request_of, zone_asked, stored_of, import_of, export_of, zones_of, log_asked, log_choice_of, log_of, migrate_of, rights_of, plan_of, serve_of, checked_of, isolated_of, listed_of, choice_of, linted_of, check_of, explain_of, number_if, existing_of, zone_form_of, diff_form_of, form_of, job_by, job_named, job_without_command, job_met, job_of};
 ghost use Rattle.command_line.specs.PlainForms.{IsPlain};
 ghost use Rattle.command_line.specs.Misuse.{IsReportedAs, IsReported, is_help};
 
@@ -358,13 +358,23 @@ fn job_named<'a>(word: &str, matches: &ArgMatches<'a>) -> Option<Job<'a>>
     job_of_command(command, matches)
 }
 
-/// The job of what was matched.
-fn job_in<'a>(matches: &ArgMatches<'a>) -> Option<Job<'a>>
-    ensures { option_map asks result ≡ job_met (subcommand_rows_of matches.now) }
+/// The job of words without a command: `apply`, if there is no word at all.
+fn job_without_command<'a>(words: &[&str]) -> Option<Job<'a>>
+    ensures { option_map asks result ≡ job_without_command (map (λ s. s.now) words.now) }
+{
+    if words.is_empty() {
+        return Some(Job::Text(TextJob::Apply));
+    }
+    None
+}
+
+/// The job of words, of which this was matched.
+fn job_in<'a>(words: &[&str], matches: &ArgMatches<'a>) -> Option<Job<'a>>
+    ensures { option_map asks result ≡ job_met (map (λ s. s.now) words.now) (subcommand_rows_of matches.now) }
 {
     match matches.subcommand() {
         Some((word, inner)) => job_named(word, inner),
-        None => Some(Job::Text(TextJob::Apply)),
+        None => job_without_command(words),
     }
 }
 
@@ -447,7 +457,7 @@ fn job_by<'a>(
         Ok(matches) => matches,
         Err(error) => return Err(reported(alloc, error)),
     };
-    match job_in(&matches) {
+    match job_in(words, &matches) {
         Some(job) => Ok(job),
         None => Err(mistake(alloc, command, mistake_in(&matches))),
     }

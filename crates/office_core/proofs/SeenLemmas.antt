@@ -12,6 +12,7 @@ use Rattle.grant_policy.specs.Decisions.{decision, is_granted}
 use Rattle.grant_policy.specs.Grants.{GrantsOf, includes}
 use Rattle.zone_core.specs.declared.change.Change.{Change}
 use Rattle.zone_core.specs.Changes.{ChangeOf, change_in}
+use Rattle.office_state.specs.Replies.{seen_in}
 use Rattle.office_state.specs.States.{Held}
 use Rattle.office_state.specs.Tables.{AreHidden, IsHidden}
 use Rattle.office_core.specs.declared.changes.Seen.{Seen}
@@ -90,7 +91,7 @@ module _ (g : GrantsOf) (lists : g.action ≡ action.List) where
 
   -- the next piece of the changes of a zone
   module _ (zone : Held) (old new : Seen) (n most : ℕ) (piece : List Change) (hidden : AreHidden g (drop old.read zone.changes) n) (is : map change_in piece ≡ take most (drop (old.read + n) zone.changes)) (read : new.read ≡ old.read + n + length piece)
-      (sees : map change_in new.changes.items ≡ map change_in old.changes.items ++ seen rules caller (map change_in piece)) where
+      (sees : map seen_in new.changes.items ≡ map seen_in old.changes.items ++ seen rules caller (map change_in piece)) where
     module _ (count : ℕ) (up : IsSeenUpTo g count zone.changes old) where
       abbrev rest : List ChangeOf
       rest = drop count zone.changes
@@ -120,13 +121,13 @@ module _ (g : GrantsOf) (lists : g.action ≡ action.List) where
       as_many = length-map piece change_in
 
       there : k + n + length piece ≤ length rest
-      there = omega (arith, as_many, next_there rest (map change_in piece) (map change_in old.changes.items) k n most up_to up.sees hides cut)
+      there = omega (arith, as_many, next_there rest (map change_in piece) (map seen_in old.changes.items) k n most up_to up.sees hides cut)
 
       here : new.read - count ≡ k + n + length piece
       here = omega (arith, read, at)
 
-      told : map change_in new.changes.items ≡ seen rules caller (take (k + n + length piece) rest)
-      told = sees ∙ next_sees rest (map change_in piece) (map change_in old.changes.items) k n most up_to up.sees hides cut ∙ ap (λ (m : ℕ). seen rules caller (take (k + n + m) rest)) as_many
+      told : map seen_in new.changes.items ≡ seen rules caller (take (k + n + length piece) rest)
+      told = sees ∙ next_sees rest (map change_in piece) (map seen_in old.changes.items) k n most up_to up.sees hides cut ∙ ap (λ (m : ℕ). seen rules caller (take (k + n + m) rest)) as_many
 
       next_up : IsSeenUpTo g count zone.changes new
       next_up = record {
@@ -137,7 +138,7 @@ module _ (g : GrantsOf) (lists : g.action ≡ action.List) where
 
       next_whole : length piece < most → IsSeenWhole g count zone.changes new
       next_whole few =
-          let all = next_last rest (map change_in piece) (map change_in old.changes.items) k n most up_to up.sees hides cut (omega (arith, as_many, few)) in
+          let all = next_last rest (map change_in piece) (map seen_in old.changes.items) k n most up_to up.sees hides cut (omega (arith, as_many, few)) in
           record {
             read = omega (arith, read, at, as_many, all);
             sees = told ∙ ap (λ (l : List ChangeOf). seen rules caller l) (take_all (k + n + length piece) rest (omega (arith, as_many, all)));
@@ -151,5 +152,5 @@ module _ (g : GrantsOf) (lists : g.action ≡ action.List) where
   none_yet count cs s read none = record {
     from = omega (arith, read);
     there = omega (arith, read);
-    sees = ap (map change_in) none ∙ ap (λ (m : ℕ). seen rules caller (take m (drop count cs))) (let e : 0 ≡ s.read - count = omega (arith, read) in e);
+    sees = ap (map seen_in) none ∙ ap (λ (m : ℕ). seen rules caller (take m (drop count cs))) (let e : 0 ≡ s.read - count = omega (arith, read) in e);
   }

@@ -1,7 +1,8 @@
 -- What is read of the changes of a zone for a caller, one piece after the other.
 use Rattle.std.specs.Prelude.{◌≡◌, ℕ, ◌+◌, ◌-◌, ◌≤◌, List, Bool, false, Option, Some, None, length, take, drop, map}
 use Rattle.grant_policy.specs.Grants.{GrantsOf}
-use Rattle.zone_core.specs.Changes.{ChangeOf, change_in}
+use Rattle.zone_core.specs.Changes.{ChangeOf}
+use Rattle.office_state.specs.Replies.{seen_in}
 use Rattle.office_state.specs.States.{Held}
 use Rattle.office_core.specs.declared.changes.Seen.{Seen}
 use Rattle.office_core.specs.Machine.{seen}
@@ -10,12 +11,12 @@ use Rattle.office_core.specs.Machine.{seen}
 pub record IsSeenUpTo (grants : GrantsOf) (count : ℕ) (cs : List ChangeOf) (s : Seen) : Type 0 where
   pub from : count ≤ s.read
   pub there : s.read ≤ count + length (drop count cs)
-  pub sees : map change_in s.changes.items ≡ seen grants.rules grants.caller (take (s.read - count) (drop count cs))
+  pub sees : map seen_in s.changes.items ≡ seen grants.rules grants.caller (take (s.read - count) (drop count cs))
 
 -- all of them were read
 pub record IsSeenWhole (grants : GrantsOf) (count : ℕ) (cs : List ChangeOf) (s : Seen) : Type 0 where
   pub read : s.read ≡ count + length (drop count cs)
-  pub sees : map change_in s.changes.items ≡ seen grants.rules grants.caller (drop count cs)
+  pub sees : map seen_in s.changes.items ≡ seen grants.rules grants.caller (drop count cs)
 
 -- what was read before and is read now, if there is a zone; where no more is to be read, all of it was
 abbrev pub IsNext : GrantsOf → Option Held → Seen → Seen → Option Bool → Type 0

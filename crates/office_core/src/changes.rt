@@ -3,7 +3,7 @@
 ghost use Rattle.std.specs.Prelude.{◌≡◌, ◌+◌, ◌<◌, ◌≤◌, ◌++◌, [], ◌∷◌, true, Ok, Some, IfOk, OnOk, map, length, nat_le};
 ghost use Rattle.std.specs.List.{filter};
 ghost use Rattle.zone_core.specs.Changes.{change_in};
-ghost use Rattle.office_state.specs.Replies.{numbered_of};
+ghost use Rattle.office_state.specs.Replies.{numbered_of, seen_in};
 ghost use Rattle.office_state.specs.States.{State};
 ghost use Rattle.office_state.specs.Tables.{ReadsOnly};
 ghost use Rattle.office_core.specs.Machine.{unchanged, of_zone, changes_reply, if_some, listed, seen, seen_of, numbered};
@@ -15,7 +15,7 @@ use crate::bookmark::Bookmarks;
 use dns_data::Record;
 use dns_names::Name;
 use grant_policy::{Action, Grants, Identifier, Policy};
-use office_state::{NumberedChange, Reply, TableFault, ZoneTable, included};
+use office_state::{NumberedChange, Reply, SeenChange, TableFault, ZoneTable, included};
 use std::alloc::{AllocError, Global};
 use zone_core::Change;
 
@@ -47,17 +47,18 @@ fn seen_of(alloc: Global, grants: &mut Grants<'_>, change: Change) -> Result<Cha
 /// Appends what the caller sees of a change, if it sees some record of it. The only error is out of memory.
 fn push_seen(
     alloc: Global,
-    all: &mut Vec<Change>,
+    room: &mut String,
+    all: &mut Vec<SeenChange>,
     grants: &mut Grants<'_>,
     change: Change,
 ) -> Result<(), AllocError>
     requires { grants.old.action ≡ Action.List }
-    ensures value { OnOk result (map change_in all.new.items ≡ map change_in all.old.items ++ if_some (seen_of grants.old.rules grants.old.caller (change_in change))) }
+    ensures value { OnOk result (map seen_in all.new.items ≡ map seen_in all.old.items ++ if_some (seen_of grants.old.rules grants.old.caller (change_in change))) }
     ensures same { grants.new ≡ grants.old }
 {
     let seen = seen_of(alloc, grants, change)?;
     if !seen.is_empty() {
-        all.push(seen)?;
+        all.push(SeenChange::of(alloc, room, &seen)?)?;
     }
     Ok(())
 }
@@ -78,7 +79,9 @@ struct Seen {
     /// How many changes of the zone come before the next one.
     read: u32,
     /// Of each the records that the caller may list; those of which it sees nothing are left out.
-    changes: Vec<Change>,
+    changes: Vec<SeenChange>,
+    /// The room in which lines are written.
+    room: String,
 }
 
 impl Seen {
@@ -92,12 +95,12 @@ impl Seen {
         requires { grants.old.action ≡ Action.List }
         ensures read { OnOk result (self.new.read ≡ self.old.read + length changes.items) }
         ensures fits { OnOk result (self.new.read ≤ 4294967295) }
-        ensures changes { OnOk result (map change_in self.new.changes.items ≡ map change_in self.old.changes.items ++ seen grants.old.rules grants.old.caller (map change_in changes.items)) }
+        ensures changes { OnOk result (map seen_in self.new.changes.items ≡ map seen_in self.old.changes.items ++ seen grants.old.rules grants.old.caller (map change_in changes.items)) }
         ensures same { grants.new ≡ grants.old }
     {
         self.read = counted(self.read, changes.len())?;
         for change in changes {
-            push_seen(alloc, &mut self.changes, grants, change)?;
+            push_seen(alloc, &mut self.room, &mut self.changes, grants, change)?;
         }
         Ok(())
     }
@@ -146,6 +149,7 @@ fn seen_behind<T: ZoneTable>(
     let mut seen = Seen {
         read: count,
         changes: Vec::new(alloc),
+        room: String::new(alloc),
     };
     'pieces: loop {
         match seen.read_next(alloc, table, grants, origin)? {
@@ -161,9 +165,9 @@ fn push_numbered(
     all: &mut Vec<NumberedChange>,
     from: u32,
     number: u64,
-    change: Change,
+    change: SeenChange,
 ) -> Result<(), AllocError>
-    ensures { OnOk result (map numbered_of all.new.items ≡ map numbered_of all.old.items ++ filter (λ c. nat_le from c.number) (numbered number (change_in change ∷ []))) }
+    ensures { OnOk result (map numbered_of all.new.items ≡ map numbered_of all.old.items ++ filter (λ c. nat_le from c.number) (numbered number (seen_in change ∷ []))) }
 {
     let change = NumberedChange { number, change };
     if number >= u64::from(from) {
@@ -177,9 +181,9 @@ fn numbered_from(
     alloc: Global,
     from: u32,
     behind: u32,
-    changes: Vec<Change>,
+    changes: Vec<SeenChange>,
 ) -> Result<Vec<NumberedChange>, AllocError>
-    ensures { IfOk result (λ all. map numbered_of all.items ≡ filter (λ c. nat_le from c.number) (numbered (behind + 1) (map change_in changes.items))) }
+    ensures { IfOk result (λ all. map numbered_of all.items ≡ filter (λ c. nat_le from c.number) (numbered (behind + 1) (map seen_in changes.items))) }
 {
     let mut all = Vec::new(alloc);
     let mut number = u64::from(behind);
@@ -211,7 +215,7 @@ pub(crate) fn changes<T: ZoneTable>(
     let Some(seen) = seen_behind(alloc, table, &mut grants, origin, began.read)? else {
         return Ok(Reply::NotAuth);
     };
-    let Seen { read, changes } = seen;
+    let Seen { read, changes, .. } = seen;
     let ended = began.after(read, changes.len());
     let changes = numbered_from(alloc, from, began.seen, changes)?;
     bookmarks.keep(alloc, caller, origin, began, ended);

@@ -6,6 +6,7 @@ pub mod DelegationLemmas
 pub mod EscapeLemmas
 pub mod FormLaws
 pub mod ListLemmas
+pub mod RecordLineLemmas
 pub mod ShortLemmas
 pub mod UpdateTextLaws
 pub mod ValueLemmas

@@ -115,7 +115,7 @@ records_body rs = object (member (codes "records") (lines_value rs) ∷ [])
 -- a change with its number, the records that came and those that went
 abbrev pub change_value : NumberedChange → List ℕ
 change_value change =
-    object (member (codes "added") (lines_value change.change.added.items) ∷ member (codes "number") (decimal change.number) ∷ member (codes "removed") (lines_value change.change.removed.items) ∷ [])
+    object (member (codes "added") (lines_value change.change.added) ∷ member (codes "number") (decimal change.number) ∷ member (codes "removed") (lines_value change.change.removed) ∷ [])
 
 -- changes, in their order
 abbrev pub changes_body : List NumberedChange → List ℕ

@@ -11,7 +11,7 @@ use crate::piece::{push_all, push_comma, push_quoted};
 use dns_data::Record;
 use dns_names::Name;
 use itoa::Buffer;
-use office_state::NumberedChange;
+use office_state::{NumberedChange, RecordLines, first_line};
 use std::alloc::AllocError;
 use std::fmt::Write;
 use zone_core::{DelegatedServer, Delegation, Glue};
@@ -58,6 +58,41 @@ fn push_lines(out: &mut Vec<u8>, line: &mut String, records: &[Record]) -> Resul
     Ok(())
 }
 
+/// A text of this number among others, as a string.
+#[tactic(auto, using(crate::proofs::AppendLemmas::front_on))]
+fn push_text(out: &mut Vec<u8>, number: usize, text: &str) -> Result<(), AllocError>
+    ensures { Appends out.old out.new (comma_before number ++ quoted text.now) result }
+{
+    push_comma(out, number)?;
+    push_quoted(out, text.as_bytes())
+}
+
+/// Lines of records as strings, with commas between them.
+#[tactic(auto, using(crate::proofs::AppendLemmas::front_on, crate::proofs::AppendLemmas::items_done))]
+fn push_each_line(out: &mut Vec<u8>, lines: &RecordLines) -> Result<(), AllocError>
+    ensures { Appends out.old out.new (listed (map line_value lines.now)) result }
+{
+    let mut rest = lines.text();
+    let mut number = 0;
+    while let Some((line, more)) = first_line(rest) {
+        push_text(out, number, line)?;
+        rest = more;
+        number += 1;
+    }
+    Ok(())
+}
+
+/// Lines of records.
+#[tactic(auto, using(crate::proofs::AppendLemmas::front_on))]
+fn push_record_lines(out: &mut Vec<u8>, lines: &RecordLines) -> Result<(), AllocError>
+    ensures { Appends out.old out.new (lines_value lines.now) result }
+{
+    out.push(b'[')?;
+    push_each_line(out, lines)?;
+    out.push(b']')?;
+    Ok(())
+}
+
 /// Records.
 #[tactic(auto, using(crate::proofs::AppendLemmas::front_on))]
 pub(crate) fn push_records(out: &mut Vec<u8>, records: &[Record]) -> Result<(), AllocError>
@@ -72,18 +107,13 @@ pub(crate) fn push_records(out: &mut Vec<u8>, records: &[Record]) -> Result<(), 
 
 /// A change of this number among others.
 #[tactic(auto, using(crate::proofs::AppendLemmas::front_on))]
-fn push_change(
-    out: &mut Vec<u8>,
-    line: &mut String,
-    number: usize,
-    change: &NumberedChange,
-) -> Result<(), AllocError>
+fn push_change(out: &mut Vec<u8>, number: usize, change: &NumberedChange) -> Result<(), AllocError>
     ensures { Appends out.old out.new (comma_before number ++ change_value change.now) result }
 {
     let mut digits = Buffer::new();
     push_comma(out, number)?;
     push_all(out, &[r#"{"added":"#.as_bytes()])?;
-    push_lines(out, line, &change.change.added)?;
+    push_record_lines(out, &change.change.added)?;
     push_all(
         out,
         &[
@@ -92,7 +122,7 @@ fn push_change(
             r#","removed":"#.as_bytes(),
         ],
     )?;
-    push_lines(out, line, &change.change.removed)?;
+    push_record_lines(out, &change.change.removed)?;
     out.push(b'}')?;
     Ok(())
 }
@@ -102,9 +132,8 @@ fn push_change(
 fn push_listed_changes(out: &mut Vec<u8>, changes: &[NumberedChange]) -> Result<(), AllocError>
     ensures { Appends out.old out.new (listed (map change_value changes.now)) result }
 {
-    let mut line = String::new(*out.allocator());
     for (i, change) in changes.iter().enumerate() {
-        push_change(out, &mut line, i, change)?;
+        push_change(out, i, change)?;
     }
     Ok(())
 }

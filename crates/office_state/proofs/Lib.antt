@@ -1,3 +1,4 @@
+pub mod RecordLineLemmas
 pub mod TextLemmas
 pub mod FieldLemmas
 pub mod GatherLemmas

@@ -1,3 +1,4 @@
+pub mod RecordLines
 pub mod TableFaults
 pub mod Replies
 pub mod ReplyWords

@@ -5,12 +5,14 @@ use Rattle.grant_policy.specs.Decisions.{Verdict, granted, denied}
 use Rattle.zone_core.specs.declared.rcode.Rcode.{Rcode}
 use Rattle.zone_core.specs.declared.rcode.Rcode.TheVariants as codes
 use Rattle.zone_core.specs.Rcodes.{rcode_of}
+use Rattle.zone_core.specs.Changes.{ChangeOf}
 use Rattle.zone_core.specs.Delegations.{DelegationOf, report_of}
 use Rattle.office_state.specs.declared.reply.UpdateReply.{UpdateReply}
 use Rattle.office_state.specs.declared.reply.UpdateReply.TheVariants as updates
 use Rattle.office_state.specs.declared.reply.Right.{Right}
 use Rattle.office_state.specs.declared.reply.Right.TheVariants as rights
 use Rattle.office_state.specs.declared.reply.NumberedChange.{NumberedChange}
+use Rattle.office_state.specs.declared.reply.SeenChange.{SeenChange}
 use Rattle.office_state.specs.declared.reply.Reply.{Reply}
 use Rattle.office_state.specs.declared.reply.Reply.TheVariants as replies
 use Rattle.office_state.specs.TableFaults.{cause, table_fault_number}
@@ -50,8 +52,11 @@ abbrev pub right_of : Right → Verdict
 right_of (rights.Granted id) = granted id
 right_of (rights.Denied by) = denied by
 
+abbrev pub seen_in : SeenChange → ChangeOf
+seen_in c = record { removed = c.removed; added = c.added }
+
 abbrev pub numbered_of : NumberedChange → NumberedOf
-numbered_of c = record { number = c.number; removed = c.change.removed.items; added = c.change.added.items }
+numbered_of c = record { number = c.number; removed = c.change.removed; added = c.change.added }
 
 -- a reply of the machine; none where the table failed or memory ran out
 abbrev pub reply_of : Reply → Option ReplyOf

@@ -1,8 +1,10 @@
 //! What the office replies.
 
 ghost use Rattle.std.specs.Prelude.{◌≡◌, IfOk};
-ghost use Rattle.office_state.specs.Replies.{update_rcode, reply_refusal};
+ghost use Rattle.zone_core.specs.Changes.{change_in};
+ghost use Rattle.office_state.specs.Replies.{update_rcode, reply_refusal, seen_in};
 
+use crate::record_lines::RecordLines;
 use crate::table_fault::StepFault;
 use dns_data::Record;
 use dns_names::Name;
@@ -37,12 +39,33 @@ pub enum Right {
     Denied(Option<Identifier>),
 }
 
+/// What a caller sees of a change: the records that it may list, as lines, which take no more memory than a response with them.
+#[derive(Drop)]
+pub struct SeenChange {
+    /// The records that go, in record order.
+    pub removed: RecordLines,
+    /// The records that come, in record order.
+    pub added: RecordLines,
+}
+
+impl SeenChange {
+    /// A change, whose lines are written in a room that may be used again. The only error is out of memory.
+    pub fn of(alloc: Global, room: &mut String, change: &Change) -> Result<SeenChange, AllocError>
+        ensures { IfOk result (λ seen. seen_in seen ≡ change_in change.now) }
+    {
+        Ok(SeenChange {
+            removed: RecordLines::of(alloc, room, &change.removed)?,
+            added: RecordLines::of(alloc, room, &change.added)?,
+        })
+    }
+}
+
 /// What a caller sees of a change, with its number among the changes of which the caller sees something, from 1.
 #[derive(Drop)]
 pub struct NumberedChange {
     pub number: u64,
     /// The records of the change that the caller may list.
-    pub change: Change,
+    pub change: SeenChange,
 }
 
 /// A reply.

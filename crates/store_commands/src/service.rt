@@ -53,6 +53,14 @@ fn listening_text(alloc: Global, address: SocketAddr) -> Result<String, AllocErr
     format!(in alloc; "listening {address}\n")
 }
 
+/// Says on standard error that nothing can listen at an address, which the refusal's number does not tell from an input that cannot be
+/// read.
+fn complain_unheard(rt: &HostRuntime, listen: &str) {
+    if let Ok(words) = format!(in rt.alloc(); "zoneoffice: nothing can listen at {listen}") {
+        let _ = rt.eprintln(words.as_str());
+    }
+}
+
 /// A listener at an address and a port, and where it listens. `ReadFailed` comes where there can be none.
 fn listener_at<M: Surroundings>(
     around: &M,
@@ -78,8 +86,14 @@ fn listening_at<M: Surroundings>(
     ensures told { IfOk result (λ listening. (address : List ℕ) × (string_bytes listening.1 ≡ listening_line address)) }
     ensures refused { IfErr result (IsNoListener (M.around around.now) listen.now) }
 {
-    let (listener, address) = listener_at(around, listen)?;
     let rt = around.machine();
+    let (listener, address) = match listener_at(around, listen) {
+        Ok(heard) => heard,
+        Err(fault) => {
+            complain_unheard(rt, listen);
+            return Err(fault);
+        }
+    };
     warn_if_reachable(rt, address);
     let text = listening_text(rt.alloc(), address)?;
     Ok((listener, text))

@@ -3,7 +3,7 @@
 use dns_data::Record;
 use dns_names::Name;
 use grant_policy::Identifier;
-use office_state::{NumberedChange, Reply, Right, StepFault, TableFault, UpdateReply};
+use office_state::{NumberedChange, RecordLines, Reply, Right, StepFault, TableFault, UpdateReply};
 use std::alloc::{AllocError, Global};
 use zone_core::{DelegatedServer, Delegation, Glue, ItemList, Place};
 
@@ -106,6 +106,19 @@ fn push_server(
     push(&format!(in alloc; " {name} {glue}")?, told)
 }
 
+/// Appends lines of records behind a sign.
+fn push_lines(
+    alloc: Global,
+    sign: &str,
+    lines: &RecordLines,
+    told: &mut Vec<u8>,
+) -> Result<(), AllocError> {
+    for line in lines.text().lines() {
+        push_line(&format!(in alloc; "{sign}{line}")?, told)?;
+    }
+    Ok(())
+}
+
 /// Appends changes: a line with the number of each, and its records behind their signs.
 fn push_changes(
     alloc: Global,
@@ -114,8 +127,8 @@ fn push_changes(
 ) -> Result<(), AllocError> {
     for change in changes {
         push_line(&format!(in alloc; "change {}", change.number)?, told)?;
-        push_records(alloc, "- ", &change.change.removed, told)?;
-        push_records(alloc, "+ ", &change.change.added, told)?;
+        push_lines(alloc, "- ", &change.change.removed, told)?;
+        push_lines(alloc, "+ ", &change.change.added, told)?;
     }
     Ok(())
 }

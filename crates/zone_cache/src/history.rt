@@ -17,9 +17,15 @@ use office_state::Ahead;
 use std::alloc::{AllocError, Global};
 use zone_core::Change;
 
-/// How many changes are read at once where nothing says how many are wanted. What they touch is remembered between the pieces in which
-/// they are read, so that small pieces leave the memory that was free behind them in as many places.
-const PIECE: u32 = 4096;
+/// The most changes that are remembered and read at once. What others touch is remembered between the pieces in which they are read, so
+/// that small pieces leave the memory that was free behind them in as many places.
+const PIECE: usize = 4096;
+
+/// The most records of the changes that are read at once, unless one change has more: a row takes some 440 octets while it is read.
+const RECORDS: usize = 8192;
+
+/// How many changes are read at once of which nothing is remembered: each may have any number of records.
+const UNKNOWN: u32 = 4;
 
 /// What is said where nothing is known.
 fn unknown() -> Ahead
@@ -27,7 +33,7 @@ fn unknown() -> Ahead
 {
     Ahead {
         hidden: 0,
-        shown: PIECE,
+        shown: UNKNOWN,
     }
 }
 
@@ -96,6 +102,8 @@ fn push_points(
 #[derive(Drop)]
 struct Touched {
     points: Vec<Point>,
+    /// How many records it has, with the SOA.
+    records: usize,
 }
 
 impl Touched {
@@ -106,7 +114,8 @@ impl Touched {
         let mut points = Vec::new(alloc);
         push_points(alloc, &mut points, origin, &change.removed)?;
         push_points(alloc, &mut points, origin, &change.added)?;
-        Ok(Touched { points })
+        let records = change.removed.len().saturating_add(change.added.len());
+        Ok(Touched { points, records })
     }
 
     /// Whether grants include none of it.
@@ -139,19 +148,60 @@ fn first_hidden(changes: &[Touched], grants: &mut Grants<'_>) -> usize
     count
 }
 
-/// How many of some changes to read at once: those before the first of which grants include nothing, if it is near.
+/// The changes that may be read at once, and how many records they have together.
+#[derive(Clone, Copy)]
+struct Piece {
+    changes: u32,
+    records: usize,
+}
+
+impl Piece {
+    /// No change yet.
+    const fn new() -> Piece {
+        Piece {
+            changes: 0,
+            records: 0,
+        }
+    }
+
+    /// Takes one more change, unless the records are too many then, and tells whether it did.
+    fn takes(&mut self, touched: &Touched) -> bool {
+        self.records = self.records.saturating_add(touched.records);
+        if self.records > RECORDS {
+            return false;
+        }
+        self.changes = self.changes.saturating_add(1);
+        true
+    }
+}
+
+/// Those of some changes that are read at once.
+fn near(changes: &[Touched]) -> &[Touched] {
+    changes.get(..PIECE).unwrap_or(changes)
+}
+
+/// How many of some changes to read at once: those that have few records together, and some that are not remembered behind all of them.
+fn first_few(changes: &[Touched]) -> u32 {
+    let mut piece = Piece::new();
+    for touched in near(changes) {
+        if !piece.takes(touched) {
+            return piece.changes;
+        }
+    }
+    piece.changes.saturating_add(UNKNOWN)
+}
+
+/// The same up to the first of which grants include nothing.
 fn first_shown(changes: &[Touched], grants: &mut Grants<'_>) -> u32
     ensures { grants.new ≡ grants.old }
 {
-    let near = changes.get(..256).unwrap_or(changes);
-    let mut count = 0;
-    for touched in near {
-        if touched.is_hidden(grants) {
-            return count;
+    let mut piece = Piece::new();
+    for touched in near(changes) {
+        if touched.is_hidden(grants) || !piece.takes(touched) {
+            return piece.changes;
         }
-        count += 1;
     }
-    PIECE
+    piece.changes.saturating_add(UNKNOWN)
 }
 
 /// What is behind the first ones, so many.
@@ -194,7 +244,7 @@ impl ZoneHistory {
         ensures failed { OnErr result ((cs : List ChangeOf) → KnowsAll self.old cs → KnowsAll self.new cs) }
     {
         let points = Vec::new(alloc);
-        self.changes.push(Touched { points })?;
+        self.changes.push(Touched { points, records: 0 })?;
         Ok(())
     }
 
@@ -209,6 +259,7 @@ impl ZoneHistory {
             return Ok(());
         };
         push_point(alloc, &mut last.points, &self.origin, rr)?;
+        last.records = last.records.saturating_add(1);
         self.changes.push(last)?;
         Ok(())
     }
@@ -233,11 +284,14 @@ impl ZoneHistory {
         ensures hidden { (cs : List ChangeOf) → AreTouched self.now.origin self.now.changes.items cs → IsTrue (are_hidden grants.old (drop count cs) result.hidden) }
         ensures same { grants.new ≡ grants.old }
     {
+        let rest = behind(&self.changes, count);
         // who sees the SOA sees something of nearly each change
         if grants.include(&self.origin, RecordType::Soa) {
-            return unknown();
+            return Ahead {
+                hidden: 0,
+                shown: first_few(rest),
+            };
         }
-        let rest = behind(&self.changes, count);
         let hidden = first_hidden(rest, grants);
         let shown = first_shown(&rest[hidden..], grants);
         match u32::try_from(hidden) {

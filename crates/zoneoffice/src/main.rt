@@ -13,6 +13,13 @@ use store_commands::{
     DeviceFailed, LineFault, NO_MEMORY_LINE, Surroundings, listen_at, next_of, read_path, run_words,
 };
 
+/// Says on standard error which file cannot be read.
+fn complain_unread(rt: &HostRuntime, path: &str) {
+    if let Ok(words) = format!(in rt.alloc(); "zoneoffice: cannot read {path}") {
+        let _ = rt.eprintln(words.as_str());
+    }
+}
+
 /// This process, and the files of this machine. No contract can say what they hold.
 #[derive(Clone, Copy)]
 struct Process<'a>(&'a HostRuntime);
@@ -25,7 +32,11 @@ impl Surroundings for Process<'_> {
     }
 
     fn file(&self, _alloc: Global, path: &str) -> Result<Vec<u8>, LineFault> {
-        read_path(self.0, path)
+        let read = read_path(self.0, path);
+        if matches!(read, Err(LineFault::ReadFailed)) {
+            complain_unread(self.0, path);
+        }
+        read
     }
 
     fn listen(&self, address: SocketAddr) -> Result<(TcpListener, SocketAddr), DeviceFailed> {

@@ -4,7 +4,7 @@ use dns_data::Record;
 use dns_names::Name;
 use grant_policy::Identifier;
 use office_json::{BodyFault, form_error_text, read_update, refusal_text};
-use office_state::{NumberedChange, Reply, Right, StepFault, TableFault, UpdateReply};
+use office_state::{NumberedChange, Reply, Right, SeenChange, StepFault, TableFault, UpdateReply};
 use std::alloc::{AllocError, Global};
 use test_rows::Row;
 use zone_core::{
@@ -172,6 +172,7 @@ fn numbered_change(alloc: Global, line: &str) -> Result<NumberedChange, BodyFaul
     let (number, sides) = cut(line, '|');
     let number = number.parse::<u64>().or(Err(BodyFault::BadField))?;
     let change = change(alloc, sides)?;
+    let change = SeenChange::of(alloc, &mut String::new(alloc), &change)?;
     Ok(NumberedChange { number, change })
 }
 

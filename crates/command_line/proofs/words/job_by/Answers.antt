@@ -17,7 +17,7 @@ pub returns-in-Some-clause-job : goal.returns-in-Some-clause-job
 returns-in-Some-clause-job c =
     let words = map (λ s. s.now) c.args.words.now in
     let rows = (c.in-Ok.ensures.ok.2 (ap is_simple c.requires ∙ office_simple)).1 ∙ ap (λ a. subcommand_of a words) c.requires in
-    sym (c.in-Some.ensures ∙ ap job_met rows)
+    sym (c.in-Some.ensures ∙ ap (job_met words) rows)
 
 pub returns-in-Some-clause-faultless : goal.returns-in-Some-clause-faultless
 returns-in-Some-clause-faultless c =
@@ -28,7 +28,7 @@ pub returns-in-Some-clause-plain : goal.returns-in-Some-clause-plain
 returns-in-Some-clause-plain c =
     let words = map (λ s. s.now) c.args.words.now in
     let rows = (c.in-Ok.ensures.ok.2 (ap is_simple c.requires ∙ office_simple)).1 ∙ ap (λ a. subcommand_of a words) c.requires in
-    λ x is. ap (λ o. unwrap_or o (asks c.in-Some.job)) ((c.in-Some.ensures ∙ ap job_met rows) ∙ plain_read words x is)
+    λ x is. ap (λ o. unwrap_or o (asks c.in-Some.job)) ((c.in-Some.ensures ∙ ap (job_met words) rows) ∙ plain_read words x is)
 
 pub returns-in-Err-clause-reported : goal.returns-in-Err-clause-reported
 returns-in-Err-clause-reported c =
@@ -41,10 +41,10 @@ returns-clause-reported c =
     let rows = (c.in-Ok.ensures.ok.2 (ap is_simple c.requires ∙ office_simple)).1 ∙ ap (λ a. subcommand_of a words) c.requires in
     let faultless = ap (λ a. fault_of a words) (sym c.requires)
     ∙ c.in-Ok.ensures.kinds (ap is_simple_and_free c.requires ∙ office_free) in
-    nothing_wrong words kind.InvalidValue _ faultless (sym (c.in-None.ensures ∙ ap job_met rows)) refl c.mistake.ensures
+    nothing_wrong words kind.InvalidValue _ faultless (sym (c.in-None.ensures ∙ ap (job_met words) rows)) refl c.mistake.ensures
 
 pub returns-clause-passes : goal.returns-clause-passes
 returns-clause-passes c =
     let words = map (λ s. s.now) c.args.words.now in
     let rows = (c.in-Ok.ensures.ok.2 (ap is_simple c.requires ∙ office_simple)).1 ∙ ap (λ a. subcommand_of a words) c.requires in
-    λ t some. absurd (true≢false (sym some ∙ ap is_some (sym (c.in-None.ensures ∙ ap job_met rows))))
+    λ t some. absurd (true≢false (sym some ∙ ap is_some (sym (c.in-None.ensures ∙ ap (job_met words) rows))))

@@ -1,4 +1,4 @@
-use Rattle.std.proofs.Common.{◌≡◌, ◌∙◌, ap, ap₂, List, Option, Some, None, option_map, true≢false, is_some}
+use Rattle.std.proofs.Common.{◌≡◌, ◌∙◌, ap, ap₂, List, Option, Some, None, map, option_map, true≢false, is_some}
 use Rattle.std.specs.Prelude.{unwrap_or}
 use Rattle.clap.specs.Words.{Row, Text, subcommand_rows_of}
 use Rattle.command_line.specs.Words.{job_met}
@@ -17,4 +17,4 @@ pub returns-in-Some : goal.returns-in-Some
 returns-in-Some c =
     let found = c.in-Some.ensures in
     let both : Some (pair c.in-Some.word.now _) ≡ subcommand_rows_of c.args.matches.now = paired _ _ _ _ found.name found.rows in
-    c.job_named.ensures ∙ ap job_met both
+    c.job_named.ensures ∙ ap (job_met (map (λ s. s.now) c.args.words.now)) both

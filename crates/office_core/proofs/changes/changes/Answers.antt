@@ -1,8 +1,7 @@
 use Rattle.std.proofs.Common.{Some, map, subst, ap, arith}
 use Rattle.std.proofs.lemmas.List.{length-map}
-use Rattle.zone_core.specs.Changes.{change_in}
 use Rattle.grant_policy.specs.declared.action.Action.TheVariants as action
-use Rattle.office_state.specs.Replies.{numbered_of}
+use Rattle.office_state.specs.Replies.{numbered_of, seen_in}
 use Rattle.office_state.specs.States.{Held}
 use Rattle.office_core.specs.Seen.{IsSeenBehind, IsSeenWhole}
 use Rattle.office_core.proofs.BookmarkLemmas.{ended_at, followed, one_held}
@@ -17,7 +16,7 @@ returns-clause-takes g c = λ honest s holds right.
     let found = subst (IsSeenBehind c.new-grants.result began.read (s.zones origin)) c.in-Some.is (c.in_ok-seen.ensures.answer honest s holds) in
     let start = c.start-began.ensures rules s found.0 right found.1 in
     let whole = subst (λ grants. IsSeenWhole grants began.read found.0.changes c.in-Some.seen) c.new-grants.ensures found.2 in (
-      ap Some (followed rules caller s origin c.args.from began found.0 (map change_in c.in-Some.seen.changes.items) (map numbered_of c.in_ok-changes.changes.items) start found.1 whole.sees c.in_ok-changes.ensures),
+      ap Some (followed rules caller s origin c.args.from began found.0 (map seen_in c.in-Some.seen.changes.items) (map numbered_of c.in_ok-changes.changes.items) start found.1 whole.sees c.in_ok-changes.ensures),
       c.in_ok-seen.ensures.reads.0 s holds,
     )
 
@@ -34,6 +33,6 @@ returns-clause-bookmarks g c = λ honest s holds right.
     let start = c.start-began.ensures rules s held right is in
     let there = subst (λ (h : Held). IsSeenWhole (record { rules = rules; caller = caller; action = action.List }) began.read h.changes c.in-Some.seen) (one_held s origin found.0 held found.1 is) whole in (
       start.right,
-      ended_at rules caller held.changes (map change_in c.in-Some.seen.changes.items) began c.after-ended.result c.in-Some.seen.read c.len.result start.right there.read there.sees
-          (omega (arith, c.len.ensures, c.in-Some.seen.changes.ok.0, length-map c.in-Some.seen.changes.items change_in)) c.after-ended.ensures,
+      ended_at rules caller held.changes (map seen_in c.in-Some.seen.changes.items) began c.after-ended.result c.in-Some.seen.read c.len.result start.right there.read there.sees
+          (omega (arith, c.len.ensures, c.in-Some.seen.changes.ok.0, length-map c.in-Some.seen.changes.items seen_in)) c.after-ended.ensures,
     ))

@@ -1,7 +1,6 @@
 use Rattle.std.proofs.Common.{◌+◌, ◌++◌, List, length, map, sym, ap, ◌∙◌, arith}
-use Rattle.zone_core.specs.declared.change.Change.{Change}
-use Rattle.zone_core.specs.Changes.{change_in}
-use Rattle.office_state.specs.Replies.{NumberedOf, numbered_of}
+use Rattle.office_state.specs.declared.reply.SeenChange.{SeenChange}
+use Rattle.office_state.specs.Replies.{NumberedOf, numbered_of, seen_in}
 use Rattle.office_core.specs.Machine.{numbered}
 use Rattle.office_core.proofs.NumberLemmas.{from_on, next_numbered}
 use Rattle.office_core.proofs.changes.numbered_from.Goals as goal
@@ -14,8 +13,8 @@ loop-change-preserved c =
     record {
       count = omega (arith, ap length c.in-Some.ensures.steps.0);
       all =
-          ap (λ (l : List NumberedOf). l ++ from_on c.args.from (numbered (number + 1) (map change_in rest))) c.in_ok-push_numbered.ensures
-          ∙ next_numbered c.args.from number (change_in c.in-Some.change) (map change_in rest) before
-          ∙ ap (λ (cs : List Change). before ++ from_on c.args.from (numbered number (map change_in cs))) (sym c.in-Some.ensures.steps.0)
+          ap (λ (l : List NumberedOf). l ++ from_on c.args.from (numbered (number + 1) (map seen_in rest))) c.in_ok-push_numbered.ensures
+          ∙ next_numbered c.args.from number (seen_in c.in-Some.change) (map seen_in rest) before
+          ∙ ap (λ (cs : List SeenChange). before ++ from_on c.args.from (numbered number (map seen_in cs))) (sym c.in-Some.ensures.steps.0)
           ∙ c.loop-change.invariant.all;
     }

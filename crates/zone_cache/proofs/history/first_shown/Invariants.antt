@@ -4,5 +4,4 @@ use Rattle.zone_cache.proofs.history.first_shown.Given as goal
 abbrev pub invariant-loop-touched : goal.invariant-loop-touched
 invariant-loop-touched l = record {
   same : l.grants ≡ l.fn.grants;
-  count : l.count ≡ l.touched-index;
 }

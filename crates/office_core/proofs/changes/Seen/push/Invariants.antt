@@ -1,6 +1,7 @@
 use Rattle.std.proofs.Common.{◌≡◌, ◌+◌, ◌≤◌, ◌++◌, length, map}
 use Rattle.std.specs.Vec.Iter.{into_iter_items}
 use Rattle.zone_core.specs.Changes.{change_in}
+use Rattle.office_state.specs.Replies.{seen_in}
 use Rattle.office_core.specs.Machine.{seen}
 use Rattle.office_core.proofs.changes.Seen.push.Given as goal
 
@@ -10,6 +11,6 @@ invariant-loop-change l = record {
   read : l.self.read ≡ l.fn.self.read + length l.fn.changes.items;
   fits : l.self.read ≤ 4294967295;
   same : l.grants ≡ l.fn.grants;
-  all : map change_in l.self.changes.items ++ seen l.fn.grants.rules l.fn.grants.caller (map change_in (into_iter_items l.change-iterator))
-      ≡ map change_in l.fn.self.changes.items ++ seen l.fn.grants.rules l.fn.grants.caller (map change_in l.fn.changes.items);
+  all : map seen_in l.self.changes.items ++ seen l.fn.grants.rules l.fn.grants.caller (map change_in (into_iter_items l.change-iterator))
+      ≡ map seen_in l.fn.self.changes.items ++ seen l.fn.grants.rules l.fn.grants.caller (map change_in l.fn.changes.items);
 }

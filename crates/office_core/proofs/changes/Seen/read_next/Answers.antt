@@ -1,6 +1,7 @@
 use Rattle.std.proofs.Common.{◌≡◌, ◌+◌, ◌++◌, ◌<◌, map, drop, take, length, nat_le, option_map, sym, ap, subst, ◌∙◌, arith}
 use Rattle.std.proofs.lemmas.Bool.Decides.{nat_tests}
 use Rattle.zone_core.specs.Changes.{change_in}
+use Rattle.office_state.specs.Replies.{seen_in}
 use Rattle.grant_policy.specs.Grants.{GrantsOf}
 use Rattle.office_core.specs.Machine.{seen}
 use Rattle.office_core.proofs.BookmarkLemmas.{found_behind}
@@ -19,6 +20,6 @@ returns-clause-answer g c = λ honest s holds.
     next c.args.grants.now c.requires zone c.args.self.now c.push.new.self c.in_ok-ahead.ahead.hidden most piece hidden
     (found.2 ∙ ap (λ n. take most (drop n zone.changes)) c.in_ok-read.ensures)
     (c.in_ok-push.ensures.read ∙ ap (λ n. n + length piece) c.in_ok-read.ensures)
-    (subst (λ (g : GrantsOf). map change_in c.push.new.self.changes.items ≡ map change_in c.args.self.now.changes.items ++ seen g.rules g.caller (map change_in piece)) c.ahead.ensures.same c.in_ok-push.ensures.changes)
+    (subst (λ (g : GrantsOf). map seen_in c.push.new.self.changes.items ≡ map seen_in c.args.self.now.changes.items ++ seen g.rules g.caller (map change_in piece)) c.ahead.ensures.same c.in_ok-push.ensures.changes)
     (s.zones c.args.origin.now) (nat_le most c.len.result) found.1
     (λ short. let few : length piece < most = grind (arith, nat_tests, short, many) in few)

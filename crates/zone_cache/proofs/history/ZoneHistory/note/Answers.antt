@@ -15,7 +15,7 @@ returns-clause-last c = λ cs d more knows also.
     let is = c.in_ok-push_point.ensures in
     let before : c.args.self.now.changes.items ≡ front ++ was ∷ [] = c.in-Some.ensures.items in
     let many : length (front ++ was ∷ []) ≡ length (cs ++ d ∷ []) = ap (λ (l : List Touched). length l) (sym before) ∙ knows.1 in
-    let new : Touched = record { points = c.push_point.new.points } in
+    let new : Touched = record { points = c.push_point.new.points; records = c.saturating_add.result } in
     let made : AreTouched o (front ++ new ∷ []) (cs ++ more ∷ []) =
     touched_last o front cs was new d more (subst (λ l. AreTouched o l (cs ++ d ∷ [])) before knows.0) many (λ covers g soa none.
     let parts = is g soa none in
