@@ -1,5 +1,5 @@
 -- What a command line asks for, by its words behind the program's name.
-use Rattle.std.specs.Prelude.{ℕ, ◌&&◌, ◌^◌, Bool, List, length, Option, Some, None, option_map, option_and_then, codes, nat_lt, if◌then◌else◌}
+use Rattle.std.specs.Prelude.{ℕ, ◌&&◌, ◌^◌, Bool, List, [], ◌∷◌, length, Option, Some, None, option_map, option_and_then, codes, nat_lt, if◌then◌else◌}
 use Rattle.std.specs.Char.{digit_value}
 use Rattle.std.specs.List.{list_all}
 use Rattle.std.specs.Str.{bytes_eq}

@@ -5,6 +5,8 @@ mod any_store;
 mod diagnosis;
 mod files;
 mod folding;
+mod hints;
+mod kept_input;
 mod list_laws;
 mod listening;
 mod log_choice;

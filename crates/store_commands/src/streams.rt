@@ -4,6 +4,8 @@ ghost use Rattle.std.specs.Prelude.{◌≡◌, ◌<◌};
 
 use crate::any_store::{FilesJob, do_on_machine};
 use crate::files::StoreFiles;
+use crate::hints::tell_hints;
+use crate::kept_input::KeptInput;
 use crate::program::do_words;
 use crate::surroundings::Surroundings;
 use dns_master::{Counted, Sink, Source};
@@ -67,7 +69,8 @@ fn run_counted<
     requires traces_some { 0 < traces.parts }
 {
     let (input, output, trace) = streams;
-    let mut input: Counted<I, A> = Counted::new(input, reads);
+    let input = KeptInput::new(around.machine().alloc(), input);
+    let mut input: Counted<KeptInput<I>, A> = Counted::new(input, reads);
     let mut output: Counted<O, B> = Counted::new(output, writes);
     let mut trace: Counted<E, C> = Counted::new(trace, traces);
     let job = Words {
@@ -78,6 +81,7 @@ fn run_counted<
         trace: &mut trace,
     };
     let status = do_on_machine(around.machine(), job);
+    tell_hints(around, words, input.into_inner().kept(), status);
     (output.into_inner(), trace.into_inner(), status)
 }
 
