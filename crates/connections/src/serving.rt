@@ -158,7 +158,7 @@ fn serve_each<H: Listener, T: ZoneTable, D: Diagnosis<T>, C: Clock, W: Sink, E: 
 {
     'accepted: for _ in 0..most {
         let Ok(stream) = listener.accept() else {
-            return write_refusal(alloc, writer, LineFault::ReadFailed);
+            return Err(write_refusal(alloc, writer, LineFault::ReadFailed));
         };
         connections.serve_one(responder, &stream, table, writer, trace)?;
     }

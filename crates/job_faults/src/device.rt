@@ -1,10 +1,11 @@
 //! Reading all of an input, and writing a text or the line of a fault.
 
-ghost use Rattle.std.specs.Prelude.{◌≡◌, ◌<◌, ℕ, List, Option, string_bytes, IfOk};
+ghost use Rattle.std.specs.Prelude.{◌≡◌, ◌<◌, ℕ, List, Option, Err, string_bytes, IfOk};
 ghost use Rattle.dns_master.specs.Device.{TextWritten};
 ghost use Rattle.job_faults.specs.LineFaults.{GivesOf, limited};
 ghost use Rattle.job_faults.specs.Refusals.{refused_line};
-ghost use Rattle.job_faults.specs.Replies.{IsAnswerWritten, IsSent, IsRefusalWritten, IsPrinted};
+ghost use Rattle.job_faults.specs.declared.line_fault.LineFault.{LineFault as LineFaultOf};
+ghost use Rattle.job_faults.specs.Replies.{IsAnswerWritten, IsSent, IsRefusalWritten, IsPrinted, MayWrite, line_of};
 
 use crate::line_fault::{JobFault, LineFault, NO_MEMORY_LINE, READ_FAILED_LINE};
 use crate::refusal::{Refusal, RefusalLine};
@@ -49,12 +50,21 @@ fn refusal_text(alloc: Global, refusal: Refusal) -> Result<String, AllocError>
     format!(in alloc; "{}", RefusalLine(refusal))
 }
 
-/// Tells out of memory, and hands it on.
-fn tell_no_memory<W: Sink>(writer: &mut W) -> Result<(), JobFault>
-    ensures { IsRefusalWritten (W.contents writer.old) (W.contents writer.new) LineFault.NoMemory result (W.failures writer.old) (W.failures writer.new) }
+/// Writes the line of a fault: the fault is reported, or the writer failed.
+fn write_line<W: Sink>(writer: &mut W, line: &[u8], fault: LineFault) -> JobFault
+    ensures { (asked : LineFaultOf) → line.now ≡ line_of fault → MayWrite asked fault → IsRefusalWritten (W.contents writer.old) (W.contents writer.new) asked (Err result) (W.failures writer.old) (W.failures writer.new) }
 {
-    write_text(writer, NO_MEMORY_LINE.as_bytes())?;
-    Err(JobFault::Reported(LineFault::NoMemory))
+    match write_text(writer, line) {
+        Ok(()) => JobFault::Reported(fault),
+        Err(_) => JobFault::WriteFailed,
+    }
+}
+
+/// Reports out of memory.
+fn write_no_memory<W: Sink>(writer: &mut W) -> JobFault
+    ensures { IsRefusalWritten (W.contents writer.old) (W.contents writer.new) LineFault.NoMemory (Err result) (W.failures writer.old) (W.failures writer.new) }
+{
+    write_line(writer, NO_MEMORY_LINE.as_bytes(), LineFault::NoMemory)
 }
 
 /// What came of a printing that `dns_master` did. Where memory ran out, a line tells it behind what went out.
@@ -66,34 +76,23 @@ pub fn ended<W: Sink>(writer: &mut W, printed: Result<(), MasterFault>) -> Resul
         Ok(()) => Ok(()),
         Err(fault) => match fault {
             MasterFault::WriteFailed => Err(JobFault::WriteFailed),
-            _ => tell_no_memory(writer),
+            _ => Err(write_no_memory(writer)),
         },
     }
 }
 
-/// Tells a fault by its line, and hands it on: `NoMemory` where there is no memory for the line, and `WriteFailed` where the
-/// writer failed.
-pub fn write_refusal<W: Sink>(
-    alloc: Global,
-    writer: &mut W,
-    fault: LineFault,
-) -> Result<(), JobFault>
-    ensures { IsRefusalWritten (W.contents writer.old) (W.contents writer.new) fault result (W.failures writer.old) (W.failures writer.new) }
+/// Reports a fault by its line, and returns it: `NoMemory` if there is no memory for the line, and `WriteFailed` if the writer failed.
+pub fn write_refusal<W: Sink>(alloc: Global, writer: &mut W, fault: LineFault) -> JobFault
+    ensures { IsRefusalWritten (W.contents writer.old) (W.contents writer.new) fault (Err result) (W.failures writer.old) (W.failures writer.new) }
 {
     match fault {
-        LineFault::Refused(refusal) => {
-            let Ok(text) = refusal_text(alloc, refusal) else {
-                return tell_no_memory(writer);
-            };
-            write_text(writer, text.as_bytes())?;
-            Err(JobFault::Reported(fault))
-        }
+        LineFault::Refused(refusal) => match refusal_text(alloc, refusal) {
+            Ok(text) => write_line(writer, text.as_bytes(), fault),
+            Err(_) => write_no_memory(writer),
+        },
         // Reported without memory, so that out of memory never hides it.
-        LineFault::ReadFailed => {
-            write_text(writer, READ_FAILED_LINE.as_bytes())?;
-            Err(JobFault::Reported(fault))
-        }
-        LineFault::NoMemory => tell_no_memory(writer),
+        LineFault::ReadFailed => write_line(writer, READ_FAILED_LINE.as_bytes(), fault),
+        LineFault::NoMemory => write_no_memory(writer),
     }
 }
 
@@ -110,6 +109,6 @@ pub fn write_answer<W: Sink>(
             write_text(writer, text.as_bytes())?;
             Ok(())
         }
-        Err(fault) => write_refusal(alloc, writer, fault),
+        Err(fault) => Err(write_refusal(alloc, writer, fault)),
     }
 }

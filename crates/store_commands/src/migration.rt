@@ -41,7 +41,7 @@ fn report<W: Sink>(
             tell_migrated(writer, zones)?;
             Ok(())
         }
-        Err(fault) => write_refusal(alloc, writer, LineFault::from(fault)),
+        Err(fault) => Err(write_refusal(alloc, writer, LineFault::from(fault))),
     }
 }
 

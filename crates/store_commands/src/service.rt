@@ -154,7 +154,7 @@ fn serve_table<M: Surroundings, T: ZoneTable, D: Diagnosis<T>, W: Sink, E: Sink>
 {
     let (listener, listening) = match listening_at(around, service.listen) {
         Ok(listening) => listening,
-        Err(fault) => return write_refusal(around.machine().alloc(), writer, fault),
+        Err(fault) => return Err(write_refusal(around.machine().alloc(), writer, fault)),
     };
     write_text(writer, listening.as_bytes())?;
     let blank = Blank::new(1);
@@ -212,7 +212,7 @@ fn serve_by<M: Surroundings, S: Alter + Drop, P: StoreFiles<S> + Drop, L: Ledger
         }
         Err(unreached) => {
             let fault = LineFault::from(unreached.fault);
-            (unreached.conn, write_refusal(alloc, writer, fault))
+            (unreached.conn, Err(write_refusal(alloc, writer, fault)))
         }
     }
 }
@@ -239,6 +239,6 @@ pub fn serve<M: Surroundings, S: Alter + Drop, P: StoreFiles<S> + Drop, W: Sink,
             let blank = Blank::new(1);
             serve_by::<M, S, P, Brand, W, E>(around, files, service, &policy, blank, writer, trace)
         }
-        Err(fault) => (None, write_refusal(alloc, writer, fault)),
+        Err(fault) => (None, Err(write_refusal(alloc, writer, fault))),
     }
 }

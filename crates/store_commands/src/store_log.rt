@@ -112,6 +112,6 @@ pub fn log<W: Sink, S: Alter + Drop, P: StoreFiles<S> + Drop>(
             );
             (conn, report(alloc, writer, text_of(alloc, &asked, read)))
         }
-        Err(fault) => (None, write_refusal(alloc, writer, fault)),
+        Err(fault) => (None, Err(write_refusal(alloc, writer, fault))),
     }
 }

@@ -162,7 +162,7 @@ pub(crate) fn report<W: Sink>(
             write_text(writer, text.as_bytes())?;
             Ok(())
         }
-        Err(fault) => write_refusal(alloc, writer, fault),
+        Err(fault) => Err(write_refusal(alloc, writer, fault)),
     }
 }
 
@@ -191,7 +191,7 @@ pub fn import<R: Input, W: Sink, S: Alter + Drop, P: StoreFiles<S> + Drop>(
             let (conn, done) = put_by::<S, Brand, P>(alloc, files, path, &zone, existing, blank);
             (conn, report(alloc, writer, line_of(done, line)))
         }
-        Err(fault) => (None, write_refusal(alloc, writer, fault)),
+        Err(fault) => (None, Err(write_refusal(alloc, writer, fault))),
     }
 }
 
@@ -227,7 +227,7 @@ fn print_held<W: Sink>(
             let printed = print_zone_in(alloc, form, origin, &records, writer);
             ended(writer, printed)
         }
-        Err(fault) => write_refusal(alloc, writer, LineFault::from(fault)),
+        Err(fault) => Err(write_refusal(alloc, writer, LineFault::from(fault))),
     }
 }
 
@@ -258,6 +258,6 @@ pub fn export<W: Sink, S: Alter + Drop, P: StoreFiles<S> + Drop>(
             );
             (conn, print_held(alloc, form, &origin, held, writer))
         }
-        Err(fault) => (None, write_refusal(alloc, writer, fault)),
+        Err(fault) => (None, Err(write_refusal(alloc, writer, fault))),
     }
 }

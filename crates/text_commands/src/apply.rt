@@ -174,7 +174,7 @@ impl Task for Apply {
     ) -> Result<(), JobFault> {
         match read_updated(alloc, reader) {
             Ok(zone) => print(alloc, &zone, writer),
-            Err(fault) => write_refusal(alloc, writer, fault),
+            Err(fault) => Err(write_refusal(alloc, writer, fault)),
         }
     }
 }

@@ -102,7 +102,7 @@ impl Task for Canon<'_> {
     ) -> Result<(), JobFault> {
         match read_zone(alloc, self.origin, reader) {
             Ok(zone) => print(alloc, &zone, self.form, writer),
-            Err(fault) => write_refusal(alloc, writer, fault),
+            Err(fault) => Err(write_refusal(alloc, writer, fault)),
         }
     }
 }

@@ -345,9 +345,6 @@ pub fn do_check<R: Input, W: Sink>(
             write_text(writer, &report.text)?;
             Ok(report.findings)
         }
-        Err(fault) => {
-            write_refusal(alloc, writer, fault)?;
-            unreachable!()
-        }
+        Err(fault) => Err(write_refusal(alloc, writer, fault)),
     }
 }

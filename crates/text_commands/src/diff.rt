@@ -103,10 +103,7 @@ fn old_zone<R: Input, W: Sink>(
 {
     match read_zone(alloc, origin, reader) {
         Ok(zone) => Ok(zone),
-        Err(fault) => {
-            write_refusal(alloc, writer, fault)?;
-            unreachable!()
-        }
+        Err(fault) => Err(write_refusal(alloc, writer, fault)),
     }
 }
 

@@ -146,10 +146,7 @@ fn first_asker<R: Input, W: Sink>(
 {
     match read_asker(alloc, caller, reader) {
         Ok(asker) => Ok(asker),
-        Err(fault) => {
-            write_refusal(alloc, writer, fault)?;
-            unreachable!()
-        }
+        Err(fault) => Err(write_refusal(alloc, writer, fault)),
     }
 }
 

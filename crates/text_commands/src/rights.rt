@@ -133,7 +133,7 @@ impl Task for QuestionWords<'_> {
                 write_text(writer, &line)?;
                 Ok(())
             }
-            Err(fault) => write_refusal(alloc, writer, fault),
+            Err(fault) => Err(write_refusal(alloc, writer, fault)),
         }
     }
 }

@@ -1,5 +1,5 @@
 use Rattle.std.proofs.KnownBytes.{Appends-nil}
-use Rattle.std.proofs.Common.{◌≡◌, ◌<◌, ◌≤◌, ◌∙◌, [], ◌∷◌, ◌++◌, length, refl, arith}
+use Rattle.std.proofs.Common.{◌≡◌, ◌<◌, ◌≤◌, ◌∙◌, [], ◌∷◌, ◌++◌, length, Err, refl, arith}
 use Rattle.std.proofs.lemmas.Result.{err_from_is_err_and}
 use Rattle.office_wire.specs.Serving.{standing}
 use Rattle.job_faults.specs.declared.line_fault.LineFault.TheVariants.{ReadFailed}
@@ -74,7 +74,7 @@ returns-in_default-clause-written g c =
     let before = c.accepted.invariant.taken in
     let count = p.1 in (
       p.0,
-      told_last _ _ _ p.0 c.args.most c.accepted.counter c.write_refusal.result _ _ _ none p.1 more p.2 c.accepted.invariant.fine c.write_refusal.ensures,
+      told_last _ _ _ p.0 c.args.most c.accepted.counter (Err c.write_refusal.result) _ _ _ none p.1 more p.2 c.accepted.invariant.fine c.write_refusal.ensures,
       omega (arith, stays, before, count),
     )
 
@@ -96,7 +96,7 @@ returns-in_default-clause-served g c = λ honest s held.
       p.1,
       p.2.0,
       are_served c.args.responder.now.policy.now before now p.0 (g.met.T.ZoneTable.zones c.args.table.now s held) (g.met.T.ZoneTable.receipts c.args.table.now s held) p.3,
-      told_many c.args.most (length p.0) c.write_refusal.result (g.W.Sink.contents c.accepted.writer) (g.W.Sink.contents c.write_refusal.new.writer) ReadFailed
+      told_many c.args.most (length p.0) (Err c.write_refusal.result) (g.W.Sink.contents c.accepted.writer) (g.W.Sink.contents c.write_refusal.new.writer) ReadFailed
           (g.W.FaultCount.failures c.accepted.writer) (g.W.FaultCount.failures c.write_refusal.new.writer) c.write_refusal.ensures less,
       p.5,
     )

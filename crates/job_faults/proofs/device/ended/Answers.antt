@@ -1,4 +1,4 @@
-use Rattle.std.proofs.Common.{subst}
+use Rattle.std.proofs.Common.{Err, subst}
 use Rattle.dns_master.specs.Device.{TextWritten}
 use Rattle.job_faults.proofs.JobLemmas.{printed_short}
 use Rattle.job_faults.proofs.device.ended.Goals as goal
@@ -8,4 +8,4 @@ returns-in_default g c =
     let held = g.W.Sink.contents c.args.writer.now in
     let failed = g.W.FaultCount.failures c.args.writer.now in
     λ old text failures wrote.
-    printed_short old _ _ text failures _ _ c.in-Err.fault c.tell_no_memory.result c.in_default.not-WriteFailed (subst (λ printed. TextWritten old held text printed failures failed) c.in-Err.is wrote) c.tell_no_memory.ensures
+    printed_short old _ _ text failures _ _ c.in-Err.fault (Err c.write_no_memory.result) c.in_default.not-WriteFailed (subst (λ printed. TextWritten old held text printed failures failed) c.in-Err.is wrote) c.write_no_memory.ensures

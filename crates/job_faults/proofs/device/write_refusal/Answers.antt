@@ -1,10 +1,10 @@
-use Rattle.std.proofs.Common.{inl, refl}
-use Rattle.std.proofs.lemmas.Result.{err_from_is_err_and}
+use Rattle.std.proofs.Common.{◌∙◌, Err, inl, refl, subst, sym}
 use Rattle.job_faults.specs.declared.line_fault.LineFault.TheVariants.{Refused}
+use Rattle.job_faults.specs.declared.line_fault.LineFault.{LineFault}
+use Rattle.job_faults.specs.Replies.{IsRefusalWritten}
 use Rattle.job_faults.proofs.device.write_refusal.Goals as goal
 
-pub returns-in_err-write_text-in-Refused : goal.returns-in_err-write_text-in-Refused
-returns-in_err-write_text-in-Refused g c =
-    let p = err_from_is_err_and c.from_residual.result c.from_residual.ensures.1 in
-    let sent = rw (c.as_bytes.ensures.value, c.in-Ok.ensures) at c.in_err-write_text-in-Refused.ensures in
-    rw (c.in-Refused.is, p.1, p.2) ((Refused c.in-Refused.refusal, inl refl, sent.0), sent.1)
+pub returns-in-Ok : goal.returns-in-Ok
+returns-in-Ok g c =
+    let told = λ (fault : LineFault). IsRefusalWritten (g.W.Sink.contents c.args.writer.now) (g.W.Sink.contents c.write_line.new.writer) fault (Err c.write_line.result) (g.W.FaultCount.failures c.args.writer.now) (g.W.FaultCount.failures c.write_line.new.writer) in
+    subst told (sym c.in-Refused.is) (c.write_line.ensures (Refused c.in-Refused.refusal) (c.as_bytes.ensures.value ∙ c.in-Ok.ensures) (inl refl))

@@ -1,14 +1,12 @@
 use Rattle.std.proofs.Common.{[], Err}
-use Rattle.std.proofs.lemmas.Result.{err_from_is_err_and}
 use Rattle.zone_core.specs.Zones.{ZoneOf}
 use Rattle.text_commands.specs.Canon.{zone_read}
 use Rattle.text_commands.specs.Diff.{old_text}
 use Rattle.job_faults.proofs.JobLemmas.{answered_told, text_refused}
 use Rattle.text_commands.proofs.diff.old_zone.Goals as goal
 
-pub returns-in_err-write_refusal-in-Err : goal.returns-in_err-write_refusal-in-Err
-returns-in_err-write_refusal-in-Err g c =
-    let p = err_from_is_err_and c.from_residual.result c.from_residual.ensures.1 in
+pub returns-in-Err : goal.returns-in-Err
+returns-in-Err g c =
     let word = c.args.origin.now in
     let refused = text_refused _ (zone_read word) (λ (zone : ZoneOf). []) (λ (zone : ZoneOf). zone) c.in-Err.fault _ _ c.in-Err.ensures in
-    rw (p.1, p.2) (answered_told _ (old_text word) _ _ _ _ _ _ (λ t. t) c.in-Err.fault (Err _) refused c.in_err-write_refusal-in-Err.ensures)
+    answered_told _ (old_text word) _ _ _ _ _ _ (λ t. t) c.in-Err.fault (Err c.write_refusal.result) refused c.write_refusal.ensures

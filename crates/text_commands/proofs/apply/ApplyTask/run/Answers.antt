@@ -1,3 +1,4 @@
+use Rattle.std.proofs.Common.{Err}
 use Rattle.text_commands.specs.Apply.{zone_lines, apply_text}
 use Rattle.job_faults.proofs.JobLemmas.{answered_printed, answered_told}
 use Rattle.text_commands.proofs.apply.ApplyTask.run.Goals as goal
@@ -8,4 +9,4 @@ returns-in-Ok g c =
     answered_printed _ apply_text _ _ _ _ _ _ (zone_lines c.in-Ok.zone) c.print.result read.0 read.1 c.print.ensures
 
 pub returns-in-Err : goal.returns-in-Err
-returns-in-Err g c = answered_told _ apply_text _ _ _ _ _ _ zone_lines c.in-Err.fault c.write_refusal.result c.in-Err.ensures c.write_refusal.ensures
+returns-in-Err g c = answered_told _ apply_text _ _ _ _ _ _ zone_lines c.in-Err.fault (Err c.write_refusal.result) c.in-Err.ensures c.write_refusal.ensures

@@ -1,3 +1,4 @@
+use Rattle.std.proofs.Common.{Err}
 use Rattle.zone_core.specs.Zones.{ZoneOf}
 use Rattle.text_commands.specs.Canon.{zone_read, text_of_zone, canon_text}
 use Rattle.job_faults.proofs.JobLemmas.{answered_printed, answered_told, text_made, text_refused}
@@ -11,4 +12,4 @@ returns-in-Ok g c =
 pub returns-in-Err : goal.returns-in-Err
 returns-in-Err g c =
     let refused = text_refused _ (zone_read c.args.self.origin.now) (text_of_zone c.args.self.form) (λ (zone : ZoneOf). zone) c.in-Err.fault _ _ c.in-Err.ensures in
-    answered_told _ (canon_text c.args.self.form c.args.self.origin.now) _ _ _ _ _ _ (λ t. t) c.in-Err.fault c.write_refusal.result refused c.write_refusal.ensures
+    answered_told _ (canon_text c.args.self.form c.args.self.origin.now) _ _ _ _ _ _ (λ t. t) c.in-Err.fault (Err c.write_refusal.result) refused c.write_refusal.ensures

@@ -1,4 +1,4 @@
-use Rattle.std.proofs.Common.{Vec, Global, ℕ}
+use Rattle.std.proofs.Common.{Err, Vec, Global, ℕ}
 use Rattle.std.proofs.lemmas.Result.{err_from_is_err_and}
 use Rattle.text_commands.specs.Rights.{rights_text}
 use Rattle.job_faults.proofs.JobLemmas.{answered_front, answered_told}
@@ -13,4 +13,4 @@ returns-in_err-write_text-in-Ok g c =
 
 pub returns-in-Err : goal.returns-in-Err
 returns-in-Err g c =
-    answered_told _ (rights_text c.args.self) _ _ _ _ _ _ (λ (line : Vec ℕ Global). line.items) c.in-Err.fault c.write_refusal.result c.in-Err.ensures c.write_refusal.ensures
+    answered_told _ (rights_text c.args.self) _ _ _ _ _ _ (λ (line : Vec ℕ Global). line.items) c.in-Err.fault (Err c.write_refusal.result) c.in-Err.ensures c.write_refusal.ensures
