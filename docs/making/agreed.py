@@ -30,10 +30,14 @@ def keys_of_page():
 def stated():
     """What texts of the program itself say of other tables."""
     actions, types = spoken(sources.actions(), "or"), spoken(sources.type_names(), "or")
-    seconds = [(sources.ARGUMENTS, f", {number} if left out") for number in sources.defaults().values()]
-    for path, text in (sources.ARGUMENTS, f'"{actions}"'), (sources.REFUSALS, f"an action is {actions};"), (sources.REFUSALS, f"Use {types}."), *seconds:
-        if text not in read(path):
-            yield f"{path} does not say: {text}"
+    advice = "".join(one.advice for one in sources.refusals())
+    for text in f"an action is {actions};", f"Use {types}.":
+        if text not in advice:
+            yield f"{sources.REFUSALS} does not say: {text}"
+    helps = {one.name: one.help for one in sources.arguments().values()}
+    for name, text in ("action", actions), *((name, f", {number} if left out") for name, number in sources.defaults().items()):
+        if not helps.get(name, "").endswith(text):
+            yield f"{sources.ARGUMENTS}: the help of {name} does not say: {text}"
 
 
 def defaults_of_formats():

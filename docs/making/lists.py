@@ -27,7 +27,7 @@ def types_listed(_):
 
 
 def types_of_formats(old):
-    return rows_by_hand("docs/formats.md", old, 2, [(one.name, str(one.number)) for one in sources.types()])
+    return rows_by_hand("docs/formats.md", old, 1, [(one.name, str(one.number)) for one in sources.types()])
 
 
 def types_in_either_case(_):

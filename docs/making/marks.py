@@ -29,10 +29,10 @@ def within(path, text, lists):
 
 
 def rows_by_hand(path, old, width, wanted):
-    """A table whose first cells are made, and whose others are written by hand: they go with the first cell or cells of a row."""
+    """A table whose first cells are made, and whose others are written by hand: they go with as many of the first as name a row."""
     heads, _, *lines = [cells(line) for line in old.splitlines()]
-    words = {tuple(line[:width]): line[width:] for line in lines}
+    words = {tuple(line[:width]): line[len(wanted[0]):] for line in lines}
     for row in wanted:
-        if row not in words:
+        if row[:width] not in words:
             raise Wrong(f"{path}: the table of {heads[0]} has no words of {' '.join(row)}: write a row of it")
-    return table(heads, [[*row, *words[row]] for row in wanted])
+    return table(heads, [[*row, *words[row[:width]]] for row in wanted])

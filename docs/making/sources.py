@@ -29,7 +29,7 @@ def listed(path, text, enum):
 
 
 def counted(path, rows, wanted):
-    """The rows, if there are as many as the table says."""
+    """The rows, if there are any, and as many as the table says."""
     if not rows or len(rows) != int(wanted):
         raise Wrong(f"{path}: {len(rows)} rows of the {wanted} are read")
     return rows
@@ -37,7 +37,7 @@ def counted(path, rows, wanted):
 
 def row_of(path, rows, name):
     if name not in rows:
-        raise Wrong(f"{path}: no row of {name} is read")
+        raise Wrong(f"{path}: no row of {name if isinstance(name, str) else ' '.join(map(str, name))} is read")
     return rows[name]
 
 
@@ -77,7 +77,7 @@ def refusals():
     row = re.compile(r"\(\s*" + string + r"Kind::(\w+),\s*" + 4 * string + r"\)")
     for count, body in re.findall(r"^pub\(crate\) static \w+: \[\(&str, Kind, .*?\); (\d+)\] = \[(.*?)^\];", text, re.M | re.S):
         rows += counted(REFUSALS, [Refusal(*one) for one in row.findall(body)], count)
-    return counted(REFUSALS, rows, len(re.findall(r"^pub\(crate\) static \w+: \[\(&str, Kind,", text, re.M)) and len(rows))
+    return counted(REFUSALS, rows, len(rows))
 
 
 # The command line
@@ -99,7 +99,8 @@ def commands():
 
 def defaults():
     """What the numbers of seconds are that may be left out, by the names of the arguments."""
-    return {name.lower(): number for name, number in re.findall(r"^const (PATIENCE|LONGEST): u64 = (\d+);", read(DEFAULTS), re.M)}
+    found = dict(re.findall(r"^const (\w+): u64 = (\d+);", read(DEFAULTS), re.M))
+    return {name: row_of(DEFAULTS, found, name.upper()) for name in ("patience", "longest")}
 
 
 # Routes
