@@ -4,6 +4,7 @@ from making import definitions, proved
 from making.files import write
 
 FOLDER = "docs/made"
+HTML = FOLDER + "/html"  # the manual
 # the pages, and what makes them
 PAGES = {"definitions": (FOLDER + "/definitions.md", definitions.page), "proved": (FOLDER + "/proved-tables.md", proved.page)}
 
@@ -15,4 +16,4 @@ def make(name):
 
 def is_made(path):
     """Whether `docs/make` makes what is at this path from the top."""
-    return path == FOLDER or path in [page for page, _ in PAGES.values()]
+    return path in (FOLDER, HTML, *(page for page, _ in PAGES.values()))
