@@ -15,5 +15,5 @@ def make(name):
 
 
 def is_made(path):
-    """Whether `docs/make` makes what is at this path from the top."""
-    return path in (FOLDER, HTML, *(page for page, _ in PAGES.values()))
+    """Whether `docs/make` makes what is at this path from the top; `*` stands for any page of the manual."""
+    return path in (FOLDER, HTML, HTML + "/*", *(page for page, _ in PAGES.values()))
