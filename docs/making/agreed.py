@@ -35,7 +35,7 @@ def stated():
         if text not in advice:
             yield f"{sources.REFUSALS} does not say: {text}"
     helps = {one.name: one.help for one in sources.arguments().values()}
-    for name, text in ("action", actions), *((name, f", {number} if left out") for name, number in sources.defaults().items()):
+    for name, text in ("action", actions), ("only", spoken(sources.rules(), "or")), *((name, f", {number} if left out") for name, number in sources.defaults().items()):
         if not helps.get(name, "").endswith(text):
             yield f"{sources.ARGUMENTS}: the help of {name} does not say: {text}"
 
@@ -76,6 +76,12 @@ def options_of_formats():
         yield from differing("docs/formats.md", f"the usage lines of {word}", sorted(found[word]), sorted(wanted[word]))
 
 
+def rules_of_formats():
+    """The rules by which `check zone` checks."""
+    page = re.search(r"^\| Rule \| What is wrong \|.*\n((?:\|.*\n)+)", read("docs", "formats.md"), re.M)
+    yield from differing("docs/formats.md", "the rules for zones", re.findall(r"^\| `([a-z-]+)`", page[1] if page else "", re.M), sources.rules())
+
+
 def chapters_of_formats():
     """The chapters of docs/formats.md on commands."""
     found = re.findall(r"`(\w+)`", "".join(re.findall(r"^## (`.*)$", read("docs", "formats.md"), re.M)))
@@ -109,8 +115,8 @@ def numbers_of_openapi():
     yield from differing("docs/openapi.yaml", "the numbers of refusals", found, wanted)
 
 
-AGREEMENTS = (keys_of_page, stated, defaults_of_formats, commands_of_page, options_of_formats, chapters_of_formats, routes_of_openapi,
-              routes_of_api, numbers_of_openapi, proved.missing_chapters)
+AGREEMENTS = (keys_of_page, stated, defaults_of_formats, commands_of_page, options_of_formats, rules_of_formats, chapters_of_formats,
+              routes_of_openapi, routes_of_api, numbers_of_openapi, proved.missing_chapters)
 
 
 def faults():

@@ -13,6 +13,7 @@ COMMANDS = "crates/command_line/src/command.rt"
 ARGUMENTS = "crates/command_line/src/argument.rt"
 DEFAULTS = "crates/connections/src/limits.rt"
 ROUTES = "crates/office_wire/src/route.rt"
+RULES = "crates/zone_tools/src/zone_rule.rt"
 
 Type = namedtuple("Type", "name number fields")
 Refusal = namedtuple("Refusal", "number kind name meaning advice source")
@@ -41,7 +42,7 @@ def row_of(path, rows, name):
     return rows[name]
 
 
-# Record types and actions
+# Record types, actions, rules for zones
 
 def type_names():
     """The names of the record types that are kept, by number."""
@@ -61,11 +62,21 @@ def types():
     return [Type(*row, row_of(FIELDS, kinds, row)) for row in type_rows()]
 
 
+def words_of(path, enum):
+    """The words of an enum, in the order of `ALL`, by its function `text`."""
+    text = read(path)
+    body = re.search(r"pub const fn text\(self\).*?\n    \}", text, re.S)
+    words = dict(re.findall(rf'{enum}::(\w+) => "([a-z-]+)"', body[0] if body else ""))
+    return [row_of(path, words, variant) for variant in listed(path, text, enum)]
+
+
 def actions():
-    """The words of the actions."""
-    text = read(ACTIONS)
-    words = dict(re.findall(r'Action::(\w+) => "([a-z]+)"', text))
-    return [row_of(ACTIONS, words, variant) for variant in listed(ACTIONS, text, "Action")]
+    return words_of(ACTIONS, "Action")
+
+
+def rules():
+    """The rules of `check zone`."""
+    return words_of(RULES, "ZoneRule")
 
 
 # Refusals
