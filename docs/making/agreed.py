@@ -1,6 +1,7 @@
 """What is written by hand and has to agree with the sources: each function gives a line for whatever does not."""
 
 import re
+from itertools import count
 
 from making import proved, sources
 from making.files import read
@@ -65,15 +66,34 @@ def usages():
         yield word, re.split(r"  +", behind.strip())[0]
 
 
-def options_of_formats():
-    """What each command takes, by the usage lines, of which a command may have several."""
+def taken(usage):
+    """What a usage line takes: options, and words by their places, in brackets where they may be left out."""
+    places = count(1)
+    for bracket, option, word in re.findall(r"(\[)?(?:(--\w+)(?: [A-Z][A-Z:]*)?|([A-Z]+))", usage):
+        one = option or f"word {next(places)}"
+        yield f"[{one}]" if bracket else one
+
+
+def taken_by(command):
+    """The same by the table."""
+    places = count(1)
+    for argument in command.arguments:
+        one = f"word {next(places)}" if "Place" in argument.form else f"--{argument.name}"
+        yield one if argument.form in ("Needed", "Place") else f"[{one}]"
+
+
+def usages_of_formats():
+    """What each command takes. Where it has several usage lines, they are compared by their options alone."""
     found = {}
-    for word, behind in usages():
-        found.setdefault(word, set()).update(re.findall(r"--\w+", behind))
-    wanted = {one.word: {f"--{two.name}" for two in one.arguments if "Place" not in two.form} for one in sources.commands()}
-    yield from differing("docs/formats.md", "the usage lines", found, wanted)
-    for word in wanted.keys() & found.keys():
-        yield from differing("docs/formats.md", f"the usage lines of {word}", sorted(found[word]), sorted(wanted[word]))
+    for word, usage in usages():
+        found.setdefault(word, []).append(list(taken(usage)))
+    yield from differing("docs/formats.md", "the usage lines", found, [one.word for one in sources.commands()])
+    for command in sources.commands():
+        lines, wanted = found.get(command.word, []), list(taken_by(command))
+        words = [one for line in lines for one in line]
+        if len(lines) > 1:
+            words, wanted = ([one.strip("[]") for one in several if "--" in one] for several in (words, wanted))
+        yield from differing("docs/formats.md", f"the usage lines of {command.word}", words, wanted)
 
 
 def rules_of_formats():
@@ -115,9 +135,5 @@ def numbers_of_openapi():
     yield from differing("docs/openapi.yaml", "the numbers of refusals", found, wanted)
 
 
-AGREEMENTS = (keys_of_page, stated, defaults_of_formats, commands_of_page, options_of_formats, rules_of_formats, chapters_of_formats,
+AGREEMENTS = (keys_of_page, stated, defaults_of_formats, commands_of_page, usages_of_formats, rules_of_formats, chapters_of_formats,
               routes_of_openapi, routes_of_api, numbers_of_openapi, proved.missing_chapters)
-
-
-def faults():
-    return [line for agreement in AGREEMENTS for line in agreement()]

@@ -9,9 +9,12 @@ HTML = FOLDER + "/html"  # the manual
 PAGES = {"definitions": (FOLDER + "/definitions.md", definitions.page), "proved": (FOLDER + "/proved-tables.md", proved.page)}
 
 
+def text(name):
+    return PAGES[name][1]()
+
+
 def make(name):
-    path, page = PAGES[name]
-    write(path, page())
+    write(PAGES[name][0], text(name))
 
 
 def is_made(path):
