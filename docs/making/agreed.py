@@ -42,9 +42,10 @@ def stated():
 
 
 def defaults_of_formats():
+    """The defaults, in brackets behind the option, or in the next cell of a table."""
     page = read("docs", "formats.md")
     for name, number in sources.defaults().items():
-        found = re.findall(rf"`--{name} SECONDS`[^.]*?\((\d+) by default", page)
+        found = re.findall(rf"`--{name} SECONDS`(?: \| |[^.|]*?\()(\d+)(?= by default| \|)", page)
         if set(found) != {number}:
             yield f"docs/formats.md: the default of --{name} is {number}, and the page says {' and '.join(found) or 'none'}"
 
@@ -62,7 +63,7 @@ def usages():
     """The usage lines of docs/formats.md: the command, and the options and words behind it."""
     block = re.search(r"^## The command line\n\n((?:    .*\n)+)", read("docs", "formats.md"), re.M)
     lines = re.sub(r"\n +(?=\[)", " ", block[1] if block else "")
-    for word, behind in re.findall(r"^    zoneoffice (\w+)(.*)$", lines, re.M):
+    for word, behind in re.findall(r"^    zoneoffice \[?(\w+)\]?(.*)$", lines, re.M):
         yield word, re.split(r"  +", behind.strip())[0]
 
 
@@ -83,15 +84,15 @@ def taken_by(command):
 
 
 def usages_of_formats():
-    """What each command takes. Where it has several usage lines, they are compared by their options alone."""
+    """What each command takes. Where it has several usage lines, or one of choices, they are compared by their options alone."""
     found = {}
     for word, usage in usages():
-        found.setdefault(word, []).append(list(taken(usage)))
+        found.setdefault(word, []).append(usage)
     yield from differing("docs/formats.md", "the usage lines", found, [one.word for one in sources.commands()])
     for command in sources.commands():
         lines, wanted = found.get(command.word, []), list(taken_by(command))
-        words = [one for line in lines for one in line]
-        if len(lines) > 1:
+        words = [one for line in lines for one in taken(line)]
+        if len(lines) > 1 or "|" in "".join(lines):
             words, wanted = ([one.strip("[]") for one in several if "--" in one] for several in (words, wanted))
         yield from differing("docs/formats.md", f"the usage lines of {command.word}", words, wanted)
 
