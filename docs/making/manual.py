@@ -13,6 +13,7 @@ from making import made, markup
 from making.files import TOP, Wrong, read, write
 
 ASSETS = "docs/making/assets"
+NAMING = "docs/proved.md"  # the page that names those that are made
 LINK = re.compile(r'\b(href|src)="([^"]+)"')
 
 
@@ -63,8 +64,9 @@ def all_pages():
              *sorted(f"docs/{name}" for name in os.listdir(os.path.join(TOP, "docs")) if name.endswith(".md"))]
     pages = {path: Page(path, read(path)) for path in paths}
     pages.update((path, Page(path, page())) for path, page in made.PAGES.values())
-    order = ["README.md", *re.findall(r"\]\(([^)#]+\.md)", read("README.md").rpartition("\n## More")[2])]
-    behind = order.index("docs/proved.md") + 1
+    listed = re.findall(r"\]\(([^)#]+\.md)", read("README.md").rpartition("\n## More")[2])
+    order = [path for path in ["README.md", *listed] if path in pages]
+    behind = order.index(NAMING) + 1 if NAMING in order else len(order)
     order[behind:behind] = [path for path, _ in made.PAGES.values()]
     return [pages[path] for path in dict.fromkeys([*order, *sorted(pages, key=lambda path: pages[path].title.lower())])]
 

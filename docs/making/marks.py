@@ -10,12 +10,16 @@ import textwrap
 
 from making.files import Wrong, cells, table
 
-MARKED = re.compile(r"(?P<open>(?P<sign><!--|#|//) made: (?P<name>[a-z ]+?)(?: -->|(?=\n)))(?P<body>.*?)(?P<close>(?P=sign) end(?: -->|$))", re.S | re.M)
+OPEN = r"(?P<open>(?P<sign><!--|#|//) made: (?P<name>[a-z ]+?)(?: -->|(?=\n)))"
+MARKED = re.compile(OPEN + r"(?P<body>(?:(?!(?:<!--|#|//) made: ).)*?)(?P<close>(?P=sign) end(?: -->|$))", re.S | re.M)
 
 
 def within(path, text, lists):
     """The text of a file with its lists made anew. `lists` has for each name what makes it of what stands there now."""
     found = [one["name"] for one in MARKED.finditer(text)]
+    unended = [one["name"] for one in re.finditer(OPEN, text) if one["name"] not in found]
+    if unended:
+        raise Wrong(f"{path}: the mark of {unended[0]} has no end")
     if sorted(found) != sorted(lists):
         raise Wrong(f"{path}: the marks are of {', '.join(found) or 'nothing'}, and the lists of {', '.join(lists)}")
 
