@@ -36,7 +36,8 @@ def stated():
         if text not in advice:
             yield f"{sources.REFUSALS} does not say: {text}"
     helps = {one.name: one.help for one in sources.arguments().values()}
-    for name, text in ("action", actions), ("only", spoken(sources.rules(), "or")), *((name, f", {number} if left out") for name, number in sources.defaults().items()):
+    seconds = {name: f", {number} if left out" for name, number in sources.defaults().items()}
+    for name, text in {"action": actions, "only": spoken(sources.rules(), "or"), **seconds}.items():
         if not helps.get(name, "").endswith(text):
             yield f"{sources.ARGUMENTS}: the help of {name} does not say: {text}"
 

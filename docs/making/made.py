@@ -1,5 +1,7 @@
 """The pages that are made and not kept: they go into docs/made, which git ignores."""
 
+import re
+
 from making import definitions, proved
 from making.files import write
 
@@ -9,12 +11,17 @@ HTML = FOLDER + "/html"  # the manual
 PAGES = {"definitions": (FOLDER + "/definitions.md", definitions.page), "proved": (FOLDER + "/proved-tables.md", proved.page)}
 
 
-def text(name):
-    return PAGES[name][1]()
-
-
 def make(name):
-    write(PAGES[name][0], text(name))
+    path, page = PAGES[name]
+    write(path, page())
+
+
+def unread(name):
+    """A line for each chapter in which nothing stands, since nothing of its sources was read."""
+    path, page = PAGES[name]
+    for chapter in page().split("\n## ")[1:]:
+        if not re.search(r"^(?:- |\| )`", chapter, re.M):
+            yield f"{path}: nothing is read for {chapter.splitlines()[0]}"
 
 
 def is_made(path):

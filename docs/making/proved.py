@@ -18,12 +18,15 @@ FUNCTION = re.compile(r"^(    )?(pub )?(?:const )?fn (\w+)")
 CLAUSE = re.compile(r"^ +ensures (\w*)")
 
 
+def is_library(crate):
+    """Whether a crate exports something."""
+    return os.path.exists(os.path.join(TOP, "crates", crate, "src", "lib.rt"))
+
+
 def exported(crate):
     """The names that src/lib.rt exports, in their order; those of other crates are among them."""
-    path = os.path.join("crates", crate, "src", "lib.rt")
-    if os.path.exists(os.path.join(TOP, path)):
-        for several, one in EXPORT.findall(read(path)):
-            yield from (it.strip() for it in (several or one).split(",") if it.strip())
+    for several, one in EXPORT.findall(read("crates", crate, "src", "lib.rt")):
+        yield from (it.strip() for it in (several or one).split(",") if it.strip())
 
 
 def sources(crate):
@@ -115,9 +118,8 @@ def page():
               for name in re.findall(r"^pub trait (\w+)", line)}
     out = [INTRODUCTION]
     for crate in product_crates():
-        rows = list(rows_of(crate, traits))
-        if rows:
-            out.append(f"## `{crate}`\n\n{table(('Function', 'What it does', 'Clauses'), rows)}\n")
+        if is_library(crate):
+            out.append(f"## `{crate}`\n\n{table(('Function', 'What it does', 'Clauses'), rows_of(crate, traits))}\n")
     return "\n".join(out)
 
 
