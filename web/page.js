@@ -4,7 +4,9 @@
 // they were seen. What is sent is kept in localStorage, body and identifier, until a reply came. Texts from the office are put
 // into the page as text only.
 
+// made: types
 const TYPES = ["A", "AAAA", "CNAME", "DS", "MX", "NS", "PTR", "SOA", "SRV", "TXT"];
+// end
 const FORMS = {
     A: "an IPv4 address: 192.0.2.1",
     AAAA: "an IPv6 address: 2001:db8::1",
@@ -176,6 +178,7 @@ const ipv4 = (item) => (isIpv4(item) ? {text: item} : {fault: 11});
 const ipv6 = (item) => (isIpv6(item) ? {text: item} : {fault: 11});
 const digest = (item) => (/^([0-9a-f]{2})+$/i.test(item) ? {text: item} : {fault: 33});
 const [octet, short, long] = [255, 65535, 4294967295].map(numberUpTo);
+// made: fields
 const FIELDS = {
     A: [ipv4],
     AAAA: [ipv6],
@@ -187,6 +190,7 @@ const FIELDS = {
     SOA: [someName, someName, long, seconds, seconds, seconds, seconds],
     SRV: [short, short, short, someName],
 };
+// end
 
 /** A text in quotes, in several where it has more than 255 octets. */
 function quoted(text) {
