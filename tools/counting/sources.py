@@ -7,7 +7,8 @@ import subprocess
 TOP = os.path.dirname(os.path.dirname(os.path.dirname(os.path.abspath(__file__))))
 KINDS = ("code", "specs", "proofs", "docs", "tests", "rows")
 
-# What a script makes of other files: whole files, each with its maker, and the parts of pages that a maker writes.
+# What a script makes of other files: whole files, each with its maker; the parts of pages that a maker writes; and in any file what
+# stands between two marks, `<!-- made: NAME -->` and `<!-- end -->`, or the same after `#` or `//`.
 MADE = {
     "docs/definitions.md": "docs/make-definitions",
     "web/refusals.json": "client/make-refusals",
@@ -19,6 +20,7 @@ MADE_PARTS = {
     "docs/formats.md": re.compile(r"(?<=\n## All numbers\n)\n(?:[^\n]*\n\n)?\|.*?\n(?=\n)", re.S),
     "docs/api.md": re.compile(r"^\| Number \| Status \| It is refused because \|\n(?:\|.*\n)*", re.M),
 }
+MARKED = re.compile(r"(?P<sign><!--|#|//) made: [a-z ]+(?: -->|(?=\n)).*?(?P=sign) end(?: -->|$)", re.S | re.M)
 # These name the members in order to count them.
 COUNTER = re.compile(r"tools/(?:count$|counting/)")
 
@@ -37,9 +39,10 @@ def listed_by_git():
 
 
 def walked():
-    """All files but what builds leave, by their paths from the top."""
+    """All files but those of the folders that .gitignore names, by their paths from the top."""
+    left = {".git", *(line.rstrip("/") for line in read(".gitignore").splitlines())}
     for folder, folders, names in os.walk(TOP):
-        folders[:] = [one for one in folders if one not in (".git", "out", "__pycache__")]
+        folders[:] = [one for one in folders if not left & {one, os.path.relpath(os.path.join(folder, one), TOP)}]
         yield from (os.path.relpath(os.path.join(folder, name), TOP) for name in names if name != ".git")
 
 
@@ -62,7 +65,7 @@ def by_hand(path):
     """The text of a file without what is made: its made parts, or all of it."""
     if path in MADE:
         return ""
-    text = read(path)
+    text = MARKED.sub("", read(path))
     return MADE_PARTS[path].sub("\n", text) if path in MADE_PARTS else text
 
 
