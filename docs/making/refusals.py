@@ -48,7 +48,7 @@ def of_api(old):
     if unknown:
         raise Wrong(f"docs/api.md: there is no refusal {unknown[0]}")
     told = [(number, status, by_number[number]) for number, status, _ in rows]
-    return table(heads, [(number, status, f"{one.name}: {escaped(one.meaning)} {escaped(one.advice)}") for number, status, one in told])
+    return table(heads, [(number, status, f"{escaped(one.meaning)} {escaped(one.advice)}") for number, status, one in told])
 
 
 # The file of words
