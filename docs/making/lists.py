@@ -4,7 +4,7 @@ import json
 import re
 
 from making import sources
-from making.files import Wrong, cell, read, table
+from making.files import Wrong, read, table
 from making.marks import rows_by_hand
 
 # what reads a field of record data on the page, by its kind; a type of strings has no fields there
@@ -87,12 +87,13 @@ def written(argument):
 
 
 def arguments_of_commands(_):
+    """A line for each argument, as the help has them."""
     rows = []
     for command in sources.commands():
-        taken = [(f"`{written(argument)}`", cell(argument.help)) for argument in command.arguments]
-        for at, (word, what) in enumerate(taken or [("nothing", "")]):
-            rows.append((f"`{command.word}`" if at == 0 else "", word, what))
-    return table(("Command", "Takes", "Which is"), rows)
+        taken = [(written(argument), argument.help) for argument in command.arguments]
+        rows += [(command.word if at == 0 else "", *one) for at, one in enumerate(taken or [("nothing", "")])]
+    widths = [max(len(row[at]) for row in rows) + 2 for at in range(2)]
+    return "\n".join(f"{command:<{widths[0]}}{word:<{widths[1]}}{what}".rstrip() for command, word, what in rows)
 
 
 # Routes

@@ -2,13 +2,17 @@
 
 import re
 
-from making import definitions, proved
+from making import definitions, proved, refusals
 from making.files import write
 
 FOLDER = "docs/made"
 HTML = FOLDER + "/html"  # the manual
 # the pages, and what makes them
-PAGES = {"definitions": (FOLDER + "/definitions.md", definitions.page), "proved": (FOLDER + "/proved-tables.md", proved.page)}
+PAGES = {
+    "definitions": (FOLDER + "/definitions.md", definitions.page),
+    "proved": (FOLDER + "/proved-tables.md", proved.page),
+    "refusals": (FOLDER + "/refusals.md", refusals.page),
+}
 
 
 def make(name):

@@ -13,7 +13,7 @@ from making import made, markup
 from making.files import TOP, Wrong, read, write
 
 ASSETS = "docs/making/assets"
-NAMING = "docs/proved.md"  # the page that names those that are made
+NAMING = {"docs/proved.md": ("definitions", "proved"), "docs/formats.md": ("refusals",)}  # the pages that name those that are made
 LINK = re.compile(r'\b(href|src)="([^"]+)"')
 
 
@@ -59,15 +59,16 @@ class Sections(HTMLParser):
 # The pages
 
 def all_pages():
-    """README.md, the pages in the order of the links at its end, those that are made behind the one that names them, and the others."""
+    """README.md, the pages in the order of the links at its end, those that are made after the one that names them, and the others."""
     paths = ["README.md", "CONTRIBUTING.md", "SECURITY.md", "CHANGELOG.md", "bench/RESULTS.md",
              *sorted(f"docs/{name}" for name in os.listdir(os.path.join(TOP, "docs")) if name.endswith(".md"))]
     pages = {path: Page(path, read(path)) for path in paths}
     pages.update((path, Page(path, page())) for path, page in made.PAGES.values())
     listed = re.findall(r"\]\(([^)#]+\.md)", read("README.md").rpartition("\n## More")[2])
     order = [path for path in ["README.md", *listed] if path in pages]
-    behind = order.index(NAMING) + 1 if NAMING in order else len(order)
-    order[behind:behind] = [path for path, _ in made.PAGES.values()]
+    for naming, names in NAMING.items():
+        after = order.index(naming) + 1 if naming in order else len(order)
+        order[after:after] = [made.PAGES[name][0] for name in names]
     return [pages[path] for path in dict.fromkeys([*order, *sorted(pages, key=lambda path: pages[path].title.lower())])]
 
 

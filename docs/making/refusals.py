@@ -1,4 +1,5 @@
-"""The tables of refusals in docs/formats.md and docs/api.md, and web/refusals.json, from which the page and the client have the words."""
+"""The tables of refusals in docs/formats.md and docs/api.md, the page of all that is said of them, and web/refusals.json, from which the page
+and the client have the words."""
 
 import json
 import re
@@ -6,23 +7,37 @@ import re
 from making import sources
 from making.files import Wrong, cells, escaped, read, table
 
-# where a number of a kind is printed
-WHERE = {
-    "Whole": "",
-    "Name": "; also behind 19 and 58",
-    "Type": "; also behind 29",
-    "Data": "; only behind 29",
-    "InnerName": "; only behind 29, with a number from 1 to 6 behind it",
-    "Entry": "; with a number from 11 to 20 or 33 behind it",
-    "RuleName": "; with a number from 1 to 6 behind it",
-    "Unprinted": "; never printed",
+# a number of a kind as it is printed; N stands for the number of a fault inside it
+PRINTED = {
+    "Whole": "{}",
+    "Name": "{}, 29.19.{}, 58.{}",
+    "Type": "{}, 29.{}",
+    "Data": "29.{}",
+    "InnerName": "29.{}.N",
+    "Entry": "{}.N",
+    "RuleName": "{}.N",
+    "Unprinted": "{}, never printed",
 }
 
 
+def printed(one):
+    """How the number of a refusal is printed."""
+    return PRINTED[one.kind].replace("{}", one.number)
+
+
 def of_formats(_):
-    """All numbers."""
-    rows = [(one.number + WHERE[one.kind], one.name, escaped(one.meaning), escaped(one.advice), one.source) for one in sources.refusals()]
-    return table(("Number", "Name", "Meaning", "What to do", "Source"), rows)
+    """All numbers, with their names and meanings."""
+    return table(("Number", "Name", "Meaning"), [(one.number, one.name, escaped(one.meaning)) for one in sources.refusals()])
+
+
+def page():
+    """All that is said of each refusal."""
+    rows = [(one.number, printed(one), one.name, escaped(one.meaning), escaped(one.advice), one.source) for one in sources.refusals()]
+    return (
+        "# All refusals\n\nWhat each number means, what to do, and the standard that says so: what `zoneoffice explain` prints. `docs/make refusals` "
+        "makes this page of the program's table.\n\nN is the number of the fault inside: from 1 to 6 in a name, from 11 to 20 or 33 in an entry.\n\n"
+        + table(("Number", "Printed", "Name", "Meaning", "What to do", "Source"), rows) + "\n"
+    )
 
 
 def of_api(old):
@@ -33,7 +48,7 @@ def of_api(old):
     if unknown:
         raise Wrong(f"docs/api.md: there is no refusal {unknown[0]}")
     told = [(number, status, by_number[number]) for number, status, _ in rows]
-    return table(heads, [(number, status, f"{one.name}: {escaped(one.meaning)} {escaped(one.advice)}") for number, status, one in told])
+    return table(heads, [(number, status, f"{escaped(one.meaning)} {escaped(one.advice)}") for number, status, one in told])
 
 
 # The file of words
