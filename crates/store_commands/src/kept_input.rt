@@ -1,7 +1,5 @@
 //! A reader that keeps what it gives.
 
-ghost use Rattle.std.specs.Io.KnownBytes.{ReadConsumes};
-
 use std::alloc::Global;
 use std::io::{self, Read};
 
@@ -28,25 +26,25 @@ impl<I> KeptInput<I> {
     pub(crate) fn kept(&self) -> &[u8] {
         &self.kept
     }
+}
 
-    /// Keeps octets that were given.
-    fn keep(&mut self, octets: &[u8])
-        ensures { self.new.reader ≡ self.old.reader }
-    {
-        let room = KEPT_MAX.saturating_sub(self.kept.len());
-        let fitting = octets.get(..room).unwrap_or(octets);
-        let _ = self.kept.extend_from_slice(fitting);
-    }
+/// Keeps octets that were given, as many as there is room for.
+fn keep(kept: &mut Vec<u8>, octets: &[u8]) {
+    let room = KEPT_MAX.saturating_sub(kept.len());
+    let fitting = octets.get(..room).unwrap_or(octets);
+    let _ = kept.extend_from_slice(fitting);
 }
 
 impl<I: Read> Read for KeptInput<I> {
     ghost remaining = { λ input. I.remaining input.reader };
 
     fn read(&mut self, buffer: &mut [u8]) -> io::Result<usize> {
-        let read = self.reader.read(buffer);
-        if let Ok(count) = &read {
-            self.keep(&buffer[..*count]);
+        match self.reader.read(buffer) {
+            Ok(count) => {
+                keep(&mut self.kept, &buffer[..count]);
+                Ok(count)
+            }
+            Err(fault) => Err(fault),
         }
-        read
     }
 }

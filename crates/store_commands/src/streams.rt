@@ -41,7 +41,7 @@ impl<M: Surroundings, R: Source, W: Sink, E: Sink> FilesJob for Words<'_, M, R, 
     }
 }
 
-/// Does what words ask for with standard input, standard output and a trace, whose failures are counted from none on.
+/// Does what words ask for with standard input, standard output and a trace, whose failures are counted from none on, and hands them back.
 fn run_counted<
     M: Surroundings,
     I: Read + Drop,
@@ -57,7 +57,7 @@ fn run_counted<
     reads: Blank,
     writes: Blank,
     traces: Blank,
-) -> (O, E, ExitCode)
+) -> (I, O, E, ExitCode)
     requires reads_name { reads.name ≡ A.name }
     requires reads_parts { reads.parts ≡ A.parts }
     requires reads_some { 0 < reads.parts }
@@ -69,8 +69,7 @@ fn run_counted<
     requires traces_some { 0 < traces.parts }
 {
     let (input, output, trace) = streams;
-    let input = KeptInput::new(around.machine().alloc(), input);
-    let mut input: Counted<KeptInput<I>, A> = Counted::new(input, reads);
+    let mut input: Counted<I, A> = Counted::new(input, reads);
     let mut output: Counted<O, B> = Counted::new(output, writes);
     let mut trace: Counted<E, C> = Counted::new(trace, traces);
     let job = Words {
@@ -81,18 +80,33 @@ fn run_counted<
         trace: &mut trace,
     };
     let status = do_on_machine(around.machine(), job);
-    tell_hints(around, words, input.into_inner().kept(), status);
-    (output.into_inner(), trace.into_inner(), status)
+    (
+        input.into_inner(),
+        output.into_inner(),
+        trace.into_inner(),
+        status,
+    )
 }
 
 /// Does what words ask for, as `do_words` says, with standard input, standard output and a trace of std and the stores of this machine,
-/// ends the connection to the store that it reached, and hands back both writers. It has no contract: of streams that do not count their
+/// ends the connection to the store that it reached, says what else is known of a refused master file, and hands back both writers. It has no contract: of streams that do not count their
 /// failures one could say only that there are counts.
 pub fn run_words<M: Surroundings, I: Read + Drop, O: Write + Drop, E: Write + Drop>(
     around: &M,
     words: &[&str],
     streams: (I, O, E),
 ) -> (O, E, ExitCode) {
+    let (input, output, trace) = streams;
+    let input = KeptInput::new(around.machine().alloc(), input);
     let (reads, writes, traces) = (Blank::new(1), Blank::new(1), Blank::new(1));
-    run_counted::<_, _, _, _, Brand, Brand, Brand>(around, words, streams, reads, writes, traces)
+    let (input, output, trace, status) = run_counted::<_, _, _, _, Brand, Brand, Brand>(
+        around,
+        words,
+        (input, output, trace),
+        reads,
+        writes,
+        traces,
+    );
+    tell_hints(around, words, input.kept(), status);
+    (output, trace, status)
 }
