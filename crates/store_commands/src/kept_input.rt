@@ -3,10 +3,10 @@
 use std::alloc::Global;
 use std::io::{self, Read};
 
-/// The most octets that are kept: one more than a master file may have.
-const KEPT_MAX: usize = 4_194_305;
+/// The most octets that are kept: as many as are read at a time, so that a long input costs no more memory.
+const KEPT_MAX: usize = 65_536;
 
-/// A reader that keeps the first 4,194,305 octets that it gives, for what is said of them later. If memory is short it keeps fewer.
+/// A reader that keeps the first 65,536 octets that it gives, for what is said of them later. If memory is short it keeps fewer.
 #[derive(Drop)]
 pub(crate) struct KeptInput<I> {
     reader: I,
@@ -22,9 +22,14 @@ impl<I> KeptInput<I> {
         }
     }
 
-    /// The octets that were kept.
+    /// The octets that were kept, up to their last line end if there may be more.
     pub(crate) fn kept(&self) -> &[u8] {
-        &self.kept
+        if self.kept.len() < KEPT_MAX {
+            return &self.kept;
+        }
+        let last = self.kept.iter().rposition(|octet| *octet == b'\n');
+        let end = last.map_or(0, |at| at.saturating_add(1));
+        self.kept.get(..end).unwrap_or(&[])
     }
 }
 
