@@ -7,7 +7,7 @@ from making.files import TOP, cell, product_crates, read, table
 
 INTRODUCTION = """# The public functions and their clauses
 
-Each public function of the product with the first sentence of its doc comment and the names of its `ensures` clauses, crate by crate. `docs/proved.md` says what the names mean and what each crate promises. The clauses are in the sources, and what they cite is in `definitions.md` beside this page. "Unnamed" is a clause without a name; "none" means that nothing is promised beyond safety and termination. A law is a function that does nothing: its contract is a statement about definitions. Left out are items that only the public modules of `office_rows` export, for the migration.
+Each public function of the product with the first sentence of its doc comment and the names of its `ensures` clauses, crate by crate. `docs/proved.md` says what the names mean and what each crate promises. The clauses are in the sources, and what they cite is in `definitions.md` beside this page. "Unnamed" is a clause without a name; "none" means that nothing is promised beyond safety and termination. A law is a function that does nothing: its contract is a statement about definitions. Left out are items that only the public modules of `store_rows` export, for the migration.
 
 `docs/make proved` makes this page from the sources.
 """

@@ -104,7 +104,7 @@ def command():
     return Addition("command", "a command, beside its own module (plan)", ["Plan", "plan"], rf"{variant}|\b[Pp]lan\b|\bdo_plan\b", [
         (SOURCE, has(f"{variant}|{declared}")), (TEST, has(r'^ +"plan"|`plan CALLER`')),
         (AROUND, near("plan", words, 15)), (ROWS, has(r"^(?:job )?plan\b|^= +plan +\w")),
-    ], r"^crates/(?:text_commands|office_core|test_commands)/.*/[Pp]lan(?:s|_fault|Lemmas)?[./]")
+    ], r"^crates/(?:cli_text|office_core|test_commands)/.*/[Pp]lan(?:s|_fault|Lemmas)?[./]")
 
 
 def refusal():

@@ -1,10 +1,10 @@
 -- What a run does, and what it tells each caller.
 use Rattle.std.proofs.Common.{List, [], ◌∷◌, ◌++◌, Option, Some, None, Result, Ok, Err, IfOk, sym, ap, subst, ◌∙◌}
 use Rattle.grant_policy.specs.declared.rule.Rule.{Rule}
-use Rattle.office_state.specs.declared.request.Call.{Call}
-use Rattle.office_state.specs.declared.reply.Reply.{Reply}
-use Rattle.office_state.specs.Replies.{ReplyOf, reply_of}
-use Rattle.office_state.specs.States.{State, AreZones, AreReceipts}
+use Rattle.office_model.specs.declared.request.Call.{Call}
+use Rattle.office_model.specs.declared.reply.Reply.{Reply}
+use Rattle.office_model.specs.Replies.{ReplyOf, reply_of}
+use Rattle.office_model.specs.States.{State, AreZones, AreReceipts}
 use Rattle.office_core.specs.Runs.{HasUpdate, HaveUpdates, one_kept, kept, given, IsRun}
 use Rattle.office_core.specs.Isolation.{replies_to, AreAnsweredAlone}
 use Rattle.office_core.specs.Promises.{CallsAreRight}

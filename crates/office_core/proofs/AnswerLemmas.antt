@@ -11,14 +11,14 @@ use Rattle.zone_core.proofs.MakeLemmas.{updates_make}
 use Rattle.zone_core.proofs.OutsideLemmas.{outsides_are_first}
 use Rattle.zone_core.proofs.UnmetLemmas.{verdicts_are_first}
 use Rattle.zone_core.proofs.ReportLemmas.{reports_are_exact}
-use Rattle.office_state.specs.declared.receipt.Receipt.{Receipt}
-use Rattle.office_state.specs.declared.reply.UpdateReply.{UpdateReply}
-use Rattle.office_state.specs.declared.reply.UpdateReply.TheVariants as replies
-use Rattle.office_state.specs.declared.request.Call.{Call}
-use Rattle.office_state.specs.declared.request.Request.{Request}
-use Rattle.office_state.specs.declared.request.Request.TheVariants as requests
-use Rattle.office_state.specs.Replies.{ReplyOf, to_update, id_reused, delegations}
-use Rattle.office_state.specs.States.{Held, State, AreZones, AreReceipts, zone_held}
+use Rattle.office_model.specs.declared.receipt.Receipt.{Receipt}
+use Rattle.office_model.specs.declared.reply.UpdateReply.{UpdateReply}
+use Rattle.office_model.specs.declared.reply.UpdateReply.TheVariants as replies
+use Rattle.office_model.specs.declared.request.Call.{Call}
+use Rattle.office_model.specs.declared.request.Request.{Request}
+use Rattle.office_model.specs.declared.request.Request.TheVariants as requests
+use Rattle.office_model.specs.Replies.{ReplyOf, to_update, id_reused, delegations}
+use Rattle.office_model.specs.States.{Held, State, AreZones, AreReceipts, zone_held}
 use Rattle.office_core.specs.Machine.{Turn, receipt}
 use Rattle.office_core.specs.Runs.{Answer, HasUpdate, HaveUpdates, turn, answers}
 use Rattle.office_core.specs.Promises.{IsMade, UpdateIsRight, TurnIsRight, IsOfZone, TellsList}

@@ -12,14 +12,14 @@ use Rattle.grant_policy.specs.declared.rule.Rule.{Rule}
 use Rattle.zone_core.specs.Changes.{ChangeOf, change_between}
 use Rattle.zone_core.specs.Sets.{Records, is_same}
 use Rattle.zone_core.specs.Updates.{UpdateOf}
-use Rattle.office_state.specs.declared.receipt.Receipt.{Receipt}
-use Rattle.office_state.specs.declared.reply.UpdateReply.{UpdateReply}
-use Rattle.office_state.specs.declared.reply.Reply.{Reply}
-use Rattle.office_state.specs.declared.reply.Reply.TheVariants as replies
-use Rattle.office_state.specs.declared.request.Request.{Request}
-use Rattle.office_state.specs.declared.request.Request.TheVariants as requests
-use Rattle.office_state.specs.States.{Held, State, changes_at, hold}
-use Rattle.office_state.specs.Replies.{NumberedOf, changes, reply_of}
+use Rattle.office_model.specs.declared.receipt.Receipt.{Receipt}
+use Rattle.office_model.specs.declared.reply.UpdateReply.{UpdateReply}
+use Rattle.office_model.specs.declared.reply.Reply.{Reply}
+use Rattle.office_model.specs.declared.reply.Reply.TheVariants as replies
+use Rattle.office_model.specs.declared.request.Request.{Request}
+use Rattle.office_model.specs.declared.request.Request.TheVariants as requests
+use Rattle.office_model.specs.States.{Held, State, changes_at, hold}
+use Rattle.office_model.specs.Replies.{NumberedOf, changes, reply_of}
 use Rattle.office_core.specs.declared.bookmark.Bookmark.{Bookmark}
 use Rattle.office_core.specs.declared.bookmark.Point.{Point}
 use Rattle.office_core.specs.Bookmarks.{IsBookmark, IsPoint, IsStart, is_of}

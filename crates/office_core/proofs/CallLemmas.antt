@@ -12,12 +12,12 @@ use Rattle.zone_core.specs.Changes.{changed, ChangeOf, change_between}
 use Rattle.zone_core.proofs.SetLemmas.{by_cases, name_is, name_self}
 use Rattle.zone_core.proofs.VersionLemmas.{updates_keep}
 use Rattle.zone_core.proofs.ChangedLemmas.{changes_make}
-use Rattle.office_state.specs.declared.reply.UpdateReply.{UpdateReply}
-use Rattle.office_state.specs.declared.receipt.Receipt.{Receipt}
-use Rattle.office_state.specs.declared.request.Call.{Call}
-use Rattle.office_state.specs.declared.request.Request.{Request}
-use Rattle.office_state.specs.declared.request.Request.TheVariants as requests
-use Rattle.office_state.specs.States.{Held, State, AreZones, AreReceipts, zone_held}
+use Rattle.office_model.specs.declared.reply.UpdateReply.{UpdateReply}
+use Rattle.office_model.specs.declared.receipt.Receipt.{Receipt}
+use Rattle.office_model.specs.declared.request.Call.{Call}
+use Rattle.office_model.specs.declared.request.Request.{Request}
+use Rattle.office_model.specs.declared.request.Request.TheVariants as requests
+use Rattle.office_model.specs.States.{Held, State, AreZones, AreReceipts, zone_held}
 use Rattle.office_core.specs.Machine.{step, refusal}
 use Rattle.office_core.specs.Runs.{HasUpdate, HaveUpdates, turn, state_after}
 use Rattle.office_core.specs.Promises.{IsMade, IsNoted, IsWhole, MakesUpdate, MakesThis, TurnIsRight, AreMade, AllCallsAreRight}

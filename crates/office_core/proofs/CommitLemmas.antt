@@ -16,11 +16,11 @@ use Rattle.zone_core.proofs.SetLemmas.{name_is}
 use Rattle.zone_core.proofs.UpdateLemmas.{none_outside}
 use Rattle.zone_core.proofs.VersionLemmas.{updates_keep}
 use Rattle.zone_core.proofs.ChangedLemmas.{changes_make, same_sets_are_one}
-use Rattle.office_state.specs.declared.reply.UpdateReply.{UpdateReply}
-use Rattle.office_state.specs.declared.reply.UpdateReply.TheVariants.{NoError, NotAuth, NotZone}
-use Rattle.office_state.specs.Replies.{to_update}
-use Rattle.office_state.specs.States.{Held, State, AreZones, zone_held, zone_at, hold, keep}
-use Rattle.office_state.specs.Tables.{AdditionOf, held_with, committed, FitsHeld}
+use Rattle.office_model.specs.declared.reply.UpdateReply.{UpdateReply}
+use Rattle.office_model.specs.declared.reply.UpdateReply.TheVariants.{NoError, NotAuth, NotZone}
+use Rattle.office_model.specs.Replies.{to_update}
+use Rattle.office_model.specs.States.{Held, State, AreZones, zone_held, zone_at, hold, keep}
+use Rattle.office_model.specs.Tables.{AdditionOf, held_with, committed, FitsHeld}
 use Rattle.office_core.specs.Machine.{Turn, outside_reply, denied_reply, failed_reply, zone_refusal, refusal, with_change, held_after, answered}
 use Rattle.office_core.specs.Steps.{Commits, held_in, change_made, Makes, MakesAt, addition_of}
 

@@ -8,8 +8,8 @@ use Rattle.zone_core.specs.Zones.{ZoneOf}
 use Rattle.zone_core.specs.Updates.{UpdateOf}
 use Rattle.zone_core.specs.Effects.{zone_after}
 use Rattle.zone_core.specs.Changes.{ChangeOf, is_empty, change_between}
-use Rattle.office_state.specs.declared.reply.UpdateReply.{UpdateReply}
-use Rattle.office_state.specs.declared.reply.UpdateReply.TheVariants.{NoError}
+use Rattle.office_model.specs.declared.reply.UpdateReply.{UpdateReply}
+use Rattle.office_model.specs.declared.reply.UpdateReply.TheVariants.{NoError}
 use Rattle.office_core.specs.Steps.{change_made, Makes}
 
 length-listing : (set : Records) → length (listing set) ≡ len set

@@ -1,10 +1,10 @@
 -- What a table that fails at chosen calls reads, by the table within it.
 use Rattle.std.proofs.Common.{◌≡◌, ℕ, zero, Result, Ok, Err, subst}
 use Rattle.std.specs.Prelude.{OnOk}
-use Rattle.office_state.specs.declared.table_fault.TableFault.{TableFault}
-use Rattle.office_state.specs.declared.table_fault.TableFault.TheVariants.{Store, NoMemory}
-use Rattle.office_state.specs.States.{State}
-use Rattle.office_state.specs.Tables.{Counts, ReadsOnly}
+use Rattle.office_model.specs.declared.table_fault.TableFault.{TableFault}
+use Rattle.office_model.specs.declared.table_fault.TableFault.TheVariants.{Store, NoMemory}
+use Rattle.office_model.specs.States.{State}
+use Rattle.office_model.specs.Tables.{Counts, ReadsOnly}
 use Rattle.office_core.specs.Memory.{MemoryOf, HoldsState}
 
 counts_none : {X : Type 0} (n m : ℕ) (r : Result X TableFault) → m ≡ n → Counts zero zero r → Counts n m r

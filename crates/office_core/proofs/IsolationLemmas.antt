@@ -13,13 +13,13 @@ use Rattle.zone_core.specs.declared.update.Operation.TheVariants.{Add, DeleteRrs
 use Rattle.zone_core.specs.Updates.{UpdateOf, IsUpdate, acted_name}
 use Rattle.zone_core.specs.Visibility.{IsInvisible}
 use Rattle.zone_core.proofs.SetLemmas.{by_cases}
-use Rattle.office_state.specs.declared.request.Request.{Request}
-use Rattle.office_state.specs.declared.request.Request.TheVariants as requests
-use Rattle.office_state.specs.declared.request.Call.{Call}
-use Rattle.office_state.specs.declared.reply.UpdateReply.{UpdateReply}
-use Rattle.office_state.specs.declared.receipt.Receipt.{Receipt}
-use Rattle.office_state.specs.Replies.{ReplyOf}
-use Rattle.office_state.specs.States.{State, Held, AreZones}
+use Rattle.office_model.specs.declared.request.Request.{Request}
+use Rattle.office_model.specs.declared.request.Request.TheVariants as requests
+use Rattle.office_model.specs.declared.request.Call.{Call}
+use Rattle.office_model.specs.declared.reply.UpdateReply.{UpdateReply}
+use Rattle.office_model.specs.declared.receipt.Receipt.{Receipt}
+use Rattle.office_model.specs.Replies.{ReplyOf}
+use Rattle.office_model.specs.States.{State, Held, AreZones}
 use Rattle.office_core.specs.Machine.{step, refusal, made_now, made}
 use Rattle.office_core.specs.Runs.{Answer, turn, answers, HasUpdate, HaveUpdates}
 use Rattle.office_core.specs.Isolation.{asked_by, replies_to, IsOwn, origin_of, OthersStayAway, OthersStayInvisible, OthersMayNot, SeesNoSoa, CallersAreAlone, BlindCallersAreAlone, PoliciesKeepAlone, IsolatedCallersAreAlone}

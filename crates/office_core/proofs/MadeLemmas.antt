@@ -14,9 +14,9 @@ use Rattle.zone_core.specs.Met.{AreMet}
 use Rattle.zone_core.proofs.UpdateLemmas.{none_outside}
 use Rattle.zone_core.proofs.ChangedLemmas.{listed}
 use Rattle.zone_core.proofs.MetLemmas.{met_answer}
-use Rattle.office_state.specs.declared.reply.UpdateReply.{UpdateReply}
-use Rattle.office_state.specs.declared.reply.UpdateReply.TheVariants as replies
-use Rattle.office_state.specs.States.{Held, State, AreZones}
+use Rattle.office_model.specs.declared.reply.UpdateReply.{UpdateReply}
+use Rattle.office_model.specs.declared.reply.UpdateReply.TheVariants as replies
+use Rattle.office_model.specs.States.{Held, State, AreZones}
 use Rattle.office_core.specs.Footprints.{Point, footprint}
 use Rattle.office_core.specs.Permissions.{DenialOf, question, IsPermitted, IsFirstDenial, denial_at, first_denial}
 use Rattle.office_core.specs.Machine.{refused_by, refusal}

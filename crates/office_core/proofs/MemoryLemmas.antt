@@ -25,10 +25,10 @@ use Rattle.zone_core.specs.Changes.{changed, change_in}
 use Rattle.zone_core.specs.Updates.{IsUpdate}
 use Rattle.zone_core.specs.Zones.{ZoneOf, IsZone}
 use Rattle.zone_core.specs.declared.change.Change.{Change}
-use Rattle.office_state.specs.declared.receipt.Receipt.{Receipt}
-use Rattle.office_state.specs.declared.receipt.Addition.{Addition}
-use Rattle.office_state.specs.States.{Held, State, zone_held, zone_at, changes_at, keep}
-use Rattle.office_state.specs.Tables.{with_change_of, Fits, FitsChange, FitsHeld, addition_in, committed, held_with}
+use Rattle.office_model.specs.declared.receipt.Receipt.{Receipt}
+use Rattle.office_model.specs.declared.receipt.Addition.{Addition}
+use Rattle.office_model.specs.States.{Held, State, zone_held, zone_at, changes_at, keep}
+use Rattle.office_model.specs.Tables.{with_change_of, Fits, FitsChange, FitsHeld, addition_in, committed, held_with}
 use Rattle.office_core.specs.declared.memory.HeldZone.{HeldZone}
 use Rattle.office_core.specs.Memory.{MemoryOf, IsPutAt, HoldsSame, HoldsChange, Receipts, EachIsZone, IsMemory, HoldsState, state_in, held_among, held_of, is_of, receipt_among, receipt_in, receipt_rows, zone_among, without_changes, state_of}
 

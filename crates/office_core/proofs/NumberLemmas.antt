@@ -2,7 +2,7 @@
 use Rattle.std.proofs.Common.{◌≡◌, ℕ, ◌+◌, List, [], ◌∷◌, ◌++◌, true, false, if◌then◌else◌, nat_le, refl, ap, ◌∙◌, append_assoc, add-one}
 use Rattle.std.specs.List.{filter}
 use Rattle.zone_core.specs.Changes.{ChangeOf}
-use Rattle.office_state.specs.Replies.{NumberedOf}
+use Rattle.office_model.specs.Replies.{NumberedOf}
 use Rattle.office_core.specs.Machine.{numbered}
 
 -- those whose number is not below a least one

@@ -16,9 +16,9 @@ use Rattle.zone_core.specs.Changes.{ChangeOf}
 use Rattle.zone_core.specs.Parts.{part_of, at_names, tested, touched, Covers, DoesForZone}
 use Rattle.zone_core.proofs.NeedLemmas.{updates_need}
 use Rattle.zone_core.proofs.SetLemmas.{name_is}
-use Rattle.office_state.specs.declared.reply.UpdateReply.{UpdateReply}
-use Rattle.office_state.specs.declared.reply.UpdateReply.TheVariants.{NoError, NotAuth, Failed as FailedReply}
-use Rattle.office_state.specs.States.{Held, State, AreZones, zone_held, zone_at, part_at}
+use Rattle.office_model.specs.declared.reply.UpdateReply.{UpdateReply}
+use Rattle.office_model.specs.declared.reply.UpdateReply.TheVariants.{NoError, NotAuth, Failed as FailedReply}
+use Rattle.office_model.specs.States.{Held, State, AreZones, zone_held, zone_at, part_at}
 use Rattle.office_core.specs.Machine.{outside_reply, denied_reply, failed_reply, zone_refusal}
 use Rattle.office_core.specs.Steps.{held_in, change_made, unread_refusal, Makes, MakesAt, MakesOf}
 use Rattle.office_core.proofs.CommitLemmas.{change_by}

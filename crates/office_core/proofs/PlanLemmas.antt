@@ -11,9 +11,9 @@ use Rattle.zone_core.specs.Effects.{zone_after}
 use Rattle.zone_core.specs.Changes.{ChangeOf, change_between}
 use Rattle.zone_core.proofs.UpdateLemmas.{none_outside}
 use Rattle.zone_core.proofs.SetLemmas.{name_self}
-use Rattle.office_state.specs.declared.reply.UpdateReply.{UpdateReply}
-use Rattle.office_state.specs.declared.reply.UpdateReply.TheVariants.{NoError}
-use Rattle.office_state.specs.States.{Held, State, zone_held}
+use Rattle.office_model.specs.declared.reply.UpdateReply.{UpdateReply}
+use Rattle.office_model.specs.declared.reply.UpdateReply.TheVariants.{NoError}
+use Rattle.office_model.specs.States.{Held, State, zone_held}
 use Rattle.office_core.specs.Footprints.{footprint}
 use Rattle.office_core.specs.Permissions.{first_denial}
 use Rattle.office_core.specs.Machine.{Turn, zone_refusal, refusal, answered, updated, held_after}

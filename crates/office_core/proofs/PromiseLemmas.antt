@@ -23,13 +23,13 @@ use Rattle.zone_core.proofs.LeaveLemmas.{updates_advance}
 use Rattle.zone_core.proofs.ChangedLemmas.{same_sets_are_one, kept_in_part}
 use Rattle.zone_core.proofs.SameUpdateLemmas.{same_updates}
 use Rattle.zone_core.specs.Changes.{change_between}
-use Rattle.office_state.specs.declared.receipt.Receipt.{Receipt}
-use Rattle.office_state.specs.declared.reply.UpdateReply.{UpdateReply}
-use Rattle.office_state.specs.declared.reply.UpdateReply.TheVariants.{NoError, NotAuth, NotZone, Failed}
-use Rattle.office_state.specs.declared.request.Request.{Request}
-use Rattle.office_state.specs.declared.request.Request.TheVariants as requests
-use Rattle.office_state.specs.Replies.{ReplyOf, to_update, id_reused, not_zone, records, file, delegations}
-use Rattle.office_state.specs.States.{Held, State, AreZones, AreReceipts, zone_held, hold, keep}
+use Rattle.office_model.specs.declared.receipt.Receipt.{Receipt}
+use Rattle.office_model.specs.declared.reply.UpdateReply.{UpdateReply}
+use Rattle.office_model.specs.declared.reply.UpdateReply.TheVariants.{NoError, NotAuth, NotZone, Failed}
+use Rattle.office_model.specs.declared.request.Request.{Request}
+use Rattle.office_model.specs.declared.request.Request.TheVariants as requests
+use Rattle.office_model.specs.Replies.{ReplyOf, to_update, id_reused, not_zone, records, file, delegations}
+use Rattle.office_model.specs.States.{Held, State, AreZones, AreReceipts, zone_held, hold, keep}
 use Rattle.office_core.specs.Permissions.{question}
 use Rattle.office_core.specs.Machine.{Turn, listed, changes_from, of_zone, list_within_reply, changes_reply, unchanged, step, refused_by, refusal, answered, updated, again, receipt, held_after}
 use Rattle.office_core.specs.Runs.{HasUpdate}

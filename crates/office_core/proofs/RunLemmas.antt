@@ -4,13 +4,13 @@ use Rattle.std.specs.Prelude.{sum_by}
 use Rattle.std.proofs.lemmas.List.{append-nil, take_more}
 use Rattle.std.proofs.lemmas.List.Sums.{sum_by-append}
 use Rattle.grant_policy.specs.declared.rule.Rule.{Rule}
-use Rattle.office_state.specs.declared.request.Call.{Call}
-use Rattle.office_state.specs.declared.reply.Reply.{Reply}
-use Rattle.office_state.specs.declared.table_fault.TableFault.TheVariants.{Store, NoMemory}
-use Rattle.office_state.specs.declared.table_fault.StepFault.TheVariants.{BeforeCommit, Commit}
-use Rattle.office_state.specs.declared.reply.Reply.TheVariants.{Servfail}
-use Rattle.office_state.specs.Replies.{ReplyOf, reply_of}
-use Rattle.office_state.specs.States.{State}
+use Rattle.office_model.specs.declared.request.Call.{Call}
+use Rattle.office_model.specs.declared.reply.Reply.{Reply}
+use Rattle.office_model.specs.declared.table_fault.TableFault.TheVariants.{Store, NoMemory}
+use Rattle.office_model.specs.declared.table_fault.StepFault.TheVariants.{BeforeCommit, Commit}
+use Rattle.office_model.specs.declared.reply.Reply.TheVariants.{Servfail}
+use Rattle.office_model.specs.Replies.{ReplyOf, reply_of}
+use Rattle.office_model.specs.States.{State}
 use Rattle.office_core.specs.Steps.{Steps, CountsReply}
 use Rattle.office_core.specs.Runs.{Answer, turn, answers, state_after, one_kept, one_given, kept, given, IsRun, counted_failures}
 

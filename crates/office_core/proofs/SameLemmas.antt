@@ -26,13 +26,13 @@ use Rattle.zone_core.proofs.VersionLemmas.{updates_keep}
 use Rattle.zone_core.proofs.ListedLemmas.{nothing_listed}
 use Rattle.zone_core.proofs.VisibilityLemmas.{verdicts_are_indistinguishable, updates_stay_indistinguishable, invisible_updates_are_indistinguishable, listings_are_indistinguishable, parts_are_indistinguishable, changes_are_indistinguishable, invisible_changes_show_nothing}
 use Rattle.zone_core.specs.Changes.{ChangeOf, change_between}
-use Rattle.office_state.specs.declared.request.Request.{Request}
-use Rattle.office_state.specs.declared.request.Request.TheVariants as requests
-use Rattle.office_state.specs.declared.reply.UpdateReply.{UpdateReply}
-use Rattle.office_state.specs.declared.reply.UpdateReply.TheVariants.{NoError, Failed}
-use Rattle.office_state.specs.declared.receipt.Receipt.{Receipt}
-use Rattle.office_state.specs.Replies.{ReplyOf, records, file, delegations, changes, not_zone}
-use Rattle.office_state.specs.States.{Held, State, zone_held, AreZones, hold, keep}
+use Rattle.office_model.specs.declared.request.Request.{Request}
+use Rattle.office_model.specs.declared.request.Request.TheVariants as requests
+use Rattle.office_model.specs.declared.reply.UpdateReply.{UpdateReply}
+use Rattle.office_model.specs.declared.reply.UpdateReply.TheVariants.{NoError, Failed}
+use Rattle.office_model.specs.declared.receipt.Receipt.{Receipt}
+use Rattle.office_model.specs.Replies.{ReplyOf, records, file, delegations, changes, not_zone}
+use Rattle.office_model.specs.States.{Held, State, zone_held, AreZones, hold, keep}
 use Rattle.office_core.specs.Footprints.{footprint}
 use Rattle.office_core.specs.Permissions.{question, IsGranted, IsPermitted, first_denial}
 use Rattle.office_core.specs.Machine.{may_list, listed, seen_of, if_some, seen, numbered, of_zone, list_reply, list_within_reply, file_reply, delegations_reply, changes_reply, outside_reply, denied_reply, failed_reply, refused_by, refusal, with_change, held_after, receipt, Turn, unchanged, answered, updated, step, made_now, made}

@@ -12,9 +12,9 @@ use Rattle.grant_policy.specs.Decisions.{decision, is_granted}
 use Rattle.grant_policy.specs.Grants.{GrantsOf, includes}
 use Rattle.zone_core.specs.declared.change.Change.{Change}
 use Rattle.zone_core.specs.Changes.{ChangeOf, change_in}
-use Rattle.office_state.specs.Replies.{seen_in}
-use Rattle.office_state.specs.States.{Held}
-use Rattle.office_state.specs.Tables.{AreHidden, IsHidden}
+use Rattle.office_model.specs.Replies.{seen_in}
+use Rattle.office_model.specs.States.{Held}
+use Rattle.office_model.specs.Tables.{AreHidden, IsHidden}
 use Rattle.office_core.specs.declared.changes.Seen.{Seen}
 use Rattle.office_core.specs.Machine.{if_some, listed, may_list, seen, seen_of}
 use Rattle.office_core.specs.Seen.{IsNext, IsSeenUpTo, IsSeenWhole}

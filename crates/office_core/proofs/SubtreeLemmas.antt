@@ -16,8 +16,8 @@ use Rattle.zone_core.specs.Sets.{InOrder, key_of, listing, part, within}
 use Rattle.zone_core.specs.Zones.{IsZone}
 use Rattle.zone_core.proofs.RowLemmas.{InOrder-filter, listed_part}
 use Rattle.zone_core.proofs.ChangedLemmas as changed
-use Rattle.office_state.specs.States.{AreZones, Held, State, zone_held, subtree_at}
-use Rattle.office_state.specs.Tables.{included}
+use Rattle.office_model.specs.States.{AreZones, Held, State, zone_held, subtree_at}
+use Rattle.office_model.specs.Tables.{included}
 use Rattle.office_core.specs.Machine.{may_list, listed, listed_at}
 use Rattle.office_core.specs.Subtrees.{subtrees, subtrees_at}
 use Rattle.office_core.proofs.SubtreesLemmas.{in_some, subtrees_are}

@@ -26,8 +26,8 @@ use Rattle.zone_core.proofs.WithinLemmas.{not_before, between}
 use Rattle.zone_core.proofs.MetLemmas.{Among, any_is, of_among}
 use Rattle.zone_core.proofs.BelowLemmas.{before_then, not_behind, is_behind, not_above, no_test}
 use Rattle.zone_core.proofs.ChangedLemmas as changed
-use Rattle.office_state.specs.States.{AreZones, Held, State, zone_at, zone_held}
-use Rattle.office_state.specs.Tables.{included}
+use Rattle.office_model.specs.States.{AreZones, Held, State, zone_at, zone_held}
+use Rattle.office_model.specs.Tables.{included}
 use Rattle.office_core.specs.Subtrees.{subtrees}
 
 abbrev Labels : Type 0

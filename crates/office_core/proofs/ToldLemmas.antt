@@ -13,7 +13,7 @@ use Rattle.grant_policy.specs.declared.rule.Rule.{Rule}
 use Rattle.grant_policy.specs.Decisions.{decision}
 use Rattle.zone_core.proofs.SetLemmas.{by_cases}
 use Rattle.zone_core.specs.Changes.{ChangeOf, is_empty}
-use Rattle.office_state.specs.Replies.{NumberedOf}
+use Rattle.office_model.specs.Replies.{NumberedOf}
 use Rattle.office_core.specs.Permissions.{question}
 use Rattle.office_core.specs.Machine.{may_list, listed, seen_of, seen, numbered, changes_from}
 use Rattle.office_core.specs.Promises.{SoMany, IsNth, MayList, SeesSome, AreShown, IsAnsweredAs, ChangesAreExact}

@@ -4,7 +4,7 @@ use Rattle.std.specs.List.{All}
 use Rattle.dns_names.specs.Order.{same_name}
 use Rattle.grant_policy.specs.declared.rule.Rule.{Rule}
 use Rattle.zone_core.specs.Changes.{ChangeOf}
-use Rattle.office_state.specs.States.{Held, State}
+use Rattle.office_model.specs.States.{Held, State}
 use Rattle.office_core.specs.declared.bookmark.Bookmark.{Bookmark}
 use Rattle.office_core.specs.declared.bookmark.Bookmarks.{Bookmarks}
 use Rattle.office_core.specs.declared.bookmark.Point.{Point}

@@ -11,11 +11,11 @@ use Rattle.grant_policy.specs.Decisions.{HasRight}
 use Rattle.grant_policy.specs.Isolated.{ChangesRecords, IsIsolated}
 use Rattle.zone_core.specs.Updates.{acted_name}
 use Rattle.zone_core.specs.Visibility.{IsInvisible}
-use Rattle.office_state.specs.declared.request.Request.{Request}
-use Rattle.office_state.specs.declared.request.Request.TheVariants as requests
-use Rattle.office_state.specs.declared.request.Call.{Call}
-use Rattle.office_state.specs.Replies.{ReplyOf}
-use Rattle.office_state.specs.States.{State, Held, AreZones}
+use Rattle.office_model.specs.declared.request.Request.{Request}
+use Rattle.office_model.specs.declared.request.Request.TheVariants as requests
+use Rattle.office_model.specs.declared.request.Call.{Call}
+use Rattle.office_model.specs.Replies.{ReplyOf}
+use Rattle.office_model.specs.States.{State, Held, AreZones}
 use Rattle.office_core.specs.Permissions.{IsGranted}
 use Rattle.office_core.specs.Machine.{made}
 use Rattle.office_core.specs.Runs.{Answer, turn, answers, HaveUpdates}

@@ -10,9 +10,9 @@ use Rattle.dns_names.specs.Order.{same_name}
 use Rattle.zone_core.specs.Zones.{ZoneOf, IsZone}
 use Rattle.zone_core.specs.declared.change.Change.{Change}
 use Rattle.zone_core.specs.Changes.{change_in}
-use Rattle.office_state.specs.declared.receipt.Receipt.{Receipt}
-use Rattle.office_state.specs.contracts.receipt.Receipt as of_receipt
-use Rattle.office_state.specs.States.{Held, State, AreZones, AreReceipts}
+use Rattle.office_model.specs.declared.receipt.Receipt.{Receipt}
+use Rattle.office_model.specs.contracts.receipt.Receipt as of_receipt
+use Rattle.office_model.specs.States.{Held, State, AreZones, AreReceipts}
 use Rattle.office_core.specs.declared.memory.HeldZone.{HeldZone}
 use Rattle.office_core.specs.contracts.memory.HeldZone as of_held
 

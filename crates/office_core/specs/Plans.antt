@@ -5,10 +5,10 @@ use Rattle.grant_policy.specs.declared.rule.Rule.{Rule}
 use Rattle.zone_core.specs.Zones.{ZoneOf}
 use Rattle.zone_core.specs.Updates.{UpdateOf}
 use Rattle.zone_core.specs.Changes.{ChangeOf}
-use Rattle.office_state.specs.declared.request.Request.TheVariants as requests
-use Rattle.office_state.specs.declared.reply.UpdateReply.{UpdateReply}
-use Rattle.office_state.specs.Replies.{to_update}
-use Rattle.office_state.specs.States.{State, zone_at, changes_at}
+use Rattle.office_model.specs.declared.request.Request.TheVariants as requests
+use Rattle.office_model.specs.declared.reply.UpdateReply.{UpdateReply}
+use Rattle.office_model.specs.Replies.{to_update}
+use Rattle.office_model.specs.States.{State, zone_at, changes_at}
 use Rattle.office_core.specs.Machine.{Turn, step}
 
 -- a turn replies so to an update of the zone of an origin, and notes this change behind the changes that there were

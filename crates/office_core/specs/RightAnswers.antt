@@ -11,14 +11,14 @@ use Rattle.zone_core.specs.Met.{IsFirstUnmet}
 use Rattle.zone_core.specs.Accounts.{IsMadeBy}
 use Rattle.zone_core.specs.Versions.{Advances}
 use Rattle.zone_core.specs.Delegations.{DelegationOf, AreReported}
-use Rattle.office_state.specs.declared.receipt.Receipt.{Receipt}
-use Rattle.office_state.specs.declared.reply.UpdateReply.{UpdateReply}
-use Rattle.office_state.specs.declared.reply.UpdateReply.TheVariants as replies
-use Rattle.office_state.specs.declared.request.Call.{Call}
-use Rattle.office_state.specs.declared.request.Request.{Request}
-use Rattle.office_state.specs.declared.request.Request.TheVariants as requests
-use Rattle.office_state.specs.Replies.{ReplyOf, to_update, id_reused, records, file, delegations}
-use Rattle.office_state.specs.States.{Held, State, AreZones, AreReceipts, zone_held}
+use Rattle.office_model.specs.declared.receipt.Receipt.{Receipt}
+use Rattle.office_model.specs.declared.reply.UpdateReply.{UpdateReply}
+use Rattle.office_model.specs.declared.reply.UpdateReply.TheVariants as replies
+use Rattle.office_model.specs.declared.request.Call.{Call}
+use Rattle.office_model.specs.declared.request.Request.{Request}
+use Rattle.office_model.specs.declared.request.Request.TheVariants as requests
+use Rattle.office_model.specs.Replies.{ReplyOf, to_update, id_reused, records, file, delegations}
+use Rattle.office_model.specs.States.{Held, State, AreZones, AreReceipts, zone_held}
 use Rattle.office_core.specs.Footprints.{footprint}
 use Rattle.office_core.specs.Permissions.{question, IsPermitted, IsFirstDenial}
 use Rattle.office_core.specs.Machine.{receipt}

@@ -3,15 +3,15 @@ use Rattle.std.specs.Prelude.{◌≡◌, ℕ, List, [], ◌∷◌, ◌++◌, len
 use Rattle.std.specs.List.{AllByRecursion}
 use Rattle.grant_policy.specs.declared.rule.Rule.{Rule}
 use Rattle.zone_core.specs.Updates.{IsUpdate}
-use Rattle.office_state.specs.declared.request.Request.{Request}
-use Rattle.office_state.specs.declared.request.Request.TheVariants as requests
-use Rattle.office_state.specs.declared.request.Call.{Call}
-use Rattle.office_state.specs.declared.table_fault.TableFault.TheVariants.{Store}
-use Rattle.office_state.specs.declared.table_fault.StepFault.TheVariants.{BeforeCommit, Commit}
-use Rattle.office_state.specs.declared.reply.Reply.{Reply}
-use Rattle.office_state.specs.declared.reply.Reply.TheVariants.{Servfail}
-use Rattle.office_state.specs.Replies.{ReplyOf, reply_of}
-use Rattle.office_state.specs.States.{State}
+use Rattle.office_model.specs.declared.request.Request.{Request}
+use Rattle.office_model.specs.declared.request.Request.TheVariants as requests
+use Rattle.office_model.specs.declared.request.Call.{Call}
+use Rattle.office_model.specs.declared.table_fault.TableFault.TheVariants.{Store}
+use Rattle.office_model.specs.declared.table_fault.StepFault.TheVariants.{BeforeCommit, Commit}
+use Rattle.office_model.specs.declared.reply.Reply.{Reply}
+use Rattle.office_model.specs.declared.reply.Reply.TheVariants.{Servfail}
+use Rattle.office_model.specs.Replies.{ReplyOf, reply_of}
+use Rattle.office_model.specs.States.{State}
 use Rattle.office_core.specs.Machine.{Turn, step}
 
 -- the turn of a call

@@ -2,8 +2,8 @@
 use Rattle.std.specs.Prelude.{◌≡◌, ℕ, ◌+◌, ◌-◌, ◌≤◌, List, Bool, false, Option, Some, None, length, take, drop, map}
 use Rattle.grant_policy.specs.Grants.{GrantsOf}
 use Rattle.zone_core.specs.Changes.{ChangeOf}
-use Rattle.office_state.specs.Replies.{seen_in}
-use Rattle.office_state.specs.States.{Held}
+use Rattle.office_model.specs.Replies.{seen_in}
+use Rattle.office_model.specs.States.{Held}
 use Rattle.office_core.specs.declared.changes.Seen.{Seen}
 use Rattle.office_core.specs.Machine.{seen}
 

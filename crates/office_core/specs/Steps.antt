@@ -7,17 +7,17 @@ use Rattle.zone_core.specs.Zones.{ZoneOf}
 use Rattle.zone_core.specs.Updates.{UpdateOf}
 use Rattle.zone_core.specs.Effects.{zone_after}
 use Rattle.zone_core.specs.Changes.{ChangeOf, change_between}
-use Rattle.office_state.specs.declared.table_fault.StepFault.{StepFault}
-use Rattle.office_state.specs.declared.table_fault.StepFault.TheVariants.{BeforeCommit, Commit}
-use Rattle.office_state.specs.TableFaults.{cause}
-use Rattle.office_state.specs.declared.request.Request.{Request}
-use Rattle.office_state.specs.declared.reply.Reply.{Reply}
-use Rattle.office_state.specs.declared.reply.Reply.TheVariants.{Servfail}
-use Rattle.office_state.specs.declared.reply.UpdateReply.{UpdateReply}
-use Rattle.office_state.specs.declared.reply.UpdateReply.TheVariants.{NoError, NotAuth}
-use Rattle.office_state.specs.Replies.{reply_of, to_update}
-use Rattle.office_state.specs.States.{Held, State}
-use Rattle.office_state.specs.Tables.{CountsFault, AdditionOf, Fits, committed}
+use Rattle.office_model.specs.declared.table_fault.StepFault.{StepFault}
+use Rattle.office_model.specs.declared.table_fault.StepFault.TheVariants.{BeforeCommit, Commit}
+use Rattle.office_model.specs.TableFaults.{cause}
+use Rattle.office_model.specs.declared.request.Request.{Request}
+use Rattle.office_model.specs.declared.reply.Reply.{Reply}
+use Rattle.office_model.specs.declared.reply.Reply.TheVariants.{Servfail}
+use Rattle.office_model.specs.declared.reply.UpdateReply.{UpdateReply}
+use Rattle.office_model.specs.declared.reply.UpdateReply.TheVariants.{NoError, NotAuth}
+use Rattle.office_model.specs.Replies.{reply_of, to_update}
+use Rattle.office_model.specs.States.{Held, State}
+use Rattle.office_model.specs.Tables.{CountsFault, AdditionOf, Fits, committed}
 use Rattle.office_core.specs.Machine.{Turn, step, outside_reply, denied_reply, failed_reply, zone_refusal, receipt}
 
 -- What a request is answered from a state, and that the state after it is held: a step of the machine; or the table failed or

@@ -3,7 +3,7 @@ use Rattle.std.specs.Prelude.{ℕ, List, Option, option_map}
 use Rattle.std.specs.List.{flat_map}
 use Rattle.dns_data.specs.declared.record.Record.{Record}
 use Rattle.zone_core.specs.Sets.{Records, listing, part, within}
-use Rattle.office_state.specs.States.{State, zone_at}
+use Rattle.office_model.specs.States.{State, zone_at}
 
 -- those within each name, in record order, one name after the other
 abbrev pub subtrees : Records → List (List (List ℕ)) → List Record

@@ -4,7 +4,7 @@ ghost use Rattle.std.specs.Prelude.{◌≡◌, ◌+◌, List, Some, not, IfOk, I
 ghost use Rattle.std.specs.List.{filter};
 ghost use Rattle.grant_policy.specs.declared.rule.Rule.{Rule};
 ghost use Rattle.zone_core.specs.Changes.{ChangeOf};
-ghost use Rattle.office_state.specs.States.{Held, State};
+ghost use Rattle.office_model.specs.States.{Held, State};
 ghost use Rattle.office_core.specs.Bookmarks.{AreBookmarks, IsBookmark, IsPoint, IsStart, is_of};
 
 use dns_names::Name;

@@ -3,9 +3,9 @@
 ghost use Rattle.std.specs.Prelude.{◌≡◌, ◌+◌, ◌<◌, ◌≤◌, ◌++◌, [], ◌∷◌, true, Ok, Some, IfOk, OnOk, map, length, nat_le};
 ghost use Rattle.std.specs.List.{filter};
 ghost use Rattle.zone_core.specs.Changes.{change_in};
-ghost use Rattle.office_state.specs.Replies.{numbered_of, seen_in};
-ghost use Rattle.office_state.specs.States.{State};
-ghost use Rattle.office_state.specs.Tables.{ReadsOnly};
+ghost use Rattle.office_model.specs.Replies.{numbered_of, seen_in};
+ghost use Rattle.office_model.specs.States.{State};
+ghost use Rattle.office_model.specs.Tables.{ReadsOnly};
 ghost use Rattle.office_core.specs.Machine.{unchanged, of_zone, changes_reply, if_some, listed, seen, seen_of, numbered};
 ghost use Rattle.office_core.specs.Steps.{IsAnswer, Takes};
 ghost use Rattle.office_core.specs.Bookmarks.{AreBookmarks};
@@ -15,7 +15,7 @@ use crate::bookmark::Bookmarks;
 use dns_data::Record;
 use dns_names::Name;
 use grant_policy::{Action, Grants, Identifier, Policy};
-use office_state::{NumberedChange, Reply, SeenChange, TableFault, ZoneTable, included};
+use office_model::{NumberedChange, Reply, SeenChange, TableFault, ZoneTable, included};
 use std::alloc::{AllocError, Global};
 use zone_core::Change;
 

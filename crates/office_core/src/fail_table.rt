@@ -1,14 +1,14 @@
 //! A table that fails at chosen calls, for tests.
 
 ghost use Rattle.std.specs.Prelude.{◌≡◌, ◌<◌, OnErr};
-ghost use Rattle.office_state.specs.Tables.{Counts};
+ghost use Rattle.office_model.specs.Tables.{Counts};
 ghost use Rattle.office_core.specs.Memory.{HoldsState};
 
 use crate::memory::MemTable;
 use dns_data::Record;
 use dns_names::Name;
 use grant_policy::{Grants, Identifier};
-use office_state::{Addition, Ahead, Receipt, TableFault, ZoneTable};
+use office_model::{Addition, Ahead, Receipt, TableFault, ZoneTable};
 use std::alloc::Global;
 use std::sync::ledger::{Blank, Book, Ledger, Share};
 use zone_core::{Change, Zone};

@@ -23,7 +23,7 @@ pub use laws::{
     footprints_are_asked_in_order, lists_are_exact,
 };
 pub use memory::MemTable;
-pub use office_state::{
+pub use office_model::{
     Addition, Call, NumberedChange, Receipt, Reply, Request, Right, StepFault, TableFault,
     UpdateReply, ZoneTable,
 };

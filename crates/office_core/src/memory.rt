@@ -15,7 +15,7 @@ ghost use Rattle.office_core.specs.Memory.{state_of, is_of, receipt_in, IsPutAt,
 use dns_data::Record;
 use dns_names::Name;
 use grant_policy::{Grants, Identifier};
-use office_state::{Addition, Ahead, Receipt, TableFault, ZoneTable, with_included};
+use office_model::{Addition, Ahead, Receipt, TableFault, ZoneTable, with_included};
 use std::alloc::{AllocError, Global};
 use std::collections::BTreeMap;
 use std::marker::Model;

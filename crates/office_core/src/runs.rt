@@ -1,7 +1,7 @@
 //! Runs of the machine.
 
 ghost use Rattle.std.specs.Prelude.{◌≡◌, ◌+◌, IfOk, OnErr, sum_by};
-ghost use Rattle.office_state.specs.States.{State};
+ghost use Rattle.office_model.specs.States.{State};
 ghost use Rattle.office_core.specs.Runs.{IsRun, HasUpdate, HaveUpdates, kept, given, counted_failures};
 ghost use Rattle.office_core.specs.Promises.{CallsAreRight};
 ghost use Rattle.office_core.specs.RightAnswers.{AnswersAreRight};
@@ -9,7 +9,7 @@ ghost use Rattle.office_core.specs.Isolation.{AreAnsweredAlone};
 
 use crate::steps::step;
 use grant_policy::Policy;
-use office_state::{Call, Reply, Request, ZoneTable};
+use office_model::{Call, Reply, Request, ZoneTable};
 use std::alloc::{AllocError, Global};
 
 /// The replies to calls, one after the other. The only error is out of memory for the list of replies, and then no call was

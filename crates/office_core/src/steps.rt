@@ -1,7 +1,7 @@
 //! One step of the machine.
 
 ghost use Rattle.std.specs.Prelude.{IfOk};
-ghost use Rattle.office_state.specs.States.{State};
+ghost use Rattle.office_model.specs.States.{State};
 ghost use Rattle.office_core.specs.Machine.{step};
 ghost use Rattle.office_core.specs.Bookmarks.{AreBookmarks};
 ghost use Rattle.office_core.specs.Steps.{Steps, Leaves, CountsReply, CountsStep, Takes, LeavesTurn, IsAnswer};
@@ -11,7 +11,7 @@ use crate::changes::changes;
 use crate::queries::{delegations, file, list, list_within, right};
 use crate::update::update_reply;
 use grant_policy::{Identifier, Policy};
-use office_state::{Reply, Request, StepFault, ZoneTable};
+use office_model::{Reply, Request, StepFault, ZoneTable};
 use std::alloc::Global;
 
 /// What the office replies to a request of a caller, and what it keeps.

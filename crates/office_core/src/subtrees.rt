@@ -3,14 +3,14 @@
 ghost use Rattle.std.specs.Prelude.{◌≡◌, ◌↔◌, ◌<◌, ◌++◌, true, length, option_map, IfOk, IfSome};
 ghost use Rattle.zone_core.specs.Outermost.{AreApart};
 ghost use Rattle.zone_core.specs.Sets.{InOrder};
-ghost use Rattle.office_state.specs.States.{State};
-ghost use Rattle.office_state.specs.Tables.{ReadsOnly, included};
+ghost use Rattle.office_model.specs.States.{State};
+ghost use Rattle.office_model.specs.Tables.{ReadsOnly, included};
 ghost use Rattle.office_core.specs.Subtrees.{subtrees_at};
 
 use dns_data::{Record, record_order};
 use dns_names::Name;
 use grant_policy::Grants;
-use office_state::{TableFault, ZoneTable};
+use office_model::{TableFault, ZoneTable};
 use std::alloc::{AllocError, Global};
 
 /// Whether records in record order are in record order with others before them.

@@ -3,10 +3,10 @@
 ghost use Rattle.std.specs.Prelude.{◌≡◌, None, Some, IfOk, option_map};
 ghost use Rattle.zone_core.specs.Updates.{IsUpdate, ActsWithin};
 ghost use Rattle.zone_core.specs.Changes.{change_in};
-ghost use Rattle.office_state.specs.Replies.{reply_of};
-ghost use Rattle.office_state.specs.States.{State, zone_at};
-ghost use Rattle.office_state.specs.Tables.{ReadsOnly, addition_in};
-ghost use Rattle.office_state.specs.declared.reply.UpdateReply.TheVariants.{NoError};
+ghost use Rattle.office_model.specs.Replies.{reply_of};
+ghost use Rattle.office_model.specs.States.{State, zone_at};
+ghost use Rattle.office_model.specs.Tables.{ReadsOnly, addition_in};
+ghost use Rattle.office_model.specs.declared.reply.UpdateReply.TheVariants.{NoError};
 ghost use Rattle.office_core.specs.Machine.{again, answered, updated, refusal, zone_refusal, failed_reply};
 ghost use Rattle.office_core.specs.Steps.{CountsStep, IsAnswer, Takes, LeavesTurn, Commits, Makes, MakesAt, MakesOf, held_in, unread_refusal, addition_of};
 ghost use Rattle.office_core.specs.Plans.{Plans};
@@ -14,7 +14,7 @@ ghost use Rattle.office_core.specs.Plans.{Plans};
 use crate::permission::denied;
 use dns_names::Name;
 use grant_policy::{Identifier, LookUps, Policy};
-use office_state::{Addition, Receipt, Reply, StepFault, TableFault, UpdateReply, ZoneTable};
+use office_model::{Addition, Receipt, Reply, StepFault, TableFault, UpdateReply, ZoneTable};
 use std::alloc::{AllocError, Global};
 use zone_core::{Change, Update, Zone, holds};
 

@@ -3,10 +3,10 @@ use Rattle.std.proofs.Common.{◌≡◌, ℕ, ℤ, suc, pos, List, length, Optio
 use Rattle.std.specs.Prelude.{MatchOption}
 use Rattle.zone_core.specs.Changes.{change_in}
 use Rattle.zone_core.specs.declared.change.Change.{Change}
-use Rattle.office_state.specs.States.{State}
-use Rattle.office_state.specs.Tables.{FitsChange}
-use Rattle.office_sql.specs.Rows.{ReceiptRowOf, BatchOf}
-use Rattle.office_rows.specs.Batches.{IsNext, change_batch, receipts_batch}
+use Rattle.office_model.specs.States.{State}
+use Rattle.office_model.specs.Tables.{FitsChange}
+use Rattle.store_sql.specs.Rows.{ReceiptRowOf, BatchOf}
+use Rattle.store_rows.specs.Batches.{IsNext, change_batch, receipts_batch}
 use Rattle.office_store.specs.Additions.{Writes}
 
 -- without a change

@@ -17,20 +17,20 @@ use Rattle.zone_core.specs.Parts.{part_of, at_names}
 use Rattle.zone_core.specs.Changes.{ChangeOf, changed}
 use Rattle.zone_core.specs.Views.{zone_in}
 use Rattle.zone_core.proofs.SetLemmas.{by_cases}
-use Rattle.office_state.specs.States.{Held, State, zone_held, zone_at, part_at, subtree_at, keep}
+use Rattle.office_model.specs.States.{Held, State, zone_held, zone_at, part_at, subtree_at, keep}
 use Rattle.grant_policy.specs.Grants.{GrantsOf}
-use Rattle.office_state.specs.Tables.{AdditionOf, included, held_with, with_change_of, committed}
-use Rattle.office_sql.specs.Rows.{RecordRowOf, RowsOf}
-use Rattle.office_sql.specs.Tables.{stored_record}
-use Rattle.office_sql.specs.Lookups.{records_of, records_at}
-use Rattle.office_sql.proofs.Selections.{read_as, one_stored_record}
-use Rattle.office_rows.specs.Contents.{AreOfState}
-use Rattle.office_rows.specs.RecordRows.{record_row}
-use Rattle.office_rows.proofs.ListLemmas.{none_moved}
-use Rattle.office_rows.proofs.OriginLaws.{zones_stand_at_origins}
-use Rattle.office_rows.proofs.StateLaws.{states_are_sound}
-use Rattle.office_rows.proofs.ZoneReadLemmas.{rows_moved, zone_of_state, zone_stored}
-use Rattle.zone_cache.specs.Cache.{AreAllRecordsOf, AreIncludedOf, IsPartOf, cached_after, cached_behind, changed_at, is_cached_of, with_change}
+use Rattle.office_model.specs.Tables.{AdditionOf, included, held_with, with_change_of, committed}
+use Rattle.store_sql.specs.Rows.{RecordRowOf, RowsOf}
+use Rattle.store_sql.specs.Tables.{stored_record}
+use Rattle.store_sql.specs.Lookups.{records_of, records_at}
+use Rattle.store_sql.proofs.Selections.{read_as, one_stored_record}
+use Rattle.store_rows.specs.Contents.{AreOfState}
+use Rattle.store_rows.specs.RecordRows.{record_row}
+use Rattle.store_rows.proofs.ListLemmas.{none_moved}
+use Rattle.store_rows.proofs.OriginLaws.{zones_stand_at_origins}
+use Rattle.store_rows.proofs.StateLaws.{states_are_sound}
+use Rattle.store_rows.proofs.ZoneReadLemmas.{rows_moved, zone_of_state, zone_stored}
+use Rattle.store_cache.specs.Cache.{AreAllRecordsOf, AreIncludedOf, IsPartOf, cached_after, cached_behind, changed_at, is_cached_of, with_change}
 use Rattle.office_store.specs.Cache.{FitsCache, IsZoneIn}
 use Rattle.office_store.specs.Holds.{HoldsState, LeavesStates}
 use Rattle.office_store.specs.Queries.{Asked}

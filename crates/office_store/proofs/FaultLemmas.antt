@@ -1,13 +1,13 @@
 -- Faults that are failures.
 use Rattle.std.proofs.Common.{◌≡◌, ◌⊎◌, inl, inr, Result, Err, IfErr, sym, subst}
-use Rattle.office_sql.specs.declared.rows_fault.RowsFault.{RowsFault}
-use Rattle.office_sql.specs.declared.rows_fault.RowsFault.TheVariants as tables
-use Rattle.office_rows.specs.declared.row_fault.RowFault.{RowFault}
-use Rattle.office_rows.specs.declared.row_fault.RowFault.TheVariants as rows
+use Rattle.store_sql.specs.declared.rows_fault.RowsFault.{RowsFault}
+use Rattle.store_sql.specs.declared.rows_fault.RowsFault.TheVariants as tables
+use Rattle.store_rows.specs.declared.row_fault.RowFault.{RowFault}
+use Rattle.store_rows.specs.declared.row_fault.RowFault.TheVariants as rows
 use Rattle.store_faults.specs.declared.store_fault.StoreFault.{StoreFault}
 use Rattle.store_faults.specs.declared.store_fault.StoreFault.TheVariants.{ZoneExists, NoZone, SerialNotGreater, WrongVersion, Store, BadRow, Zone, NoMemory}
 use Rattle.store_faults.specs.StoreFaults.{of_rows, IsFailure, Refuses, Gives}
-use Rattle.office_rows.specs.RowRefusals.{of_row}
+use Rattle.store_rows.specs.RowRefusals.{of_row}
 
 pub rows_fail : (f : RowsFault) → IsFailure (of_rows f)
 rows_fail (tables.Store cause) = tt

@@ -6,11 +6,11 @@ use Rattle.sqlite.specs.Effect.{Database}
 use Rattle.sqlite.specs.Files.{AreFoundIn, HoldsDatabase}
 use Rattle.sqlite.specs.Start.{FindsIn}
 use Rattle.sqlite.specs.State.{State as Shown, IsLive, Opens}
-use Rattle.office_state.specs.States.{State}
-use Rattle.office_sql.specs.Holds.{AreRows, Keeps, Leaves}
-use Rattle.office_sql.specs.Stores.{Stores}
-use Rattle.office_sql.specs.Tables.{stored_version}
-use Rattle.office_sql.proofs.Layouts.{reads_so}
+use Rattle.office_model.specs.States.{State}
+use Rattle.store_sql.specs.Holds.{AreRows, Keeps, Leaves}
+use Rattle.store_sql.specs.Stores.{Stores}
+use Rattle.store_sql.specs.Tables.{stored_version}
+use Rattle.store_sql.proofs.Layouts.{reads_so}
 use Rattle.office_store.specs.Queries.{Only}
 use Rattle.office_store.specs.Files.{AreOfVersion, HoldStateIn, HoldVersionIn, ShowsStill}
 use Rattle.office_store.specs.Holds.{HasVersion, HoldsState, IsStateIn}

@@ -3,9 +3,9 @@ use Rattle.std.proofs.Common.{◌≡◌, false, not, ◌||◌, Bool, true, List,
 use Rattle.std.specs.List.{list_any}
 use Rattle.std.proofs.lemmas.List.Sorted.{IsPermutation-trans, IsPermutation-append, IsPermutation-append_left}
 use Rattle.sqlite_trees.proofs.ListLemmas.{filter_same, all_weaker, all_both}
-use Rattle.office_sql.specs.Rows.{RecordRowOf, same_key, without}
-use Rattle.office_rows.proofs.ListLemmas.{turned_last}
-use Rattle.office_rows.proofs.RecordLemmas.{Stay}
+use Rattle.store_sql.specs.Rows.{RecordRowOf, same_key, without}
+use Rattle.store_rows.proofs.ListLemmas.{turned_last}
+use Rattle.store_rows.proofs.RecordLemmas.{Stay}
 
 -- ---- rows that go
 

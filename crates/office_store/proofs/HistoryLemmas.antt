@@ -12,20 +12,20 @@ use Rattle.dns_data.specs.Rdata.{type_of}
 use Rattle.grant_policy.specs.Grants.{GrantsOf, includes}
 use Rattle.zone_core.specs.declared.change.Change.{Change}
 use Rattle.zone_core.specs.Changes.{ChangeOf, change_in}
-use Rattle.office_state.specs.States.{Held, State, changes_at, zone_at, zone_held}
-use Rattle.office_state.specs.Tables.{AdditionOf, AreHidden, IsHidden, committed}
-use Rattle.office_sql.specs.Tables.{changes_tree, layout_in, stored_change}
-use Rattle.office_sql.proofs.Selections.{read_as, one_stored_change}
-use Rattle.office_rows.proofs.LaterChangeLaws.{histories_are_one}
-use Rattle.zone_cache.specs.declared.history.ZoneHistory.{ZoneHistory}
-use Rattle.zone_cache.specs.History.{HasAlso, KnowsAll, Remembers, are_hidden, hides, hides_each, without_records}
-use Rattle.office_rows.specs.declared.changes.ChangedRecord.{ChangedRecord}
-use Rattle.office_rows.specs.declared.side.Side.{Side}
-use Rattle.office_rows.specs.declared.side.Side.TheVariants.{Removed, Added}
-use Rattle.office_rows.specs.ChangeRows.{gathered, nothing, opened, placed, with_last, with_record}
+use Rattle.office_model.specs.States.{Held, State, changes_at, zone_at, zone_held}
+use Rattle.office_model.specs.Tables.{AdditionOf, AreHidden, IsHidden, committed}
+use Rattle.store_sql.specs.Tables.{changes_tree, layout_in, stored_change}
+use Rattle.store_sql.proofs.Selections.{read_as, one_stored_change}
+use Rattle.store_rows.proofs.LaterChangeLaws.{histories_are_one}
+use Rattle.store_cache.specs.declared.history.ZoneHistory.{ZoneHistory}
+use Rattle.store_cache.specs.History.{HasAlso, KnowsAll, Remembers, are_hidden, hides, hides_each, without_records}
+use Rattle.store_rows.specs.declared.changes.ChangedRecord.{ChangedRecord}
+use Rattle.store_rows.specs.declared.side.Side.{Side}
+use Rattle.store_rows.specs.declared.side.Side.TheVariants.{Removed, Added}
+use Rattle.store_rows.specs.ChangeRows.{gathered, nothing, opened, placed, with_last, with_record}
 use Rattle.std.proofs.lemmas.List.Folds.{list_all-append}
 use Rattle.std.proofs.lemmas.List.Sums.{fold_push}
-use Rattle.zone_cache.proofs.HistoryLemmas.{remembers_committed}
+use Rattle.store_cache.proofs.HistoryLemmas.{remembers_committed}
 use Rattle.office_store.specs.History.{FitsHistory}
 use Rattle.office_store.specs.Cache.{FitsCache}
 use Rattle.office_store.specs.Holds.{HoldsState, LeavesStates}

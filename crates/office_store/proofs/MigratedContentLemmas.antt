@@ -7,18 +7,18 @@ use Rattle.sqlite_trees.specs.Tree.{IsAscending}
 use Rattle.sqlite_trees.proofs.ListLemmas.{IsPermutation-same, IsPermutation-filter, all-flat_map, all_weaker, all_both}
 use Rattle.sqlite_keyed.proofs.ListLemmas.{all_map, ascending-map, ascending_weaker}
 use Rattle.dns_names.specs.Spelling.{name_text}
-use Rattle.office_sql.specs.Rows.{RecordRowOf, RowsOf, BatchOf, same_key, without, written}
-use Rattle.office_sql.specs.Holds.{SameRows}
-use Rattle.office_rows.specs.Contents.{ZoneRows, ContentOf, zone_records, zone_changes, row_of_receipt, IsZoneRows, IsContent, rows_of}
-use Rattle.office_rows.specs.Checks.{AreReceiptRows}
-use Rattle.office_rows.proofs.ListLemmas.{one_moved, ascending_from_pairs, pairs_from_ascending}
-use Rattle.office_rows.proofs.RecordLemmas.{Stay, others_stay}
+use Rattle.store_sql.specs.Rows.{RecordRowOf, RowsOf, BatchOf, same_key, without, written}
+use Rattle.store_sql.specs.Holds.{SameRows}
+use Rattle.store_rows.specs.Contents.{ZoneRows, ContentOf, zone_records, zone_changes, row_of_receipt, IsZoneRows, IsContent, rows_of}
+use Rattle.store_rows.specs.Checks.{AreReceiptRows}
+use Rattle.store_rows.proofs.ListLemmas.{one_moved, ascending_from_pairs, pairs_from_ascending}
+use Rattle.store_rows.proofs.RecordLemmas.{Stay, others_stay}
 use Rattle.office_store.specs.OldZones.{IsOldZoneRows, IsOldContent}
 use Rattle.office_store.specs.MigratedContents.{Migrates, migrated, migrated_content, changed_count, zone_gone, zone_come, zone_made, migration_batch}
 use Rattle.office_store.specs.MigrationSteps.{AreOldZoneRows}
 use Rattle.office_store.proofs.GoneRowLemmas.{stay_none, stay_both, without_first, without_second, joined}
 use Rattle.office_store.proofs.MigratedZoneLemmas.{migrated_is, migrated_origin, gone_records, record_rows_now, change_rows_now}
-use Rattle.office_rows.proofs.ContentLemmas.{Apart}
+use Rattle.store_rows.proofs.ContentLemmas.{Apart}
 
 -- zones of two origins
 -- ---- the records

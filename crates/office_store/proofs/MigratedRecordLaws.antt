@@ -9,8 +9,8 @@ use Rattle.zone_core.proofs.MinTtlLemmas.{min_ttl_set, min_ttl_order}
 use Rattle.zone_core.proofs.RebuiltLemmas.{latest_is}
 use Rattle.zone_core.proofs.RowLemmas.{listing_of}
 use Rattle.zone_core.specs.Changes.{ChangeOf}
-use Rattle.office_rows.specs.Contents.{ZoneRows}
-use Rattle.office_rows.proofs.ZoneReadLemmas.{there, here}
+use Rattle.store_rows.specs.Contents.{ZoneRows}
+use Rattle.store_rows.proofs.ZoneReadLemmas.{there, here}
 use Rattle.office_store.specs.OldZones.{AreOfOldZone}
 use Rattle.office_store.specs.MigratedContents.{advanced, after, change_for, next_zone}
 use Rattle.office_store.specs.MigratedRecords.{MigratedZonesAreEven}

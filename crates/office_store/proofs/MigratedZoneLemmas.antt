@@ -20,22 +20,22 @@ use Rattle.zone_core.proofs.ChangedLemmas.{changes_make, same_sets_are_one, list
 use Rattle.zone_core.proofs.RebuiltLemmas.{zones_are_rebuilt}
 use Rattle.zone_core.proofs.RowLemmas.{listing_of}
 use Rattle.zone_core.proofs.WholeLemmas.{kept_of, no_fault}
-use Rattle.office_sql.specs.Rows.{RecordRowOf, without}
-use Rattle.office_rows.specs.RecordRows.{record_row}
-use Rattle.office_rows.specs.ChangeRows.{IsChange}
-use Rattle.office_rows.specs.Contents.{ZoneRows, zone_records, zone_changes, IsZoneRows}
-use Rattle.office_rows.specs.declared.row_fault.RowFault.{RowFault}
-use Rattle.office_rows.specs.declared.row_fault.RowFault.TheVariants.{BadRow, NoMemory}
-use Rattle.office_rows.specs.RowFaults.{Refuses, of_zones}
-use Rattle.office_rows.specs.declared.ordered.ZoneRecord.{ZoneRecord}
-use Rattle.office_rows.specs.Checks.{IsZoneRecord}
-use Rattle.office_rows.specs.Orders.{rises}
-use Rattle.office_rows.proofs.OrderLemmas.{rises_from, rises_up}
-use Rattle.office_rows.proofs.ZoneReadLemmas.{here, there, order_up}
-use Rattle.office_rows.proofs.ChangeLemmas.{changes_more}
-use Rattle.office_rows.proofs.ListingLemmas.{removed_records, added_records}
-use Rattle.office_rows.proofs.RecordLemmas.{without_none, rows_changed}
-use Rattle.office_rows.proofs.BatchLaws.{some_differ}
+use Rattle.store_sql.specs.Rows.{RecordRowOf, without}
+use Rattle.store_rows.specs.RecordRows.{record_row}
+use Rattle.store_rows.specs.ChangeRows.{IsChange}
+use Rattle.store_rows.specs.Contents.{ZoneRows, zone_records, zone_changes, IsZoneRows}
+use Rattle.store_rows.specs.declared.row_fault.RowFault.{RowFault}
+use Rattle.store_rows.specs.declared.row_fault.RowFault.TheVariants.{BadRow, NoMemory}
+use Rattle.store_rows.specs.RowFaults.{Refuses, of_zones}
+use Rattle.store_rows.specs.declared.ordered.ZoneRecord.{ZoneRecord}
+use Rattle.store_rows.specs.Checks.{IsZoneRecord}
+use Rattle.store_rows.specs.Orders.{rises}
+use Rattle.store_rows.proofs.OrderLemmas.{rises_from, rises_up}
+use Rattle.store_rows.proofs.ZoneReadLemmas.{here, there, order_up}
+use Rattle.store_rows.proofs.ChangeLemmas.{changes_more}
+use Rattle.store_rows.proofs.ListingLemmas.{removed_records, added_records}
+use Rattle.store_rows.proofs.RecordLemmas.{without_none, rows_changed}
+use Rattle.store_rows.proofs.BatchLaws.{some_differ}
 use Rattle.office_store.specs.OldZones.{AreOfOldZone, IsOldZoneRows}
 use Rattle.office_store.specs.MigratedContents.{advanced, next_zone, change_for, after, migrated, rows_gone, rows_come, rows_made, zone_gone, zone_come, zone_made}
 

@@ -3,9 +3,9 @@ use Rattle.std.proofs.Common.{ℕ, pos}
 use Rattle.std.proofs.lemmas.List.Sorted.{IsPermutation-trans, IsPermutation-sym}
 use Rattle.sqlite_trees.specs.Tree.{Trees}
 use Rattle.sqlite.specs.State.{State as Shown}
-use Rattle.office_sql.specs.Rows.{RowsOf, BatchOf, written}
-use Rattle.office_sql.specs.Holds.{AreRows, Holds, Leaves, SameRows}
-use Rattle.office_rows.specs.Contents.{rows_of}
+use Rattle.store_sql.specs.Rows.{RowsOf, BatchOf, written}
+use Rattle.store_sql.specs.Holds.{AreRows, Holds, Leaves, SameRows}
+use Rattle.store_rows.specs.Contents.{rows_of}
 use Rattle.office_store.specs.MigratedContents.{Migrates}
 use Rattle.office_store.specs.Queries.{Asked}
 use Rattle.office_store.specs.Migration.{IsMigratedIn, IsMigrated, IsRead}

@@ -2,13 +2,13 @@
 use Rattle.std.proofs.Common.{◌≡◌, ◌↔◌, ℕ, ◌+◌, ◌<◌, ◌≤◌, Bool, true, false, is_some, if◌then◌else◌, List, [], ◌∷◌, ◌++◌, length, filter, flat_map, take, drop, get_or, Some, None, refl, sym, ap, subst, ◌∙◌, arith, append_assoc, append-nil}
 use Rattle.std.proofs.lemmas.List.{drop_more, drop_all}
 use Rattle.std.specs.Prelude.{Option}
-use Rattle.office_rows.specs.declared.changes.ChangedRecord.{ChangedRecord}
-use Rattle.office_rows.specs.Contents.{ZoneRows}
-use Rattle.office_rows.specs.declared.ordered.ZoneRecord.{ZoneRecord}
+use Rattle.store_rows.specs.declared.changes.ChangedRecord.{ChangedRecord}
+use Rattle.store_rows.specs.Contents.{ZoneRows}
+use Rattle.store_rows.specs.declared.ordered.ZoneRecord.{ZoneRecord}
 use Rattle.std.specs.List.{AllByRecursion}
 use Rattle.zone_core.specs.Changes.{ChangeOf}
-use Rattle.office_rows.specs.Checks.{records_first, changes_first, IsZoneRecord}
-use Rattle.office_rows.proofs.ZoneCheckLemmas.{back_all}
+use Rattle.store_rows.specs.Checks.{records_first, changes_first, IsZoneRecord}
+use Rattle.store_rows.proofs.ZoneCheckLemmas.{back_all}
 use Rattle.office_store.specs.declared.migration_steps.MigrationSteps.{MigrationSteps}
 use Rattle.office_store.specs.MigratedContents.{change_for, is_changed, zone_gone, zone_come, zone_made}
 use Rattle.office_store.specs.MigrationSteps.{IsOldZoneOf, AreOldZonesInTurn, zone_rows_in, zones_in_turn, GoesOn, AreSteps}

@@ -6,12 +6,12 @@ use Rattle.dns_names.specs.Order.{same_name}
 use Rattle.dns_data.specs.declared.record.Record.{Record}
 use Rattle.zone_core.proofs.SetLemmas.{name_self}
 use Rattle.zone_core.specs.Changes.{ChangeOf, is_empty}
-use Rattle.office_rows.specs.declared.changes.ChangedRecord.{ChangedRecord}
-use Rattle.office_rows.specs.declared.side.Side.{Side}
-use Rattle.office_rows.specs.declared.side.Side.TheVariants.{Removed, Added}
-use Rattle.office_rows.specs.ChangeRows.{are_numbered, are_of_one, gathered}
-use Rattle.office_rows.proofs.GatheringLaws.{entry, sides, entries}
-use Rattle.office_rows.proofs.GatheredLaws.{IsSome, whole}
+use Rattle.store_rows.specs.declared.changes.ChangedRecord.{ChangedRecord}
+use Rattle.store_rows.specs.declared.side.Side.{Side}
+use Rattle.store_rows.specs.declared.side.Side.TheVariants.{Removed, Added}
+use Rattle.store_rows.specs.ChangeRows.{are_numbered, are_of_one, gathered}
+use Rattle.store_rows.proofs.GatheringLaws.{entry, sides, entries}
+use Rattle.store_rows.proofs.GatheredLaws.{IsSome, whole}
 use Rattle.office_store.specs.MigrationSteps.{last_number}
 
 abbrev Labels : Type 0

@@ -14,21 +14,21 @@ use Rattle.dns_names.specs.Labels.{IsName}
 use Rattle.dns_names.specs.Order.{canonical_cmp, canonical_total, same_name}
 use Rattle.dns_names.specs.Spelling.{name_text}
 use Rattle.zone_core.proofs.SetLemmas.{name_self}
-use Rattle.office_sql.specs.Rows.{RecordRowOf, ChangeRowOf}
-use Rattle.office_rows.specs.declared.changes.ChangedRecord.{ChangedRecord}
-use Rattle.office_rows.specs.ChangeRows.{row_of, IsChanged, IsChangeRow, IsChange, changes_rows, changed_order, changed_order_total, are_numbered, are_of_one, gathered}
-use Rattle.office_rows.specs.Contents.{ZoneRows, zone_records, zone_changes}
-use Rattle.office_rows.proofs.ChangeRowLaws.{change_rows_are_apart}
-use Rattle.office_rows.proofs.GatheringLaws.{entries_are, entries_up, entries_numbered, ChangeBelow}
-use Rattle.office_rows.proofs.GatheredLaws.{are_gathered}
-use Rattle.office_rows.specs.declared.ordered.ZoneRecord.{ZoneRecord}
-use Rattle.office_rows.specs.Orders.{rises}
-use Rattle.office_rows.specs.Checks.{IsOriginText, row_of_record, IsZoneRecord, IsZoneRecordRow, zone_record_order, zone_record_total, records_first, changes_first}
-use Rattle.office_rows.proofs.ZoneCheckLemmas.{zone_tagged, tagged, zone_entries, all_entries, tagged_rows, entries_all_rows, tag_each, tag_of, entries_of, Before, zones_up, lists_before, RecordBelow, by_origin_record, by_origin_change, records_up, run_is, run_of, later_apart, untagged, IsTied, not_tied, record_one, tags_are, front_all, back_all}
-use Rattle.office_rows.proofs.ContentLemmas.{Apart, changes_each}
-use Rattle.office_rows.proofs.ListLemmas.{ascending_from_pairs, pairs_from_ascending, all_permutation, moved_back, apart_moved}
-use Rattle.office_rows.proofs.NameLemmas.{text_one}
-use Rattle.office_rows.proofs.OrderLemmas.{rises_from, rises_up, sorted_strict}
+use Rattle.store_sql.specs.Rows.{RecordRowOf, ChangeRowOf}
+use Rattle.store_rows.specs.declared.changes.ChangedRecord.{ChangedRecord}
+use Rattle.store_rows.specs.ChangeRows.{row_of, IsChanged, IsChangeRow, IsChange, changes_rows, changed_order, changed_order_total, are_numbered, are_of_one, gathered}
+use Rattle.store_rows.specs.Contents.{ZoneRows, zone_records, zone_changes}
+use Rattle.store_rows.proofs.ChangeRowLaws.{change_rows_are_apart}
+use Rattle.store_rows.proofs.GatheringLaws.{entries_are, entries_up, entries_numbered, ChangeBelow}
+use Rattle.store_rows.proofs.GatheredLaws.{are_gathered}
+use Rattle.store_rows.specs.declared.ordered.ZoneRecord.{ZoneRecord}
+use Rattle.store_rows.specs.Orders.{rises}
+use Rattle.store_rows.specs.Checks.{IsOriginText, row_of_record, IsZoneRecord, IsZoneRecordRow, zone_record_order, zone_record_total, records_first, changes_first}
+use Rattle.store_rows.proofs.ZoneCheckLemmas.{zone_tagged, tagged, zone_entries, all_entries, tagged_rows, entries_all_rows, tag_each, tag_of, entries_of, Before, zones_up, lists_before, RecordBelow, by_origin_record, by_origin_change, records_up, run_is, run_of, later_apart, untagged, IsTied, not_tied, record_one, tags_are, front_all, back_all}
+use Rattle.store_rows.proofs.ContentLemmas.{Apart, changes_each}
+use Rattle.store_rows.proofs.ListLemmas.{ascending_from_pairs, pairs_from_ascending, all_permutation, moved_back, apart_moved}
+use Rattle.store_rows.proofs.NameLemmas.{text_one}
+use Rattle.store_rows.proofs.OrderLemmas.{rises_from, rises_up, sorted_strict}
 use Rattle.office_store.specs.OldZones.{AreOfOldZone, IsOldZoneRows}
 use Rattle.office_store.specs.MigrationSteps.{AreOldZoneRows, AreOldZonesInTurn, zone_rows_in, zones_in_turn}
 

@@ -3,35 +3,35 @@ use Rattle.std.proofs.Common.{◌≡◌, ℕ, ℤ, List, pos, false, Option, Non
 use Rattle.std.proofs.lemmas.List.Sorted.{IsPermutation-refl, IsPermutation-trans, IsPermutation-sym}
 use Rattle.sqlite.specs.Effect.{Database}
 use Rattle.sqlite.specs.State.{State as Shown, HasCleanDisk, Shows}
-use Rattle.office_state.specs.States.{State}
-use Rattle.office_sql.specs.declared.rows_fault.RowsFault.{RowsFault}
-use Rattle.office_sql.specs.declared.rows_fault.RowsFault.TheVariants as tables
-use Rattle.office_sql.specs.Rows.{RecordRowOf, ReceiptRowOf, ChangeRowOf, RowsOf}
-use Rattle.office_sql.specs.Tables.{stored_zone}
-use Rattle.office_sql.specs.Holds.{Holds, OnlyAsks, Reads}
-use Rattle.office_sql.proofs.Commits.{asks_then, shows_then, held_before, held_now}
-use Rattle.office_sql.proofs.Selections.{one_stored_zone}
-use Rattle.office_sql.proofs.WholeTables.{reads_all, stored_same}
-use Rattle.office_rows.specs.declared.row_fault.RowFault.{RowFault}
-use Rattle.office_rows.specs.declared.row_fault.RowFault.TheVariants as rows
+use Rattle.office_model.specs.States.{State}
+use Rattle.store_sql.specs.declared.rows_fault.RowsFault.{RowsFault}
+use Rattle.store_sql.specs.declared.rows_fault.RowsFault.TheVariants as tables
+use Rattle.store_sql.specs.Rows.{RecordRowOf, ReceiptRowOf, ChangeRowOf, RowsOf}
+use Rattle.store_sql.specs.Tables.{stored_zone}
+use Rattle.store_sql.specs.Holds.{Holds, OnlyAsks, Reads}
+use Rattle.store_sql.proofs.Commits.{asks_then, shows_then, held_before, held_now}
+use Rattle.store_sql.proofs.Selections.{one_stored_zone}
+use Rattle.store_sql.proofs.WholeTables.{reads_all, stored_same}
+use Rattle.store_rows.specs.declared.row_fault.RowFault.{RowFault}
+use Rattle.store_rows.specs.declared.row_fault.RowFault.TheVariants as rows
 use Rattle.store_faults.specs.declared.store_fault.StoreFault.{StoreFault}
 use Rattle.store_faults.specs.StoreFaults.{of_found, IsFailure}
-use Rattle.office_rows.specs.RowRefusals.{of_check}
+use Rattle.store_rows.specs.RowRefusals.{of_check}
 use Rattle.zone_core.specs.Zones.{ZoneOf}
-use Rattle.office_rows.specs.Contents.{AreOfState}
-use Rattle.office_rows.specs.ReadZones.{IsReadAmong, IsReadIn}
-use Rattle.office_rows.specs.Checks.{AreOriginRows, AreRecordsOf, AreChangesOf, AreReceiptRows, AreStateRows, Checks}
-use Rattle.office_rows.proofs.ListLemmas.{one_moved}
-use Rattle.office_rows.proofs.ReadZoneLemmas.{read_in, read_is}
-use Rattle.office_rows.proofs.StateChecks.{state_of_rows, rows_of_state}
-use Rattle.office_rows.proofs.TableLaws.{from_tables, records_by_table, changes_by_table, origins_by_table}
+use Rattle.store_rows.specs.Contents.{AreOfState}
+use Rattle.store_rows.specs.ReadZones.{IsReadAmong, IsReadIn}
+use Rattle.store_rows.specs.Checks.{AreOriginRows, AreRecordsOf, AreChangesOf, AreReceiptRows, AreStateRows, Checks}
+use Rattle.store_rows.proofs.ListLemmas.{one_moved}
+use Rattle.store_rows.proofs.ReadZoneLemmas.{read_in, read_is}
+use Rattle.store_rows.proofs.StateChecks.{state_of_rows, rows_of_state}
+use Rattle.store_rows.proofs.TableLaws.{from_tables, records_by_table, changes_by_table, origins_by_table}
 use Rattle.office_store.specs.Holds.{HoldsState, LeavesStates}
 use Rattle.office_store.specs.Cache.{IsZoneIn}
 use Rattle.office_store.specs.Opening.{IsCheck, IsNow, HasOrigins, VersionIn, OriginsIn, RecordsFound, ChangesFound, ReceiptsIn, StateFound}
 use Rattle.office_store.specs.Queries.{AsksOnly}
 use Rattle.office_store.specs.declared.opening.Checked.{Checked}
-use Rattle.zone_cache.specs.declared.history.ZoneHistory.{ZoneHistory}
-use Rattle.zone_cache.specs.History.{Remembers}
+use Rattle.store_cache.specs.declared.history.ZoneHistory.{ZoneHistory}
+use Rattle.store_cache.specs.History.{Remembers}
 use Rattle.office_store.proofs.QueryLemmas.{asked_once, only_of}
 
 abbrev Labels : Type 0

@@ -6,13 +6,13 @@ use Rattle.sqlite.specs.State.{State as Shown, HasCleanDisk, IsUnchanged}
 use Rattle.dns_names.specs.Keys.{key_of}
 use Rattle.dns_names.specs.Labels.{IsName}
 use Rattle.dns_names.specs.Spelling.{name_text}
-use Rattle.office_state.specs.States.{Held, State}
-use Rattle.office_sql.specs.Rows.{RowsOf}
-use Rattle.office_sql.specs.Lookups.{records_at}
-use Rattle.office_rows.specs.Contents.{AreOfState}
-use Rattle.office_sql.specs.Holds.{Holds, Keeps, Leaves, OnlyAsks, Reads}
-use Rattle.office_rows.proofs.StateLaws.{zones_are_listed}
-use Rattle.office_rows.proofs.OriginLaws.{zones_stand_at_origins}
+use Rattle.office_model.specs.States.{Held, State}
+use Rattle.store_sql.specs.Rows.{RowsOf}
+use Rattle.store_sql.specs.Lookups.{records_at}
+use Rattle.store_rows.specs.Contents.{AreOfState}
+use Rattle.store_sql.specs.Holds.{Holds, Keeps, Leaves, OnlyAsks, Reads}
+use Rattle.store_rows.proofs.StateLaws.{zones_are_listed}
+use Rattle.store_rows.proofs.OriginLaws.{zones_stand_at_origins}
 use Rattle.office_store.specs.Holds.{HoldsState}
 use Rattle.office_store.specs.Queries.{Asked, AsksOnly, Only, Finds, Stands}
 

@@ -7,10 +7,10 @@ use Rattle.std.proofs.lemmas.List.Folds.{list_any-append}
 use Rattle.std.proofs.lemmas.List.Elements.{Contains-append_left, Contains-append_right}
 use Rattle.std.proofs.lemmas.List.Sorted.{Contains-permutation, IsPermutation-sym}
 use Rattle.dns_names.specs.Keys.{key_of}
-use Rattle.office_sql.specs.Rows.{RecordRowOf}
-use Rattle.office_sql.specs.Lookups.{records_at}
-use Rattle.office_rows.specs.PartRows.{rows_at, AreRowsAt}
-use Rattle.office_rows.proofs.ListLemmas.{none_moved}
+use Rattle.store_sql.specs.Rows.{RecordRowOf}
+use Rattle.store_sql.specs.Lookups.{records_at}
+use Rattle.store_rows.specs.PartRows.{rows_at, AreRowsAt}
+use Rattle.store_rows.proofs.ListLemmas.{none_moved}
 
 -- ---- what is contained
 

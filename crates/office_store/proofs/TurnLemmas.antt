@@ -2,9 +2,9 @@
 use Rattle.std.proofs.Common.{inl, inr, Result, Ok, Err, OnOk, OnErr}
 use Rattle.std.specs.Result.{IsErr}
 use Rattle.sqlite.specs.State.{State as Shown, HasCleanDisk}
-use Rattle.office_state.specs.States.{State}
-use Rattle.office_sql.specs.Rows.{BatchOf}
-use Rattle.office_rows.specs.Batches.{Leads}
+use Rattle.office_model.specs.States.{State}
+use Rattle.store_sql.specs.Rows.{BatchOf}
+use Rattle.store_rows.specs.Batches.{Leads}
 use Rattle.office_store.specs.Holds.{HoldsState, LeavesStates}
 use Rattle.office_store.specs.Queries.{Asked}
 use Rattle.office_store.specs.Turns.{Turns}

@@ -8,8 +8,8 @@ use Rattle.zone_core.specs.Serials.{is_less}
 use Rattle.zone_core.specs.Zones.{ZoneOf, IsZone, built, serial_of}
 use Rattle.zone_core.proofs.SetLemmas.{by_cases, same_sets, found_in_part}
 use Rattle.zone_core.proofs.ChangedLemmas.{same_sets_are_one}
-use Rattle.office_state.specs.States.{Held, State, zone_held}
-use Rattle.office_rows.proofs.ZoneReadLemmas.{built_at}
+use Rattle.office_model.specs.States.{Held, State, zone_held}
+use Rattle.store_rows.proofs.ZoneReadLemmas.{built_at}
 use Rattle.store_faults.specs.declared.store_fault.StoreFault.{StoreFault}
 use Rattle.store_faults.specs.declared.store_fault.StoreFault.TheVariants.{SerialNotGreater}
 use Rattle.store_faults.specs.StoreFaults.{IsFailure, Gives, of_zones, ◌>>=◌}

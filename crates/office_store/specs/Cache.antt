@@ -2,7 +2,7 @@
 use Rattle.std.specs.Prelude.{◌≡◌, Option, Some, None}
 use Rattle.sqlite.specs.State.{State as Shown, HasCleanDisk}
 use Rattle.zone_core.specs.Zones.{ZoneOf}
-use Rattle.office_state.specs.States.{State, zone_at}
+use Rattle.office_model.specs.States.{State, zone_at}
 use Rattle.office_store.specs.Holds.{HoldsState}
 
 -- a zone is the one of its origin in a state

@@ -6,9 +6,9 @@ use Rattle.sqlite.specs.Effect.{Database, IsDatabase}
 use Rattle.sqlite.specs.Files.{HoldsDatabase}
 use Rattle.sqlite.specs.Start.{FindsIn}
 use Rattle.sqlite.specs.State.{State as Shown}
-use Rattle.office_state.specs.States.{State}
-use Rattle.office_sql.specs.Stores.{Stores}
-use Rattle.office_sql.specs.Tables.{IsOffice, stored_version}
+use Rattle.office_model.specs.States.{State}
+use Rattle.store_sql.specs.Stores.{Stores}
+use Rattle.store_sql.specs.Tables.{IsOffice, stored_version}
 use Rattle.office_store.specs.Holds.{IsStateIn}
 
 -- trees that list the tables of the office, and no others

@@ -2,12 +2,12 @@
 use Rattle.std.specs.Prelude.{◌≡◌, ◌⊎◌, ℤ, [], ◌∷◌, pos, map, IsTrue}
 use Rattle.sqlite_trees.specs.Tree.{Trees}
 use Rattle.sqlite.specs.State.{State as Shown}
-use Rattle.office_state.specs.States.{State}
-use Rattle.office_sql.specs.Rows.{RowsOf}
-use Rattle.office_sql.specs.Tables.{no_schema, IsOffice, stored_version}
-use Rattle.office_sql.specs.Stores.{Stores}
-use Rattle.office_sql.specs.Holds.{AreRows, Holds, Leaves}
-use Rattle.office_rows.specs.Contents.{AreOfState}
+use Rattle.office_model.specs.States.{State}
+use Rattle.store_sql.specs.Rows.{RowsOf}
+use Rattle.store_sql.specs.Tables.{no_schema, IsOffice, stored_version}
+use Rattle.store_sql.specs.Stores.{Stores}
+use Rattle.store_sql.specs.Holds.{AreRows, Holds, Leaves}
+use Rattle.store_rows.specs.Contents.{AreOfState}
 
 -- The connection shows rows that are this state, as far as it is open.
 pub record HoldsState (conn : Shown) (s : State) : Type 0 where

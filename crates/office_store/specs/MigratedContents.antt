@@ -6,11 +6,11 @@ use Rattle.zone_core.specs.Sets.{set_of, listing, is_same}
 use Rattle.zone_core.specs.Zones.{ZoneOf, soa_at, zone_of}
 use Rattle.zone_core.specs.Effects.{with_next}
 use Rattle.zone_core.specs.Changes.{ChangeOf, change_between}
-use Rattle.office_sql.specs.Rows.{RecordRowOf, ChangeRowOf, RowsOf, BatchOf, written}
-use Rattle.office_sql.specs.Holds.{SameRows}
-use Rattle.office_rows.specs.RecordRows.{record_row}
-use Rattle.office_rows.specs.ChangeRows.{change_rows}
-use Rattle.office_rows.specs.Contents.{ZoneRows, ContentOf, IsContent, rows_of}
+use Rattle.store_sql.specs.Rows.{RecordRowOf, ChangeRowOf, RowsOf, BatchOf, written}
+use Rattle.store_sql.specs.Holds.{SameRows}
+use Rattle.store_rows.specs.RecordRows.{record_row}
+use Rattle.store_rows.specs.ChangeRows.{change_rows}
+use Rattle.store_rows.specs.Contents.{ZoneRows, ContentOf, IsContent, rows_of}
 use Rattle.office_store.specs.OldZones.{IsOldContent}
 
 -- a zone with its serial one further (RFC 1982 section 3.1)

@@ -3,7 +3,7 @@ use Rattle.std.specs.Prelude.{◌≡◌, true, false}
 use Rattle.zone_core.specs.Sets.{set_of, listing}
 use Rattle.zone_core.specs.Zones.{zone_of}
 use Rattle.zone_core.specs.Views.{min_ttl_rows}
-use Rattle.office_rows.specs.Contents.{ZoneRows}
+use Rattle.store_rows.specs.Contents.{ZoneRows}
 use Rattle.office_store.specs.OldZones.{IsOldZoneRows}
 use Rattle.office_store.specs.MigratedContents.{advanced, is_changed, migrated}
 

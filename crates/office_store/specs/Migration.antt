@@ -2,9 +2,9 @@
 use Rattle.std.specs.Prelude.{◌≡◌, ℕ, pos}
 use Rattle.sqlite_trees.specs.Tree.{Trees}
 use Rattle.sqlite.specs.State.{State as Shown}
-use Rattle.office_sql.specs.Rows.{RowsOf, BatchOf}
-use Rattle.office_sql.specs.Holds.{AreRows, Holds, Leaves, SameRows}
-use Rattle.office_rows.specs.Contents.{ContentOf, IsContent, rows_of}
+use Rattle.store_sql.specs.Rows.{RowsOf, BatchOf}
+use Rattle.store_sql.specs.Holds.{AreRows, Holds, Leaves, SameRows}
+use Rattle.store_rows.specs.Contents.{ContentOf, IsContent, rows_of}
 use Rattle.office_store.specs.OldZones.{IsOldContent}
 use Rattle.office_store.specs.MigratedContents.{Migrates, migrated_content, changed_count}
 

@@ -4,12 +4,12 @@ use Rattle.std.specs.List.{AllByRecursion, AllPairs, flat_map, fold}
 use Rattle.std.specs.List.Sorted.{IsPermutation}
 use Rattle.dns_names.specs.Spelling.{name_text}
 use Rattle.zone_core.specs.Changes.{ChangeOf}
-use Rattle.office_sql.specs.Rows.{RecordRowOf, ChangeRowOf}
-use Rattle.office_rows.specs.declared.changes.ChangedRecord.{ChangedRecord}
-use Rattle.office_rows.specs.ChangeRows.{are_numbered, gathered}
-use Rattle.office_rows.specs.Contents.{ZoneRows, zone_records, zone_changes}
-use Rattle.office_rows.specs.declared.ordered.ZoneRecord.{ZoneRecord}
-use Rattle.office_rows.specs.Checks.{records_first, changes_first}
+use Rattle.store_sql.specs.Rows.{RecordRowOf, ChangeRowOf}
+use Rattle.store_rows.specs.declared.changes.ChangedRecord.{ChangedRecord}
+use Rattle.store_rows.specs.ChangeRows.{are_numbered, gathered}
+use Rattle.store_rows.specs.Contents.{ZoneRows, zone_records, zone_changes}
+use Rattle.store_rows.specs.declared.ordered.ZoneRecord.{ZoneRecord}
+use Rattle.store_rows.specs.Checks.{records_first, changes_first}
 use Rattle.office_store.specs.declared.migration_steps.MigrationSteps.{MigrationSteps}
 use Rattle.office_store.specs.OldZones.{AreOfOldZone, IsOldZoneRows}
 use Rattle.office_store.specs.MigratedContents.{change_for, is_changed, rows_gone, rows_come, rows_made, zone_gone, zone_come, zone_made}

@@ -6,8 +6,8 @@ use Rattle.dns_data.specs.declared.record.Record.{Record}
 use Rattle.dns_data.specs.Rdata.{IsRecord}
 use Rattle.zone_core.specs.Sets.{InOrder}
 use Rattle.zone_core.specs.Zones.{IsZone, zone_of}
-use Rattle.office_rows.specs.ChangeRows.{IsChange}
-use Rattle.office_rows.specs.Contents.{ZoneRows, ContentOf, IsReceiptAt}
+use Rattle.store_rows.specs.ChangeRows.{IsChange}
+use Rattle.store_rows.specs.Contents.{ZoneRows, ContentOf, IsReceiptAt}
 
 -- Records in record order, no two the same, which make a zone of their origin once each set has its least TTL.
 pub record AreOfOldZone (origin : List (List ℕ)) (rs : List Record) : Type 0 where

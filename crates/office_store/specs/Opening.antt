@@ -2,19 +2,19 @@
 use Rattle.std.specs.Prelude.{◌≡◌, ℕ, ℤ, List, [], ◌∷◌, map, pos, false, Option, IfSome, Result, IfOk, IfErr, OnOk, IsPermutation}
 use Rattle.sqlite.specs.Effect.{Database}
 use Rattle.sqlite.specs.State.{State as Shown, HasCleanDisk, Shows}
-use Rattle.office_sql.specs.Rows.{RecordRowOf, ReceiptRowOf, ChangeRowOf, RowsOf}
-use Rattle.office_sql.specs.Tables.{stored_version}
-use Rattle.office_sql.specs.Stores.{Stores}
-use Rattle.office_sql.specs.Holds.{HasZones, HasRecords, HasReceipts, HasChanges, Holds, OnlyAsks, Reads}
+use Rattle.store_sql.specs.Rows.{RecordRowOf, ReceiptRowOf, ChangeRowOf, RowsOf}
+use Rattle.store_sql.specs.Tables.{stored_version}
+use Rattle.store_sql.specs.Stores.{Stores}
+use Rattle.store_sql.specs.Holds.{HasZones, HasRecords, HasReceipts, HasChanges, Holds, OnlyAsks, Reads}
 use Rattle.zone_core.specs.Zones.{ZoneOf}
-use Rattle.office_state.specs.States.{State}
-use Rattle.office_rows.specs.Contents.{AreOfState}
-use Rattle.office_rows.specs.ReadZones.{IsReadAmong, IsReadIn}
-use Rattle.office_rows.specs.Checks.{AreOriginRows, AreRecordsOf, AreChangesOf, AreReceiptRows, AreStateRows}
+use Rattle.office_model.specs.States.{State}
+use Rattle.store_rows.specs.Contents.{AreOfState}
+use Rattle.store_rows.specs.ReadZones.{IsReadAmong, IsReadIn}
+use Rattle.store_rows.specs.Checks.{AreOriginRows, AreRecordsOf, AreChangesOf, AreReceiptRows, AreStateRows}
 use Rattle.store_faults.specs.declared.store_fault.StoreFault.{StoreFault}
 use Rattle.store_faults.specs.StoreFaults.{IsFailure, IsOfRows}
-use Rattle.zone_cache.specs.declared.history.ZoneHistory.{ZoneHistory}
-use Rattle.zone_cache.specs.History.{Remembers}
+use Rattle.store_cache.specs.declared.history.ZoneHistory.{ZoneHistory}
+use Rattle.store_cache.specs.History.{Remembers}
 use Rattle.office_store.specs.declared.opening.Checked.{Checked}
 
 -- A check only asks, and what is shown stays as it is. It passes only where this is so of the database; rows of which that is so are

@@ -1,10 +1,10 @@
 -- What is asked of a connection that holds a state.
 use Rattle.std.specs.Prelude.{◌≡◌, ◌≢◌, ℕ, List, [], Option, Some, None, Result, OnOk, pos}
 use Rattle.sqlite.specs.State.{State as Shown, HasCleanDisk}
-use Rattle.office_state.specs.States.{Held, State}
-use Rattle.office_sql.specs.Rows.{RecordRowOf, RowsOf}
-use Rattle.office_sql.specs.Holds.{Holds, Leaves}
-use Rattle.office_rows.specs.Contents.{AreOfState}
+use Rattle.office_model.specs.States.{Held, State}
+use Rattle.store_sql.specs.Rows.{RecordRowOf, RowsOf}
+use Rattle.store_sql.specs.Holds.{Holds, Leaves}
+use Rattle.store_rows.specs.Contents.{AreOfState}
 use Rattle.office_store.specs.Holds.{HoldsState, LeavesStates}
 
 -- What a call that only asks leaves: the rows as they were, and so the state, and no further outcome of a crash.

@@ -1,7 +1,7 @@
 -- What a call leaves that turns the state that is held into another, all of it or nothing.
 use Rattle.std.specs.Prelude.{Result, OnOk, OnErr}
 use Rattle.sqlite.specs.State.{State as Shown, HasCleanDisk}
-use Rattle.office_state.specs.States.{State}
+use Rattle.office_model.specs.States.{State}
 use Rattle.office_store.specs.Holds.{HoldsState, LeavesStates}
 
 pub record Turns {X E : Type 0} (old new : Shown) (result : Result X E) (after : State → State) : Type 0 where

@@ -4,8 +4,8 @@ use Rattle.dns_data.specs.declared.record.Record.{Record}
 use Rattle.zone_core.specs.Sets.{listing}
 use Rattle.zone_core.specs.Serials.{is_less}
 use Rattle.zone_core.specs.Zones.{ZoneOf, built, serial_of}
-use Rattle.office_state.specs.States.{Held, State, zone_held}
-use Rattle.office_rows.specs.Batches.{with_zone, with_zone_replaced}
+use Rattle.office_model.specs.States.{Held, State, zone_held}
+use Rattle.store_rows.specs.Batches.{with_zone, with_zone_replaced}
 use Rattle.store_faults.specs.declared.store_fault.StoreFault.{StoreFault}
 use Rattle.store_faults.specs.declared.store_fault.StoreFault.TheVariants.{ZoneExists, NoZone, SerialNotGreater}
 use Rattle.store_faults.specs.StoreFaults.{of_zones, ◌>>=◌}

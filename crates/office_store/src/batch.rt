@@ -4,10 +4,10 @@ ghost use Rattle.std.specs.Prelude.{◌≡◌, ℕ, pos, suc, false, option_map,
 ghost use Rattle.zone_core.specs.Changes.{change_in};
 ghost use Rattle.sqlite.specs.Held.{state};
 ghost use Rattle.sqlite.specs.State.{HasCleanDisk};
-ghost use Rattle.office_state.specs.States.{State};
-ghost use Rattle.office_state.specs.Tables.{Fits, addition_in, committed};
-ghost use Rattle.office_rows.specs.States.{last_of};
-ghost use Rattle.office_rows.specs.Batches.{Leads, IsNext, receipt_rows};
+ghost use Rattle.office_model.specs.States.{State};
+ghost use Rattle.office_model.specs.Tables.{Fits, addition_in, committed};
+ghost use Rattle.store_rows.specs.States.{last_of};
+ghost use Rattle.store_rows.specs.Batches.{Leads, IsNext, receipt_rows};
 ghost use Rattle.office_store.specs.Additions.{Writes};
 ghost use Rattle.store_faults.specs.StoreFaults.{IsFailure};
 ghost use Rattle.office_store.specs.Holds.{HoldsState, LeavesStates};
@@ -16,9 +16,9 @@ ghost use Rattle.office_store.specs.Turns.{Turns};
 
 use crate::queries::check_alone;
 use dns_names::Name;
-use office_rows::{addition_batch, receipt_batch};
-use office_sql::{Batch, last_number, write};
-use office_state::Addition;
+use store_rows::{addition_batch, receipt_batch};
+use store_sql::{Batch, last_number, write};
+use office_model::Addition;
 use sqlite::{Alter, Connection, Error as StoreError, ErrorCode};
 use std::alloc::Global;
 use store_faults::StoreFault;

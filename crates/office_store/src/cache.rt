@@ -4,10 +4,10 @@ ghost use Rattle.std.specs.Prelude.{◌≡◌, IfOk, IfSome, is_some, option_map
 ghost use Rattle.sqlite.specs.Held.{state};
 ghost use Rattle.sqlite.specs.State.{HasCleanDisk};
 ghost use Rattle.zone_core.specs.Sets.{InOrder};
-ghost use Rattle.office_state.specs.States.{State, part_at, subtree_at};
-ghost use Rattle.office_state.specs.Tables.{Fits, addition_in, committed, included};
+ghost use Rattle.office_model.specs.States.{State, part_at, subtree_at};
+ghost use Rattle.office_model.specs.Tables.{Fits, addition_in, committed, included};
 ghost use Rattle.store_faults.specs.StoreFaults.{Gives};
-ghost use Rattle.zone_cache.specs.Cache.{cached_in};
+ghost use Rattle.store_cache.specs.Cache.{cached_in};
 ghost use Rattle.office_store.specs.Queries.{AsksOnly};
 ghost use Rattle.office_store.specs.Holds.{HoldsState};
 ghost use Rattle.office_store.specs.Turns.{Turns};
@@ -21,11 +21,11 @@ use crate::zones::export;
 use dns_data::Record;
 use dns_names::Name;
 use grant_policy::Grants;
-use office_state::{Addition, included};
+use office_model::{Addition, included};
 use sqlite::{Alter, Connection};
 use std::alloc::{AllocError, Global};
 use store_faults::StoreFault;
-use zone_cache::{
+use store_cache::{
     CachedZone, cached_of, follow, is_cached, part_of_cached, subtree_of_cached, take_cached,
 };
 use zone_core::Zone;

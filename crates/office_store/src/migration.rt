@@ -3,8 +3,8 @@
 ghost use Rattle.std.specs.Prelude.{◌≡◌, ◌⊎◌, pos, false, Err, IfOk, IfErr, OnErr};
 ghost use Rattle.sqlite.specs.Held.{state};
 ghost use Rattle.sqlite.specs.State.{HasCleanDisk};
-ghost use Rattle.office_sql.specs.Holds.{Keeps, Leaves, SameRows};
-ghost use Rattle.office_rows.specs.Contents.{ContentOf, rows_of};
+ghost use Rattle.store_sql.specs.Holds.{Keeps, Leaves, SameRows};
+ghost use Rattle.store_rows.specs.Contents.{ContentOf, rows_of};
 ghost use Rattle.office_store.specs.OldZones.{IsOldContent};
 ghost use Rattle.office_store.specs.MigratedContents.{Migrates};
 ghost use Rattle.store_faults.specs.declared.store_fault.StoreFault.TheVariants.{BadRow, WrongVersion};
@@ -15,8 +15,8 @@ ghost use Rattle.office_store.specs.Migration.{HoldsOld, IsMigratedFrom, IsMigra
 
 use crate::migration_rows::{Migration, migration_of};
 use crate::opening::{check_version, found};
-use office_rows::RowFault;
-use office_sql::{AllRows, all_rows, write};
+use store_rows::RowFault;
+use store_sql::{AllRows, all_rows, write};
 use sqlite::{Alter, Connection};
 use std::alloc::Global;
 use store_faults::StoreFault;

@@ -4,16 +4,16 @@ ghost use Rattle.std.specs.Prelude.{◌≡◌, map, option_map, IfOk, IfErr};
 ghost use Rattle.std.specs.List.{AllByRecursion};
 ghost use Rattle.zone_core.specs.Sets.{set_of, InOrder};
 ghost use Rattle.zone_core.specs.Changes.{change_in, change_between};
-ghost use Rattle.office_rows.specs.Checks.{IsZoneRecord};
+ghost use Rattle.store_rows.specs.Checks.{IsZoneRecord};
 ghost use Rattle.office_store.specs.OldZones.{AreOfOldZone};
 ghost use Rattle.office_store.specs.MigratedContents.{change_for};
 
 use dns_data::Record;
 use dns_names::Name;
-use office_rows::RowFault;
-use office_rows::ordered::ZoneRecord;
-use office_rows::reads::{are_in_order, built};
-use office_rows::zone_records::{are_those, copied};
+use store_rows::RowFault;
+use store_rows::ordered::ZoneRecord;
+use store_rows::reads::{are_in_order, built};
+use store_rows::zone_records::{are_those, copied};
 use std::alloc::{AllocError, Global};
 use zone_core::{Change, Zone};
 

@@ -2,18 +2,18 @@
 //! could have different TTLs, and in version 2 they have one (RFC 2181 section 5.2).
 
 ghost use Rattle.std.specs.Prelude.{◌≡◌, pos, Err, IfOk, IfErr};
-ghost use Rattle.office_sql.specs.Holds.{SameRows};
-ghost use Rattle.office_rows.specs.declared.row_fault.RowFault.TheVariants.{BadRow};
-ghost use Rattle.office_rows.specs.Contents.{ContentOf, rows_of};
+ghost use Rattle.store_sql.specs.Holds.{SameRows};
+ghost use Rattle.store_rows.specs.declared.row_fault.RowFault.TheVariants.{BadRow};
+ghost use Rattle.store_rows.specs.Contents.{ContentOf, rows_of};
 ghost use Rattle.office_store.specs.OldZones.{IsOldContent};
 ghost use Rattle.office_store.specs.MigratedContents.{Migrates};
 ghost use Rattle.office_store.specs.MigrationSteps.{AreOldZoneRows, AreSteps};
 
 use crate::migration_steps::{MigrationSteps, steps_in_turn};
-use office_rows::state::{check_receipts, is_alone};
-use office_rows::zones::are_apart;
-use office_rows::{RowFault, ordered, sorted_changes};
-use office_sql::{AllRows, Batch, ChangeRow, RecordRow, ZoneRow};
+use store_rows::state::{check_receipts, is_alone};
+use store_rows::zones::are_apart;
+use store_rows::{RowFault, ordered, sorted_changes};
+use store_sql::{AllRows, Batch, ChangeRow, RecordRow, ZoneRow};
 use std::alloc::Global;
 
 /// What takes tables of version 1 to version 2.

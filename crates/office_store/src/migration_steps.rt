@@ -3,17 +3,17 @@
 ghost use Rattle.std.specs.Prelude.{◌≡◌, ◌+◌, ◌<◌, [], ◌++◌, ℕ, pos, suc, map, Some, IfOk, IfErr};
 ghost use Rattle.std.specs.List.{AllByRecursion};
 ghost use Rattle.zone_core.specs.Changes.{change_in};
-ghost use Rattle.office_rows.specs.RecordRows.{record_row};
-ghost use Rattle.office_rows.specs.Checks.{IsZoneRecord};
+ghost use Rattle.store_rows.specs.RecordRows.{record_row};
+ghost use Rattle.store_rows.specs.Checks.{IsZoneRecord};
 ghost use Rattle.office_store.specs.MigrationSteps.{IsOldZoneOf, AreOldZonesInTurn, zone_rows_in, zones_in_turn, last_number, Goes, GoesOn, AreSteps};
 
 use crate::migration_change::zone_change;
 use dns_data::Record;
 use dns_names::Name;
-use office_rows::ordered::ZoneRecord;
-use office_rows::zones::{changes_first, records_first};
-use office_rows::{ChangedRecord, RowFault, are_numbered, change_rows, record_row};
-use office_sql::{ChangeRow, RecordRow};
+use store_rows::ordered::ZoneRecord;
+use store_rows::zones::{changes_first, records_first};
+use store_rows::{ChangedRecord, RowFault, are_numbered, change_rows, record_row};
+use store_sql::{ChangeRow, RecordRow};
 use std::alloc::{AllocError, Global};
 use zone_core::Change;
 

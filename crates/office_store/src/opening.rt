@@ -5,19 +5,19 @@ ghost use Rattle.std.specs.List.{AllByRecursion};
 ghost use Rattle.std.specs.List.Sorted.{IsPermutation};
 ghost use Rattle.sqlite.specs.Held.{state};
 ghost use Rattle.sqlite.specs.State.{HasCleanDisk};
-ghost use Rattle.office_state.specs.States.{State};
-ghost use Rattle.office_sql.specs.Holds.{Holds, Keeps, Leaves};
-ghost use Rattle.office_sql.specs.Rows.{ChangeRowOf, RowsOf};
-ghost use Rattle.office_sql.specs.Tables.{no_schema, IsOffice};
-ghost use Rattle.office_rows.specs.Batches.{nothing_held};
+ghost use Rattle.office_model.specs.States.{State};
+ghost use Rattle.store_sql.specs.Holds.{Holds, Keeps, Leaves};
+ghost use Rattle.store_sql.specs.Rows.{ChangeRowOf, RowsOf};
+ghost use Rattle.store_sql.specs.Tables.{no_schema, IsOffice};
+ghost use Rattle.store_rows.specs.Batches.{nothing_held};
 ghost use Rattle.store_faults.specs.declared.store_fault.StoreFault.TheVariants.{BadRow, WrongVersion};
 ghost use Rattle.store_faults.specs.StoreFaults.{IsFailure, IsOfRows, of_found};
-ghost use Rattle.office_rows.specs.RowRefusals.{of_check};
-ghost use Rattle.office_rows.specs.ChangeRows.{IsChanged, gathered, opened, placed, row_of};
-ghost use Rattle.office_rows.specs.ReadChanges.{Tells};
-ghost use Rattle.zone_cache.specs.History.{KnowsAll, Remembers};
+ghost use Rattle.store_rows.specs.RowRefusals.{of_check};
+ghost use Rattle.store_rows.specs.ChangeRows.{IsChanged, gathered, opened, placed, row_of};
+ghost use Rattle.store_rows.specs.ReadChanges.{Tells};
+ghost use Rattle.store_cache.specs.History.{KnowsAll, Remembers};
 ghost use Rattle.zone_core.specs.Changes.{ChangeOf};
-ghost use Rattle.office_rows.specs.Checks.{Checks, AreOrigins, AreRecordsOf, AreChangesOf, AreReceiptRows, AreStateRows};
+ghost use Rattle.store_rows.specs.Checks.{Checks, AreOrigins, AreRecordsOf, AreChangesOf, AreReceiptRows, AreStateRows};
 ghost use Rattle.office_store.specs.Cache.{IsZoneIn};
 ghost use Rattle.office_store.specs.Opening.{IsCheck, IsNow, AreRemembered, HasOrigins, VersionIn, OriginsIn, RecordsFound, ChangesFound, ReceiptsIn, StateFound};
 ghost use Rattle.office_store.specs.Holds.{HoldsState, HasNone, HasVersion, IsOfVersion, IsStateIn, LeavesStates};
@@ -25,12 +25,12 @@ ghost use Rattle.office_store.specs.Queries.{Asked, AsksOnly};
 
 use crate::queries::check_open;
 use dns_names::Name;
-use office_rows::state::is_alone;
-use office_rows::{
+use store_rows::state::is_alone;
+use store_rows::{
     ChangeReader, ChangedRecord, OriginReader, ReceiptReader, RecordReader, RowFault, ZoneChanges,
     checked_origins,
 };
-use office_sql::{
+use store_sql::{
     RowsFault, all_changes, all_records, all_zones, each_receipt, has_no_tables, has_tables,
     make_tables, versions,
 };
@@ -38,7 +38,7 @@ use sqlite::{Alter, Connection};
 use std::alloc::{AllocError, Global};
 use std::sync::ledger::Blank;
 use store_faults::StoreFault;
-use zone_cache::ZoneHistory;
+use store_cache::ZoneHistory;
 use zone_core::Zone;
 
 /// The version of the tables, in the one row of `meta`.
@@ -193,7 +193,7 @@ fn check_records<S: Alter>(
 {
     let read = all_records(alloc, conn, &mut RecordReader::new());
     match read {
-        Ok(records) => of_check(office_rows::check_records(alloc, origins, records)),
+        Ok(records) => of_check(store_rows::check_records(alloc, origins, records)),
         Err(fault) => Err(found(fault)),
     }
 }
@@ -268,7 +268,7 @@ fn checked_history(
     ensures check { Checks (AreChangesOf origins.now (map row_of changes.items)) result }
     ensures history { IfOk result (AreRemembered (map row_of changes.items)) }
 {
-    let longest = office_rows::check_changes(alloc, origins, changes)?;
+    let longest = store_rows::check_changes(alloc, origins, changes)?;
     Ok(remembered(alloc, longest))
 }
 

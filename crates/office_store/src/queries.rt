@@ -6,18 +6,18 @@ ghost use Rattle.sqlite.specs.State.{HasCleanDisk};
 ghost use Rattle.dns_names.specs.Keys.{key_of};
 ghost use Rattle.dns_names.specs.Labels.{IsName};
 ghost use Rattle.dns_names.specs.Spelling.{name_text};
-ghost use Rattle.office_state.specs.States.{State};
-ghost use Rattle.office_sql.specs.Rows.{RowsOf};
-ghost use Rattle.office_sql.specs.Holds.{Holds, Keeps, OnlyAsks};
-ghost use Rattle.office_sql.specs.Lookups.{records_of as rows_of, records_at, changes_of as changes_in, changes_between as changes_in_between};
-ghost use Rattle.office_rows.specs.Contents.{AreOfState};
-ghost use Rattle.office_rows.specs.PartRows.{AreRowsAt, rows_within};
+ghost use Rattle.office_model.specs.States.{State};
+ghost use Rattle.store_sql.specs.Rows.{RowsOf};
+ghost use Rattle.store_sql.specs.Holds.{Holds, Keeps, OnlyAsks};
+ghost use Rattle.store_sql.specs.Lookups.{records_of as rows_of, records_at, changes_of as changes_in, changes_between as changes_in_between};
+ghost use Rattle.store_rows.specs.Contents.{AreOfState};
+ghost use Rattle.store_rows.specs.PartRows.{AreRowsAt, rows_within};
 ghost use Rattle.store_faults.specs.StoreFaults.{IsFailure};
 ghost use Rattle.office_store.specs.Holds.{HoldsState};
 ghost use Rattle.office_store.specs.Queries.{AsksOnly, Finds, Stands};
 
 use dns_names::Name;
-use office_sql::{
+use store_sql::{
     ChangeRow, RecordRow, changes_between, changes_of, has_zone, records_at, records_between,
     records_of,
 };

@@ -5,8 +5,8 @@ ghost use Rattle.zone_core.specs.Sets.{InOrder};
 ghost use Rattle.zone_core.specs.Changes.{change_in};
 ghost use Rattle.sqlite.specs.Held.{state};
 ghost use Rattle.sqlite.specs.State.{HasCleanDisk};
-ghost use Rattle.office_state.specs.States.{State, zone_at, part_at, subtree_at, changes_at};
-ghost use Rattle.office_rows.specs.Listed.{AreOriginsOf, AreReceiptsOf};
+ghost use Rattle.office_model.specs.States.{State, zone_at, part_at, subtree_at, changes_at};
+ghost use Rattle.store_rows.specs.Listed.{AreOriginsOf, AreReceiptsOf};
 ghost use Rattle.store_faults.specs.StoreFaults.{IsFailure};
 ghost use Rattle.office_store.specs.Holds.{HoldsState};
 ghost use Rattle.office_store.specs.Queries.{AsksOnly};
@@ -17,12 +17,12 @@ use crate::queries::{
 use dns_data::Record;
 use dns_names::Name;
 use grant_policy::Identifier;
-use office_rows::{
+use store_rows::{
     KeptReceipt, OriginReader, changes_of, kept_receipts, part_of, receipt_of, records_within,
     sorted_origins, zone_of,
 };
-use office_sql::{WholeRows, all_receipts, all_zones, receipts_of};
-use office_state::Receipt;
+use store_sql::{WholeRows, all_receipts, all_zones, receipts_of};
+use office_model::Receipt;
 use sqlite::{Alter, Connection};
 use std::alloc::Global;
 use store_faults::StoreFault;
@@ -126,7 +126,7 @@ pub(crate) fn changes_behind<S: Alter>(
     let Some(rows) = change_rows_behind(alloc, conn, origin, count, most)? else {
         return Ok(None);
     };
-    let changes = office_rows::changes_behind(alloc, &rows, count)?;
+    let changes = store_rows::changes_behind(alloc, &rows, count)?;
     Ok(Some(changes))
 }
 

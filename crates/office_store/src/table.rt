@@ -4,17 +4,17 @@ ghost use Rattle.std.specs.Prelude.{pos, ◌≡◌, ◌≢◌, ◌↔◌, ◌⊎
 ghost use Rattle.sqlite.specs.Held.{state};
 ghost use Rattle.sqlite.specs.State.{HasCleanDisk};
 ghost use Rattle.zone_core.specs.Changes.{change_in};
-ghost use Rattle.office_state.specs.States.{State, zone_at, changes_at as changes_held};
-ghost use Rattle.office_state.specs.Tables.{CountsFault};
-ghost use Rattle.office_sql.specs.Holds.{Keeps, Leaves};
-ghost use Rattle.office_sql.specs.Tables.{no_schema, IsOffice};
-ghost use Rattle.office_rows.specs.Contents.{ContentOf};
-ghost use Rattle.office_rows.specs.Batches.{nothing_held};
-ghost use Rattle.office_rows.specs.Listed.{AreOriginsOf, AreReceiptsOf};
+ghost use Rattle.office_model.specs.States.{State, zone_at, changes_at as changes_held};
+ghost use Rattle.office_model.specs.Tables.{CountsFault};
+ghost use Rattle.store_sql.specs.Holds.{Keeps, Leaves};
+ghost use Rattle.store_sql.specs.Tables.{no_schema, IsOffice};
+ghost use Rattle.store_rows.specs.Contents.{ContentOf};
+ghost use Rattle.store_rows.specs.Batches.{nothing_held};
+ghost use Rattle.store_rows.specs.Listed.{AreOriginsOf, AreReceiptsOf};
 ghost use Rattle.store_faults.specs.declared.store_fault.StoreFault.TheVariants.{BadRow, WrongVersion};
 ghost use Rattle.store_faults.specs.StoreFaults.{CountsFailure, CountsCall, Gives, IsFailure, IsOfRows};
 ghost use Rattle.office_store.specs.Holds.{HoldsState, HasNone, HasVersion, IsOfVersion, IsStateIn, LeavesStates};
-ghost use Rattle.zone_cache.specs.Cache.{cached_in};
+ghost use Rattle.store_cache.specs.Cache.{cached_in};
 ghost use Rattle.office_store.specs.Cache.{FitsCache};
 ghost use Rattle.office_store.specs.History.{FitsHistory};
 ghost use Rattle.office_store.specs.Migration.{HoldsOld, IsMigratedFrom, IsMigrated};
@@ -33,13 +33,13 @@ use crate::zones::{import, put_zone, replace, take_place};
 use dns_data::Record;
 use dns_names::Name;
 use grant_policy::{Grants, Identifier};
-use office_rows::KeptReceipt;
-use office_state::{Addition, Ahead, Receipt, TableFault, ZoneTable};
+use store_rows::KeptReceipt;
+use office_model::{Addition, Ahead, Receipt, TableFault, ZoneTable};
 use sqlite::{Alter, Connection};
 use std::alloc::Global;
 use std::sync::ledger::{Blank, Book, Ledger, Share};
 use store_faults::StoreFault;
-use zone_cache::{CachedZone, ZoneHistory, ahead_in, cached_of, remember};
+use store_cache::{CachedZone, ZoneHistory, ahead_in, cached_of, remember};
 use zone_core::{Change, Zone};
 
 /// Zones with their changes, and receipts, in the tables of a database. It counts the failures of its store by a ledger, and caches
@@ -414,7 +414,7 @@ impl<S: Alter + Drop, L: Ledger> SqlTable<S, L> {
 
 impl<S: Alter + Drop, L: Ledger> ZoneTable for SqlTable<S, L> {
     ghost use Rattle.std.proofs.Common.{inl, inr, pos};
-    ghost use Rattle.office_rows.proofs.StateLaws.{states_are_sound};
+    ghost use Rattle.store_rows.proofs.StateLaws.{states_are_sound};
 
     ghost holds = { λ t s. HoldsState (state S.Store t.conn) s };
 

@@ -1,11 +1,11 @@
 -- The calls of an exchange are a run of the machine.
 use Rattle.std.proofs.Common.{◌≡◌, List, [], ◌∷◌, ◌++◌, Option, Result, Ok, Err, refl, sym, ap, subst, ◌∙◌}
 use Rattle.grant_policy.specs.declared.rule.Rule.{Rule}
-use Rattle.office_state.specs.declared.table_fault.StepFault.{StepFault}
-use Rattle.office_state.specs.declared.request.Call.{Call}
-use Rattle.office_state.specs.declared.reply.Reply.TheVariants.{Servfail}
-use Rattle.office_state.specs.Replies.{ReplyOf}
-use Rattle.office_state.specs.States.{State}
+use Rattle.office_model.specs.declared.table_fault.StepFault.{StepFault}
+use Rattle.office_model.specs.declared.request.Call.{Call}
+use Rattle.office_model.specs.declared.reply.Reply.TheVariants.{Servfail}
+use Rattle.office_model.specs.Replies.{ReplyOf}
+use Rattle.office_model.specs.States.{State}
 use Rattle.office_core.specs.Runs.{Answer, turn, answers, state_after, HasUpdate, HaveUpdates, one_kept, one_given}
 use Rattle.office_core.specs.Isolation.{replies_to}
 use Rattle.office_core.specs.RightAnswers.{AnswersAreRight}

@@ -3,22 +3,22 @@ use Rattle.std.proofs.Common.{◌≡◌, ◌||◌, ℕ, Bool, true, false, List,
 use Rattle.std.specs.Prelude.{option_map}
 use Rattle.httparse.specs.Grammar.{RequestHead}
 use Rattle.grant_policy.specs.declared.rule.Rule.{Rule}
-use Rattle.office_state.specs.declared.table_fault.TableFault.TheVariants as faults
-use Rattle.office_state.specs.declared.table_fault.StepFault.TheVariants.{BeforeCommit}
-use Rattle.office_state.specs.declared.receipt.Receipt.{Receipt}
-use Rattle.office_state.specs.declared.reply.UpdateReply.{UpdateReply}
-use Rattle.office_state.specs.declared.request.Call.{Call}
-use Rattle.office_state.specs.declared.request.Request.{Request}
-use Rattle.office_state.specs.declared.request.Request.TheVariants as requests
-use Rattle.office_state.specs.declared.reply.Reply.{Reply}
-use Rattle.office_state.specs.declared.reply.Reply.TheVariants as replies
-use Rattle.office_state.specs.Replies.{to_update, reply_of}
-use Rattle.office_state.specs.States.{State}
+use Rattle.office_model.specs.declared.table_fault.TableFault.TheVariants as faults
+use Rattle.office_model.specs.declared.table_fault.StepFault.TheVariants.{BeforeCommit}
+use Rattle.office_model.specs.declared.receipt.Receipt.{Receipt}
+use Rattle.office_model.specs.declared.reply.UpdateReply.{UpdateReply}
+use Rattle.office_model.specs.declared.request.Call.{Call}
+use Rattle.office_model.specs.declared.request.Request.{Request}
+use Rattle.office_model.specs.declared.request.Request.TheVariants as requests
+use Rattle.office_model.specs.declared.reply.Reply.{Reply}
+use Rattle.office_model.specs.declared.reply.Reply.TheVariants as replies
+use Rattle.office_model.specs.Replies.{to_update, reply_of}
+use Rattle.office_model.specs.States.{State}
 use Rattle.zone_core.specs.Updates.{UpdateOf}
 use Rattle.office_core.specs.Machine.{Turn, step, updated, answered, refusal}
 use Rattle.office_core.specs.Runs.{HasUpdate, turn}
 use Rattle.office_core.specs.Steps.{Steps, CountsReply}
-use Rattle.office_json.specs.Replies.{IsShort}
+use Rattle.wire_json.specs.Replies.{IsShort}
 use Rattle.office_wire.specs.declared.method.Method.{Method}
 use Rattle.office_wire.specs.declared.request_fault.RequestFault.{RequestFault}
 use Rattle.office_wire.specs.declared.request_fault.RequestFault.TheVariants as wrong

@@ -3,16 +3,16 @@ use Rattle.std.specs.Prelude.{◌≡◌, ℕ, ◌<◌, ◌≤◌, ◌⊎◌, Boo
 use Rattle.std.specs.List.{flat_map, list_any, list_all, AllByRecursion}
 use Rattle.httparse.specs.Grammar.{RequestHead, IsRequestHead, ReadsRequest, HasNoRequest, MayBecomeRequest, print_request}
 use Rattle.grant_policy.specs.declared.rule.Rule.{Rule}
-use Rattle.office_state.specs.declared.table_fault.StepFault.{StepFault}
-use Rattle.office_state.specs.declared.table_fault.StepFault.TheVariants.{BeforeCommit}
-use Rattle.office_state.specs.TableFaults.{cause}
-use Rattle.office_state.specs.declared.table_fault.TableFault.TheVariants as faults
-use Rattle.office_state.specs.declared.reply.Reply.{Reply}
-use Rattle.office_state.specs.declared.reply.Reply.TheVariants.{Servfail}
-use Rattle.office_state.specs.declared.request.Call.{Call}
-use Rattle.office_state.specs.Replies.{reply_of}
-use Rattle.office_state.specs.States.{State}
-use Rattle.office_state.specs.Tables.{CountsFault}
+use Rattle.office_model.specs.declared.table_fault.StepFault.{StepFault}
+use Rattle.office_model.specs.declared.table_fault.StepFault.TheVariants.{BeforeCommit}
+use Rattle.office_model.specs.TableFaults.{cause}
+use Rattle.office_model.specs.declared.table_fault.TableFault.TheVariants as faults
+use Rattle.office_model.specs.declared.reply.Reply.{Reply}
+use Rattle.office_model.specs.declared.reply.Reply.TheVariants.{Servfail}
+use Rattle.office_model.specs.declared.request.Call.{Call}
+use Rattle.office_model.specs.Replies.{reply_of}
+use Rattle.office_model.specs.States.{State}
+use Rattle.office_model.specs.Tables.{CountsFault}
 use Rattle.office_core.specs.Runs.{HasUpdate, turn}
 use Rattle.office_wire.specs.declared.method.Method.{Method}
 use Rattle.office_wire.specs.declared.method.Method.TheVariants.{Other}

@@ -2,9 +2,9 @@
 use Rattle.std.specs.Prelude.{◌≡◌, List, [], Result, Ok}
 use Rattle.std.specs.List.{flat_map}
 use Rattle.grant_policy.specs.declared.rule.Rule.{Rule}
-use Rattle.office_state.specs.declared.request.Call.{Call}
-use Rattle.office_state.specs.Replies.{reply_of}
-use Rattle.office_state.specs.States.{State, AreZones, AreReceipts}
+use Rattle.office_model.specs.declared.request.Call.{Call}
+use Rattle.office_model.specs.Replies.{reply_of}
+use Rattle.office_model.specs.States.{State, AreZones, AreReceipts}
 use Rattle.office_core.specs.Runs.{Answer, answers, state_after, one_kept, one_given}
 use Rattle.office_core.specs.Promises.{CallsAreRight}
 use Rattle.office_core.specs.RightAnswers.{AnswersAreRight}

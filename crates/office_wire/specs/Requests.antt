@@ -10,14 +10,14 @@ use Rattle.dns_data.specs.Types.{type_named}
 use Rattle.grant_policy.specs.declared.action.Action.{Action}
 use Rattle.grant_policy.specs.Words.{action_of}
 use Rattle.grant_policy.specs.Reading.{identifier_of}
-use Rattle.office_state.specs.declared.request.Call.{Call}
-use Rattle.office_state.specs.declared.request.Request.{Request}
-use Rattle.office_state.specs.declared.request.Request.TheVariants as requests
-use Rattle.office_json.specs.declared.body.UpdateBody.{UpdateBody}
-use Rattle.office_json.specs.declared.body_fault.BodyFault.{BodyFault}
-use Rattle.office_json.specs.declared.body_fault.BodyFault.TheVariants as bodies
-use Rattle.office_json.specs.Faults.{fault_number}
-use Rattle.office_json.specs.Reading.{update_of_body, delegation_of_body}
+use Rattle.office_model.specs.declared.request.Call.{Call}
+use Rattle.office_model.specs.declared.request.Request.{Request}
+use Rattle.office_model.specs.declared.request.Request.TheVariants as requests
+use Rattle.wire_json.specs.declared.body.UpdateBody.{UpdateBody}
+use Rattle.wire_json.specs.declared.body_fault.BodyFault.{BodyFault}
+use Rattle.wire_json.specs.declared.body_fault.BodyFault.TheVariants as bodies
+use Rattle.wire_json.specs.Faults.{fault_number}
+use Rattle.wire_json.specs.Reading.{update_of_body, delegation_of_body}
 use Rattle.office_wire.specs.declared.method.Method.{Method}
 use Rattle.office_wire.specs.declared.refusal.Refusal.{Refusal}
 use Rattle.office_wire.specs.declared.refusal.Refusal.TheVariants.{NoCaller, NoRoute, BadPart}

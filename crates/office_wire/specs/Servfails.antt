@@ -1,9 +1,9 @@
 -- The turns of a stream that were answered SERVFAIL, and what is noted of them.
 use Rattle.std.specs.Prelude.{◌≡◌, ◌+◌, ◌-◌, ◌^◌, min, List, [], ◌∷◌, length, Some, None}
 use Rattle.std.specs.List.{flat_map, last_or}
-use Rattle.office_state.specs.declared.table_fault.TableFault.{TableFault}
-use Rattle.office_state.specs.TableFaults.{cause}
-use Rattle.office_state.specs.declared.reply.Reply.TheVariants.{Servfail}
+use Rattle.office_model.specs.declared.table_fault.TableFault.{TableFault}
+use Rattle.office_model.specs.TableFaults.{cause}
+use Rattle.office_model.specs.declared.reply.Reply.TheVariants.{Servfail}
 use Rattle.office_wire.specs.declared.response.Response.{Response}
 use Rattle.office_wire.specs.declared.response.Response.TheVariants.{Replied}
 use Rattle.office_wire.specs.declared.servfails.Servfails.{Servfails}

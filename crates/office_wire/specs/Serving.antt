@@ -5,8 +5,8 @@ use Rattle.std.specs.Io.KnownBytes.{Appends, Consumes}
 use Rattle.dns_master.specs.declared.device.DeviceFailed.{DeviceFailed}
 use Rattle.dns_master.specs.Written.{IsProperPrefix}
 use Rattle.grant_policy.specs.declared.rule.Rule.{Rule}
-use Rattle.office_state.specs.declared.request.Call.{Call}
-use Rattle.office_state.specs.States.{State}
+use Rattle.office_model.specs.declared.request.Call.{Call}
+use Rattle.office_model.specs.States.{State}
 use Rattle.office_wire.specs.declared.method.Method.{Method}
 use Rattle.office_wire.specs.declared.refusal.Refusal.TheVariants.{CutShort}
 use Rattle.office_wire.specs.declared.request_fault.RequestFault.{RequestFault}

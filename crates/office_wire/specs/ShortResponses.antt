@@ -1,9 +1,9 @@
 -- Responses that fit the room that is taken before the first read.
 use Rattle.std.specs.Prelude.{◌≡◌, ℕ, Bool, true, false, List}
-use Rattle.office_state.specs.declared.table_fault.TableFault.TheVariants.{NoMemory}
-use Rattle.office_state.specs.declared.table_fault.StepFault.TheVariants.{BeforeCommit}
-use Rattle.office_state.specs.declared.reply.Reply.TheVariants.{Servfail}
-use Rattle.office_json.specs.Replies.{IsShort}
+use Rattle.office_model.specs.declared.table_fault.TableFault.TheVariants.{NoMemory}
+use Rattle.office_model.specs.declared.table_fault.StepFault.TheVariants.{BeforeCommit}
+use Rattle.office_model.specs.declared.reply.Reply.TheVariants.{Servfail}
+use Rattle.wire_json.specs.Replies.{IsShort}
 use Rattle.office_wire.specs.declared.method.Method.{Method}
 use Rattle.office_wire.specs.declared.response.Response.{Response}
 use Rattle.office_wire.specs.declared.response.Response.TheVariants.{Refused, BadBody, Replied}

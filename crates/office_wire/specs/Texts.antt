@@ -1,11 +1,11 @@
 -- The texts of responses (RFC 9112 sections 4 and 5).
 use Rattle.std.specs.Prelude.{ℕ, List, [], ◌++◌, length, Bool, true, false, codes, decimal, unwrap_or}
 use Rattle.http.specs.StatusCode.{code_digits, reason_phrase}
-use Rattle.office_state.specs.declared.reply.UpdateReply.{UpdateReply}
-use Rattle.office_state.specs.declared.reply.UpdateReply.TheVariants as updates
-use Rattle.office_state.specs.declared.reply.Reply.{Reply}
-use Rattle.office_state.specs.declared.reply.Reply.TheVariants as replies
-use Rattle.office_json.specs.Replies.{body_of, refusal_body, form_error_body}
+use Rattle.office_model.specs.declared.reply.UpdateReply.{UpdateReply}
+use Rattle.office_model.specs.declared.reply.UpdateReply.TheVariants as updates
+use Rattle.office_model.specs.declared.reply.Reply.{Reply}
+use Rattle.office_model.specs.declared.reply.Reply.TheVariants as replies
+use Rattle.wire_json.specs.Replies.{body_of, refusal_body, form_error_body}
 use Rattle.office_wire.specs.declared.method.Method.{Method}
 use Rattle.office_wire.specs.declared.method.Method.TheVariants.{Head}
 use Rattle.office_wire.specs.declared.refusal.Refusal.{Refusal}

@@ -2,7 +2,7 @@
 
 ghost use Rattle.std.specs.Prelude.{◌≡◌, ◌+◌, ◌||◌, length, IsUtf8, OnOk, OnErr};
 ghost use Rattle.httparse.specs.Grammar.{RequestHead};
-ghost use Rattle.office_state.specs.States.{State};
+ghost use Rattle.office_model.specs.States.{State};
 ghost use Rattle.office_core.specs.Bookmarks.{AreBookmarks};
 ghost use Rattle.office_wire.specs.Exchange.{Answers, names_nobody};
 ghost use Rattle.office_wire.specs.Framing.{IsAsked};

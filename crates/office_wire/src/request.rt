@@ -14,8 +14,8 @@ use crate::route::{Route, Routes};
 use dns_data::RecordType;
 use dns_names::Name;
 use grant_policy::{Action, Identifier, IdentifierFault};
-use office_json::{UpdateBody, read_delegation, read_update};
-use office_state::{Call, Request};
+use wire_json::{UpdateBody, read_delegation, read_update};
+use office_model::{Call, Request};
 use std::alloc::Global;
 
 /// The caller, by the value of the field that names it.

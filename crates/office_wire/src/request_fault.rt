@@ -4,7 +4,7 @@ ghost use Rattle.std.specs.Prelude.{◌≡◌};
 
 use crate::refusal::Refusal;
 use dns_names::NameFault;
-use office_json::BodyFault;
+use wire_json::BodyFault;
 use std::alloc::{AllocError, AllocFailed};
 
 /// Why a head and a body are no call of the office.

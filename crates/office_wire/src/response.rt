@@ -10,8 +10,8 @@ use crate::refusal::Refusal;
 use crate::request_fault::RequestFault;
 use crate::status::{refusal_status, reply_status};
 use http::StatusCode;
-use office_json::{form_error_text, refusal_text, reply_text};
-use office_state::{Reply, StepFault, TableFault};
+use wire_json::{form_error_text, refusal_text, reply_text};
+use office_model::{Reply, StepFault, TableFault};
 use std::alloc::AllocError;
 
 /// What is answered to a request.

@@ -9,8 +9,8 @@ use crate::method::Method;
 use crate::response::Response;
 use crate::status::phrase;
 use itoa::Buffer;
-use office_json::push_all;
-use office_state::{Reply, StepFault, TableFault};
+use wire_json::push_all;
+use office_model::{Reply, StepFault, TableFault};
 use std::alloc::{AllocError, Global};
 use std::marker::Model;
 

@@ -1,11 +1,11 @@
 //! The requests of a stream that were answered SERVFAIL.
 
 ghost use Rattle.std.specs.Prelude.{◌≡◌};
-ghost use Rattle.office_state.specs.TableFaults.{cause};
+ghost use Rattle.office_model.specs.TableFaults.{cause};
 ghost use Rattle.office_wire.specs.Servfails.{noted, one_more, none_noted, servfail_in};
 
 use crate::response::Response;
-use office_state::{Reply, TableFault};
+use office_model::{Reply, TableFault};
 
 /// How many requests were answered SERVFAIL, and why the last of them was.
 #[derive(Clone, Copy, Debug, PartialEq, Eq)]

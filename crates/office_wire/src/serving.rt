@@ -2,7 +2,7 @@
 
 ghost use Rattle.std.specs.Prelude.{◌≡◌, ◌+◌, ℕ, List, [], length, OnOk, OnErr};
 ghost use Rattle.std.specs.List.{list_all};
-ghost use Rattle.office_state.specs.States.{State};
+ghost use Rattle.office_model.specs.States.{State};
 ghost use Rattle.office_core.specs.Bookmarks.{AreBookmarks};
 ghost use Rattle.office_wire.specs.Exchange.{Turn, Waits, is_line_end};
 ghost use Rattle.office_wire.specs.Serving.{mark, Leads, IsEnded, CountsEnded, Finishes};

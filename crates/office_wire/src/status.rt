@@ -5,7 +5,7 @@ ghost use Rattle.office_wire.specs.Texts.{phrase_of, refusal_status, update_stat
 
 use crate::refusal::Refusal;
 use http::StatusCode;
-use office_state::{Reply, UpdateReply};
+use office_model::{Reply, UpdateReply};
 
 /// The phrase of a status, and none where it is not a registered one (RFC 9110 section 15.1).
 pub(crate) fn phrase(status: StatusCode) -> &'static str

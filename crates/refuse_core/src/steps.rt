@@ -1,12 +1,12 @@
 //! One step of the machine.
 
-ghost use Rattle.office_state.specs.States.{State};
+ghost use Rattle.office_model.specs.States.{State};
 ghost use Rattle.office_core.specs.Bookmarks.{AreBookmarks};
 ghost use Rattle.office_core.specs.Steps.{Steps, Leaves, CountsReply};
 
 use grant_policy::{Identifier, Policy};
 use office_core::Bookmarks;
-use office_state::{Reply, Request, StepFault, TableFault, UpdateReply, ZoneTable};
+use office_model::{Reply, Request, StepFault, TableFault, UpdateReply, ZoneTable};
 use std::alloc::Global;
 use zone_core::Failed;
 

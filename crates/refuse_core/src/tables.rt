@@ -1,12 +1,12 @@
 //! What is asked of a table.
 
 ghost use Rattle.std.specs.Prelude.{◌≡◌, None, IfOk, OnOk, OnErr};
-ghost use Rattle.office_state.specs.States.{State, zone_at};
-ghost use Rattle.office_state.specs.Tables.{Fits, addition_in, committed};
+ghost use Rattle.office_model.specs.States.{State, zone_at};
+ghost use Rattle.office_model.specs.Tables.{Fits, addition_in, committed};
 
 use dns_names::Name;
 use grant_policy::Identifier;
-use office_state::{Addition, Receipt, TableFault, ZoneTable};
+use office_model::{Addition, Receipt, TableFault, ZoneTable};
 use std::alloc::Global;
 use zone_core::{Change, Zone};
 

@@ -3,8 +3,8 @@
 ghost use Rattle.std.specs.Prelude.{◌≡◌, ◌<◌, [], false, None, IfErr, OnErr};
 ghost use Rattle.sqlite.specs.Held.{state};
 ghost use Rattle.sqlite.specs.State.{HasCleanDisk};
-ghost use Rattle.office_state.specs.States.{State};
-ghost use Rattle.office_sql.specs.Holds.{Keeps};
+ghost use Rattle.office_model.specs.States.{State};
+ghost use Rattle.store_sql.specs.Holds.{Keeps};
 ghost use Rattle.store_faults.specs.StoreFaults.{IsFailure};
 ghost use Rattle.store_faults.specs.declared.store_fault.StoreFault.TheVariants.{WrongVersion};
 ghost use Rattle.office_store.specs.Holds.{HoldsState, HasVersion};
@@ -13,7 +13,7 @@ ghost use Rattle.office_store.specs.Zones.{imported, with_imported};
 
 use dns_data::Record;
 use dns_names::Name;
-use office_sql::Batch;
+use store_sql::Batch;
 use office_store::{Refused, SqlTable, StoreFault};
 use sqlite::{Alter, Connection};
 use std::alloc::Global;

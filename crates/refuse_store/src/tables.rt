@@ -4,11 +4,11 @@ ghost use Rattle.std.specs.Prelude.{◌≡◌, [], false, None, IfOk, IsTrue, On
 ghost use Rattle.sqlite.specs.Files.{file_state};
 ghost use Rattle.sqlite.specs.Held.{state};
 ghost use Rattle.sqlite.specs.State.{HasCleanDisk};
-ghost use Rattle.office_sql.specs.Files.{ShowsThose};
-ghost use Rattle.office_sql.specs.Holds.{Keeps};
-ghost use Rattle.office_rows.specs.Batches.{receipts_batch};
+ghost use Rattle.store_sql.specs.Files.{ShowsThose};
+ghost use Rattle.store_sql.specs.Holds.{Keeps};
+ghost use Rattle.store_rows.specs.Batches.{receipts_batch};
 
-use office_sql::{Batch, RowsFault};
+use store_sql::{Batch, RowsFault};
 use sqlite::{Alter, Connection, Error, FileStore, Leftover, Options};
 use sqlite_disk::{Disk, Files};
 use std::alloc::Global;
@@ -23,7 +23,7 @@ pub fn connect<D: Disk + Drop>(
     requires db { IsTrue (D.Disk.is_usable files.db) }
     ensures { IfOk result (λ conn. HasCleanDisk (file_state conn) → ShowsThose files conn) }
 {
-    office_sql::connect(alloc, files, options)
+    store_sql::connect(alloc, files, options)
 }
 
 /// What `write` leaves where it fails, beside what is written without its receipts, and these by themselves.
@@ -38,5 +38,5 @@ pub fn write<S: Alter>(
     requires receipts { _receipts.now ≡ receipts_batch batch.now.receipts }
     ensures { OnErr result (Keeps (state S.Store conn.old) (state S.Store conn.new)) }
 {
-    office_sql::write(conn, batch)
+    store_sql::write(conn, batch)
 }

@@ -6,9 +6,9 @@ use Rattle.sqlite.specs.declared.error.ErrorCode.TheVariants.{DatabaseCorrupt}
 use Rattle.zone_core.specs.declared.refusals.ZoneFault.{ZoneFault}
 use Rattle.zone_core.specs.declared.refusals.ZoneFault.TheVariants as zones
 use Rattle.zone_core.specs.Faults.{zone_fault_number}
-use Rattle.office_sql.specs.Faults.{fault_of}
-use Rattle.office_sql.specs.declared.rows_fault.RowsFault.{RowsFault}
-use Rattle.office_sql.specs.declared.rows_fault.RowsFault.TheVariants as tables
+use Rattle.store_sql.specs.Faults.{fault_of}
+use Rattle.store_sql.specs.declared.rows_fault.RowsFault.{RowsFault}
+use Rattle.store_sql.specs.declared.rows_fault.RowsFault.TheVariants as tables
 use Rattle.store_faults.specs.declared.store_fault.StoreFault.{StoreFault}
 use Rattle.store_faults.specs.declared.store_fault.StoreFault.TheVariants.{ZoneExists, NoZone, SerialNotGreater, WrongVersion, Store, BadRow, Zone, NoMemory}
 

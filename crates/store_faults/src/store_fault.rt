@@ -4,7 +4,7 @@ ghost use Rattle.std.specs.Prelude.{◌≡◌};
 ghost use Rattle.store_faults.specs.StoreFaults.{store_fault_number, of_rows, of_store, of_zone};
 ghost use Rattle.store_faults.specs.declared.store_fault.StoreFault.TheVariants.{NoMemory};
 
-use office_sql::RowsFault;
+use store_sql::RowsFault;
 use sqlite::{Error as StoreError, ErrorCode};
 use std::alloc::{AllocError, AllocFailed};
 use thiserror::Error;

@@ -8,10 +8,10 @@ mod trials;
 use crate::commands::devices::{Command, Manner};
 use crate::commands::diffs::push_diff;
 use crate::commands::plans::push_plan;
-use job_faults::{JobFault, LineFault};
+use cli_core::{JobFault, LineFault};
 use std::alloc::{AllocError, Global};
 use test_rows::Row;
-use text_commands::Findings;
+use cli_text::Findings;
 
 /// Appends the answer to a row of commands.
 pub fn push_command_answer(

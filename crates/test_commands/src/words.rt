@@ -1,6 +1,6 @@
 //! What the words of a command line ask for.
 
-use command_line::{
+use cli_core::{
     DiffForm, Existing, Job, LogChoice, QuestionWords, RequestForm, RuleChoice, Service, StoreJob,
     StoredZone, TextForm, TextJob, WordsFault, ZoneFiles, ZoneForm, read_words,
 };

@@ -5,7 +5,7 @@ ghost use Rattle.std.specs.Prelude.{◌≡◌, ◌<◌};
 use anyhow::Result;
 use dns_master::{Counted, Pieces};
 use grant_policy::Policy;
-use office_state::ZoneTable;
+use office_model::ZoneTable;
 use office_wire::{ServeFault, serve};
 use std::alloc::{AllocError, Global};
 use std::marker::Brand;

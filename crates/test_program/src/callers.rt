@@ -6,16 +6,16 @@ use crate::callers_office::{listening, policy, table};
 use crate::client::{begun, push_answered, sent};
 use crate::program::Given;
 use anyhow::{Result, bail};
-use connections::{Connections, Undiagnosed, serve_connections};
+use wire_tcp::{Connections, Undiagnosed, serve_connections};
 use dns_master::Counted;
 use grant_policy::Policy;
-use office_state::ZoneTable;
+use office_model::ZoneTable;
 use std::alloc::{AllocError, Global};
 use std::marker::Brand;
 use std::net::{TcpListener, TcpStream};
 use std::sync::ledger::{Blank, Ledger};
 use std::time::Duration;
-use store_commands::{CountedListener, JobFault};
+use cli_store::{CountedListener, JobFault};
 use test_rows::{Answers, Row, push_unanswered};
 
 /// An office, and those who call it.

@@ -1,12 +1,12 @@
 //! What the program does with words, over the files of a row.
 
 ghost use Rattle.std.specs.Prelude.{⊤, None};
-ghost use Rattle.store_commands.specs.Around.{Around};
+ghost use Rattle.cli_store.specs.Around.{Around};
 
 use std::alloc::{AllocError, Global};
 use std::net::{SocketAddr, TcpListener, TcpStream};
 use std::process::ExitCode;
-use store_commands::{
+use cli_store::{
     DeviceFailed, LineFault, Surroundings, heard, listen_at, next_of, read_path, run_words,
 };
 

@@ -2,7 +2,7 @@
 
 use crate::columns::{change_of, receipt_of, record_of};
 use crate::refusal::Refusal;
-use office_sql::{Batch, ChangeRow, ReceiptRow, RecordRow};
+use store_sql::{Batch, ChangeRow, ReceiptRow, RecordRow};
 use std::alloc::Global;
 
 /// The batch of lines, each a word and the row of its kind.

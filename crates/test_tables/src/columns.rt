@@ -1,7 +1,7 @@
 //! Rows as texts, with a bar between two columns.
 
 use crate::refusal::Refusal;
-use office_sql::{ChangeRow, ReceiptRow, RecordRow};
+use store_sql::{ChangeRow, ReceiptRow, RecordRow};
 use std::alloc::{AllocError, Global};
 
 /// The text of octets in UTF-8.

@@ -1,6 +1,6 @@
 //! Stores in files of memory.
 
-use office_sql::connect;
+use store_sql::connect;
 use sqlite::{Connection, FileStore, Files, Options};
 use sqlite_disk::{Disk, Fuse, Memory};
 use std::alloc::Global;

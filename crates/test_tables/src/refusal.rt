@@ -1,7 +1,7 @@
 //! Why a row has no other answer.
 
-use office_rows::RowFault;
-use office_sql::RowsFault;
+use store_rows::RowFault;
+use store_sql::RowsFault;
 use std::alloc::{AllocError, AllocFailed, Global};
 
 /// The refusal of a row.

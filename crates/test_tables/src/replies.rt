@@ -3,8 +3,8 @@
 use crate::columns::text_of;
 use crate::refusal::Refusal;
 use grant_policy::Identifier;
-use office_rows::read_reply;
-use office_state::{UpdateReply, reply_words};
+use store_rows::read_reply;
+use office_model::{UpdateReply, reply_words};
 use std::alloc::Global;
 use zone_core::{Failed, ItemList, Place};
 

@@ -10,13 +10,13 @@ use crate::states::lines::{no_rows, push_row};
 use crate::states::listed::push_listed;
 use crate::states::reads::push_read;
 use anyhow::{Result, bail};
-use office_rows::ordered::records;
-use office_rows::state::is_alone;
-use office_rows::{
+use store_rows::ordered::records;
+use store_rows::state::is_alone;
+use store_rows::{
     RowFault, check_changes, check_receipts, check_records, checked_origins, origins,
     sorted_changes,
 };
-use office_sql::AllRows;
+use store_sql::AllRows;
 use std::alloc::{AllocError, Global};
 use test_rows::{Answers, Row, push_unanswered, text_of};
 

@@ -4,7 +4,7 @@ ghost use Rattle.std.specs.Prelude.{◌≡◌, false};
 
 use crate::columns::{change_text, receipt_text, record_text, text_of};
 use crate::refusal::Refusal;
-use office_sql::{
+use store_sql::{
     AllRows, ChangeRow, ReceiptRow, RecordRow, all_rows, changes_of, has_zone, last_number,
     receipts_of, records_at, records_between, records_of, versions,
 };

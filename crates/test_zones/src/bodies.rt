@@ -6,7 +6,7 @@ use crate::bodies::replies::{push_refusals, reply_of};
 use crate::refusal::Refusal;
 use crate::zones::lines::{push, push_data, push_name, push_operation, push_rrset};
 use dns_names::Name;
-use office_json::{BodyFault, UpdateBody, read_delegation, read_update, reply_text};
+use wire_json::{BodyFault, UpdateBody, read_delegation, read_update, reply_text};
 use std::alloc::{AllocError, Global};
 use test_rows::Row;
 use zone_core::Prerequisite;

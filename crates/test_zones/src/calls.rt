@@ -4,7 +4,7 @@ use anyhow::{Result, anyhow, bail};
 use dns_data::{RecordType, Ttl};
 use dns_names::Name;
 use grant_policy::{Action, Identifier};
-use office_state::{Call, Request, read_items};
+use office_model::{Call, Request, read_items};
 use std::alloc::Global;
 use std::net::IpAddr;
 use test_rows::{Row, word};

@@ -3,7 +3,7 @@
 use dns_data::Record;
 use dns_names::Name;
 use grant_policy::Identifier;
-use office_state::{NumberedChange, RecordLines, Reply, Right, StepFault, TableFault, UpdateReply};
+use office_model::{NumberedChange, RecordLines, Reply, Right, StepFault, TableFault, UpdateReply};
 use std::alloc::{AllocError, Global};
 use zone_core::{DelegatedServer, Delegation, Glue, ItemList, Place};
 

@@ -2,14 +2,14 @@
 #![tactic(auto)]
 
 ghost use Rattle.std.specs.Prelude.{⊤, None};
-ghost use Rattle.store_commands.specs.Around.{Around};
+ghost use Rattle.cli_store.specs.Around.{Around};
 
 use std::alloc::{AllocError, Global};
 use std::env;
 use std::io::{self, ErrorKind};
 use std::net::{SocketAddr, TcpListener, TcpStream};
 use std::process::ExitCode;
-use store_commands::{
+use cli_store::{
     DeviceFailed, LineFault, NO_MEMORY_LINE, Surroundings, listen_at, next_of, read_path, run_words,
 };
 

@@ -1,11 +1,10 @@
 //! Commands, and the devices that they read and write.
 
 use crate::commands::trials::{Devices, Trial, tried};
-use command_line::{QuestionWords, TextForm, ZoneForm};
+use cli_core::{JobFault, QuestionWords, TextForm, ZoneForm};
 use dns_master::{Pieces, Sink, Source};
-use job_faults::JobFault;
 use std::alloc::{AllocError, Global};
-use text_commands::{Apply, Canon, Explain, Findings, Request, Split, Subject, Task, do_check};
+use cli_text::{Apply, Canon, Explain, Findings, Request, Split, Subject, Task, do_check};
 
 /// How a device works.
 #[derive(Clone, Copy)]

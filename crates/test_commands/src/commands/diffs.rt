@@ -2,12 +2,12 @@
 
 use crate::commands::devices::{Does, Manner};
 use crate::commands::trials::{Devices, Trial, tried};
-use command_line::DiffForm;
+use cli_core::DiffForm;
 use dns_master::{Sink, Source};
 use std::alloc::{AllocError, Global};
 use std::fmt::Display;
 use test_rows::{Row, text_of};
-use text_commands::{Apply, DiffFault, do_diff};
+use cli_text::{Apply, DiffFault, do_diff};
 
 /// The master files of two zones of an origin.
 #[derive(Clone, Copy)]

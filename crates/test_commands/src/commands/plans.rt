@@ -6,7 +6,7 @@ use crate::commands::trials::{Devices, Trial, tried};
 use dns_master::{Sink, Source};
 use std::alloc::{AllocError, Global};
 use test_rows::{Row, text_of};
-use text_commands::{PlanFault, do_plan};
+use cli_text::{PlanFault, do_plan};
 
 /// A policy, and a zone with an update of it.
 #[derive(Clone, Copy)]

@@ -8,11 +8,11 @@ use anyhow::{Result, bail};
 use dns_data::Record;
 use dns_names::Name;
 use grant_policy::Identifier;
-use office_rows::{
+use store_rows::{
     addition_batch, new_tables_hold_nothing, read_reply, replacement_batch, zone_batch,
 };
-use office_sql::Batch;
-use office_state::{Addition, Receipt, read_items};
+use store_sql::Batch;
+use office_model::{Addition, Receipt, read_items};
 use std::alloc::{AllocError, Global};
 use test_rows::Row;
 use zone_core::{Change, Operation, Update, Zone};

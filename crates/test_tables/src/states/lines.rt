@@ -2,7 +2,7 @@
 
 use crate::columns::{change_in, receipt_in, record_in};
 use anyhow::{Result, bail};
-use office_sql::{AllRows, Batch, ChangeRow, ReceiptRow, RecordRow, ZoneRow};
+use store_sql::{AllRows, Batch, ChangeRow, ReceiptRow, RecordRow, ZoneRow};
 use std::alloc::{AllocError, Global};
 
 /// The first word of a text, and what stands behind it.

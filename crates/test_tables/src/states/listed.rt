@@ -2,11 +2,11 @@
 
 use anyhow::Result;
 use dns_names::Name;
-use office_rows::{
+use store_rows::{
     ChangedRecord, KeptReceipt, ZoneChanges, check_changes, checked_origins, kept_receipts,
     origins, sorted_changes,
 };
-use office_sql::AllRows;
+use store_sql::AllRows;
 use std::alloc::{AllocError, Global};
 use test_rows::Row;
 

@@ -3,8 +3,8 @@
 use dns_data::Record;
 use dns_names::Name;
 use grant_policy::Identifier;
-use office_json::{BodyFault, form_error_text, read_update, refusal_text};
-use office_state::{NumberedChange, Reply, Right, SeenChange, StepFault, TableFault, UpdateReply};
+use wire_json::{BodyFault, form_error_text, read_update, refusal_text};
+use office_model::{NumberedChange, Reply, Right, SeenChange, StepFault, TableFault, UpdateReply};
 use std::alloc::{AllocError, Global};
 use test_rows::Row;
 use zone_core::{

@@ -1,7 +1,7 @@
 //! Item lines.
 
 use crate::refusal::Refusal;
-use office_state::{items_text, read_items};
+use office_model::{items_text, read_items};
 use std::alloc::{AllocError, Global};
 use test_rows::number;
 use zone_core::Update;

@@ -5,7 +5,7 @@ use dns_data::RecordType;
 use dns_names::Name;
 use grant_policy::{Action, Identifier, LookUps, Policy};
 use office_core::{Denial, denied, operation_asks, prerequisite_asks};
-use office_state::read_items;
+use office_model::read_items;
 use std::alloc::Global;
 use test_rows::Row;
 use zone_core::{ItemList, Update};

@@ -3,7 +3,7 @@
 use crate::refusal::Refusal;
 use crate::zones::lines::push;
 use crate::zones::updates::push_of_update;
-use office_state::items_text;
+use office_model::items_text;
 use std::alloc::Global;
 use zone_core::{Update, Zone};
 use zone_tools::operations_between;

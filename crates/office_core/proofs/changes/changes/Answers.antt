@@ -1,8 +1,8 @@
 use Rattle.std.proofs.Common.{Some, map, subst, ap, arith}
 use Rattle.std.proofs.lemmas.List.{length-map}
 use Rattle.grant_policy.specs.declared.action.Action.TheVariants as action
-use Rattle.office_state.specs.Replies.{numbered_of, seen_in}
-use Rattle.office_state.specs.States.{Held}
+use Rattle.office_model.specs.Replies.{numbered_of, seen_in}
+use Rattle.office_model.specs.States.{Held}
 use Rattle.office_core.specs.Seen.{IsSeenBehind, IsSeenWhole}
 use Rattle.office_core.proofs.BookmarkLemmas.{ended_at, followed, one_held}
 use Rattle.office_core.proofs.changes.changes.Goals as goal

@@ -1,6 +1,6 @@
 use Rattle.std.proofs.Common.{◌+◌, ◌++◌, List, length, map, sym, ap, ◌∙◌, arith}
-use Rattle.office_state.specs.declared.reply.SeenChange.{SeenChange}
-use Rattle.office_state.specs.Replies.{NumberedOf, numbered_of, seen_in}
+use Rattle.office_model.specs.declared.reply.SeenChange.{SeenChange}
+use Rattle.office_model.specs.Replies.{NumberedOf, numbered_of, seen_in}
 use Rattle.office_core.specs.Machine.{numbered}
 use Rattle.office_core.proofs.NumberLemmas.{from_on, next_numbered}
 use Rattle.office_core.proofs.changes.numbered_from.Goals as goal

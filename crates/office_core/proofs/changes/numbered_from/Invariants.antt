@@ -1,7 +1,7 @@
 use Rattle.std.proofs.Common.{◌≡◌, ◌+◌, ◌++◌, map, length, nat_le}
 use Rattle.std.specs.List.{filter}
 use Rattle.std.specs.Vec.Iter.{into_iter_items}
-use Rattle.office_state.specs.Replies.{NumberedOf, numbered_of, seen_in}
+use Rattle.office_model.specs.Replies.{NumberedOf, numbered_of, seen_in}
 use Rattle.office_core.specs.Machine.{numbered}
 use Rattle.office_core.proofs.changes.numbered_from.Given as goal
 

@@ -1,5 +1,5 @@
 use Rattle.std.proofs.Common.{◌≡◌, ◌-◌, Some}
-use Rattle.office_state.specs.States.{Held, State}
+use Rattle.office_model.specs.States.{Held, State}
 use Rattle.office_core.specs.Seen.{IsSeenUpTo}
 use Rattle.office_core.proofs.changes.seen_behind.Given as goal
 

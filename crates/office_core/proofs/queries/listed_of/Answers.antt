@@ -3,7 +3,7 @@ use Rattle.grant_policy.specs.Grants.{GrantsOf}
 use Rattle.grant_policy.specs.Reach.{GrantsWithinSome}
 use Rattle.grant_policy.specs.declared.action.Action.TheVariants as action
 use Rattle.zone_core.specs.Outermost.{AreApart}
-use Rattle.office_state.specs.Tables.{included}
+use Rattle.office_model.specs.Tables.{included}
 use Rattle.office_core.specs.Subtrees.{subtrees_at}
 use Rattle.office_core.proofs.SubtreeLemmas.{by_subtrees, on_ok}
 use Rattle.office_core.proofs.queries.listed_of.Goals as goal

@@ -2,8 +2,8 @@ use Rattle.std.proofs.Common.{option_map, ap, subst, ◌∙◌}
 use Rattle.grant_policy.specs.declared.action.Action.TheVariants as action
 use Rattle.grant_policy.specs.Grants.{GrantsOf}
 use Rattle.grant_policy.specs.Reach.{IsReach}
-use Rattle.office_state.specs.States.{subtree_at}
-use Rattle.office_state.specs.Tables.{included}
+use Rattle.office_model.specs.States.{subtree_at}
+use Rattle.office_model.specs.Tables.{included}
 use Rattle.office_core.proofs.SubtreeLemmas.{by_none, by_subtree, on_ok}
 use Rattle.office_core.proofs.queries.within_reach.Goals as goal
 

@@ -1,7 +1,7 @@
 use Rattle.std.proofs.Common.{◌≡◌, ◌+◌, ◌≤◌, length, take, vec_len}
 use Rattle.std.specs.Prelude.{sum_by}
 use Rattle.std.specs.Vec.{vec_capacity}
-use Rattle.office_state.specs.States.{State}
+use Rattle.office_model.specs.States.{State}
 use Rattle.office_core.specs.Runs.{IsRun, counted_failures}
 use Rattle.office_core.proofs.runs.replies_to.Given as goal
 

@@ -1,6 +1,6 @@
 use Rattle.std.proofs.Common.{[], option_map, refl, sym, subst, ◌∙◌}
-use Rattle.office_state.specs.States.{subtree_at, zone_at}
-use Rattle.office_state.specs.Tables.{included}
+use Rattle.office_model.specs.States.{subtree_at, zone_at}
+use Rattle.office_model.specs.Tables.{included}
 use Rattle.office_core.proofs.SubtreeLemmas.{none_in_order}
 use Rattle.office_core.proofs.SubtreesLemmas.{AreSoFar, zones_in_order, so_far_none, so_far_more}
 use Rattle.office_core.proofs.subtrees.within_each.Goals as goal

@@ -1,6 +1,6 @@
 use Rattle.std.proofs.Common.{◌≡◌, take}
 use Rattle.zone_core.specs.Sets.{InOrder}
-use Rattle.office_state.specs.States.{State, zone_at}
+use Rattle.office_model.specs.States.{State, zone_at}
 use Rattle.office_core.proofs.SubtreesLemmas.{AreSoFar}
 use Rattle.office_core.proofs.subtrees.within_each.Given as goal
 

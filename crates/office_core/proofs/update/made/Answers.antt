@@ -1,7 +1,7 @@
 use Rattle.std.proofs.Common.{◌≡◌, None, ap, option_map, subst}
 use Rattle.std.proofs.lemmas.Result.{IfOk-weaker}
 use Rattle.zone_core.specs.Changes.{change_in}
-use Rattle.office_state.specs.declared.reply.UpdateReply.TheVariants.{Failed}
+use Rattle.office_model.specs.declared.reply.UpdateReply.TheVariants.{Failed}
 use Rattle.office_core.specs.Machine.{failed_reply}
 use Rattle.office_core.specs.Steps.{Makes}
 use Rattle.office_core.proofs.update.made.Goals as goal

@@ -1,6 +1,6 @@
 use Rattle.std.proofs.Common.{option_map}
 use Rattle.zone_core.specs.Changes.{change_in}
-use Rattle.office_state.specs.Tables.{addition_in}
+use Rattle.office_model.specs.Tables.{addition_in}
 use Rattle.office_core.proofs.CommitLemmas.{commits}
 use Rattle.office_core.proofs.update.prepared.Goals as goal
 

@@ -2,7 +2,7 @@ use Rattle.std.proofs.Common.{sym, subst, rules}
 use Rattle.std.specs.Int.{w64}
 use Rattle.std.specs.Prelude.{FitsSigned}
 use Rattle.std.proofs.lemmas.Int.{to_z-of_z}
-use Rattle.office_rows.specs.Batches.{IsNext}
+use Rattle.store_rows.specs.Batches.{IsNext}
 use Rattle.office_store.proofs.AdditionLemmas.{with_next}
 use Rattle.office_store.proofs.batch.batch_of.Goals as goal
 

@@ -1,6 +1,6 @@
 use Rattle.sqlite.specs.Held.{state}
 use Rattle.sqlite.specs.State.{HasCleanDisk}
-use Rattle.office_state.specs.Tables.{addition_in, committed}
+use Rattle.office_model.specs.Tables.{addition_in, committed}
 use Rattle.office_store.proofs.TurnLemmas.{written}
 use Rattle.office_store.proofs.batch.commit.Goals as goal
 

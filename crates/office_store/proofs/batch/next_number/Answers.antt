@@ -1,7 +1,7 @@
 use Rattle.std.proofs.Common.{pos, length, subst, ◌∙◌}
 use Rattle.std.proofs.lemmas.Result.{IfOk-weaker}
-use Rattle.office_sql.specs.Lookups.{changes_of, IsLast}
-use Rattle.office_rows.proofs.StateLaws.{last_numbers_count}
+use Rattle.store_sql.specs.Lookups.{changes_of, IsLast}
+use Rattle.store_rows.proofs.StateLaws.{last_numbers_count}
 use Rattle.office_store.proofs.batch.next_number.Goals as goal
 
 pub returns-clause-next : goal.returns-clause-next

@@ -1,7 +1,7 @@
 use Rattle.std.proofs.Common.{inl, inr, pos}
 use Rattle.sqlite.specs.Held.{state}
-use Rattle.office_sql.specs.Rows.{written}
-use Rattle.office_sql.proofs.Commits.{holds_on, on_err}
+use Rattle.store_sql.specs.Rows.{written}
+use Rattle.store_sql.proofs.Commits.{holds_on, on_err}
 use Rattle.office_store.proofs.batch.write_to.Goals as goal
 
 pub returns-in_err-write-clause-failed : goal.returns-in_err-write-clause-failed

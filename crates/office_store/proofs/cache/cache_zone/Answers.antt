@@ -1,5 +1,5 @@
 use Rattle.sqlite.specs.Held.{state}
-use Rattle.zone_cache.specs.Cache.{cached_in}
+use Rattle.store_cache.specs.Cache.{cached_in}
 use Rattle.office_store.proofs.CacheLemmas.{fits_asked_none, fits_found}
 use Rattle.office_store.proofs.cache.cache_zone.Goals as goal
 

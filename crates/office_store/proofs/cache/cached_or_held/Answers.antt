@@ -1,6 +1,6 @@
 use Rattle.std.proofs.Common.{sym, ◌∙◌}
 use Rattle.sqlite.specs.Held.{state}
-use Rattle.zone_cache.specs.Cache.{cached_in}
+use Rattle.store_cache.specs.Cache.{cached_in}
 use Rattle.office_store.proofs.CacheLemmas.{told_of_cached}
 use Rattle.office_store.proofs.cache.cached_or_held.Goals as goal
 

@@ -1,5 +1,5 @@
 use Rattle.sqlite.specs.Held.{state}
-use Rattle.zone_cache.specs.Cache.{cached_in}
+use Rattle.store_cache.specs.Cache.{cached_in}
 use Rattle.office_store.proofs.CacheLemmas.{told_of_part}
 use Rattle.office_store.proofs.cache.cached_part.Goals as goal
 

@@ -1,6 +1,6 @@
 use Rattle.std.proofs.Common.{rules}
 use Rattle.sqlite.specs.Held.{state}
-use Rattle.zone_cache.specs.Cache.{cached_in}
+use Rattle.store_cache.specs.Cache.{cached_in}
 use Rattle.office_store.proofs.CacheLemmas.{fits_asked}
 use Rattle.office_store.proofs.QueryLemmas.{asked_then, asks_refused, only_then}
 use Rattle.office_store.proofs.cache.cached_subtree.Goals as goal

@@ -1,7 +1,7 @@
 use Rattle.std.proofs.Common.{subst}
 use Rattle.sqlite.specs.Held.{state}
-use Rattle.office_state.specs.Tables.{addition_in, committed}
-use Rattle.zone_cache.specs.Cache.{cached_in}
+use Rattle.office_model.specs.Tables.{addition_in, committed}
+use Rattle.store_cache.specs.Cache.{cached_in}
 use Rattle.office_store.specs.Turns.{Turns}
 use Rattle.office_store.proofs.CacheLemmas.{fits_committed, fits_turned}
 use Rattle.office_store.proofs.cache.commit_cached.Goals as goal

@@ -2,8 +2,8 @@ use Rattle.std.proofs.Common.{◌≡◌, inl, inr, Err, sym, subst}
 use Rattle.std.proofs.lemmas.Result.{err_from_is_err_and}
 use Rattle.sqlite.specs.Held.{state}
 use Rattle.sqlite.specs.State.{HasCleanDisk}
-use Rattle.office_sql.proofs.Commits.{keeps_then, on_err}
-use Rattle.office_rows.specs.Contents.{ContentOf}
+use Rattle.store_sql.proofs.Commits.{keeps_then, on_err}
+use Rattle.store_rows.specs.Contents.{ContentOf}
 use Rattle.store_faults.specs.StoreFaults.{IsFailure}
 use Rattle.office_store.specs.Migration.{HoldsOld}
 use Rattle.office_store.proofs.FaultLemmas.{if_err_at, no_refusal, rows_fail}

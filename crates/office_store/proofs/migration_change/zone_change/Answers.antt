@@ -5,8 +5,8 @@ use Rattle.dns_data.specs.RecordOrder.{record_order}
 use Rattle.zone_core.specs.Sets.{set_of, InOrder}
 use Rattle.zone_core.specs.Zones.{IsZone, built}
 use Rattle.zone_core.specs.Changes.{ChangeOf, change_between}
-use Rattle.office_rows.specs.RowFaults.{Refuses, of_zones}
-use Rattle.office_rows.specs.Orders.{rises}
+use Rattle.store_rows.specs.RowFaults.{Refuses, of_zones}
+use Rattle.store_rows.specs.Orders.{rises}
 use Rattle.office_store.specs.MigratedContents.{advanced, next_zone}
 use Rattle.office_store.proofs.MigratedZoneLemmas.{order_from, order_to, built_zone, refused_never, records_each, nothing_changes, something_changes, next_records}
 use Rattle.office_store.proofs.migration_change.zone_change.Goals as goal

@@ -1,10 +1,10 @@
 use Rattle.std.proofs.Common.{◌≡◌, ℕ, pos, true, List, map, Some, Err, string_bytes, refl, sym, ap, subst, ◌∙◌}
 use Rattle.std.proofs.lemmas.Result.{err_from_is_err_and}
-use Rattle.office_sql.specs.Rows.{RecordRowOf, ReceiptRowOf, ChangeRowOf, RowsOf}
-use Rattle.office_rows.specs.declared.row_fault.RowFault.{RowFault}
-use Rattle.office_rows.specs.declared.row_fault.RowFault.TheVariants.{BadRow, NoMemory}
-use Rattle.office_rows.specs.Contents.{ContentOf}
-use Rattle.office_rows.specs.Checks.{AreReceiptRows, Checks}
+use Rattle.store_sql.specs.Rows.{RecordRowOf, ReceiptRowOf, ChangeRowOf, RowsOf}
+use Rattle.store_rows.specs.declared.row_fault.RowFault.{RowFault}
+use Rattle.store_rows.specs.declared.row_fault.RowFault.TheVariants.{BadRow, NoMemory}
+use Rattle.store_rows.specs.Contents.{ContentOf}
+use Rattle.store_rows.specs.Checks.{AreReceiptRows, Checks}
 use Rattle.office_store.specs.MigratedContents.{migration_batch}
 use Rattle.office_store.specs.MigrationSteps.{AreOldZoneRows, AreSteps}
 use Rattle.office_store.proofs.MigratedContentLemmas.{migrates, one_version, zone_rows, receipt_rows}

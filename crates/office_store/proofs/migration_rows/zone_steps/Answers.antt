@@ -3,14 +3,14 @@ use Rattle.std.specs.List.{AllByRecursion}
 use Rattle.std.proofs.lemmas.Result.{err_from_is_err_and}
 use Rattle.std.specs.Prelude.{Result, Ok, Err, IfOk}
 use Rattle.dns_names.specs.Order.{canonical_cmp}
-use Rattle.office_rows.specs.declared.changes.ChangedRecord.{ChangedRecord}
-use Rattle.office_rows.specs.declared.row_fault.RowFault.{RowFault}
-use Rattle.office_rows.specs.declared.ordered.ZoneRecord.{ZoneRecord}
-use Rattle.office_rows.specs.Orders.{rises}
-use Rattle.office_sql.specs.Rows.{RecordRowOf, ChangeRowOf}
-use Rattle.office_rows.specs.ChangeRows.{IsChangeRow, row_of}
-use Rattle.office_rows.specs.Checks.{IsZoneRecordRow, row_of_record}
-use Rattle.office_rows.specs.Contents.{ZoneRows}
+use Rattle.store_rows.specs.declared.changes.ChangedRecord.{ChangedRecord}
+use Rattle.store_rows.specs.declared.row_fault.RowFault.{RowFault}
+use Rattle.store_rows.specs.declared.ordered.ZoneRecord.{ZoneRecord}
+use Rattle.store_rows.specs.Orders.{rises}
+use Rattle.store_sql.specs.Rows.{RecordRowOf, ChangeRowOf}
+use Rattle.store_rows.specs.ChangeRows.{IsChangeRow, row_of}
+use Rattle.store_rows.specs.Checks.{IsZoneRecordRow, row_of_record}
+use Rattle.store_rows.specs.Contents.{ZoneRows}
 use Rattle.office_store.specs.declared.migration_steps.MigrationSteps.{MigrationSteps}
 use Rattle.office_store.specs.MigrationSteps.{AreOldZoneRows, AreOldZonesInTurn, zones_in_turn, AreSteps}
 use Rattle.office_store.proofs.OldZoneRowLemmas.{origin_rows, record_rows, change_rows, origins_rise, taken_in_turn, are_old_rows}

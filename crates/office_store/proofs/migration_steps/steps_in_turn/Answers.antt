@@ -1,9 +1,9 @@
 use Rattle.std.proofs.Common.{◌≡◌, ◌+◌, List, ℕ, take, drop, sym, subst, arith}
 use Rattle.std.specs.List.{AllByRecursion}
-use Rattle.office_rows.specs.declared.changes.ChangedRecord.{ChangedRecord}
-use Rattle.office_rows.specs.declared.ordered.ZoneRecord.{ZoneRecord}
-use Rattle.office_rows.specs.Checks.{IsZoneRecord}
-use Rattle.office_rows.proofs.ZoneCheckLemmas.{front_all, run_of}
+use Rattle.store_rows.specs.declared.changes.ChangedRecord.{ChangedRecord}
+use Rattle.store_rows.specs.declared.ordered.ZoneRecord.{ZoneRecord}
+use Rattle.store_rows.specs.Checks.{IsZoneRecord}
+use Rattle.store_rows.proofs.ZoneCheckLemmas.{front_all, run_of}
 use Rattle.office_store.specs.MigrationSteps.{IsOldZoneOf, zone_rows_in, zones_in_turn, GoesOn}
 use Rattle.office_store.proofs.MigrationWalkLemmas.{IsWalked, left_all, walked_more}
 use Rattle.office_store.proofs.migration_steps.steps_in_turn.Goals as goal

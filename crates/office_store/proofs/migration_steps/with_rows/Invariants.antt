@@ -1,5 +1,5 @@
 use Rattle.std.proofs.Common.{◌≡◌, ◌++◌, map, take}
-use Rattle.office_rows.specs.RecordRows.{record_row}
+use Rattle.store_rows.specs.RecordRows.{record_row}
 use Rattle.office_store.proofs.migration_steps.with_rows.Given as goal
 
 abbrev pub invariant-loop-rr : goal.invariant-loop-rr

@@ -1,10 +1,10 @@
 use Rattle.std.proofs.Common.{map, Err, sym, ap, subst}
 use Rattle.sqlite.specs.Held.{state}
-use Rattle.office_sql.specs.Holds.{HasChanges}
+use Rattle.store_sql.specs.Holds.{HasChanges}
 use Rattle.store_faults.specs.declared.store_fault.StoreFault.{StoreFault}
-use Rattle.office_rows.specs.ChangeRows.{row_of}
-use Rattle.office_rows.specs.Checks.{AreChangesOf}
-use Rattle.office_rows.proofs.ZoneCheckLemmas.{change_rows}
+use Rattle.store_rows.specs.ChangeRows.{row_of}
+use Rattle.store_rows.specs.Checks.{AreChangesOf}
+use Rattle.store_rows.proofs.ZoneCheckLemmas.{change_rows}
 use Rattle.office_store.specs.Opening.{IsCheck, AreRemembered, ChangesFound}
 use Rattle.office_store.proofs.OpeningLemmas.{checked, unread, both_passed, was_bad, changes_moved}
 use Rattle.office_store.proofs.opening.check_changes.Goals as goal

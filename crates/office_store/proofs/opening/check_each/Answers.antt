@@ -1,7 +1,7 @@
 use Rattle.std.proofs.Common.{◌≡◌, Ok, Err, pos, sym, subst}
 use Rattle.std.proofs.lemmas.Result.{err_from_is_err_and}
 use Rattle.sqlite.specs.Held.{state}
-use Rattle.office_rows.specs.Checks.{AreOrigins, AreStateRows}
+use Rattle.store_rows.specs.Checks.{AreOrigins, AreStateRows}
 use Rattle.office_store.specs.Opening.{IsNow, VersionIn, StateFound}
 use Rattle.office_store.proofs.OpeningLemmas.{first_check, zones_next, records_next, changes_next, receipts_next, both_found, handed_on, refused_so}
 use Rattle.office_store.proofs.opening.check_each.Goals as goal

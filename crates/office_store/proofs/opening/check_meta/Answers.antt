@@ -1,10 +1,10 @@
 use Rattle.std.proofs.Common.{ℤ, List, map, Err, sym, ap, subst}
 use Rattle.sqlite.specs.Effect.{Database}
 use Rattle.sqlite.specs.Held.{state}
-use Rattle.office_sql.specs.Tables.{stored_version}
-use Rattle.office_sql.specs.Stores.{Stores}
+use Rattle.store_sql.specs.Tables.{stored_version}
+use Rattle.store_sql.specs.Stores.{Stores}
 use Rattle.store_faults.specs.declared.store_fault.StoreFault.{StoreFault}
-use Rattle.office_rows.specs.Checks.{Checks}
+use Rattle.store_rows.specs.Checks.{Checks}
 use Rattle.office_store.specs.Opening.{IsCheck, IsNow, VersionIn}
 use Rattle.office_store.proofs.OpeningLemmas.{checked, unread, passed, was_bad, version_moved}
 use Rattle.office_store.proofs.opening.check_meta.Goals as goal

@@ -1,9 +1,9 @@
 use Rattle.std.proofs.Common.{[], Err, sym, ap, subst}
 use Rattle.sqlite.specs.Held.{state}
-use Rattle.office_sql.specs.Holds.{HasReceipts}
+use Rattle.store_sql.specs.Holds.{HasReceipts}
 use Rattle.store_faults.specs.declared.store_fault.StoreFault.{StoreFault}
-use Rattle.office_rows.specs.Checks.{AreReceiptRows}
-use Rattle.office_rows.proofs.StateChecks.{receipt_rows, with_own_keys}
+use Rattle.store_rows.specs.Checks.{AreReceiptRows}
+use Rattle.store_rows.proofs.StateChecks.{receipt_rows, with_own_keys}
 use Rattle.office_store.specs.Opening.{IsCheck, ReceiptsIn}
 use Rattle.office_store.proofs.OpeningLemmas.{unread}
 use Rattle.office_store.proofs.opening.check_receipts.Goals as goal

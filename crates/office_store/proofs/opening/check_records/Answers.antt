@@ -1,11 +1,11 @@
 use Rattle.std.specs.Prelude.{IfSome}
 use Rattle.std.proofs.Common.{map, Err, sym, ap, subst}
 use Rattle.sqlite.specs.Held.{state}
-use Rattle.office_sql.specs.Holds.{HasRecords}
+use Rattle.store_sql.specs.Holds.{HasRecords}
 use Rattle.store_faults.specs.declared.store_fault.StoreFault.{StoreFault}
-use Rattle.office_rows.specs.Checks.{row_of_record, AreRecordsOf}
-use Rattle.office_rows.proofs.ZoneCheckLemmas.{record_rows}
-use Rattle.office_rows.specs.ReadZones.{IsReadAmong}
+use Rattle.store_rows.specs.Checks.{row_of_record, AreRecordsOf}
+use Rattle.store_rows.proofs.ZoneCheckLemmas.{record_rows}
+use Rattle.store_rows.specs.ReadZones.{IsReadAmong}
 use Rattle.office_store.specs.Opening.{IsCheck, RecordsFound}
 use Rattle.office_store.proofs.OpeningLemmas.{checked, unread, both_passed, was_bad, records_moved}
 use Rattle.office_store.proofs.opening.check_records.Goals as goal

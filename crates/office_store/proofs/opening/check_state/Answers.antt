@@ -1,9 +1,9 @@
 use Rattle.std.proofs.Common.{◌≡◌, Err}
 use Rattle.std.proofs.lemmas.Result.{err_from_is_err_and, IfErr-weaker, on_ok_weaker}
 use Rattle.sqlite.specs.Held.{state}
-use Rattle.office_state.specs.States.{State}
+use Rattle.office_model.specs.States.{State}
 use Rattle.store_faults.specs.StoreFaults.{IsFailure}
-use Rattle.office_sql.proofs.Commits.{keeps_then}
+use Rattle.store_sql.proofs.Commits.{keeps_then}
 use Rattle.office_store.specs.Holds.{HoldsState}
 use Rattle.office_store.proofs.QueryLemmas.{asked_then, only_then}
 use Rattle.office_store.proofs.FaultLemmas.{if_err_at}

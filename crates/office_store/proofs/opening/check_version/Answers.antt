@@ -3,10 +3,10 @@ use Rattle.std.proofs.lemmas.Int.{to_z-of_z}
 use Rattle.std.proofs.lemmas.List.Sorted.{IsPermutation-refl}
 use Rattle.sqlite.specs.Effect.{Database}
 use Rattle.sqlite.specs.Held.{state}
-use Rattle.office_sql.specs.Tables.{stored_version}
-use Rattle.office_sql.specs.Stores.{Stores}
+use Rattle.store_sql.specs.Tables.{stored_version}
+use Rattle.store_sql.specs.Stores.{Stores}
 use Rattle.office_store.specs.Holds.{IsOfVersion}
-use Rattle.office_sql.specs.Holds.{Holds}
+use Rattle.store_sql.specs.Holds.{Holds}
 use Rattle.office_store.proofs.QueryLemmas.{asked_more, asks_refused, only_of}
 use Rattle.office_store.proofs.VersionLemmas.{one_version}
 use Rattle.office_store.proofs.opening.check_version.Goals as goal

@@ -1,10 +1,10 @@
 use Rattle.std.proofs.Common.{map, Err, IfOk, sym, ap, subst}
 use Rattle.sqlite.specs.Held.{state}
 use Rattle.dns_names.specs.Spelling.{name_text}
-use Rattle.office_sql.specs.Holds.{HasZones}
+use Rattle.store_sql.specs.Holds.{HasZones}
 use Rattle.store_faults.specs.declared.store_fault.StoreFault.{StoreFault}
-use Rattle.office_rows.specs.Checks.{AreOrigins, AreOriginRows}
-use Rattle.office_rows.proofs.TableLaws.{texts_are}
+use Rattle.store_rows.specs.Checks.{AreOrigins, AreOriginRows}
+use Rattle.store_rows.proofs.TableLaws.{texts_are}
 use Rattle.office_store.specs.Opening.{IsCheck, HasOrigins, OriginsIn}
 use Rattle.office_store.proofs.OpeningLemmas.{checked, unread, if_checked, origins_moved}
 use Rattle.office_store.proofs.opening.check_zones.Goals as goal

@@ -1,5 +1,5 @@
 use Rattle.std.proofs.Common.{map}
-use Rattle.office_rows.specs.ChangeRows.{row_of}
+use Rattle.store_rows.specs.ChangeRows.{row_of}
 use Rattle.office_store.proofs.opening.checked_history.Goals as goal
 
 pub returns-clause-history : goal.returns-clause-history

@@ -1,7 +1,7 @@
 use Rattle.std.proofs.Common.{inl, inr, pos}
-use Rattle.office_sql.specs.Holds.{made_rows}
-use Rattle.office_sql.proofs.Commits.{on_err}
-use Rattle.office_rows.proofs.BatchLaws.{new_tables}
+use Rattle.store_sql.specs.Holds.{made_rows}
+use Rattle.store_sql.proofs.Commits.{on_err}
+use Rattle.store_rows.proofs.BatchLaws.{new_tables}
 use Rattle.office_store.proofs.opening.make.Goals as goal
 
 pub returns-in_err-make_tables-clause-crash : goal.returns-in_err-make_tables-clause-crash

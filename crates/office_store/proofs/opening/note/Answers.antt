@@ -1,4 +1,4 @@
-use Rattle.office_rows.specs.ChangeRows.{opened}
+use Rattle.store_rows.specs.ChangeRows.{opened}
 use Rattle.office_store.proofs.HistoryLemmas.{noted_last, on_ok_both}
 use Rattle.office_store.proofs.opening.note.Goals as goal
 

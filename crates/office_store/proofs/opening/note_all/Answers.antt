@@ -1,7 +1,7 @@
 use Rattle.std.proofs.Common.{ap, ◌∙◌, sym, subst, arith}
 use Rattle.std.proofs.lemmas.List.{take_all}
-use Rattle.zone_cache.specs.History.{KnowsAll}
-use Rattle.office_rows.specs.ChangeRows.{gathered}
+use Rattle.store_cache.specs.History.{KnowsAll}
+use Rattle.store_rows.specs.ChangeRows.{gathered}
 use Rattle.office_store.proofs.HistoryLemmas.{gathered_more}
 use Rattle.office_store.proofs.opening.note_all.Goals as goal
 

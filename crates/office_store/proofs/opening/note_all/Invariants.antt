@@ -1,6 +1,6 @@
 use Rattle.std.proofs.Common.{◌≡◌, [], take}
-use Rattle.office_rows.specs.ChangeRows.{gathered}
-use Rattle.zone_cache.specs.History.{KnowsAll}
+use Rattle.store_rows.specs.ChangeRows.{gathered}
+use Rattle.store_cache.specs.History.{KnowsAll}
 use Rattle.office_store.proofs.opening.note_all.Given as goal
 
 abbrev pub invariant-loop-one : goal.invariant-loop-one

@@ -1,6 +1,6 @@
 use Rattle.std.proofs.Common.{List, sym, subst, ap, ◌∙◌}
 use Rattle.zone_core.specs.Changes.{ChangeOf}
-use Rattle.zone_cache.specs.History.{AreTouched}
+use Rattle.store_cache.specs.History.{AreTouched}
 use Rattle.office_store.proofs.opening.remembered.Goals as goal
 
 pub returns-in-Ok : goal.returns-in-Ok

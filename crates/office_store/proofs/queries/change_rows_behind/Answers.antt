@@ -3,7 +3,7 @@ use Rattle.std.specs.Int.{w64}
 use Rattle.std.specs.Prelude.{FitsSigned}
 use Rattle.std.proofs.lemmas.Int.{to_z-of_z}
 use Rattle.sqlite.specs.Held.{state}
-use Rattle.office_sql.specs.Lookups.{changes_between}
+use Rattle.store_sql.specs.Lookups.{changes_between}
 use Rattle.dns_names.specs.Spelling.{name_text}
 use Rattle.office_store.proofs.QueryLemmas.{asked_more, asks_refused, found, only_of, only_then}
 use Rattle.office_store.proofs.queries.change_rows_behind.Goals as goal

@@ -1,8 +1,8 @@
 use Rattle.std.proofs.Common.{[], arith}
 use Rattle.sqlite.specs.Held.{state}
 use Rattle.sqlite.specs.State.{HasCleanDisk}
-use Rattle.office_sql.proofs.Queries.{not_run_keeps_all}
-use Rattle.office_sql.proofs.Commits.{clean_if_open, holds_on, left_before, unchanged_keeps_all}
+use Rattle.store_sql.proofs.Queries.{not_run_keeps_all}
+use Rattle.store_sql.proofs.Commits.{clean_if_open, holds_on, left_before, unchanged_keeps_all}
 use Rattle.office_store.proofs.QueryLemmas.{asked_of, asks_refused, unchanged_only}
 use Rattle.office_store.proofs.queries.check_open.Goals as goal
 

@@ -3,7 +3,7 @@ use Rattle.std.proofs.lemmas.Result.{on_ok_weaker}
 use Rattle.sqlite.specs.Held.{state}
 use Rattle.dns_names.specs.Keys.{key_of}
 use Rattle.dns_names.specs.Spelling.{name_text}
-use Rattle.office_rows.specs.PartRows.{AreRowsAt}
+use Rattle.store_rows.specs.PartRows.{AreRowsAt}
 use Rattle.office_store.proofs.QueryLemmas.{asked_once, on_found, only_of, refused_early, stands}
 use Rattle.office_store.proofs.queries.part_rows.Goals as goal
 

@@ -3,9 +3,9 @@ use Rattle.std.proofs.lemmas.List.{take_all}
 use Rattle.sqlite.specs.Held.{state}
 use Rattle.sqlite.specs.State.{HasCleanDisk}
 use Rattle.dns_names.specs.Keys.{key_of}
-use Rattle.office_sql.specs.Lookups.{records_at}
-use Rattle.office_sql.proofs.Commits.{asks_then}
-use Rattle.office_rows.specs.PartRows.{AreRowsAt}
+use Rattle.store_sql.specs.Lookups.{records_at}
+use Rattle.store_sql.proofs.Commits.{asks_then}
+use Rattle.store_rows.specs.PartRows.{AreRowsAt}
 use Rattle.office_store.proofs.RowLemmas.{rows_first, rows_next, none_stand, some_stand}
 use Rattle.office_store.proofs.queries.rows_at.Goals as goal
 

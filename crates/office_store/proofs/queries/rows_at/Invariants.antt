@@ -2,10 +2,10 @@ use Rattle.std.proofs.Common.{◌≢◌, [], ◌∷◌, map, take}
 use Rattle.sqlite.specs.Held.{state}
 use Rattle.sqlite.specs.State.{HasCleanDisk}
 use Rattle.dns_names.specs.Keys.{key_of}
-use Rattle.office_sql.specs.Rows.{RowsOf}
-use Rattle.office_sql.specs.Lookups.{records_at}
-use Rattle.office_sql.specs.Holds.{Holds, OnlyAsks}
-use Rattle.office_rows.specs.PartRows.{AreRowsAt}
+use Rattle.store_sql.specs.Rows.{RowsOf}
+use Rattle.store_sql.specs.Lookups.{records_at}
+use Rattle.store_sql.specs.Holds.{Holds, OnlyAsks}
+use Rattle.store_rows.specs.PartRows.{AreRowsAt}
 use Rattle.office_store.proofs.queries.rows_at.Given as goal
 
 abbrev pub invariant-loop-name : goal.invariant-loop-name

@@ -1,6 +1,6 @@
 use Rattle.std.proofs.Common.{◌≡◌, ◌∙◌, subst, string_bytes, IsPermutation}
 use Rattle.sqlite.specs.Held.{state}
-use Rattle.office_rows.specs.PartRows.{rows_within}
+use Rattle.store_rows.specs.PartRows.{rows_within}
 use Rattle.dns_names.specs.Spelling.{name_text}
 use Rattle.office_store.proofs.QueryLemmas.{asked_then, asks_refused, found, only_then}
 use Rattle.office_store.proofs.queries.subtree_rows.Goals as goal

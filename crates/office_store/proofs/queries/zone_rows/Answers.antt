@@ -1,6 +1,6 @@
 use Rattle.std.proofs.Common.{◌≡◌, ◌∙◌, subst, string_bytes, IsPermutation}
 use Rattle.sqlite.specs.Held.{state}
-use Rattle.office_sql.specs.Lookups.{records_of}
+use Rattle.store_sql.specs.Lookups.{records_of}
 use Rattle.dns_names.specs.Spelling.{name_text}
 use Rattle.office_store.proofs.QueryLemmas.{asked_more, asks_refused, found, only_of, only_then}
 use Rattle.office_store.proofs.queries.zone_rows.Goals as goal

@@ -1,6 +1,6 @@
 use Rattle.std.proofs.Common.{◌≡◌, ◌+◌, List, IsPermutation, pos, Ok, Some, option_map, sym, ap, subst, ◌∙◌, map, drop, take}
-use Rattle.office_sql.specs.Lookups.{changes_between}
-use Rattle.office_sql.specs.Rows.{ChangeRowOf}
+use Rattle.store_sql.specs.Lookups.{changes_between}
+use Rattle.store_sql.specs.Rows.{ChangeRowOf}
 use Rattle.dns_names.specs.Spelling.{name_text}
 use Rattle.sqlite.specs.Held.{state}
 use Rattle.zone_core.specs.Changes.{change_in}

@@ -1,10 +1,10 @@
 use Rattle.std.proofs.Common.{◌≡◌, pos, Ok, Some, option_map, sym, ap, ◌∙◌, subst, ◌∷◌, map}
 use Rattle.sqlite.specs.Held.{state}
 use Rattle.zone_core.specs.Parts.{part_of, at_names}
-use Rattle.office_state.specs.States.{zone_held, zone_at}
+use Rattle.office_model.specs.States.{zone_held, zone_at}
 use Rattle.dns_names.specs.Keys.{key_of}
 use Rattle.dns_names.specs.Spelling.{name_text}
-use Rattle.office_rows.specs.PartRows.{AreRowsAt}
+use Rattle.store_rows.specs.PartRows.{AreRowsAt}
 use Rattle.office_store.proofs.QueryLemmas.{asks_refused}
 use Rattle.office_store.proofs.reads.part_at.Goals as goal
 

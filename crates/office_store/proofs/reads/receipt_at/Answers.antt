@@ -1,6 +1,6 @@
 use Rattle.std.proofs.Common.{◌≡◌, pos, Ok, sym, subst, IsPermutation}
 use Rattle.sqlite.specs.Held.{state}
-use Rattle.office_sql.specs.Lookups.{receipts_of}
+use Rattle.store_sql.specs.Lookups.{receipts_of}
 use Rattle.office_store.proofs.QueryLemmas.{answered_once, refused_early, refused_once}
 use Rattle.office_store.proofs.reads.receipt_at.Goals as goal
 

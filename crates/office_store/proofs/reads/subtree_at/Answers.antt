@@ -1,9 +1,9 @@
 use Rattle.std.proofs.Common.{◌≡◌, pos, Ok, Some, option_map, sym, ap, ◌∙◌, subst, IsPermutation}
 use Rattle.sqlite.specs.Held.{state}
 use Rattle.zone_core.specs.Sets.{listing, part, within}
-use Rattle.office_state.specs.States.{zone_held, zone_at}
+use Rattle.office_model.specs.States.{zone_held, zone_at}
 use Rattle.dns_names.specs.Spelling.{name_text}
-use Rattle.office_rows.specs.PartRows.{rows_within}
+use Rattle.store_rows.specs.PartRows.{rows_within}
 use Rattle.office_store.proofs.MigratedZoneLemmas.{order_from}
 use Rattle.office_store.proofs.QueryLemmas.{asks_refused}
 use Rattle.office_store.proofs.reads.subtree_at.Goals as goal

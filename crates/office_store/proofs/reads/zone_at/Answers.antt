@@ -1,8 +1,8 @@
 use Rattle.std.proofs.Common.{◌≡◌, pos, Ok, Some, option_map, sym, ap, ◌∙◌, subst, IsPermutation}
 use Rattle.sqlite.specs.Held.{state}
-use Rattle.office_state.specs.States.{zone_held, zone_at}
+use Rattle.office_model.specs.States.{zone_held, zone_at}
 use Rattle.dns_names.specs.Spelling.{name_text}
-use Rattle.office_sql.specs.Lookups.{records_of}
+use Rattle.store_sql.specs.Lookups.{records_of}
 use Rattle.office_store.proofs.QueryLemmas.{asks_refused}
 use Rattle.office_store.proofs.reads.zone_at.Goals as goal
 

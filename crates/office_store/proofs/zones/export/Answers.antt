@@ -2,9 +2,9 @@ use Rattle.std.proofs.Common.{◌≡◌, pos, Ok, Err, Some, [], option_map, sym
 use Rattle.sqlite.specs.Held.{state}
 use Rattle.std.proofs.lemmas.Result.{err_from_is_err_and}
 use Rattle.zone_core.specs.Sets.{listing, part, within}
-use Rattle.office_state.specs.States.{zone_held, zone_at}
+use Rattle.office_model.specs.States.{zone_held, zone_at}
 use Rattle.dns_names.specs.Spelling.{name_text}
-use Rattle.office_sql.specs.Lookups.{records_of}
+use Rattle.store_sql.specs.Lookups.{records_of}
 use Rattle.office_store.specs.Zones.{exported}
 use Rattle.office_store.proofs.FaultLemmas.{gives_nothing}
 use Rattle.office_store.proofs.ZoneLemmas.{all_within}

@@ -1,8 +1,8 @@
 use Rattle.std.proofs.Common.{◌≡◌, Err, None, sym, ap, subst}
 use Rattle.std.proofs.lemmas.Result.{err_from_is_err_and}
 use Rattle.sqlite.specs.Held.{state}
-use Rattle.office_state.specs.States.{State}
-use Rattle.office_rows.specs.Batches.{Leads}
+use Rattle.office_model.specs.States.{State}
+use Rattle.store_rows.specs.Batches.{Leads}
 use Rattle.office_store.specs.Holds.{HoldsState}
 use Rattle.office_store.specs.Zones.{if_free, with_imported}
 use Rattle.office_store.proofs.QueryLemmas.{none_held}

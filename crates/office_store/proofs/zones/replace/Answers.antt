@@ -1,7 +1,7 @@
 use Rattle.std.proofs.Common.{◌≡◌, Ok, Err, sym, ◌∙◌, subst}
 use Rattle.std.proofs.lemmas.Result.{err_from_is_err_and}
 use Rattle.sqlite.specs.Held.{state}
-use Rattle.office_state.specs.States.{State}
+use Rattle.office_model.specs.States.{State}
 use Rattle.store_faults.specs.declared.store_fault.StoreFault.{StoreFault}
 use Rattle.store_faults.specs.StoreFaults.{Refuses}
 use Rattle.office_store.specs.Turns.{Turns}

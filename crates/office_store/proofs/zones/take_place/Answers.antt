@@ -5,7 +5,7 @@ use Rattle.std.specs.Int.{w64}
 use Rattle.std.specs.Prelude.{FitsSigned}
 use Rattle.std.proofs.lemmas.Int.{to_z-of_z}
 use Rattle.sqlite.specs.Held.{state}
-use Rattle.office_rows.specs.Batches.{Leads, IsNext}
+use Rattle.store_rows.specs.Batches.{Leads, IsNext}
 use Rattle.office_store.specs.Zones.{if_later, with_place_taken, with_replaced}
 use Rattle.office_store.proofs.QueryLemmas.{asked_then}
 use Rattle.office_store.proofs.FaultLemmas.{gives_nothing}

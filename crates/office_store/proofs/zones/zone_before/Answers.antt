@@ -3,7 +3,7 @@ use Rattle.sqlite.specs.Held.{state}
 use Rattle.std.proofs.lemmas.Result.{err_from_is_err_and}
 use Rattle.zone_core.specs.Zones.{serial_of}
 use Rattle.zone_core.specs.Serials.{is_less}
-use Rattle.office_state.specs.States.{zone_held, zone_at}
+use Rattle.office_model.specs.States.{zone_held, zone_at}
 use Rattle.office_store.proofs.FaultLemmas.{gives_nothing}
 use Rattle.office_store.proofs.ZoneLemmas.{serials_differ, held_of, told_later, told_not_later}
 use Rattle.office_store.proofs.QueryLemmas.{asks_refused}

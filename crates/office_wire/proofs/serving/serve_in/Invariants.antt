@@ -1,5 +1,5 @@
 use Rattle.std.proofs.Common.{◌≡◌, ◌<◌, length}
-use Rattle.office_state.specs.States.{State}
+use Rattle.office_model.specs.States.{State}
 use Rattle.office_core.specs.Bookmarks.{AreBookmarks}
 use Rattle.office_wire.specs.Exchange.{Waits}
 use Rattle.office_wire.specs.Order.{moment}

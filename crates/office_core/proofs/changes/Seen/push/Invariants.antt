@@ -1,7 +1,7 @@
 use Rattle.std.proofs.Common.{◌≡◌, ◌+◌, ◌≤◌, ◌++◌, length, map}
 use Rattle.std.specs.Vec.Iter.{into_iter_items}
 use Rattle.zone_core.specs.Changes.{change_in}
-use Rattle.office_state.specs.Replies.{seen_in}
+use Rattle.office_model.specs.Replies.{seen_in}
 use Rattle.office_core.specs.Machine.{seen}
 use Rattle.office_core.proofs.changes.Seen.push.Given as goal
 

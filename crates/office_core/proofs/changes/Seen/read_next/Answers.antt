@@ -1,7 +1,7 @@
 use Rattle.std.proofs.Common.{◌≡◌, ◌+◌, ◌++◌, ◌<◌, map, drop, take, length, nat_le, option_map, sym, ap, subst, ◌∙◌, arith}
 use Rattle.std.proofs.lemmas.Bool.Decides.{nat_tests}
 use Rattle.zone_core.specs.Changes.{change_in}
-use Rattle.office_state.specs.Replies.{seen_in}
+use Rattle.office_model.specs.Replies.{seen_in}
 use Rattle.grant_policy.specs.Grants.{GrantsOf}
 use Rattle.office_core.specs.Machine.{seen}
 use Rattle.office_core.proofs.BookmarkLemmas.{found_behind}

@@ -1,7 +1,7 @@
 use Rattle.std.proofs.Common.{sym, subst}
 use Rattle.std.specs.Prelude.{OnOk, OnErr}
-use Rattle.office_state.specs.States.{State}
-use Rattle.office_state.specs.Tables.{Fits, addition_in, committed}
+use Rattle.office_model.specs.States.{State}
+use Rattle.office_model.specs.Tables.{Fits, addition_in, committed}
 use Rattle.office_core.specs.Memory.{HoldsState}
 use Rattle.office_core.proofs.fail_table.FailTableZoneTable.commit.Goals as goal
 

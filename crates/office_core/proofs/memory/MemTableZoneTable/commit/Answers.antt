@@ -5,8 +5,8 @@ use Rattle.std.proofs.lemmas.List.{get_or_default}
 use Rattle.std.proofs.lemmas.List.Quantifiers.{position-Some}
 use Rattle.zone_core.specs.Changes.{FitsIn, changed}
 use Rattle.zone_core.specs.Zones.{IsZone}
-use Rattle.office_state.specs.States.{State}
-use Rattle.office_state.specs.Tables.{Fits, addition_in}
+use Rattle.office_model.specs.States.{State}
+use Rattle.office_model.specs.Tables.{Fits, addition_in}
 use Rattle.office_core.specs.Memory.{EachIsZone, HasRoomAt, HoldsChange, HoldsSame, HoldsState, IsPutAt, MemoryOf, held_among, is_of, receipt_rows}
 use Rattle.office_core.proofs.MemoryLemmas.{IsChangedAt, fits_found, fits_zone, found_at, has_place, holds_change, holds_receipt, holds_same, kept_rows, made_are_zones, made_zones, moved, of_origin, on_err, one_receipt, put_items, room_are_zones, room_same, same_receipts, same_rows}
 use Rattle.office_core.proofs.memory.MemTableZoneTable.commit.Goals as goal

@@ -8,7 +8,7 @@ use Rattle.zone_core.specs.Sets.{InOrder, listing, part, within}
 use Rattle.zone_core.specs.Zones.{ZoneOf}
 use Rattle.zone_core.proofs.ChangedLemmas.{part_in_order}
 use Rattle.zone_core.proofs.RowLemmas.{InOrder-filter}
-use Rattle.office_state.specs.Tables.{included}
+use Rattle.office_model.specs.Tables.{included}
 use Rattle.office_core.specs.Memory.{is_of, receipt_rows}
 use Rattle.office_core.proofs.MemoryLemmas.{zone_told}
 use Rattle.office_core.proofs.memory.MemTableZoneTable.subtree.Goals as goal

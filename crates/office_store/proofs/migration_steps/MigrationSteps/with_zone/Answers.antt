@@ -3,7 +3,7 @@ use Rattle.std.proofs.lemmas.Int.{to_z-of_z}
 use Rattle.std.specs.Int.{w64}
 use Rattle.std.specs.Prelude.{FitsSigned, Some}
 use Rattle.zone_core.specs.Changes.{change_in}
-use Rattle.office_rows.specs.ChangeRows.{gathered}
+use Rattle.store_rows.specs.ChangeRows.{gathered}
 use Rattle.office_store.specs.MigratedContents.{change_for}
 use Rattle.office_store.specs.MigrationSteps.{Goes}
 use Rattle.office_store.proofs.NextNumberLemmas.{last_counts}

@@ -1,5 +1,5 @@
 use Rattle.sqlite.specs.Held.{state}
-use Rattle.office_rows.specs.Batches.{nothing_held}
+use Rattle.store_rows.specs.Batches.{nothing_held}
 use Rattle.office_store.proofs.CacheLemmas.{fits_held}
 use Rattle.office_store.proofs.HistoryLemmas.{history_none}
 use Rattle.office_store.proofs.table.SqlTable.create.Goals as goal

@@ -1,5 +1,5 @@
 use Rattle.std.proofs.Common.{◌∙◌, sym, subst, Result}
-use Rattle.office_state.specs.declared.request.Call.{Call}
+use Rattle.office_model.specs.declared.request.Call.{Call}
 use Rattle.office_core.specs.Bookmarks.{AreBookmarks}
 use Rattle.office_wire.specs.declared.request_fault.RequestFault.{RequestFault}
 use Rattle.office_wire.specs.Requests.{call_of, Refuses}

@@ -1,0 +1,9 @@
+pub mod Commands
+pub mod Words
+pub mod PlainForms
+pub mod Misuse
+pub mod Device
+pub mod Inputs
+pub mod Refusals
+pub mod LineFaults
+pub mod Replies

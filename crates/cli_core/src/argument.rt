@@ -1,0 +1,282 @@
+//! What commands take after their word, in one table.
+
+ghost use Rattle.std.specs.Prelude.{◌≡◌, false, Some};
+ghost use Rattle.clap.specs.Words.{new_rule, rule_of};
+ghost use Rattle.cli_core.specs.Commands.{argument_name, argument_form, rule_for, in_form};
+
+use clap::{Arg, ArgAction};
+use std::alloc::Global;
+
+/// What a command takes after its word: an option, or a word in its place.
+#[derive(Clone, Copy)]
+pub enum Argument {
+    Store,
+    Policy,
+    Origin,
+    Caller,
+    Name,
+    Type,
+    Action,
+    Listen,
+    Replace,
+    Relative,
+    Connections,
+    Patience,
+    Longest,
+    Number,
+    Subject,
+    CheckedPolicy,
+    CheckedOrigin,
+    CheckedName,
+    Isolated,
+    Only,
+    Not,
+    Json,
+    Guard,
+    Old,
+    New,
+    Id,
+    Split,
+    From,
+    Within,
+    Asker,
+}
+
+/// How an argument is written.
+#[derive(Clone, Copy)]
+pub enum Form {
+    /// `--name VALUE`, which must be given.
+    Needed,
+    /// `--name N`, a number of 64 bits, which may be left out.
+    Number,
+    /// `--name`, which may be left out.
+    Flag,
+    /// `--name VALUE`, which may be left out.
+    Optional,
+    /// A word in its place, which must be given.
+    Place,
+    /// A word in its place, which may be left out.
+    OptionalPlace,
+}
+
+/// A row of the table of arguments.
+struct Row {
+    /// Its name.
+    name: &'static str,
+    /// How it is written.
+    form: Form,
+    /// What it is, for the help.
+    help: &'static str,
+}
+
+impl Argument {
+    /// The one table of arguments.
+    const fn row(self) -> &'static Row
+        ensures name { result.now.name.now ≡ argument_name self }
+        ensures form { result.now.form ≡ argument_form self }
+    {
+        match self {
+            Argument::Store => &Row {
+                name: "store",
+                form: Form::Needed,
+                help: "The path of the store",
+            },
+            Argument::Policy => &Row {
+                name: "policy",
+                form: Form::Needed,
+                help: "The path of the policy",
+            },
+            Argument::Origin => &Row {
+                name: "origin",
+                form: Form::Needed,
+                help: "The zone's origin, an absolute name",
+            },
+            Argument::Caller => &Row {
+                name: "caller",
+                form: Form::Needed,
+                help: "Who asks",
+            },
+            Argument::Name => &Row {
+                name: "name",
+                form: Form::Place,
+                help: "At which name, an absolute one",
+            },
+            Argument::Type => &Row {
+                name: "type",
+                form: Form::Place,
+                help: "Of which type the records are",
+            },
+            Argument::Action => &Row {
+                name: "action",
+                form: Form::Place,
+                help: "list, check, add, delete or delegate",
+            },
+            Argument::Listen => &Row {
+                name: "listen",
+                form: Form::Needed,
+                help: "The address and port to listen at",
+            },
+            Argument::Replace => &Row {
+                name: "replace",
+                form: Form::Flag,
+                help: "In the place of the zone there",
+            },
+            Argument::Relative => &Row {
+                name: "relative",
+                form: Form::Flag,
+                help: "Relative to the origin, with a $TTL line",
+            },
+            Argument::Connections => &Row {
+                name: "connections",
+                form: Form::Number,
+                help: "After how many to end",
+            },
+            Argument::Patience => &Row {
+                name: "patience",
+                form: Form::Number,
+                help: "Seconds to wait for a peer, 30 if left out",
+            },
+            Argument::Longest => &Row {
+                name: "longest",
+                form: Form::Number,
+                help: "Seconds until a connection ends between requests, 60 if left out",
+            },
+            Argument::Number => &Row {
+                name: "number",
+                form: Form::OptionalPlace,
+                help: "The number, as 29.19.1, or the code; all if left out",
+            },
+            Argument::Subject => &Row {
+                name: "subject",
+                form: Form::Place,
+                help: "What to check: policy, isolation, rights or zone",
+            },
+            Argument::CheckedPolicy => &Row {
+                name: "policy",
+                form: Form::Optional,
+                help: "The path of the policy; needed by all but zone",
+            },
+            Argument::CheckedOrigin => &Row {
+                name: "origin",
+                form: Form::Optional,
+                help: "The zone's origin; needed by zone",
+            },
+            Argument::CheckedName => &Row {
+                name: "name",
+                form: Form::OptionalPlace,
+                help: "At which name to print rights; by scopes if left out",
+            },
+            Argument::Isolated => &Row {
+                name: "caller",
+                form: Form::Optional,
+                help: "Whose isolation to check; needed by isolation",
+            },
+            Argument::Only => &Row {
+                name: "only",
+                form: Form::Optional,
+                help: "The only rule: host-name, alias-target, missing-address, missing-glue, below-cut or ds-without-ns",
+            },
+            Argument::Not => &Row {
+                name: "not",
+                form: Form::Optional,
+                help: "The rule to leave out",
+            },
+            Argument::Json => &Row {
+                name: "json",
+                form: Form::Flag,
+                help: "As an array of JSON",
+            },
+            Argument::Guard => &Row {
+                name: "guard",
+                form: Form::Flag,
+                help: "With prerequisites that nobody changed the sets",
+            },
+            Argument::Old => &Row {
+                name: "old",
+                form: Form::Place,
+                help: "The file of the zone as it is, or - for standard input",
+            },
+            Argument::New => &Row {
+                name: "new",
+                form: Form::Place,
+                help: "The file of the zone as it is to be, or -",
+            },
+            Argument::Id => &Row {
+                name: "id",
+                form: Form::Optional,
+                help: "The identifier of the update; this or --split is needed",
+            },
+            Argument::Split => &Row {
+                name: "split",
+                form: Form::Optional,
+                help: "Before the numbers of the updates, as many as the limits want",
+            },
+            Argument::From => &Row {
+                name: "from",
+                form: Form::Number,
+                help: "Only the changes from this number on",
+            },
+            Argument::Within => &Row {
+                name: "name",
+                form: Form::Optional,
+                help: "Only what is at this name or below it",
+            },
+            Argument::Asker => &Row {
+                name: "caller",
+                form: Form::Optional,
+                help: "Only the receipts of this caller",
+            },
+        }
+    }
+
+    /// Its name, which an option has after two hyphens.
+    pub fn name(self) -> &'static str
+        ensures { result.now ≡ argument_name self }
+    {
+        self.row().name
+    }
+
+    /// The argument as clap is told of it.
+    pub(crate) fn rule<'a>(self, alloc: Global) -> Arg<'a>
+        ensures rule { rule_of result ≡ rule_for self }
+        ensures local { result.global ≡ false }
+    {
+        let row = self.row();
+        let name: &'a str = row.name;
+        let help: &'a str = row.help;
+        in_form(alloc, name, help, row.form)
+    }
+}
+
+/// An argument of a name, written in a form.
+fn in_form<'a>(alloc: Global, name: &'a str, help: &'a str, form: Form) -> Arg<'a>
+    ensures rule { rule_of result ≡ in_form form name.entry.now (new_rule name.entry.now) }
+    ensures local { result.global ≡ false }
+{
+    match form {
+        Form::Needed => option(alloc, name, help, ArgAction::Set).required(true),
+        Form::Number => {
+            option(alloc, name, help, ArgAction::Set).value_parser(clap::value_parser!(u64))
+        }
+        Form::Flag => option(alloc, name, help, ArgAction::SetTrue),
+        Form::Optional => option(alloc, name, help, ArgAction::Set),
+        Form::Place => place(alloc, name, help).required(true),
+        Form::OptionalPlace => place(alloc, name, help),
+    }
+}
+
+/// An option that may be left out, and what clap does where it is given.
+fn option<'a>(alloc: Global, name: &'a str, help: &'a str, action: ArgAction) -> Arg<'a>
+    ensures rule { rule_of result ≡ record (new_rule name.entry.now) { long = Some name.entry.now; action = Some action } }
+    ensures local { result.global ≡ false }
+{
+    Arg::new(alloc, name).long(name).help(help).action(action)
+}
+
+/// A word in its place, which may be left out.
+fn place<'a>(alloc: Global, name: &'a str, help: &'a str) -> Arg<'a>
+    ensures rule { rule_of result ≡ record (new_rule name.entry.now) { action = Some ArgAction.Set } }
+    ensures local { result.global ≡ false }
+{
+    Arg::new(alloc, name).help(help).action(ArgAction::Set)
+}

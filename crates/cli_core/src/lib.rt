@@ -1,0 +1,25 @@
+//! What every command stands on: the command line and the job that its words ask for; why a job has no answer, and the line that says
+//! so; inputs, which are read whole, and texts, which are written.
+#![tactic(auto)]
+
+mod argument;
+mod command;
+mod device;
+mod input;
+mod input_file;
+mod job;
+mod line_fault;
+mod parser;
+mod refusal;
+mod words;
+
+pub use device::{ended, write_answer, write_refusal, write_text};
+pub use input::{Input, read_input};
+pub use input_file::read_path;
+pub use job::{
+    DiffForm, Existing, Job, LogChoice, QuestionWords, RequestForm, RuleChoice, Service, StoreJob,
+    StoredZone, TextForm, TextJob, ZoneFiles, ZoneForm,
+};
+pub use line_fault::{JobFault, LineFault, NO_MEMORY_LINE};
+pub use refusal::{Refusal, RefusalLine};
+pub use words::{WordsFault, read_words};

@@ -1,0 +1,191 @@
+//! Why a job has no answer, and how that is told.
+
+ghost use Rattle.std.specs.Prelude.{◌≡◌, Some};
+ghost use Rattle.cli_core.specs.Refusals.{data_numbers, master_numbers, policy_numbers, refusal_number, refusal_numbers, dotted, refusal_place, refused_line};
+
+use dns_data::DataFault;
+use dns_master::MasterFault;
+use dns_names::NameFault;
+use grant_policy::PolicyFault;
+use office_model::ItemsFault;
+use std::fmt::{self, Display, Formatter, Write};
+use store_faults::StoreFault;
+use thiserror::Error;
+use zone_core::{Rcode, ZoneFault};
+
+/// Why a job has no answer, however much memory there is and whatever devices do.
+#[derive(Clone, Copy, Debug, Error)]
+pub enum Refusal {
+    /// A word of the command line is no absolute name.
+    #[error("{0}")]
+    Name(NameFault),
+    /// A word of the command line is no type that is kept.
+    #[error("records of this type are not kept")]
+    TypeNotKept,
+    /// A word of the command line is no identifier of a caller.
+    #[error("a caller is 1 to 64 of the octets a to z, A to Z, 0 to 9, -, _ and .")]
+    NoCaller,
+    /// A word of the command line is no action.
+    #[error("the action is not one of list, check, add, delete and delegate")]
+    NoAction,
+    /// A word of the command line is no rule for zones.
+    #[error("no rule for zones has this name: see zoneoffice check --help")]
+    NoRule,
+    /// The input has more than 4,194,304 octets.
+    #[error("the input has more than 4194304 octets")]
+    TooLarge,
+    /// No line of the input is `--`.
+    #[error("no line of the input is --")]
+    NoDivider,
+    /// The input is no master file.
+    #[error("{0}")]
+    Master(MasterFault),
+    /// The records are no zone.
+    #[error("{0}")]
+    Zone(ZoneFault),
+    /// The input is no policy.
+    #[error("{0}")]
+    Policy(PolicyFault),
+    /// The items are no update. Lines count from that of the whole input.
+    #[error("{0}")]
+    Items(ItemsFault),
+    /// An item of the update has a name outside the zone (`NotZone`), or is a prerequisite that does not hold.
+    #[error("item {item} of the update is refused: {}", .code.text())]
+    Unmet {
+        /// The code of the reply (RFC 2136 section 2.2).
+        code: Rcode,
+        /// The number of the item in its list, from 0.
+        item: usize,
+    },
+    /// A word of the command line is no number that the program prints for a refusal.
+    #[error("the program prints no such number")]
+    UnknownNumber,
+    /// A word of the command line is no identifier of an update.
+    #[error("an identifier is 1 to 64 of the octets a to z, A to Z, 0 to 9, -, _ and .")]
+    NoIdentifier,
+    /// The body of the update has more than 65,536 octets.
+    #[error("the body has more than 65536 octets")]
+    BodyTooLarge,
+    /// The store refuses it, or failed.
+    #[error("{0}")]
+    Store(StoreFault),
+}
+
+impl Refusal {
+    /// The published number of the refusal, and that of the code where an item is refused. The numbers of what it stands for are
+    /// those of its own fault.
+    pub const fn number(self) -> u8
+        ensures { result ≡ refusal_number self }
+    {
+        match self {
+            Refusal::Name(fault) => fault.number(),
+            Refusal::TypeNotKept => 17,
+            Refusal::NoCaller | Refusal::NoAction | Refusal::NoRule => 54,
+            Refusal::TooLarge => 30,
+            Refusal::NoDivider => 96,
+            Refusal::UnknownNumber => 98,
+            Refusal::NoIdentifier => 88,
+            Refusal::BodyTooLarge => 84,
+            Refusal::Master(fault) => fault.number(),
+            Refusal::Zone(fault) => fault.number(),
+            Refusal::Policy(fault) => fault.number(),
+            Refusal::Items(fault) => fault.number(),
+            Refusal::Unmet { code, .. } => code.number(),
+            Refusal::Store(fault) => fault.number(),
+        }
+    }
+
+    /// The line of the input that it is in, from 1, and 0 where it is of the input as a whole; `None` for a refusal without a line.
+    fn place(self) -> Option<usize>
+        ensures { result ≡ refusal_place self }
+    {
+        match self {
+            Refusal::TooLarge => Some(0),
+            Refusal::Master(fault) => fault.line(),
+            Refusal::Items(fault) => fault.line(),
+            _ => None,
+        }
+    }
+}
+
+/// The number of a fault of data, with that of the name in it.
+#[derive(Clone, Copy)]
+struct DataNumbers(DataFault);
+
+impl Display for DataNumbers {
+    ghost output = { λ n. Some (dotted (data_numbers n.0)) };
+
+    fn fmt<W: Write>(&self, f: &mut Formatter<W>) -> fmt::Result {
+        match self.0 {
+            DataFault::Name(fault) => write!(f, "{}.{}", self.0.number(), fault.number()),
+            fault => write!(f, "{}", fault.number()),
+        }
+    }
+}
+
+/// The number of a fault of a master file, with those of the data in it.
+#[derive(Clone, Copy)]
+struct MasterNumbers(MasterFault);
+
+impl Display for MasterNumbers {
+    ghost output = { λ n. Some (dotted (master_numbers n.0)) };
+
+    fn fmt<W: Write>(&self, f: &mut Formatter<W>) -> fmt::Result {
+        match self.0 {
+            MasterFault::Data { fault, .. } => {
+                write!(f, "{}.{}", self.0.number(), DataNumbers(fault))
+            }
+            fault => write!(f, "{}", fault.number()),
+        }
+    }
+}
+
+/// The number of a fault of a policy, with that of the name in it.
+#[derive(Clone, Copy)]
+struct PolicyNumbers(PolicyFault);
+
+impl Display for PolicyNumbers {
+    ghost output = { λ n. Some (dotted (policy_numbers n.0)) };
+
+    fn fmt<W: Write>(&self, f: &mut Formatter<W>) -> fmt::Result {
+        match self.0 {
+            PolicyFault::Name(_, fault) => write!(f, "{}.{}", self.0.number(), fault.number()),
+            fault => write!(f, "{}", fault.number()),
+        }
+    }
+}
+
+/// The published number of a refusal, with those of what it stands for behind it, and dots between them.
+#[derive(Clone, Copy)]
+struct Numbers(Refusal);
+
+impl Display for Numbers {
+    ghost output = { λ n. Some (dotted (refusal_numbers n.0)) };
+
+    fn fmt<W: Write>(&self, f: &mut Formatter<W>) -> fmt::Result {
+        match self.0 {
+            Refusal::Master(fault) => write!(f, "{}", MasterNumbers(fault)),
+            Refusal::Policy(fault) => write!(f, "{}", PolicyNumbers(fault)),
+            refusal => write!(f, "{}", refusal.number()),
+        }
+    }
+}
+
+/// The line that tells a refusal: `refused`, its numbers, and the line that it is in where there is one; or the code and the
+/// number of an item.
+#[derive(Clone, Copy)]
+pub struct RefusalLine(pub Refusal);
+
+impl Display for RefusalLine {
+    ghost output = { λ l. Some (refused_line l.0) };
+
+    fn fmt<W: Write>(&self, f: &mut Formatter<W>) -> fmt::Result {
+        if let Refusal::Unmet { code, item } = self.0 {
+            return writeln!(f, "refused {} item {item}", code.text());
+        }
+        match self.0.place() {
+            None => writeln!(f, "refused {}", Numbers(self.0)),
+            Some(line) => writeln!(f, "refused {} line {line}", Numbers(self.0)),
+        }
+    }
+}

@@ -1,0 +1,190 @@
+-- What the program does: the job that the words of its command line ask for, in what is around it, and the status with which it ends.
+use Rattle.std.specs.Prelude.{◌≡◌, ◌≢◌, ◌<◌, ◌⊎◌, ⊤, ℕ, List, [], codes, Option, Some, None, option_map, Result, Ok, Err, string_bytes}
+use Rattle.dns_master.specs.declared.device.DeviceFailed.{DeviceFailed}
+use Rattle.cli_core.specs.declared.job.Job.{Job}
+use Rattle.cli_core.specs.declared.job.Job.TheVariants as job
+use Rattle.cli_core.specs.declared.job.TextJob.{TextJob}
+use Rattle.cli_core.specs.declared.job.TextJob.TheVariants as text_job
+use Rattle.cli_core.specs.declared.job.StoreJob.{StoreJob}
+use Rattle.cli_core.specs.declared.job.StoreJob.TheVariants as store_job
+use Rattle.cli_core.specs.declared.job.ZoneFiles.{ZoneFiles}
+use Rattle.cli_core.specs.declared.job.DiffForm.{DiffForm}
+use Rattle.cli_core.specs.declared.job.RequestForm.{RequestForm}
+use Rattle.cli_core.specs.declared.job.RequestForm.TheVariants.{Whole, Split}
+use Rattle.cli_core.specs.declared.words.WordsFault.{WordsFault}
+use Rattle.cli_core.specs.declared.words.WordsFault.TheVariants as fault
+use Rattle.cli_core.specs.Words.{asks, job_of}
+use Rattle.cli_core.specs.Misuse.{IsReported}
+use Rattle.cli_core.specs.declared.refusal.Refusal.{Refusal}
+use Rattle.cli_core.specs.declared.line_fault.LineFault.TheVariants.{NoMemory}
+use Rattle.cli_core.specs.declared.line_fault.JobFault.{JobFault}
+use Rattle.cli_text.specs.declared.check.Findings.{Findings}
+use Rattle.cli_text.specs.declared.check.Findings.TheVariants.{Absent, Present}
+use Rattle.cli_text.specs.declared.check.Subject.{Subject}
+use Rattle.cli_text.specs.declared.check.Subject.TheVariants.{Rules, Isolation, Rights, Zone}
+use Rattle.cli_text.specs.declared.diff_fault.DiffFault.{DiffFault}
+use Rattle.cli_core.specs.Inputs.{InputOf}
+use Rattle.cli_text.specs.Apply.{apply_text}
+use Rattle.cli_text.specs.Canon.{canon_text}
+use Rattle.cli_text.specs.Request.{request_text}
+use Rattle.cli_text.specs.Split.{split_text}
+use Rattle.cli_text.specs.Rights.{rights_text}
+use Rattle.cli_text.specs.Explain.{explain_text}
+use Rattle.cli_core.specs.Replies.{line_of, IsSent, Answered}
+use Rattle.cli_text.specs.Check.{Checked}
+use Rattle.cli_text.specs.Diff.{Differs}
+use Rattle.cli_text.specs.Plan.{IsPlanned}
+use Rattle.cli_store.specs.Around.{Around}
+use Rattle.cli_store.specs.Stores.{StoresOf}
+use Rattle.cli_store.specs.Import.{ImportWritten, ZoneStored}
+use Rattle.cli_store.specs.Export.{ExportWritten, ZoneExported}
+use Rattle.cli_store.specs.Migrate.{MigrationWritten, StoreMigrated}
+use Rattle.cli_store.specs.StoreList.{ZonesPrinted}
+use Rattle.cli_store.specs.StoreLog.{LogPrinted}
+use Rattle.cli_store.specs.Serve.{Serves}
+
+-- ---- the streams
+
+-- a stream that is read: what was left to read before and after, and its failures before and after
+pub record Reading : Type 0 where
+  pub left : Option (List ℕ)
+  pub rest : Option (List ℕ)
+  pub before : ℕ
+  pub after : ℕ
+
+-- a stream that is written: what it held before and after, and its failures before and after
+pub record Writing : Type 0 where
+  pub old : Option (List ℕ)
+  pub new : Option (List ℕ)
+  pub before : ℕ
+  pub after : ℕ
+
+-- nothing was read of it
+abbrev pub IsUnread : Reading → Type 0
+IsUnread i = (i.rest ≡ i.left) × (i.after ≡ i.before)
+
+-- nothing was written to it
+abbrev pub IsIdle : Writing → Type 0
+IsIdle o = (o.new ≡ o.old) × (o.after ≡ o.before)
+
+-- standard input as an input, a file that words name, and an input that has nothing left
+abbrev pub standard : Reading → InputOf
+standard i = record { left = i.left; fine = i.after ≡ i.before; failed = i.before < i.after }
+
+abbrev pub named : Around → List ℕ → InputOf
+named a path = record { left = a.file path; fine = ⊤; failed = a.unreadable path }
+
+abbrev pub ended : InputOf
+ended = record { left = Some []; fine = ⊤; failed = ⊥ }
+
+-- ---- the exit status
+
+-- 0 where what was to be done went through, and else 1
+abbrev pub status_of : {F : Type 0} → Result (Unit {0}) F → ℕ
+status_of (Ok done) = 0
+status_of (Err fault) = 1
+
+-- 0 where a check went through and found nothing, and else 1
+abbrev pub check_status_of : Result Findings JobFault → ℕ
+check_status_of (Ok Absent) = 0
+check_status_of (Ok Present) = 1
+check_status_of (Err fault) = 1
+
+-- ---- how a job ends
+
+-- What was left to read, that the input did not fail, that it did, what is answered to it, what was written, and the status: the task was
+-- answered so, and the status is that of its outcome. So at 0 the whole answer was written.
+abbrev pub EndsTask : Option (List ℕ) → Type 0 → Type 0 → (List ℕ → Result (List ℕ) Refusal) → Writing → ℕ → Type 0
+EndsTask left fine failed answer o status = (outcome : Result (Unit {0}) JobFault)
+    × Answered left answer o.old o.new outcome fine failed o.before o.after × (status ≡ status_of outcome)
+
+-- the same of a check: at 0 the policy was read, and nothing was found in it
+abbrev pub EndsCheck : Subject → Option (List ℕ) → Type 0 → Type 0 → Writing → ℕ → Type 0
+EndsCheck subject left fine failed o status = (outcome : Result Findings JobFault)
+    × Checked subject left o.old o.new outcome fine failed o.before o.after × (status ≡ check_status_of outcome)
+
+-- The items between the zones of two files: a path that is `-` is standard input, of which nothing is left for the second file where the
+-- first is it too. Where neither is, standard input is not read.
+abbrev pub DiffersBy : Around → Reading → DiffForm → List ℕ → ZoneFiles → Writing → Result (Unit {0}) DiffFault → Type 0
+DiffersBy a i form word files o outcome =
+    let differs = λ (old new : InputOf). Differs form word old new o.old o.new outcome o.before o.after in
+    ((files.old.now ≢ codes "-") × (files.new.now ≢ codes "-") × IsUnread i × differs (named a files.old.now) (named a files.new.now))
+    ⊎ (((files.old.now ≢ codes "-") × (files.new.now ≡ codes "-") × differs (named a files.old.now) (standard i))
+    ⊎ (((files.old.now ≡ codes "-") × (files.new.now ≢ codes "-") × differs (standard i) (named a files.new.now))
+    ⊎ ((files.old.now ≡ codes "-") × (files.new.now ≡ codes "-") × differs (standard i) ended)))
+
+-- the status is that of an outcome that is so
+abbrev pub Ends : {F : Type 0} → (Result (Unit {0}) F → Type 0) → ℕ → Type 0
+Ends {F} holds status = (outcome : Result (Unit {0}) F) × holds outcome × (status ≡ status_of outcome)
+
+-- the body of the update of an input, or the bodies of its parts
+abbrev pub requested : RequestForm → List ℕ → List ℕ → Result (List ℕ) Refusal
+requested Whole word = request_text word
+requested Split word = split_text word
+
+-- A job that needs no store reads its own input and answers to its own words, and the status is 0 exactly where it went through, and a check
+-- found nothing. What is around, standard input, standard output, the job, and the status. A job whose inputs are files, or that has none, does
+-- not read standard input.
+abbrev pub TextJobEnds : Around → Reading → Writing → TextJob → ℕ → Type 0
+TextJobEnds a i o text_job.Apply status = EndsTask i.left (i.after ≡ i.before) (i.before < i.after) apply_text o status
+TextJobEnds a i o (text_job.Canon origin form) status = EndsTask i.left (i.after ≡ i.before) (i.before < i.after) (canon_text form origin.now) o status
+TextJobEnds a i o (text_job.Diff origin files form) status = Ends (λ outcome. DiffersBy a i form origin.now files o outcome) status
+TextJobEnds a i o (text_job.Request id form) status = EndsTask i.left (i.after ≡ i.before) (i.before < i.after) (requested form id.now) o status
+TextJobEnds a i o (text_job.Rights policy asked) status = IsUnread i × EndsTask (a.file policy.now) ⊤ (a.unreadable policy.now) (rights_text asked) o status
+TextJobEnds a i o (text_job.Plan policy caller) status =
+    Ends (λ outcome. IsPlanned caller.now (named a policy.now) (standard i) o.old o.new outcome o.before o.after) status
+TextJobEnds a i o (text_job.CheckPolicy policy) status = IsUnread i × EndsCheck Rules (a.file policy.now) ⊤ (a.unreadable policy.now) o status
+TextJobEnds a i o (text_job.CheckIsolation policy caller) status =
+    IsUnread i × EndsCheck (Isolation caller) (a.file policy.now) ⊤ (a.unreadable policy.now) o status
+TextJobEnds a i o (text_job.CheckRights policy name) status = IsUnread i × EndsCheck (Rights name) (a.file policy.now) ⊤ (a.unreadable policy.now) o status
+TextJobEnds a i o (text_job.CheckZone origin rules) status = EndsCheck (Zone origin rules) i.left (i.after ≡ i.before) (i.before < i.after) o status
+TextJobEnds a i o (text_job.Explain number form) status =
+    IsUnread i × EndsTask ended.left ended.fine ended.failed (explain_text (option_map (λ n. n.now) number) form) o status
+
+-- A job with a store answers to its own words, and the status is 0 exactly where it went through. What is around, the stores of paths, standard
+-- input, standard output, the trace, the job, the connection that is handed back (which shows what is left of the store that the job reached),
+-- and the status. Only an import reads standard input, and only a service writes to the trace.
+abbrev pub StoreJobEnds : {C : Type 0} → Around → StoresOf C → Reading → Writing → Writing → StoreJob → Option C → ℕ → Type 0
+StoreJobEnds a s i o t (store_job.Import zone existing) left status =
+    IsIdle t × Ends (λ outcome. ImportWritten zone.origin.now i.left o.old o.new outcome (i.after ≡ i.before) (i.before < i.after) o.before o.after
+    × ZoneStored s zone.store.now zone.origin.now existing i.left left o.old o.new outcome (i.after ≡ i.before) (i.before < i.after) o.before o.after) status
+StoreJobEnds a s i o t (store_job.Export zone form) left status =
+    IsIdle t × IsUnread i × Ends (λ outcome. ExportWritten zone.origin.now form o.old o.new outcome o.before o.after
+    × ZoneExported s zone.store.now zone.origin.now form left o.old o.new outcome o.before o.after) status
+StoreJobEnds a s i o t (store_job.Zones store) left status =
+    IsIdle t × IsUnread i × Ends (λ outcome. ZonesPrinted s store.now left o.old o.new outcome o.before o.after) status
+StoreJobEnds a s i o t (store_job.Log zone choice) left status =
+    IsIdle t × IsUnread i × Ends (λ outcome. LogPrinted s zone.store.now zone.origin.now choice left o.old o.new outcome o.before o.after) status
+StoreJobEnds a s i o t (store_job.Migrate store) left status =
+    IsIdle t × IsUnread i
+    × Ends (λ outcome. MigrationWritten o.old o.new outcome o.before o.after × StoreMigrated s store.now left o.old o.new outcome o.before o.after) status
+StoreJobEnds a s i o t (store_job.Serve service) left status =
+    IsUnread i × Ends (λ outcome. Serves a s service left o.old o.new outcome o.before o.after t.old t.new t.before t.after) status
+
+-- a job that touches no store, and has no trace
+abbrev pub IsAlone : {C : Type 0} → Option C → Writing → Type 0
+IsAlone left t = (left ≡ None) × IsIdle t
+
+abbrev pub JobEnds : {C : Type 0} → Around → StoresOf C → Reading → Writing → Writing → Job → Option C → ℕ → Type 0
+JobEnds a s i o t (job.Text j) left status = IsAlone left t × TextJobEnds a i o j status
+JobEnds a s i o t (job.Store j) left status = StoreJobEnds a s i o t j left status
+
+-- ---- words
+
+-- a text is written, and the status is 0 where it went out whole, and else 1
+abbrev pub IsToldWhole : List ℕ → Writing → ℕ → Type 0
+IsToldWhole text o status = (sent : Result (Unit {0}) DeviceFailed) × IsSent o.old o.new text sent o.before o.after × (status ≡ status_of sent)
+
+-- What was written and the status where words ask for no job: the help that they ask for; or nothing, where they are misused; or that there
+-- is no memory for them.
+abbrev pub EndsFault : WordsFault → Writing → ℕ → Type 0
+EndsFault (fault.Help text) o status = IsToldWhole (string_bytes text) o status
+EndsFault (fault.Misused text) o status = IsIdle o × (status ≡ 2)
+EndsFault fault.NoMemory o status = ((told : ℕ) × IsToldWhole (line_of NoMemory) o told) × (status ≡ 1)
+
+-- The job that the words ask for is done; or they ask for help, are misused, or there is no memory for them, and nothing is read and no store
+-- touched.
+abbrev pub WordsEnd : {C : Type 0} → Around → StoresOf C → Reading → Writing → Writing → List (List ℕ) → Option C → ℕ → Type 0
+WordsEnd a s i o t words left status =
+    ((asked : Job) × (job_of words ≡ Some (asks asked)) × JobEnds a s i o t asked left status)
+    ⊎ ((refused : WordsFault) × IsReported words refused × EndsFault refused o status × IsAlone left t × IsUnread i)

@@ -1,0 +1,184 @@
+//! What is said on standard error of a master file beside its refusal: a byte order mark before it, and the type that is not kept.
+
+use crate::surroundings::Surroundings;
+use cli_core::{Job, StoreJob, TextJob, ZoneFiles, read_words};
+use dns_data::{DataFault, RecordType};
+use dns_master::{MasterFault, Token, read_file, tokens};
+use dns_names::Name;
+use std::alloc::Global;
+use std::process::ExitCode;
+
+/// U+FEFF in UTF-8 (RFC 3629 section 6).
+const BYTE_ORDER_MARK: &[u8] = &[0xEF, 0xBB, 0xBF];
+
+/// The most octets of a type that are said: no type of the registry has as many.
+const TYPE_MAX: usize = 32;
+
+/// A master file that a command read.
+#[derive(Clone, Copy)]
+struct Input<'a> {
+    /// The origin that the command names.
+    origin: &'a str,
+    /// The file as the command names it.
+    file: &'a str,
+    text: &'a [u8],
+}
+
+/// Whether an item stands at the beginning of its line, so that it is an owner or a directive (RFC 1035 section 5.1).
+fn is_owner(text: &[u8], token: &Token<'_>) -> bool {
+    match token.start.checked_sub(1) {
+        Some(before) => text.get(before) == Some(&b'\n'),
+        None => true,
+    }
+}
+
+/// Whether an item is a TTL or a class before a type (RFC 1035 section 5.1).
+fn is_before_type(raw: &[u8]) -> bool {
+    let is_ttl = matches!(raw.first(), Some(b'0'..=b'9'));
+    let is_class = ["IN", "CS", "CH", "HS"]
+        .iter()
+        .any(|class| raw.eq_ignore_ascii_case(class.as_bytes()));
+    is_ttl || is_class
+}
+
+/// The type of the entry that begins on a line.
+fn type_on_line<'a>(text: &[u8], items: &[Token<'a>], line: usize) -> Option<&'a [u8]> {
+    let first = items.iter().find(|token| token.line == line)?;
+    items
+        .iter()
+        .filter(|token| token.entry == first.entry)
+        .filter(|token| token.start != first.start || !is_owner(text, token))
+        .map(|token| token.item.raw)
+        .find(|raw| !is_before_type(raw))
+}
+
+/// Says that a type on a line is not kept, or that data of it in the generic form are not.
+fn tell_type(rt: &HostRuntime, line: usize, name: &str) {
+    let form = match RecordType::read(name.as_bytes()) {
+        Ok(_) => " in the generic form (RFC 3597)",
+        Err(_) => "",
+    };
+    if let Ok(words) = format!(in rt.alloc(); "zoneoffice: line {line}: {name}{form} is not kept") {
+        let _ = rt.eprintln(words.as_str());
+    }
+}
+
+/// Says which type of a text on a line is not kept.
+fn tell_type_on_line(rt: &HostRuntime, text: &[u8], line: usize) {
+    let Ok(items) = tokens(rt.alloc(), text) else {
+        return;
+    };
+    let Some(raw) = type_on_line(text, &items, line) else {
+        return;
+    };
+    if raw.len() > TYPE_MAX || !raw.iter().all(u8::is_ascii_graphic) {
+        return;
+    }
+    if let Ok(name) = str::from_utf8(raw) {
+        tell_type(rt, line, name);
+    }
+}
+
+/// Says which type a master file has that is not kept, if that is why it is refused.
+fn tell_refused_type(rt: &HostRuntime, input: Input<'_>) {
+    let Ok(origin) = Name::read_absolute(rt.alloc(), input.origin.as_bytes()) else {
+        return;
+    };
+    if let Err(
+        MasterFault::Data {
+            line,
+            fault: DataFault::TypeNotKept,
+        },
+    ) = read_file(rt.alloc(), input.text, &origin)
+    {
+        tell_type_on_line(rt, input.text, line);
+    }
+}
+
+/// Says what is known of a master file beside its refusal, if it was refused.
+fn tell(rt: &HostRuntime, input: Input<'_>, status: ExitCode) {
+    if input.text.starts_with(BYTE_ORDER_MARK) {
+        let file = input.file;
+        if let Ok(words) = format!(in rt.alloc();
+            "zoneoffice: {file} begins with a byte order mark, which is read as a part of its first item"
+        ) {
+            let _ = rt.eprintln(words.as_str());
+        }
+    }
+    if status != ExitCode::SUCCESS {
+        tell_refused_type(rt, input);
+    }
+}
+
+/// The same of a file of a diff, which is read again if it is not standard input.
+fn tell_file<M: Surroundings>(
+    around: &M,
+    origin: &str,
+    path: &str,
+    standard: &[u8],
+    status: ExitCode,
+) {
+    let rt = around.machine();
+    if path == "-" {
+        return tell(
+            rt,
+            Input {
+                origin,
+                file: "standard input",
+                text: standard,
+            },
+            status,
+        );
+    }
+    if let Ok(text) = around.file(rt.alloc(), path) {
+        tell(
+            rt,
+            Input {
+                origin,
+                file: path,
+                text: &text,
+            },
+            status,
+        );
+    }
+}
+
+/// The same of the files of a diff.
+fn tell_files<M: Surroundings>(
+    around: &M,
+    origin: &str,
+    files: ZoneFiles<'_>,
+    standard: &[u8],
+    status: ExitCode,
+) {
+    tell_file(around, origin, files.old, standard, status);
+    tell_file(around, origin, files.new, standard, status);
+}
+
+/// Says on standard error what is known of the master files that words name, beside their refusal: that one begins with a byte order mark,
+/// and of which type the record is that is not kept. `standard` is what was read of standard input, and `status` how the job ended.
+pub(crate) fn tell_hints<M: Surroundings>(
+    around: &M,
+    words: &[&str],
+    standard: &[u8],
+    status: ExitCode,
+) {
+    let rt = around.machine();
+    let origin = match read_words(rt.alloc(), words) {
+        Ok(Job::Text(TextJob::Canon { origin, .. } | TextJob::CheckZone { origin, .. })) => origin,
+        Ok(Job::Store(StoreJob::Import { zone, .. })) => zone.origin,
+        Ok(Job::Text(TextJob::Diff { origin, files, .. })) => {
+            return tell_files(around, origin, files, standard, status);
+        }
+        _ => return,
+    };
+    tell(
+        rt,
+        Input {
+            origin,
+            file: "standard input",
+            text: standard,
+        },
+        status,
+    );
+}

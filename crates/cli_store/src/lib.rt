@@ -1,0 +1,39 @@
+//! The commands that need a store: to put a zone into it, to print one, to migrate it, and to serve callers.
+#![tactic(auto)]
+
+mod any_store;
+mod diagnosis;
+mod files;
+mod folding;
+mod hints;
+mod kept_input;
+mod list_laws;
+mod listening;
+mod log_choice;
+mod migration;
+mod program;
+mod service;
+mod store_file;
+mod store_list;
+mod store_log;
+mod streams;
+mod surroundings;
+mod table_job;
+mod zone_list;
+mod zone_log;
+mod zones;
+
+pub use diagnosis::Remembered;
+pub use dns_master::DeviceFailed;
+pub use files::{MachineFiles, StoreFiles};
+pub use cli_core::{JobFault, LineFault, NO_MEMORY_LINE, read_path};
+pub use list_laws::{all_changes_are_asked, asked_is_printed, each_receipt_counts_once};
+pub use listening::{CountedListener, heard, listen_at, next_of};
+pub use migration::migrate;
+pub use program::{do_job, do_store_job, do_text_job, do_words};
+pub use service::serve;
+pub use store_list::list_zones;
+pub use store_log::log;
+pub use streams::run_words;
+pub use surroundings::Surroundings;
+pub use zones::{export, import};

@@ -1,0 +1,348 @@
+//! What the program does with the words of its command line, in surroundings, with files of stores and with streams that are handed in.
+
+ghost use Rattle.std.specs.Prelude.{◌≡◌, ◌↔◌, ⊤, IsTrue, map, codes};
+ghost use Rattle.std.specs.Process.{exit_status};
+ghost use Rattle.sqlite.specs.Held.{state};
+ghost use Rattle.cli_text.specs.Plan.{IsPlanned};
+ghost use Rattle.cli_store.specs.Stores.{stores_of};
+ghost use Rattle.cli_store.specs.Program.{Ends, EndsTask, EndsCheck, DiffersBy, named, standard, requested, TextJobEnds, StoreJobEnds, JobEnds, EndsFault, WordsEnd, IsToldWhole, status_of, check_status_of};
+
+use crate::files::StoreFiles;
+use crate::migration::migrate;
+use crate::service::serve;
+use crate::store_list::list_zones;
+use crate::store_log::log;
+use crate::surroundings::{Ended, NamedFile, Surroundings};
+use crate::zones::{export, import};
+use cli_core::{
+    DiffForm, Input, Job, JobFault, NO_MEMORY_LINE, RequestForm, StoreJob, TextJob, WordsFault,
+    ZoneFiles, read_words, write_text,
+};
+use dns_master::{Sink, Source};
+use sqlite::{Alter, Connection};
+use std::fmt::Display;
+use std::process::ExitCode;
+use cli_text::{
+    Apply, Canon, DiffFault, Explain, Findings, Request, Split, Subject, Task, do_check, do_diff,
+    do_plan,
+};
+
+/// Says in words on standard error why a job was not done.
+fn complain<F: Display + Drop>(rt: &HostRuntime, fault: F) {
+    if let Ok(words) = format!(in rt.alloc(); "zoneoffice: {fault}") {
+        let _ = rt.eprintln(words.as_str());
+    }
+}
+
+/// The exit status of what was done: 0 if it went through, else 1, after the words that say why it did not.
+fn ended<F: Display + Drop>(rt: &HostRuntime, done: Result<(), F>) -> ExitCode
+    ensures { exit_status result ≡ status_of done }
+{
+    match done {
+        Ok(()) => ExitCode::SUCCESS,
+        Err(fault) => {
+            complain(rt, fault);
+            ExitCode::FAILURE
+        }
+    }
+}
+
+/// Does a task with an input and a writer.
+fn do_task<T: Task, I: Input, W: Sink>(
+    rt: &HostRuntime,
+    task: T,
+    input: &mut I,
+    output: &mut W,
+) -> ExitCode
+    ensures { EndsTask (I.left input.old) (I.fine input.old input.new) (I.failed input.old input.new) (T.answer task) (record { old = W.contents output.old; new = W.contents output.new; before = W.failures output.old; after = W.failures output.new }) (exit_status result) }
+{
+    ended(rt, task.run(rt.alloc(), input, output))
+}
+
+/// The exit status of a check: 0 if it found nothing, else 1, after the words that say why it was not done.
+fn check_status(rt: &HostRuntime, done: Result<Findings, JobFault>) -> ExitCode
+    ensures { exit_status result ≡ check_status_of done }
+{
+    match done {
+        Ok(Findings::Absent) => ExitCode::SUCCESS,
+        Ok(Findings::Present) => ExitCode::FAILURE,
+        Err(fault) => {
+            complain(rt, fault);
+            ExitCode::FAILURE
+        }
+    }
+}
+
+/// Checks what an input is, with a writer.
+fn check<I: Input, W: Sink>(
+    rt: &HostRuntime,
+    subject: Subject<'_>,
+    input: &mut I,
+    output: &mut W,
+) -> ExitCode
+    ensures { EndsCheck subject.entry (I.left input.old) (I.fine input.old input.new) (I.failed input.old input.new) (record { old = W.contents output.old; new = W.contents output.new; before = W.failures output.old; after = W.failures output.new }) (exit_status result) }
+{
+    check_status(rt, do_check(rt.alloc(), subject, input, output))
+}
+
+/// Checks the file of a path, which is a policy.
+fn check_file<M: Surroundings, W: Sink>(
+    around: &M,
+    subject: Subject<'_>,
+    path: &str,
+    output: &mut W,
+) -> ExitCode
+    ensures { EndsCheck subject.entry ((M.around around.now).file path.now) ⊤ ((M.around around.now).unreadable path.now) (record { old = W.contents output.old; new = W.contents output.new; before = W.failures output.old; after = W.failures output.new }) (exit_status result) }
+{
+    let mut file = NamedFile { around, path };
+    check(around.machine(), subject, &mut file, output)
+}
+
+/// Whether a path is standard input.
+fn is_standard(path: &str) -> bool
+    ensures { IsTrue result ↔ (path.now ≡ codes "-") }
+{
+    path == "-"
+}
+
+/// Writes the items between the zones of two files. A path that is `-` is standard input, of which nothing is left for the second file
+/// where the first is it too.
+fn diff<M: Surroundings, R: Source, W: Sink>(
+    around: &M,
+    what: (&str, DiffForm),
+    files: ZoneFiles<'_>,
+    input: &mut R,
+    output: &mut W,
+) -> Result<(), DiffFault>
+    ensures { DiffersBy (M.around around.now) (record { left = R.remaining input.old; rest = R.remaining input.new; before = R.failures input.old; after = R.failures input.new }) what.entry.1 what.entry.0.now files.entry (record { old = W.contents output.old; new = W.contents output.new; before = W.failures output.old; after = W.failures output.new }) result }
+{
+    let alloc = around.machine().alloc();
+    let mut old = NamedFile {
+        around,
+        path: files.old,
+    };
+    let mut new = NamedFile {
+        around,
+        path: files.new,
+    };
+    match (is_standard(files.old), is_standard(files.new)) {
+        (false, false) => do_diff(alloc, what, &mut old, &mut new, output),
+        (false, true) => do_diff(alloc, what, &mut old, input, output),
+        (true, false) => do_diff(alloc, what, input, &mut new, output),
+        (true, true) => do_diff(alloc, what, input, &mut Ended, output),
+    }
+}
+
+/// Writes the body of an update, or the bodies of its parts.
+fn request<I: Input, W: Sink>(
+    rt: &HostRuntime,
+    id: &str,
+    form: RequestForm,
+    input: &mut I,
+    output: &mut W,
+) -> ExitCode
+    ensures { EndsTask (I.left input.old) (I.fine input.old input.new) (I.failed input.old input.new) (requested form id.now) (record { old = W.contents output.old; new = W.contents output.new; before = W.failures output.old; after = W.failures output.new }) (exit_status result) }
+{
+    match form {
+        RequestForm::Whole => do_task(rt, Request { id }, input, output),
+        RequestForm::Split => do_task(rt, Split { id }, input, output),
+    }
+}
+
+/// Writes what an office with the policy of a path would answer a caller, by an input that has a zone and an update.
+fn plan<M: Surroundings, R: Source, W: Sink>(
+    around: &M,
+    path: &str,
+    caller: &str,
+    input: &mut R,
+    output: &mut W,
+) -> ExitCode
+    ensures { Ends (λ outcome. IsPlanned caller.now (named (M.around around.now) path.now) (standard (record { left = R.remaining input.old; rest = R.remaining input.new; before = R.failures input.old; after = R.failures input.new })) (W.contents output.old) (W.contents output.new) outcome (W.failures output.old) (W.failures output.new)) (exit_status result) }
+{
+    let rt = around.machine();
+    let mut policy = NamedFile { around, path };
+    ended(rt, do_plan(rt.alloc(), caller, &mut policy, input, output))
+}
+
+/// Does a job that needs no store, with standard input and output. The status is 0 if it went through, and a check found nothing; else
+/// 1.
+pub fn do_text_job<M: Surroundings, R: Source, W: Sink>(
+    around: &M,
+    job: TextJob<'_>,
+    input: &mut R,
+    output: &mut W,
+) -> ExitCode
+    // Each job reads its own input and answers to its own words.
+    ensures { TextJobEnds (M.around around.now) (record { left = R.remaining input.old; rest = R.remaining input.new; before = R.failures input.old; after = R.failures input.new }) (record { old = W.contents output.old; new = W.contents output.new; before = W.failures output.old; after = W.failures output.new }) job.entry (exit_status result) }
+{
+    let rt = around.machine();
+    match job {
+        TextJob::Apply => do_task(rt, Apply, input, output),
+        TextJob::Canon { origin, form } => do_task(rt, Canon { origin, form }, input, output),
+        TextJob::Diff {
+            origin,
+            files,
+            form,
+        } => ended(rt, diff(around, (origin, form), files, input, output)),
+        TextJob::Request { id, form } => request(rt, id, form, input, output),
+        TextJob::Rights {
+            policy: path,
+            asked,
+        } => do_task(rt, asked, &mut NamedFile { around, path }, output),
+        TextJob::Plan { policy, caller } => plan(around, policy, caller, input, output),
+        TextJob::CheckPolicy { policy } => check_file(around, Subject::Rules, policy, output),
+        TextJob::CheckIsolation { policy, caller } => {
+            check_file(around, Subject::Isolation(caller), policy, output)
+        }
+        TextJob::CheckRights { policy, name } => {
+            check_file(around, Subject::Rights(name), policy, output)
+        }
+        TextJob::CheckZone { origin, rules } => {
+            check(rt, Subject::Zone(origin, rules), input, output)
+        }
+        TextJob::Explain { number, form } => {
+            do_task(rt, Explain { number, form }, &mut Ended, output)
+        }
+    }
+}
+
+/// What a job hands back, if anything, and the exit status of what was done.
+fn left<C: Drop, F: Display + Drop>(
+    rt: &HostRuntime,
+    done: (Option<C>, Result<(), F>),
+) -> (Option<C>, ExitCode)
+    ensures left { result.0 ≡ done.0 }
+    ensures status { exit_status result.1 ≡ status_of done.1 }
+{
+    let (conn, done) = done;
+    (conn, ended(rt, done))
+}
+
+/// Does a job with a store, by the files of stores, with standard input and output and a trace. The connection to the store is handed
+/// back, if one was made.
+fn done<M: Surroundings, S: Alter + Drop, P: StoreFiles<S> + Drop, R: Source, W: Sink, E: Sink>(
+    around: &M,
+    files: P,
+    job: StoreJob<'_>,
+    input: &mut R,
+    output: &mut W,
+    trace: &mut E,
+) -> (Option<Connection<S>>, Result<(), JobFault>)
+    ensures { StoreJobEnds (M.around around.now) (stores_of (state S.Store) (P.finds files) (P.refuses files) (P.connects files)) (record { left = R.remaining input.old; rest = R.remaining input.new; before = R.failures input.old; after = R.failures input.new }) (record { old = W.contents output.old; new = W.contents output.new; before = W.failures output.old; after = W.failures output.new }) (record { old = E.contents trace.old; new = E.contents trace.new; before = E.failures trace.old; after = E.failures trace.new }) job.entry result.0 (status_of result.1) }
+{
+    let alloc = around.machine().alloc();
+    match job {
+        StoreJob::Import { zone, existing } => {
+            import(alloc, files, (zone, existing), input, output)
+        }
+        StoreJob::Export { zone, form } => export(alloc, files, zone, form, output),
+        StoreJob::Zones { store } => list_zones(alloc, files, store, output),
+        StoreJob::Log { zone, choice } => log(alloc, files, zone, choice, output),
+        StoreJob::Migrate { store } => migrate(alloc, files, store, output),
+        StoreJob::Serve { service } => serve(around, files, service, output, trace),
+    }
+}
+
+/// Does a job with a store, by the files of stores, with standard input and output and a trace. The status is 0 if it went through, else
+/// 1. The connection to the store is handed back, if one was made.
+pub fn do_store_job<
+    M: Surroundings,
+    S: Alter + Drop,
+    P: StoreFiles<S> + Drop,
+    R: Source,
+    W: Sink,
+    E: Sink,
+>(
+    around: &M,
+    files: P,
+    job: StoreJob<'_>,
+    input: &mut R,
+    output: &mut W,
+    trace: &mut E,
+) -> (Option<Connection<S>>, ExitCode)
+    // Each job answers to its own words, and what the connection shows is what it left of the store of its path.
+    ensures { StoreJobEnds (M.around around.now) (stores_of (state S.Store) (P.finds files) (P.refuses files) (P.connects files)) (record { left = R.remaining input.old; rest = R.remaining input.new; before = R.failures input.old; after = R.failures input.new }) (record { old = W.contents output.old; new = W.contents output.new; before = W.failures output.old; after = W.failures output.new }) (record { old = E.contents trace.old; new = E.contents trace.new; before = E.failures trace.old; after = E.failures trace.new }) job.entry result.0 (exit_status result.1) }
+{
+    let rt = around.machine();
+    left(rt, done(around, files, job, input, output, trace))
+}
+
+/// Does a job, with standard input and output, a trace, and the files of stores. The connection to the store that it reached is handed
+/// back, if it made one.
+pub fn do_job<
+    M: Surroundings,
+    S: Alter + Drop,
+    P: StoreFiles<S> + Drop,
+    R: Source,
+    W: Sink,
+    E: Sink,
+>(
+    around: &M,
+    files: P,
+    job: Job<'_>,
+    input: &mut R,
+    output: &mut W,
+    trace: &mut E,
+) -> (Option<Connection<S>>, ExitCode)
+    ensures { JobEnds (M.around around.now) (stores_of (state S.Store) (P.finds files) (P.refuses files) (P.connects files)) (record { left = R.remaining input.old; rest = R.remaining input.new; before = R.failures input.old; after = R.failures input.new }) (record { old = W.contents output.old; new = W.contents output.new; before = W.failures output.old; after = W.failures output.new }) (record { old = E.contents trace.old; new = E.contents trace.new; before = E.failures trace.old; after = E.failures trace.new }) job.entry result.0 (exit_status result.1) }
+{
+    match job {
+        Job::Text(job) => (None, do_text_job(around, job, input, output)),
+        Job::Store(job) => do_store_job(around, files, job, input, output, trace),
+    }
+}
+
+/// Writes a text, and answers whether it went out whole.
+fn told<W: Sink>(output: &mut W, text: &str) -> ExitCode
+    ensures { IsToldWhole text.now (record { old = W.contents output.old; new = W.contents output.new; before = W.failures output.old; after = W.failures output.new }) (exit_status result) }
+{
+    match write_text(output, text.as_bytes()) {
+        Ok(()) => ExitCode::SUCCESS,
+        Err(_) => ExitCode::FAILURE,
+    }
+}
+
+/// Tells why words are no job: the help that they ask for is written to standard output, with status 0 if that went through and else 1;
+/// what is wrong with them is said on standard error, with status 2.
+fn tell_fault<W: Sink>(rt: &HostRuntime, fault: WordsFault, output: &mut W) -> ExitCode
+    ensures { EndsFault fault (record { old = W.contents output.old; new = W.contents output.new; before = W.failures output.old; after = W.failures output.new }) (exit_status result) }
+{
+    match fault {
+        WordsFault::Help(text) => told(output, text.as_str()),
+        WordsFault::Misused(text) => {
+            let _ = rt.eprint(text);
+            ExitCode::from(2)
+        }
+        WordsFault::NoMemory => {
+            let _ = told(output, NO_MEMORY_LINE);
+            ExitCode::FAILURE
+        }
+    }
+}
+
+/// Does the job that words ask for. If they ask for help, it is written to standard output, with status 0 if that went through and
+/// else 1; if they ask for no job, what is wrong with them is said on standard error, with status 2. The connection to the store that
+/// the job reached is handed back, if it made one.
+pub fn do_words<
+    M: Surroundings,
+    S: Alter + Drop,
+    P: StoreFiles<S> + Drop,
+    R: Source,
+    W: Sink,
+    E: Sink,
+>(
+    around: &M,
+    files: P,
+    words: &[&str],
+    input: &mut R,
+    output: &mut W,
+    trace: &mut E,
+) -> (Option<Connection<S>>, ExitCode)
+    ensures { WordsEnd (M.around around.now) (stores_of (state S.Store) (P.finds files) (P.refuses files) (P.connects files)) (record { left = R.remaining input.old; rest = R.remaining input.new; before = R.failures input.old; after = R.failures input.new }) (record { old = W.contents output.old; new = W.contents output.new; before = W.failures output.old; after = W.failures output.new }) (record { old = E.contents trace.old; new = E.contents trace.new; before = E.failures trace.old; after = E.failures trace.new }) (map (λ s. s.now) words.now) result.0 (exit_status result.1) }
+{
+    let rt = around.machine();
+    match read_words(rt.alloc(), words) {
+        Ok(job) => do_job(around, files, job, input, output, trace),
+        Err(fault) => (None, tell_fault(rt, fault, output)),
+    }
+}

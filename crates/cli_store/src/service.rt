@@ -1,0 +1,243 @@
+//! The job `serve`: a policy, a store, and a listener.
+
+ghost use Rattle.std.specs.Prelude.{◌≡◌, ◌<◌, ⊤, ℕ, List, Option, IfErr, IfOk, string_bytes};
+ghost use Rattle.office_wire.specs.declared.serve_fault.ServeFault.{ServeFault as FaultOf};
+ghost use Rattle.sqlite.specs.Held.{state};
+ghost use Rattle.cli_core.specs.LineFaults.{GivesOf};
+ghost use Rattle.cli_store.specs.Stores.{stores_of};
+ghost use Rattle.wire_tcp.specs.Connections.{AreReported, AreServedFrom};
+ghost use Rattle.cli_store.specs.Serve.{policy_read, most_of, listening_line, IsNoListener, IsServiceTold, IsServedBy, BeginsBy, Serves};
+
+use crate::diagnosis::Remembered;
+use crate::files::StoreFiles;
+use crate::listening::CountedListener;
+use crate::store_file::open_store;
+use crate::surroundings::Surroundings;
+use cli_core::{JobFault, LineFault, Service, write_refusal, write_text};
+use wire_tcp::{Connections, Diagnosis, longest_of, patience_of, serve_connections};
+use dns_master::Sink;
+use grant_policy::{Policy, read_policy};
+use office_model::ZoneTable;
+use office_store::SqlTable;
+use sqlite::{Alter, Connection};
+use std::alloc::{AllocError, Global};
+use std::marker::Brand;
+use std::net::{SocketAddr, TcpListener};
+use std::sync::ledger::{Blank, Ledger};
+
+/// The policy of a path.
+fn policy_of<M: Surroundings>(around: &M, alloc: Global, path: &str) -> Result<Policy, LineFault>
+    ensures { GivesOf (λ policy. policy) ((M.around around.now).file path.now) policy_read result ⊤ ((M.around around.now).unreadable path.now) }
+{
+    let text = around.file(alloc, path)?;
+    Ok(read_policy(alloc, &text)?)
+}
+
+/// What is said on standard error where others than programs of this machine can connect.
+const REACHABLE: &str =
+    "zoneoffice: this is no loopback address, and whoever reaches it may name any caller";
+
+/// Says so where an address is no loopback one.
+fn warn_if_reachable(rt: &HostRuntime, address: SocketAddr) {
+    if !address.ip().is_loopback() {
+        let _ = rt.eprintln(REACHABLE);
+    }
+}
+
+/// The line that tells where the office listens. The only error is out of memory.
+fn listening_text(alloc: Global, address: SocketAddr) -> Result<String, AllocError>
+    ensures { IfOk result (λ text. (address : List ℕ) × (string_bytes text ≡ listening_line address)) }
+{
+    let address = format!(in alloc; "{address}")?;
+    format!(in alloc; "listening {address}\n")
+}
+
+/// Says on standard error that nothing can listen at an address, which the refusal's number does not tell from an input that cannot be
+/// read.
+fn complain_unheard(rt: &HostRuntime, listen: &str) {
+    if let Ok(words) = format!(in rt.alloc(); "zoneoffice: nothing can listen at {listen}") {
+        let _ = rt.eprintln(words.as_str());
+    }
+}
+
+/// A listener at an address and a port, and where it listens. `ReadFailed` comes where there can be none.
+fn listener_at<M: Surroundings>(
+    around: &M,
+    listen: &str,
+) -> Result<(TcpListener, SocketAddr), LineFault>
+    ensures { IfErr result (IsNoListener (M.around around.now) listen.now) }
+{
+    let Ok(address) = listen.parse::<SocketAddr>() else {
+        return Err(LineFault::ReadFailed);
+    };
+    match around.listen(address) {
+        Ok(heard) => Ok(heard),
+        Err(_) => Err(LineFault::ReadFailed),
+    }
+}
+
+/// A listener at an address and a port, and the line that tells where it listens. If others than programs of this machine can reach it,
+/// that is said on standard error.
+fn listening_at<M: Surroundings>(
+    around: &M,
+    listen: &str,
+) -> Result<(TcpListener, String), LineFault>
+    ensures told { IfOk result (λ listening. (address : List ℕ) × (string_bytes listening.1 ≡ listening_line address)) }
+    ensures refused { IfErr result (IsNoListener (M.around around.now) listen.now) }
+{
+    let rt = around.machine();
+    let (listener, address) = match listener_at(around, listen) {
+        Ok(heard) => heard,
+        Err(fault) => {
+            complain_unheard(rt, listen);
+            return Err(fault);
+        }
+    };
+    warn_if_reachable(rt, address);
+    let text = listening_text(rt.alloc(), address)?;
+    Ok((listener, text))
+}
+
+/// Serves connections of a listener from a table, so many as the words say.
+fn serve_listening<M: Surroundings, L: Ledger, T: ZoneTable, D: Diagnosis<T>, W: Sink, E: Sink>(
+    around: &M,
+    listener: &TcpListener,
+    blank: Blank,
+    service: Service<'_>,
+    policy: &Policy,
+    table: &mut T,
+    diagnosis: &D,
+    writer: &mut W,
+    trace: &mut E,
+) -> Result<(), JobFault>
+    requires name { blank.name ≡ L.name }
+    requires parts { blank.parts ≡ L.parts }
+    requires some { 0 < blank.parts }
+    ensures served { AreServedFrom (T.is_honest table.new) (T.holds table.old) (T.holds table.new) (T.failures table.old) (T.failures table.new) policy.now (most_of service.entry) result (E.contents trace.old) (E.contents trace.new) (E.failures trace.old) (E.failures trace.new) }
+    ensures honest { T.is_honest table.new → T.is_honest table.old }
+    ensures written { (ends : List (Option FaultOf)) × AreReported (M.around around.now).cut (most_of service.entry) ends (W.contents writer.old) (W.contents writer.new) result (W.failures writer.old) (W.failures writer.new) }
+{
+    let rt = around.machine();
+    let mut listener: CountedListener<'_, M, L> = CountedListener::new(around, listener, blank);
+    let connections = Connections {
+        clock: rt,
+        patience: patience_of(service.patience),
+        longest: longest_of(service.longest),
+        diagnosis,
+    };
+    let most = service.connections.unwrap_or(u64::MAX);
+    serve_connections(
+        rt.alloc(),
+        &connections,
+        &mut listener,
+        table,
+        policy,
+        most,
+        writer,
+        trace,
+    )
+}
+
+/// Serves connections from a table: it listens, tells where, and serves as many as the words say.
+fn serve_table<M: Surroundings, T: ZoneTable, D: Diagnosis<T>, W: Sink, E: Sink>(
+    around: &M,
+    service: Service<'_>,
+    policy: &Policy,
+    table: &mut T,
+    diagnosis: &D,
+    writer: &mut W,
+    trace: &mut E,
+) -> Result<(), JobFault>
+    ensures told { IsServiceTold (M.around around.now) service.entry.listen.now (most_of service.entry) ((table.new ≡ table.old) × (E.contents trace.new ≡ E.contents trace.old) × (E.failures trace.new ≡ E.failures trace.old)) (AreServedFrom (T.is_honest table.new) (T.holds table.old) (T.holds table.new) (T.failures table.old) (T.failures table.new) policy.now (most_of service.entry) result (E.contents trace.old) (E.contents trace.new) (E.failures trace.old) (E.failures trace.new)) (W.contents writer.old) (W.contents writer.new) result (W.failures writer.old) (W.failures writer.new) }
+    ensures honest { T.is_honest table.new → T.is_honest table.old }
+{
+    let (listener, listening) = match listening_at(around, service.listen) {
+        Ok(listening) => listening,
+        Err(fault) => return Err(write_refusal(around.machine().alloc(), writer, fault)),
+    };
+    write_text(writer, listening.as_bytes())?;
+    let blank = Blank::new(1);
+    serve_listening::<M, Brand, T, D, W, E>(
+        around, &listener, blank, service, policy, table, diagnosis, writer, trace,
+    )
+}
+
+/// Serves connections from the table of a store, and hands its connection back.
+fn serve_opened<M: Surroundings, S: Alter + Drop, L: Ledger, W: Sink, E: Sink>(
+    around: &M,
+    service: Service<'_>,
+    policy: &Policy,
+    table: SqlTable<S, L>,
+    writer: &mut W,
+    trace: &mut E,
+) -> (Connection<S>, Result<(), JobFault>)
+    ensures { IsServedBy (state S.Store) (M.around around.now) service.entry policy.now table.conn result.0 (W.contents writer.old) (W.contents writer.new) result.1 (W.failures writer.old) (W.failures writer.new) (E.contents trace.old) (E.contents trace.new) (E.failures trace.old) (E.failures trace.new) }
+{
+    let mut table = table;
+    let done = serve_table(
+        around,
+        service,
+        policy,
+        &mut table,
+        &Remembered,
+        writer,
+        trace,
+    );
+    (table.into_connection(), done)
+}
+
+/// Opens the store, listens, and serves connections by a policy that was read. The connection to the store is handed back, if one was
+/// made.
+fn serve_by<M: Surroundings, S: Alter + Drop, P: StoreFiles<S> + Drop, L: Ledger, W: Sink, E: Sink>(
+    around: &M,
+    files: P,
+    service: Service<'_>,
+    policy: &Policy,
+    blank: Blank,
+    writer: &mut W,
+    trace: &mut E,
+) -> (Option<Connection<S>>, Result<(), JobFault>)
+    requires name { blank.name ≡ L.name }
+    requires parts { blank.parts ≡ L.parts }
+    requires some { 0 < blank.parts }
+    ensures { BeginsBy (M.around around.now) (stores_of (state S.Store) (P.finds files) (P.refuses files) (P.connects files)) service.entry policy.now result.0 (W.contents writer.old) (W.contents writer.new) result.1 (W.failures writer.old) (W.failures writer.new) (E.contents trace.old) (E.contents trace.new) (E.failures trace.old) (E.failures trace.new) }
+{
+    let alloc = around.machine().alloc();
+    let opened: Result<SqlTable<S, L>, _> = open_store(alloc, files, service.store, blank);
+    match opened {
+        Ok(table) => {
+            let (conn, done) = serve_opened(around, service, policy, table, writer, trace);
+            (Some(conn), done)
+        }
+        Err(unreached) => {
+            let fault = LineFault::from(unreached.fault);
+            (unreached.conn, Err(write_refusal(alloc, writer, fault)))
+        }
+    }
+}
+
+/// The job `serve`: reads the policy, opens the store, listens, and serves connections one after the other, so many of them as the
+/// words say. A line tells where it listens, and one tells each connection that ended by a fault; or a line tells the refusal that
+/// comes first: of the policy, of the store, or `ReadFailed` where there can be no listener or a connection cannot be had. A line of
+/// the trace tells of each connection in which requests were answered SERVFAIL. The connection to the store is handed back, if one was
+/// made.
+pub fn serve<M: Surroundings, S: Alter + Drop, P: StoreFiles<S> + Drop, W: Sink, E: Sink>(
+    around: &M,
+    files: P,
+    service: Service<'_>,
+    writer: &mut W,
+    trace: &mut E,
+) -> (Option<Connection<S>>, Result<(), JobFault>)
+    // The line of the first refusal is written, of the policy or of the store of its path; or connections were served from that store by
+    // that policy, as `serve_connections` says, which is what the store is left with, and their lines are written.
+    ensures { Serves (M.around around.now) (stores_of (state S.Store) (P.finds files) (P.refuses files) (P.connects files)) service.entry result.0 (W.contents writer.old) (W.contents writer.new) result.1 (W.failures writer.old) (W.failures writer.new) (E.contents trace.old) (E.contents trace.new) (E.failures trace.old) (E.failures trace.new) }
+{
+    let alloc = around.machine().alloc();
+    match policy_of(around, alloc, service.policy) {
+        Ok(policy) => {
+            let blank = Blank::new(1);
+            serve_by::<M, S, P, Brand, W, E>(around, files, service, &policy, blank, writer, trace)
+        }
+        Err(fault) => (None, Err(write_refusal(alloc, writer, fault))),
+    }
+}

@@ -1,0 +1,122 @@
+-- What `plan` prints: what the office would answer to an update of a zone by a caller, and what that would change, of an input that is a
+-- master file, a line `--`, and items.
+use Rattle.std.specs.Prelude.{◌≡◌, ℕ, List, [], ◌∷◌, ◌++◌, codes, decimal, Option, Some, None, Result, Ok, Err}
+use Rattle.std.specs.List.{flat_map}
+use Rattle.dns_data.specs.declared.record.Record.{Record}
+use Rattle.dns_data.specs.Text.{record_line}
+use Rattle.grant_policy.specs.declared.rule.Rule.{Rule}
+use Rattle.grant_policy.specs.Documents.{document_of}
+use Rattle.grant_policy.specs.Reading.{identifier_of, policy_of}
+use Rattle.zone_core.specs.Zones.{ZoneOf, serial_of}
+use Rattle.zone_core.specs.Updates.{UpdateOf}
+use Rattle.zone_core.specs.Effects.{zone_after}
+use Rattle.zone_core.specs.Changes.{ChangeOf}
+use Rattle.office_model.specs.declared.reply.UpdateReply.{UpdateReply}
+use Rattle.office_model.specs.declared.reply.UpdateReply.TheVariants.{NoError}
+use Rattle.office_core.specs.Machine.{zone_refusal}
+use Rattle.office_core.specs.Steps.{held_in, change_made}
+use Rattle.office_model.specs.ReplyWords.{reply_words}
+use Rattle.cli_text.specs.declared.plan.Asker.{Asker}
+use Rattle.cli_core.specs.declared.refusal.Refusal.{Refusal}
+use Rattle.cli_core.specs.declared.refusal.Refusal.TheVariants.{NoCaller, NoDivider}
+use Rattle.cli_core.specs.declared.line_fault.JobFault.{JobFault}
+use Rattle.cli_text.specs.declared.plan_fault.PlanFault.{PlanFault}
+use Rattle.cli_text.specs.declared.plan_fault.PlanFault.TheVariants.{Policy, Input}
+use Rattle.cli_core.specs.LineFaults.{◌>>=◌, or_refused, limited, of_policies, Makes}
+use Rattle.cli_core.specs.Replies.{Answered}
+use Rattle.cli_text.specs.Parts.{divided}
+use Rattle.cli_text.specs.Apply.{zone_of_text, update_behind}
+use Rattle.cli_core.specs.Inputs.{InputOf}
+
+-- ---- who asks
+
+-- a caller, and the rules of a policy
+pub record AskerOf : Type 0 where
+  pub rules : List Rule
+  pub caller : List ℕ
+
+abbrev pub asker_in : Asker → AskerOf
+asker_in a = record { rules = a.policy; caller = a.caller }
+
+-- the caller that a word is
+abbrev pub caller_in : List ℕ → Result (List ℕ) Refusal
+caller_in word = or_refused (identifier_of word) NoCaller
+
+-- a caller, and the policy of a text
+abbrev pub asker_of : List ℕ → List ℕ → Result AskerOf Refusal
+asker_of caller text = of_policies (policy_of (document_of text)) >>= λ rules. Ok (record { rules = rules; caller = caller })
+
+-- the caller that a word is, and the policy that is the input
+abbrev pub asker_read : List ℕ → List ℕ → Result AskerOf Refusal
+asker_read word input = caller_in word >>= λ caller. limited input >>= asker_of caller
+
+-- ---- the answer
+
+abbrev pub reply_line : UpdateReply → List ℕ
+reply_line reply = reply_words reply ++ 10 ∷ []
+
+-- a record behind a sign
+abbrev pub signed_line : List ℕ → Record → List ℕ
+signed_line sign r = sign ++ 32 ∷ (record_line r ++ 10 ∷ [])
+
+abbrev pub signed_lines : List ℕ → List Record → List ℕ
+signed_lines sign records = flat_map (signed_line sign) records
+
+-- the records that go, and those that come
+abbrev pub change_lines : Option ChangeOf → List ℕ
+change_lines None = []
+change_lines (Some c) = signed_lines (codes "-") c.removed ++ signed_lines (codes "+") c.added
+
+abbrev pub serial_line : ZoneOf → List ℕ
+serial_line zone = codes "serial " ++ decimal (serial_of zone) ++ 10 ∷ []
+
+-- the reply; and of an update that is made its change, and the serial behind it
+abbrev pub plan_lines : ZoneOf → UpdateOf → Option UpdateReply → List ℕ
+plan_lines zone update (Some refused) = reply_line refused
+plan_lines zone update None =
+    let after = zone_after zone update in reply_line NoError ++ (change_lines (change_made zone.records after.records) ++ serial_line after)
+
+-- what the office would answer to an update of a zone, and change
+abbrev pub planned : AskerOf → ZoneOf → UpdateOf → List ℕ
+planned asker zone update = plan_lines zone update (zone_refusal asker.rules asker.caller zone.origin update (held_in zone))
+
+-- ---- all of it
+
+-- what is printed of an input, whatever its size
+abbrev pub plan_behind : AskerOf → List ℕ → Result (List ℕ) Refusal
+plan_behind asker input =
+    or_refused (divided input) NoDivider >>= λ parts. zone_of_text parts.file >>= λ zone. update_behind parts >>= λ update. Ok (planned asker zone update)
+
+-- what is printed of an input
+abbrev pub plan_text : AskerOf → List ℕ → Result (List ℕ) Refusal
+plan_text asker input = limited input >>= plan_behind asker
+
+-- ---- two inputs
+
+-- what is printed of the input that is the policy, by itself: nothing, if it has one and the word is a caller
+abbrev pub asker_text : List ℕ → List ℕ → Result (List ℕ) Refusal
+asker_text word input = asker_read word input >>= λ asker. Ok []
+
+-- The word of the caller, what was left to read of the policy, what the writer held before and after, how it went, that the input did not
+-- fail, that it did, and the writer's failures before and after: the caller and the policy that were read, and nothing is written; or
+-- their refusal is.
+abbrev pub IsAskerRead : List ℕ → Option (List ℕ) → Option (List ℕ) → Option (List ℕ) → Result Asker JobFault → Type 0 → Type 0 → ℕ → ℕ → Type 0
+IsAskerRead word left before after (Ok asker) fine failed writes writes_after =
+    Makes left (asker_read word) (Ok (asker_in asker)) × fine × (after ≡ before) × (writes_after ≡ writes)
+IsAskerRead word left before after (Err fault) fine failed writes writes_after =
+    Answered left (asker_text word) before after (Err fault) fine failed writes writes_after
+
+-- what is answered to the zone and its update, where the policy was read
+abbrev pub IsAnswered : List ℕ → InputOf → InputOf → Option (List ℕ) → Option (List ℕ) → Result (Unit {0}) JobFault → ℕ → ℕ → Type 0
+IsAnswered word policy input before after result writes writes_after =
+    (asker : AskerOf) × Makes policy.left (asker_read word) (Ok asker) × policy.fine
+    × Answered input.left (plan_text asker) before after result input.fine input.failed writes writes_after
+
+-- The word of the caller, what is known of the policy and of the other input, what the writer held before and after, how it went, and the
+-- writer's failures before and after: the policy was refused, or not read, and the other input was let be; or else the input was
+-- answered by it.
+abbrev pub IsPlanned : List ℕ → InputOf → InputOf → Option (List ℕ) → Option (List ℕ) → Result (Unit {0}) PlanFault → ℕ → ℕ → Type 0
+IsPlanned word policy input before after (Err (Policy fault)) writes writes_after =
+    Answered policy.left (asker_text word) before after (Err fault) policy.fine policy.failed writes writes_after × input.fine
+IsPlanned word policy input before after (Err (Input fault)) writes writes_after = IsAnswered word policy input before after (Err fault) writes writes_after
+IsPlanned word policy input before after (Ok done) writes writes_after = IsAnswered word policy input before after (Ok done) writes writes_after

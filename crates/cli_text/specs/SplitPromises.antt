@@ -1,0 +1,46 @@
+-- What the parts of an update have of it.
+use Rattle.std.specs.Prelude.{◌≡◌, ◌≢◌, ℕ, ◌^◌, ◌<◌, ◌≤◌, length, List, [], ◌∷◌, ◌++◌}
+use Rattle.std.specs.List.{AllByRecursion, filter, flat_map}
+use Rattle.std.specs.List.Sorted.{IsPermutation}
+use Rattle.dns_names.specs.Order.{same_name}
+use Rattle.zone_core.specs.declared.update.Prerequisite.{Prerequisite}
+use Rattle.zone_core.specs.declared.update.Operation.{Operation}
+use Rattle.zone_core.specs.Serials.{IsLess, serial_sum}
+use Rattle.zone_core.specs.Updates.{UpdateOf, acted_name, tested_name}
+use Rattle.cli_text.specs.Pieces.{split_of}
+
+-- no operation is at the name of a prerequisite
+abbrev pub IsBefore : List Operation → Prerequisite → Type 0
+IsBefore operations p = AllByRecursion (λ op. acted_name op ≢ tested_name p) operations
+
+-- no operation is at the name of a prerequisite of a later part, whether it is one of these or of a part before
+abbrev pub AreTestedFirst : List Operation → List UpdateOf → Type 0
+AreTestedFirst operations [] = Unit {0}
+AreTestedFirst operations (u ∷ us) = AllByRecursion (IsBefore operations) u.prerequisites × AreTestedFirst (operations ++ u.operations) us
+
+-- The parts have the operations in their order, and each prerequisite once; and no part before that of a prerequisite has an operation at
+-- its name.
+pub record IsSplit (tests : List Prerequisite) (operations : List Operation) (parts : List UpdateOf) : Type 0 where
+  pub in_order : flat_map (λ u. u.operations) parts ≡ operations
+  pub once : IsPermutation tests (flat_map (λ u. u.prerequisites) parts)
+  pub first : AreTestedFirst [] parts
+
+abbrev pub SplitsArePartsOf : Type 0
+SplitsArePartsOf = (id : List ℕ) (tests : List Prerequisite) (operations : List Operation) → IsSplit tests operations (split_of id tests operations)
+
+-- at most 64 prerequisites and 256 operations
+abbrev pub HasFewItems : UpdateOf → Type 0
+HasFewItems u = (length u.prerequisites ≤ 64) × (length u.operations ≤ 256)
+
+-- at most 64 prerequisites at each name
+abbrev pub AreFewAtNames : List Prerequisite → Type 0
+AreFewAtNames tests = (name : List (List ℕ)) → length (filter (λ p. same_name name (tested_name p)) tests) ≤ 64
+
+-- then no part has more items than an update may have, however many there are in all
+abbrev pub SplitsHaveFewItems : Type 0
+SplitsHaveFewItems =
+    (id : List ℕ) (tests : List Prerequisite) (operations : List Operation) → AreFewAtNames tests → AllByRecursion HasFewItems (split_of id tests operations)
+
+-- a serial that is greater than another stays so if both are advanced as often (RFC 1982)
+abbrev pub AdvancesKeepOrder : Type 0
+AdvancesKeepOrder = (s t n : ℕ) → s < 2 ^ 32 → t < 2 ^ 32 → IsLess s t → IsLess (serial_sum s n) (serial_sum t n)

@@ -1,0 +1,349 @@
+//! What is true of a policy whatever is asked: which of its rules never decide, whether a caller is isolated, and who may do what. And what
+//! is wrong in a zone.
+
+ghost use Rattle.std.specs.Prelude.{◌≡◌, ◌++◌, ◌<◌, ℕ, IfOk, OnOk, decimal, option_map};
+ghost use Rattle.cli_text.specs.RightsCheck.{IsRightsText};
+ghost use Rattle.dns_names.specs.Spelling.{name_text};
+ghost use Rattle.cli_core.specs.LineFaults.{Gives, GivesOf};
+ghost use Rattle.cli_text.specs.Check.{rules_in, name_if, asked_in, checking_of, checked_read, id_text, idle_head, idle_line, idle_text, findings_of, IsReport, right_text, other_text, exposure_line, isolation_line, exposures_of, IsIsolationReport, IsReportOn, Reports, Checked};
+
+use crate::canon::{read_name, zone_of_file};
+use crate::rights::read_caller;
+use crate::rights_check::rights_list;
+use crate::zone_check::{RuleFilter, filter_of, zone_report};
+use cli_core::{Input, JobFault, LineFault, RuleChoice, read_input, write_refusal, write_text};
+use dns_master::Sink;
+use dns_names::Name;
+use grant_policy::{
+    Exposure, Identifier, IdleRule, Policy, Right, Rule, idle_rules, isolation, read_policy,
+};
+use std::alloc::{AllocError, Global};
+use zone_core::Zone;
+
+/// What is checked.
+#[derive(Clone, Copy)]
+pub enum Subject<'a> {
+    /// Which of its rules never decide.
+    Rules,
+    /// Whether the caller that this word names is isolated.
+    Isolation(&'a str),
+    /// Who may do what, at the name that this word is, or at all names.
+    Rights(Option<&'a str>),
+    /// What other name servers refuse or warn of in the zone of this origin, by these rules.
+    Zone(&'a str, RuleChoice<'a>),
+}
+
+/// Whether a check found something.
+#[derive(Clone, Copy)]
+pub enum Findings {
+    /// Nothing.
+    Absent,
+    /// What it wrote.
+    Present,
+}
+
+/// What is asked of an input, by words that were read.
+#[derive(Drop)]
+enum Asked {
+    Rules,
+    Isolation(Identifier),
+    Rights(Option<Name>),
+    Zone(Name, RuleFilter),
+}
+
+/// What is checked, of an input that was read.
+#[derive(Drop)]
+enum Checking {
+    Rules(Policy),
+    Isolation(Identifier, Policy),
+    Rights(Option<Name>, Policy),
+    Zone(Zone, RuleFilter),
+}
+
+/// What a check found, and the text that tells it.
+#[derive(Drop)]
+pub(crate) struct Report {
+    pub(crate) findings: Findings,
+    pub(crate) text: Vec<u8>,
+}
+
+/// The name that a word is, if one is given.
+pub fn name_if(alloc: Global, word: Option<&str>) -> Result<Option<Name>, LineFault>
+    ensures { Gives (λ name. name) result (name_if (option_map (λ w. w.now) word.entry)) }
+{
+    match word {
+        None => Ok(None),
+        Some(word) => Ok(Some(read_name(alloc, word)?)),
+    }
+}
+
+/// The origin and the rules of a zone to check. The refusal of the rules comes first.
+fn zone_asked(alloc: Global, origin: &str, rules: RuleChoice<'_>) -> Result<Asked, LineFault>
+    ensures { Gives (λ wanted. wanted) result (asked_in (Subject.Zone origin.entry rules.entry)) }
+{
+    let filter = filter_of(rules)?;
+    Ok(Asked::Zone(read_name(alloc, origin)?, filter))
+}
+
+/// What words ask for.
+fn asked_in(alloc: Global, subject: Subject<'_>) -> Result<Asked, LineFault>
+    ensures { Gives (λ wanted. wanted) result (asked_in subject.entry) }
+{
+    match subject {
+        Subject::Rules => Ok(Asked::Rules),
+        Subject::Isolation(word) => Ok(Asked::Isolation(read_caller(alloc, word)?)),
+        Subject::Rights(word) => Ok(Asked::Rights(name_if(alloc, word)?)),
+        Subject::Zone(origin, rules) => zone_asked(alloc, origin, rules),
+    }
+}
+
+/// The policy of a text, whose octets are given back.
+fn policy_in(alloc: Global, text: Vec<u8>) -> Result<Policy, LineFault>
+    ensures { Gives (λ policy. policy) result (rules_in text.items) }
+{
+    Ok(read_policy(alloc, &text)?)
+}
+
+/// What is checked, of the text of an input.
+fn checking_of(alloc: Global, wanted: Asked, text: Vec<u8>) -> Result<Checking, LineFault>
+    ensures { Gives (λ checking. checking) result (checking_of wanted text.items) }
+{
+    match wanted {
+        Asked::Rules => Ok(Checking::Rules(policy_in(alloc, text)?)),
+        Asked::Isolation(caller) => Ok(Checking::Isolation(caller, policy_in(alloc, text)?)),
+        Asked::Rights(name) => Ok(Checking::Rights(name, policy_in(alloc, text)?)),
+        Asked::Zone(origin, filter) => {
+            Ok(Checking::Zone(zone_of_file(alloc, origin, text)?, filter))
+        }
+    }
+}
+
+/// What is checked, of what a reader gives. The refusals of the words come before those of the input.
+fn checked_read<R: Input>(
+    alloc: Global,
+    subject: Subject<'_>,
+    reader: &mut R,
+) -> Result<Checking, LineFault>
+    ensures { GivesOf (λ checking. checking) (R.left reader.old) (checked_read subject.entry) result (R.fine reader.old reader.new) (R.failed reader.old reader.new) }
+{
+    let wanted = asked_in(alloc, subject)?;
+    let text = read_input(alloc, reader)?;
+    checking_of(alloc, wanted, text)
+}
+
+/// Appends a space, and the id of the rule of a place.
+fn push_id(rules: &[Rule], place: usize, text: &mut Vec<u8>) -> Result<(), AllocError>
+    ensures { OnOk result (text.new.items ≡ text.old.items ++ id_text rules.now place) }
+{
+    text.push(b' ')?;
+    match rules.get(place) {
+        Some(rule) => text.extend_from_slice(rule.id.as_bytes()),
+        None => Ok(()),
+    }
+}
+
+/// The beginning of the line of an idle rule: its place, from 0, and its id.
+fn idle_head(alloc: Global, rules: &[Rule], place: usize) -> Result<Vec<u8>, AllocError>
+    ensures { IfOk result (λ text. text.items ≡ idle_head rules.now place) }
+{
+    let head = format!(in alloc; "idle {place}")?;
+    let mut text = Vec::from_slice(alloc, head.as_bytes())?;
+    push_id(rules, place, &mut text)?;
+    Ok(text)
+}
+
+/// The line of an idle rule: its place, its id, and the ids of the rules that take its questions.
+fn idle_line(alloc: Global, rules: &[Rule], idle: &IdleRule) -> Result<Vec<u8>, AllocError>
+    ensures { IfOk result (λ text. text.items ≡ idle_line rules.now idle.now) }
+{
+    let mut text = idle_head(alloc, rules, idle.rule)?;
+    for taker in &idle.takers {
+        push_id(rules, *taker, &mut text)?;
+    }
+    text.push(b'\n')?;
+    Ok(text)
+}
+
+/// The lines of idle rules.
+fn idle_text(alloc: Global, rules: &[Rule], idle: &[IdleRule]) -> Result<Vec<u8>, AllocError>
+    ensures { IfOk result (λ text. text.items ≡ idle_text rules.now idle.now) }
+{
+    let mut text = Vec::new(alloc);
+    for rule in idle {
+        let line = idle_line(alloc, rules, rule)?;
+        text.extend_from_slice(&line)?;
+    }
+    Ok(text)
+}
+
+/// Whether there are idle rules.
+fn findings_of(idle: &[IdleRule]) -> Findings
+    ensures { result ≡ findings_of idle.now }
+{
+    match idle {
+        [] => Findings::Absent,
+        _ => Findings::Present,
+    }
+}
+
+/// The report on the rules of a policy. The only error is out of memory.
+fn rules_report(alloc: Global, policy: &Policy) -> Result<Report, AllocError>
+    ensures { IfOk result (λ report. IsReport policy.now report.findings report.text.items) }
+{
+    let idle = idle_rules(alloc, policy)?;
+    let text = idle_text(alloc, policy.rules(), &idle)?;
+    let findings = findings_of(&idle);
+    Ok(Report { findings, text })
+}
+
+/// Appends a type, an action and the id of the rule that grants it, with a space before each.
+fn push_right(rules: &[Rule], right: Right, text: &mut Vec<u8>) -> Result<(), AllocError>
+    ensures { OnOk result (text.new.items ≡ text.old.items ++ right_text rules.now right) }
+{
+    text.push(b' ')?;
+    text.extend_from_slice(right.record_type.text().as_bytes())?;
+    text.push(b' ')?;
+    text.extend_from_slice(right.action.text().as_bytes())?;
+    push_id(rules, right.rule, text)
+}
+
+/// Appends a space, and another caller, or `*` for any that no rule names.
+fn push_other(other: &Option<Identifier>, text: &mut Vec<u8>) -> Result<(), AllocError>
+    ensures { OnOk result (text.new.items ≡ text.old.items ++ other_text other.now) }
+{
+    text.push(b' ')?;
+    match other {
+        None => text.extend_from_slice(b"*"),
+        Some(caller) => text.extend_from_slice(caller.as_bytes()),
+    }
+}
+
+/// A word, and a name behind it.
+fn named(alloc: Global, word: &str, name: &Name) -> Result<Vec<u8>, AllocError>
+    ensures { IfOk result (λ text. text.items ≡ word.now ++ name_text name.now) }
+{
+    let line = format!(in alloc; "{word}{name}")?;
+    Vec::from_slice(alloc, line.as_bytes())
+}
+
+/// What tells of an exposure: `soa`, the name, and the right; or `shared`, the name, what the caller may do there, the other
+/// caller, and what that may do.
+fn exposure_line(alloc: Global, rules: &[Rule], exposure: &Exposure) -> Result<Vec<u8>, AllocError>
+    ensures { IfOk result (λ text. text.items ≡ exposure_line rules.now exposure.now) }
+{
+    match exposure {
+        Exposure::Soa { name, right } => {
+            let mut text = named(alloc, "soa ", name)?;
+            push_right(rules, *right, &mut text)?;
+            Ok(text)
+        }
+        Exposure::Shared {
+            name,
+            own,
+            other,
+            theirs,
+        } => {
+            let mut text = named(alloc, "shared ", name)?;
+            push_right(rules, *own, &mut text)?;
+            push_other(other, &mut text)?;
+            push_right(rules, *theirs, &mut text)?;
+            Ok(text)
+        }
+    }
+}
+
+/// What tells whether a caller is isolated.
+fn isolation_line(
+    alloc: Global,
+    rules: &[Rule],
+    found: &Option<Exposure>,
+) -> Result<Vec<u8>, AllocError>
+    ensures { IfOk result (λ text. text.items ≡ isolation_line rules.now found.now) }
+{
+    match found {
+        None => Vec::from_slice(alloc, b"isolated"),
+        Some(exposure) => exposure_line(alloc, rules, exposure),
+    }
+}
+
+/// Whether something keeps a caller from being isolated.
+fn exposures_of(found: &Option<Exposure>) -> Findings
+    ensures { result ≡ exposures_of found.now }
+{
+    match found {
+        None => Findings::Absent,
+        Some(_) => Findings::Present,
+    }
+}
+
+/// The report on the isolation of a caller. The only error is out of memory.
+fn isolation_report(
+    alloc: Global,
+    policy: &Policy,
+    caller: &Identifier,
+) -> Result<Report, AllocError>
+    ensures { IfOk result (λ report. IsIsolationReport policy.now caller.now report.findings report.text.items) }
+{
+    let found = isolation(alloc, policy, caller)?;
+    let mut text = isolation_line(alloc, policy.rules(), &found)?;
+    text.push(b'\n')?;
+    let findings = exposures_of(&found);
+    Ok(Report { findings, text })
+}
+
+/// What is printed of the rights of callers. The only error is out of memory.
+fn rights_report(alloc: Global, policy: &Policy, name: &Option<Name>) -> Result<Report, AllocError>
+    ensures { IfOk result (λ report. IsRightsText name.now policy.now report.text.items × (report.findings ≡ Findings.Absent)) }
+{
+    let text = rights_list(alloc, policy, name)?;
+    Ok(Report {
+        findings: Findings::Absent,
+        text,
+    })
+}
+
+/// The report on what is checked. The only error is out of memory.
+fn report_on(alloc: Global, checking: &Checking) -> Result<Report, AllocError>
+    ensures { IfOk result (λ report. IsReportOn checking.now report.findings report.text.items) }
+{
+    match checking {
+        Checking::Rules(policy) => rules_report(alloc, policy),
+        Checking::Isolation(caller, policy) => isolation_report(alloc, policy, caller),
+        Checking::Rights(name, policy) => rights_report(alloc, policy, name),
+        Checking::Zone(zone, rules) => zone_report(alloc, zone, *rules),
+    }
+}
+
+/// The report on the policy that a reader gives.
+fn report_read<R: Input>(
+    alloc: Global,
+    subject: Subject<'_>,
+    reader: &mut R,
+) -> Result<Report, LineFault>
+    ensures { Reports subject.entry (R.left reader.old) result (R.fine reader.old reader.new) (R.failed reader.old reader.new) }
+{
+    let checking = checked_read(alloc, subject, reader)?;
+    Ok(report_on(alloc, &checking)?)
+}
+
+/// Checks the policy that an input is. Of the rules, what is written is a line for each that never decides, in order: `idle`, its place
+/// from 0, its id, and the ids of the rules that take its questions. Of the isolation of a caller it is `isolated`, or what keeps the
+/// caller from that: `soa`, a name, and a type, an action and a rule by which the caller may see an SOA there; or `shared`, a name, what
+/// the caller may do there, another caller or `*` for any that no rule names, and what that one may do. Otherwise one line tells the
+/// refusal that comes first: of the caller, that the policy is too large, or what is wrong in it.
+pub fn do_check<R: Input, W: Sink>(
+    alloc: Global,
+    subject: Subject<'_>,
+    reader: &mut R,
+    writer: &mut W,
+) -> Result<Findings, JobFault>
+    ensures { Checked subject.entry (R.left reader.old) (W.contents writer.old) (W.contents writer.new) result (R.fine reader.old reader.new) (R.failed reader.old reader.new) (W.failures writer.old) (W.failures writer.new) }
+{
+    match report_read(alloc, subject, reader) {
+        Ok(report) => {
+            write_text(writer, &report.text)?;
+            Ok(report.findings)
+        }
+        Err(fault) => Err(write_refusal(alloc, writer, fault)),
+    }
+}

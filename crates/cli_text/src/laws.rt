@@ -1,0 +1,47 @@
+//! What the definitions promise.
+
+ghost use Rattle.std.specs.Prelude.{◌≡◌, ◌↔◌, List, ℕ, Some};
+ghost use Rattle.cli_text.specs.Canon.{ZonesAreReadAgain};
+ghost use Rattle.cli_text.specs.Diff.{DiffsLead, DiffsAreMet, DiffsTell, OperationsTell, DiffsHaveRoom, DiffsAreMadeBeside, OperationsAreGuarded, DiffsAreApplied};
+ghost use Rattle.cli_text.specs.Parts.{Parts, IsDivided, divided};
+ghost use Rattle.cli_text.specs.SplitPromises.{SplitsArePartsOf, SplitsHaveFewItems, AdvancesKeepOrder};
+
+/// A text is parted at its first line that is a divider, and at no other place.
+pub fn text_is_divided()
+    ensures { (text : List ℕ) (parts : Parts) → (divided text ≡ Some parts) ↔ IsDivided text parts }
+{}
+
+/// A zone whose records are exported and printed in either form, and whose text is read and built again, is that zone, if its text
+/// is not too long for a master file.
+pub fn zones_are_read_again()
+    ensures { ZonesAreReadAgain }
+{}
+
+/// The operations between two zones lead from the one to the other, and the prerequisites before them are met in the one. If there are
+/// no more than an update has, the items that `diff` prints are read as this update, and `apply` prints of the one the zone to which
+/// they lead.
+pub fn diffs_lead()
+    ensures lead { DiffsLead }
+    ensures met { DiffsAreMet }
+    ensures applied { DiffsAreApplied }
+{}
+
+/// In a zone in which the prerequisites of a diff are met, the operations make of each record set that they change what it is in the new
+/// zone, and leave the others: the sets that change have the data of the old zone, and no record is there for which RFC 2136 section
+/// 3.4.2.2 leaves out what comes. There are prerequisites exactly where there are operations.
+pub fn diffs_are_guarded()
+    ensures told { DiffsTell }
+    ensures acted { OperationsTell }
+    ensures room { DiffsHaveRoom }
+    ensures beside { DiffsAreMadeBeside }
+    ensures bare { OperationsAreGuarded }
+{}
+
+/// The parts of an update have its operations in their order and each of its prerequisites once, and no part before that of a prerequisite
+/// has an operation at its name. If there are at most 64 prerequisites at each name, no part has more items than an update may have. A
+/// serial that is greater than another stays so if both are advanced as often.
+pub fn splits_are_parts()
+    ensures parts { SplitsArePartsOf }
+    ensures few { SplitsHaveFewItems }
+    ensures serials { AdvancesKeepOrder }
+{}

@@ -1,4 +1,0 @@
-pub mod CommandLemmas
-pub mod NumberWordLemmas
-pub mod PlainLemmas
-pub mod MisuseLemmas

@@ -1,4 +1,0 @@
-pub mod Commands
-pub mod Words
-pub mod PlainForms
-pub mod Misuse

@@ -1,4 +1,0 @@
-use Rattle.connections.proofs.lingering.linger.Given as goal
-
-abbrev pub ghosts-drop_counted : goal.ghosts-drop_counted
-ghosts-drop_counted g a = record { name = a.blank.name; parts = a.blank.parts }

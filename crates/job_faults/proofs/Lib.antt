@@ -1,6 +1,0 @@
-pub mod DeviceLemmas
-pub mod JobLemmas
-pub mod SendLemmas
-pub mod StepLemmas
-pub mod RefusalNumberLemmas
-pub mod RefusalTableLemmas

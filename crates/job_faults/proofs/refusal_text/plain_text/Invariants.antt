@@ -1,8 +1,0 @@
-use Rattle.std.proofs.Common.{◌≡◌, take}
-use Rattle.std.specs.Prelude.{map, string_bytes}
-use Rattle.job_faults.specs.RefusalNumbers.{row_of}
-use Rattle.job_faults.specs.RefusalTexts.{text_of}
-use Rattle.job_faults.proofs.refusal_text.plain_text.Given as goal
-
-abbrev pub invariant-loop-row : goal.invariant-loop-row
-invariant-loop-row l = string_bytes l.text ≡ text_of (map row_of (take l.row-index l.rows))

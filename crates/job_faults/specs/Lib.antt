@@ -1,9 +1,0 @@
-pub mod Device
-pub mod Inputs
-pub mod Refusals
-pub mod LineFaults
-pub mod Replies
-pub mod RefusalTables
-pub mod RefusalNumbers
-pub mod RefusalTexts
-pub mod RefusalLaws

@@ -1,5 +1,0 @@
-use Rattle.office_json.proofs.FormLaws.{update_only}
-use Rattle.office_json.proofs.update.read_update.Goals as goal
-
-pub returns-clause-only : goal.returns-clause-only
-returns-clause-only c = λ id update h. rw (← update_only c.args.body.now id update h) c.update_of_body.ensures.exact

@@ -1,8 +1,0 @@
--- What the program sees of the request of a delegation.
-use Rattle.office_json.specs.declared.delegation.RequestedDelegation.{RequestedDelegation}
-use Rattle.office_json.specs.Delegating.{request_of}
-use Rattle.office_json.specs.Reading.{RequestBody}
-
--- a request, with its lists in place of rows
-abbrev pub body_of : RequestedDelegation → RequestBody
-body_of body = record { id = body.id; request = request_of body.request }

@@ -1,7 +1,0 @@
-use Rattle.std.proofs.Common.{◌≡◌, take, Ok}
-use Rattle.office_rows.specs.RowReading.{each_read, changed_behind}
-use Rattle.office_rows.proofs.gathering.behind_by.Given as goal
-
--- what the rows so far have
-abbrev pub invariant-loop-row : goal.invariant-loop-row
-invariant-loop-row l = each_read (changed_behind l.count) (take l.row-index l.rows) ≡ Ok l.changed.items

@@ -1,5 +1,0 @@
-use Rattle.office_rows.proofs.LaterChangeLaws.{histories_are_one}
-use Rattle.office_rows.proofs.laws.histories_are_one.Goals as goal
-
-pub returns : goal.returns
-returns c = histories_are_one

@@ -1,5 +1,0 @@
-use Rattle.office_rows.proofs.StateLaws.{order_does_not_count}
-use Rattle.office_rows.proofs.laws.order_does_not_count.Goals as goal
-
-pub returns : goal.returns
-returns c = order_does_not_count

@@ -1,5 +1,0 @@
-use Rattle.office_rows.proofs.ReceiptRowLaws as law
-use Rattle.office_rows.proofs.laws.receipt_rows_are_apart.Goals as goal
-
-pub returns : goal.returns
-returns c = law.receipt_rows_are_apart

@@ -1,5 +1,0 @@
-use Rattle.office_rows.proofs.StateChecks.{states_are_by_table}
-use Rattle.office_rows.proofs.laws.states_are_by_table.Goals as goal
-
-pub returns : goal.returns
-returns c = states_are_by_table

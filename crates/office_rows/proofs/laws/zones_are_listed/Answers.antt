@@ -1,5 +1,0 @@
-use Rattle.office_rows.proofs.StateLaws.{zones_are_listed}
-use Rattle.office_rows.proofs.laws.zones_are_listed.Goals as goal
-
-pub returns : goal.returns
-returns c = zones_are_listed

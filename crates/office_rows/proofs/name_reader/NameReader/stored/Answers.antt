@@ -1,5 +1,0 @@
-use Rattle.office_rows.proofs.ColumnLaws.{name_also}
-use Rattle.office_rows.proofs.name_reader.NameReader.stored.Goals as goal
-
-pub returns-in-Ok-clause-exact : goal.returns-in-Ok-clause-exact
-returns-in-Ok-clause-exact c = name_also c.args.text.now c.in-Ok.name c.in-Ok.ensures.exact

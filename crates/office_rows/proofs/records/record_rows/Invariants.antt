@@ -1,6 +1,0 @@
-use Rattle.std.proofs.Common.{◌≡◌, map, take}
-use Rattle.office_rows.specs.RecordRows.{record_row}
-use Rattle.office_rows.proofs.records.record_rows.Given as goal
-
-abbrev pub invariant-loop-rr : goal.invariant-loop-rr
-invariant-loop-rr l = l.rows.items ≡ map (record_row l.origin) (take l.rr-index l.records)

@@ -1,7 +1,0 @@
-use Rattle.std.proofs.Common.{not, ◌∙◌}
-use Rattle.dns_names.specs.Order.{same_name}
-use Rattle.office_rows.proofs.ListLemmas.{count_is}
-use Rattle.office_rows.proofs.zones.records_first.Goals as goal
-
-pub returns-clause-value : goal.returns-clause-value
-returns-clause-value c = c.unwrap_or.ensures ∙ count_is (λ x. not (same_name x.origin c.args.origin.now)) c.args.records.now c.other_record.result c.other_record.ensures

@@ -1,7 +1,0 @@
-use Rattle.std.proofs.Common.{take}
-use Rattle.std.specs.List.{AllByRecursion}
-use Rattle.dns_data.specs.Rdata.{IsRecord}
-use Rattle.office_state.proofs.record_lines.reveal_records.Given as goal
-
-abbrev pub invariant-loop-record : goal.invariant-loop-record
-invariant-loop-record l = AllByRecursion IsRecord (take l.record-index l.records)

@@ -1,0 +1,52 @@
+-- The parts of a number, read one after the other.
+use Rattle.std.proofs.Common.{◌≡◌, ◌∙◌, ap, ℕ, ◌+◌, List, [], ◌∷◌, ◌++◌, drop, map, Option, Some, None, refl, sym, append_assoc, Bool, true, false, cond, option_map}
+use Rattle.std.specs.Prelude.{◌&&◌, bytes_eq, find, option_and_then}
+use Rattle.std.specs.Borrow.{Bor}
+use Rattle.refusals.specs.declared.row.NumberPlace.{NumberPlace}
+use Rattle.refusals.specs.Tables.{RowOf}
+use Rattle.refusals.specs.Numbers.{behind, may_be, row_in, row_of, rows_from}
+use Rattle.refusals.specs.declared.row.RefusalRow.{RefusalRow}
+
+-- rows that were found, before those of the other parts
+abbrev pub with_front : List RowOf → Option (List RowOf) → Option (List RowOf)
+with_front found more = option_map (λ rows. found ++ rows) more
+
+abbrev pub parts_from : List (Bor (List ℕ)) → ℕ → List (List ℕ)
+parts_from parts i = map (λ part. part.now) (drop i parts)
+
+pub front_none : (more : Option (List RowOf)) → more ≡ with_front [] more
+front_none None = refl
+front_none (Some rows) = refl
+
+front_more : (found : List RowOf) (row : RowOf) (more : Option (List RowOf))
+    → with_front found (option_map (λ rows. row ∷ rows) more) ≡ with_front (found ++ row ∷ []) more
+front_more found row None = refl
+front_more found row (Some rows) = ap (λ (l : List RowOf). Some l) (sym (append_assoc found (row ∷ []) rows))
+
+module _ (all : List RowOf) (parts : List (Bor (List ℕ))) (found : List RowOf) (at : NumberPlace) (i : ℕ) (part : Bor (List ℕ)) where
+  abbrev after_row : Option RowOf → Option (List RowOf)
+  after_row o = with_front found (option_and_then (λ row. option_map (λ rows. row ∷ rows) (rows_from all (behind row.kind) (parts_from parts (i + 1)))) o)
+
+  pub rows_more : (row : RowOf) → drop i parts ≡ part ∷ drop (i + 1) parts → Some row ≡ row_in all at part.now
+      → with_front found (rows_from all at (parts_from parts i)) ≡ with_front (found ++ row ∷ []) (rows_from all (behind row.kind) (parts_from parts (i + 1)))
+  rows_more row here e =
+      ap (λ (l : List (Bor (List ℕ))). with_front found (rows_from all at (map (λ p. p.now) l))) here
+      ∙ (ap after_row (sym e) ∙ front_more found row (rows_from all (behind row.kind) (parts_from parts (i + 1))))
+
+  pub rows_stop : drop i parts ≡ part ∷ drop (i + 1) parts → None ≡ row_in all at part.now
+      → with_front found (rows_from all at (parts_from parts i)) ≡ None
+  rows_stop here e =
+      ap (λ (l : List (Bor (List ℕ))). with_front found (rows_from all at (map (λ p. p.now) l))) here ∙ ap after_row (sym e)
+
+-- ---- a row that is found
+
+pub found_row : (all : List RefusalRow) (at : NumberPlace) (part : List ℕ)
+    → option_map row_of (find (λ row. may_be row.kind at && bytes_eq row.number.now part) all) ≡ row_in (map row_of all) at part
+found_row [] at part = refl
+found_row (row ∷ all) at part = by_test (may_be row.kind at && bytes_eq row.number.now part) (found_row all at part)
+  where
+    by_test : (b : Bool)
+        → option_map row_of (find (λ r. may_be r.kind at && bytes_eq r.number.now part) all) ≡ row_in (map row_of all) at part
+        → option_map row_of (cond b (Some row) (find (λ r. may_be r.kind at && bytes_eq r.number.now part) all)) ≡ cond b (Some (row_of row)) (row_in (map row_of all) at part)
+    by_test true more = refl
+    by_test false more = more

@@ -1,0 +1,60 @@
+//! What the contracts of the commands over stores and sockets refuse. A function has the contract of the one of `cli_store` that it
+//! calls; each edit in must-fail makes the call wrong in one idea, and the prover refuses it.
+#![tactic(auto)]
+
+ghost use Rattle.std.specs.Prelude.{◌≡◌, ◌+◌, List, Option, length};
+ghost use Rattle.std.specs.Process.{exit_status};
+ghost use Rattle.sqlite.specs.Held.{state};
+ghost use Rattle.office_wire.specs.declared.serve_fault.ServeFault.{ServeFault as FaultOf};
+ghost use Rattle.wire_tcp.specs.Connections.{AreReported, AreServedFrom};
+ghost use Rattle.cli_store.specs.Stores.{stores_of};
+ghost use Rattle.cli_store.specs.Program.{JobEnds};
+
+use cli_core::{Job, StoreJob};
+use wire_tcp::{Connections, Diagnosis, Listener};
+use dns_master::{Sink, Source};
+use grant_policy::Policy;
+use office_model::ZoneTable;
+use sqlite::{Alter, Connection};
+use std::alloc::Global;
+use std::process::ExitCode;
+use std::time::Clock;
+use cli_store::{JobFault, StoreFiles, Surroundings};
+
+/// `serve_connections`.
+pub fn serve_connections<H: Listener, T: ZoneTable, D: Diagnosis<T>, C: Clock, W: Sink, E: Sink>(
+    alloc: Global,
+    from: &Connections<'_, C, D>,
+    listener: &mut H,
+    table: &mut T,
+    policy: &Policy,
+    most: u64,
+    writer: &mut W,
+    trace: &mut E,
+) -> Result<(), JobFault>
+    ensures served { AreServedFrom (T.is_honest table.new) (T.holds table.old) (T.holds table.new) (T.failures table.old) (T.failures table.new) policy.now most result (E.contents trace.old) (E.contents trace.new) (E.failures trace.old) (E.failures trace.new) }
+    ensures written { (ends : List (Option FaultOf)) × AreReported (H.cut listener.old) most ends (W.contents writer.old) (W.contents writer.new) result (W.failures writer.old) (W.failures writer.new) × (H.taken listener.new ≡ H.taken listener.old + length ends) }
+{
+    wire_tcp::serve_connections(alloc, from, listener, table, policy, most, writer, trace)
+}
+
+/// `do_job`.
+pub fn do_job<
+    M: Surroundings,
+    S: Alter + Drop,
+    P: StoreFiles<S> + Drop,
+    R: Source,
+    W: Sink,
+    E: Sink,
+>(
+    around: &M,
+    files: P,
+    job: Job<'_>,
+    input: &mut R,
+    output: &mut W,
+    trace: &mut E,
+) -> (Option<Connection<S>>, ExitCode)
+    ensures { JobEnds (M.around around.now) (stores_of (state S.Store) (P.finds files) (P.refuses files) (P.connects files)) (record { left = R.remaining input.old; rest = R.remaining input.new; before = R.failures input.old; after = R.failures input.new }) (record { old = W.contents output.old; new = W.contents output.new; before = W.failures output.old; after = W.failures output.new }) (record { old = E.contents trace.old; new = E.contents trace.new; before = E.failures trace.old; after = E.failures trace.new }) job.entry result.0 (exit_status result.1) }
+{
+    cli_store::do_job(around, files, job, input, output, trace)
+}

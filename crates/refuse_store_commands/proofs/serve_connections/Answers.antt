@@ -1,6 +1,0 @@
--- One tactic for what the function ensures, so that a wrong body is refused soon.
-use Rattle.std.proofs.Common.{rules}
-use Rattle.refuse_store_commands.proofs.serve_connections.Goals as goal
-
-pub returns : goal.returns
-returns c = search rules

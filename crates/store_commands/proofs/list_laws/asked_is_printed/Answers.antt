@@ -1,5 +1,0 @@
-use Rattle.store_commands.proofs.LogLaws.{changes_are_asked, receipts_are_asked}
-use Rattle.store_commands.proofs.list_laws.asked_is_printed.Goals as goal
-
-pub returns : goal.returns
-returns c = record { changes = changes_are_asked; receipts = receipts_are_asked }

@@ -1,5 +1,0 @@
-use Rattle.store_commands.proofs.ZoneListLaws.{each_receipt_counts_once}
-use Rattle.store_commands.proofs.list_laws.each_receipt_counts_once.Goals as goal
-
-pub returns : goal.returns
-returns c = each_receipt_counts_once

@@ -1,4 +1,0 @@
-use Rattle.store_commands.proofs.program.do_store_job.Goals as goal
-
-pub returns : goal.returns
-returns g c = rw (c.left.ensures.left, c.left.ensures.status) c.done.ensures

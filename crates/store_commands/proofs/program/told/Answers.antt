@@ -1,8 +1,0 @@
-use Rattle.std.proofs.Common.{Ok, Err, refl}
-use Rattle.store_commands.proofs.program.told.Goals as goal
-
-pub returns-in-Ok : goal.returns-in-Ok
-returns-in-Ok g c = (Ok c.in-Ok.field-0, rw c.as_bytes.ensures.value at c.in-Ok.ensures, refl)
-
-pub returns-in-Err : goal.returns-in-Err
-returns-in-Err g c = (Err c.in-Err.field-0, rw c.as_bytes.ensures.value at c.in-Err.ensures, refl)

@@ -1,4 +1,0 @@
-use Rattle.store_commands.proofs.service.serve.Given as goal
-
-abbrev pub ghosts-serve_by : goal.ghosts-serve_by
-ghosts-serve_by g a = record { name = a.blank.name; parts = a.blank.parts }

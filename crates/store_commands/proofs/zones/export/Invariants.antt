@@ -1,4 +1,0 @@
-use Rattle.store_commands.proofs.zones.export.Given as goal
-
-abbrev pub ghosts-asked_by : goal.ghosts-asked_by
-ghosts-asked_by g a = record { name = a.blank.name; parts = a.blank.parts }

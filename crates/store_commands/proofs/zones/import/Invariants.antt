@@ -1,4 +1,0 @@
-use Rattle.store_commands.proofs.zones.import.Given as goal
-
-abbrev pub ghosts-put_by : goal.ghosts-put_by
-ghosts-put_by g a = record { name = a.blank.name; parts = a.blank.parts }

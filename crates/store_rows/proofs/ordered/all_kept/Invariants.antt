@@ -1,0 +1,7 @@
+use Rattle.std.proofs.Common.{◌≡◌, take, Ok}
+use Rattle.store_rows.specs.RowReading.{each_read, kept_in}
+use Rattle.store_rows.proofs.ordered.all_kept.Given as goal
+
+-- those of the rows so far
+abbrev pub invariant-loop-row : goal.invariant-loop-row
+invariant-loop-row l = each_read kept_in (take l.row-index l.rows) ≡ Ok l.kept.items

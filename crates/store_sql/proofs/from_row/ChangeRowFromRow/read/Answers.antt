@@ -1,0 +1,25 @@
+use Rattle.std.proofs.Common.{drop, sym, subst, rules}
+use Rattle.std.specs.Int.{w64}
+use Rattle.std.specs.Prelude.{FitsSigned}
+use Rattle.std.proofs.lemmas.Int.{to_z-of_z}
+use Rattle.store_sql.specs.Stores.{IsReadableRow}
+use Rattle.store_sql.proofs.RowLemmas.{seven}
+use Rattle.store_sql.proofs.from_row.ChangeRowFromRow.read.Goals as goal
+
+pub returns-clause-found : goal.returns-clause-found
+returns-clause-found c =
+    let one : FitsSigned w64 c.in_ok-number_at.field-0 = search rules in
+    let two : FitsSigned w64 c.in_ok-number_at-2.field-0 = search rules in
+    let three : FitsSigned w64 c.in_ok-number_at-3.field-0 = search rules in
+    let four : FitsSigned w64 c.in_ok-number_at-4.field-0 = search rules in
+    let origin = c.in_ok-text_at.ensures.found in
+    let number = c.in_ok-number_at.ensures.found in
+    let side = c.in_ok-number_at-2.ensures.found in
+    let owner = c.in_ok-text_at-2.ensures.found in
+    let kind = c.in_ok-number_at-3.ensures.found in
+    let words = c.in_ok-text_at-3.ensures.found in
+    let ttl = c.in_ok-number_at-4.ensures.found in
+    let same = seven (drop c.args.first c.args.row.now) _ _ _ _ _ _ _ (search rules) origin.1 number.1 side.1 owner.1 kind.1 words.1 ttl.1 in (
+      rw (to_z-of_z w64 c.in_ok-number_at.field-0 one, to_z-of_z w64 c.in_ok-number_at-2.field-0 two, to_z-of_z w64 c.in_ok-number_at-3.field-0 three, to_z-of_z w64 c.in_ok-number_at-4.field-0 four) same,
+      subst IsReadableRow (sym same) (origin.2, (tt, (tt, (owner.2, (tt, (words.2, (tt, tt))))))),
+    )

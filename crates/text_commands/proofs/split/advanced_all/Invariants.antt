@@ -1,7 +1,0 @@
-use Rattle.std.proofs.Common.{◌≡◌, map, take}
-use Rattle.text_commands.specs.Filling.{lent_operations}
-use Rattle.text_commands.specs.Split.{advanced}
-use Rattle.text_commands.proofs.split.advanced_all.Given as goal
-
-abbrev pub invariant-loop-operation : goal.invariant-loop-operation
-invariant-loop-operation l = l.all.items ≡ map (advanced l.by) (lent_operations (take l.operation-index l.operations))

@@ -1,7 +1,0 @@
-use Rattle.std.proofs.Common.{◌∙◌}
-use Rattle.zone_cache.specs.Cache.{cached_in}
-use Rattle.zone_cache.proofs.CacheLemmas.{is_found}
-use Rattle.zone_cache.proofs.cached_zone.is_cached.Goals as goal
-
-pub returns : goal.returns
-returns c = c.is_some.ensures ∙ is_found c.cached_at.result (cached_in c.args.cache.now) c.args.origin.now c.cached_at.ensures.found c.cached_at.ensures.none

@@ -1,9 +1,0 @@
-use Rattle.std.proofs.Common.{◌≡◌, ap, sym, subst, ◌∙◌}
-use Rattle.dns_names.proofs.NameLemmas.{same_name-Decides}
-use Rattle.zone_cache.specs.History.{Remembers}
-use Rattle.zone_cache.proofs.history.ahead_in.Goals as goal
-
-pub returns-in-Some-clause-hidden : goal.returns-in-Some-clause-hidden
-returns-in-Some-clause-hidden c = λ s held there remembers.
-    let own : c.in-Some.zone.origin ≡ c.args.origin.now = (same_name-Decides c.in-Some.zone.origin c.args.origin.now).0 (sym c.if-eq.ensures) in
-    c.ahead.ensures.hidden held.changes ((subst (Remembers s) c.in-Some.is remembers) held (ap s.zones own ∙ there))

@@ -1,7 +1,0 @@
-use Rattle.std.proofs.Common.{◌≡◌}
-use Rattle.zone_cache.proofs.history.first_shown.Given as goal
-
-abbrev pub invariant-loop-touched : goal.invariant-loop-touched
-invariant-loop-touched l = record {
-  same : l.grants ≡ l.fn.grants;
-}
