@@ -9,10 +9,10 @@ use crate::refusal::Refusal;
 use dns_master::{DeviceFailed, MasterFault};
 use dns_names::NameFault;
 use grant_policy::PolicyFault;
-use office_model::ItemsFault;
 use std::alloc::AllocError;
 use store_faults::StoreFault;
 use thiserror::Error;
+use update_lines::ItemsFault;
 use zone_core::ZoneFault;
 
 /// Why a job has no answer. Each is reported by a line in place of the answer.

@@ -7,10 +7,10 @@ use dns_data::DataFault;
 use dns_master::MasterFault;
 use dns_names::NameFault;
 use grant_policy::PolicyFault;
-use office_model::ItemsFault;
 use std::fmt::{self, Display, Formatter, Write};
 use store_faults::StoreFault;
 use thiserror::Error;
+use update_lines::ItemsFault;
 use zone_core::{Rcode, ZoneFault};
 
 /// Why a job has no answer, however much memory there is and whatever devices do.
