@@ -1,5 +1,5 @@
 -- The parts of a number, read one after the other.
-use Rattle.std.proofs.Common.{◌≡◌, ◌∙◌, ap, ℕ, ◌+◌, List, [], ◌∷◌, ◌++◌, drop, map, Option, Some, None, refl, sym, append_assoc, Bool, true, false, cond, option_map}
+use Rattle.std.proofs.Common.{◌≡◌, ◌∙◌, ap, ap₂, ℕ, ◌+◌, List, [], ◌∷◌, ◌++◌, drop, map, Option, Some, None, refl, sym, append_assoc, Bool, true, false, cond, option_map}
 use Rattle.std.specs.Prelude.{◌&&◌, bytes_eq, find, option_and_then}
 use Rattle.std.specs.Option.{option_or}
 use Rattle.std.specs.Borrow.{Bor}
@@ -88,3 +88,8 @@ numbered_append (x ∷ xs) ys number = by_test (bytes_eq x.number number) (numbe
 pub mapped_or : {S T : Type 0} (f : S → T) (a b : Option S) → option_map f (option_or a b) ≡ option_or (option_map f a) (option_map f b)
 mapped_or f None b = refl
 mapped_or f (Some x) b = refl
+
+-- the row that is found in one list, or else in the next
+pub numbered_or : (a b : Option RefusalRow) (xs ys : List RowOf) (number : List ℕ) → option_map row_of a ≡ row_numbered xs number
+    → option_map row_of b ≡ row_numbered ys number → option_map row_of (option_or a b) ≡ row_numbered (xs ++ ys) number
+numbered_or a b xs ys number p q = mapped_or row_of a b ∙ (ap₂ (λ x y. option_or x y) p q ∙ numbered_append xs ys number)

@@ -2,22 +2,21 @@
 
 ghost use Rattle.std.specs.Prelude.{◌≡◌};
 
+use refusals::words;
 use std::alloc::{AllocError, AllocFailed};
-use thiserror::Error;
+use std::error::Error;
+use std::fmt::{self, Display, Formatter, Write};
 use zone_core::UpdateFault;
 
 /// What is wrong with item lines. Lines count from 1.
-#[derive(Clone, Copy, Debug, PartialEq, Eq, Error)]
+#[derive(Clone, Copy, Debug, PartialEq, Eq)]
 pub enum ItemsFault {
     /// A parenthesis or a quote is wrong, or an entry is no item: the line of the parenthesis or quote, else that of the
     /// entry's first item.
-    #[error("line {0} is no item of an update")]
     BadLine(usize),
     /// The items make no update.
-    #[error("{0}")]
     Update(UpdateFault),
     /// Memory ran out. This says nothing of the text.
-    #[error("out of memory")]
     NoMemory,
 }
 
@@ -45,6 +44,19 @@ impl ItemsFault {
         }
     }
 }
+
+/// What is wrong, in words.
+impl Display for ItemsFault {
+    fn fmt<W: Write>(&self, f: &mut Formatter<W>) -> fmt::Result {
+        match self {
+            ItemsFault::BadLine(line) => write!(f, "line {line} {}", words(self.number())),
+            ItemsFault::Update(fault) => write!(f, "{fault}"),
+            ItemsFault::NoMemory => f.write_str(words(self.number())),
+        }
+    }
+}
+
+impl Error for ItemsFault {}
 
 impl From<UpdateFault> for ItemsFault {
     ghost use Rattle.update_lines.specs.declared.items_fault.ItemsFault.TheVariants.{Update};
