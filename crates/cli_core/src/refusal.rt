@@ -95,7 +95,8 @@ impl Refusal {
     /// What is wrong, in words, where it is not the fault of a lower crate.
     fn own_words(self) -> &'static str {
         match self {
-            Refusal::NoCaller => "a caller is 1 to 64 of the octets a to z, A to Z, 0 to 9, -, _ and .",
+            Refusal::NoCaller =>
+                "a caller is 1 to 64 of the octets a to z, A to Z, 0 to 9, -, _ and .",
             Refusal::NoAction => "the action is not one of list, check, add, delete and delegate",
             Refusal::NoRule => "no rule for zones has this name: see zoneoffice check --help",
             Refusal::NoIdentifier =>

@@ -6,7 +6,6 @@ use refusals::words;
 use std::error::Error;
 use std::fmt::{self, Display, Formatter, Write};
 
-
 /// Why a request is refused before the office is asked.
 #[derive(Clone, Copy, Debug, PartialEq, Eq)]
 pub enum Refusal {

@@ -5,9 +5,7 @@ ghost use Rattle.refusals.specs.Tables.{row_of, input_rows, rows};
 ghost use Rattle.refusals.specs.Numbers.{may_be, row_numbered, words_of, parts_of, row_in, rows_from, explained};
 
 use crate::row::{NumberPlace, RefusalRow};
-use crate::table::{
-    Line, codes, commands, data, files, names, policies, requests, stores, zones,
-};
+use crate::table::{Line, codes, commands, data, files, names, policies, requests, stores, zones};
 use itoa::Buffer;
 use std::alloc::{AllocError, Global};
 

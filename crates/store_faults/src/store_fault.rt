@@ -5,11 +5,11 @@ ghost use Rattle.store_faults.specs.StoreFaults.{store_fault_number, of_rows, of
 ghost use Rattle.store_faults.specs.declared.store_fault.StoreFault.TheVariants.{NoMemory};
 
 use refusals::words;
+use sqlite::{Error as StoreError, ErrorCode};
+use std::alloc::{AllocError, AllocFailed};
 use std::error::Error;
 use std::fmt::{self, Display, Formatter, Write};
 use store_sql::RowsFault;
-use sqlite::{Error as StoreError, ErrorCode};
-use std::alloc::{AllocError, AllocFailed};
 use zone_core::ZoneFault;
 
 /// Why a call of the table in SQLite was refused. What it holds has not changed.

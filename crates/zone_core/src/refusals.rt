@@ -148,7 +148,9 @@ impl DelegationFault {
 impl Display for DelegationFault {
     fn fmt<W: Write>(&self, f: &mut Formatter<W>) -> fmt::Result {
         match self {
-            DelegationFault::TooManyItems => f.write_str("a delegation makes at most 256 operations"),
+            DelegationFault::TooManyItems => f.write_str(
+                "a delegation makes at most 256 operations",
+            ),
             fault => f.write_str(words(fault.number())),
         }
     }
