@@ -1,6 +1,6 @@
 //! Prerequisites under which the record sets that a diff changes are as in the old zone, and no record keeps out what comes.
 
-ghost use Rattle.std.specs.Prelude.{◌≡◌, ◌==◌, ◌++◌, IfOk, OnOk, map};
+ghost use Rattle.std.specs.Prelude.{◌≡◌, ◌++◌, IfOk, OnOk, map};
 ghost use Rattle.std.specs.List.{filter, find, flat_map, list_all, list_any, zip};
 ghost use Rattle.std.specs.Option.{option_copied};
 ghost use Rattle.zone_core.specs.Updates.{adds_soa};

@@ -13,7 +13,7 @@ use crate::same::{has_same, is_at, is_equal};
 use dns_data::{Data, Record, RecordType, Serial, Soa};
 use dns_names::Name;
 use std::alloc::{AllocError, Global};
-use zone_core::{Change, Operation, Zone, serial_add, serial_less};
+use zone_core::{Change, Operation, Zone, has_type, serial_add, serial_less};
 
 /// The operations that lead from one zone to another of the same origin. In the old zone they make the records of the new one,
 /// and no record that both have goes meanwhile. Where the serial of the new zone is not greater, it is one further than that of the
