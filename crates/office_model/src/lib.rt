@@ -18,6 +18,6 @@ pub use receipt::{Addition, Receipt};
 pub use record_lines::{RecordLines, first_line};
 pub use reply::{NumberedChange, Reply, Right, SeenChange, UpdateReply};
 pub use reply_text::reply_words;
-pub use request::{Call, Request};
+pub use request::{Call, Query, Request};
 pub use table::ZoneTable;
 pub use table_fault::{StepFault, TableFault};

@@ -15,29 +15,36 @@ pub enum Request {
         id: Identifier,
         update: Update,
     },
-    /// To list the records of a zone.
+    /// To read something, which changes nothing.
+    Read(Query),
+}
+
+/// What is asked of the office without changing anything.
+#[derive(Drop)]
+pub enum Query {
+    /// The records of a zone.
     List {
         origin: Name,
     },
-    /// To list the records of a zone that are within a name.
+    /// The records of a zone that are within a name.
     ListWithin {
         origin: Name,
         top: Name,
     },
-    /// To list the records of a zone as a master file (RFC 1035 section 5.1).
+    /// The records of a zone as a master file (RFC 1035 section 5.1).
     File {
         origin: Name,
     },
-    /// To tell the delegations in a zone.
+    /// The delegations in a zone.
     Delegations {
         origin: Name,
     },
-    /// To tell the changes of a zone, from this number on.
+    /// The changes of a zone, from this number on.
     Changes {
         origin: Name,
         from: u32,
     },
-    /// To tell what the policy decides of the records of a type at a name.
+    /// What the policy decides of the records of a type at a name.
     Rights {
         name: Name,
         record_type: RecordType,
