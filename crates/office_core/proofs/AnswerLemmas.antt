@@ -5,24 +5,23 @@ use Rattle.grant_policy.specs.declared.rule.Rule.{Rule}
 use Rattle.zone_core.specs.Zones.{ZoneOf, IsZone}
 use Rattle.zone_core.specs.Updates.{UpdateOf, IsUpdate}
 use Rattle.zone_core.specs.Accounts.{IsMadeBy}
-use Rattle.zone_core.specs.Delegations.{report}
 use Rattle.zone_core.proofs.VersionLemmas.{updates_keep}
 use Rattle.zone_core.proofs.MakeLemmas.{updates_make}
 use Rattle.zone_core.proofs.OutsideLemmas.{outsides_are_first}
 use Rattle.zone_core.proofs.UnmetLemmas.{verdicts_are_first}
-use Rattle.zone_core.proofs.ReportLemmas.{reports_are_exact}
 use Rattle.office_model.specs.declared.receipt.Receipt.{Receipt}
 use Rattle.office_model.specs.declared.reply.UpdateReply.{UpdateReply}
 use Rattle.office_model.specs.declared.reply.UpdateReply.TheVariants as replies
 use Rattle.office_model.specs.declared.request.Call.{Call}
 use Rattle.office_model.specs.declared.request.Request.{Request}
 use Rattle.office_model.specs.declared.request.Request.TheVariants as requests
-use Rattle.office_model.specs.Replies.{ReplyOf, to_update, id_reused, delegations}
+use Rattle.office_model.specs.Replies.{ReplyOf, to_update, id_reused}
 use Rattle.office_model.specs.States.{Held, State, AreZones, AreReceipts, zone_held}
 use Rattle.office_core.specs.Machine.{Turn, receipt}
 use Rattle.office_core.specs.Runs.{Answer, HasUpdate, HaveUpdates, turn, answers}
-use Rattle.office_core.specs.Promises.{IsMade, UpdateIsRight, TurnIsRight, IsOfZone, TellsList}
-use Rattle.office_core.specs.RightAnswers.{IsDue, IsMadeWhole, LeavesZones, NewIsRight, IsReceiptOf, RepeatIsRight, TellsReport, ReplyIsRight, AnswerIsRight, state_before, IsMadeUnder, AllAnswersAreRight}
+use Rattle.office_core.specs.Promises.{IsMade, UpdateIsRight, TurnIsRight}
+use Rattle.office_core.specs.RightAnswers.{IsDue, IsMadeWhole, LeavesZones, NewIsRight, IsReceiptOf, RepeatIsRight, ReplyIsRight, AnswerIsRight, state_before, IsMadeUnder, AllAnswersAreRight}
+use Rattle.office_core.proofs.QueryLaws.{laws_of}
 use Rattle.office_core.proofs.PromiseLemmas.{same_Some, some_none, step_is_right, keeps_receipts}
 use Rattle.office_core.proofs.CallLemmas.{keeps_zones, calls_are_right}
 
@@ -110,22 +109,12 @@ module _ (rules : List Rule) (s : State) (zones : AreZones s) (caller id : List 
 
 -- ---- a request
 
-tells_report : (rules : List Rule) (s : State) (caller : List ℕ) (origin : List (List ℕ)) (reply : ReplyOf)
-    → IsOfZone s origin (λ held. TellsList rules caller (λ rs. delegations (report origin rs)) held.records) reply → IsOfZone s origin (λ held. TellsReport rules caller origin held.records) reply
-tells_report rules s caller origin reply (inl none) = inl none
-tells_report rules s caller origin reply (inr (held, there, (rs, list, is))) = inr (held, there, (rs, report origin rs, list, reports_are_exact origin rs list.order, is))
-
 reply_right : (rules : List Rule) (s : State) → AreZones s → (caller : List ℕ) (request : Request) → HasUpdate request → (done : Turn) → TurnIsRight rules s caller request done
     → ReplyIsRight rules s caller request done.reply done.after
 reply_right rules s zones caller (requests.Update origin id update) is done right =
     (new_right rules s zones caller id origin update is done right, repeat_right rules s zones caller id origin update is done right)
-reply_right rules s zones caller (requests.List origin) is done right = right.request_is_right
-reply_right rules s zones caller (requests.ListWithin origin top) is done right = right.request_is_right
-reply_right rules s zones caller (requests.File origin) is done right = right.request_is_right
-reply_right rules s zones caller (requests.Delegations origin) is done right =
-    let both = right.request_is_right in (both.0, tells_report rules s caller origin done.reply both.1)
-reply_right rules s zones caller (requests.Changes origin from) is done right = right.request_is_right
-reply_right rules s zones caller (requests.Rights name record_type asked) is done right = right.request_is_right
+reply_right rules s zones caller (requests.Read query) is done right =
+    let both = right.request_is_right in (both.0, (laws_of query).told rules s caller done.reply both.1)
 
 -- ---- a receipt that is kept
 

@@ -149,12 +149,7 @@ module _ (rules : List Rule) (s : State) (caller : List ℕ) where
 
   step_grows : (request : Request) → Grows s (step rules s caller request).after
   step_grows (requests.Update origin id update) = updated_grows id origin update (s.receipts caller id)
-  step_grows (requests.List origin) = grows_same s
-  step_grows (requests.ListWithin origin top) = grows_same s
-  step_grows (requests.File origin) = grows_same s
-  step_grows (requests.Delegations origin) = grows_same s
-  step_grows (requests.Changes origin from) = grows_same s
-  step_grows (requests.Rights name record_type asked) = grows_same s
+  step_grows (requests.Read query) = grows_same s
 
 bookmark_stays : (rules : List Rule) (s t : State) (b : Bookmark) → Grows s t → IsBookmark rules s b → IsBookmark rules t b
 bookmark_stays rules s t b grows right after e =

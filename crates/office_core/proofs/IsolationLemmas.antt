@@ -24,6 +24,7 @@ use Rattle.office_core.specs.Machine.{step, refusal, made_now, made}
 use Rattle.office_core.specs.Runs.{Answer, turn, answers, HasUpdate, HaveUpdates}
 use Rattle.office_core.specs.Isolation.{asked_by, replies_to, IsOwn, origin_of, OthersStayAway, OthersStayInvisible, OthersMayNot, SeesNoSoa, CallersAreAlone, BlindCallersAreAlone, PoliciesKeepAlone, IsolatedCallersAreAlone}
 use Rattle.office_core.proofs.OwnNameLemmas.{permitted_away}
+use Rattle.office_core.proofs.QueryLaws.{laws_of}
 use Rattle.office_core.proofs.SameLemmas.{Same, Turns, not_refused, step_alike, step_away, same_self}
 
 module _ (rules : List Rule) (caller : List ℕ) where
@@ -55,7 +56,7 @@ module _ (rules : List Rule) (caller : List ℕ) where
 
   step_own : (s t : State) (call : Call) → Same rules caller s t → HasUpdate call.request → call.caller ≡ caller → Turns rules caller (turn rules s call) (turn rules t call)
   step_own s t call same is own =
-      subst (λ (c : List ℕ). Turns rules caller (step rules s c call.request) (step rules t c call.request)) (sym own) (step_alike rules caller s t same call.request is)
+      subst (λ (c : List ℕ). Turns rules caller (step rules s c call.request) (step rules t c call.request)) (sym own) (step_alike rules caller s t same (λ query. (laws_of query).alike rules caller s t same) call.request is)
 
   runs_alike : (s t : State) (calls : List Call) → Same rules caller s t → HaveUpdates calls → OthersStayInvisible rules caller s calls → replies_to caller (answers rules s calls) ≡ replies_to caller (answers rules t (asked_by caller calls))
   runs_alike s t [] same are invisible = refl
@@ -100,12 +101,7 @@ module _ (rules : List Rule) (caller : List ℕ) (others : OthersMayNot rules ca
 
   stays_away : (s : State) (other : List ℕ) → other ≢ caller → (request : Request) → HasUpdate request → AllByRecursion (λ op. ¬ IsOwn rules caller (acted_name op)) (made rules s other request)
   stays_away s other differs (requests.Update origin id update) is = update_away other differs origin update is (s.zones origin) (s.receipts other id) (refusal rules other origin update (s.zones origin)) refl
-  stays_away s other differs (requests.List origin) is = tt
-  stays_away s other differs (requests.ListWithin origin top) is = tt
-  stays_away s other differs (requests.File origin) is = tt
-  stays_away s other differs (requests.Delegations origin) is = tt
-  stays_away s other differs (requests.Changes origin from) is = tt
-  stays_away s other differs (requests.Rights name record_type asked) is = tt
+  stays_away s other differs (requests.Read query) is = tt
 
   stay_away : (s : State) (calls : List Call) → HaveUpdates calls → OthersStayAway rules caller s calls
   stay_away s [] are = tt

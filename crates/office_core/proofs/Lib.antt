@@ -5,7 +5,6 @@ pub mod PermissionLemmas
 pub mod PermissionLaws
 pub mod OwnNameLemmas
 pub mod SameLemmas
-pub mod IsolationLemmas
 pub mod NumberLemmas
 pub mod EmptyChangeLemmas
 pub mod CommitLemmas
@@ -17,6 +16,9 @@ mod FailTableLemmas
 mod SubtreesLemmas
 mod SubtreeLemmas
 pub mod ToldLemmas
+pub mod QueryLemmas
+pub mod QueryLaws
+pub mod IsolationLemmas
 pub mod MovedLemmas
 pub mod MadeLemmas
 pub mod PlanLemmas

@@ -5,22 +5,17 @@ use Rattle.std.specs.Bool.{Decides}
 use Rattle.std.proofs.lemmas.Bool.{cond-true, cond-false}
 use Rattle.std.proofs.lemmas.Bool.Decides.{Decides-and}
 use Rattle.std.proofs.lemmas.Slice.Eq.{bytes_eq-Decides}
-use Rattle.dns_names.specs.Labels.{IsWithin, is_within}
 use Rattle.dns_names.specs.Order.{same_name}
-use Rattle.dns_names.proofs.NameLemmas.{same_name-Decides, is_within-Decides}
-use Rattle.dns_data.specs.declared.record.Record.{Record}
+use Rattle.dns_names.proofs.NameLemmas.{same_name-Decides}
 use Rattle.grant_policy.specs.declared.rule.Rule.{Rule}
-use Rattle.grant_policy.specs.Decisions.{decision}
-use Rattle.grant_policy.proofs.DecisionLaws.{decision_found}
-use Rattle.zone_core.specs.Sets.{Records, listing, part, within, is_same}
+use Rattle.zone_core.specs.Sets.{Records, is_same}
 use Rattle.zone_core.specs.Zones.{AreKept, IsZone}
-use Rattle.zone_core.specs.Delegations.{report}
 use Rattle.zone_core.specs.Updates.{UpdateOf, IsUpdate, same_update}
 use Rattle.zone_core.proofs.SetLemmas.{by_cases, name_is, name_self, name_other}
 use Rattle.zone_core.proofs.ZoneLemmas.{no}
 use Rattle.zone_core.proofs.VersionLemmas.{updates_keep}
 use Rattle.zone_core.proofs.LeaveLemmas.{updates_advance}
-use Rattle.zone_core.proofs.ChangedLemmas.{same_sets_are_one, kept_in_part}
+use Rattle.zone_core.proofs.ChangedLemmas.{same_sets_are_one}
 use Rattle.zone_core.proofs.SameUpdateLemmas.{same_updates}
 use Rattle.zone_core.specs.Changes.{change_between}
 use Rattle.office_model.specs.declared.receipt.Receipt.{Receipt}
@@ -28,14 +23,12 @@ use Rattle.office_model.specs.declared.reply.UpdateReply.{UpdateReply}
 use Rattle.office_model.specs.declared.reply.UpdateReply.TheVariants.{NoError, NotAuth, NotZone, Failed}
 use Rattle.office_model.specs.declared.request.Request.{Request}
 use Rattle.office_model.specs.declared.request.Request.TheVariants as requests
-use Rattle.office_model.specs.Replies.{ReplyOf, to_update, id_reused, not_zone, records, file, delegations}
+use Rattle.office_model.specs.Replies.{ReplyOf, to_update, id_reused}
 use Rattle.office_model.specs.States.{Held, State, AreZones, AreReceipts, zone_held, hold, keep}
-use Rattle.office_core.specs.Permissions.{question}
-use Rattle.office_core.specs.Machine.{Turn, listed, changes_from, of_zone, list_within_reply, changes_reply, unchanged, step, refused_by, refusal, answered, updated, again, receipt, held_after}
+use Rattle.office_core.specs.Machine.{Turn, unchanged, step, refused_by, refusal, answered, updated, again, receipt, held_after}
 use Rattle.office_core.specs.Runs.{HasUpdate}
-use Rattle.office_core.specs.Promises.{IsMade, IsNoted, IsWhole, IsOutside, IsFailing, IsOfZone, TellsList, TellsWithin, TellsChanges, UpdateIsRight, RequestIsRight, TurnIsRight}
-use Rattle.office_core.proofs.ListLemmas.{lists_are_exact}
-use Rattle.office_core.proofs.ToldLemmas.{changes_are_exact}
+use Rattle.office_core.specs.Promises.{IsMade, IsNoted, IsWhole, IsOutside, IsFailing, UpdateIsRight, RequestIsRight, TurnIsRight}
+use Rattle.office_core.proofs.QueryLaws.{laws_of}
 use Rattle.office_core.proofs.MovedLemmas.{moved_right}
 use Rattle.office_core.proofs.MadeLemmas.{if_made, not_refused, told_apart, if_denied, is_denied, is_unknown, is_outside, is_failing}
 
@@ -240,33 +233,6 @@ module _ (rules : List Rule) (s : State) (zones : AreZones s) (receipts : AreRec
       by_refusal None c i kept e =
           keep_each (hold s origin (option_map (held_after origin update) (s.zones origin))) caller id (receipt origin update NoError) (λ x. IsUpdate x.update) is c i kept (receipts c i kept) e
 
--- ---- what is read
-
-module _ (rules : List Rule) (s : State) (zones : AreZones s) (caller : List ℕ) where
-  -- what is read of what is held, where it is right of each zone
-  of_zone_right : (origin : List (List ℕ)) (IsOf : Held → ReplyOf → Type 0) (reads : Held → ReplyOf) → ((held : Held) → IsZone (zone_held origin held) → IsOf held (reads held))
-      → IsOfZone s origin IsOf (of_zone (s.zones origin) reads)
-  of_zone_right origin IsOf reads each = by_zone (s.zones origin) refl
-    where
-      by_zone : (o : Option Held) → s.zones origin ≡ o → IsOfZone s origin IsOf (of_zone o reads)
-      by_zone None e = inl (e, refl)
-      by_zone (Some held) e = inr (held, e, each held (zones origin held e))
-
-  tells_list : (told : List Record → ReplyOf) (set : Records) → AreKept set → TellsList rules caller told set (told (listed rules caller (listing set)))
-  tells_list told set kept = (listed rules caller (listing set), lists_are_exact rules caller set kept, refl)
-
-  tells_within : (origin top : List (List ℕ)) (held : Held) → AreKept held.records → TellsWithin rules caller origin top held.records (list_within_reply rules caller origin top held)
-  tells_within origin top held kept = by_test (is_within top origin) (is_within-Decides top origin)
-    where
-      by_test : (b : Bool) → Decides b (IsWithin top origin)
-          → TellsWithin rules caller origin top held.records (if b then records (listed rules caller (listing (part held.records (within top)))) else not_zone)
-      by_test true d = inl (d.0 refl, tells_list records (part held.records (within top)) (kept_in_part held.records (within top) kept))
-      by_test false d = inr (λ inside. let f : false ≡ true = d.1 inside in cc, refl)
-
-  tells_all : (told : List Record → ReplyOf) (origin : List (List ℕ)) → IsOfZone s origin (λ held. TellsList rules caller told held.records) (of_zone (s.zones origin) (λ held. told (listed rules caller (listing held.records))))
-  tells_all told origin =
-      of_zone_right origin (λ held. TellsList rules caller told held.records) (λ held. told (listed rules caller (listing held.records))) (λ held zone. tells_list told held.records zone.kept)
-
 -- ---- a request
 
 -- what only reads is right where its reply is
@@ -282,22 +248,8 @@ step_is_right rules s zones receipts caller (requests.Update origin id update) i
       receipts_stay = receipts_stay rules s zones receipts caller id origin update is o refl;
       receipts_of_others = receipts_of_others rules s zones receipts caller id origin update is o;
     }
-step_is_right rules s zones receipts caller (requests.List origin) is =
-    reads_right rules s caller (requests.List origin) (refl, tells_all rules s zones caller records origin)
-step_is_right rules s zones receipts caller (requests.ListWithin origin top) is =
-    reads_right rules s caller (requests.ListWithin origin top) (refl, of_zone_right rules s zones caller origin (λ held. TellsWithin rules caller origin top held.records) (list_within_reply rules caller origin top) (λ held zone. tells_within rules s zones caller origin top held zone.kept))
-step_is_right rules s zones receipts caller (requests.File origin) is =
-    reads_right rules s caller (requests.File origin) (refl, tells_all rules s zones caller (file origin) origin)
-step_is_right rules s zones receipts caller (requests.Delegations origin) is =
-    reads_right rules s caller (requests.Delegations origin) (refl, tells_all rules s zones caller (λ rs. delegations (report origin rs)) origin)
-step_is_right rules s zones receipts caller (requests.Changes origin from) is =
-    reads_right rules s caller (requests.Changes origin from) (
-      refl,
-      of_zone_right rules s zones caller origin (λ held. TellsChanges rules caller from held.changes) (changes_reply rules caller from)
-          (λ held zone. (changes_from rules caller from held.changes, changes_are_exact rules caller from held.changes, refl)),
-    )
-step_is_right rules s zones receipts caller (requests.Rights name record_type asked) is =
-    reads_right rules s caller (requests.Rights name record_type asked) (refl, (decision (question caller name record_type asked) rules, decision_found (question caller name record_type asked) rules, refl))
+step_is_right rules s zones receipts caller (requests.Read query) is =
+    reads_right rules s caller (requests.Read query) (refl, (laws_of query).right rules s zones caller)
 
 -- a step keeps receipts of updates
 pub keeps_receipts : (rules : List Rule) (s : State) → AreZones s → AreReceipts s → (caller : List ℕ) (request : Request) → HasUpdate request → AreReceipts (step rules s caller request).after

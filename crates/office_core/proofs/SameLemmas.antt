@@ -1,12 +1,11 @@
 -- Two states in which a caller sees the same, and what a step of that caller or of another leaves of it.
 use Rattle.std.proofs.Common.{◌≡◌, ◌≢◌, ℕ, List, [], ◌∷◌, ◌++◌, Bool, true, false, ◌&&◌, ◌==◌, Option, Some, None, refl, sym, ap, subst, ◌∙◌, if◌then◌else◌, append_assoc, append-nil}
-use Rattle.std.specs.Prelude.{option_map, bytes_eq, nat_le}
-use Rattle.std.specs.List.{AllByRecursion, filter, flat_map}
+use Rattle.std.specs.Prelude.{option_map, bytes_eq}
+use Rattle.std.specs.List.{AllByRecursion, flat_map}
 use Rattle.std.specs.Option.{option_or}
 use Rattle.std.specs.FinMap.{len}
 use Rattle.std.proofs.lemmas.Bool.{and_parts, false_from_ne_true}
 use Rattle.std.proofs.lemmas.Slice.Eq.{bytes_eq-Decides}
-use Rattle.dns_names.specs.Labels.{is_within}
 use Rattle.dns_names.specs.Order.{same_name}
 use Rattle.dns_data.specs.declared.record_type.RecordType.TheVariants as types
 use Rattle.dns_data.specs.Rdata.{type_of}
@@ -17,7 +16,6 @@ use Rattle.grant_policy.specs.Decisions.{Verdict, granted, denied, decision, is_
 use Rattle.zone_core.specs.Sets.{Records, key_of, listing, part, within, at, minus, is_same}
 use Rattle.zone_core.specs.Zones.{IsZone, AreKept}
 use Rattle.zone_core.specs.Updates.{UpdateOf, IsUpdate, ActsWithin, first_outside}
-use Rattle.zone_core.specs.Delegations.{report}
 use Rattle.zone_core.specs.Visibility.{Indistinguishable, IsInvisible, PassesSeen}
 use Rattle.zone_core.proofs.SetLemmas.{name_is, empty_is}
 use Rattle.zone_core.proofs.UpdateLemmas.{none_outside}
@@ -28,14 +26,15 @@ use Rattle.zone_core.proofs.VisibilityLemmas.{verdicts_are_indistinguishable, up
 use Rattle.zone_core.specs.Changes.{ChangeOf, change_between}
 use Rattle.office_model.specs.declared.request.Request.{Request}
 use Rattle.office_model.specs.declared.request.Request.TheVariants as requests
+use Rattle.office_model.specs.declared.request.Query.{Query}
 use Rattle.office_model.specs.declared.reply.UpdateReply.{UpdateReply}
 use Rattle.office_model.specs.declared.reply.UpdateReply.TheVariants.{NoError, Failed}
 use Rattle.office_model.specs.declared.receipt.Receipt.{Receipt}
-use Rattle.office_model.specs.Replies.{ReplyOf, records, file, delegations, changes, not_zone}
+use Rattle.office_model.specs.Replies.{ReplyOf}
 use Rattle.office_model.specs.States.{Held, State, zone_held, AreZones, hold, keep}
 use Rattle.office_core.specs.Footprints.{footprint}
 use Rattle.office_core.specs.Permissions.{question, IsGranted, IsPermitted, first_denial}
-use Rattle.office_core.specs.Machine.{may_list, listed, seen_of, if_some, seen, numbered, of_zone, list_reply, list_within_reply, file_reply, delegations_reply, changes_reply, outside_reply, denied_reply, failed_reply, refused_by, refusal, with_change, held_after, receipt, Turn, unchanged, answered, updated, step, made_now, made}
+use Rattle.office_core.specs.Machine.{may_list, listed, seen_of, if_some, seen, of_zone, query_reply, outside_reply, denied_reply, failed_reply, refused_by, refusal, with_change, held_after, receipt, Turn, unchanged, answered, updated, step, made_now, made}
 use Rattle.office_core.specs.Runs.{HasUpdate}
 use Rattle.office_core.specs.Isolation.{IsOwn, IsBlindAt, SeesNoSoa, origin_of}
 use Rattle.office_core.proofs.PermissionLaws.{none_permits}
@@ -140,15 +139,15 @@ module _ (rules : List Rule) (caller : List ℕ) where
             not_soa rules caller origin r.owner (type_of r.rdata) action.List blind.unlisted may is.0 (one_rank (type_of r.rdata) types.Soa is.1)),
       )
 
-  all_listed : (origin : List (List ℕ)) (a b : Held) → Sees origin a b → listed rules caller (listing a.records) ≡ listed rules caller (listing b.records)
+  pub all_listed : (origin : List (List ℕ)) (a b : Held) → Sees origin a b → listed rules caller (listing a.records) ≡ listed rules caller (listing b.records)
   all_listed origin a b sees =
       listings_are_indistinguishable (IsOwn rules caller) origin a.records b.records sees.zone.kept sees.other.kept sees.alike (may_list rules caller) (lists_own origin sees.blind)
 
-  part_listed : (origin top : List (List ℕ)) (a b : Held) → Sees origin a b → listed rules caller (listing (part a.records (within top))) ≡ listed rules caller (listing (part b.records (within top)))
+  pub part_listed : (origin top : List (List ℕ)) (a b : Held) → Sees origin a b → listed rules caller (listing (part a.records (within top))) ≡ listed rules caller (listing (part b.records (within top)))
   part_listed origin top a b sees =
       parts_are_indistinguishable (IsOwn rules caller) origin a.records b.records sees.zone.kept sees.other.kept sees.alike (within top) (may_list rules caller) (lists_own origin sees.blind)
 
-  of_zone_alike : (origin : List (List ℕ)) (x y : Option Held) → SameZone origin x y → (reads : Held → ReplyOf) → ((a b : Held) → Sees origin a b → reads a ≡ reads b) → of_zone x reads ≡ of_zone y reads
+  pub of_zone_alike : (origin : List (List ℕ)) (x y : Option Held) → SameZone origin x y → (reads : Held → ReplyOf) → ((a b : Held) → Sees origin a b → reads a ≡ reads b) → of_zone x reads ≡ of_zone y reads
   of_zone_alike origin None None z reads same = refl
   of_zone_alike origin None (Some b) z reads same = absurd z
   of_zone_alike origin (Some a) None z reads same = absurd z
@@ -283,24 +282,13 @@ module _ (rules : List Rule) (caller : List ℕ) where
       (refusal_alike origin update (s.zones origin) (t.zones origin) (same.zones origin))
       (answered_alike s t same id origin update is (refusal rules caller origin update (s.zones origin)) refl)
 
-  -- the caller's own step: the same reply, and the caller sees the same
-  pub step_alike : (s t : State) → Same s t → (request : Request) → HasUpdate request → Turns (step rules s caller request) (step rules t caller request)
-  step_alike s t same (requests.Update origin id update) is =
+  -- the caller's own step, where queries are answered alike: the same reply, and the caller sees the same
+  pub step_alike : (s t : State) → Same s t → ((query : Query) → query_reply rules s caller query ≡ query_reply rules t caller query)
+      → (request : Request) → HasUpdate request → Turns (step rules s caller request) (step rules t caller request)
+  step_alike s t same alike (requests.Update origin id update) is =
       subst (λ (kept : Option Receipt). Turns (updated rules s caller id origin update (s.receipts caller id)) (updated rules t caller id origin update kept)) (same.receipts id)
       (updated_alike s t same id origin update is (s.receipts caller id))
-  step_alike s t same (requests.List origin) is =
-      unchanged_alike s t same _ _ (of_zone_alike origin (s.zones origin) (t.zones origin) (same.zones origin) (list_reply rules caller) (λ a b z. ap records (all_listed origin a b z)))
-  step_alike s t same (requests.ListWithin origin top) is =
-      unchanged_alike s t same _ _ (of_zone_alike origin (s.zones origin) (t.zones origin) (same.zones origin) (list_within_reply rules caller origin top)
-      (λ a b z. ap (λ rs. if is_within top origin then records rs else not_zone) (part_listed origin top a b z)))
-  step_alike s t same (requests.File origin) is =
-      unchanged_alike s t same _ _ (of_zone_alike origin (s.zones origin) (t.zones origin) (same.zones origin) (file_reply rules caller origin) (λ a b z. ap (file origin) (all_listed origin a b z)))
-  step_alike s t same (requests.Delegations origin) is =
-      unchanged_alike s t same _ _ (of_zone_alike origin (s.zones origin) (t.zones origin) (same.zones origin) (delegations_reply rules caller origin) (λ a b z. ap (λ rs. delegations (report origin rs)) (all_listed origin a b z)))
-  step_alike s t same (requests.Changes origin from) is =
-      unchanged_alike s t same _ _ (of_zone_alike origin (s.zones origin) (t.zones origin) (same.zones origin) (changes_reply rules caller from)
-      (λ a b z. ap (λ cs. changes (filter (λ c. nat_le from c.number) (numbered 1 cs))) z.changes))
-  step_alike s t same (requests.Rights name record_type asked) is = unchanged_alike s t same _ _ refl
+  step_alike s t same alike (requests.Read query) is = unchanged_alike s t same _ _ (alike query)
 
   -- ---- the steps of another
 
@@ -318,12 +306,7 @@ module _ (rules : List Rule) (caller : List ℕ) where
   -- the step of another that stays invisible: the caller sees the same
   pub step_away : (s t : State) → Same s t → (other : List ℕ) → other ≢ caller → (request : Request) → HasUpdate request → AllByRecursion (IsInvisible (IsOwn rules caller) (origin_of request)) (made rules s other request) → Same (step rules s other request).after t
   step_away s t same other differs (requests.Update origin id update) is invisible = updated_away s t same other differs id origin update is (s.receipts other id) invisible
-  step_away s t same other differs (requests.List origin) is invisible = same
-  step_away s t same other differs (requests.ListWithin origin top) is invisible = same
-  step_away s t same other differs (requests.File origin) is invisible = same
-  step_away s t same other differs (requests.Delegations origin) is invisible = same
-  step_away s t same other differs (requests.Changes origin from) is invisible = same
-  step_away s t same other differs (requests.Rights name record_type asked) is invisible = same
+  step_away s t same other differs (requests.Read query) is invisible = same
 
   -- ---- the opening state
 

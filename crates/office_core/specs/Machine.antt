@@ -20,6 +20,8 @@ use Rattle.zone_core.specs.Delegations.{report}
 use Rattle.zone_core.specs.Changes.{ChangeOf, change_between, is_empty}
 use Rattle.office_model.specs.declared.request.Request.{Request}
 use Rattle.office_model.specs.declared.request.Request.TheVariants as requests
+use Rattle.office_model.specs.declared.request.Query.{Query}
+use Rattle.office_model.specs.declared.request.Query.TheVariants as queries
 use Rattle.office_model.specs.declared.reply.UpdateReply.{UpdateReply}
 use Rattle.office_model.specs.declared.reply.UpdateReply.TheVariants.{NoError, NotAuth, NotZone, Refused, Failed}
 use Rattle.office_model.specs.declared.receipt.Receipt.{Receipt}
@@ -63,7 +65,7 @@ numbered n (c ∷ cs) = record { number = n; removed = c.removed; added = c.adde
 abbrev pub changes_from : List Rule → List ℕ → ℕ → List ChangeOf → List NumberedOf
 changes_from rules caller from cs = filter (λ c. nat_le from c.number) (numbered 1 (seen rules caller cs))
 
--- ---- requests that change nothing
+-- ---- queries, which change nothing
 
 -- what is read of a zone, or that there is no zone
 abbrev pub of_zone : Option Held → (Held → ReplyOf) → ReplyOf
@@ -85,6 +87,15 @@ delegations_reply rules caller origin held = delegations (report origin (listed 
 
 abbrev pub changes_reply : List Rule → List ℕ → ℕ → Held → ReplyOf
 changes_reply rules caller from held = changes (changes_from rules caller from held.changes)
+
+-- what is replied to a query
+abbrev pub query_reply : List Rule → State → List ℕ → Query → ReplyOf
+query_reply rules s caller (queries.List origin) = of_zone (s.zones origin) (list_reply rules caller)
+query_reply rules s caller (queries.ListWithin origin top) = of_zone (s.zones origin) (list_within_reply rules caller origin top)
+query_reply rules s caller (queries.File origin) = of_zone (s.zones origin) (file_reply rules caller origin)
+query_reply rules s caller (queries.Delegations origin) = of_zone (s.zones origin) (delegations_reply rules caller origin)
+query_reply rules s caller (queries.Changes origin from) = of_zone (s.zones origin) (changes_reply rules caller from)
+query_reply rules s caller (queries.Rights name record_type asked) = right (decision (question caller name record_type asked) rules)
 
 -- ---- updates
 
@@ -155,12 +166,7 @@ updated rules s caller id origin update None = answered s caller id origin updat
 -- a request of a caller
 abbrev pub step : List Rule → State → List ℕ → Request → Turn
 step rules s caller (requests.Update origin id update) = updated rules s caller id origin update (s.receipts caller id)
-step rules s caller (requests.List origin) = unchanged s (of_zone (s.zones origin) (list_reply rules caller))
-step rules s caller (requests.ListWithin origin top) = unchanged s (of_zone (s.zones origin) (list_within_reply rules caller origin top))
-step rules s caller (requests.File origin) = unchanged s (of_zone (s.zones origin) (file_reply rules caller origin))
-step rules s caller (requests.Delegations origin) = unchanged s (of_zone (s.zones origin) (delegations_reply rules caller origin))
-step rules s caller (requests.Changes origin from) = unchanged s (of_zone (s.zones origin) (changes_reply rules caller from))
-step rules s caller (requests.Rights name record_type asked) = unchanged s (right (decision (question caller name record_type asked) rules))
+step rules s caller (requests.Read query) = unchanged s (query_reply rules s caller query)
 
 -- ---- what a step makes
 

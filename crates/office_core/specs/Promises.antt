@@ -26,6 +26,8 @@ use Rattle.office_model.specs.declared.reply.UpdateReply.TheVariants as replies
 use Rattle.office_model.specs.declared.request.Call.{Call}
 use Rattle.office_model.specs.declared.request.Request.{Request}
 use Rattle.office_model.specs.declared.request.Request.TheVariants as requests
+use Rattle.office_model.specs.declared.request.Query.{Query}
+use Rattle.office_model.specs.declared.request.Query.TheVariants as queries
 use Rattle.office_model.specs.Replies.{ReplyOf, NumberedOf, to_update, id_reused, not_auth, not_zone, records, file, delegations, changes, right}
 use Rattle.office_model.specs.States.{Held, State, AreZones, AreReceipts, zone_held}
 use Rattle.office_core.specs.Footprints.{Point, footprint}
@@ -208,19 +210,20 @@ pub record UpdateIsRight (rules : List Rule) (s : State) (caller id : List ℕ) 
   pub kept : s.receipts caller id ≡ None
       → (reply : UpdateReply) × (done.reply ≡ to_update reply) × (done.after.receipts caller id ≡ Some (receipt origin update reply))
 
--- What is promised of a request: of an update the above, and any other changes nothing and is replied what is read: the records
--- that the caller may list, as a list, a master file or a report of their delegations; what it sees of the zone's changes; or
--- what the policy decides of its right.
+-- What is promised of the reply to a query: it is what is read: the records that the caller may list, as a list, a master file or a
+-- report of their delegations; what it sees of the zone's changes; or what the policy decides of its right.
+abbrev pub QueryIsRight : List Rule → State → List ℕ → Query → ReplyOf → Type 0
+QueryIsRight rules s caller (queries.List origin) reply = IsOfZone s origin (λ held. TellsList rules caller records held.records) reply
+QueryIsRight rules s caller (queries.ListWithin origin top) reply = IsOfZone s origin (λ held. TellsWithin rules caller origin top held.records) reply
+QueryIsRight rules s caller (queries.File origin) reply = IsOfZone s origin (λ held. TellsList rules caller (file origin) held.records) reply
+QueryIsRight rules s caller (queries.Delegations origin) reply = IsOfZone s origin (λ held. TellsList rules caller (λ rs. delegations (report origin rs)) held.records) reply
+QueryIsRight rules s caller (queries.Changes origin from) reply = IsOfZone s origin (λ held. TellsChanges rules caller from held.changes) reply
+QueryIsRight rules s caller (queries.Rights name record_type asked) reply = TellsDecision rules (question caller name record_type asked) reply
+
+-- What is promised of a request: of an update the above, and a query changes nothing and is answered right.
 abbrev pub RequestIsRight : List Rule → State → List ℕ → Request → Turn → Type 0
 RequestIsRight rules s caller (requests.Update origin id update) done = UpdateIsRight rules s caller id origin update done
-RequestIsRight rules s caller (requests.List origin) done = (done.after ≡ s) × IsOfZone s origin (λ held. TellsList rules caller records held.records) done.reply
-RequestIsRight rules s caller (requests.ListWithin origin top) done = (done.after ≡ s) × IsOfZone s origin (λ held. TellsWithin rules caller origin top held.records) done.reply
-RequestIsRight rules s caller (requests.File origin) done = (done.after ≡ s) × IsOfZone s origin (λ held. TellsList rules caller (file origin) held.records) done.reply
-RequestIsRight rules s caller (requests.Delegations origin) done =
-    (done.after ≡ s) × IsOfZone s origin (λ held. TellsList rules caller (λ rs. delegations (report origin rs)) held.records) done.reply
-RequestIsRight rules s caller (requests.Changes origin from) done =
-    (done.after ≡ s) × IsOfZone s origin (λ held. TellsChanges rules caller from held.changes) done.reply
-RequestIsRight rules s caller (requests.Rights name record_type asked) done = (done.after ≡ s) × TellsDecision rules (question caller name record_type asked) done.reply
+RequestIsRight rules s caller (requests.Read query) done = (done.after ≡ s) × QueryIsRight rules s caller query done.reply
 
 -- an update of this zone is made for the call
 abbrev pub MakesUpdate : List Rule → State → List ℕ → List (List ℕ) → Request → Type 0

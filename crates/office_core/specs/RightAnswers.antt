@@ -17,13 +17,15 @@ use Rattle.office_model.specs.declared.reply.UpdateReply.TheVariants as replies
 use Rattle.office_model.specs.declared.request.Call.{Call}
 use Rattle.office_model.specs.declared.request.Request.{Request}
 use Rattle.office_model.specs.declared.request.Request.TheVariants as requests
-use Rattle.office_model.specs.Replies.{ReplyOf, to_update, id_reused, records, file, delegations}
+use Rattle.office_model.specs.declared.request.Query.{Query}
+use Rattle.office_model.specs.declared.request.Query.TheVariants as queries
+use Rattle.office_model.specs.Replies.{ReplyOf, to_update, id_reused, delegations}
 use Rattle.office_model.specs.States.{Held, State, AreZones, AreReceipts, zone_held}
 use Rattle.office_core.specs.Footprints.{footprint}
-use Rattle.office_core.specs.Permissions.{question, IsPermitted, IsFirstDenial}
+use Rattle.office_core.specs.Permissions.{IsPermitted, IsFirstDenial}
 use Rattle.office_core.specs.Machine.{receipt}
 use Rattle.office_core.specs.Runs.{Answer, HaveUpdates, state_after, answers}
-use Rattle.office_core.specs.Promises.{IsMade, IsAdvance, HasMoved, IsAskedAndGranted, IsNoted, IsJudged, IsOfZone, TellsList, IsListOf, TellsWithin, TellsChanges, TellsDecision, ZoneIsRight}
+use Rattle.office_core.specs.Promises.{IsMade, IsAdvance, HasMoved, IsAskedAndGranted, IsNoted, IsJudged, IsOfZone, IsListOf, QueryIsRight, ZoneIsRight}
 
 -- ---- updates under a new identifier
 
@@ -95,25 +97,20 @@ abbrev pub TellsReport : List Rule → List ℕ → List (List ℕ) → Records 
 TellsReport rules caller origin set reply =
     (rs : List Record) × (ds : List DelegationOf) × IsListOf rules caller set rs × AreReported origin rs ds × (reply ≡ delegations ds)
 
--- What is promised of the reply to a request: of an update the above, by whether its identifier has a receipt; any other changes
--- nothing, and is told the records that the caller may list, as a list, a master file or a report of their delegations, or what it
--- sees of the zone's changes, or else that no zone of the origin is there; or what the policy decides of its right.
+-- What is promised of the reply to a query: the records that the caller may list, as a list, a master file or a report of their
+-- delegations, or what it sees of the zone's changes, or else that no zone of the origin is there; or what the policy decides of its
+-- right.
+abbrev pub QueryIsTold : List Rule → State → List ℕ → Query → ReplyOf → Type 0
+QueryIsTold rules before caller (queries.Delegations origin) reply = IsOfZone before origin (λ held. TellsReport rules caller origin held.records) reply
+QueryIsTold rules before caller query reply = QueryIsRight rules before caller query reply
+
+-- What is promised of the reply to a request: of an update the above, by whether its identifier has a receipt; a query changes
+-- nothing.
 abbrev pub ReplyIsRight : List Rule → State → List ℕ → Request → ReplyOf → State → Type 0
 ReplyIsRight rules before caller (requests.Update origin id update) reply after =
     (before.receipts caller id ≡ None → NewIsRight rules before caller id origin update reply after)
     × ((kept : Receipt) → before.receipts caller id ≡ Some kept → RepeatIsRight before origin update kept reply after)
-ReplyIsRight rules before caller (requests.List origin) reply after =
-    (after ≡ before) × IsOfZone before origin (λ held. TellsList rules caller records held.records) reply
-ReplyIsRight rules before caller (requests.ListWithin origin top) reply after =
-    (after ≡ before) × IsOfZone before origin (λ held. TellsWithin rules caller origin top held.records) reply
-ReplyIsRight rules before caller (requests.File origin) reply after =
-    (after ≡ before) × IsOfZone before origin (λ held. TellsList rules caller (file origin) held.records) reply
-ReplyIsRight rules before caller (requests.Delegations origin) reply after =
-    (after ≡ before) × IsOfZone before origin (λ held. TellsReport rules caller origin held.records) reply
-ReplyIsRight rules before caller (requests.Changes origin from) reply after =
-    (after ≡ before) × IsOfZone before origin (λ held. TellsChanges rules caller from held.changes) reply
-ReplyIsRight rules before caller (requests.Rights name record_type asked) reply after =
-    (after ≡ before) × TellsDecision rules (question caller name record_type asked) reply
+ReplyIsRight rules before caller (requests.Read query) reply after = (after ≡ before) × QueryIsTold rules before caller query reply
 
 -- an answer goes to the caller who asked, and its reply is right
 pub record AnswerIsRight (rules : List Rule) (before : State) (call : Call) (answer : Answer) (after : State) : Type 0 where

@@ -3,13 +3,19 @@
 
 mod bookmark;
 mod changes;
+mod delegations;
 mod fail_table;
+mod file;
 mod footprint;
 mod item;
 mod laws;
+mod list;
+mod list_within;
+mod listed;
 mod memory;
 mod permission;
-mod queries;
+mod query;
+mod rights;
 mod runs;
 mod steps;
 mod subtrees;
@@ -24,7 +30,7 @@ pub use laws::{
 };
 pub use memory::MemTable;
 pub use office_model::{
-    Addition, Call, NumberedChange, Receipt, Reply, Request, Right, StepFault, TableFault,
+    Addition, Call, NumberedChange, Query, Receipt, Reply, Request, Right, StepFault, TableFault,
     UpdateReply, ZoneTable,
 };
 pub use permission::{Denial, denied};

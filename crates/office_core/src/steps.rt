@@ -7,8 +7,7 @@ ghost use Rattle.office_core.specs.Bookmarks.{AreBookmarks};
 ghost use Rattle.office_core.specs.Steps.{Steps, Leaves, CountsReply, CountsStep, Takes, LeavesTurn, IsAnswer};
 
 use crate::bookmark::Bookmarks;
-use crate::changes::changes;
-use crate::queries::{delegations, file, list, list_within, right};
+use crate::query::query_reply;
 use crate::update::update_reply;
 use grant_policy::{Identifier, Policy};
 use office_model::{Reply, Request, StepFault, ZoneTable};
@@ -87,19 +86,6 @@ fn answer<T: ZoneTable>(
         Request::Update { origin, id, update } => update_reply(
             alloc, table, policy, caller, id, origin, update,
         ),
-        Request::List { origin } => Ok(list(alloc, table, policy, caller, origin)?),
-        Request::ListWithin { origin, top } => {
-            Ok(list_within(alloc, table, policy, caller, origin, top)?)
-        }
-        Request::File { origin } => Ok(file(alloc, table, policy, caller, origin)?),
-        Request::Delegations { origin } => Ok(delegations(alloc, table, policy, caller, origin)?),
-        Request::Changes { origin, from } => Ok(changes(
-            alloc, table, policy, bookmarks, caller, origin, *from,
-        )?),
-        Request::Rights {
-            name,
-            record_type,
-            action,
-        } => Ok(right(alloc, policy, caller, name, *record_type, *action)?),
+        Request::Read(query) => Ok(query_reply(alloc, table, policy, bookmarks, caller, query)?),
     }
 }

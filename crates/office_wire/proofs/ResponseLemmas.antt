@@ -59,12 +59,7 @@ long_updated rules s caller id origin update None reply e long = long_answered s
 
 long_step : (rules : List Rule) (s : State) (caller : List ℕ) (request : Request) → IsLongTurn s (step rules s caller request)
 long_step rules s caller (requests.Update origin id update) reply e long = long_updated rules s caller id origin update (s.receipts caller id) reply e long
-long_step rules s caller (requests.List origin) reply e long = refl
-long_step rules s caller (requests.ListWithin origin top) reply e long = refl
-long_step rules s caller (requests.File origin) reply e long = refl
-long_step rules s caller (requests.Delegations origin) reply e long = refl
-long_step rules s caller (requests.Changes origin from) reply e long = refl
-long_step rules s caller (requests.Rights name record_type asked) reply e long = refl
+long_step rules s caller (requests.Read query) reply e long = refl
 
 short_refusing : (fault : RequestFault) → IsShortResponse (refusing fault)
 short_refusing (wrong.Refused r) = tt

@@ -13,6 +13,7 @@ use Rattle.grant_policy.specs.Reading.{identifier_of}
 use Rattle.office_model.specs.declared.request.Call.{Call}
 use Rattle.office_model.specs.declared.request.Request.{Request}
 use Rattle.office_model.specs.declared.request.Request.TheVariants as requests
+use Rattle.office_model.specs.declared.request.Query.TheVariants as queries
 use Rattle.wire_json.specs.declared.body.UpdateBody.{UpdateBody}
 use Rattle.wire_json.specs.declared.body_fault.BodyFault.{BodyFault}
 use Rattle.wire_json.specs.declared.body_fault.BodyFault.TheVariants as bodies
@@ -113,16 +114,16 @@ zone_in parts = name_in (parts (codes "{zone}"))
 abbrev pub request_by : Route → (List ℕ → List ℕ) → List ℕ → Result Request RequestFault
 request_by routes.Update parts body = zone_in parts >>= λ origin. update_in origin (of_bodies (update_of_body body))
 request_by routes.Delegate parts body = zone_in parts >>= λ origin. update_in origin (of_bodies (delegation_of_body origin body))
-request_by routes.Delegations parts body = zone_in parts >>= λ origin. Ok (requests.Delegations origin)
-request_by routes.Records parts body = zone_in parts >>= λ origin. Ok (requests.List origin)
+request_by routes.Delegations parts body = zone_in parts >>= λ origin. Ok (requests.Read (queries.Delegations origin))
+request_by routes.Records parts body = zone_in parts >>= λ origin. Ok (requests.Read (queries.List origin))
 request_by routes.RecordsWithin parts body =
-    zone_in parts >>= λ origin. name_in (parts (codes "{name}")) >>= λ top. Ok (requests.ListWithin origin top)
-request_by routes.File parts body = zone_in parts >>= λ origin. Ok (requests.File origin)
+    zone_in parts >>= λ origin. name_in (parts (codes "{name}")) >>= λ top. Ok (requests.Read (queries.ListWithin origin top))
+request_by routes.File parts body = zone_in parts >>= λ origin. Ok (requests.Read (queries.File origin))
 request_by routes.Changes parts body =
-    zone_in parts >>= λ origin. number_in (parts (codes "{from}")) >>= λ from. Ok (requests.Changes origin from)
+    zone_in parts >>= λ origin. number_in (parts (codes "{from}")) >>= λ from. Ok (requests.Read (queries.Changes origin from))
 request_by routes.Rights parts body =
     name_in (parts (codes "{name}")) >>= λ name. type_in (parts (codes "{type}")) >>= λ record_type.
-    action_in (parts (codes "{action}")) >>= λ action. Ok (requests.Rights name record_type action)
+    action_in (parts (codes "{action}")) >>= λ action. Ok (requests.Read (queries.Rights name record_type action))
 
 -- the call that a caller's text, a method, a target and a body are, or the refusal that comes first
 unfoldable pub call_by : Option (List ℕ) → Method → List ℕ → List ℕ → Result Call RequestFault

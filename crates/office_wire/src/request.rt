@@ -14,7 +14,7 @@ use crate::route::{Route, Routes};
 use dns_data::RecordType;
 use dns_names::Name;
 use grant_policy::{Action, Identifier, IdentifierFault};
-use office_model::{Call, Request};
+use office_model::{Call, Query, Request};
 use std::alloc::Global;
 use wire_json::{UpdateBody, read_delegation, read_update};
 
@@ -107,7 +107,7 @@ fn read_within(alloc: Global, parts: &Parts<'_>) -> Result<Request, RequestFault
 {
     let origin = read_zone(alloc, parts)?;
     let top = read_name(alloc, parts, "{name}")?;
-    Ok(Request::ListWithin { origin, top })
+    Ok(Request::Read(Query::ListWithin { origin, top }))
 }
 
 /// The request of the changes of a zone.
@@ -117,7 +117,7 @@ fn read_changes(alloc: Global, parts: &Parts<'_>) -> Result<Request, RequestFaul
 {
     let origin = read_zone(alloc, parts)?;
     let from = read_number(alloc, parts, "{from}")?;
-    Ok(Request::Changes { origin, from })
+    Ok(Request::Read(Query::Changes { origin, from }))
 }
 
 /// The request of what the policy decides.
@@ -128,11 +128,11 @@ fn read_rights(alloc: Global, parts: &Parts<'_>) -> Result<Request, RequestFault
     let name = read_name(alloc, parts, "{name}")?;
     let record_type = read_type(alloc, parts, "{type}")?;
     let action = read_action(alloc, parts, "{action}")?;
-    Ok(Request::Rights {
+    Ok(Request::Read(Query::Rights {
         name,
         record_type,
         action,
-    })
+    }))
 }
 
 /// The request of a route, by the parts of the path and the body.
@@ -150,16 +150,16 @@ fn read_request(
         Route::Delegate => read_delegating(alloc, parts, body),
         Route::Delegations => {
             let origin = read_zone(alloc, parts)?;
-            Ok(Request::Delegations { origin })
+            Ok(Request::Read(Query::Delegations { origin }))
         }
         Route::Records => {
             let origin = read_zone(alloc, parts)?;
-            Ok(Request::List { origin })
+            Ok(Request::Read(Query::List { origin }))
         }
         Route::RecordsWithin => read_within(alloc, parts),
         Route::File => {
             let origin = read_zone(alloc, parts)?;
-            Ok(Request::File { origin })
+            Ok(Request::Read(Query::File { origin }))
         }
         Route::Changes => read_changes(alloc, parts),
         Route::Rights => read_rights(alloc, parts),

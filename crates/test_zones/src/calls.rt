@@ -4,7 +4,7 @@ use anyhow::{Result, anyhow, bail};
 use dns_data::{RecordType, Ttl};
 use dns_names::Name;
 use grant_policy::{Action, Identifier};
-use office_model::{Call, Request};
+use office_model::{Call, Query, Request};
 use std::alloc::Global;
 use std::net::IpAddr;
 use test_rows::{Row, word};
@@ -49,38 +49,38 @@ fn request_of(alloc: Global, verb: &str, text: &[u8], body: &[u8]) -> Result<Req
 /// What is asked of a whole zone.
 fn request_at(verb: &str, origin: Name) -> Result<Request> {
     match verb {
-        "list" => Ok(Request::List { origin }),
-        "file" => Ok(Request::File { origin }),
-        "delegations" => Ok(Request::Delegations { origin }),
+        "list" => Ok(Request::Read(Query::List { origin })),
+        "file" => Ok(Request::Read(Query::File { origin })),
+        "delegations" => Ok(Request::Read(Query::Delegations { origin })),
         _ => bail!("no such verb"),
     }
 }
 
 fn list_within(alloc: Global, text: &[u8]) -> Result<Request> {
     let (origin, top) = word(text);
-    Ok(Request::ListWithin {
+    Ok(Request::Read(Query::ListWithin {
         origin: name(alloc, origin)?,
         top: name(alloc, top)?,
-    })
+    }))
 }
 
 fn changes(alloc: Global, text: &[u8]) -> Result<Request> {
     let (origin, from) = word(text);
-    Ok(Request::Changes {
+    Ok(Request::Read(Query::Changes {
         from: str::from_utf8(from)?.parse()?,
         origin: name(alloc, origin)?,
-    })
+    }))
 }
 
 fn rights(alloc: Global, text: &[u8]) -> Result<Request> {
     let (owner, rest) = word(text);
     let (record_type, action) = word(rest);
     let action = Action::read(action).ok_or(anyhow!("this is no action"))?;
-    Ok(Request::Rights {
+    Ok(Request::Read(Query::Rights {
         record_type: RecordType::read(record_type)?,
         action,
         name: name(alloc, owner)?,
-    })
+    }))
 }
 
 /// An update of item lines under an identifier.

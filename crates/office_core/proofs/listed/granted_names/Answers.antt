@@ -1,7 +1,7 @@
 use Rattle.std.proofs.Common.{◌∙◌}
 use Rattle.std.specs.List.{list_any}
 use Rattle.dns_names.specs.Labels.{is_within}
-use Rattle.office_core.proofs.queries.granted_names.Goals as goal
+use Rattle.office_core.proofs.listed.granted_names.Goals as goal
 
 pub returns-clause-granted : goal.returns-clause-granted
 returns-clause-granted c = λ name record_type inside granted.

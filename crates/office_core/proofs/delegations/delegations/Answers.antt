@@ -1,6 +1,6 @@
 use Rattle.std.proofs.Common.{IfSome, sym, subst}
 use Rattle.zone_core.specs.Sets.{InOrder}
-use Rattle.office_core.proofs.queries.delegations.Goals as goal
+use Rattle.office_core.proofs.delegations.delegations.Goals as goal
 
 pub delegation_report-requires : goal.delegation_report-requires
 delegation_report-requires g c =

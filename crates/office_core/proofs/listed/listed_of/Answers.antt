@@ -6,7 +6,7 @@ use Rattle.zone_core.specs.Outermost.{AreApart}
 use Rattle.office_model.specs.Tables.{included}
 use Rattle.office_core.specs.Subtrees.{subtrees_at}
 use Rattle.office_core.proofs.SubtreeLemmas.{by_subtrees, on_ok}
-use Rattle.office_core.proofs.queries.listed_of.Goals as goal
+use Rattle.office_core.proofs.listed.listed_of.Goals as goal
 
 pub returns-clause-answer : goal.returns-clause-answer
 returns-clause-answer g c =

@@ -5,7 +5,7 @@ use Rattle.grant_policy.specs.Reach.{IsReach}
 use Rattle.office_model.specs.States.{subtree_at}
 use Rattle.office_model.specs.Tables.{included}
 use Rattle.office_core.proofs.SubtreeLemmas.{by_none, by_subtree, on_ok}
-use Rattle.office_core.proofs.queries.within_reach.Goals as goal
+use Rattle.office_core.proofs.listed.within_reach.Goals as goal
 
 pub returns-in_default-clause-answer : goal.returns-in_default-clause-answer
 returns-in_default-clause-answer g c =

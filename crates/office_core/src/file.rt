@@ -1,0 +1,32 @@
+//! The query for the records of a zone as a master file.
+
+ghost use Rattle.std.specs.Prelude.{IfOk};
+ghost use Rattle.office_model.specs.States.{State};
+ghost use Rattle.office_model.specs.Tables.{ReadsOnly};
+ghost use Rattle.office_core.specs.Machine.{unchanged, of_zone, file_reply};
+ghost use Rattle.office_core.specs.Steps.{IsAnswer, Takes};
+
+use crate::listed::listed_of;
+use dns_names::Name;
+use grant_policy::{Identifier, Policy};
+use office_model::{Reply, TableFault, ZoneTable};
+use std::alloc::Global;
+
+/// The records of a zone that the caller may list, with its origin.
+pub(crate) fn file<T: ZoneTable>(
+    alloc: Global,
+    table: &mut T,
+    policy: &Policy,
+    caller: &Identifier,
+    origin: &Name,
+) -> Result<Reply, TableFault>
+    ensures takes { T.is_honest table.new → (s : State) → T.holds table.old s → Takes (T.holds table.new) s (unchanged s (of_zone (s.zones origin.now) (file_reply policy.now caller.now origin.now))) result }
+    ensures answers { IfOk result IsAnswer }
+    ensures reads { ReadsOnly T.holds T.is_honest T.leaves T.failures table.old table.new result }
+{
+    let Some(records) = listed_of(alloc, table, policy, caller, origin)? else {
+        return Ok(Reply::NotAuth);
+    };
+    let origin = origin.try_copy(alloc)?;
+    Ok(Reply::File { origin, records })
+}

@@ -1,0 +1,31 @@
+//! The query for the records of a zone.
+
+ghost use Rattle.std.specs.Prelude.{IfOk};
+ghost use Rattle.office_model.specs.States.{State};
+ghost use Rattle.office_model.specs.Tables.{ReadsOnly};
+ghost use Rattle.office_core.specs.Machine.{unchanged, of_zone, list_reply};
+ghost use Rattle.office_core.specs.Steps.{IsAnswer, Takes};
+
+use crate::listed::listed_of;
+use dns_names::Name;
+use grant_policy::{Identifier, Policy};
+use office_model::{Reply, TableFault, ZoneTable};
+use std::alloc::Global;
+
+/// The records of a zone that the caller may list.
+pub(crate) fn list<T: ZoneTable>(
+    alloc: Global,
+    table: &mut T,
+    policy: &Policy,
+    caller: &Identifier,
+    origin: &Name,
+) -> Result<Reply, TableFault>
+    ensures takes { T.is_honest table.new → (s : State) → T.holds table.old s → Takes (T.holds table.new) s (unchanged s (of_zone (s.zones origin.now) (list_reply policy.now caller.now))) result }
+    ensures answers { IfOk result IsAnswer }
+    ensures reads { ReadsOnly T.holds T.is_honest T.leaves T.failures table.old table.new result }
+{
+    let Some(records) = listed_of(alloc, table, policy, caller, origin)? else {
+        return Ok(Reply::NotAuth);
+    };
+    Ok(Reply::Records(records))
+}
