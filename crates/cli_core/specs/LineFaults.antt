@@ -6,8 +6,8 @@ use Rattle.dns_master.specs.declared.master_fault.MasterFault.{MasterFault}
 use Rattle.dns_master.specs.declared.master_fault.MasterFault.TheVariants as masters
 use Rattle.zone_core.specs.declared.refusals.ZoneFault.{ZoneFault}
 use Rattle.zone_core.specs.declared.refusals.ZoneFault.TheVariants as zones
-use Rattle.office_model.specs.declared.items_fault.ItemsFault.{ItemsFault}
-use Rattle.office_model.specs.declared.items_fault.ItemsFault.TheVariants as items
+use Rattle.update_lines.specs.declared.items_fault.ItemsFault.{ItemsFault}
+use Rattle.update_lines.specs.declared.items_fault.ItemsFault.TheVariants as items
 use Rattle.grant_policy.specs.declared.policy_fault.PolicyFault.{PolicyFault}
 use Rattle.grant_policy.specs.declared.policy_fault.PolicyFault.TheVariants as policies
 use Rattle.store_faults.specs.declared.store_fault.StoreFault.{StoreFault}

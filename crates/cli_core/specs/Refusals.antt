@@ -10,7 +10,7 @@ use Rattle.dns_master.specs.declared.master_fault.MasterFault.TheVariants as of_
 use Rattle.dns_master.specs.Faults.{fault_number as master_number, fault_line}
 use Rattle.zone_core.specs.Faults.{zone_fault_number}
 use Rattle.zone_core.specs.Rcodes.{rcode_number, rcode_text}
-use Rattle.office_model.specs.ItemFaults.{fault_number as items_number, fault_line as items_line}
+use Rattle.update_lines.specs.ItemFaults.{fault_number as items_number, fault_line as items_line}
 use Rattle.store_faults.specs.StoreFaults.{store_fault_number}
 use Rattle.grant_policy.specs.declared.policy_fault.PolicyFault.{PolicyFault}
 use Rattle.grant_policy.specs.declared.policy_fault.PolicyFault.TheVariants as of_policy

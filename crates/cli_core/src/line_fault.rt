@@ -9,36 +9,58 @@ use crate::refusal::Refusal;
 use dns_master::{DeviceFailed, MasterFault};
 use dns_names::NameFault;
 use grant_policy::PolicyFault;
-use office_model::ItemsFault;
+use refusals::words;
 use std::alloc::AllocError;
+use std::error::Error;
+use std::fmt::{self, Display, Formatter, Write};
 use store_faults::StoreFault;
-use thiserror::Error;
+use update_lines::ItemsFault;
 use zone_core::ZoneFault;
 
 /// Why a job has no answer. Each is reported by a line in place of the answer.
-#[derive(Clone, Copy, Debug, Error)]
+#[derive(Clone, Copy, Debug)]
 pub enum LineFault {
     /// The words or the input are refused.
-    #[error("{0}")]
     Refused(Refusal),
     /// The reader failed.
-    #[error("an input cannot be read, or nothing can listen at the address")]
     ReadFailed,
     /// Memory ran out. This says nothing of the words or the input.
-    #[error("out of memory")]
     NoMemory,
 }
 
 /// Why a job did not go through.
-#[derive(Clone, Copy, Debug, Error)]
+#[derive(Clone, Copy, Debug)]
 pub enum JobFault {
     /// A line told why it has no answer.
-    #[error("{0}")]
     Reported(LineFault),
     /// The writer failed, and a beginning of what was to be written went out.
-    #[error("the output cannot be written")]
     WriteFailed,
 }
+
+/// What is wrong, in words.
+impl Display for LineFault {
+    fn fmt<W: Write>(&self, f: &mut Formatter<W>) -> fmt::Result {
+        match self {
+            LineFault::Refused(refusal) => write!(f, "{refusal}"),
+            LineFault::ReadFailed => f.write_str(words(93)),
+            LineFault::NoMemory => f.write_str(words(99)),
+        }
+    }
+}
+
+impl Error for LineFault {}
+
+/// What is wrong, in words.
+impl Display for JobFault {
+    fn fmt<W: Write>(&self, f: &mut Formatter<W>) -> fmt::Result {
+        match self {
+            JobFault::Reported(fault) => write!(f, "{fault}"),
+            JobFault::WriteFailed => f.write_str("the output cannot be written"),
+        }
+    }
+}
+
+impl Error for JobFault {}
 
 /// The line of a failed read, which is told without memory.
 pub const READ_FAILED_LINE: &str = "refused 93\n";

@@ -7,50 +7,39 @@ use dns_data::DataFault;
 use dns_master::MasterFault;
 use dns_names::NameFault;
 use grant_policy::PolicyFault;
-use office_model::ItemsFault;
+use refusals::words;
+use std::error::Error;
 use std::fmt::{self, Display, Formatter, Write};
 use store_faults::StoreFault;
-use thiserror::Error;
+use update_lines::ItemsFault;
 use zone_core::{Rcode, ZoneFault};
 
 /// Why a job has no answer, however much memory there is and whatever devices do.
-#[derive(Clone, Copy, Debug, Error)]
+#[derive(Clone, Copy, Debug)]
 pub enum Refusal {
     /// A word of the command line is no absolute name.
-    #[error("{0}")]
     Name(NameFault),
     /// A word of the command line is no type that is kept.
-    #[error("records of this type are not kept")]
     TypeNotKept,
     /// A word of the command line is no identifier of a caller.
-    #[error("a caller is 1 to 64 of the octets a to z, A to Z, 0 to 9, -, _ and .")]
     NoCaller,
     /// A word of the command line is no action.
-    #[error("the action is not one of list, check, add, delete and delegate")]
     NoAction,
     /// A word of the command line is no rule for zones.
-    #[error("no rule for zones has this name: see zoneoffice check --help")]
     NoRule,
     /// The input has more than 4,194,304 octets.
-    #[error("the input has more than 4194304 octets")]
     TooLarge,
     /// No line of the input is `--`.
-    #[error("no line of the input is --")]
     NoDivider,
     /// The input is no master file.
-    #[error("{0}")]
     Master(MasterFault),
     /// The records are no zone.
-    #[error("{0}")]
     Zone(ZoneFault),
     /// The input is no policy.
-    #[error("{0}")]
     Policy(PolicyFault),
     /// The items are no update. Lines count from that of the whole input.
-    #[error("{0}")]
     Items(ItemsFault),
     /// An item of the update has a name outside the zone (`NotZone`), or is a prerequisite that does not hold.
-    #[error("item {item} of the update is refused: {}", .code.text())]
     Unmet {
         /// The code of the reply (RFC 2136 section 2.2).
         code: Rcode,
@@ -58,16 +47,12 @@ pub enum Refusal {
         item: usize,
     },
     /// A word of the command line is no number that the program prints for a refusal.
-    #[error("the program prints no such number")]
     UnknownNumber,
     /// A word of the command line is no identifier of an update.
-    #[error("an identifier is 1 to 64 of the octets a to z, A to Z, 0 to 9, -, _ and .")]
     NoIdentifier,
     /// The body of the update has more than 65,536 octets.
-    #[error("the body has more than 65536 octets")]
     BodyTooLarge,
     /// The store refuses it, or failed.
-    #[error("{0}")]
     Store(StoreFault),
 }
 
@@ -106,7 +91,41 @@ impl Refusal {
             _ => None,
         }
     }
+
+    /// What is wrong, in words, where it is not the fault of a lower crate.
+    fn own_words(self) -> &'static str {
+        match self {
+            Refusal::NoCaller =>
+                "a caller is 1 to 64 of the octets a to z, A to Z, 0 to 9, -, _ and .",
+            Refusal::NoAction => "the action is not one of list, check, add, delete and delegate",
+            Refusal::NoRule => "no rule for zones has this name: see zoneoffice check --help",
+            Refusal::NoIdentifier =>
+                "an identifier is 1 to 64 of the octets a to z, A to Z, 0 to 9, -, _ and .",
+            Refusal::BodyTooLarge => "the body has more than 65536 octets",
+            refusal => words(refusal.number()),
+        }
+    }
 }
+
+/// What is wrong, in words.
+impl Display for Refusal {
+    fn fmt<W: Write>(&self, f: &mut Formatter<W>) -> fmt::Result {
+        match self {
+            Refusal::Name(fault) => write!(f, "{fault}"),
+            Refusal::Master(fault) => write!(f, "{fault}"),
+            Refusal::Zone(fault) => write!(f, "{fault}"),
+            Refusal::Policy(fault) => write!(f, "{fault}"),
+            Refusal::Items(fault) => write!(f, "{fault}"),
+            Refusal::Store(fault) => write!(f, "{fault}"),
+            Refusal::Unmet { code, item } => {
+                write!(f, "item {item} of the update is refused: {}", code.text())
+            }
+            refusal => f.write_str(refusal.own_words()),
+        }
+    }
+}
+
+impl Error for Refusal {}
 
 /// The number of a fault of data, with that of the name in it.
 #[derive(Clone, Copy)]

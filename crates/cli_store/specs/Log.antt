@@ -7,7 +7,7 @@ use Rattle.dns_names.specs.Order.{same_name}
 use Rattle.zone_core.specs.Changes.{ChangeOf}
 use Rattle.zone_core.specs.Updates.{UpdateOf, tested_name, acted_name}
 use Rattle.office_model.specs.Replies.{NumberedOf}
-use Rattle.office_model.specs.Texts.{update_text}
+use Rattle.update_lines.specs.Texts.{update_text}
 use Rattle.office_core.specs.Machine.{numbered}
 use Rattle.store_rows.specs.declared.ordered.KeptReceipt.{KeptReceipt}
 use Rattle.office_model.specs.ReplyWords.{reply_words}

@@ -1,9 +1,9 @@
 //! Why the table in SQLite failed.
 
-use wire_tcp::Diagnosis;
 use office_store::{SqlTable, StoreFault};
 use sqlite::Alter;
 use std::sync::ledger::Ledger;
+use wire_tcp::Diagnosis;
 
 /// The diagnosis of the table in SQLite: the table remembers it.
 #[derive(Clone, Copy)]

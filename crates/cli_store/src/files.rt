@@ -4,10 +4,10 @@ ghost use Rattle.std.specs.Prelude.{◌≡◌, ℕ, Bool, List, false, ⊤, IfOk
 ghost use Rattle.sqlite.specs.Held.{Held};
 ghost use Rattle.store_faults.specs.declared.store_fault.StoreFault.{StoreFault as StoreFaultOf};
 
-use store_sql::connect_at;
 use office_store::StoreFault;
 use sqlite::{Alter, Connection, Error, ErrorCode, File, FileStore, Unknown};
 use std::fs;
+use store_sql::connect_at;
 
 /// What looks for the file of a store, and connects to it once: a connection uses it up.
 pub trait StoreFiles<S: Alter + Drop> {

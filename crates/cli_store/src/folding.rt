@@ -1,9 +1,9 @@
 //! The log of a store at the end of a command.
 
-use wire_tcp::Cause;
 use office_model::TableFault;
 use office_store::StoreFault;
 use sqlite::{Connection, File, FileStore};
+use wire_tcp::Cause;
 
 /// Ends the connection to a store of this machine: what its log has is copied into the database file, and both are closed. If that fails
 /// it is said on standard error, and is no failure of the command: all is in the two files still.

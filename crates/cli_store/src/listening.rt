@@ -3,11 +3,11 @@
 ghost use Rattle.std.specs.Prelude.{◌≡◌, ◌<◌};
 
 use crate::surroundings::Surroundings;
-use wire_tcp::Listener;
 use dns_master::DeviceFailed;
 use std::io;
 use std::net::{SocketAddr, TcpListener, TcpStream};
 use std::sync::ledger::{Blank, Book, Ledger, Share};
+use wire_tcp::Listener;
 
 /// A listener in what is around the program.
 #[derive(Drop)]

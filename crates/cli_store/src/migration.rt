@@ -9,13 +9,13 @@ ghost use Rattle.cli_store.specs.Stores.{stores_of};
 
 use crate::files::StoreFiles;
 use crate::store_file::migrate_store;
-use wire_tcp::write_texts;
+use cli_core::{JobFault, LineFault, write_refusal};
 use dns_master::{DeviceFailed, Sink};
 use itoa::Buffer;
-use cli_core::{JobFault, LineFault, write_refusal};
 use office_store::StoreFault;
 use sqlite::{Alter, Connection};
 use std::alloc::Global;
+use wire_tcp::write_texts;
 
 /// Writes the line that tells how many zones a migration changed. It takes no memory, so that memory cannot run out after the migration.
 fn tell_migrated<W: Sink>(writer: &mut W, zones: usize) -> Result<(), DeviceFailed>

@@ -18,14 +18,14 @@ use cli_core::{
     DiffForm, Input, Job, JobFault, NO_MEMORY_LINE, RequestForm, StoreJob, TextJob, WordsFault,
     ZoneFiles, read_words, write_text,
 };
-use dns_master::{Sink, Source};
-use sqlite::{Alter, Connection};
-use std::fmt::Display;
-use std::process::ExitCode;
 use cli_text::{
     Apply, Canon, DiffFault, Explain, Findings, Request, Split, Subject, Task, do_check, do_diff,
     do_plan,
 };
+use dns_master::{Sink, Source};
+use sqlite::{Alter, Connection};
+use std::fmt::Display;
+use std::process::ExitCode;
 
 /// Says in words on standard error why a job was not done.
 fn complain<F: Display + Drop>(rt: &HostRuntime, fault: F) {

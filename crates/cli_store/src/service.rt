@@ -14,7 +14,6 @@ use crate::listening::CountedListener;
 use crate::store_file::open_store;
 use crate::surroundings::Surroundings;
 use cli_core::{JobFault, LineFault, Service, write_refusal, write_text};
-use wire_tcp::{Connections, Diagnosis, longest_of, patience_of, serve_connections};
 use dns_master::Sink;
 use grant_policy::{Policy, read_policy};
 use office_model::ZoneTable;
@@ -24,6 +23,7 @@ use std::alloc::{AllocError, Global};
 use std::marker::Brand;
 use std::net::{SocketAddr, TcpListener};
 use std::sync::ledger::{Blank, Ledger};
+use wire_tcp::{Connections, Diagnosis, longest_of, patience_of, serve_connections};
 
 /// The policy of a path.
 fn policy_of<M: Surroundings>(around: &M, alloc: Global, path: &str) -> Result<Policy, LineFault>

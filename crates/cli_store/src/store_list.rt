@@ -19,15 +19,15 @@ use crate::store_file::StorePath;
 use crate::table_job::{TableJob, asked_by};
 use crate::zone_list::{ZoneSummary, zones_text};
 use crate::zones::report;
+use cli_core::{JobFault, LineFault};
 use dns_master::Sink;
 use dns_names::Name;
-use cli_core::{JobFault, LineFault};
-use store_rows::KeptReceipt;
 use office_store::{SqlTable, StoreFault};
 use sqlite::{Alter, Connection};
 use std::alloc::Global;
 use std::marker::Brand;
 use std::sync::ledger::{Blank, Ledger};
+use store_rows::KeptReceipt;
 use zone_core::{Change, Zone};
 
 /// What a store has: its zones, and its receipts.

@@ -14,16 +14,16 @@ use crate::table_job::{TableJob, asked_by};
 use crate::zone_log::log_text;
 use crate::zones::report;
 use cli_core::{JobFault, LineFault, LogChoice, StoredZone, write_refusal};
+use cli_text::{name_if, read_caller, read_name};
 use dns_master::Sink;
 use dns_names::Name;
 use grant_policy::Identifier;
-use store_rows::KeptReceipt;
 use office_store::{SqlTable, StoreFault};
 use sqlite::{Alter, Connection};
 use std::alloc::Global;
 use std::marker::Brand;
 use std::sync::ledger::{Blank, Ledger};
-use cli_text::{name_if, read_caller, read_name};
+use store_rows::KeptReceipt;
 use zone_core::Change;
 
 /// What a store has of a zone: its changes, and the receipts of the store.

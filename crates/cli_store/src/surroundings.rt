@@ -4,8 +4,8 @@ ghost use Rattle.std.specs.Prelude.{⊤, Some, [], OnErr};
 ghost use Rattle.cli_core.specs.LineFaults.{GivesOf, limited};
 ghost use Rattle.cli_store.specs.Around.{Around};
 
-use dns_master::DeviceFailed;
 use cli_core::{Input, LineFault};
+use dns_master::DeviceFailed;
 use std::alloc::Global;
 use std::net::{SocketAddr, TcpListener, TcpStream};
 

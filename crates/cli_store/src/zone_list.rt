@@ -7,10 +7,10 @@ ghost use Rattle.dns_names.specs.Order.{canonical_cmp, same_name};
 ghost use Rattle.cli_store.specs.ZoneList.{is_listed, receipts_of, zone_line, elsewhere_line, zones_text};
 
 use dns_names::Name;
-use store_rows::KeptReceipt;
 use std::alloc::{AllocError, Global};
 use std::collections::BTreeMap;
 use std::fmt::Write as _;
+use store_rows::KeptReceipt;
 
 /// What there is of a zone of a store.
 #[derive(Drop)]

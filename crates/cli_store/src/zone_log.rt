@@ -7,11 +7,12 @@ ghost use Rattle.office_core.specs.Machine.{numbered};
 ghost use Rattle.cli_store.specs.Log.{numbered_as, change_text, receipt_line, receipt_text, asks_change, asks_receipt, changes_asked, receipts_asked, log_text};
 
 use crate::log_choice::LogAsked;
-use store_rows::KeptReceipt;
-use office_model::{items_text, reply_words};
+use cli_text::push_signed;
+use office_model::reply_words;
 use std::alloc::{AllocError, Global};
 use std::fmt::Write as _;
-use cli_text::push_signed;
+use store_rows::KeptReceipt;
+use update_lines::items_text;
 use zone_core::Change;
 
 /// Appends a change with its number: the records that went, and those that came. The only error is out of memory.

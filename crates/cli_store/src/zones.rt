@@ -18,6 +18,7 @@ use crate::table_job::{TableJob, asked_by, done_at};
 use cli_core::{
     Existing, Input, JobFault, LineFault, StoredZone, ZoneForm, ended, write_refusal, write_text,
 };
+use cli_text::{print_zone_in, read_name, read_zone};
 use dns_data::Record;
 use dns_master::Sink;
 use dns_names::Name;
@@ -27,7 +28,6 @@ use std::alloc::{AllocError, Global};
 use std::fmt::{self, Display, Formatter, Write};
 use std::marker::Brand;
 use std::sync::ledger::{Blank, Ledger};
-use cli_text::{print_zone_in, read_name, read_zone};
 use zone_core::Zone;
 
 /// The line that tells of a zone that it was imported: its origin, its serial, and the number of its records.

@@ -20,7 +20,7 @@ use Rattle.zone_core.proofs.ChangedLemmas.{listed}
 use Rattle.zone_core.proofs.MetLemmas.{met_answer}
 use Rattle.zone_core.proofs.UpdateLemmas.{none_outside}
 use Rattle.zone_tools.proofs.DiffPromiseLemmas.{operations_lead, operations_soa, operations_within}
-use Rattle.office_model.proofs.PrintLaws.{update_read}
+use Rattle.update_lines.proofs.PrintLaws.{update_read}
 use Rattle.cli_text.specs.Apply.{first_unmet, updated, unless, zone_lines}
 use Rattle.cli_text.specs.Diff.{DiffsAreApplied, DiffsAreMadeBeside, DiffsAreMet, DiffsHaveRoom, DiffsLead, DiffsTell, OperationsAreGuarded, OperationsTell, prerequisites_in, target_of, update_between, update_in}
 use Rattle.cli_text.specs.Guards.{changes_set}

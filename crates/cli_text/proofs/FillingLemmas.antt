@@ -1,7 +1,7 @@
 -- How parts are filled.
 use Rattle.std.proofs.Common.{◌≡◌, ◌∙◌, ℕ, zero, suc, ◌+◌, ◌<◌, ◌≤◌, List, [], ◌∷◌, ◌++◌, length, get_or, map, drop, true, false, arith, refl, sym, ap, append_assoc}
 use Rattle.zone_core.specs.Updates.{UpdateOf}
-use Rattle.office_model.specs.Reading.{behind, no_items}
+use Rattle.update_lines.specs.Reading.{behind, no_items}
 use Rattle.cli_text.specs.Octets.{sum_up}
 use Rattle.cli_text.specs.Filling.{PieceOf, filled, takes}
 

@@ -6,10 +6,10 @@ use Rattle.dns_master.specs.Entries.{Entry, entries}
 use Rattle.dns_master.proofs.LineLemmas.{fault_line_within, line_at_within}
 use Rattle.zone_core.specs.declared.refusals.UpdateFault.{UpdateFault}
 use Rattle.zone_core.specs.Updates.{update_of}
-use Rattle.office_model.specs.declared.items_fault.ItemsFault.{ItemsFault}
-use Rattle.office_model.specs.declared.items_fault.ItemsFault.TheVariants.{BadLine}
-use Rattle.office_model.specs.ItemFaults.{◌>>=◌, at_line, of_shapes, of_updates}
-use Rattle.office_model.specs.Reading.{entry_line, update_item, or_bad_line, behind, one_item, lists_in, lists_of, items_of}
+use Rattle.update_lines.specs.declared.items_fault.ItemsFault.{ItemsFault}
+use Rattle.update_lines.specs.declared.items_fault.ItemsFault.TheVariants.{BadLine}
+use Rattle.update_lines.specs.ItemFaults.{◌>>=◌, at_line, of_shapes, of_updates}
+use Rattle.update_lines.specs.Reading.{entry_line, update_item, or_bad_line, behind, one_item, lists_in, lists_of, items_of}
 
 -- ---- steps
 

@@ -11,7 +11,7 @@ use Rattle.zone_core.specs.declared.update.Prerequisite.{Prerequisite}
 use Rattle.zone_core.specs.declared.update.Operation.{Operation}
 use Rattle.zone_core.specs.Updates.{UpdateOf, acted_name, tested_name}
 use Rattle.zone_core.proofs.SetLemmas.{by_cases, name_self}
-use Rattle.office_model.specs.Reading.{behind, no_items}
+use Rattle.update_lines.specs.Reading.{behind, no_items}
 use Rattle.cli_text.specs.Octets.{bare_length, capped, sum_up}
 use Rattle.cli_text.specs.Slots.{acted_names, acted_place, first_at, in_places, is_place, placed_at, tested_names, tested_place, tests_soa, unplaced}
 use Rattle.cli_text.specs.Filling.{PieceOf, filled, has_room, takes}

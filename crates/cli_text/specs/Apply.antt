@@ -14,9 +14,9 @@ use Rattle.zone_core.specs.Zones.{ZoneOf, built, soa_in}
 use Rattle.zone_core.specs.Updates.{UpdateOf, first_outside}
 use Rattle.zone_core.specs.Prerequisites.{verdict}
 use Rattle.zone_core.specs.Effects.{zone_after}
-use Rattle.office_model.specs.declared.items_fault.ItemsFault.{ItemsFault}
-use Rattle.office_model.specs.declared.items_fault.ItemsFault.TheVariants.{BadLine}
-use Rattle.office_model.specs.Reading.{items_of}
+use Rattle.update_lines.specs.declared.items_fault.ItemsFault.{ItemsFault}
+use Rattle.update_lines.specs.declared.items_fault.ItemsFault.TheVariants.{BadLine}
+use Rattle.update_lines.specs.Reading.{items_of}
 use Rattle.cli_core.specs.declared.refusal.Refusal.{Refusal}
 use Rattle.cli_core.specs.declared.refusal.Refusal.TheVariants.{NoDivider, Zone, Unmet}
 use Rattle.cli_core.specs.LineFaults.{◌>>=◌, or_refused, limited, of_masters, of_zones, of_items}

@@ -11,12 +11,13 @@ use Rattle.grant_policy.specs.declared.rule.Rule.{Rule}
 use Rattle.grant_policy.specs.Documents.{document_of}
 use Rattle.grant_policy.specs.Reading.{identifier_of, policy_of}
 use Rattle.grant_policy.specs.Words.{action_text}
-use Rattle.grant_policy.specs.declared.exposure.Exposure.{Exposure}
-use Rattle.grant_policy.specs.declared.exposure.Exposure.TheVariants.{Soa, Shared}
-use Rattle.grant_policy.specs.declared.exposure.Right.{Right}
-use Rattle.grant_policy.specs.Isolated.{IsIsolated, IsExposed}
-use Rattle.grant_policy.specs.declared.idle.IdleRule.{IdleRule}
-use Rattle.grant_policy.specs.Idle.{IsIdle, AreTakers}
+use Rattle.grant_policy.specs.Isolated.{IsIsolated}
+use Rattle.policy_tools.specs.declared.exposure.Exposure.{Exposure}
+use Rattle.policy_tools.specs.declared.exposure.Exposure.TheVariants.{Soa, Shared}
+use Rattle.policy_tools.specs.declared.exposure.Right.{Right}
+use Rattle.policy_tools.specs.Exposures.{IsExposed}
+use Rattle.policy_tools.specs.declared.idle.IdleRule.{IdleRule}
+use Rattle.policy_tools.specs.Idle.{IsIdle, AreTakers}
 use Rattle.cli_text.specs.declared.check.Findings.{Findings}
 use Rattle.cli_text.specs.declared.check.Findings.TheVariants.{Absent, Present}
 use Rattle.cli_text.specs.declared.check.Asked.{Asked}

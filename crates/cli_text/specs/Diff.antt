@@ -11,8 +11,8 @@ use Rattle.zone_core.specs.Updates.{UpdateOf}
 use Rattle.zone_core.specs.Effects.{zone_after}
 use Rattle.zone_core.specs.Met.{AreMet}
 use Rattle.zone_tools.specs.Differences.{operations, target}
-use Rattle.office_model.specs.Reading.{items_of}
-use Rattle.office_model.specs.Texts.{update_text}
+use Rattle.update_lines.specs.Reading.{items_of}
+use Rattle.update_lines.specs.Texts.{update_text}
 use Rattle.cli_core.specs.declared.job.DiffForm.{DiffForm}
 use Rattle.cli_core.specs.declared.job.DiffForm.TheVariants.{Bare, Guarded}
 use Rattle.cli_core.specs.declared.refusal.Refusal.{Refusal}

@@ -3,7 +3,7 @@ use Rattle.std.specs.Prelude.{ℕ, ◌+◌, List, [], ◌∷◌, map, length, Bo
 use Rattle.std.specs.Borrow.{Bor}
 use Rattle.zone_core.specs.declared.update.Operation.{Operation}
 use Rattle.zone_core.specs.Updates.{UpdateOf}
-use Rattle.office_model.specs.Reading.{behind, no_items}
+use Rattle.update_lines.specs.Reading.{behind, no_items}
 use Rattle.cli_text.specs.declared.filling.Piece.{Piece}
 use Rattle.cli_text.specs.declared.filling.Part.{Part}
 use Rattle.cli_text.specs.Octets.{sum_up}

@@ -3,7 +3,7 @@ use Rattle.std.specs.Prelude.{ℕ, ◌+◌, ◌-◌, List, [], ◌∷◌, fold, 
 use Rattle.zone_core.specs.declared.update.Prerequisite.{Prerequisite}
 use Rattle.zone_core.specs.declared.update.Operation.{Operation}
 use Rattle.zone_core.specs.Updates.{UpdateOf}
-use Rattle.office_model.specs.Reading.{no_items}
+use Rattle.update_lines.specs.Reading.{no_items}
 use Rattle.wire_json.specs.UpdateTexts.{update_text}
 
 -- octets are counted up to 65,535

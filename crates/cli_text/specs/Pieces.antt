@@ -4,7 +4,7 @@ use Rattle.std.specs.List.{flat_map, zip}
 use Rattle.zone_core.specs.declared.update.Prerequisite.{Prerequisite}
 use Rattle.zone_core.specs.declared.update.Operation.{Operation}
 use Rattle.zone_core.specs.Updates.{UpdateOf}
-use Rattle.office_model.specs.Reading.{no_items}
+use Rattle.update_lines.specs.Reading.{no_items}
 use Rattle.cli_text.specs.Octets.{bare_length, capped, one_operation, operation_octets, sum_up, tests_octets}
 use Rattle.cli_text.specs.Slots.{acted_place, in_places, tested_place, unplaced}
 use Rattle.cli_text.specs.Filling.{PieceOf, has_room, parts_of}

@@ -1,7 +1,7 @@
 -- What `request` prints: the body of an update under an identifier, of its items.
 use Rattle.std.specs.Prelude.{ℕ, List, [], ◌∷◌, ◌++◌, length, nat_lt, if◌then◌else◌, Result, Ok, Err}
 use Rattle.grant_policy.specs.Reading.{identifier_of}
-use Rattle.office_model.specs.Reading.{items_of}
+use Rattle.update_lines.specs.Reading.{items_of}
 use Rattle.wire_json.specs.UpdateTexts.{update_text}
 use Rattle.cli_core.specs.declared.refusal.Refusal.{Refusal}
 use Rattle.cli_core.specs.declared.refusal.Refusal.TheVariants.{NoIdentifier, BodyTooLarge}

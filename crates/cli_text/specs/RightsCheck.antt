@@ -5,15 +5,15 @@ use Rattle.dns_names.specs.Spelling.{name_text}
 use Rattle.dns_data.specs.declared.record_type.RecordType.{RecordType}
 use Rattle.dns_data.specs.Types.{kept_types, type_text}
 use Rattle.grant_policy.specs.declared.action.Action.{Action}
-use Rattle.grant_policy.specs.declared.name_groups.GroupRights.{GroupRights}
-use Rattle.grant_policy.specs.declared.name_groups.NameGroup.{NameGroup}
-use Rattle.grant_policy.specs.declared.name_groups.NameGroup.TheVariants.{Exactly, Below}
-use Rattle.grant_policy.specs.declared.name_rights.CallerRights.{CallerRights}
-use Rattle.grant_policy.specs.declared.name_rights.NameRights.{NameRights}
+use Rattle.policy_tools.specs.declared.name_groups.GroupRights.{GroupRights}
+use Rattle.policy_tools.specs.declared.name_groups.NameGroup.{NameGroup}
+use Rattle.policy_tools.specs.declared.name_groups.NameGroup.TheVariants.{Exactly, Below}
+use Rattle.policy_tools.specs.declared.name_rights.CallerRights.{CallerRights}
+use Rattle.policy_tools.specs.declared.name_rights.NameRights.{NameRights}
 use Rattle.grant_policy.specs.declared.rule.Rule.{Rule}
-use Rattle.grant_policy.specs.NameGroups.{AreGroupRights}
-use Rattle.grant_policy.specs.NameRights.{AreRightsAt}
-use Rattle.grant_policy.specs.Points.{has_point}
+use Rattle.policy_tools.specs.NameGroups.{AreGroupRights}
+use Rattle.policy_tools.specs.NameRights.{AreRightsAt}
+use Rattle.policy_tools.specs.Points.{has_point}
 use Rattle.grant_policy.specs.Words.{action_text, all_actions}
 
 -- ---- a caller

@@ -8,9 +8,9 @@ use Rattle.zone_core.specs.declared.update.Operation.TheVariants.{Add}
 use Rattle.zone_core.specs.Serials.{serial_sum}
 use Rattle.zone_core.specs.declared.refusals.UpdateFault.TheVariants.{TwoSoa}
 use Rattle.zone_core.specs.Updates.{UpdateOf, adds_soa, update_of}
-use Rattle.office_model.specs.Reading.{lists_of}
-use Rattle.office_model.specs.declared.items_fault.ItemsFault.TheVariants.{Update}
-use Rattle.office_model.specs.ItemFaults.{of_updates}
+use Rattle.update_lines.specs.Reading.{lists_of}
+use Rattle.update_lines.specs.declared.items_fault.ItemsFault.TheVariants.{Update}
+use Rattle.update_lines.specs.ItemFaults.{of_updates}
 use Rattle.wire_json.specs.UpdateTexts.{update_text}
 use Rattle.cli_core.specs.declared.refusal.Refusal.{Refusal}
 use Rattle.cli_core.specs.declared.refusal.Refusal.TheVariants.{Items}

@@ -9,12 +9,12 @@ ghost use Rattle.cli_text.specs.Apply.{origin_of, zone_of_records, records_of, l
 
 use crate::parts::{InputParts, divided};
 use crate::task::Task;
+use cli_core::{Input, JobFault, LineFault, Refusal, ended, read_input, write_refusal};
 use dns_data::{Data, Record};
 use dns_master::{Sink, print_records, read_file};
 use dns_names::Name;
-use cli_core::{Input, JobFault, LineFault, Refusal, ended, read_input, write_refusal};
-use office_model::{ItemsFault, read_items};
 use std::alloc::Global;
+use update_lines::{ItemsFault, read_items};
 use zone_core::{Outcome, Rcode, Update, Zone, ZoneFault, apply_owned, holds};
 
 /// What was read of an input, whose octets are given back.

@@ -14,9 +14,8 @@ use crate::zone_check::{RuleFilter, filter_of, zone_report};
 use cli_core::{Input, JobFault, LineFault, RuleChoice, read_input, write_refusal, write_text};
 use dns_master::Sink;
 use dns_names::Name;
-use grant_policy::{
-    Exposure, Identifier, IdleRule, Policy, Right, Rule, idle_rules, isolation, read_policy,
-};
+use grant_policy::{Identifier, Policy, Rule, read_policy};
+use policy_tools::{Exposure, IdleRule, Right, idle_rules, isolation};
 use std::alloc::{AllocError, Global};
 use zone_core::Zone;
 

@@ -10,8 +10,8 @@ use crate::guard::guards_of;
 use crate::task::Task;
 use cli_core::{DiffForm, Input, JobFault, LineFault, read_input, write_answer, write_refusal};
 use dns_master::Sink;
-use office_model::lists_text;
 use std::alloc::{AllocError, Global};
+use update_lines::lists_text;
 use zone_core::{Operation, Prerequisite, Zone};
 use zone_tools::operations_between;
 

@@ -1,7 +1,7 @@
 //! The number of a refusal, in words.
 
 ghost use Rattle.std.specs.Prelude.{◌≡◌, IfOk, map, option_map, string_bytes};
-ghost use Rattle.refusals.specs.Numbers.{row_of};
+ghost use Rattle.refusals.specs.Tables.{row_of};
 ghost use Rattle.cli_core.specs.LineFaults.{Gives};
 ghost use Rattle.cli_text.specs.Explain.{rows_asked, rows_text, explain_made, explain_text};
 

@@ -1,7 +1,7 @@
 //! How parts of an update are filled: each as far as its limits go.
 
 ghost use Rattle.std.specs.Prelude.{◌≡◌, ◌++◌, ◌∷◌, List, map, IfOk, OnOk};
-ghost use Rattle.office_model.specs.Reading.{behind, no_items};
+ghost use Rattle.update_lines.specs.Reading.{behind, no_items};
 ghost use Rattle.cli_text.specs.Octets.{sum_up};
 ghost use Rattle.cli_text.specs.Filling.{is_bare, has_room, takes, filled, parts_of, PieceOf, piece_view, part_view};
 

@@ -3,30 +3,21 @@
 ghost use Rattle.std.specs.Prelude.{◌≡◌, ◌==◌, ◌++◌, IfOk, OnOk, map};
 ghost use Rattle.std.specs.List.{filter, find, flat_map, list_all, list_any, zip};
 ghost use Rattle.std.specs.Option.{option_copied};
-ghost use Rattle.dns_data.specs.Rdata.{type_of};
-ghost use Rattle.dns_data.specs.RecordOrder.{rank_of};
-ghost use Rattle.zone_core.specs.Sets.{key_of, same_key};
 ghost use Rattle.zone_core.specs.Updates.{adds_soa};
 ghost use Rattle.zone_tools.specs.Differences.{is_equal};
 ghost use Rattle.cli_text.specs.Guards.{set_like, begins_with, are_equal, changes_set, changed_firsts, is_unused, lacks, is_new, new_firsts, comes_first, there, absent, types_absent, not_there, guards_of};
 
-use dns_data::{Record, RecordType, record_order};
+use dns_data::{Record, RecordType};
 use dns_names::Name;
 use std::alloc::{AllocError, Global};
-use zone_core::{Operation, Prerequisite, Zone};
+use zone_core::{Operation, Prerequisite, Zone, has_type};
+use zone_tools::{is_equal, is_same};
 
 /// The record set of a record's owner and type.
 fn set_like<'a>(zone: &'a Zone, rr: &Record) -> &'a [Record]
     ensures { result.now ≡ set_like zone.entry.now.records rr.now }
 {
     zone.rrset(&rr.owner, rr.record_type())
-}
-
-/// Whether two records are the same, with whatever TTLs.
-fn is_same(first: &Record, second: &Record) -> bool
-    ensures { result ≡ same_key (key_of first.now) (key_of second.now) }
-{
-    record_order(first, second).is_eq()
 }
 
 /// Whether records begin with this one, with whatever TTL.
@@ -37,13 +28,6 @@ fn begins_with(records: &[Record], rr: &Record) -> bool
         [first, ..] => is_same(first, rr),
         [] => false,
     }
-}
-
-/// Whether two records are equal, TTLs counted.
-fn is_equal(first: &Record, second: &Record) -> bool
-    ensures { result ≡ is_equal first.now second.now }
-{
-    is_same(first, second) && first.ttl.seconds() == second.ttl.seconds()
 }
 
 /// Whether records are equal one by one, as far as there are two.
@@ -68,13 +52,6 @@ pub(crate) fn adds_soa(operation: &Operation) -> bool
         Operation::Add(rr) => has_type(rr, RecordType::Soa),
         _ => false,
     }
-}
-
-/// Whether a record is of a type.
-fn has_type(rr: &Record, record_type: RecordType) -> bool
-    ensures { result ≡ (rank_of (type_of rr.now.rdata) == rank_of record_type) }
-{
-    rr.record_type().rank() == record_type.rank()
 }
 
 /// Whether some operation adds an SOA.

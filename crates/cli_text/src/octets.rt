@@ -1,13 +1,13 @@
 //! How many octets the items of an update add to the body that has them.
 
 ghost use Rattle.std.specs.Prelude.{◌≡◌, IfOk};
-ghost use Rattle.office_model.specs.Reading.{no_items};
+ghost use Rattle.update_lines.specs.Reading.{no_items};
 ghost use Rattle.cli_text.specs.Octets.{bare_length, capped, added, one_test, one_operation, test_octets, operation_octets, tests_octets};
 ghost use Rattle.cli_text.specs.Slots.{lent};
 
 use grant_policy::Identifier;
-use wire_json::update_text;
 use std::alloc::{AllocError, Global};
+use wire_json::update_text;
 use zone_core::{Operation, Prerequisite, Update};
 
 /// By what the octets of items are counted.

@@ -3,15 +3,15 @@
 ghost use Rattle.std.specs.Prelude.{string_bytes};
 ghost use Rattle.cli_core.specs.LineFaults.{Gives, GivesOf, of_items};
 ghost use Rattle.cli_text.specs.Request.{identifier_in, body_line, body_of_items, request_text};
-ghost use Rattle.office_model.specs.Reading.{items_of};
+ghost use Rattle.update_lines.specs.Reading.{items_of};
 
 use crate::task::Task;
+use cli_core::{Input, JobFault, LineFault, Refusal, read_input, write_answer};
 use dns_master::Sink;
 use grant_policy::{Identifier, IdentifierFault};
-use cli_core::{Input, JobFault, LineFault, Refusal, read_input, write_answer};
-use wire_json::update_text;
-use office_model::read_items;
 use std::alloc::Global;
+use update_lines::read_items;
+use wire_json::update_text;
 use zone_core::Update;
 
 /// The most octets of a body that the office reads.

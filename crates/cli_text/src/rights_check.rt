@@ -6,9 +6,9 @@ ghost use Rattle.cli_text.specs.RightsCheck.{type_if, types_text, line_of_types,
 
 use dns_data::RecordType;
 use dns_names::Name;
-use grant_policy::{
-    Action, CallerRights, GroupRights, NameGroup, NameRights, Policy, Rights, rights_at,
-    rights_by_group,
+use grant_policy::{Action, Policy};
+use policy_tools::{
+    CallerRights, GroupRights, NameGroup, NameRights, Rights, rights_at, rights_by_group,
 };
 use std::alloc::{AllocError, Global};
 

@@ -3,7 +3,7 @@
 ghost use Rattle.std.specs.Prelude.{◌≡◌, ◌<◌, ◌^◌, ◌++◌, ℕ, List, [], length, map, IfOk, OnOk, string_bytes};
 ghost use Rattle.std.specs.List.{filter};
 ghost use Rattle.zone_core.specs.Updates.{adds_soa};
-ghost use Rattle.office_model.specs.Views.{lists_view};
+ghost use Rattle.update_lines.specs.Views.{lists_view};
 ghost use Rattle.cli_core.specs.LineFaults.{Gives, GivesOf};
 ghost use Rattle.cli_text.specs.Request.{identifier_in};
 ghost use Rattle.cli_text.specs.Slots.{lent};
@@ -16,13 +16,13 @@ use crate::guard::adds_soa;
 use crate::pieces::split;
 use crate::request::{body_line, read_identifier};
 use crate::task::Task;
+use cli_core::{Input, JobFault, LineFault, read_input, write_answer};
 use dns_data::{Data, Record, Serial, Soa};
 use dns_master::Sink;
 use grant_policy::Identifier;
-use cli_core::{Input, JobFault, LineFault, read_input, write_answer};
-use wire_json::update_text;
-use office_model::{ItemLists, ItemsFault, read_item_lists};
 use std::alloc::{AllocError, Global};
+use update_lines::{ItemLists, ItemsFault, read_item_lists};
+use wire_json::update_text;
 use zone_core::{Operation, Prerequisite, Update, UpdateFault, serial_add};
 
 /// The most that is added to a serial (RFC 1982 section 3.1).

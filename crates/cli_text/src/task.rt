@@ -4,8 +4,8 @@ ghost use Rattle.std.specs.Prelude.{List, ℕ, Result};
 ghost use Rattle.cli_core.specs.declared.refusal.Refusal.{Refusal};
 ghost use Rattle.cli_core.specs.Replies.{Answered};
 
-use dns_master::Sink;
 use cli_core::{Input, JobFault};
+use dns_master::Sink;
 use std::alloc::Global;
 
 /// What is answered to an input.

@@ -1,14 +1,13 @@
-//! The texts of addresses, for which no memory is taken.
+//! The texts of IPv6 addresses, for which no memory is taken.
 
-ghost use Rattle.std.specs.Prelude.{◌≡◌, ◌≤◌, ◌<◌, ◌+◌, ◌*◌, ◌∷◌, [], ◌++◌, length, take, drop, decimal};
+ghost use Rattle.std.specs.Prelude.{◌≡◌, ◌≤◌, ◌<◌, ◌+◌, ◌*◌, ◌∷◌, [], ◌++◌, length, take, drop};
 ghost use Rattle.std.specs.Char.{digit_char};
-ghost use Rattle.std.specs.Net.Addr.{ipv4_octets, ipv6_segments};
-ghost use Rattle.std.specs.Net.Text.{ipv4_text, hex, leading_zero_digits, groups_text, longest_zero_run, hex_groups_text};
+ghost use Rattle.std.specs.Net.Addr.{ipv6_segments};
+ghost use Rattle.std.specs.Net.Text.{hex, leading_zero_digits, groups_text, longest_zero_run, hex_groups_text};
 ghost use Rattle.arrayvec.specs.ArrayVec.{array_vec_len};
 
 use arrayvec::ArrayVec;
-use itoa::Buffer;
-use std::net::{Ipv4Addr, Ipv6Addr};
+use std::net::Ipv6Addr;
 
 /// Appends octets for which there is room.
 fn push_octets<const N: usize>(text: &mut ArrayVec<u8, N>, octets: &[u8])
@@ -17,31 +16,6 @@ fn push_octets<const N: usize>(text: &mut ArrayVec<u8, N>, octets: &[u8])
 {
     // it fails for want of room alone
     let _ = text.try_extend_from_slice(octets);
-}
-
-/// Appends a decimal number of at most three digits.
-fn push_decimal(text: &mut ArrayVec<u8, 16>, number: u8)
-    requires { array_vec_len text.old + 3 ≤ 16 }
-    ensures items { text.new.items ≡ text.old.items ++ decimal number }
-    ensures len { array_vec_len text.new ≤ array_vec_len text.old + 3 }
-{
-    push_octets(text, Buffer::new().format(number).as_bytes());
-}
-
-/// The text of an IPv4 address: four decimal numbers with dots between them.
-pub(crate) fn ipv4_text(address: Ipv4Addr) -> ArrayVec<u8, 16>
-    ensures { result.items ≡ ipv4_text (ipv4_octets address) }
-{
-    let [first, second, third, fourth] = address.octets();
-    let mut text = ArrayVec::new();
-    push_decimal(&mut text, first);
-    text.push(b'.');
-    push_decimal(&mut text, second);
-    text.push(b'.');
-    push_decimal(&mut text, third);
-    text.push(b'.');
-    push_decimal(&mut text, fourth);
-    text
 }
 
 /// A hexadecimal digit, in lower case.

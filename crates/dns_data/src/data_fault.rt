@@ -4,6 +4,7 @@ ghost use Rattle.std.specs.Prelude.{◌≡◌};
 ghost use Rattle.dns_data.specs.declared.data_fault.DataFault.TheVariants.{NoMemory};
 
 use dns_names::NameFault;
+use refusals::words;
 use std::alloc::{AllocError, AllocFailed};
 use std::error::Error;
 use std::fmt;
@@ -40,25 +41,6 @@ pub enum DataFault {
 impl DataFault {
     ghost use Rattle.dns_data.specs.Faults.{fault_number};
 
-    /// What is wrong, in words. What is wrong with a name is said by its fault.
-    const fn words(self) -> &'static str {
-        match self {
-            DataFault::BadAddress => "this is no address of the record's type",
-            DataFault::BadNumber => "this is no decimal number",
-            DataFault::NumberRange => "the number is too large for its field",
-            DataFault::StringTooLong => "a character-string has more than 255 octets",
-            DataFault::FieldMissing => "a field of the record data is missing",
-            DataFault::FieldExtra => "an item stands behind the record data",
-            DataFault::TypeNotKept => "records of this type are not kept",
-            DataFault::DataTooLong => "the record data have more than 65535 octets",
-            DataFault::Name(_) => "the name is malformed",
-            DataFault::QuotedItem =>
-                "a quoted item stands where a name, a number, an address or a digest is wanted",
-            DataFault::BadDigest => "the digest is no row of pairs of hexadecimal digits",
-            DataFault::NoMemory => "out of memory",
-        }
-    }
-
     /// The published number of the refusal, 11 to 20 or 33, or 99 when out of memory. A name's own number is that of its
     /// fault.
     pub const fn number(self) -> u8
@@ -85,7 +67,7 @@ impl fmt::Display for DataFault {
     fn fmt<W: fmt::Write>(&self, f: &mut fmt::Formatter<W>) -> fmt::Result {
         match self {
             DataFault::Name(fault) => write!(f, "{fault}"),
-            fault => f.write_str(fault.words()),
+            fault => f.write_str(words(fault.number())),
         }
     }
 }

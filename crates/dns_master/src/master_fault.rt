@@ -4,6 +4,7 @@ ghost use Rattle.std.specs.Prelude.{◌≡◌};
 ghost use Rattle.dns_master.specs.declared.master_fault.MasterFault.TheVariants.{NoMemory};
 
 use dns_data::DataFault;
+use refusals::words;
 use std::alloc::{AllocError, AllocFailed};
 use std::error::Error;
 use std::fmt::{self, Debug, Display, Formatter, Write};
@@ -94,21 +95,11 @@ impl Display for MasterFault {
         if let Some(line) = self.line() {
             write!(f, "line {line}: ")?;
         }
-        f.write_str(match self {
-            MasterFault::ParenOpen(_) => "a parenthesis is never closed",
-            MasterFault::ParenClose(_) => "a parenthesis is closed that was never opened",
-            MasterFault::QuoteOpen(_) => "a quote is never closed",
-            MasterFault::NoOwner(_) => "the record has no owner, and none stands before it",
-            MasterFault::NoTtl(_) => "the record has no TTL, and none is in force",
-            MasterFault::ClassNotIn(_) => "only records of class IN are kept",
-            MasterFault::DirectiveNotKept(_) => "only the directives $ORIGIN and $TTL are read",
-            MasterFault::BadTtl(_) => "this is no TTL",
-            MasterFault::Data { fault, .. } => return write!(f, "{fault}"),
-            MasterFault::TooLarge => "the master file has more than 4194304 octets",
-            MasterFault::EntryShort(_) => "the entry ends too soon",
-            MasterFault::WriteFailed => "the master file could not be written",
-            MasterFault::NoMemory => "out of memory",
-        })
+        match self {
+            MasterFault::Data { fault, .. } => write!(f, "{fault}"),
+            MasterFault::TooLarge => f.write_str("the master file has more than 4194304 octets"),
+            fault => f.write_str(words(fault.number())),
+        }
     }
 }
 

@@ -3,6 +3,7 @@
 ghost use Rattle.std.specs.Prelude.{◌≡◌};
 ghost use Rattle.dns_names.specs.declared.name_fault.NameFault.TheVariants.{NoMemory};
 
+use refusals::words;
 use std::alloc::{AllocError, AllocFailed};
 use std::error::Error;
 use std::fmt::{self, Display, Formatter, Write};
@@ -48,16 +49,7 @@ impl NameFault {
 /// What is wrong, in words.
 impl Display for NameFault {
     fn fmt<W: Write>(&self, f: &mut Formatter<W>) -> fmt::Result {
-        f.write_str(match *self {
-            NameFault::EmptyLabel => "a label of the name is empty",
-            NameFault::LabelTooLong => "a label of the name has more than 63 octets",
-            NameFault::NameTooLong => "the name has more than 255 octets",
-            NameFault::BadEscape =>
-                "a backslash in the name begins no escape: \\X or \\DDD with a number up to 255",
-            NameFault::NotAbsolute => "the name is not absolute: it does not end in a dot",
-            NameFault::Empty => "the name is empty",
-            NameFault::NoMemory => "out of memory",
-        })
+        f.write_str(words(self.number()))
     }
 }
 

@@ -14,15 +14,4 @@ pub mod IdLemmas
 pub mod ReadLemmas
 pub mod PolicyLaws
 pub mod DocumentLaws
-pub mod FreeNameLemmas
-pub mod PointLemmas
-pub mod RepresentativeLemmas
 mod ReachLemmas
-pub mod CallerLemmas
-pub mod TakeLemmas
-pub mod IdleLemmas
-pub mod ClaimLemmas
-pub mod EntryRightLemmas
-pub mod IsolatedLemmas
-mod NameRightLemmas
-mod NameGroupLemmas

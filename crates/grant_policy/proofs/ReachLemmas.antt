@@ -20,8 +20,7 @@ use Rattle.grant_policy.specs.Scopes.{Covers, covers}
 use Rattle.grant_policy.specs.Rules.{Question, matches, is_of, has, same_type, same_action}
 use Rattle.grant_policy.specs.Decisions.{decided, decision, effect_by, is_granted}
 use Rattle.grant_policy.specs.Reach.{AreWithin, IsReach, IsWidened, is_grant, grants_to, reach_at, reach_of, reaches}
-use Rattle.grant_policy.proofs.ScopeLemmas.{is_within-Decides, covers-Decides}
-use Rattle.grant_policy.proofs.RepresentativeLemmas.{within_self, within_trans, within_cons}
+use Rattle.grant_policy.proofs.ScopeLemmas.{is_within-Decides, covers-Decides, within_self, within_trans, within_cons}
 
 abbrev Labels : Type 0
 Labels = List (List ℕ)

@@ -1,5 +1,5 @@
 -- When names are one, and when one is within another.
-use Rattle.std.proofs.Common.{◌≡◌, ℕ, ◌-◌, List, true, length, take, reverse, refl, sym, ap, subst, ◌∙◌}
+use Rattle.std.proofs.Common.{◌≡◌, ◌⊎◌, inl, inr, ℕ, ◌-◌, List, [], ◌∷◌, ◌++◌, true, length, take, reverse, refl, sym, ap, subst, ◌∙◌, append_assoc}
 use Rattle.std.specs.Bool.{Decides}
 use Rattle.std.specs.declared.cmp.Ordering.{Ordering}
 use Rattle.std.specs.declared.cmp.Ordering.TheVariants.{Less, Equal, Greater}
@@ -36,3 +36,19 @@ pub covers-Decides : (scope : Scope) (at name : List (List ℕ)) → Decides (co
 covers-Decides Name at name = same_name-Decides name at
 covers-Decides Subtree at name = is_within-Decides name at
 covers-Decides Below at name = Decides-and _ _ (is_within-Decides name at) (Decides-not _ (same_name-Decides name at))
+
+-- ---- within
+
+pub within_self : (name : List (List ℕ)) → IsWithin name name
+within_self name = ([], refl)
+
+pub within_trans : (a b c : List (List ℕ)) → IsWithin a b → IsWithin b c → IsWithin a c
+within_trans a b c (f, e) (g, h) = (f ++ g, e ∙ ap (λ (l : List (List ℕ)). f ++ l) h ∙ sym (append_assoc f g c))
+
+-- a name within another is that one, or has it behind a first label
+tail_of : {X : Type 0} (x y : X) (xs ys : List X) → x ∷ xs ≡ y ∷ ys → xs ≡ ys
+tail_of x y xs ys e = cc
+
+pub within_cons : (label : List ℕ) (name top : List (List ℕ)) → IsWithin (label ∷ name) top → (top ≡ label ∷ name) ⊎ IsWithin name top
+within_cons label name top ([], e) = inl (sym e)
+within_cons label name top (x ∷ front, e) = inr (front, tail_of label x name (front ++ top) e)

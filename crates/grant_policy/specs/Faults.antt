@@ -31,18 +31,6 @@ fault_place TooManyRules = None
 fault_place (Name number fault) = Some (places.Key number keys.At)
 fault_place NoMemory = None
 
--- what is wrong, in words that follow the place
-abbrev pub fault_words : PolicyFault → List ℕ
-fault_words NotToml = codes "the policy is no TOML document"
-fault_words (UnknownKey place) = codes " has a key that is not known"
-fault_words (MissingKey place) = codes " is missing"
-fault_words (BadValue place) = codes " has a value that is not allowed"
-fault_words (IdRepeated number) = codes " has the id of a rule before it"
-fault_words (IdReserved number) = codes " has the id `closing`, which is that of the closing default"
-fault_words TooManyRules = codes "the policy has more than 1024 rules"
-fault_words (Name number fault) = codes ": "
-fault_words NoMemory = codes "out of memory"
-
 -- the refusal of a rule where its name is refused
 abbrev pub of_name : ℕ → NameFault → PolicyFault
 of_name number names.NoMemory = NoMemory

@@ -3,6 +3,7 @@ pub mod Words
 pub mod Scopes
 pub mod Rules
 pub mod Decisions
+pub mod Isolated
 pub mod Boundaries
 pub mod Known
 pub mod Grants
@@ -12,14 +13,3 @@ pub mod Found
 pub mod Faults
 pub mod Documents
 pub mod Reading
-pub mod Idle
-pub mod Representatives
-pub mod FreeNames
-pub mod Taking
-pub mod Wanted
-pub mod Points
-pub mod Claims
-pub mod EntryRights
-pub mod Isolated
-pub mod NameRights
-pub mod NameGroups

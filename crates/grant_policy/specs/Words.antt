@@ -31,6 +31,14 @@ action_text action.Delegate = codes "delegate"
 abbrev pub all_actions : List Action
 all_actions = action.List ∷ action.Check ∷ action.Add ∷ action.Delete ∷ action.Delegate ∷ []
 
+-- the place of each among them
+abbrev pub action_place : Action → ℕ
+action_place action.List = 0
+action_place action.Check = 1
+action_place action.Add = 2
+action_place action.Delete = 3
+action_place action.Delegate = 4
+
 -- ---- reading: a word only as it is written here
 
 abbrev pub effect_of : List ℕ → Option Effect

@@ -19,9 +19,7 @@ pub enum Action {
 }
 
 impl Action {
-    ghost use Rattle.grant_policy.specs.Words.{action_text, action_of};
-    ghost use Rattle.grant_policy.specs.Wanted.{changes};
-    ghost use Rattle.grant_policy.specs.Points.{action_place};
+    ghost use Rattle.grant_policy.specs.Words.{action_text, action_of, action_place};
 
     /// The actions that there are.
     pub const ALL: [Action; 5] = [
@@ -46,20 +44,10 @@ impl Action {
     }
 
     /// Its place in `ALL`, from 0.
-    pub(crate) fn place(self) -> usize
+    pub fn place(self) -> usize
         ensures { result ≡ action_place self }
     {
         self as usize
-    }
-
-    /// Whether it changes records.
-    pub(crate) fn changes_records(self) -> bool
-        ensures { result ≡ changes self }
-    {
-        match self {
-            Action::List | Action::Check => false,
-            Action::Add | Action::Delete | Action::Delegate => true,
-        }
     }
 
     /// The action of this word, which is read only as it is written.

@@ -5,7 +5,6 @@ ghost use Rattle.grant_policy.specs.declared.effect.Effect.TheVariants.{Grant, D
 ghost use Rattle.grant_policy.specs.declared.rule.Rule.{Rule};
 ghost use Rattle.grant_policy.specs.Rules.{Question};
 ghost use Rattle.grant_policy.specs.Boundaries.{DecidesAlike};
-ghost use Rattle.grant_policy.specs.NameGroups.{IsInOneGroup};
 ghost use Rattle.grant_policy.specs.Decisions.{Verdict, granted, denied, IsDecision, IsDecidedBy, NoneMatches, decision};
 
 /// A list of rules decides each question, and in one way only.
@@ -40,10 +39,4 @@ pub fn a_rule_at_the_end_changes_no_decision_of_a_rule()
 /// names within.
 pub fn names_between_boundaries_are_decided_alike()
     ensures { DecidesAlike }
-{}
-
-/// Each name is in one group, and in one only: the root or a name that a rule has, or what is below one of these and not at or below a
-/// deeper one.
-pub fn each_name_is_in_one_group()
-    ensures { (rules : List Rule) (name : List (List ℕ)) → IsInOneGroup rules name }
 {}

@@ -4,6 +4,7 @@ ghost use Rattle.std.specs.Prelude.{◌≡◌};
 ghost use Rattle.grant_policy.specs.declared.policy_fault.PolicyFault.TheVariants.{NoMemory};
 
 use dns_names::NameFault;
+use refusals::words;
 use std::alloc::{AllocError, AllocFailed};
 use std::error::Error;
 use std::fmt::{self, Debug, Display, Formatter, Write};
@@ -104,7 +105,7 @@ pub enum PolicyFault {
 }
 
 impl PolicyFault {
-    ghost use Rattle.grant_policy.specs.Faults.{fault_number, fault_place, fault_words, of_name};
+    ghost use Rattle.grant_policy.specs.Faults.{fault_number, fault_place, of_name};
 
     /// The published number of the refusal, 51 to 58, or 99 when out of memory. A name's own number is that of its fault.
     pub const fn number(self) -> u8
@@ -139,25 +140,6 @@ impl PolicyFault {
         }
     }
 
-    /// What is wrong, in words that follow the place.
-    const fn words(self) -> &'static str
-        ensures { result.now ≡ fault_words self }
-    {
-        match self {
-            PolicyFault::NotToml => "the policy is no TOML document",
-            PolicyFault::UnknownKey(_) => " has a key that is not known",
-            PolicyFault::MissingKey(_) => " is missing",
-            PolicyFault::BadValue(_) => " has a value that is not allowed",
-            PolicyFault::IdRepeated(_) => " has the id of a rule before it",
-            PolicyFault::IdReserved(_) => {
-                " has the id `closing`, which is that of the closing default"
-            }
-            PolicyFault::TooManyRules => "the policy has more than 1024 rules",
-            PolicyFault::Name(..) => ": ",
-            PolicyFault::NoMemory => "out of memory",
-        }
-    }
-
     /// The refusal of the rule of this number, whose name is refused.
     pub(crate) fn of_name(number: usize, fault: NameFault) -> PolicyFault
         ensures { result ≡ of_name number fault }
@@ -169,15 +151,15 @@ impl PolicyFault {
     }
 }
 
+/// The place, where there is one, and what is wrong there.
 impl Display for PolicyFault {
     fn fmt<W: Write>(&self, f: &mut Formatter<W>) -> fmt::Result {
-        if let Some(place) = self.place() {
-            write!(f, "{place}")?;
-        }
-        f.write_str(self.words())?;
+        let Some(place) = self.place() else {
+            return f.write_str(words(self.number()));
+        };
         match self {
-            PolicyFault::Name(_, fault) => write!(f, "{fault}"),
-            _ => Ok(()),
+            PolicyFault::Name(_, fault) => write!(f, "{place}: {fault}"),
+            fault => write!(f, "{place} {}", words(fault.number())),
         }
     }
 }

@@ -16,7 +16,7 @@ pub fn footprints_are_asked_in_order()
 /// those at which the policy grants it something. It must not see the SOA at the origin of a zone, whose serial shows that there
 /// were changes: it has no right on it, or at least may neither list nor check it, and then others may add an SOA there. Whatever is
 /// asked, the same holds if the policy grants no other caller to change records at its own names, and hence if the policy isolates
-/// it, which `isolation` of `grant_policy` decides.
+/// it, which `isolation` of `policy_tools` decides.
 pub fn callers_are_alone()
     ensures rights { CallersAreAlone }
     ensures visibility { BlindCallersAreAlone }

@@ -4,8 +4,3 @@ pub mod Replies
 pub mod ReplyWords
 pub mod States
 pub mod Tables
-pub mod ItemFaults
-pub mod ItemLines
-pub mod Reading
-pub mod Views
-pub mod Texts

@@ -5,17 +5,17 @@ ghost use Rattle.office_model.specs.TableFaults.{table_fault_number, cause};
 ghost use Rattle.office_model.specs.declared.table_fault.TableFault.TheVariants.{NoMemory};
 ghost use Rattle.office_model.specs.declared.table_fault.StepFault.TheVariants.{BeforeCommit};
 
+use refusals::words;
 use std::alloc::{AllocError, AllocFailed};
-use thiserror::Error;
+use std::error::Error;
+use std::fmt::{self, Display, Formatter, Write};
 
 /// Why a table answers nothing. What it holds has not changed.
-#[derive(Clone, Copy, Debug, PartialEq, Eq, Error)]
+#[derive(Clone, Copy, Debug, PartialEq, Eq)]
 pub enum TableFault {
     /// The store failed, or does not keep what was written to it.
-    #[error("the store failed")]
     Store,
     /// Memory ran out. This says nothing of the store.
-    #[error("out of memory")]
     NoMemory,
 }
 
@@ -30,6 +30,15 @@ impl TableFault {
         }
     }
 }
+
+/// What is wrong, in words.
+impl Display for TableFault {
+    fn fmt<W: Write>(&self, f: &mut Formatter<W>) -> fmt::Result {
+        f.write_str(words(self.number()))
+    }
+}
+
+impl Error for TableFault {}
 
 impl From<AllocError> for TableFault {
     ghost from_gives = { λ _ e. e ≡ NoMemory };

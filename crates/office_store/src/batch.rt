@@ -16,12 +16,12 @@ ghost use Rattle.office_store.specs.Turns.{Turns};
 
 use crate::queries::check_alone;
 use dns_names::Name;
-use store_rows::{addition_batch, receipt_batch};
-use store_sql::{Batch, last_number, write};
 use office_model::Addition;
 use sqlite::{Alter, Connection, Error as StoreError, ErrorCode};
 use std::alloc::Global;
 use store_faults::StoreFault;
+use store_rows::{addition_batch, receipt_batch};
+use store_sql::{Batch, last_number, write};
 
 /// The number behind that of the last change, and 1 for the first. Behind 9,223,372,036,854,775,807 there is no number.
 fn number_behind(last: Option<i64>) -> Result<i64, StoreFault>

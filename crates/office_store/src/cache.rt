@@ -24,10 +24,10 @@ use grant_policy::Grants;
 use office_model::{Addition, included};
 use sqlite::{Alter, Connection};
 use std::alloc::{AllocError, Global};
-use store_faults::StoreFault;
 use store_cache::{
     CachedZone, cached_of, follow, is_cached, part_of_cached, subtree_of_cached, take_cached,
 };
+use store_faults::StoreFault;
 use zone_core::Zone;
 
 /// Reads the zone of an origin, and caches it.

@@ -20,7 +20,7 @@ mod zones;
 pub use file::Unopened;
 pub use laws::migrated_zones_are_even;
 pub use migration_rows::{Migration, migration_of};
-pub use store_rows::KeptReceipt;
 pub use opening::Refused;
 pub use store_faults::StoreFault;
+pub use store_rows::KeptReceipt;
 pub use table::SqlTable;

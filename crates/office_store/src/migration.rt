@@ -15,11 +15,11 @@ ghost use Rattle.office_store.specs.Migration.{HoldsOld, IsMigratedFrom, IsMigra
 
 use crate::migration_rows::{Migration, migration_of};
 use crate::opening::{check_version, found};
-use store_rows::RowFault;
-use store_sql::{AllRows, all_rows, write};
 use sqlite::{Alter, Connection};
 use std::alloc::Global;
 use store_faults::StoreFault;
+use store_rows::RowFault;
+use store_sql::{AllRows, all_rows, write};
 
 /// The version of the tables that are migrated.
 const OLD_VERSION: i64 = 1;

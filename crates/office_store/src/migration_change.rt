@@ -10,11 +10,11 @@ ghost use Rattle.office_store.specs.MigratedContents.{change_for};
 
 use dns_data::Record;
 use dns_names::Name;
+use std::alloc::{AllocError, Global};
 use store_rows::RowFault;
 use store_rows::ordered::ZoneRecord;
 use store_rows::reads::{are_in_order, built};
 use store_rows::zone_records::{are_those, copied};
-use std::alloc::{AllocError, Global};
 use zone_core::{Change, Zone};
 
 /// What records in record order and those of a zone differ in, as the change from the one to the other. The only error is want of

@@ -10,11 +10,11 @@ ghost use Rattle.office_store.specs.MigratedContents.{Migrates};
 ghost use Rattle.office_store.specs.MigrationSteps.{AreOldZoneRows, AreSteps};
 
 use crate::migration_steps::{MigrationSteps, steps_in_turn};
+use std::alloc::Global;
 use store_rows::state::{check_receipts, is_alone};
 use store_rows::zones::are_apart;
 use store_rows::{RowFault, ordered, sorted_changes};
 use store_sql::{AllRows, Batch, ChangeRow, RecordRow, ZoneRow};
-use std::alloc::Global;
 
 /// What takes tables of version 1 to version 2.
 #[derive(Drop)]

@@ -10,11 +10,11 @@ ghost use Rattle.office_store.specs.MigrationSteps.{IsOldZoneOf, AreOldZonesInTu
 use crate::migration_change::zone_change;
 use dns_data::Record;
 use dns_names::Name;
+use std::alloc::{AllocError, Global};
 use store_rows::ordered::ZoneRecord;
 use store_rows::zones::{changes_first, records_first};
 use store_rows::{ChangedRecord, RowFault, are_numbered, change_rows, record_row};
 use store_sql::{ChangeRow, RecordRow};
-use std::alloc::{AllocError, Global};
 use zone_core::Change;
 
 /// What is written: the rows of the records that go and come, and those of the changes; and of how many zones.

@@ -25,6 +25,11 @@ ghost use Rattle.office_store.specs.Queries.{Asked, AsksOnly};
 
 use crate::queries::check_open;
 use dns_names::Name;
+use sqlite::{Alter, Connection};
+use std::alloc::{AllocError, Global};
+use std::sync::ledger::Blank;
+use store_cache::ZoneHistory;
+use store_faults::StoreFault;
 use store_rows::state::is_alone;
 use store_rows::{
     ChangeReader, ChangedRecord, OriginReader, ReceiptReader, RecordReader, RowFault, ZoneChanges,
@@ -34,11 +39,6 @@ use store_sql::{
     RowsFault, all_changes, all_records, all_zones, each_receipt, has_no_tables, has_tables,
     make_tables, versions,
 };
-use sqlite::{Alter, Connection};
-use std::alloc::{AllocError, Global};
-use std::sync::ledger::Blank;
-use store_faults::StoreFault;
-use store_cache::ZoneHistory;
 use zone_core::Zone;
 
 /// The version of the tables, in the one row of `meta`.

@@ -17,13 +17,13 @@ ghost use Rattle.office_store.specs.Holds.{HoldsState};
 ghost use Rattle.office_store.specs.Queries.{AsksOnly, Finds, Stands};
 
 use dns_names::Name;
+use sqlite::{Alter, Connection, Error as StoreError, ErrorCode};
+use std::alloc::Global;
+use store_faults::StoreFault;
 use store_sql::{
     ChangeRow, RecordRow, changes_between, changes_of, has_zone, records_at, records_between,
     records_of,
 };
-use sqlite::{Alter, Connection, Error as StoreError, ErrorCode};
-use std::alloc::Global;
-use store_faults::StoreFault;
 
 /// What its type says of a name. It does nothing when it runs.
 fn reveal_name(name: &Name)

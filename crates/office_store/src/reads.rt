@@ -17,15 +17,15 @@ use crate::queries::{
 use dns_data::Record;
 use dns_names::Name;
 use grant_policy::Identifier;
+use office_model::Receipt;
+use sqlite::{Alter, Connection};
+use std::alloc::Global;
+use store_faults::StoreFault;
 use store_rows::{
     KeptReceipt, OriginReader, changes_of, kept_receipts, part_of, receipt_of, records_within,
     sorted_origins, zone_of,
 };
 use store_sql::{WholeRows, all_receipts, all_zones, receipts_of};
-use office_model::Receipt;
-use sqlite::{Alter, Connection};
-use std::alloc::Global;
-use store_faults::StoreFault;
 use zone_core::{Change, Zone};
 
 /// Whether there is the zone of an origin.

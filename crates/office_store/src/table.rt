@@ -33,13 +33,13 @@ use crate::zones::{import, put_zone, replace, take_place};
 use dns_data::Record;
 use dns_names::Name;
 use grant_policy::{Grants, Identifier};
-use store_rows::KeptReceipt;
 use office_model::{Addition, Ahead, Receipt, TableFault, ZoneTable};
 use sqlite::{Alter, Connection};
 use std::alloc::Global;
 use std::sync::ledger::{Blank, Book, Ledger, Share};
-use store_faults::StoreFault;
 use store_cache::{CachedZone, ZoneHistory, ahead_in, cached_of, remember};
+use store_faults::StoreFault;
+use store_rows::KeptReceipt;
 use zone_core::{Change, Zone};
 
 /// Zones with their changes, and receipts, in the tables of a database. It counts the failures of its store by a ledger, and caches

@@ -17,10 +17,10 @@ use crate::queries::{held_text, zone_rows};
 use crate::reads::zone_at;
 use dns_data::Record;
 use dns_names::Name;
-use store_rows::{records_within, replacement_batch, zone_batch};
 use sqlite::{Alter, Connection};
 use std::alloc::Global;
 use store_faults::StoreFault;
+use store_rows::{records_within, replacement_batch, zone_batch};
 use zone_core::{Zone, serial_less};
 
 /// Puts a zone beside the others, unless there is one of its origin.

@@ -2,32 +2,27 @@
 
 ghost use Rattle.std.specs.Prelude.{◌≡◌};
 
-use thiserror::Error;
+use refusals::words;
+use std::error::Error;
+use std::fmt::{self, Display, Formatter, Write};
 
 /// Why a request is refused before the office is asked.
-#[derive(Clone, Copy, Debug, PartialEq, Eq, Error)]
+#[derive(Clone, Copy, Debug, PartialEq, Eq)]
 pub enum Refusal {
     /// No head of HTTP/1.0 or HTTP/1.1 begins here (RFC 9112 section 2.1), it is longer than 16,384 octets or has more than 64
     /// fields, or its length is no number, or not one number alone (RFC 9112 section 6.3).
-    #[error("the head of the request is malformed or too long")]
     BadHead,
     /// Not exactly one field `X-Office-Caller`, or its value is no identifier.
-    #[error("the request names no caller")]
     NoCaller,
     /// A POST without `Content-Length`, or a field `Transfer-Encoding`.
-    #[error("the request states no length of its body")]
     NoLength,
     /// The body is longer than 65,536 octets.
-    #[error("the body of the request is too large")]
     BodyTooLarge,
     /// A part of the path is not of its form.
-    #[error("a part of the path is not of its form")]
     BadPart,
     /// No route has this method and target.
-    #[error("no route has this method and target")]
     NoRoute,
     /// The stream ended within the request.
-    #[error("the request was cut short")]
     CutShort,
 }
 
@@ -49,3 +44,15 @@ impl Refusal {
         }
     }
 }
+
+/// What is wrong, in words.
+impl Display for Refusal {
+    fn fmt<W: Write>(&self, f: &mut Formatter<W>) -> fmt::Result {
+        match self {
+            Refusal::BadPart => f.write_str("a part of the path is not of its form"),
+            refusal => f.write_str(words(refusal.number())),
+        }
+    }
+}
+
+impl Error for Refusal {}

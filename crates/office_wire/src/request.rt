@@ -14,9 +14,9 @@ use crate::route::{Route, Routes};
 use dns_data::RecordType;
 use dns_names::Name;
 use grant_policy::{Action, Identifier, IdentifierFault};
-use wire_json::{UpdateBody, read_delegation, read_update};
 use office_model::{Call, Request};
 use std::alloc::Global;
+use wire_json::{UpdateBody, read_delegation, read_update};
 
 /// The caller, by the value of the field that names it.
 fn read_caller(alloc: Global, text: Option<&[u8]>) -> Result<Identifier, RequestFault>

@@ -4,8 +4,8 @@ ghost use Rattle.std.specs.Prelude.{◌≡◌};
 
 use crate::refusal::Refusal;
 use dns_names::NameFault;
-use wire_json::BodyFault;
 use std::alloc::{AllocError, AllocFailed};
+use wire_json::BodyFault;
 
 /// Why a head and a body are no call of the office.
 #[derive(Clone, Copy, PartialEq, Eq)]

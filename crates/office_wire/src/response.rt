@@ -10,9 +10,9 @@ use crate::refusal::Refusal;
 use crate::request_fault::RequestFault;
 use crate::status::{refusal_status, reply_status};
 use http::StatusCode;
-use wire_json::{form_error_text, refusal_text, reply_text};
 use office_model::{Reply, StepFault, TableFault};
 use std::alloc::AllocError;
+use wire_json::{form_error_text, refusal_text, reply_text};
 
 /// What is answered to a request.
 #[derive(Drop)]

@@ -9,10 +9,10 @@ use crate::method::Method;
 use crate::response::Response;
 use crate::status::phrase;
 use itoa::Buffer;
-use wire_json::push_all;
 use office_model::{Reply, StepFault, TableFault};
 use std::alloc::{AllocError, Global};
 use std::marker::Model;
+use wire_json::push_all;
 
 /// The room for a short response.
 const ROOM: usize = 512;

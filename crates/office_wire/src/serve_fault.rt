@@ -2,23 +2,21 @@
 
 ghost use Rattle.std.specs.Prelude.{◌≡◌};
 
+use refusals::words;
 use std::alloc::{AllocError, AllocFailed};
-use thiserror::Error;
+use std::error::Error;
+use std::fmt::{self, Display, Formatter, Write};
 
 /// Why serving a stream ended before the stream did, and before the last response.
-#[derive(Clone, Copy, Debug, PartialEq, Eq, Error)]
+#[derive(Clone, Copy, Debug, PartialEq, Eq)]
 pub enum ServeFault {
     /// A read failed.
-    #[error("the stream can't be read")]
     ReadFailed,
     /// A write failed.
-    #[error("the stream can't be written to")]
     WriteFailed,
     /// There were 2^64 - 1 reads.
-    #[error("the stream is too long")]
     StreamTooLong,
     /// Memory ran out before anything was read.
-    #[error("out of memory")]
     NoMemory,
 }
 
@@ -37,3 +35,15 @@ impl ServeFault {
         }
     }
 }
+
+/// What is wrong, in words.
+impl Display for ServeFault {
+    fn fmt<W: Write>(&self, f: &mut Formatter<W>) -> fmt::Result {
+        match self {
+            ServeFault::ReadFailed => f.write_str("the stream can't be read"),
+            fault => f.write_str(words(fault.number())),
+        }
+    }
+}
+
+impl Error for ServeFault {}

@@ -1,10 +1,11 @@
 -- The parts of a number, read one after the other.
-use Rattle.std.proofs.Common.{◌≡◌, ◌∙◌, ap, ℕ, ◌+◌, List, [], ◌∷◌, ◌++◌, drop, map, Option, Some, None, refl, sym, append_assoc, Bool, true, false, cond, option_map}
+use Rattle.std.proofs.Common.{◌≡◌, ◌∙◌, ap, ap₂, ℕ, ◌+◌, List, [], ◌∷◌, ◌++◌, drop, map, Option, Some, None, refl, sym, append_assoc, Bool, true, false, cond, option_map}
 use Rattle.std.specs.Prelude.{◌&&◌, bytes_eq, find, option_and_then}
+use Rattle.std.specs.Option.{option_or}
 use Rattle.std.specs.Borrow.{Bor}
 use Rattle.refusals.specs.declared.row.NumberPlace.{NumberPlace}
-use Rattle.refusals.specs.Tables.{RowOf}
-use Rattle.refusals.specs.Numbers.{behind, may_be, row_in, row_of, rows_from}
+use Rattle.refusals.specs.Tables.{RowOf, row_of}
+use Rattle.refusals.specs.Numbers.{behind, may_be, row_in, row_numbered, rows_from}
 use Rattle.refusals.specs.declared.row.RefusalRow.{RefusalRow}
 
 -- rows that were found, before those of the other parts
@@ -50,3 +51,45 @@ found_row (row ∷ all) at part = by_test (may_be row.kind at && bytes_eq row.nu
         → option_map row_of (cond b (Some row) (find (λ r. may_be r.kind at && bytes_eq r.number.now part) all)) ≡ cond b (Some (row_of row)) (row_in (map row_of all) at part)
     by_test true more = refl
     by_test false more = more
+
+pub numbered_row : (all : List RefusalRow) (number : List ℕ)
+    → option_map row_of (find (λ row. bytes_eq row.number.now number) all) ≡ row_numbered (map row_of all) number
+numbered_row [] number = refl
+numbered_row (row ∷ all) number = by_test (bytes_eq row.number.now number) (numbered_row all number)
+  where
+    by_test : (b : Bool)
+        → option_map row_of (find (λ r. bytes_eq r.number.now number) all) ≡ row_numbered (map row_of all) number
+        → option_map row_of (cond b (Some row) (find (λ r. bytes_eq r.number.now number) all)) ≡ cond b (Some (row_of row)) (row_numbered (map row_of all) number)
+    by_test true more = refl
+    by_test false more = more
+
+-- ---- the row of a number, in a table and in tables that follow each other
+
+pub numbered_by : {T : Type 0} (f : T → RowOf) (all : List T) (number : List ℕ)
+    → option_map f (find (λ t. bytes_eq (f t).number number) all) ≡ row_numbered (map f all) number
+numbered_by f [] number = refl
+numbered_by {T} f (t ∷ all) number = by_test (bytes_eq (f t).number number) (numbered_by f all number)
+  where
+    by_test : (b : Bool)
+        → option_map f (find (λ u. bytes_eq (f u).number number) all) ≡ row_numbered (map f all) number
+        → option_map f (cond b (Some t) (find (λ u. bytes_eq (f u).number number) all)) ≡ cond b (Some (f t)) (row_numbered (map f all) number)
+    by_test true more = refl
+    by_test false more = more
+
+pub numbered_append : (xs ys : List RowOf) (number : List ℕ) → option_or (row_numbered xs number) (row_numbered ys number) ≡ row_numbered (xs ++ ys) number
+numbered_append [] ys number = refl
+numbered_append (x ∷ xs) ys number = by_test (bytes_eq x.number number) (numbered_append xs ys number)
+  where
+    by_test : (b : Bool) → option_or (row_numbered xs number) (row_numbered ys number) ≡ row_numbered (xs ++ ys) number
+        → option_or (cond b (Some x) (row_numbered xs number)) (row_numbered ys number) ≡ cond b (Some x) (row_numbered (xs ++ ys) number)
+    by_test true more = refl
+    by_test false more = more
+
+pub mapped_or : {S T : Type 0} (f : S → T) (a b : Option S) → option_map f (option_or a b) ≡ option_or (option_map f a) (option_map f b)
+mapped_or f None b = refl
+mapped_or f (Some x) b = refl
+
+-- the row that is found in one list, or else in the next
+pub numbered_or : (a b : Option RefusalRow) (xs ys : List RowOf) (number : List ℕ) → option_map row_of a ≡ row_numbered xs number
+    → option_map row_of b ≡ row_numbered ys number → option_map row_of (option_or a b) ≡ row_numbered (xs ++ ys) number
+numbered_or a b xs ys number p q = mapped_or row_of a b ∙ (ap₂ (λ x y. option_or x y) p q ∙ numbered_append xs ys number)

@@ -28,6 +28,6 @@ abbrev pub row_is_plain : RowOf → Bool
 row_is_plain row = list_all is_plain row.number && list_all is_plain row.name && list_all is_plain row.meaning
     && list_all is_plain row.advice && list_all is_plain row.source
 
--- no text of the table needs an escape
+-- no text of the table that is printed as JSON needs an escape
 abbrev pub TextsArePlain : Type 0
 TextsArePlain = list_all row_is_plain rows ≡ true

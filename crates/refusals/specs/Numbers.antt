@@ -1,11 +1,10 @@
 -- Which numbers the program prints for refusals, and the rows of their parts.
-use Rattle.std.specs.Prelude.{ℕ, Bool, true, false, ◌&&◌, ◌==◌, List, [], ◌∷◌, Option, Some, None, option_map, option_and_then, find, bytes_eq}
+use Rattle.std.specs.Prelude.{ℕ, Bool, true, false, ◌&&◌, ◌==◌, List, [], ◌∷◌, Option, Some, None, option_map, option_and_then, find, bytes_eq, decimal}
 use Rattle.std.specs.List.{slice_split}
 use Rattle.refusals.specs.declared.row.NumberPlace.{NumberPlace}
 use Rattle.refusals.specs.declared.row.NumberPlace.TheVariants as place
 use Rattle.refusals.specs.declared.row.Kind.{Kind}
 use Rattle.refusals.specs.declared.row.Kind.TheVariants as kind
-use Rattle.refusals.specs.declared.row.RefusalRow.{RefusalRow}
 use Rattle.refusals.specs.Tables.{RowOf, rows}
 
 -- ---- where a number may be, and what follows it
@@ -28,11 +27,20 @@ behind kind.InnerName = place.Name
 behind kind.RuleName = place.Name
 behind _ = place.End
 
--- ---- numbers with dots between their parts
+-- ---- the row of a number, and its words
 
--- a row, by its texts
-abbrev pub row_of : RefusalRow → RowOf
-row_of row = record { number = row.number.now; kind = row.kind; name = row.name.now; meaning = row.meaning.now; advice = row.advice.now; source = row.source.now }
+abbrev pub row_numbered : List RowOf → List ℕ → Option RowOf
+row_numbered all number = find (λ row. bytes_eq row.number number) all
+
+abbrev pub words_in : Option RowOf → List ℕ
+words_in None = []
+words_in (Some row) = row.words
+
+-- what is wrong, in a few words
+abbrev pub words_of : ℕ → List ℕ
+words_of number = words_in (row_numbered rows (decimal number))
+
+-- ---- numbers with dots between their parts
 
 -- the row of a part, in a place
 abbrev pub row_in : List RowOf → NumberPlace → List ℕ → Option RowOf

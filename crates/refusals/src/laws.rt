@@ -12,7 +12,7 @@ pub fn numbers_are_apart()
     ensures { NumbersAreApart }
 {}
 
-/// No text of the table of refusals needs an escape in JSON.
+/// No text of the table that is printed as JSON needs an escape.
 pub fn texts_are_plain()
     ensures { TextsArePlain }
 {}

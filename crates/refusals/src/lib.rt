@@ -9,6 +9,6 @@ mod table;
 mod text;
 
 pub use laws::{numbers_are_apart, rows_are_of_their_number, texts_are_plain};
-pub use number::{all_rows, explained};
+pub use number::{all_rows, explained, words};
 pub use row::{Kind, NumberPlace, RefusalRow};
 pub use text::{json_text, plain_text};

@@ -1,18 +1,17 @@
 //! Which rows a printed number has.
 
-ghost use Rattle.std.specs.Prelude.{◌≡◌, ◌++◌, ◌&&◌, IfOk, bytes_eq, find, map, option_map};
-ghost use Rattle.refusals.specs.Tables.{input_rows, rows};
-ghost use Rattle.refusals.specs.Numbers.{may_be, row_of, parts_of, row_in, rows_from, explained};
+ghost use Rattle.std.specs.Prelude.{◌≡◌, ◌++◌, ◌&&◌, IfOk, bytes_eq, decimal, find, map, option_map};
+ghost use Rattle.refusals.specs.Tables.{row_of, input_rows, rows};
+ghost use Rattle.refusals.specs.Numbers.{may_be, row_numbered, words_of, parts_of, row_in, rows_from, explained};
 
 use crate::row::{NumberPlace, RefusalRow};
-use crate::table::{
-    Line, codes, commands, data, files, names, policies, requests, stores, zones,
-};
+use crate::table::{Line, codes, commands, data, files, names, policies, requests, stores, zones};
+use itoa::Buffer;
 use std::alloc::{AllocError, Global};
 
 /// Appends the rows of a table.
 fn push_rows(all: &mut Vec<RefusalRow>, table: &[Line]) -> Result<(), AllocError>
-    ensures { IfOk result (λ _. map row_of all.new.items ≡ map row_of all.old.items ++ map (λ r. record { number = r.0.now; kind = r.1; name = r.2.now; meaning = r.3.now; advice = r.4.now; source = r.5.now }) table.now) }
+    ensures { IfOk result (λ _. map row_of all.new.items ≡ map row_of all.old.items ++ map (λ r. record { number = r.0.now; kind = r.1; name = r.2.now; words = r.3.now; meaning = r.4.now; advice = r.5.now; source = r.6.now }) table.now) }
 {
     for line in table {
         all.push(RefusalRow::of(*line))?;
@@ -43,6 +42,56 @@ pub fn all_rows(alloc: Global) -> Result<Vec<RefusalRow>, AllocError>
     push_rows(&mut all, commands())?;
     push_rows(&mut all, codes())?;
     Ok(all)
+}
+
+/// The first line of a table that is of a number.
+fn line_of(table: &[Line], number: &str) -> Option<Line>
+    ensures { result ≡ find (λ line. bytes_eq line.0.now number.now) table.now }
+{
+    table.iter().copied().find(|line| line.0 == number)
+}
+
+/// The row of a number in a table.
+fn row_among(table: &[Line], number: &str) -> Option<RefusalRow>
+    ensures { option_map row_of result ≡ row_numbered (map (λ r. record { number = r.0.now; kind = r.1; name = r.2.now; words = r.3.now; meaning = r.4.now; advice = r.5.now; source = r.6.now }) table.now) number.now }
+{
+    match line_of(table, number) {
+        Some(line) => Some(RefusalRow::of(line)),
+        None => None,
+    }
+}
+
+/// The row of a number among those of what an input has.
+fn input_row(number: &str) -> Option<RefusalRow>
+    ensures { option_map row_of result ≡ row_numbered input_rows number.now }
+{
+    row_among(names(), number)
+        .or(row_among(data(), number))
+        .or(row_among(files(), number))
+        .or(row_among(zones(), number))
+        .or(row_among(policies(), number))
+}
+
+/// The row of a number.
+fn row_numbered(number: &str) -> Option<RefusalRow>
+    ensures { option_map row_of result ≡ row_numbered rows number.now }
+{
+    input_row(number)
+        .or(row_among(stores(), number))
+        .or(row_among(requests(), number))
+        .or(row_among(commands(), number))
+        .or(row_among(codes(), number))
+}
+
+/// What is wrong, in a few words: those of the row of a number, and an empty text of a number that no refusal has.
+pub fn words(number: u8) -> &'static str
+    ensures { result.now ≡ words_of number }
+{
+    let mut buffer = Buffer::new();
+    match row_numbered(buffer.format(number)) {
+        Some(row) => row.words,
+        None => "",
+    }
 }
 
 /// The first row of a number that may be in a place.

@@ -78,6 +78,8 @@ pub struct RefusalRow {
     pub kind: Kind,
     /// What it is called.
     pub name: &'static str,
+    /// What is wrong, in a few words, for standard error; of a policy and of an item of an update, what follows its place.
+    pub words: &'static str,
     /// What it means, in a sentence or two.
     pub meaning: &'static str,
     /// What to do.
@@ -92,17 +94,19 @@ impl RefusalRow {
         ensures number { result.number ≡ line.entry.0 }
         ensures kind { result.kind ≡ line.entry.1 }
         ensures name { result.name ≡ line.entry.2 }
-        ensures meaning { result.meaning ≡ line.entry.3 }
-        ensures advice { result.advice ≡ line.entry.4 }
-        ensures source { result.source ≡ line.entry.5 }
+        ensures words { result.words ≡ line.entry.3 }
+        ensures meaning { result.meaning ≡ line.entry.4 }
+        ensures advice { result.advice ≡ line.entry.5 }
+        ensures source { result.source ≡ line.entry.6 }
     {
         RefusalRow {
             number: line.0,
             kind: line.1,
             name: line.2,
-            meaning: line.3,
-            advice: line.4,
-            source: line.5,
+            words: line.3,
+            meaning: line.4,
+            advice: line.5,
+            source: line.6,
         }
     }
 }

@@ -1,7 +1,7 @@
 //! Rows as texts.
 
 ghost use Rattle.std.specs.Prelude.{◌≡◌, IfOk, Some, map, string_bytes};
-ghost use Rattle.refusals.specs.Numbers.{row_of};
+ghost use Rattle.refusals.specs.Tables.{row_of};
 ghost use Rattle.refusals.specs.Texts.{row_head, row_text, row_json, text_of, further, json_of};
 
 use crate::row::RefusalRow;

@@ -11,7 +11,7 @@ ghost use Rattle.cli_store.specs.Stores.{stores_of};
 ghost use Rattle.cli_store.specs.Program.{JobEnds};
 
 use cli_core::{Job, StoreJob};
-use wire_tcp::{Connections, Diagnosis, Listener};
+use cli_store::{JobFault, StoreFiles, Surroundings};
 use dns_master::{Sink, Source};
 use grant_policy::Policy;
 use office_model::ZoneTable;
@@ -19,7 +19,7 @@ use sqlite::{Alter, Connection};
 use std::alloc::Global;
 use std::process::ExitCode;
 use std::time::Clock;
-use cli_store::{JobFault, StoreFiles, Surroundings};
+use wire_tcp::{Connections, Diagnosis, Listener};
 
 /// `serve_connections`.
 pub fn serve_connections<H: Listener, T: ZoneTable, D: Diagnosis<T>, C: Clock, W: Sink, E: Sink>(

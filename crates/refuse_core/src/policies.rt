@@ -4,13 +4,14 @@ ghost use Rattle.std.specs.Prelude.{◌≡◌, ◌↔◌, ◌+◌, ◌*◌, ◌�
 ghost use Rattle.std.specs.Option.{option_copied, option_map_or};
 ghost use Rattle.dns_names.specs.Spelling.{name_text};
 ghost use Rattle.grant_policy.specs.Decisions.{concerns, decided, decision, denied};
-ghost use Rattle.grant_policy.specs.NameRights.{AreRightsAt};
 ghost use Rattle.grant_policy.specs.Scopes.{Covers};
+ghost use Rattle.policy_tools.specs.NameRights.{AreRightsAt};
 
 use crate::twins;
 use dns_data::RecordType;
 use dns_names::Name;
-use grant_policy::{Action, Decision, Identifier, LookUps, NameRights, Policy, Rule, Scope};
+use grant_policy::{Action, Decision, Identifier, LookUps, Policy, Rule, Scope};
+use policy_tools::NameRights;
 use std::alloc::{AllocError, Global};
 
 /// `covers`, beside the texts of both names, and that of the upper one with a dot in front.
@@ -27,7 +28,7 @@ pub fn covers(scope: Scope, at: &Name, name: &Name, _text: &str, _top: &str, _do
 pub fn rights(alloc: Global, policy: &Policy, name: &Name) -> Result<NameRights, AllocError>
     ensures { IfOk result (λ rights. AreRightsAt policy.now name.now rights) }
 {
-    grant_policy::rights_at(alloc, policy, name)
+    policy_tools::rights_at(alloc, policy, name)
 }
 
 /// The rule that decides among the rules of a list, by going through them: what `decide` answers is of this rule.

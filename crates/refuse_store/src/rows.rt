@@ -8,9 +8,9 @@ ghost use Rattle.store_rows.specs.Orders.{rises};
 ghost use Rattle.store_rows.specs.RowReading.{each_read, record_in};
 
 use dns_data::Record;
+use std::alloc::Global;
 use store_rows::RowFault;
 use store_sql::RecordRow;
-use std::alloc::Global;
 
 /// `records_within`, by what each row says.
 pub fn records_within(alloc: Global, rows: &[RecordRow]) -> Result<Vec<Record>, RowFault>

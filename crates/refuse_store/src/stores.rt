@@ -13,11 +13,11 @@ ghost use Rattle.office_store.specs.Zones.{imported, with_imported};
 
 use dns_data::Record;
 use dns_names::Name;
-use store_sql::Batch;
 use office_store::{Refused, SqlTable, StoreFault};
 use sqlite::{Alter, Connection};
 use std::alloc::Global;
 use std::sync::ledger::{Blank, Ledger};
+use store_sql::Batch;
 use zone_core::Zone;
 
 /// `SqlTable::adopt`, beside the means to count anew.

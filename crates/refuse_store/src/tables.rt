@@ -8,10 +8,10 @@ ghost use Rattle.store_sql.specs.Files.{ShowsThose};
 ghost use Rattle.store_sql.specs.Holds.{Keeps};
 ghost use Rattle.store_rows.specs.Batches.{receipts_batch};
 
-use store_sql::{Batch, RowsFault};
 use sqlite::{Alter, Connection, Error, FileStore, Leftover, Options};
 use sqlite_disk::{Disk, Files};
 use std::alloc::Global;
+use store_sql::{Batch, RowsFault};
 
 /// `connect`.
 pub fn connect<D: Disk + Drop>(

@@ -4,38 +4,32 @@ ghost use Rattle.std.specs.Prelude.{◌≡◌};
 ghost use Rattle.store_faults.specs.StoreFaults.{store_fault_number, of_rows, of_store, of_zone};
 ghost use Rattle.store_faults.specs.declared.store_fault.StoreFault.TheVariants.{NoMemory};
 
-use store_sql::RowsFault;
+use refusals::words;
 use sqlite::{Error as StoreError, ErrorCode};
 use std::alloc::{AllocError, AllocFailed};
-use thiserror::Error;
+use std::error::Error;
+use std::fmt::{self, Display, Formatter, Write};
+use store_sql::RowsFault;
 use zone_core::ZoneFault;
 
 /// Why a call of the table in SQLite was refused. What it holds has not changed.
-#[derive(Clone, Copy, Debug, PartialEq, Eq, Error)]
+#[derive(Clone, Copy, Debug, PartialEq, Eq)]
 pub enum StoreFault {
     /// There is a zone of the origin.
-    #[error("there is a zone of this origin")]
     ZoneExists,
     /// There is no zone of the origin.
-    #[error("there is no zone of this origin")]
     NoZone,
     /// The serial is not greater than that of the zone that is there (RFC 1982 section 3.2).
-    #[error("the serial is not greater than that of the zone in the store")]
     SerialNotGreater,
     /// The store has no tables, others, or those of another version; or it has some where they are to be made.
-    #[error("the store has not the tables of this version")]
     WrongVersion,
     /// The store failed, or does not keep what was written to it.
-    #[error("{0}")]
     Store(StoreError),
     /// The rows of the tables are not those of a state.
-    #[error("the store has rows that zoneoffice does not write")]
     BadRow,
     /// The records are no zone.
-    #[error("{0}")]
     Zone(ZoneFault),
     /// Memory ran out. This says nothing of the store.
-    #[error("out of memory")]
     NoMemory,
 }
 
@@ -56,6 +50,19 @@ impl StoreFault {
         }
     }
 }
+
+/// What is wrong, in words.
+impl Display for StoreFault {
+    fn fmt<W: Write>(&self, f: &mut Formatter<W>) -> fmt::Result {
+        match self {
+            StoreFault::Store(error) => write!(f, "{error}"),
+            StoreFault::Zone(fault) => write!(f, "{fault}"),
+            fault => f.write_str(words(fault.number())),
+        }
+    }
+}
+
+impl Error for StoreFault {}
 
 impl From<RowsFault> for StoreFault {
     ghost from_gives = { λ f e. e ≡ of_rows f };

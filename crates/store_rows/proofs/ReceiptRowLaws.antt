@@ -3,8 +3,8 @@ use Rattle.std.proofs.Common.{◌≡◌, ℕ, List, Result, Ok, refl, sym, ap, �
 use Rattle.zone_core.specs.Updates.{UpdateOf, IsUpdate}
 use Rattle.office_model.specs.declared.receipt.Receipt.{Receipt}
 use Rattle.office_model.specs.declared.reply.UpdateReply.{UpdateReply}
-use Rattle.office_model.specs.Texts.{update_text}
-use Rattle.office_model.proofs.PrintLaws.{update_read}
+use Rattle.update_lines.specs.Texts.{update_text}
+use Rattle.update_lines.proofs.PrintLaws.{update_read}
 use Rattle.store_sql.specs.Rows.{ReceiptRowOf}
 use Rattle.store_rows.specs.declared.row_fault.RowFault.{RowFault}
 use Rattle.store_rows.specs.Contents.{ReceiptAt, row_of_receipt, IsReceiptAt}

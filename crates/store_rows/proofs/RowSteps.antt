@@ -4,7 +4,7 @@ use Rattle.std.proofs.lemmas.Slice.Eq.{bytes_eq-Decides}
 use Rattle.std.specs.Prelude.{bytes_eq, IfOk}
 use Rattle.dns_names.specs.declared.name_fault.NameFault.{NameFault}
 use Rattle.dns_data.specs.declared.data_fault.DataFault.{DataFault}
-use Rattle.office_model.specs.declared.items_fault.ItemsFault.{ItemsFault}
+use Rattle.update_lines.specs.declared.items_fault.ItemsFault.{ItemsFault}
 use Rattle.store_rows.specs.declared.row_fault.RowFault.{RowFault}
 use Rattle.store_rows.specs.declared.row_fault.RowFault.TheVariants.{BadRow, NoMemory}
 use Rattle.store_rows.specs.RowFaults.{◌>>=◌, Refuses, Reads, of_names, of_datas, of_updates_in, canonical}

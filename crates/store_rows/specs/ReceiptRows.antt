@@ -4,7 +4,7 @@ use Rattle.dns_names.specs.Labels.{IsName}
 use Rattle.dns_names.specs.Spelling.{name_text}
 use Rattle.zone_core.specs.Updates.{IsUpdate}
 use Rattle.office_model.specs.declared.receipt.Receipt.{Receipt}
-use Rattle.office_model.specs.Texts.{update_text}
+use Rattle.update_lines.specs.Texts.{update_text}
 use Rattle.store_sql.specs.Rows.{ReceiptRowOf}
 use Rattle.office_model.specs.ReplyWords.{Wording, Current, words_in, AreWordsOf, IsReply}
 

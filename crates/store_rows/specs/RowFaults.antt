@@ -8,8 +8,8 @@ use Rattle.dns_master.specs.declared.master_fault.MasterFault.{MasterFault}
 use Rattle.dns_master.specs.declared.master_fault.MasterFault.TheVariants as masters
 use Rattle.grant_policy.specs.declared.identifier.IdentifierFault.{IdentifierFault}
 use Rattle.grant_policy.specs.declared.identifier.IdentifierFault.TheVariants as identifiers
-use Rattle.office_model.specs.declared.items_fault.ItemsFault.{ItemsFault}
-use Rattle.office_model.specs.declared.items_fault.ItemsFault.TheVariants as items
+use Rattle.update_lines.specs.declared.items_fault.ItemsFault.{ItemsFault}
+use Rattle.update_lines.specs.declared.items_fault.ItemsFault.TheVariants as items
 use Rattle.store_sql.specs.declared.rows_fault.RowsFault.{RowsFault}
 use Rattle.store_sql.specs.declared.rows_fault.RowsFault.TheVariants as tables
 use Rattle.zone_core.specs.declared.refusals.ZoneFault.{ZoneFault}

@@ -32,8 +32,8 @@ use Rattle.zone_core.specs.Changes.{ChangeOf}
 use Rattle.office_model.specs.declared.receipt.Receipt.{Receipt}
 use Rattle.office_model.specs.declared.reply.UpdateReply.{UpdateReply}
 use Rattle.office_model.specs.declared.reply.UpdateReply.TheVariants.{NoError, NotAuth, NotZone, Refused, Failed}
-use Rattle.office_model.specs.Reading.{items_of}
-use Rattle.office_model.specs.Texts.{update_text}
+use Rattle.update_lines.specs.Reading.{items_of}
+use Rattle.update_lines.specs.Texts.{update_text}
 use Rattle.store_sql.specs.Rows.{RecordRowOf, ReceiptRowOf, ChangeRowOf}
 use Rattle.store_rows.specs.ChangeRows.{changed_order, are_of_one, are_numbered, gathered}
 use Rattle.store_rows.specs.declared.changes.ChangedRecord.{ChangedRecord}

@@ -14,9 +14,9 @@ use crate::changes::rows_of_sides;
 use crate::receipts::receipt_row;
 use crate::records::record_rows;
 use dns_names::Name;
-use store_sql::{Batch, ReceiptRow};
 use office_model::Addition;
 use std::alloc::{AllocError, Global};
+use store_sql::{Batch, ReceiptRow};
 use zone_core::{Change, Zone};
 
 /// A zone has a name as its origin, and is one. Only proofs need it.

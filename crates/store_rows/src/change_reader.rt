@@ -12,8 +12,8 @@ use crate::changes::{ChangedRecord, number_in};
 use crate::column_reader::ColumnReader;
 use crate::row_fault::RowFault;
 use crate::side::Side;
-use store_sql::{ChangeRow, RowReader, RowsFault};
 use std::alloc::Global;
+use store_sql::{ChangeRow, RowReader, RowsFault};
 
 /// Reads rows of `changes`. A row that is that of no record on a side of a change is `BadRow`: a text is in another spelling than the
 /// canonical one, a number is no type's, the number of the change is below 1, the side is neither 0 nor 1, a TTL has more than 31

@@ -11,8 +11,8 @@ use crate::row_fault::RowFault;
 use crate::side::Side;
 use dns_data::Record;
 use dns_names::Name;
-use store_sql::{ChangeRow, RecordRow};
 use std::alloc::{AllocError, Global};
+use store_sql::{ChangeRow, RecordRow};
 use zone_core::Change;
 
 /// A record on a side of a change of a zone, as a row has it.

@@ -15,9 +15,9 @@ use dns_data::{Data, Item, Record, RecordType, Ttl, data_text, read_data};
 use dns_master::tokens;
 use dns_names::Name;
 use grant_policy::Identifier;
-use office_model::entry_items;
 use std::alloc::Global;
 use std::net::Ipv4Addr;
+use update_lines::entry_items;
 
 /// Reads the canonical text of a name, as `Name::text` gives it. Any other text is `BadRow`, also another spelling of a name.
 pub fn read_origin(alloc: Global, text: &str) -> Result<Name, RowFault>

@@ -17,9 +17,9 @@ use crate::row_fault::RowFault;
 use crate::side::Side;
 use dns_data::{Record, record_order};
 use dns_names::Name;
-use store_sql::ChangeRow;
 use std::alloc::{AllocError, Global};
 use std::cmp::Ordering;
+use store_sql::ChangeRow;
 use zone_core::Change;
 
 /// Reads the rows of the changes of one zone, in any order, as its changes, the oldest first. Rows that are those of no changes are

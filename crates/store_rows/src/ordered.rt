@@ -24,10 +24,10 @@ use crate::row_fault::RowFault;
 use dns_data::{Record, record_order};
 use dns_names::Name;
 use grant_policy::Identifier;
-use store_sql::{ReceiptRow, RecordRow, ZoneRow};
 use office_model::Receipt;
 use std::alloc::{AllocError, Global};
 use std::cmp::Ordering;
+use store_sql::{ReceiptRow, RecordRow, ZoneRow};
 
 /// A record of the zone of an origin, as a row has it.
 #[derive(Drop)]

@@ -2,8 +2,8 @@
 
 use crate::columns::read_origin;
 use dns_names::Name;
-use store_sql::{RowReader, RowsFault, ZoneRow};
 use std::alloc::Global;
+use store_sql::{RowReader, RowsFault, ZoneRow};
 
 /// Reads rows of `zones` as the origins that they have. A row that is the text of no name in its canonical spelling is `BadRow`.
 #[derive(Drop)]

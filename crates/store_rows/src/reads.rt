@@ -27,9 +27,9 @@ use crate::records::stored_record;
 use crate::row_fault::RowFault;
 use dns_data::{Record, record_order};
 use dns_names::Name;
-use store_sql::{ChangeRow, ReceiptRow, RecordRow};
 use office_model::Receipt;
 use std::alloc::Global;
+use store_sql::{ChangeRow, ReceiptRow, RecordRow};
 use zone_core::{Change, Zone, ZoneFault};
 
 /// The records of rows, in the order of the rows. A row that is not read is `BadRow`.

@@ -14,9 +14,9 @@ use crate::receipts::{request_at, reveal_caller_receipt, reveal_receipt};
 use crate::replies::read_reply;
 use crate::row_fault::RowFault;
 use grant_policy::Identifier;
-use store_sql::{ReceiptRow, RowCheck, RowsFault};
 use office_model::Receipt;
 use std::alloc::Global;
+use store_sql::{ReceiptRow, RowCheck, RowsFault};
 
 /// Reads rows of `receipts`, as `read_receipt` does. It keeps the last origin, so that a text that comes again is not read again. As a
 /// check it takes the rows that are read so, and keeps nothing of them.

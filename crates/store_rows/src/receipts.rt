@@ -12,9 +12,10 @@ use crate::receipt_reader::ReceiptReader;
 use crate::replies::{reply_in, reveal_reply};
 use crate::row_fault::RowFault;
 use grant_policy::Identifier;
-use store_sql::ReceiptRow;
-use office_model::{Receipt, items_text, read_items, reply_words};
+use office_model::{Receipt, reply_words};
 use std::alloc::{AllocError, Global};
+use store_sql::ReceiptRow;
+use update_lines::{items_text, read_items};
 use zone_core::Update;
 
 /// A receipt is of an origin, an update and a reply. Only proofs need it.

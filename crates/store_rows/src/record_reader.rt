@@ -9,8 +9,8 @@ ghost use Rattle.store_rows.specs.Checks.{row_of_record, IsZoneRecord};
 use crate::column_reader::ColumnReader;
 use crate::ordered::ZoneRecord;
 use crate::row_fault::RowFault;
-use store_sql::{RecordRow, RowReader, RowsFault};
 use std::alloc::Global;
+use store_sql::{RecordRow, RowReader, RowsFault};
 
 /// Reads rows of `records`. A row that is that of no origin and no record is `BadRow`: a text is in another spelling than the canonical
 /// one, a number is no type's, a TTL has more than 31 bits or is below 0, data are of another type, or the key is not the owner's.

@@ -14,8 +14,8 @@ use crate::record_reader::RecordReader;
 use crate::row_fault::RowFault;
 use dns_data::{Record, data_text};
 use dns_names::Name;
-use store_sql::RecordRow;
 use std::alloc::{AllocError, Global};
+use store_sql::RecordRow;
 
 /// The row of a record of the zone of an origin: names and data in canonical text, the type by its number, and the key of the
 /// owner. The only error is out of memory.

@@ -6,12 +6,12 @@ use dns_data::DataFault;
 use dns_master::MasterFault;
 use dns_names::NameFault;
 use grant_policy::IdentifierFault;
-use store_sql::RowsFault;
-use office_model::ItemsFault;
 use sqlite::{Error as StoreError, ErrorCode};
 use std::alloc::{AllocError, AllocFailed};
 use store_faults::StoreFault;
+use store_sql::RowsFault;
 use thiserror::Error;
+use update_lines::ItemsFault;
 
 /// Why a row was not read.
 #[derive(Clone, Copy, Debug, PartialEq, Eq, Error)]

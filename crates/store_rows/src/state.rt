@@ -7,8 +7,8 @@ ghost use Rattle.store_rows.specs.Checks.{AreReceiptRows, Checks, receipt_key_or
 use crate::ascending::rise;
 use crate::ordered::{self, ReceiptKey};
 use crate::row_fault::RowFault;
-use store_sql::ReceiptRow;
 use std::alloc::Global;
+use store_sql::ReceiptRow;
 
 /// Whether there is one version, which is this.
 pub fn is_alone(version: i64, versions: &[i64]) -> bool

@@ -9,9 +9,9 @@ use crate::commands::devices::{Command, Manner};
 use crate::commands::diffs::push_diff;
 use crate::commands::plans::push_plan;
 use cli_core::{JobFault, LineFault};
+use cli_text::Findings;
 use std::alloc::{AllocError, Global};
 use test_rows::Row;
-use cli_text::Findings;
 
 /// Appends the answer to a row of commands.
 pub fn push_command_answer(

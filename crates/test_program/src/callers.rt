@@ -6,7 +6,7 @@ use crate::callers_office::{listening, policy, table};
 use crate::client::{begun, push_answered, sent};
 use crate::program::Given;
 use anyhow::{Result, bail};
-use wire_tcp::{Connections, Undiagnosed, serve_connections};
+use cli_store::{CountedListener, JobFault};
 use dns_master::Counted;
 use grant_policy::Policy;
 use office_model::ZoneTable;
@@ -15,8 +15,8 @@ use std::marker::Brand;
 use std::net::{TcpListener, TcpStream};
 use std::sync::ledger::{Blank, Ledger};
 use std::time::Duration;
-use cli_store::{CountedListener, JobFault};
 use test_rows::{Answers, Row, push_unanswered};
+use wire_tcp::{Connections, Undiagnosed, serve_connections};
 
 /// An office, and those who call it.
 #[derive(Drop)]

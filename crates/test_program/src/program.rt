@@ -3,12 +3,12 @@
 ghost use Rattle.std.specs.Prelude.{⊤, None};
 ghost use Rattle.cli_store.specs.Around.{Around};
 
-use std::alloc::{AllocError, Global};
-use std::net::{SocketAddr, TcpListener, TcpStream};
-use std::process::ExitCode;
 use cli_store::{
     DeviceFailed, LineFault, Surroundings, heard, listen_at, next_of, read_path, run_words,
 };
+use std::alloc::{AllocError, Global};
+use std::net::{SocketAddr, TcpListener, TcpStream};
+use std::process::ExitCode;
 
 /// A machine, and a listener that the program gets wherever it is to listen, if there is one.
 #[derive(Clone, Copy)]

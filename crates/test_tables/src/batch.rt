@@ -2,8 +2,8 @@
 
 use crate::columns::{change_of, receipt_of, record_of};
 use crate::refusal::Refusal;
-use store_sql::{Batch, ChangeRow, ReceiptRow, RecordRow};
 use std::alloc::Global;
+use store_sql::{Batch, ChangeRow, ReceiptRow, RecordRow};
 
 /// The batch of lines, each a word and the row of its kind.
 pub fn batch_of(alloc: Global, lines: &str) -> Result<Batch, Refusal> {

@@ -1,8 +1,8 @@
 //! Rows as texts, with a bar between two columns.
 
 use crate::refusal::Refusal;
-use store_sql::{ChangeRow, ReceiptRow, RecordRow};
 use std::alloc::{AllocError, Global};
+use store_sql::{ChangeRow, ReceiptRow, RecordRow};
 
 /// The text of octets in UTF-8.
 pub fn text_of(octets: &[u8]) -> Result<&str, Refusal> {

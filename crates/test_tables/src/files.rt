@@ -1,9 +1,9 @@
 //! Stores in files of memory.
 
-use store_sql::connect;
 use sqlite::{Connection, FileStore, Files, Options};
 use sqlite_disk::{Disk, Fuse, Memory};
 use std::alloc::Global;
+use store_sql::connect;
 
 /// A disk of memory that can stop.
 pub type MemoryDisk = Fuse<Memory>;

@@ -1,8 +1,8 @@
 //! Why a row has no other answer.
 
+use std::alloc::{AllocError, AllocFailed, Global};
 use store_rows::RowFault;
 use store_sql::RowsFault;
-use std::alloc::{AllocError, AllocFailed, Global};
 
 /// The refusal of a row.
 #[derive(Clone, Copy)]

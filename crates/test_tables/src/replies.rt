@@ -3,9 +3,9 @@
 use crate::columns::text_of;
 use crate::refusal::Refusal;
 use grant_policy::Identifier;
-use store_rows::read_reply;
 use office_model::{UpdateReply, reply_words};
 use std::alloc::Global;
+use store_rows::read_reply;
 use zone_core::{Failed, ItemList, Place};
 
 /// Appends the reply of words: its words again, and then its code, its item and its rule.

@@ -7,14 +7,15 @@ use crate::refusal::Refusal;
 use dns_data::Record;
 use dns_names::Name;
 use grant_policy::Identifier;
+use office_model::{Receipt, reply_words};
+use std::alloc::{AllocError, Global};
 use store_rows::{
     RowFault, change_rows, read_changes, read_origin, read_receipt, read_record, read_reply,
     receipt_row, record_row,
 };
 use store_sql::{ReceiptRow, RecordRow};
-use office_model::{Receipt, items_text, read_items, reply_words};
-use std::alloc::{AllocError, Global};
 use test_rows::{Row, word};
+use update_lines::{items_text, read_items};
 use zone_core::{Change, Operation, Update};
 
 /// Appends the origin of a text.

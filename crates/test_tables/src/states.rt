@@ -10,6 +10,7 @@ use crate::states::lines::{no_rows, push_row};
 use crate::states::listed::push_listed;
 use crate::states::reads::push_read;
 use anyhow::{Result, bail};
+use std::alloc::{AllocError, Global};
 use store_rows::ordered::records;
 use store_rows::state::is_alone;
 use store_rows::{
@@ -17,7 +18,6 @@ use store_rows::{
     sorted_changes,
 };
 use store_sql::AllRows;
-use std::alloc::{AllocError, Global};
 use test_rows::{Answers, Row, push_unanswered, text_of};
 
 /// The lines of the rows that are kept.

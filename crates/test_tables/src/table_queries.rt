@@ -4,12 +4,12 @@ ghost use Rattle.std.specs.Prelude.{◌≡◌, false};
 
 use crate::columns::{change_text, receipt_text, record_text, text_of};
 use crate::refusal::Refusal;
+use sqlite::{Alter, Connection};
+use std::alloc::{AllocError, Global};
 use store_sql::{
     AllRows, ChangeRow, ReceiptRow, RecordRow, all_rows, changes_of, has_zone, last_number,
     receipts_of, records_at, records_between, records_of, versions,
 };
-use sqlite::{Alter, Connection};
-use std::alloc::{AllocError, Global};
 use test_rows::Row;
 
 /// Appends texts in order, each on a line; `none` for an empty list.

@@ -13,11 +13,11 @@ use crate::table_queries::{
     push_all, push_changes, push_last, push_receipts, push_records, push_records_at,
     push_records_between, push_versions, push_zone,
 };
-use store_rows::RowFault;
-use store_sql::{RowsFault, has_no_tables, has_tables, make_tables, write};
 use sqlite::{Alter, Connection, Files};
 use sqlite_disk::Disk;
 use std::alloc::{AllocError, Global};
+use store_rows::RowFault;
+use store_sql::{RowsFault, has_no_tables, has_tables, make_tables, write};
 use test_rows::{Answers, Row};
 
 /// Answers to rows over the store that some disks hold.

@@ -6,9 +6,9 @@ use crate::bodies::replies::{push_refusals, reply_of};
 use crate::refusal::Refusal;
 use crate::zones::lines::{push, push_data, push_name, push_operation, push_rrset};
 use dns_names::Name;
-use wire_json::{BodyFault, UpdateBody, read_delegation, read_update, reply_text};
 use std::alloc::{AllocError, Global};
 use test_rows::Row;
+use wire_json::{BodyFault, UpdateBody, read_delegation, read_update, reply_text};
 use zone_core::Prerequisite;
 
 /// Appends the answer to a row of bodies.

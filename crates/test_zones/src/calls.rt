@@ -4,10 +4,11 @@ use anyhow::{Result, anyhow, bail};
 use dns_data::{RecordType, Ttl};
 use dns_names::Name;
 use grant_policy::{Action, Identifier};
-use office_model::{Call, Request, read_items};
+use office_model::{Call, Request};
 use std::alloc::Global;
 use std::net::IpAddr;
 use test_rows::{Row, word};
+use update_lines::read_items;
 use zone_core::{ChildServer, DelegationRequest, Update, delegation_update};
 
 /// The absolute name that a text spells.

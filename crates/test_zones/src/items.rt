@@ -7,9 +7,9 @@ use crate::items::lines::{push_items, push_many};
 use crate::items::points::{push_denial, push_points};
 use crate::refusal::Refusal;
 use grant_policy::{Policy, read_policy};
-use office_model::ItemsFault;
 use std::alloc::{AllocError, Global};
 use test_rows::{Answers, Row};
+use update_lines::ItemsFault;
 
 /// Answers to rows of items.
 #[derive(Drop)]

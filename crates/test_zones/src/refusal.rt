@@ -4,10 +4,10 @@ use dns_data::DataFault;
 use dns_master::MasterFault;
 use dns_names::NameFault;
 use grant_policy::{IdentifierFault, PolicyFault};
-use wire_json::BodyFault;
-use office_model::ItemsFault;
 use std::alloc::{AllocError, AllocFailed, Global};
 use std::fmt::Display;
+use update_lines::ItemsFault;
+use wire_json::BodyFault;
 use zone_core::{DelegationFault, UpdateFault, ZoneFault};
 
 /// The refusal of a row.

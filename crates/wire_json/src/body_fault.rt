@@ -6,33 +6,28 @@ use dns_data::DataFault;
 use dns_master::MasterFault;
 use dns_names::NameFault;
 use grant_policy::IdentifierFault;
+use refusals::words;
 use std::alloc::{AllocError, AllocFailed};
-use thiserror::Error;
+use std::error::Error;
+use std::fmt::{self, Display, Formatter, Write};
 use zone_core::{DelegationFault, UpdateFault};
 
 /// What is wrong with the body of a request.
-#[derive(Clone, Copy, Debug, PartialEq, Eq, Error)]
+#[derive(Clone, Copy, Debug, PartialEq, Eq)]
 pub enum BodyFault {
     /// It is no JSON text (RFC 8259).
-    #[error("the body is no JSON")]
     NotJson,
     /// An object has a field that is not asked for.
-    #[error("a field of the body is not asked for")]
     UnknownField,
     /// An object lacks a field.
-    #[error("a field of the body is missing")]
     MissingField,
     /// A value is not of its form.
-    #[error("a value of the body is not of its form")]
     BadField,
     /// The items make no update.
-    #[error("{0}")]
     Update(UpdateFault),
     /// The delegation makes no update.
-    #[error("{0}")]
     Delegation(DelegationFault),
     /// Memory ran out. This says nothing of the body.
-    #[error("out of memory")]
     NoMemory,
 }
 
@@ -55,6 +50,19 @@ impl BodyFault {
         }
     }
 }
+
+/// What is wrong, in words.
+impl Display for BodyFault {
+    fn fmt<W: Write>(&self, f: &mut Formatter<W>) -> fmt::Result {
+        match self {
+            BodyFault::Update(fault) => write!(f, "{fault}"),
+            BodyFault::Delegation(fault) => write!(f, "{fault}"),
+            fault => f.write_str(words(fault.number())),
+        }
+    }
+}
+
+impl Error for BodyFault {}
 
 impl From<NameFault> for BodyFault {
     ghost use Rattle.wire_json.specs.Faults.{of_name};

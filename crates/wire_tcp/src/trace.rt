@@ -6,9 +6,9 @@ ghost use Rattle.cli_core.specs.Replies.{IsSent};
 ghost use Rattle.wire_tcp.specs.Causes.{were_answered, trace_by};
 
 use crate::cause::Cause;
+use cli_core::write_text;
 use dns_master::{DeviceFailed, Sink};
 use itoa::Buffer;
-use cli_core::write_text;
 use office_wire::Servfails;
 use store_faults::StoreFault;
 

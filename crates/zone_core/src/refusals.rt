@@ -2,6 +2,7 @@
 
 ghost use Rattle.std.specs.Prelude.{◌≡◌};
 
+use refusals::words;
 use std::alloc::{AllocError, AllocFailed};
 use std::error::Error;
 use std::fmt::{self, Display, Formatter, Write};
@@ -53,17 +54,7 @@ impl ZoneFault {
 /// What is wrong, in words.
 impl Display for ZoneFault {
     fn fmt<W: Write>(&self, f: &mut Formatter<W>) -> fmt::Result {
-        f.write_str(match *self {
-            ZoneFault::RootOrigin => "the origin is the root",
-            ZoneFault::OutOfZone => "a record is outside the zone",
-            ZoneFault::SoaNotAtOrigin => "an SOA record is not at the origin",
-            ZoneFault::NoSoa => "the zone has no SOA record",
-            ZoneFault::TwoSoa => "the zone has two SOA records",
-            ZoneFault::NoOriginNs => "the zone has no NS record at its origin",
-            ZoneFault::TwoCnames => "a name has two CNAME records",
-            ZoneFault::CnameAndOther => "a name has a CNAME record and another record",
-            ZoneFault::NoMemory => "out of memory",
-        })
+        f.write_str(words(self.number()))
     }
 }
 
@@ -115,11 +106,7 @@ impl UpdateFault {
 /// What is wrong, in words.
 impl Display for UpdateFault {
     fn fmt<W: Write>(&self, f: &mut Formatter<W>) -> fmt::Result {
-        f.write_str(match *self {
-            UpdateFault::TooManyItems =>
-                "an update has at most 64 prerequisites and 256 operations",
-            UpdateFault::TwoSoa => "an update adds at most one SOA record",
-        })
+        f.write_str(words(self.number()))
     }
 }
 
@@ -160,13 +147,12 @@ impl DelegationFault {
 /// What is wrong, in words.
 impl Display for DelegationFault {
     fn fmt<W: Write>(&self, f: &mut Formatter<W>) -> fmt::Result {
-        f.write_str(match *self {
-            DelegationFault::NotBelowOrigin => "the child is not below the origin of the zone",
-            DelegationFault::NoServer => "a delegation names at least one server",
-            DelegationFault::GlueMissing => "a server within the child has no address",
-            DelegationFault::TooManyItems => "a delegation makes at most 256 operations",
-            DelegationFault::NoMemory => "out of memory",
-        })
+        match self {
+            DelegationFault::TooManyItems => f.write_str(
+                "a delegation makes at most 256 operations",
+            ),
+            fault => f.write_str(words(fault.number())),
+        }
     }
 }
 

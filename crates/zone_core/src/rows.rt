@@ -18,7 +18,7 @@ use std::alloc::{AllocError, Global};
 use std::cmp::Ordering;
 
 /// Whether a record has a type.
-pub(crate) fn has_type(rr: &Record, record_type: RecordType) -> bool
+pub fn has_type(rr: &Record, record_type: RecordType) -> bool
     ensures { result ≡ ((key_of rr.now).1 == rank_of record_type) }
 {
     rr.record_type().rank() == record_type.rank()

@@ -9,7 +9,7 @@ ghost use Rattle.zone_core.specs.Effects.{next_version};
 ghost use Rattle.zone_tools.specs.Differences.{is_server, is_gone, is_other, addition, deletion, data_at, at_serial, next_soa, needs_soa, soa_additions, operations, target};
 ghost use Rattle.zone_tools.specs.DifferencePromises.{Lead, HaveNoNews, IsNeeded, AddsSoaLast, AreWithin};
 
-use crate::same::{has_same, has_type, is_at, is_equal};
+use crate::same::{has_same, is_at, is_equal};
 use dns_data::{Data, Record, RecordType, Serial, Soa};
 use dns_names::Name;
 use std::alloc::{AllocError, Global};

@@ -16,5 +16,6 @@ mod zone_survey;
 
 pub use difference::operations_between;
 pub use laws::clean_zones_have_glue;
+pub use same::{is_equal, is_same};
 pub use zone_finding::{Finding, findings};
 pub use zone_rule::ZoneRule;

@@ -7,26 +7,20 @@ ghost use Rattle.zone_tools.specs.Differences.{is_equal};
 
 use dns_data::{Record, RecordType, record_order};
 use dns_names::Name;
+use zone_core::has_type;
 
 /// Whether two records are the same, with whatever TTLs.
-fn is_same(a: &Record, b: &Record) -> bool
+pub fn is_same(a: &Record, b: &Record) -> bool
     ensures { result ≡ same_key (key_of a.now) (key_of b.now) }
 {
     record_order(a, b).is_eq()
 }
 
 /// Whether two records are equal, TTLs counted.
-pub(crate) fn is_equal(a: &Record, b: &Record) -> bool
+pub fn is_equal(a: &Record, b: &Record) -> bool
     ensures { result ≡ is_equal a.now b.now }
 {
     is_same(a, b) && a.ttl.seconds() == b.ttl.seconds()
-}
-
-/// Whether a record has a type.
-pub(crate) fn has_type(rr: &Record, record_type: RecordType) -> bool
-    ensures { result ≡ ((key_of rr.now).1 == rank_of record_type) }
-{
-    rr.record_type().rank() == record_type.rank()
 }
 
 /// Whether a record is of the set of a name and type.

@@ -4,14 +4,14 @@
 ghost use Rattle.std.specs.Prelude.{⊤, None};
 ghost use Rattle.cli_store.specs.Around.{Around};
 
+use cli_store::{
+    DeviceFailed, LineFault, NO_MEMORY_LINE, Surroundings, listen_at, next_of, read_path, run_words,
+};
 use std::alloc::{AllocError, Global};
 use std::env;
 use std::io::{self, ErrorKind};
 use std::net::{SocketAddr, TcpListener, TcpStream};
 use std::process::ExitCode;
-use cli_store::{
-    DeviceFailed, LineFault, NO_MEMORY_LINE, Surroundings, listen_at, next_of, read_path, run_words,
-};
 
 /// Says on standard error which file cannot be read.
 fn complain_unread(rt: &HostRuntime, path: &str) {

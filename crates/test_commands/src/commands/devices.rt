@@ -2,9 +2,9 @@
 
 use crate::commands::trials::{Devices, Trial, tried};
 use cli_core::{JobFault, QuestionWords, TextForm, ZoneForm};
+use cli_text::{Apply, Canon, Explain, Findings, Request, Split, Subject, Task, do_check};
 use dns_master::{Pieces, Sink, Source};
 use std::alloc::{AllocError, Global};
-use cli_text::{Apply, Canon, Explain, Findings, Request, Split, Subject, Task, do_check};
 
 /// How a device works.
 #[derive(Clone, Copy)]

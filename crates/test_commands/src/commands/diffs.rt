@@ -3,11 +3,11 @@
 use crate::commands::devices::{Does, Manner};
 use crate::commands::trials::{Devices, Trial, tried};
 use cli_core::DiffForm;
+use cli_text::{Apply, DiffFault, do_diff};
 use dns_master::{Sink, Source};
 use std::alloc::{AllocError, Global};
 use std::fmt::Display;
 use test_rows::{Row, text_of};
-use cli_text::{Apply, DiffFault, do_diff};
 
 /// The master files of two zones of an origin.
 #[derive(Clone, Copy)]

@@ -3,10 +3,10 @@
 use crate::commands::devices::Manner;
 use crate::commands::diffs::push_outcome;
 use crate::commands::trials::{Devices, Trial, tried};
+use cli_text::{PlanFault, do_plan};
 use dns_master::{Sink, Source};
 use std::alloc::{AllocError, Global};
 use test_rows::{Row, text_of};
-use cli_text::{PlanFault, do_plan};
 
 /// A policy, and a zone with an update of it.
 #[derive(Clone, Copy)]

@@ -8,13 +8,14 @@ use anyhow::{Result, bail};
 use dns_data::Record;
 use dns_names::Name;
 use grant_policy::Identifier;
+use office_model::{Addition, Receipt};
+use std::alloc::{AllocError, Global};
 use store_rows::{
     addition_batch, new_tables_hold_nothing, read_reply, replacement_batch, zone_batch,
 };
 use store_sql::Batch;
-use office_model::{Addition, Receipt, read_items};
-use std::alloc::{AllocError, Global};
 use test_rows::Row;
+use update_lines::read_items;
 use zone_core::{Change, Operation, Update, Zone};
 
 /// The origin of every zone that is written.

@@ -2,8 +2,8 @@
 
 use crate::columns::{change_in, receipt_in, record_in};
 use anyhow::{Result, bail};
-use store_sql::{AllRows, Batch, ChangeRow, ReceiptRow, RecordRow, ZoneRow};
 use std::alloc::{AllocError, Global};
+use store_sql::{AllRows, Batch, ChangeRow, ReceiptRow, RecordRow, ZoneRow};
 
 /// The first word of a text, and what stands behind it.
 pub fn word(text: &str) -> (&str, &str) {

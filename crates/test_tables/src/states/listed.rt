@@ -2,12 +2,12 @@
 
 use anyhow::Result;
 use dns_names::Name;
+use std::alloc::{AllocError, Global};
 use store_rows::{
     ChangedRecord, KeptReceipt, ZoneChanges, check_changes, checked_origins, kept_receipts,
     origins, sorted_changes,
 };
 use store_sql::AllRows;
-use std::alloc::{AllocError, Global};
 use test_rows::Row;
 
 /// Appends the origins of the zones, the receipts, or the changes of the zone with the most rows of them.

@@ -4,9 +4,9 @@ use crate::states::lines::rows_of;
 use anyhow::Result;
 use dns_data::Record;
 use dns_names::Name;
+use std::alloc::{AllocError, Global};
 use store_rows::{RowFault, changes_of, part_of, receipt_of, records_within, zone_of};
 use store_sql::{AllRows, ChangeRow, ReceiptRow, RecordRow};
-use std::alloc::{AllocError, Global};
 use test_rows::Row;
 use zone_core::{Change, Zone};
 

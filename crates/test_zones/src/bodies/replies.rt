@@ -3,10 +3,10 @@
 use dns_data::Record;
 use dns_names::Name;
 use grant_policy::Identifier;
-use wire_json::{BodyFault, form_error_text, read_update, refusal_text};
 use office_model::{NumberedChange, Reply, Right, SeenChange, StepFault, TableFault, UpdateReply};
 use std::alloc::{AllocError, Global};
 use test_rows::Row;
+use wire_json::{BodyFault, form_error_text, read_update, refusal_text};
 use zone_core::{
     Change, DelegatedServer, Delegation, Failed, Glue, ItemList, Operation, Place, PrerequisiteCode,
 };

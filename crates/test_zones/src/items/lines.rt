@@ -1,9 +1,9 @@
 //! Item lines.
 
 use crate::refusal::Refusal;
-use office_model::{items_text, read_items};
 use std::alloc::{AllocError, Global};
 use test_rows::number;
+use update_lines::{items_text, read_items};
 use zone_core::Update;
 
 /// Appends the canonical lines of the items of a text, which have to be the same lines again when they are read.

@@ -5,9 +5,9 @@ use dns_data::RecordType;
 use dns_names::Name;
 use grant_policy::{Action, Identifier, LookUps, Policy};
 use office_core::{Denial, denied, operation_asks, prerequisite_asks};
-use office_model::read_items;
 use std::alloc::Global;
 use test_rows::Row;
+use update_lines::read_items;
 use zone_core::{ItemList, Update};
 
 /// Appends the points of an item of an update of the zone of this origin, by type number.

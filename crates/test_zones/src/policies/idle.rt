@@ -1,7 +1,8 @@
 //! Rules that never decide.
 
 use crate::refusal::Refusal;
-use grant_policy::{IdleRule, Policy, idle_rules};
+use grant_policy::Policy;
+use policy_tools::{IdleRule, idle_rules};
 use std::alloc::{AllocError, Global};
 
 /// The idle rules of a policy, each with those that take its questions behind a colon, by their ids.

@@ -3,8 +3,8 @@
 use crate::refusal::Refusal;
 use crate::zones::lines::push;
 use crate::zones::updates::push_of_update;
-use office_model::items_text;
 use std::alloc::Global;
+use update_lines::items_text;
 use zone_core::{Update, Zone};
 use zone_tools::operations_between;
 

@@ -1,5 +1,5 @@
 use Rattle.std.specs.Prelude.{string_bytes}
-use Rattle.office_model.proofs.TextLemmas.{line_all}
+use Rattle.update_lines.proofs.TextLemmas.{line_all}
 use Rattle.cli_text.specs.Plan.{signed_line}
 use Rattle.cli_text.proofs.plan.push_signed.Goals as goal
 

@@ -1,5 +1,5 @@
 use Rattle.std.proofs.Common.{◌∙◌, ap, option_map}
-use Rattle.refusals.specs.Numbers.{row_of}
+use Rattle.refusals.specs.Tables.{row_of}
 use Rattle.refusals.proofs.NumberLemmas.{found_row}
 use Rattle.refusals.proofs.number.row_in.Goals as goal
 

@@ -1,6 +1,7 @@
 use Rattle.std.proofs.Common.{◌≡◌, map}
 use Rattle.refusals.specs.declared.row.NumberPlace.TheVariants.{Start}
-use Rattle.refusals.specs.Numbers.{row_of, rows_from}
+use Rattle.refusals.specs.Tables.{row_of}
+use Rattle.refusals.specs.Numbers.{rows_from}
 use Rattle.refusals.proofs.NumberLemmas.{parts_from, with_front}
 use Rattle.refusals.proofs.number.rows_of_parts.Given as goal
 

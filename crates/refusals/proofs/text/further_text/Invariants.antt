@@ -1,6 +1,6 @@
 use Rattle.std.proofs.Common.{◌≡◌, take}
 use Rattle.std.specs.Prelude.{map, string_bytes}
-use Rattle.refusals.specs.Numbers.{row_of}
+use Rattle.refusals.specs.Tables.{row_of}
 use Rattle.refusals.specs.Texts.{further}
 use Rattle.refusals.proofs.text.further_text.Given as goal
 

@@ -1,6 +1,6 @@
 use Rattle.std.proofs.Common.{◌≡◌, take}
 use Rattle.std.specs.Prelude.{map, string_bytes}
-use Rattle.refusals.specs.Numbers.{row_of}
+use Rattle.refusals.specs.Tables.{row_of}
 use Rattle.refusals.specs.Texts.{text_of}
 use Rattle.refusals.proofs.text.plain_text.Given as goal
 

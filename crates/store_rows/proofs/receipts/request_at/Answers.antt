@@ -1,6 +1,6 @@
 use Rattle.std.proofs.Common.{◌∙◌}
 use Rattle.std.proofs.lemmas.Result.{err_from_is_err_and}
-use Rattle.office_model.specs.Texts.{update_text}
+use Rattle.update_lines.specs.Texts.{update_text}
 use Rattle.store_rows.specs.RowFaults.{canonical}
 use Rattle.store_rows.specs.RowReading.{request_in}
 use Rattle.store_rows.proofs.RowSteps.{refuses_step, spelled_other, spelled_so}

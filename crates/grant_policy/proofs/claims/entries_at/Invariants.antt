@@ -1,6 +1,0 @@
-use Rattle.grant_policy.specs.Claims.{AreEntries, rules_of}
-use Rattle.grant_policy.proofs.claims.entries_at.Given as goal
-
--- the entries of the rules so far
-abbrev pub invariant-loop-number : goal.invariant-loop-number
-invariant-loop-number l = AreEntries (rules_of l.claims) l.name l.number l.entries.items

@@ -1,7 +1,0 @@
-use Rattle.std.proofs.Common.{ℕ, ◌<◌, ◌∷◌}
-use Rattle.grant_policy.specs.FreeNames.{IsFree, pair_of}
-use Rattle.grant_policy.proofs.free_names.long_child.Given as goal
-
--- some rule has each name so far
-abbrev pub invariant-loop-number : goal.invariant-loop-number
-invariant-loop-number l = (k : ℕ) → k < l.number → ¬ IsFree l.rules (pair_of k ∷ l.top)

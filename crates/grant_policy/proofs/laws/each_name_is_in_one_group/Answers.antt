@@ -1,5 +1,0 @@
-use Rattle.grant_policy.proofs.NameGroupLemmas.{one_group}
-use Rattle.grant_policy.proofs.laws.each_name_is_in_one_group.Goals as goal
-
-pub returns : goal.returns
-returns c = one_group

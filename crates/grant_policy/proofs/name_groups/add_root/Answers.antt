@@ -1,4 +1,0 @@
-use Rattle.grant_policy.proofs.name_groups.add_root.Goals as goal
-
-pub returns : goal.returns
-returns c = rw c.in_ok-root.ensures at c.add_copy.ensures.added

@@ -1,6 +1,0 @@
-use Rattle.grant_policy.proofs.NameRightLemmas.{AreWalked}
-use Rattle.grant_policy.proofs.name_rights.granted_to.Given as goal
-
--- what the claims so far granted and decided
-abbrev pub invariant-loop-claim : goal.invariant-loop-claim
-invariant-loop-claim l = AreWalked l.claims l.callers l.claim-index l.granted.bits l.decided.bits

@@ -1,6 +1,0 @@
-use Rattle.grant_policy.proofs.RepresentativeLemmas.{AreServed}
-use Rattle.grant_policy.proofs.representatives.representatives.Given as goal
-
--- the root and the names of the rules so far are among the names, each with a free one below it where there is one
-abbrev pub invariant-loop-i : goal.invariant-loop-i
-invariant-loop-i l = AreServed l.rules l.i l.names.items

@@ -1,5 +1,0 @@
-use Rattle.office_model.proofs.PrintLaws.{update_printed, update_read}
-use Rattle.office_model.proofs.laws.items_are_read.Goals as goal
-
-pub returns : goal.returns
-returns c = λ update is. (update_printed update is, update_read update is)

@@ -1,0 +1,11 @@
+pub mod FreeNameLemmas
+pub mod PointLemmas
+pub mod RepresentativeLemmas
+pub mod CallerLemmas
+pub mod TakeLemmas
+pub mod IdleLemmas
+pub mod ClaimLemmas
+pub mod EntryRightLemmas
+pub mod IsolatedLemmas
+mod NameRightLemmas
+mod NameGroupLemmas

@@ -1,0 +1,11 @@
+pub mod Idle
+pub mod Representatives
+pub mod FreeNames
+pub mod Taking
+pub mod Wanted
+pub mod Points
+pub mod Claims
+pub mod EntryRights
+pub mod Exposures
+pub mod NameRights
+pub mod NameGroups

@@ -1,0 +1,26 @@
+//! What is true of a policy whatever is asked: which of its rules never decide, what keeps a caller from being isolated, and who
+//! may do what at each name. Names are infinitely many, but each is covered by the same rules as one of a short list of names, and
+//! each caller that no rule names is like any other.
+#![tactic(auto)]
+
+mod claims;
+mod entry_rights;
+mod exposure;
+mod free_names;
+mod idle;
+mod laws;
+mod name_groups;
+mod name_rights;
+mod points;
+mod representatives;
+mod rights;
+mod shared_callers;
+mod taking;
+mod wanted;
+
+pub use exposure::{Exposure, Right, isolation};
+pub use idle::{IdleRule, idle_rules};
+pub use laws::each_name_is_in_one_group;
+pub use name_groups::{GroupRights, NameGroup, rights_by_group};
+pub use name_rights::{CallerRights, NameRights, rights_at};
+pub use rights::Rights;

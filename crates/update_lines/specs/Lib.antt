@@ -1,0 +1,5 @@
+pub mod ItemFaults
+pub mod ItemLines
+pub mod Reading
+pub mod Views
+pub mod Texts
