@@ -82,12 +82,11 @@ def rules():
 # Refusals
 
 def refusals():
-    """The rows of all refusals, in the order of the table. What follows the name may be the words of the line on standard error."""
+    """The rows of all refusals, in the order of the table, without their words for standard error, which stand behind the name."""
     text, rows = read(REFUSALS), []
-    string = r'(?:\w+: )?"([^"]*)",\s*'
-    words = r'(?:(?:\w+: )?"[^"]*",\s*)?'
-    row = re.compile(r"[({]\s*" + string + r"(?:kind: )?Kind::(\w+),\s*" + string + words + 3 * string + r"[)}]")
-    for count, body in re.findall(r"^pub\(crate\) static \w+: \[.*?; (\d+)\] = \[(.*?)^\];", text, re.M | re.S):
+    string = r'"([^"]*)",\s*'
+    row = re.compile(r"\(\s*" + string + r"Kind::(\w+),\s*" + string + r'"[^"]*",\s*' + 3 * string + r"\)")
+    for count, body in re.findall(r"^pub\(crate\) static \w+: \[\(&str, Kind, .*?\); (\d+)\] = \[(.*?)^\];", text, re.M | re.S):
         rows += counted(REFUSALS, [Refusal(*one) for one in row.findall(body)], count)
     return counted(REFUSALS, rows, len(rows))
 

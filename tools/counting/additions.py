@@ -112,7 +112,7 @@ def refusal():
     number = r"\b20 if (?:wrongly )?quoted|\b11 to 20\b"
     return Addition("refusal", "a refusal of data (QuotedItem, 20)", ["QuotedItem", "9.20", "d 20", '"20"', "20  q", "20 if", "to 20", "(20)", "fault: 20"],
                     r"\bQuotedItem\b|\b[12]9\.20\b|\brefused 20\b|\(20\)\.?\*\*|\bfault: 20\b", [
-                        (SOURCE, all_of(variants("DataFault"))), (SOURCE, has(r'^ *(?:number: )?"20",$')), (AROUND, has(number)),
+                        (SOURCE, all_of(variants("DataFault"))), (SOURCE, has(r'^ *"20",$')), (AROUND, has(number)),
                         (ROWS, has(r"^= refused 20\b|\b20  quoted item")),
                     ], NONE)
 
