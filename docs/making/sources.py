@@ -82,7 +82,7 @@ def rules():
 # Refusals
 
 def refusals():
-    """The rows of all refusals, in the order of the table, without their words for standard error, which stand behind the name."""
+    """The rows of all refusals, in the order of the table, without the words for standard error, which follow the name."""
     text, rows = read(REFUSALS), []
     string = r'"([^"]*)",\s*'
     row = re.compile(r"\(\s*" + string + r"Kind::(\w+),\s*" + string + r'"[^"]*",\s*' + 3 * string + r"\)")
