@@ -82,10 +82,10 @@ def rules():
 # Refusals
 
 def refusals():
-    """The rows of all refusals, in the order of the table."""
+    """The rows of all refusals, in the order of the table, without the words for standard error, which follow the name."""
     text, rows = read(REFUSALS), []
     string = r'"([^"]*)",\s*'
-    row = re.compile(r"\(\s*" + string + r"Kind::(\w+),\s*" + 4 * string + r"\)")
+    row = re.compile(r"\(\s*" + string + r"Kind::(\w+),\s*" + string + r'"[^"]*",\s*' + 3 * string + r"\)")
     for count, body in re.findall(r"^pub\(crate\) static \w+: \[\(&str, Kind, .*?\); (\d+)\] = \[(.*?)^\];", text, re.M | re.S):
         rows += counted(REFUSALS, [Refusal(*one) for one in row.findall(body)], count)
     return counted(REFUSALS, rows, len(rows))
