@@ -89,8 +89,8 @@ fn run_counted<
 }
 
 /// Does what words ask for, as `do_words` says, with standard input, standard output and a trace of std and the stores of this machine,
-/// ends the connection to the store that it reached, says what else is known of a refused master file, and hands back both writers. It has no contract: of streams that do not count their
-/// failures one could say only that there are counts.
+/// ends the connection to the store that it reached, says what else is known of a refused master file, and hands back both writers. It
+/// has no contract: of streams that do not count their failures one could say only that there are counts.
 pub fn run_words<M: Surroundings, I: Read + Drop, O: Write + Drop, E: Write + Drop>(
     around: &M,
     words: &[&str],
