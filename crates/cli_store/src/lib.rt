@@ -2,10 +2,12 @@
 #![tactic(auto)]
 
 mod any_store;
+mod beginning;
 mod diagnosis;
 mod files;
 mod folding;
 mod hints;
+mod kept_files;
 mod kept_input;
 mod list_laws;
 mod listening;
@@ -23,10 +25,10 @@ mod zone_list;
 mod zone_log;
 mod zones;
 
+pub use cli_core::{JobFault, LineFault, NO_MEMORY_LINE, read_path};
 pub use diagnosis::Remembered;
 pub use dns_master::DeviceFailed;
 pub use files::{MachineFiles, StoreFiles};
-pub use cli_core::{JobFault, LineFault, NO_MEMORY_LINE, read_path};
 pub use list_laws::{all_changes_are_asked, asked_is_printed, each_receipt_counts_once};
 pub use listening::{CountedListener, heard, listen_at, next_of};
 pub use migration::migrate;
