@@ -1,7 +1,8 @@
 //! What is said on standard error of a master file beside its refusal: a byte order mark before it, and the type that is not kept.
 
-use crate::surroundings::Surroundings;
-use cli_core::{Job, StoreJob, TextJob, ZoneFiles, read_words};
+use crate::beginning::Beginning;
+use crate::kept_files::KeptFile;
+use cli_core::{Job, StoreJob, TextJob, read_words};
 use dns_data::{DataFault, RecordType};
 use dns_master::{MasterFault, Token, read_file, tokens};
 use dns_names::Name;
@@ -14,7 +15,7 @@ const BYTE_ORDER_MARK: &[u8] = &[0xEF, 0xBB, 0xBF];
 /// The most octets of a type that are said: no type of the registry has as many.
 const TYPE_MAX: usize = 32;
 
-/// A master file that a command read.
+/// The beginning of a master file that a command read.
 #[derive(Clone, Copy)]
 struct Input<'a> {
     /// The origin that the command names.
@@ -110,75 +111,39 @@ fn tell(rt: &HostRuntime, input: Input<'_>, status: ExitCode) {
     }
 }
 
-/// The same of a file of a diff, which is read again if it is not standard input.
-fn tell_file<M: Surroundings>(
-    around: &M,
-    origin: &str,
-    path: &str,
-    standard: &[u8],
-    status: ExitCode,
-) {
-    let rt = around.machine();
-    if path == "-" {
-        return tell(
-            rt,
-            Input {
-                origin,
-                file: "standard input",
-                text: standard,
-            },
-            status,
-        );
-    }
-    if let Ok(text) = around.file(rt.alloc(), path) {
-        tell(
-            rt,
-            Input {
-                origin,
-                file: path,
-                text: &text,
-            },
-            status,
-        );
-    }
-}
-
-/// The same of the files of a diff.
-fn tell_files<M: Surroundings>(
-    around: &M,
-    origin: &str,
-    files: ZoneFiles<'_>,
-    standard: &[u8],
-    status: ExitCode,
-) {
-    tell_file(around, origin, files.old, standard, status);
-    tell_file(around, origin, files.new, standard, status);
-}
-
-/// Says on standard error what is known of the master files that words name, beside their refusal: that one begins with a byte order mark,
-/// and of which type the record is that is not kept. `standard` is what was read of standard input, and `status` how the job ended.
-pub(crate) fn tell_hints<M: Surroundings>(
-    around: &M,
+/// Says on standard error what is known of the master files that a job read, beside their refusal: that one begins with a byte order
+/// mark, and of which type the record is that is not kept. `files` are those that the words name, `standard` is the beginning of
+/// standard input, and `status` how the job ended.
+pub(crate) fn tell_hints(
+    rt: &HostRuntime,
     words: &[&str],
-    standard: &[u8],
+    files: &[KeptFile],
+    standard: &Beginning,
     status: ExitCode,
 ) {
-    let rt = around.machine();
     let origin = match read_words(rt.alloc(), words) {
-        Ok(Job::Text(TextJob::Canon { origin, .. } | TextJob::CheckZone { origin, .. })) => origin,
+        Ok(
+            Job::Text(
+                TextJob::Canon { origin, .. }
+                | TextJob::CheckZone { origin, .. }
+                | TextJob::Diff { origin, .. },
+            ),
+        ) => origin,
         Ok(Job::Store(StoreJob::Import { zone, .. })) => zone.origin,
-        Ok(Job::Text(TextJob::Diff { origin, files, .. })) => {
-            return tell_files(around, origin, files, standard, status);
-        }
         _ => return,
     };
-    tell(
-        rt,
-        Input {
+    for file in files {
+        let input = Input {
             origin,
-            file: "standard input",
-            text: standard,
-        },
-        status,
-    );
+            file: file.path(),
+            text: file.beginning().octets(),
+        };
+        tell(rt, input, status);
+    }
+    let input = Input {
+        origin,
+        file: "standard input",
+        text: standard.octets(),
+    };
+    tell(rt, input, status);
 }

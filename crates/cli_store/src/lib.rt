@@ -2,10 +2,12 @@
 #![tactic(auto)]
 
 mod any_store;
+mod beginning;
 mod diagnosis;
 mod files;
 mod folding;
 mod hints;
+mod kept_files;
 mod kept_input;
 mod list_laws;
 mod listening;

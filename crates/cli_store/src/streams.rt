@@ -5,6 +5,7 @@ ghost use Rattle.std.specs.Prelude.{◌≡◌, ◌<◌};
 use crate::any_store::{FilesJob, do_on_machine};
 use crate::files::StoreFiles;
 use crate::hints::tell_hints;
+use crate::kept_files::KeptFiles;
 use crate::kept_input::KeptInput;
 use crate::program::do_words;
 use crate::surroundings::Surroundings;
@@ -89,24 +90,26 @@ fn run_counted<
 }
 
 /// Does what words ask for, as `do_words` says, with standard input, standard output and a trace of std and the stores of this machine,
-/// ends the connection to the store that it reached, says what else is known of a refused master file, and hands back both writers. It has no contract: of streams that do not count their
-/// failures one could say only that there are counts.
+/// ends the connection to the store that it reached, says what else is known of a refused master file, and hands back both writers. It
+/// has no contract: of streams that do not count their failures one could say only that there are counts.
 pub fn run_words<M: Surroundings, I: Read + Drop, O: Write + Drop, E: Write + Drop>(
     around: &M,
     words: &[&str],
     streams: (I, O, E),
 ) -> (O, E, ExitCode) {
+    let rt = around.machine();
     let (input, output, trace) = streams;
-    let input = KeptInput::new(around.machine().alloc(), input);
+    let input = KeptInput::new(rt.alloc(), input);
+    let around = KeptFiles::new(rt.alloc(), around);
     let (reads, writes, traces) = (Blank::new(1), Blank::new(1), Blank::new(1));
     let (input, output, trace, status) = run_counted::<_, _, _, _, Brand, Brand, Brand>(
-        around,
+        &around,
         words,
         (input, output, trace),
         reads,
         writes,
         traces,
     );
-    tell_hints(around, words, input.kept(), status);
+    tell_hints(rt, words, &around.into_files(), input.beginning(), status);
     (output, trace, status)
 }
