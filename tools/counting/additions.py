@@ -86,7 +86,7 @@ def of_own_kind():
 
 def request():
     """A read request with its reply: the changes of a zone."""
-    variant = r"\b(?:Request|Reply|Route|requests|replies|routes)(?:::|\.)Changes\b|\bin-Changes\b"
+    variant = r"\b(?:Request|Query|Reply|Route|requests|queries|replies|routes)(?:::|\.)Changes\b|\bin-Changes\b"
     declared = r"^pub(?:\(crate\))? enum (?:Request|Reply|Route) \{\n(?:[ \n].*\n|\n)*?    Changes\b"
     told = near("`changes", ["`list", "`file", "`delegations", "`changes"], 3)
     return Addition("request", "a read request with its reply (changes)", ["Changes", "changes"], rf"{variant}|/changes/|`changes\b|^changes\b", [

@@ -4,8 +4,8 @@ use Rattle.dns_names.specs.declared.name_fault.NameFault.{NameFault}
 use Rattle.dns_names.specs.declared.name_fault.NameFault.TheVariants as names
 use Rattle.dns_master.specs.declared.master_fault.MasterFault.{MasterFault}
 use Rattle.dns_master.specs.declared.master_fault.MasterFault.TheVariants as masters
-use Rattle.zone_core.specs.declared.refusals.ZoneFault.{ZoneFault}
-use Rattle.zone_core.specs.declared.refusals.ZoneFault.TheVariants as zones
+use Rattle.zone_core.specs.declared.faults.ZoneFault.{ZoneFault}
+use Rattle.zone_core.specs.declared.faults.ZoneFault.TheVariants as zones
 use Rattle.update_lines.specs.declared.items_fault.ItemsFault.{ItemsFault}
 use Rattle.update_lines.specs.declared.items_fault.ItemsFault.TheVariants as items
 use Rattle.grant_policy.specs.declared.policy_fault.PolicyFault.{PolicyFault}

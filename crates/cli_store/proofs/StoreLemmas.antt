@@ -7,8 +7,8 @@ use Rattle.cli_core.specs.declared.job.ZoneForm.{ZoneForm}
 use Rattle.cli_text.specs.Canon.{zone_text_in}
 use Rattle.cli_core.specs.declared.job.Existing.{Existing}
 use Rattle.dns_data.specs.declared.record.Record.{Record}
-use Rattle.zone_core.specs.declared.refusals.ZoneFault.{ZoneFault}
-use Rattle.zone_core.specs.declared.refusals.ZoneFault.TheVariants as zones
+use Rattle.zone_core.specs.declared.faults.ZoneFault.{ZoneFault}
+use Rattle.zone_core.specs.declared.faults.ZoneFault.TheVariants as zones
 use Rattle.zone_core.specs.Zones.{ZoneOf}
 use Rattle.store_faults.specs.declared.store_fault.StoreFault.{StoreFault}
 use Rattle.store_faults.specs.declared.store_fault.StoreFault.TheVariants as stores

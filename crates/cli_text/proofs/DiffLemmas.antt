@@ -4,7 +4,7 @@ use Rattle.std.specs.Result.{is_ok}
 use Rattle.dns_data.specs.declared.record.Record.{Record}
 use Rattle.dns_master.specs.Files.{file_of}
 use Rattle.dns_master.specs.declared.master_fault.MasterFault.{MasterFault}
-use Rattle.zone_core.specs.declared.refusals.ZoneFault.{ZoneFault}
+use Rattle.zone_core.specs.declared.faults.ZoneFault.{ZoneFault}
 use Rattle.zone_core.specs.Sets.{Records}
 use Rattle.zone_core.specs.Zones.{ZoneOf, built, fault_in, latest, min_rrset_ttls, unless_fault}
 use Rattle.cli_core.specs.declared.refusal.Refusal.{Refusal}

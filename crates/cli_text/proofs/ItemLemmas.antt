@@ -4,7 +4,7 @@ use Rattle.dns_master.specs.declared.master_fault.MasterFault.{MasterFault}
 use Rattle.dns_master.specs.Faults.{fault_line, on_lines}
 use Rattle.dns_master.specs.Entries.{Entry, entries}
 use Rattle.dns_master.proofs.LineLemmas.{fault_line_within, line_at_within}
-use Rattle.zone_core.specs.declared.refusals.UpdateFault.{UpdateFault}
+use Rattle.zone_core.specs.declared.faults.UpdateFault.{UpdateFault}
 use Rattle.zone_core.specs.Updates.{update_of}
 use Rattle.update_lines.specs.declared.items_fault.ItemsFault.{ItemsFault}
 use Rattle.update_lines.specs.declared.items_fault.ItemsFault.TheVariants.{BadLine}

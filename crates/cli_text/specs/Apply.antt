@@ -4,7 +4,7 @@ use Rattle.std.specs.Option.{option_map, option_or}
 use Rattle.dns_data.specs.declared.record.Record.{Record}
 use Rattle.dns_master.specs.Files.{file_of}
 use Rattle.dns_master.specs.ZoneText.{records_text}
-use Rattle.zone_core.specs.declared.refusals.ZoneFault.TheVariants.{NoSoa}
+use Rattle.zone_core.specs.declared.faults.ZoneFault.TheVariants.{NoSoa}
 use Rattle.zone_core.specs.declared.rcode.Rcode.TheVariants.{NotZone}
 use Rattle.zone_core.specs.declared.update.Place.{Place}
 use Rattle.zone_core.specs.declared.verdict.Failed.{Failed}

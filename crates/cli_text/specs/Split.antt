@@ -6,7 +6,7 @@ use Rattle.dns_data.specs.declared.rdata.Data.TheVariants.{Soa}
 use Rattle.zone_core.specs.declared.update.Operation.{Operation}
 use Rattle.zone_core.specs.declared.update.Operation.TheVariants.{Add}
 use Rattle.zone_core.specs.Serials.{serial_sum}
-use Rattle.zone_core.specs.declared.refusals.UpdateFault.TheVariants.{TwoSoa}
+use Rattle.zone_core.specs.declared.faults.UpdateFault.TheVariants.{TwoSoa}
 use Rattle.zone_core.specs.Updates.{UpdateOf, adds_soa, update_of}
 use Rattle.update_lines.specs.Reading.{lists_of}
 use Rattle.update_lines.specs.declared.items_fault.ItemsFault.TheVariants.{Update}

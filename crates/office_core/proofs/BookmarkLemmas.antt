@@ -258,11 +258,7 @@ module _ (holds right : State → Type 0) (rules : List Rule) (s : State) (calle
   and_right replies.IdReused answers takes after = (takes.0, (takes.1, after))
   and_right replies.NotAuth answers takes after = (takes.0, (takes.1, after))
   and_right replies.NotZone answers takes after = (takes.0, (takes.1, after))
-  and_right (replies.Records records) answers takes after = (takes.0, (takes.1, after))
-  and_right (replies.File origin records) answers takes after = (takes.0, (takes.1, after))
-  and_right (replies.Delegations all) answers takes after = (takes.0, (takes.1, after))
-  and_right (replies.Changes all) answers takes after = (takes.0, (takes.1, after))
-  and_right (replies.Right made) answers takes after = (takes.0, (takes.1, after))
+  and_right (replies.Read reading) answers takes after = (takes.0, (takes.1, after))
 
   -- and without it
   pub only_held : (reply : Reply) → Steps (λ t. holds t × right t) rules s caller request reply → Steps holds rules s caller request reply
@@ -271,8 +267,4 @@ module _ (holds right : State → Type 0) (rules : List Rule) (s : State) (calle
   only_held replies.IdReused steps = (steps.0, steps.1.0)
   only_held replies.NotAuth steps = (steps.0, steps.1.0)
   only_held replies.NotZone steps = (steps.0, steps.1.0)
-  only_held (replies.Records records) steps = (steps.0, steps.1.0)
-  only_held (replies.File origin records) steps = (steps.0, steps.1.0)
-  only_held (replies.Delegations all) steps = (steps.0, steps.1.0)
-  only_held (replies.Changes all) steps = (steps.0, steps.1.0)
-  only_held (replies.Right made) steps = (steps.0, steps.1.0)
+  only_held (replies.Read reading) steps = (steps.0, steps.1.0)

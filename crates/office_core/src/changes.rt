@@ -15,7 +15,7 @@ use crate::bookmark::Bookmarks;
 use dns_data::Record;
 use dns_names::Name;
 use grant_policy::{Action, Grants, Identifier, Policy};
-use office_model::{NumberedChange, Reply, SeenChange, TableFault, ZoneTable, included};
+use office_model::{NumberedChange, Reading, Reply, SeenChange, TableFault, ZoneTable, included};
 use std::alloc::{AllocError, Global};
 use zone_core::Change;
 
@@ -219,5 +219,5 @@ pub(crate) fn changes<T: ZoneTable>(
     let ended = began.after(read, changes.len());
     let changes = numbered_from(alloc, from, began.seen, changes)?;
     bookmarks.keep(alloc, caller, origin, began, ended);
-    Ok(Reply::Changes(changes))
+    Ok(Reply::Read(Reading::Changes(changes)))
 }

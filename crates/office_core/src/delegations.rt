@@ -9,7 +9,7 @@ ghost use Rattle.office_core.specs.Steps.{IsAnswer, Takes};
 use crate::listed::listed_of;
 use dns_names::Name;
 use grant_policy::{Identifier, Policy};
-use office_model::{Reply, TableFault, ZoneTable};
+use office_model::{Reading, Reply, TableFault, ZoneTable};
 use std::alloc::Global;
 use zone_core::delegation_report;
 
@@ -28,5 +28,5 @@ pub(crate) fn delegations<T: ZoneTable>(
     let Some(records) = listed_of(alloc, table, policy, caller, origin)? else {
         return Ok(Reply::NotAuth);
     };
-    Ok(Reply::Delegations(delegation_report(alloc, origin, &records)?))
+    Ok(Reply::Read(Reading::Delegations(delegation_report(alloc, origin, &records)?)))
 }

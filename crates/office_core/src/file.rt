@@ -9,7 +9,7 @@ ghost use Rattle.office_core.specs.Steps.{IsAnswer, Takes};
 use crate::listed::listed_of;
 use dns_names::Name;
 use grant_policy::{Identifier, Policy};
-use office_model::{Reply, TableFault, ZoneTable};
+use office_model::{Reading, Reply, TableFault, ZoneTable};
 use std::alloc::Global;
 
 /// The records of a zone that the caller may list, with its origin.
@@ -28,5 +28,5 @@ pub(crate) fn file<T: ZoneTable>(
         return Ok(Reply::NotAuth);
     };
     let origin = origin.try_copy(alloc)?;
-    Ok(Reply::File { origin, records })
+    Ok(Reply::Read(Reading::File { origin, records }))
 }

@@ -30,8 +30,8 @@ pub use laws::{
 };
 pub use memory::MemTable;
 pub use office_model::{
-    Addition, Call, NumberedChange, Query, Receipt, Reply, Request, Right, StepFault, TableFault,
-    UpdateReply, ZoneTable,
+    Addition, Call, NumberedChange, Query, Reading, Receipt, Reply, Request, Right, StepFault,
+    TableFault, UpdateReply, ZoneTable,
 };
 pub use permission::{Denial, denied};
 pub use runs::run;

@@ -9,7 +9,7 @@ ghost use Rattle.office_core.specs.Steps.{IsAnswer, Takes};
 use crate::listed::listed_of;
 use dns_names::Name;
 use grant_policy::{Identifier, Policy};
-use office_model::{Reply, TableFault, ZoneTable};
+use office_model::{Reading, Reply, TableFault, ZoneTable};
 use std::alloc::Global;
 
 /// The records of a zone that the caller may list.
@@ -27,5 +27,5 @@ pub(crate) fn list<T: ZoneTable>(
     let Some(records) = listed_of(alloc, table, policy, caller, origin)? else {
         return Ok(Reply::NotAuth);
     };
-    Ok(Reply::Records(records))
+    Ok(Reply::Read(Reading::Records(records)))
 }

@@ -8,7 +8,7 @@ ghost use Rattle.office_core.specs.Steps.{IsAnswer, Takes};
 
 use dns_names::Name;
 use grant_policy::{Action, Grants, Identifier, Policy};
-use office_model::{Reply, TableFault, ZoneTable};
+use office_model::{Reading, Reply, TableFault, ZoneTable};
 use std::alloc::Global;
 
 /// The records of a zone within a name that the caller may list.
@@ -31,5 +31,5 @@ pub(crate) fn list_within<T: ZoneTable>(
     if !top.is_within(origin) {
         return Ok(Reply::NotZone);
     }
-    Ok(Reply::Records(records))
+    Ok(Reply::Read(Reading::Records(records)))
 }

@@ -8,7 +8,7 @@ ghost use Rattle.office_core.specs.Permissions.{question};
 use dns_data::RecordType;
 use dns_names::Name;
 use grant_policy::{Action, Decision, Identifier, LookUps, Policy, decide};
-use office_model::{Reply, Right};
+use office_model::{Reading, Reply, Right};
 use std::alloc::{AllocError, Global};
 
 /// What the policy decides, with an identifier in memory of its own. The only error is out of memory.
@@ -28,5 +28,5 @@ pub(crate) fn right(
         Decision::Denied(Some(id)) => Right::Denied(Some(id.try_copy(alloc)?)),
         Decision::Denied(None) => Right::Denied(None),
     };
-    Ok(Reply::Right(right))
+    Ok(Reply::Read(Reading::Right(right)))
 }

@@ -15,6 +15,8 @@ use Rattle.office_model.specs.declared.reply.NumberedChange.{NumberedChange}
 use Rattle.office_model.specs.declared.reply.SeenChange.{SeenChange}
 use Rattle.office_model.specs.declared.reply.Reply.{Reply}
 use Rattle.office_model.specs.declared.reply.Reply.TheVariants as replies
+use Rattle.office_model.specs.declared.reply.Reading.{Reading}
+use Rattle.office_model.specs.declared.reply.Reading.TheVariants as readings
 use Rattle.office_model.specs.TableFaults.{cause, table_fault_number}
 
 -- the code of a reply to an update (RFC 2136 section 2.2)
@@ -58,6 +60,14 @@ seen_in c = record { removed = c.removed; added = c.added }
 abbrev pub numbered_of : NumberedChange → NumberedOf
 numbered_of c = record { number = c.number; removed = c.change.removed; added = c.change.added }
 
+-- what was read
+abbrev pub reading_of : Reading → ReplyOf
+reading_of (readings.Records rs) = records rs.items
+reading_of (readings.File origin rs) = file origin rs.items
+reading_of (readings.Delegations ds) = delegations (map report_of ds.items)
+reading_of (readings.Changes cs) = changes (map numbered_of cs.items)
+reading_of (readings.Right r) = right (right_of r)
+
 -- a reply of the machine; none where the table failed or memory ran out
 abbrev pub reply_of : Reply → Option ReplyOf
 reply_of (replies.Update reply) = Some (to_update reply)
@@ -65,11 +75,7 @@ reply_of replies.IdReused = Some id_reused
 reply_of (replies.Servfail fault) = None
 reply_of replies.NotAuth = Some not_auth
 reply_of replies.NotZone = Some not_zone
-reply_of (replies.Records rs) = Some (records rs.items)
-reply_of (replies.File origin rs) = Some (file origin rs.items)
-reply_of (replies.Delegations ds) = Some (delegations (map report_of ds.items))
-reply_of (replies.Changes cs) = Some (changes (map numbered_of cs.items))
-reply_of (replies.Right r) = Some (right (right_of r))
+reply_of (replies.Read reading) = Some (reading_of reading)
 
 -- the published number of a refusal that has no response code
 abbrev pub reply_refusal : Reply → Option ℕ
@@ -78,8 +84,4 @@ reply_refusal replies.IdReused = Some 61
 reply_refusal (replies.Servfail fault) = Some (table_fault_number (cause fault))
 reply_refusal replies.NotAuth = None
 reply_refusal replies.NotZone = None
-reply_refusal (replies.Records rs) = None
-reply_refusal (replies.File origin rs) = None
-reply_refusal (replies.Delegations ds) = None
-reply_refusal (replies.Changes cs) = None
-reply_refusal (replies.Right r) = None
+reply_refusal (replies.Read reading) = None

@@ -16,7 +16,7 @@ pub use ahead::Ahead;
 pub use included_records::{included, with_included};
 pub use receipt::{Addition, Receipt};
 pub use record_lines::{RecordLines, first_line};
-pub use reply::{NumberedChange, Reply, Right, SeenChange, UpdateReply};
+pub use reply::{NumberedChange, Reading, Reply, Right, SeenChange, UpdateReply};
 pub use reply_text::reply_words;
 pub use request::{Call, Query, Request};
 pub use table::ZoneTable;

@@ -77,10 +77,17 @@ pub enum Reply {
     IdReused,
     /// The table failed, or memory ran out: nothing has changed.
     Servfail(StepFault),
-    /// To another request than an update: no zone has this origin.
+    /// To a query: no zone has this origin.
     NotAuth,
     /// To a list within a name: the name is not within the origin.
     NotZone,
+    /// To a query: what it asked for.
+    Read(Reading),
+}
+
+/// What was read for a query.
+#[derive(Drop)]
+pub enum Reading {
     /// The records that the caller may list, in record order.
     Records(Vec<Record>),
     /// The origin, and the records that the caller may list, in record order.

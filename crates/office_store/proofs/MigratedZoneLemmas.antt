@@ -10,7 +10,7 @@ use Rattle.dns_data.specs.RecordOrder.{record_order, record_order_total}
 use Rattle.sqlite_trees.specs.Tree.{IsAscending}
 use Rattle.std.specs.List.Sorted.{IsStrictlySortedBy}
 use Rattle.std.specs.declared.cmp.Ordering.TheVariants.{Less}
-use Rattle.zone_core.specs.declared.refusals.ZoneFault.{ZoneFault}
+use Rattle.zone_core.specs.declared.faults.ZoneFault.{ZoneFault}
 use Rattle.zone_core.specs.Sets.{Records, set_of, listing, is_same, InOrder, IsIn, AreRows}
 use Rattle.zone_core.specs.Zones.{ZoneOf, IsZone, AreKept, zone_of, built, min_rrset_ttls, latest, fault_in, unless_fault}
 use Rattle.zone_core.specs.Views.{zone_in, AreOfZone}

@@ -12,7 +12,9 @@ use Rattle.office_model.specs.declared.request.Request.{Request}
 use Rattle.office_model.specs.declared.request.Request.TheVariants as requests
 use Rattle.office_model.specs.declared.reply.Reply.{Reply}
 use Rattle.office_model.specs.declared.reply.Reply.TheVariants as replies
-use Rattle.office_model.specs.Replies.{to_update, reply_of}
+use Rattle.office_model.specs.declared.reply.Reading.{Reading}
+use Rattle.office_model.specs.declared.reply.Reading.TheVariants as readings
+use Rattle.office_model.specs.Replies.{to_update, reading_of, reply_of}
 use Rattle.office_model.specs.States.{State}
 use Rattle.zone_core.specs.Updates.{UpdateOf}
 use Rattle.office_core.specs.Machine.{Turn, step, updated, answered, refusal}
@@ -32,6 +34,14 @@ use Rattle.office_wire.specs.Servfails.{servfail_in, noted, one_more}
 use Rattle.office_wire.specs.ShortResponses.{IsShortResponse, IsPut, servfail}
 use Rattle.office_wire.specs.Exchange.{Standing, Answers, names_nobody, replied, failed, refused, refusing}
 
+-- what was read is no reply to an update
+not_read : (reading : Reading) (x : UpdateReply) → Some (reading_of reading) ≡ Some (to_update x) → ⊥
+not_read (readings.Records rs) x e = absurd cc
+not_read (readings.File origin rs) x e = absurd cc
+not_read (readings.Delegations ds) x e = absurd cc
+not_read (readings.Changes cs) x e = absurd cc
+not_read (readings.Right r) x e = absurd cc
+
 -- a reply to an update is short
 short_update : (reply : Reply) (x : UpdateReply) → reply_of reply ≡ Some (to_update x) → IsShort reply
 short_update (replies.Update r) x e = tt
@@ -39,11 +49,7 @@ short_update replies.IdReused x e = tt
 short_update (replies.Servfail fault) x e = tt
 short_update replies.NotAuth x e = tt
 short_update replies.NotZone x e = tt
-short_update (replies.Records rs) x e = absurd cc
-short_update (replies.File origin rs) x e = absurd cc
-short_update (replies.Delegations ds) x e = absurd cc
-short_update (replies.Changes cs) x e = absurd cc
-short_update (replies.Right r) x e = tt
+short_update (replies.Read reading) x e = absurd (not_read reading x e)
 
 -- a turn whose reply is long leaves the state as it was
 abbrev IsLongTurn : State → Turn → Type 0

@@ -5,6 +5,7 @@ use Rattle.office_model.specs.declared.reply.UpdateReply.{UpdateReply}
 use Rattle.office_model.specs.declared.reply.UpdateReply.TheVariants as updates
 use Rattle.office_model.specs.declared.reply.Reply.{Reply}
 use Rattle.office_model.specs.declared.reply.Reply.TheVariants as replies
+use Rattle.office_model.specs.declared.reply.Reading.TheVariants as readings
 use Rattle.wire_json.specs.Replies.{body_of, refusal_body, form_error_body}
 use Rattle.office_wire.specs.declared.method.Method.{Method}
 use Rattle.office_wire.specs.declared.method.Method.TheVariants.{Head}
@@ -45,11 +46,7 @@ reply_status replies.IdReused = 409
 reply_status (replies.Servfail fault) = 500
 reply_status replies.NotAuth = 404
 reply_status replies.NotZone = 400
-reply_status (replies.Records records) = 200
-reply_status (replies.File origin records) = 200
-reply_status (replies.Delegations delegations) = 200
-reply_status (replies.Changes changes) = 200
-reply_status (replies.Right right) = 200
+reply_status (replies.Read reading) = 200
 
 -- of a response
 abbrev pub status_of : Response → ℕ
@@ -61,7 +58,7 @@ status_of (Replied reply) = reply_status reply
 
 -- the media type of a reply's body: a master file is plain text
 abbrev pub reply_type : Reply → List ℕ
-reply_type (replies.File origin records) = codes "text/plain"
+reply_type (replies.Read (readings.File origin records)) = codes "text/plain"
 reply_type reply = codes "application/json"
 
 abbrev pub type_of : Response → List ℕ

@@ -10,7 +10,7 @@ use crate::refusal::Refusal;
 use crate::request_fault::RequestFault;
 use crate::status::{refusal_status, reply_status};
 use http::StatusCode;
-use office_model::{Reply, StepFault, TableFault};
+use office_model::{Reading, Reply, StepFault, TableFault};
 use std::alloc::AllocError;
 use wire_json::{form_error_text, refusal_text, reply_text};
 
@@ -31,7 +31,7 @@ const fn reply_type(reply: &Reply) -> &'static str
     ensures short { length result.now ≤ 16 }
 {
     match reply {
-        Reply::File { .. } => "text/plain",
+        Reply::Read(Reading::File { .. }) => "text/plain",
         _ => "application/json",
     }
 }

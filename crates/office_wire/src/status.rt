@@ -54,10 +54,6 @@ pub(crate) fn reply_status(reply: &Reply) -> StatusCode
         Reply::Servfail(_) => StatusCode::INTERNAL_SERVER_ERROR,
         Reply::NotAuth => StatusCode::NOT_FOUND,
         Reply::NotZone => StatusCode::BAD_REQUEST,
-        Reply::Records(_)
-        | Reply::File { .. }
-        | Reply::Delegations(_)
-        | Reply::Changes(_)
-        | Reply::Right(_) => StatusCode::OK,
+        Reply::Read(_) => StatusCode::OK,
     }
 }

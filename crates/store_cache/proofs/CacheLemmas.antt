@@ -7,8 +7,8 @@ use Rattle.std.proofs.lemmas.List.Folds.{list_any_more}
 use Rattle.dns_names.specs.Order.{same_name}
 use Rattle.dns_data.specs.declared.record.Record.{Record}
 use Rattle.zone_core.specs.Sets.{Records, Key, key_of as key_of_record, set_of, listing, part, at_name, InOrder, IsIn}
-use Rattle.zone_core.specs.declared.refusals.ZoneFault.{ZoneFault}
-use Rattle.zone_core.specs.declared.refusals.ZoneFault.TheVariants as faults
+use Rattle.zone_core.specs.declared.faults.ZoneFault.{ZoneFault}
+use Rattle.zone_core.specs.declared.faults.ZoneFault.TheVariants as faults
 use Rattle.zone_core.specs.Faults.{Refuses}
 use Rattle.zone_core.specs.Zones.{ZoneOf, IsZone, built}
 use Rattle.zone_core.specs.Parts.{part_of, at_names}

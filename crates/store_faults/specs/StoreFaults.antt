@@ -3,8 +3,8 @@ use Rattle.std.specs.Prelude.{◌≡◌, ℕ, ◌+◌, Result, Ok, Err}
 use Rattle.sqlite.specs.declared.error.Error.{Error}
 use Rattle.sqlite.specs.declared.error.Error.TheVariants.{SqliteFailure}
 use Rattle.sqlite.specs.declared.error.ErrorCode.TheVariants.{DatabaseCorrupt}
-use Rattle.zone_core.specs.declared.refusals.ZoneFault.{ZoneFault}
-use Rattle.zone_core.specs.declared.refusals.ZoneFault.TheVariants as zones
+use Rattle.zone_core.specs.declared.faults.ZoneFault.{ZoneFault}
+use Rattle.zone_core.specs.declared.faults.ZoneFault.TheVariants as zones
 use Rattle.zone_core.specs.Faults.{zone_fault_number}
 use Rattle.store_sql.specs.Faults.{fault_of}
 use Rattle.store_sql.specs.declared.rows_fault.RowsFault.{RowsFault}

@@ -28,8 +28,8 @@ use Rattle.dns_data.specs.Rdata.{IsRecord}
 use Rattle.dns_data.specs.RecordOrder.{record_order, record_order_total}
 use Rattle.zone_core.specs.Sets.{Records, Key, set_of, keyed, key_cmp, listing, part, within, at_name, InOrder, IsIn}
 use Rattle.zone_core.specs.Sets as records
-use Rattle.zone_core.specs.declared.refusals.ZoneFault.{ZoneFault}
-use Rattle.zone_core.specs.declared.refusals.ZoneFault.TheVariants as faults
+use Rattle.zone_core.specs.declared.faults.ZoneFault.{ZoneFault}
+use Rattle.zone_core.specs.declared.faults.ZoneFault.TheVariants as faults
 use Rattle.zone_core.specs.Faults as zone_faults
 use Rattle.store_rows.specs.declared.row_fault.RowFault.TheVariants.{BadRow}
 use Rattle.store_rows.specs.RowFaults.{◌>>=◌, Refuses, of_zone, of_zones}

@@ -2,7 +2,7 @@
 use Rattle.std.proofs.Common.{◌≡◌, ◌↔◌, ℕ, ◌+◌, ◌<◌, ◌≤◌, Bool, true, false, eqb, List, [], ◌∷◌, length, take, drop, get_or, sym, ap, subst, ◌∙◌, eqb-true, eq-eqb, Option, Some, None, Result, Ok, Err}
 use Rattle.std.proofs.lemmas.List.{drop_more, drop_all, nil_from_length}
 use Rattle.sqlite_rules.proofs.ListLemmas.{all_from, contains_had}
-use Rattle.zone_core.specs.declared.refusals.ZoneFault.{ZoneFault}
+use Rattle.zone_core.specs.declared.faults.ZoneFault.{ZoneFault}
 use Rattle.zone_core.specs.Sets.{Records, set_of, listing, InOrder, IsIn}
 use Rattle.zone_core.specs.Zones.{ZoneOf, IsZone, built, min_rrset_ttls, latest, fault_in, unless_fault}
 use Rattle.zone_core.specs.Views.{zone_in, AreOfZone}

@@ -12,8 +12,8 @@ use Rattle.update_lines.specs.declared.items_fault.ItemsFault.{ItemsFault}
 use Rattle.update_lines.specs.declared.items_fault.ItemsFault.TheVariants as items
 use Rattle.store_sql.specs.declared.rows_fault.RowsFault.{RowsFault}
 use Rattle.store_sql.specs.declared.rows_fault.RowsFault.TheVariants as tables
-use Rattle.zone_core.specs.declared.refusals.ZoneFault.{ZoneFault}
-use Rattle.zone_core.specs.declared.refusals.ZoneFault.TheVariants as zones
+use Rattle.zone_core.specs.declared.faults.ZoneFault.{ZoneFault}
+use Rattle.zone_core.specs.declared.faults.ZoneFault.TheVariants as zones
 use Rattle.store_rows.specs.declared.row_fault.RowFault.{RowFault}
 use Rattle.store_rows.specs.declared.row_fault.RowFault.TheVariants.{BadRow, NoMemory}
 

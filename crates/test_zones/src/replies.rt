@@ -3,7 +3,9 @@
 use dns_data::Record;
 use dns_names::Name;
 use grant_policy::Identifier;
-use office_model::{NumberedChange, RecordLines, Reply, Right, StepFault, TableFault, UpdateReply};
+use office_model::{
+    NumberedChange, Reading, RecordLines, Reply, Right, StepFault, TableFault, UpdateReply,
+};
 use std::alloc::{AllocError, Global};
 use zone_core::{DelegatedServer, Delegation, Glue, ItemList, Place};
 
@@ -154,6 +156,17 @@ fn cause_text(fault: StepFault) -> &'static str {
     }
 }
 
+/// Appends what was read.
+fn push_reading(alloc: Global, reading: &Reading, told: &mut Vec<u8>) -> Result<(), AllocError> {
+    match reading {
+        Reading::Records(records) => push_records(alloc, "", records, told),
+        Reading::File { origin, records } => push_file(alloc, origin, records, told),
+        Reading::Delegations(delegations) => push_delegations(alloc, delegations, told),
+        Reading::Changes(changes) => push_changes(alloc, changes, told),
+        Reading::Right(right) => push_right(right, told),
+    }
+}
+
 /// Appends a reply.
 fn push_reply(alloc: Global, reply: &Reply, told: &mut Vec<u8>) -> Result<(), AllocError> {
     match reply {
@@ -162,11 +175,7 @@ fn push_reply(alloc: Global, reply: &Reply, told: &mut Vec<u8>) -> Result<(), Al
         Reply::Servfail(fault) => push(cause_text(*fault), told),
         Reply::NotAuth => push("no zone", told),
         Reply::NotZone => push("outside the zone", told),
-        Reply::Records(records) => push_records(alloc, "", records, told),
-        Reply::File { origin, records } => push_file(alloc, origin, records, told),
-        Reply::Delegations(delegations) => push_delegations(alloc, delegations, told),
-        Reply::Changes(changes) => push_changes(alloc, changes, told),
-        Reply::Right(right) => push_right(right, told),
+        Reply::Read(reading) => push_reading(alloc, reading, told),
     }
 }
 

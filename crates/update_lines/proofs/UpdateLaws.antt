@@ -13,8 +13,8 @@ use Rattle.dns_master.proofs.CutLaws.{view, entries_are, entries_read}
 use Rattle.dns_master.proofs.TokenLaws.{entries_ok}
 use Rattle.zone_core.specs.declared.update.Prerequisite.{Prerequisite}
 use Rattle.zone_core.specs.declared.update.Operation.{Operation}
-use Rattle.zone_core.specs.declared.refusals.UpdateFault.{UpdateFault}
-use Rattle.zone_core.specs.declared.refusals.UpdateFault.TheVariants.{TooManyItems, TwoSoa}
+use Rattle.zone_core.specs.declared.faults.UpdateFault.{UpdateFault}
+use Rattle.zone_core.specs.declared.faults.UpdateFault.TheVariants.{TooManyItems, TwoSoa}
 use Rattle.zone_core.specs.Updates.{UpdateOf, adds_soa, update_of}
 use Rattle.update_lines.specs.declared.items_fault.ItemsFault.{ItemsFault}
 use Rattle.update_lines.specs.declared.item.UpdateItem.{UpdateItem}

@@ -6,7 +6,7 @@ use Rattle.dns_data.specs.declared.data_fault.DataFault.{DataFault}
 use Rattle.dns_data.specs.declared.data_fault.DataFault.TheVariants as datas
 use Rattle.dns_master.specs.declared.master_fault.MasterFault.{MasterFault}
 use Rattle.dns_master.specs.Faults as master
-use Rattle.zone_core.specs.declared.refusals.UpdateFault.{UpdateFault}
+use Rattle.zone_core.specs.declared.faults.UpdateFault.{UpdateFault}
 use Rattle.zone_core.specs.Faults.{update_fault_number}
 use Rattle.update_lines.specs.declared.items_fault.ItemsFault.{ItemsFault}
 use Rattle.update_lines.specs.declared.items_fault.ItemsFault.TheVariants.{BadLine, Update, NoMemory}

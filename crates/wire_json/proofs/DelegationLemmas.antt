@@ -8,13 +8,13 @@ use Rattle.std.specs.List.{list_any, flat_map}
 use Rattle.dns_data.specs.declared.record_type.RecordType.TheVariants as types
 use Rattle.zone_core.specs.declared.delegation.ChildServer.{ChildServer}
 use Rattle.zone_core.specs.declared.delegation.DelegationRequest.{DelegationRequest}
-use Rattle.zone_core.specs.declared.refusals.DelegationFault.{DelegationFault}
-use Rattle.zone_core.specs.declared.refusals.DelegationFault.TheVariants.{NotBelowOrigin, NoServer, GlueMissing}
+use Rattle.zone_core.specs.declared.faults.DelegationFault.{DelegationFault}
+use Rattle.zone_core.specs.declared.faults.DelegationFault.TheVariants.{NotBelowOrigin, NoServer, GlueMissing}
 use Rattle.zone_core.specs.declared.update.Operation.{Operation}
 use Rattle.zone_core.specs.declared.update.Operation.TheVariants.{DeleteRrset}
 use Rattle.zone_core.specs.Updates.{UpdateOf, update_of}
 use Rattle.zone_core.specs.Delegations as zone
-use Rattle.zone_core.specs.declared.refusals.DelegationFault.TheVariants as delegations
+use Rattle.zone_core.specs.declared.faults.DelegationFault.TheVariants as delegations
 use Rattle.zone_core.specs.Faults as zones
 use Rattle.wire_json.specs.declared.body_fault.BodyFault.{BodyFault}
 use Rattle.wire_json.specs.Faults.{Refuses, of_delegation}

@@ -26,7 +26,7 @@ use Rattle.zone_core.specs.declared.update.Operation.{Operation}
 use Rattle.zone_core.specs.declared.update.Operation.TheVariants.{Add, DeleteRrset, DeleteName, DeleteRecord}
 use Rattle.zone_core.specs.Kinds.{prerequisite_word, operation_word, prerequisite_named, operation_named, prerequisite_kind, operation_kind}
 use Rattle.zone_core.specs.Updates.{UpdateOf, update_of}
-use Rattle.zone_core.specs.declared.refusals.UpdateFault.{UpdateFault}
+use Rattle.zone_core.specs.declared.faults.UpdateFault.{UpdateFault}
 use Rattle.wire_json.specs.declared.body.UpdateBody.{UpdateBody}
 use Rattle.wire_json.specs.declared.body_fault.BodyFault.{BodyFault}
 use Rattle.wire_json.specs.declared.field.Field.{Field}

@@ -7,8 +7,8 @@ use Rattle.dns_data.specs.declared.record_type.RecordType.TheVariants as types
 use Rattle.dns_data.specs.declared.rdata.Data.TheVariants.{Ns}
 use Rattle.zone_core.specs.declared.delegation.ChildServer.{ChildServer}
 use Rattle.zone_core.specs.declared.delegation.DelegationRequest.{DelegationRequest}
-use Rattle.zone_core.specs.declared.refusals.DelegationFault.{DelegationFault}
-use Rattle.zone_core.specs.declared.refusals.DelegationFault.TheVariants.{NotBelowOrigin, NoServer, GlueMissing}
+use Rattle.zone_core.specs.declared.faults.DelegationFault.{DelegationFault}
+use Rattle.zone_core.specs.declared.faults.DelegationFault.TheVariants.{NotBelowOrigin, NoServer, GlueMissing}
 use Rattle.zone_core.specs.declared.update.Operation.{Operation}
 use Rattle.zone_core.specs.declared.update.Operation.TheVariants.{Add, DeleteRrset}
 use Rattle.zone_core.specs.Updates.{UpdateOf, update_of}

@@ -8,9 +8,9 @@ use Rattle.dns_master.specs.declared.master_fault.MasterFault.{MasterFault}
 use Rattle.dns_master.specs.declared.master_fault.MasterFault.TheVariants as masters
 use Rattle.grant_policy.specs.declared.identifier.IdentifierFault.{IdentifierFault}
 use Rattle.grant_policy.specs.declared.identifier.IdentifierFault.TheVariants as identifiers
-use Rattle.zone_core.specs.declared.refusals.UpdateFault.{UpdateFault}
-use Rattle.zone_core.specs.declared.refusals.DelegationFault.{DelegationFault}
-use Rattle.zone_core.specs.declared.refusals.DelegationFault.TheVariants as delegations
+use Rattle.zone_core.specs.declared.faults.UpdateFault.{UpdateFault}
+use Rattle.zone_core.specs.declared.faults.DelegationFault.{DelegationFault}
+use Rattle.zone_core.specs.declared.faults.DelegationFault.TheVariants as delegations
 use Rattle.zone_core.specs.Faults.{update_fault_number, delegation_fault_number}
 use Rattle.wire_json.specs.declared.body_fault.BodyFault.{BodyFault}
 use Rattle.wire_json.specs.declared.body_fault.BodyFault.TheVariants.{NotJson, UnknownField, MissingField, BadField, Update, Delegation, NoMemory}

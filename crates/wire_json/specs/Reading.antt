@@ -21,7 +21,7 @@ use Rattle.zone_core.specs.declared.kind.PrerequisiteKind.{PrerequisiteKind}
 use Rattle.zone_core.specs.declared.kind.PrerequisiteKind.TheVariants as tests
 use Rattle.zone_core.specs.declared.kind.OperationKind.{OperationKind}
 use Rattle.zone_core.specs.declared.kind.OperationKind.TheVariants as changes
-use Rattle.zone_core.specs.declared.refusals.UpdateFault.TheVariants.{TooManyItems}
+use Rattle.zone_core.specs.declared.faults.UpdateFault.TheVariants.{TooManyItems}
 use Rattle.zone_core.specs.declared.update.Prerequisite.{Prerequisite}
 use Rattle.zone_core.specs.declared.update.Prerequisite.TheVariants.{RrsetExists, RrsetEquals, RrsetAbsent, NameUsed, NameUnused}
 use Rattle.zone_core.specs.declared.update.Operation.{Operation}

@@ -21,6 +21,8 @@ use Rattle.office_model.specs.declared.reply.Right.TheVariants.{Granted, Denied}
 use Rattle.office_model.specs.declared.reply.NumberedChange.{NumberedChange}
 use Rattle.office_model.specs.declared.reply.Reply.{Reply}
 use Rattle.office_model.specs.declared.reply.Reply.TheVariants as replies
+use Rattle.office_model.specs.declared.reply.Reading.{Reading}
+use Rattle.office_model.specs.declared.reply.Reading.TheVariants as readings
 use Rattle.wire_json.specs.Json.{quoted, array, member, object}
 
 -- ---- refusals, codes and places
@@ -144,6 +146,14 @@ delegations_body delegations = object (member (codes "delegations") (array (map 
 
 -- ---- replies
 
+-- the body of what was read
+abbrev pub reading_body : Reading → List ℕ
+reading_body (readings.Records records) = records_body records.items
+reading_body (readings.File origin records) = zone_text origin records.items
+reading_body (readings.Delegations delegations) = delegations_body delegations.items
+reading_body (readings.Changes changes) = changes_body changes.items
+reading_body (readings.Right right) = right_body right
+
 -- the body of a reply
 abbrev pub body_of : Reply → List ℕ
 body_of (replies.Update reply) = update_body reply
@@ -151,11 +161,12 @@ body_of replies.IdReused = refusal_body 61
 body_of (replies.Servfail fault) = code_body rcodes.ServFail
 body_of replies.NotAuth = code_body rcodes.NotAuth
 body_of replies.NotZone = code_body rcodes.NotZone
-body_of (replies.Records records) = records_body records.items
-body_of (replies.File origin records) = zone_text origin records.items
-body_of (replies.Delegations delegations) = delegations_body delegations.items
-body_of (replies.Changes changes) = changes_body changes.items
-body_of (replies.Right right) = right_body right
+body_of (replies.Read reading) = reading_body reading
+
+-- a reading whose body has at most 256 octets: that of a right
+abbrev pub IsShortReading : Reading → Type 0
+IsShortReading (readings.Right right) = Unit {0}
+IsShortReading reading = ⊥
 
 -- a reply whose body has at most 256 octets
 abbrev pub IsShort : Reply → Type 0
@@ -164,8 +175,4 @@ IsShort replies.IdReused = Unit {0}
 IsShort (replies.Servfail fault) = Unit {0}
 IsShort replies.NotAuth = Unit {0}
 IsShort replies.NotZone = Unit {0}
-IsShort (replies.Records records) = ⊥
-IsShort (replies.File origin records) = ⊥
-IsShort (replies.Delegations delegations) = ⊥
-IsShort (replies.Changes changes) = ⊥
-IsShort (replies.Right right) = Unit {0}
+IsShort (replies.Read reading) = IsShortReading reading

@@ -3,13 +3,27 @@
 ghost use Rattle.std.specs.Prelude.{◌≡◌, ◌≤◌, ◌+◌, ◌++◌, length, IsOk, OnOk, OnErr};
 ghost use Rattle.std.specs.Vec.{vec_capacity};
 ghost use Rattle.wire_json.specs.Appending.{Appends};
-ghost use Rattle.wire_json.specs.Replies.{body_of, IsShort, refusal_body, form_error_body};
+ghost use Rattle.wire_json.specs.Replies.{reading_body, body_of, IsShortReading, IsShort, refusal_body, form_error_body};
 
 use crate::listing::{push_changes, push_delegations, push_file, push_records};
 use crate::short::{push_code, push_form_error, push_refusal, push_right, push_update_reply};
-use office_model::Reply;
+use office_model::{Reading, Reply};
 use std::alloc::AllocError;
 use zone_core::Rcode;
+
+/// Appends the body of what was read.
+fn push_reading(reading: &Reading, out: &mut Vec<u8>) -> Result<(), AllocError>
+    ensures text { Appends out.old out.new (reading_body reading.now) result }
+    ensures room { IsShortReading reading.now → length out.old.items + 256 ≤ vec_capacity out.old → IsOk result }
+{
+    match reading {
+        Reading::Records(records) => push_records(out, records),
+        Reading::File { origin, records } => push_file(out, origin, records),
+        Reading::Delegations(delegations) => push_delegations(out, delegations),
+        Reading::Changes(changes) => push_changes(out, changes),
+        Reading::Right(right) => push_right(out, right),
+    }
+}
 
 /// Appends the body of a reply.
 fn push_reply(reply: &Reply, out: &mut Vec<u8>) -> Result<(), AllocError>
@@ -22,11 +36,7 @@ fn push_reply(reply: &Reply, out: &mut Vec<u8>) -> Result<(), AllocError>
         Reply::Servfail(_) => push_code(out, Rcode::ServFail),
         Reply::NotAuth => push_code(out, Rcode::NotAuth),
         Reply::NotZone => push_code(out, Rcode::NotZone),
-        Reply::Records(records) => push_records(out, records),
-        Reply::File { origin, records } => push_file(out, origin, records),
-        Reply::Delegations(delegations) => push_delegations(out, delegations),
-        Reply::Changes(changes) => push_changes(out, changes),
-        Reply::Right(right) => push_right(out, right),
+        Reply::Read(reading) => push_reading(reading, out),
     }
 }
 

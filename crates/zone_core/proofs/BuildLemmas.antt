@@ -1,8 +1,8 @@
 -- What a row in which nothing is wrong, or something is, says of the zone that is built.
 use Rattle.std.proofs.Common.{◌≡◌, ℕ, List, Option, Some, None, Result, Ok, Err, sym, ap, ◌∙◌}
 use Rattle.dns_data.specs.declared.record.Record.{Record}
-use Rattle.zone_core.specs.declared.refusals.ZoneFault.{ZoneFault}
-use Rattle.zone_core.specs.declared.refusals.ZoneFault.TheVariants.{NoMemory}
+use Rattle.zone_core.specs.declared.faults.ZoneFault.{ZoneFault}
+use Rattle.zone_core.specs.declared.faults.ZoneFault.TheVariants.{NoMemory}
 use Rattle.zone_core.specs.Faults.{Refuses}
 use Rattle.zone_core.specs.Sets.{Records, set_of}
 use Rattle.zone_core.specs.Zones.{ZoneOf, IsZone, fault_in, unless_fault, built, zone_of, min_rrset_ttls, latest}

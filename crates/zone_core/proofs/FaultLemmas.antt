@@ -5,8 +5,8 @@ use Rattle.std.proofs.lemmas.Bool.{ne_eqb}
 use Rattle.std.proofs.lemmas.Bool.Decides.{nat_tests}
 use Rattle.dns_data.specs.declared.record.Record.{Record}
 use Rattle.dns_data.specs.declared.record_type.RecordType.TheVariants as types
-use Rattle.zone_core.specs.declared.refusals.ZoneFault.{ZoneFault}
-use Rattle.zone_core.specs.declared.refusals.ZoneFault.TheVariants.{RootOrigin, OutOfZone, SoaNotAtOrigin, NoSoa, TwoSoa, NoOriginNs, TwoCnames, CnameAndOther}
+use Rattle.zone_core.specs.declared.faults.ZoneFault.{ZoneFault}
+use Rattle.zone_core.specs.declared.faults.ZoneFault.TheVariants.{RootOrigin, OutOfZone, SoaNotAtOrigin, NoSoa, TwoSoa, NoOriginNs, TwoCnames, CnameAndOther}
 use Rattle.zone_core.specs.Sets.{key_of, set_of, InOrder, count, has, at_name, at}
 use Rattle.zone_core.specs.Zones.{fault_in, is_soa, is_outside, is_of_two_cnames, is_cname_beside_other}
 use Rattle.zone_core.proofs.RowLemmas.{has_is}

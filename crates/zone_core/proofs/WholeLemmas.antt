@@ -12,7 +12,7 @@ use Rattle.dns_data.specs.declared.record_type.RecordType.{RecordType}
 use Rattle.dns_data.specs.declared.record_type.RecordType.TheVariants as types
 use Rattle.dns_data.specs.Rdata.{type_of, IsRecord}
 use Rattle.dns_data.proofs.RecordOrderLemmas.{one_rank}
-use Rattle.zone_core.specs.declared.refusals.ZoneFault.{ZoneFault}
+use Rattle.zone_core.specs.declared.faults.ZoneFault.{ZoneFault}
 use Rattle.zone_core.specs.Sets.{Records, Key, key_of, rank_of, set_of, InOrder, IsIn, count, has, at_name, at}
 use Rattle.zone_core.specs.Zones.{IsZone, AreKept, fault_in, is_soa, is_cname, is_outside, is_of_two_cnames, is_cname_beside_other}
 use Rattle.zone_core.specs.Views.{AreOfZone, set_ttl, min_ttl_rows}

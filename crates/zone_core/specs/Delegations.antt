@@ -18,9 +18,9 @@ use Rattle.zone_core.specs.declared.report.DelegatedServer.{DelegatedServer}
 use Rattle.zone_core.specs.declared.report.Delegation.{Delegation}
 use Rattle.zone_core.specs.declared.delegation.ChildServer.{ChildServer}
 use Rattle.zone_core.specs.declared.delegation.DelegationRequest.{DelegationRequest}
-use Rattle.zone_core.specs.declared.refusals.DelegationFault.{DelegationFault}
-use Rattle.zone_core.specs.declared.refusals.DelegationFault.TheVariants.{NotBelowOrigin, NoServer, GlueMissing, TooManyItems}
-use Rattle.zone_core.specs.declared.refusals.UpdateFault.{UpdateFault}
+use Rattle.zone_core.specs.declared.faults.DelegationFault.{DelegationFault}
+use Rattle.zone_core.specs.declared.faults.DelegationFault.TheVariants.{NotBelowOrigin, NoServer, GlueMissing, TooManyItems}
+use Rattle.zone_core.specs.declared.faults.UpdateFault.{UpdateFault}
 use Rattle.zone_core.specs.declared.update.Operation.{Operation}
 use Rattle.zone_core.specs.declared.update.Operation.TheVariants.{Add, DeleteRrset}
 use Rattle.zone_core.specs.Sets.{key_of, rank_of, set_of, InOrder, has, at}

@@ -1,11 +1,11 @@
 -- The refusals of zones and updates, by their published numbers.
 use Rattle.std.specs.Prelude.{◌≡◌, ℕ, Result, Ok, Err}
-use Rattle.zone_core.specs.declared.refusals.ZoneFault.{ZoneFault}
-use Rattle.zone_core.specs.declared.refusals.ZoneFault.TheVariants as zones
-use Rattle.zone_core.specs.declared.refusals.UpdateFault.{UpdateFault}
-use Rattle.zone_core.specs.declared.refusals.UpdateFault.TheVariants as updates
-use Rattle.zone_core.specs.declared.refusals.DelegationFault.{DelegationFault}
-use Rattle.zone_core.specs.declared.refusals.DelegationFault.TheVariants as delegations
+use Rattle.zone_core.specs.declared.faults.ZoneFault.{ZoneFault}
+use Rattle.zone_core.specs.declared.faults.ZoneFault.TheVariants as zones
+use Rattle.zone_core.specs.declared.faults.UpdateFault.{UpdateFault}
+use Rattle.zone_core.specs.declared.faults.UpdateFault.TheVariants as updates
+use Rattle.zone_core.specs.declared.faults.DelegationFault.{DelegationFault}
+use Rattle.zone_core.specs.declared.faults.DelegationFault.TheVariants as delegations
 
 -- the published number of a zone's refusal
 abbrev pub zone_fault_number : ZoneFault → ℕ

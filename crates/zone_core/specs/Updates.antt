@@ -14,8 +14,8 @@ use Rattle.zone_core.specs.declared.update.Operation.TheVariants.{Add, DeleteRrs
 use Rattle.zone_core.specs.declared.update.ItemList.{ItemList}
 use Rattle.zone_core.specs.declared.update.ItemList.TheVariants as lists
 use Rattle.zone_core.specs.declared.update.Place.{Place}
-use Rattle.zone_core.specs.declared.refusals.UpdateFault.{UpdateFault}
-use Rattle.zone_core.specs.declared.refusals.UpdateFault.TheVariants.{TooManyItems, TwoSoa}
+use Rattle.zone_core.specs.declared.faults.UpdateFault.{UpdateFault}
+use Rattle.zone_core.specs.declared.faults.UpdateFault.TheVariants.{TooManyItems, TwoSoa}
 use Rattle.zone_core.specs.Sets.{key_of, rank_of}
 use Rattle.zone_core.specs.Zones.{is_soa}
 use Rattle.zone_core.specs.Prerequisites.{same_data}

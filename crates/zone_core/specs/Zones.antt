@@ -10,8 +10,8 @@ use Rattle.dns_data.specs.declared.rdata.Data.{Data}
 use Rattle.dns_data.specs.declared.rdata.Data.TheVariants.{Soa}
 use Rattle.dns_data.specs.declared.soa.SoaFields.{SoaFields}
 use Rattle.dns_data.specs.Rdata.{type_of, IsRecord}
-use Rattle.zone_core.specs.declared.refusals.ZoneFault.{ZoneFault}
-use Rattle.zone_core.specs.declared.refusals.ZoneFault.TheVariants.{RootOrigin, OutOfZone, SoaNotAtOrigin, NoSoa, TwoSoa, NoOriginNs, TwoCnames, CnameAndOther}
+use Rattle.zone_core.specs.declared.faults.ZoneFault.{ZoneFault}
+use Rattle.zone_core.specs.declared.faults.ZoneFault.TheVariants.{RootOrigin, OutOfZone, SoaNotAtOrigin, NoSoa, TwoSoa, NoOriginNs, TwoCnames, CnameAndOther}
 use Rattle.zone_core.specs.Sets.{Records, Key, key_of, rank_of, set_of, listing, IsIn, part, count, has, at_name, at}
 
 -- an origin and a set of records

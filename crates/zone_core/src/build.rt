@@ -9,8 +9,8 @@ ghost use Rattle.zone_core.specs.KeyPrefixes.{ShareOctets};
 ghost use Rattle.zone_core.specs.Views.{set_ttl, given_ttls, min_ttl_rows, are_two_cnames, are_cname_and_other};
 ghost use Rattle.zone_core.specs.Zones.{IsZone, built, latest, zone_of, least_below, beside, fault_in, is_outside, is_soa, is_cname, is_of_two_cnames, is_cname_beside_other};
 
+use crate::faults::ZoneFault;
 use crate::invariants::reveal_records;
-use crate::refusals::ZoneFault;
 use crate::rows::{has_set, has_type, in_order_behind};
 use crate::zone::Zone;
 use dns_data::{Record, RecordType, Ttl};

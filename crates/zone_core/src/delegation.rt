@@ -5,7 +5,7 @@ ghost use Rattle.std.specs.List.{list_any, flat_map};
 ghost use Rattle.zone_core.specs.Faults.{GivesDelegation};
 ghost use Rattle.zone_core.specs.Delegations.{is_below, address_data, needs_glue, lacks_glue, glue_deletions, server_addition, address_addition, glue_additions, delegation_operations, delegation_of};
 
-use crate::refusals::DelegationFault;
+use crate::faults::DelegationFault;
 use crate::update::{Operation, Update};
 use dns_data::{Data, Record, RecordType, Ttl};
 use dns_names::Name;

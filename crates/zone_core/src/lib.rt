@@ -6,6 +6,7 @@ mod build;
 mod change;
 mod delegation;
 mod effect;
+mod faults;
 mod invariants;
 mod kind;
 mod laws;
@@ -15,7 +16,6 @@ mod outcome;
 mod outermost_names;
 mod prerequisite_code;
 mod rcode;
-mod refusals;
 mod report;
 mod rows;
 mod serial;
@@ -27,6 +27,7 @@ mod zone;
 
 pub use change::Change;
 pub use delegation::{ChildServer, DelegationRequest, delegation_update, is_below};
+pub use faults::{DelegationFault, UpdateFault, ZoneFault};
 pub use kind::{OperationKind, PrerequisiteKind};
 pub use laws::{
     changes_are_indistinguishable, changes_make_the_zone_after, equal_sets_are_one,
@@ -40,7 +41,6 @@ pub use outcome::{Outcome, apply, apply_owned};
 pub use outermost_names::outermost;
 pub use prerequisite_code::PrerequisiteCode;
 pub use rcode::Rcode;
-pub use refusals::{DelegationFault, UpdateFault, ZoneFault};
 pub use report::{DelegatedServer, Delegation, Glue, cuts, delegation_report, servers};
 pub use rows::has_type;
 pub use serial::{serial_add, serial_less};

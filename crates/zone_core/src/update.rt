@@ -6,8 +6,8 @@ ghost use Rattle.dns_names.specs.Labels.{is_within};
 ghost use Rattle.zone_core.specs.Kinds.{list_word, list_named};
 ghost use Rattle.zone_core.specs.Updates.{tested_name, acted_name, adds_soa, update_of, IsUpdate, ActsWithin, first_outside, same_update};
 
+use crate::faults::UpdateFault;
 use crate::invariants::{reveal_operations, reveal_prerequisites};
-use crate::refusals::UpdateFault;
 use crate::rows::has_type;
 use dns_data::{Data, Record, RecordType};
 use dns_names::Name;

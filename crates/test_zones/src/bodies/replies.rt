@@ -3,7 +3,9 @@
 use dns_data::Record;
 use dns_names::Name;
 use grant_policy::Identifier;
-use office_model::{NumberedChange, Reply, Right, SeenChange, StepFault, TableFault, UpdateReply};
+use office_model::{
+    NumberedChange, Reading, Reply, Right, SeenChange, StepFault, TableFault, UpdateReply,
+};
 use std::alloc::{AllocError, Global};
 use test_rows::Row;
 use wire_json::{BodyFault, form_error_text, read_update, refusal_text};
@@ -42,17 +44,17 @@ fn update(alloc: Global, text: &[u8]) -> Result<Reply, BodyFault> {
 
 fn listed(alloc: Global, lines: &[u8]) -> Result<Reply, BodyFault> {
     let records = records(alloc, lines)?;
-    Ok(Reply::Records(records))
+    Ok(Reply::Read(Reading::Records(records)))
 }
 
 fn changed(alloc: Global, lines: &[u8]) -> Result<Reply, BodyFault> {
     let changes = changes(alloc, text_of(lines)?)?;
-    Ok(Reply::Changes(changes))
+    Ok(Reply::Read(Reading::Changes(changes)))
 }
 
 fn delegated(alloc: Global, lines: &[u8]) -> Result<Reply, BodyFault> {
     let delegations = delegations(alloc, text_of(lines)?)?;
-    Ok(Reply::Delegations(delegations))
+    Ok(Reply::Read(Reading::Delegations(delegations)))
 }
 
 fn right(alloc: Global, row: &Row<'_>) -> Result<Reply, BodyFault> {
@@ -60,13 +62,13 @@ fn right(alloc: Global, row: &Row<'_>) -> Result<Reply, BodyFault> {
         "granted" => Right::Granted(Identifier::read(alloc, &row.text)?),
         _ => Right::Denied(rule(alloc, text_of(&row.text)?)?),
     };
-    Ok(Reply::Right(right))
+    Ok(Reply::Read(Reading::Right(right)))
 }
 
 fn file(alloc: Global, row: &Row<'_>) -> Result<Reply, BodyFault> {
     let origin = Name::read_absolute(alloc, &row.text)?;
     let records = records(alloc, &row.body)?;
-    Ok(Reply::File { origin, records })
+    Ok(Reply::Read(Reading::File { origin, records }))
 }
 
 /// Appends the body of FORMERR with a refusal, and that of another refusal.

@@ -61,7 +61,7 @@ impl Display for ZoneFault {
 impl Error for ZoneFault {}
 
 impl From<AllocError> for ZoneFault {
-    ghost use Rattle.zone_core.specs.declared.refusals.ZoneFault.TheVariants.{NoMemory};
+    ghost use Rattle.zone_core.specs.declared.faults.ZoneFault.TheVariants.{NoMemory};
 
     ghost from_gives = { λ _ e. e ≡ NoMemory };
 
@@ -71,7 +71,7 @@ impl From<AllocError> for ZoneFault {
 }
 
 impl<T: Drop> From<AllocFailed<T>> for ZoneFault {
-    ghost use Rattle.zone_core.specs.declared.refusals.ZoneFault.TheVariants.{NoMemory};
+    ghost use Rattle.zone_core.specs.declared.faults.ZoneFault.TheVariants.{NoMemory};
 
     ghost from_gives = { λ _ e. e ≡ NoMemory };
 
@@ -159,7 +159,7 @@ impl Display for DelegationFault {
 impl Error for DelegationFault {}
 
 impl From<AllocError> for DelegationFault {
-    ghost use Rattle.zone_core.specs.declared.refusals.DelegationFault.TheVariants.{NoMemory};
+    ghost use Rattle.zone_core.specs.declared.faults.DelegationFault.TheVariants.{NoMemory};
 
     ghost from_gives = { λ _ e. e ≡ NoMemory };
 
