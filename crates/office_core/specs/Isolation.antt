@@ -13,8 +13,6 @@ use Rattle.zone_core.specs.Updates.{acted_name}
 use Rattle.zone_core.specs.Visibility.{IsInvisible}
 use Rattle.office_model.specs.declared.request.Request.{Request}
 use Rattle.office_model.specs.declared.request.Request.TheVariants as requests
-use Rattle.office_model.specs.declared.request.Query.{Query}
-use Rattle.office_model.specs.declared.request.Query.TheVariants as queries
 use Rattle.office_model.specs.declared.request.Call.{Call}
 use Rattle.office_model.specs.Replies.{ReplyOf}
 use Rattle.office_model.specs.States.{State, Held, AreZones}
@@ -57,19 +55,10 @@ SeesNoSoa rules caller s = (origin : List (List ℕ)) (held : Held) → s.zones 
 
 -- ---- what others do
 
--- the origin that a query names, or its name
-abbrev pub name_of : Query → List (List ℕ)
-name_of (queries.List origin) = origin
-name_of (queries.ListWithin origin top) = origin
-name_of (queries.File origin) = origin
-name_of (queries.Delegations origin) = origin
-name_of (queries.Changes origin from) = origin
-name_of (queries.Rights name record_type asked) = name
-
--- the origin that a request names
+-- the origin of the zone that a request changes, if it does: a query changes none
 abbrev pub origin_of : Request → List (List ℕ)
 origin_of (requests.Update origin id update) = origin
-origin_of (requests.Read query) = name_of query
+origin_of (requests.Read query) = []
 
 -- each operation that is made for another caller acts at a name that is not the caller's own
 abbrev pub OthersStayAway : List Rule → List ℕ → State → List Call → Type 0

@@ -24,3 +24,4 @@ pub use opening::Refused;
 pub use store_faults::StoreFault;
 pub use store_rows::KeptReceipt;
 pub use table::SqlTable;
+pub use update_lines::{items_text, read_items};

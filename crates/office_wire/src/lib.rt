@@ -39,3 +39,4 @@ pub use serve_fault::ServeFault;
 pub use servfails::Servfails;
 pub use serving::Served;
 pub use stream::{Apart, Stream};
+pub use wire_json::{read_delegation, read_update, reply_text};
