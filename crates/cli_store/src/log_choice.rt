@@ -85,7 +85,10 @@ impl LogAsked {
 
     /// Whether some record of a change is within the name that is given.
     fn asks_records(&self, change: &Change) -> bool
-        ensures { result ≡ passes (λ top. list_any (λ r. is_within r.owner top) change.now.removed.items || list_any (λ r. is_within r.owner top) change.now.added.items) self.now.name }
+        ensures { result
+            ≡ passes
+            (λ top. list_any (λ r. is_within r.owner top) change.now.removed.items || list_any
+            (λ r. is_within r.owner top) change.now.added.items) self.now.name }
     {
         match &self.name {
             Some(top) => {

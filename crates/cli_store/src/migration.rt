@@ -56,7 +56,8 @@ pub fn migrate<W: Sink, S: Alter + Drop, P: StoreFiles<S> + Drop>(
 ) -> (Option<Connection<S>>, Result<(), JobFault>)
     ensures written { MigrationWritten (W.contents writer.old) (W.contents writer.new) result.1 (W.failures writer.old) (W.failures writer.new) }
     // It is the store of this path, which is left so; and a refusal is that of the files, or of what they hold.
-    ensures migrated { StoreMigrated (stores_of (state S.Store) (P.finds files) (P.refuses files) (P.connects files)) store.now result.0 (W.contents writer.old) (W.contents writer.new) result.1 (W.failures writer.old) (W.failures writer.new) }
+    ensures migrated { StoreMigrated (stores_of (state S.Store) (P.finds files) (P.refuses files) (P.connects files)) store.now result.0
+        (W.contents writer.old) (W.contents writer.new) result.1 (W.failures writer.old) (W.failures writer.new) }
 {
     let (conn, migrated) = migrate_store(alloc, files, store);
     (conn, report(alloc, writer, migrated))

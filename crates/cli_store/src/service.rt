@@ -113,9 +113,13 @@ fn serve_listening<M: Surroundings, L: Ledger, T: ZoneTable, D: Diagnosis<T>, W:
     requires name { blank.name ≡ L.name }
     requires parts { blank.parts ≡ L.parts }
     requires some { 0 < blank.parts }
-    ensures served { AreServedFrom (T.is_honest table.new) (T.holds table.old) (T.holds table.new) (T.failures table.old) (T.failures table.new) policy.now (most_of service.entry) result (E.contents trace.old) (E.contents trace.new) (E.failures trace.old) (E.failures trace.new) }
+    ensures served { AreServedFrom (T.is_honest table.new) (T.holds table.old) (T.holds table.new) (T.failures table.old)
+        (T.failures table.new) policy.now (most_of service.entry) result (E.contents trace.old) (E.contents trace.new)
+        (E.failures trace.old) (E.failures trace.new) }
     ensures honest { T.is_honest table.new → T.is_honest table.old }
-    ensures written { (ends : List (Option FaultOf)) × AreReported (M.around around.now).cut (most_of service.entry) ends (W.contents writer.old) (W.contents writer.new) result (W.failures writer.old) (W.failures writer.new) }
+    ensures written { (ends : List (Option FaultOf))
+        × AreReported (M.around around.now).cut (most_of service.entry) ends (W.contents writer.old) (W.contents writer.new) result
+        (W.failures writer.old) (W.failures writer.new) }
 {
     let rt = around.machine();
     let mut listener: CountedListener<'_, M, L> = CountedListener::new(around, listener, blank);
@@ -148,7 +152,12 @@ fn serve_table<M: Surroundings, T: ZoneTable, D: Diagnosis<T>, W: Sink, E: Sink>
     writer: &mut W,
     trace: &mut E,
 ) -> Result<(), JobFault>
-    ensures told { IsServiceTold (M.around around.now) service.entry.listen.now (most_of service.entry) ((table.new ≡ table.old) × (E.contents trace.new ≡ E.contents trace.old) × (E.failures trace.new ≡ E.failures trace.old)) (AreServedFrom (T.is_honest table.new) (T.holds table.old) (T.holds table.new) (T.failures table.old) (T.failures table.new) policy.now (most_of service.entry) result (E.contents trace.old) (E.contents trace.new) (E.failures trace.old) (E.failures trace.new)) (W.contents writer.old) (W.contents writer.new) result (W.failures writer.old) (W.failures writer.new) }
+    ensures told { IsServiceTold (M.around around.now) service.entry.listen.now (most_of service.entry)
+        ((table.new ≡ table.old) × (E.contents trace.new ≡ E.contents trace.old) × (E.failures trace.new ≡ E.failures trace.old))
+        (AreServedFrom (T.is_honest table.new) (T.holds table.old) (T.holds table.new) (T.failures table.old)
+        (T.failures table.new) policy.now (most_of service.entry) result (E.contents trace.old) (E.contents trace.new)
+        (E.failures trace.old) (E.failures trace.new))
+        (W.contents writer.old) (W.contents writer.new) result (W.failures writer.old) (W.failures writer.new) }
     ensures honest { T.is_honest table.new → T.is_honest table.old }
 {
     let (listener, listening) = match listening_at(around, service.listen) {
@@ -171,7 +180,9 @@ fn serve_opened<M: Surroundings, S: Alter + Drop, L: Ledger, W: Sink, E: Sink>(
     writer: &mut W,
     trace: &mut E,
 ) -> (Connection<S>, Result<(), JobFault>)
-    ensures { IsServedBy (state S.Store) (M.around around.now) service.entry policy.now table.conn result.0 (W.contents writer.old) (W.contents writer.new) result.1 (W.failures writer.old) (W.failures writer.new) (E.contents trace.old) (E.contents trace.new) (E.failures trace.old) (E.failures trace.new) }
+    ensures { IsServedBy (state S.Store) (M.around around.now) service.entry policy.now table.conn result.0 (W.contents writer.old)
+        (W.contents writer.new) result.1 (W.failures writer.old) (W.failures writer.new) (E.contents trace.old) (E.contents trace.new)
+        (E.failures trace.old) (E.failures trace.new) }
 {
     let mut table = table;
     let done = serve_table(
@@ -200,7 +211,10 @@ fn serve_by<M: Surroundings, S: Alter + Drop, P: StoreFiles<S> + Drop, L: Ledger
     requires name { blank.name ≡ L.name }
     requires parts { blank.parts ≡ L.parts }
     requires some { 0 < blank.parts }
-    ensures { BeginsBy (M.around around.now) (stores_of (state S.Store) (P.finds files) (P.refuses files) (P.connects files)) service.entry policy.now result.0 (W.contents writer.old) (W.contents writer.new) result.1 (W.failures writer.old) (W.failures writer.new) (E.contents trace.old) (E.contents trace.new) (E.failures trace.old) (E.failures trace.new) }
+    ensures { BeginsBy (M.around around.now)
+        (stores_of (state S.Store) (P.finds files) (P.refuses files) (P.connects files)) service.entry policy.now result.0
+        (W.contents writer.old) (W.contents writer.new) result.1 (W.failures writer.old) (W.failures writer.new) (E.contents trace.old)
+        (E.contents trace.new) (E.failures trace.old) (E.failures trace.new) }
 {
     let alloc = around.machine().alloc();
     let opened: Result<SqlTable<S, L>, _> = open_store(alloc, files, service.store, blank);
@@ -230,7 +244,9 @@ pub fn serve<M: Surroundings, S: Alter + Drop, P: StoreFiles<S> + Drop, W: Sink,
 ) -> (Option<Connection<S>>, Result<(), JobFault>)
     // The line of the first refusal is written, of the policy or of the store of its path; or connections were served from that store by
     // that policy, as `serve_connections` says, which is what the store is left with, and their lines are written.
-    ensures { Serves (M.around around.now) (stores_of (state S.Store) (P.finds files) (P.refuses files) (P.connects files)) service.entry result.0 (W.contents writer.old) (W.contents writer.new) result.1 (W.failures writer.old) (W.failures writer.new) (E.contents trace.old) (E.contents trace.new) (E.failures trace.old) (E.failures trace.new) }
+    ensures { Serves (M.around around.now) (stores_of (state S.Store) (P.finds files) (P.refuses files) (P.connects files)) service.entry result.0
+        (W.contents writer.old) (W.contents writer.new) result.1 (W.failures writer.old) (W.failures writer.new) (E.contents trace.old)
+        (E.contents trace.new) (E.failures trace.old) (E.failures trace.new) }
 {
     let alloc = around.machine().alloc();
     match policy_of(around, alloc, service.policy) {

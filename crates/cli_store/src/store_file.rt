@@ -73,7 +73,8 @@ pub fn open_store<S: Alter + Drop, L: Ledger, P: StoreFiles<S> + Drop>(
     requires parts { blank.parts ≡ L.parts }
     requires some { 0 < blank.parts }
     ensures opened { IfOk result (λ table. IsOpened (state S.Store) (P.connects files path.now) table.conn) }
-    ensures refused { IfErr result (λ un. IsUnopened (state S.Store) (P.finds files path.now) (P.refuses files path.now) (P.connects files path.now) un.conn un.fault) }
+    ensures refused { IfErr result
+        (λ un. IsUnopened (state S.Store) (P.finds files path.now) (P.refuses files path.now) (P.connects files path.now) un.conn un.fault) }
 {
     match found(files, path) {
         Ok(conn) => adopted(alloc, conn, blank),
@@ -92,7 +93,9 @@ fn made_or_adopted<S: Alter + Drop, L: Ledger>(
     requires parts { blank.parts ≡ L.parts }
     requires some { 0 < blank.parts }
     ensures opened { IfOk result (λ table. IsAdopted (state S.Store conn) (state S.Store table.conn) ⊎ IsMade (state S.Store conn) (state S.Store table.conn)) }
-    ensures refused { IfErr result (λ un. IsLeft un.conn (λ after. IsNoStore (state S.Store conn) (state S.Store after) un.fault ⊎ IsUnmade (state S.Store conn) (state S.Store after) un.fault)) }
+    ensures refused { IfErr result
+        (λ un. IsLeft un.conn
+        (λ after. IsNoStore (state S.Store conn) (state S.Store after) un.fault ⊎ IsUnmade (state S.Store conn) (state S.Store after) un.fault)) }
 {
     match SqlTable::create(conn, blank) {
         Ok(table) => Ok(table),

@@ -44,7 +44,9 @@ fn summed(
     zone: &Zone,
     changes: &[Change],
 ) -> Result<ZoneSummary, StoreFault>
-    ensures summed { IfOk result (λ z. (z.origin ≡ origin.now) × (z.serial ≡ serial_of zone.now) × (z.records ≡ length (listing zone.now.records)) × (z.changes ≡ length changes.now)) }
+    ensures summed { IfOk result
+        (λ z. (z.origin ≡ origin.now) × (z.serial ≡ serial_of zone.now) × (z.records ≡ length (listing zone.now.records))
+        × (z.changes ≡ length changes.now)) }
     ensures failed { IfErr result IsFailure }
 {
     Ok(ZoneSummary {
@@ -63,8 +65,10 @@ fn summary<S: Alter + Drop, L: Ledger>(
 ) -> Result<ZoneSummary, StoreFault>
     ensures asks { AsksOnly (state S.Store table.old.conn) (state S.Store table.new.conn) result }
     ensures origin { IfOk result (λ z. z.origin ≡ origin.now) }
-    ensures summary { HasCleanDisk (state S.Store table.new.conn) → IfOk result (λ z. (s : State) → HoldsState (state S.Store table.old.conn) s → IsSummary s z) }
-    ensures failed { HasCleanDisk (state S.Store table.new.conn) → IfErr result (λ e. (s : State) → HoldsState (state S.Store table.old.conn) s → IsSome (s.zones origin.now) → IsFailure e) }
+    ensures summary { HasCleanDisk (state S.Store table.new.conn)
+        → IfOk result (λ z. (s : State) → HoldsState (state S.Store table.old.conn) s → IsSummary s z) }
+    ensures failed { HasCleanDisk (state S.Store table.new.conn)
+        → IfErr result (λ e. (s : State) → HoldsState (state S.Store table.old.conn) s → IsSome (s.zones origin.now) → IsFailure e) }
 {
     let Some(changes) = table.stored_changes(alloc, origin)? else {
         return Err(StoreFault::NoZone);
@@ -82,8 +86,10 @@ fn summaries<S: Alter + Drop, L: Ledger>(
     origins: &[Name],
 ) -> Result<Vec<ZoneSummary>, StoreFault>
     ensures asks { AsksOnly (state S.Store table.old.conn) (state S.Store table.new.conn) result }
-    ensures summaries { HasCleanDisk (state S.Store table.new.conn) → IfOk result (λ zones. (s : State) → HoldsState (state S.Store table.old.conn) s → AreOriginsOf s origins.now → AreZonesOf s zones.items) }
-    ensures failed { HasCleanDisk (state S.Store table.new.conn) → IfErr result (λ e. (s : State) → HoldsState (state S.Store table.old.conn) s → AreOriginsOf s origins.now → IsFailure e) }
+    ensures summaries { HasCleanDisk (state S.Store table.new.conn)
+        → IfOk result (λ zones. (s : State) → HoldsState (state S.Store table.old.conn) s → AreOriginsOf s origins.now → AreZonesOf s zones.items) }
+    ensures failed { HasCleanDisk (state S.Store table.new.conn)
+        → IfErr result (λ e. (s : State) → HoldsState (state S.Store table.old.conn) s → AreOriginsOf s origins.now → IsFailure e) }
 {
     let mut zones = Vec::new(alloc);
     for origin in origins {
@@ -128,7 +134,8 @@ pub fn list_zones<W: Sink, S: Alter + Drop, P: StoreFiles<S> + Drop>(
     store: &str,
     writer: &mut W,
 ) -> (Option<Connection<S>>, Result<(), JobFault>)
-    ensures { ZonesPrinted (stores_of (state S.Store) (P.finds files) (P.refuses files) (P.connects files)) store.now result.0 (W.contents writer.old) (W.contents writer.new) result.1 (W.failures writer.old) (W.failures writer.new) }
+    ensures { ZonesPrinted (stores_of (state S.Store) (P.finds files) (P.refuses files) (P.connects files)) store.now result.0
+        (W.contents writer.old) (W.contents writer.new) result.1 (W.failures writer.old) (W.failures writer.new) }
 {
     let (path, blank) = (StorePath(store), Blank::new(1));
     let (conn, read) = asked_by::<S, Brand, P, _, _>(alloc, files, path, &WholeList, blank);

@@ -97,7 +97,10 @@ pub fn log<W: Sink, S: Alter + Drop, P: StoreFiles<S> + Drop>(
     choice: LogChoice<'_>,
     writer: &mut W,
 ) -> (Option<Connection<S>>, Result<(), JobFault>)
-    ensures { LogPrinted (stores_of (state S.Store) (P.finds files) (P.refuses files) (P.connects files)) stored.entry.store.now stored.entry.origin.now choice.entry result.0 (W.contents writer.old) (W.contents writer.new) result.1 (W.failures writer.old) (W.failures writer.new) }
+    ensures { LogPrinted
+        (stores_of (state S.Store) (P.finds files) (P.refuses files)
+        (P.connects files)) stored.entry.store.now stored.entry.origin.now choice.entry result.0
+        (W.contents writer.old) (W.contents writer.new) result.1 (W.failures writer.old) (W.failures writer.new) }
 {
     match log_asked(alloc, stored.origin, choice) {
         Ok(asked) => {

@@ -57,7 +57,8 @@ pub(crate) fn asked_by<
     requires name { blank.name ≡ L.name }
     requires parts { blank.parts ≡ L.parts }
     requires some { 0 < blank.parts }
-    ensures { IsGot (state S.Store) (P.finds files path.entry.0.now) (P.refuses files path.entry.0.now) (P.connects files path.entry.0.now) (J.does job.now) result.0 result.1 }
+    ensures { IsGot (state S.Store) (P.finds files path.entry.0.now) (P.refuses files path.entry.0.now) (P.connects files path.entry.0.now)
+        (J.does job.now) result.0 result.1 }
 {
     let opened: Result<SqlTable<S, L>, _> = open_store(alloc, files, path.0, blank);
     match opened {

@@ -42,7 +42,8 @@ fn no_receipts(alloc: Global, zones: &[ZoneSummary]) -> Result<Counts, AllocErro
 /// Counts one more receipt of an origin, if the origin is there, and returns whether it is.
 fn count_one(counts: &mut Counts, origin: &Name) -> bool
     requires { IfSome (get canonical_cmp counts.old origin.now) (λ n. n + 1 < 2 ^ 64) }
-    ensures counts { (other : List (List ℕ)) → get canonical_cmp counts.new other ≡ option_map (λ n. n + (if same_name origin.now other then 1 else 0)) (get canonical_cmp counts.old other) }
+    ensures counts { (other : List (List ℕ))
+        → get canonical_cmp counts.new other ≡ option_map (λ n. n + (if same_name origin.now other then 1 else 0)) (get canonical_cmp counts.old other) }
     ensures found { result ≡ is_some (get canonical_cmp counts.old origin.now) }
 {
     match counts.get_mut(origin) {
@@ -57,7 +58,8 @@ fn count_one(counts: &mut Counts, origin: &Name) -> bool
 /// Counts receipts by the origins that are there, and returns how many are of others.
 fn count(counts: &mut Counts, all: &[KeptReceipt]) -> usize
     requires { (origin : List (List ℕ)) → IfSome (get canonical_cmp counts.old origin) (λ n. n ≡ 0) }
-    ensures counts { (origin : List (List ℕ)) → get canonical_cmp counts.new origin ≡ option_map (λ n. receipts_of all.now origin) (get canonical_cmp counts.old origin) }
+    ensures counts { (origin : List (List ℕ))
+        → get canonical_cmp counts.new origin ≡ option_map (λ n. receipts_of all.now origin) (get canonical_cmp counts.old origin) }
     ensures others { result ≡ length (filter (λ k. is_none (get canonical_cmp counts.old k.receipt.origin)) all.now) }
 {
     let mut others = 0;
@@ -85,7 +87,8 @@ fn push_zone(text: &mut String, zone: &ZoneSummary, receipts: usize) -> Result<(
 
 /// Appends the lines of zones. The only error is out of memory.
 fn push_zones(text: &mut String, zones: &[ZoneSummary], counts: &Counts) -> Result<(), AllocError>
-    ensures { OnOk result (string_bytes text.new ≡ string_bytes text.old ++ flat_map (λ z. zone_line z (unwrap_or (get canonical_cmp counts.now z.origin) 0)) zones.now) }
+    ensures { OnOk result
+        (string_bytes text.new ≡ string_bytes text.old ++ flat_map (λ z. zone_line z (unwrap_or (get canonical_cmp counts.now z.origin) 0)) zones.now) }
 {
     for zone in zones {
         let receipts = counts.get(&zone.origin).copied().unwrap_or(0);

@@ -31,7 +31,9 @@ fn push_asked_change(
     number: u64,
     change: &Change,
 ) -> Result<(), AllocError>
-    ensures { OnOk result (string_bytes text.new ≡ string_bytes text.old ++ flat_map change_text (filter (asks_change asked.now) (numbered_as number (change_in change.now) ∷ []))) }
+    ensures { OnOk result
+        (string_bytes text.new
+        ≡ string_bytes text.old ++ flat_map change_text (filter (asks_change asked.now) (numbered_as number (change_in change.now) ∷ []))) }
 {
     if !asked.asks_change(number, change) {
         return Ok(());
@@ -45,7 +47,8 @@ fn push_asked_changes(
     asked: &LogAsked,
     changes: &[Change],
 ) -> Result<(), AllocError>
-    ensures { OnOk result (string_bytes text.new ≡ string_bytes text.old ++ flat_map change_text (filter (asks_change asked.now) (numbered 1 (map change_in changes.now)))) }
+    ensures { OnOk result
+        (string_bytes text.new ≡ string_bytes text.old ++ flat_map change_text (filter (asks_change asked.now) (numbered 1 (map change_in changes.now)))) }
 {
     for (i, change) in changes.iter().enumerate() {
         push_asked_change(text, asked, i as u64 + 1, change)?;

@@ -92,7 +92,8 @@ fn reached<S: Alter + Drop, L: Ledger, P: StoreFiles<S> + Drop>(
     requires parts { blank.parts ≡ L.parts }
     requires some { 0 < blank.parts }
     ensures reached { IfOk result (λ table. IsReached (state S.Store) (P.connects files path.now) existing table.conn) }
-    ensures refused { IfErr result (λ un. IsUnreached (state S.Store) (P.finds files path.now) (P.refuses files path.now) (P.connects files path.now) existing un.conn un.fault) }
+    ensures refused { IfErr result
+        (λ un. IsUnreached (state S.Store) (P.finds files path.now) (P.refuses files path.now) (P.connects files path.now) existing un.conn un.fault) }
 {
     match existing {
         Existing::Kept => open_or_make_store(alloc, files, path, blank),
@@ -112,7 +113,8 @@ fn put_by<S: Alter + Drop, L: Ledger, P: StoreFiles<S> + Drop>(
     requires name { blank.name ≡ L.name }
     requires parts { blank.parts ≡ L.parts }
     requires some { 0 < blank.parts }
-    ensures { IsStored (state S.Store) (P.finds files path.entry.0.now) (P.refuses files path.entry.0.now) (P.connects files path.entry.0.now) existing zone.now result.0 result.1 }
+    ensures { IsStored (state S.Store) (P.finds files path.entry.0.now) (P.refuses files path.entry.0.now)
+        (P.connects files path.entry.0.now) existing zone.now result.0 result.1 }
 {
     let reached: Result<SqlTable<S, L>, _> = reached(alloc, files, path.0, existing, blank);
     match reached {
@@ -140,8 +142,12 @@ fn zone_with_line<R: Input>(
     origin: &str,
     reader: &mut R,
 ) -> Result<(Zone, String), LineFault>
-    ensures made { IfOk result (λ made. Makes (R.left reader.old) (zone_read origin.now) (Ok made.0) × R.fine reader.old reader.new × (string_bytes made.1 ≡ imported_line made.0)) }
-    ensures refused { IfErr result (λ fault. GivesOf {X = ZoneOf} (λ zone. zone) (R.left reader.old) (zone_read origin.now) (Err fault) (R.fine reader.old reader.new) (R.failed reader.old reader.new) ⊎ ((zone : ZoneOf) × Makes (R.left reader.old) (zone_read origin.now) (Ok zone) × R.fine reader.old reader.new × (fault ≡ NoMemory))) }
+    ensures made { IfOk result
+        (λ made. Makes (R.left reader.old) (zone_read origin.now) (Ok made.0) × R.fine reader.old reader.new × (string_bytes made.1 ≡ imported_line made.0)) }
+    ensures refused { IfErr result
+        (λ fault. GivesOf {X = ZoneOf} (λ zone. zone) (R.left reader.old) (zone_read origin.now) (Err fault)
+        (R.fine reader.old reader.new) (R.failed reader.old reader.new)
+        ⊎ ((zone : ZoneOf) × Makes (R.left reader.old) (zone_read origin.now) (Ok zone) × R.fine reader.old reader.new × (fault ≡ NoMemory))) }
 {
     let zone = read_zone(alloc, origin, reader)?;
     match imported_text(alloc, &zone) {
@@ -156,7 +162,8 @@ pub(crate) fn report<W: Sink>(
     writer: &mut W,
     made: Result<String, LineFault>,
 ) -> Result<(), JobFault>
-    ensures { IsReported (result_map_both (λ text. string_bytes text) (λ fault. fault) made) (W.contents writer.old) (W.contents writer.new) result (W.failures writer.old) (W.failures writer.new) }
+    ensures { IsReported (result_map_both (λ text. string_bytes text) (λ fault. fault) made) (W.contents writer.old)
+        (W.contents writer.new) result (W.failures writer.old) (W.failures writer.new) }
 {
     match made {
         Ok(text) => {
@@ -180,10 +187,14 @@ pub fn import<R: Input, W: Sink, S: Alter + Drop, P: StoreFiles<S> + Drop>(
 ) -> (Option<Connection<S>>, Result<(), JobFault>)
     // A refusal of the origin, of the file or of its records comes before one of the store; and where a zone was put, the line is
     // that of the zone that was read.
-    ensures written { ImportWritten what.entry.0.origin.now (R.left reader.old) (W.contents writer.old) (W.contents writer.new) result.1 (R.fine reader.old reader.new) (R.failed reader.old reader.new) (W.failures writer.old) (W.failures writer.new) }
+    ensures written { ImportWritten what.entry.0.origin.now (R.left reader.old) (W.contents writer.old) (W.contents writer.new) result.1
+        (R.fine reader.old reader.new) (R.failed reader.old reader.new) (W.failures writer.old) (W.failures writer.new) }
     // It is put into the store of this path, whole, by the state that was there, and so the store is left; and a refusal is that of the
     // files, of what they hold, or of the table.
-    ensures stored { ZoneStored (stores_of (state S.Store) (P.finds files) (P.refuses files) (P.connects files)) what.entry.0.store.now what.entry.0.origin.now what.entry.1 (R.left reader.old) result.0 (W.contents writer.old) (W.contents writer.new) result.1 (R.fine reader.old reader.new) (R.failed reader.old reader.new) (W.failures writer.old) (W.failures writer.new) }
+    ensures stored { ZoneStored
+        (stores_of (state S.Store) (P.finds files) (P.refuses files) (P.connects files)) what.entry.0.store.now what.entry.0.origin.now what.entry.1
+        (R.left reader.old) result.0 (W.contents writer.old) (W.contents writer.new) result.1 (R.fine reader.old reader.new)
+        (R.failed reader.old reader.new) (W.failures writer.old) (W.failures writer.new) }
 {
     let (stored, existing) = what;
     match zone_with_line(alloc, stored.origin, reader) {
@@ -221,7 +232,8 @@ fn print_held<W: Sink>(
     held: Result<Vec<Record>, StoreFault>,
     writer: &mut W,
 ) -> Result<(), JobFault>
-    ensures { IsShown (result_map_both (λ records. zone_text_in form origin.now records.items) of_store held) (W.contents writer.old) (W.contents writer.new) result (W.failures writer.old) (W.failures writer.new) }
+    ensures { IsShown (result_map_both (λ records. zone_text_in form origin.now records.items) of_store held) (W.contents writer.old)
+        (W.contents writer.new) result (W.failures writer.old) (W.failures writer.new) }
 {
     match held {
         Ok(records) => {
@@ -242,10 +254,13 @@ pub fn export<W: Sink, S: Alter + Drop, P: StoreFiles<S> + Drop>(
     writer: &mut W,
 ) -> (Option<Connection<S>>, Result<(), JobFault>)
     // A refusal of the origin comes before one of the store; and else what is printed is the file of the records that are held.
-    ensures written { ExportWritten stored.entry.origin.now form (W.contents writer.old) (W.contents writer.new) result.1 (W.failures writer.old) (W.failures writer.new) }
+    ensures written { ExportWritten stored.entry.origin.now form (W.contents writer.old) (W.contents writer.new) result.1 (W.failures writer.old)
+        (W.failures writer.new) }
     // They are those that the store of this path holds, and it is left as it was; and a refusal is that of the files, of what they hold, or
     // of the table.
-    ensures held { ZoneExported (stores_of (state S.Store) (P.finds files) (P.refuses files) (P.connects files)) stored.entry.store.now stored.entry.origin.now form result.0 (W.contents writer.old) (W.contents writer.new) result.1 (W.failures writer.old) (W.failures writer.new) }
+    ensures held { ZoneExported
+        (stores_of (state S.Store) (P.finds files) (P.refuses files) (P.connects files)) stored.entry.store.now stored.entry.origin.now form result.0
+        (W.contents writer.old) (W.contents writer.new) result.1 (W.failures writer.old) (W.failures writer.new) }
 {
     match read_name(alloc, stored.origin) {
         Ok(origin) => {

@@ -55,7 +55,8 @@ pub fn print_zone_in<'a, W: Sink>(
     records: &'a [Record],
     writer: &mut W,
 ) -> Result<(), MasterFault>
-    ensures { TextWritten (W.contents writer.old) (W.contents writer.new) (zone_text_in form origin.now records.now) result (W.failures writer.old) (W.failures writer.new) }
+    ensures { TextWritten (W.contents writer.old) (W.contents writer.new) (zone_text_in form origin.now records.now) result
+        (W.failures writer.old) (W.failures writer.new) }
 {
     match form {
         ZoneForm::Whole => print_zone(alloc, origin, records, writer),

@@ -123,7 +123,8 @@ fn checked_read<R: Input>(
     subject: Subject<'_>,
     reader: &mut R,
 ) -> Result<Checking, LineFault>
-    ensures { GivesOf (λ checking. checking) (R.left reader.old) (checked_read subject.entry) result (R.fine reader.old reader.new) (R.failed reader.old reader.new) }
+    ensures { GivesOf (λ checking. checking) (R.left reader.old) (checked_read subject.entry) result (R.fine reader.old reader.new)
+        (R.failed reader.old reader.new) }
 {
     let wanted = asked_in(alloc, subject)?;
     let text = read_input(alloc, reader)?;
@@ -336,7 +337,8 @@ pub fn do_check<R: Input, W: Sink>(
     reader: &mut R,
     writer: &mut W,
 ) -> Result<Findings, JobFault>
-    ensures { Checked subject.entry (R.left reader.old) (W.contents writer.old) (W.contents writer.new) result (R.fine reader.old reader.new) (R.failed reader.old reader.new) (W.failures writer.old) (W.failures writer.new) }
+    ensures { Checked subject.entry (R.left reader.old) (W.contents writer.old) (W.contents writer.new) result (R.fine reader.old reader.new)
+        (R.failed reader.old reader.new) (W.failures writer.old) (W.failures writer.new) }
 {
     match report_read(alloc, subject, reader) {
         Ok(report) => {

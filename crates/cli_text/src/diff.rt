@@ -98,7 +98,8 @@ fn old_zone<R: Input, W: Sink>(
     reader: &mut R,
     writer: &mut W,
 ) -> Result<Zone, JobFault>
-    ensures { IsOldRead origin.now (R.left reader.old) (W.contents writer.old) (W.contents writer.new) result (R.fine reader.old reader.new) (R.failed reader.old reader.new) (W.failures writer.old) (W.failures writer.new) }
+    ensures { IsOldRead origin.now (R.left reader.old) (W.contents writer.old) (W.contents writer.new) result (R.fine reader.old reader.new)
+        (R.failed reader.old reader.new) (W.failures writer.old) (W.failures writer.new) }
 {
     match read_zone(alloc, origin, reader) {
         Ok(zone) => Ok(zone),
@@ -117,7 +118,10 @@ pub fn do_diff<R: Input, N: Input, W: Sink>(
     new: &mut N,
     writer: &mut W,
 ) -> Result<(), DiffFault>
-    ensures { Differs what.entry.1 what.entry.0.now (record { left = R.left old.old; fine = R.fine old.old old.new; failed = R.failed old.old old.new }) (record { left = N.left new.old; fine = N.fine new.old new.new; failed = N.failed new.old new.new }) (W.contents writer.old) (W.contents writer.new) result (W.failures writer.old) (W.failures writer.new) }
+    ensures { Differs what.entry.1 what.entry.0.now
+        (record { left = R.left old.old; fine = R.fine old.old old.new; failed = R.failed old.old old.new })
+        (record { left = N.left new.old; fine = N.fine new.old new.new; failed = N.failed new.old new.new }) (W.contents writer.old)
+        (W.contents writer.new) result (W.failures writer.old) (W.failures writer.new) }
 {
     let (origin, form) = what;
     let old = match old_zone(alloc, origin, old, writer) {

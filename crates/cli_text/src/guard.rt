@@ -95,7 +95,8 @@ fn guards_there(
     new: &Zone,
     operations: &[Operation],
 ) -> Result<Vec<Prerequisite>, AllocError>
-    ensures { IfOk result (λ guards. guards.items ≡ flat_map (λ r. map there (set_like old.now.records r)) (changed_firsts old.now.records new.now.records operations.now)) }
+    ensures { IfOk result
+        (λ guards. guards.items ≡ flat_map (λ r. map there (set_like old.now.records r)) (changed_firsts old.now.records new.now.records operations.now)) }
 {
     let mut guards = Vec::new(alloc);
     for record in old.records() {
@@ -222,7 +223,8 @@ fn with_absences(
     old: &Zone,
     new: &Zone,
 ) -> Result<Vec<Prerequisite>, AllocError>
-    ensures { IfOk result (λ all. all.items ≡ guards.items ++ flat_map (not_there old.now.records new.now.records) (new_firsts old.now.records new.now.records)) }
+    ensures { IfOk result
+        (λ all. all.items ≡ guards.items ++ flat_map (not_there old.now.records new.now.records) (new_firsts old.now.records new.now.records)) }
 {
     for record in new.records() {
         if begins_with(set_like(new, record), record) && is_new(old, record) {

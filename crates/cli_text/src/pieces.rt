@@ -69,7 +69,9 @@ fn push_operation<'a, 'b>(
     tests: &'b [&'a Prerequisite],
     operation: &'a Operation,
 ) -> Result<(), AllocError>
-    ensures { OnOk result (map piece_view pieces.new.items ≡ map piece_view pieces.old.items ++ operation_pieces scale.now.id.now (capped (bare_length scale.now.id.now)) (lent tests.now, operation.now)) }
+    ensures { OnOk result
+        (map piece_view pieces.new.items
+        ≡ map piece_view pieces.old.items ++ operation_pieces scale.now.id.now (capped (bare_length scale.now.id.now)) (lent tests.now, operation.now)) }
 {
     let guarded = guarded_piece(alloc, scale, tests, operation)?;
     let bare = Part::new(alloc, scale.frame());
@@ -106,7 +108,10 @@ fn push_operations<'a, 'b>(
     operations: &'a [Operation],
 ) -> Result<(), AllocError>
     requires { length slots.now ≡ length operations.now }
-    ensures { OnOk result (map piece_view pieces.new.items ≡ map piece_view pieces.old.items ++ flat_map (operation_pieces scale.now.id.now (capped (bare_length scale.now.id.now))) (zip (slots_view slots.now) operations.now)) }
+    ensures { OnOk result
+        (map piece_view pieces.new.items
+        ≡ map piece_view pieces.old.items ++ flat_map (operation_pieces scale.now.id.now (capped (bare_length scale.now.id.now)))
+        (zip (slots_view slots.now) operations.now)) }
 {
     for (place, operation) in operations.iter().enumerate() {
         push_operation(alloc, pieces, scale, &slots[place], operation)?;

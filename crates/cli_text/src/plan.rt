@@ -142,7 +142,8 @@ fn first_asker<R: Input, W: Sink>(
     reader: &mut R,
     writer: &mut W,
 ) -> Result<Asker, JobFault>
-    ensures { IsAskerRead caller.now (R.left reader.old) (W.contents writer.old) (W.contents writer.new) result (R.fine reader.old reader.new) (R.failed reader.old reader.new) (W.failures writer.old) (W.failures writer.new) }
+    ensures { IsAskerRead caller.now (R.left reader.old) (W.contents writer.old) (W.contents writer.new) result (R.fine reader.old reader.new)
+        (R.failed reader.old reader.new) (W.failures writer.old) (W.failures writer.new) }
 {
     match read_asker(alloc, caller, reader) {
         Ok(asker) => Ok(asker),
@@ -162,7 +163,10 @@ pub fn do_plan<R: Input, N: Input, W: Sink>(
     input: &mut N,
     writer: &mut W,
 ) -> Result<(), PlanFault>
-    ensures { IsPlanned caller.now (record { left = R.left policy.old; fine = R.fine policy.old policy.new; failed = R.failed policy.old policy.new }) (record { left = N.left input.old; fine = N.fine input.old input.new; failed = N.failed input.old input.new }) (W.contents writer.old) (W.contents writer.new) result (W.failures writer.old) (W.failures writer.new) }
+    ensures { IsPlanned caller.now
+        (record { left = R.left policy.old; fine = R.fine policy.old policy.new; failed = R.failed policy.old policy.new })
+        (record { left = N.left input.old; fine = N.fine input.old input.new; failed = N.failed input.old input.new })
+        (W.contents writer.old) (W.contents writer.new) result (W.failures writer.old) (W.failures writer.new) }
 {
     let asker = match first_asker(alloc, caller, policy, writer) {
         Ok(asker) => asker,

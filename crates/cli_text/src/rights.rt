@@ -110,7 +110,8 @@ fn answer<R: Input>(
     words: QuestionWords<'_>,
     policy: &mut R,
 ) -> Result<Vec<u8>, LineFault>
-    ensures { GivesOf (λ line. line.items) (R.left policy.old) (rights_text words.entry) result (R.fine policy.old policy.new) (R.failed policy.old policy.new) }
+    ensures { GivesOf (λ line. line.items) (R.left policy.old) (rights_text words.entry) result (R.fine policy.old policy.new)
+        (R.failed policy.old policy.new) }
 {
     let asked = QuestionRead::of(alloc, words)?;
     let text = read_input(alloc, policy)?;

@@ -43,7 +43,9 @@ fn put_place(
     name: &Name,
     place: usize,
 ) -> Result<(), AllocError>
-    ensures { OnOk result ((q : List (List ℕ)) → tree.get canonical_cmp places.new q ≡ option_or (tree.get canonical_cmp places.old q) (if same_name name.now q then Some place else None)) }
+    ensures { OnOk result
+        ((q : List (List ℕ))
+        → tree.get canonical_cmp places.new q ≡ option_or (tree.get canonical_cmp places.old q) (if same_name name.now q then Some place else None)) }
 {
     if !places.contains_key(name) {
         places.insert(name.try_copy(alloc)?, place)?;
@@ -93,7 +95,10 @@ fn put<'a>(
 ) -> Result<(), AllocError>
     requires { place < length slots.old }
     ensures count { length slots.new ≡ length slots.old }
-    ensures put { OnOk result ((k : ℕ) → get_or (slots_view slots.new) k [] ≡ (if place == k then get_or (slots_view slots.old) k [] ++ test.now ∷ [] else get_or (slots_view slots.old) k [])) }
+    ensures put { OnOk result
+        ((k : ℕ)
+        → get_or (slots_view slots.new) k []
+        ≡ (if place == k then get_or (slots_view slots.old) k [] ++ test.now ∷ [] else get_or (slots_view slots.old) k [])) }
 {
     slots[place].push(test)?;
     Ok(())
@@ -127,7 +132,10 @@ fn put_test<'a>(
     requires { (i : ℕ) → place ≡ Some i → i < length placed.old.beside.items }
     ensures count { length placed.new.beside.items ≡ length placed.old.beside.items }
     ensures before { OnOk result (lent placed.new.before.items ≡ lent placed.old.before.items ++ (if is_none place then test.now ∷ [] else [])) }
-    ensures beside { OnOk result ((k : ℕ) → get_or (slots_view placed.new.beside.items) k [] ≡ get_or (slots_view placed.old.beside.items) k [] ++ (if is_place k place then test.now ∷ [] else [])) }
+    ensures beside { OnOk result
+        ((k : ℕ)
+        → get_or (slots_view placed.new.beside.items) k []
+        ≡ get_or (slots_view placed.old.beside.items) k [] ++ (if is_place k place then test.now ∷ [] else [])) }
 {
     match place {
         Some(place) => put(&mut placed.beside, place, test),
@@ -168,7 +176,8 @@ fn put_if<'a>(
 ) -> Result<(), AllocError>
     requires { (i : ℕ) → place ≡ Some i → i < length slots.old.items }
     ensures count { length slots.new.items ≡ length slots.old.items }
-    ensures put { OnOk result ((k : ℕ) → get_or (slots_view slots.new.items) k [] ≡ get_or (slots_view slots.old.items) k [] ++ (if is_place k place then test.now ∷ [] else [])) }
+    ensures put { OnOk result
+        ((k : ℕ) → get_or (slots_view slots.new.items) k [] ≡ get_or (slots_view slots.old.items) k [] ++ (if is_place k place then test.now ∷ [] else [])) }
 {
     match place {
         Some(place) => put(slots, place, test),

@@ -143,7 +143,8 @@ fn push_body(
 ) -> Result<(), LineFault>
     requires { before < 2 ^ 63 }
     ensures exact { Gives (λ done. string_bytes text.new) result (with_body word.now before (string_bytes text.old) (part_view part.now)) }
-    ensures read { OnOk result ((line : List ℕ) × IsPartLine word.now before (part_view part.now) line × (string_bytes text.new ≡ string_bytes text.old ++ line)) }
+    ensures read { OnOk result
+        ((line : List ℕ) × IsPartLine word.now before (part_view part.now) line × (string_bytes text.new ≡ string_bytes text.old ++ line)) }
 {
     let body = part_body(alloc, word, before, part)?;
     text.push_str(body.as_str())?;

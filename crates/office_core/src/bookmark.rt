@@ -53,7 +53,8 @@ impl Bookmark {
 
     /// The last of its points from which on all changes with a number from one on are found; else the point before all.
     fn start(&self, from: u32) -> Point
-        ensures { (rules : List Rule) (cs : List ChangeOf) → IsPoint rules self.now.caller cs self.now.began → IsPoint rules self.now.caller cs self.now.ended → IsStart rules self.now.caller from cs result }
+        ensures { (rules : List Rule) (cs : List ChangeOf) → IsPoint rules self.now.caller cs self.now.began
+            → IsPoint rules self.now.caller cs self.now.ended → IsStart rules self.now.caller from cs result }
     {
         if self.ended.seen < from {
             self.ended
@@ -94,7 +95,8 @@ impl Bookmarks {
 
     /// A point from which on all changes are found that a caller sees in the zone of an origin with a number from one on.
     pub(crate) fn start(&self, caller: &Identifier, origin: &Name, from: u32) -> Point
-        ensures { (rules : List Rule) (s : State) (held : Held) → AreBookmarks rules s self.now → s.zones origin.now ≡ Some held → IsStart rules caller.now from held.changes result }
+        ensures { (rules : List Rule) (s : State) (held : Held) → AreBookmarks rules s self.now → s.zones origin.now ≡ Some held
+            → IsStart rules caller.now from held.changes result }
     {
         for bookmark in &self.rows {
             if bookmark.is_of(caller, origin) {
@@ -113,7 +115,11 @@ impl Bookmarks {
         began: Point,
         ended: Option<Point>,
     )
-        ensures { (rules : List Rule) (s : State) → AreBookmarks rules s self.old → ((held : Held) → s.zones origin.now ≡ Some held → IsPoint rules caller.now held.changes began × IfSome ended (λ point. IsPoint rules caller.now held.changes point)) → AreBookmarks rules s self.new }
+        ensures { (rules : List Rule) (s : State) → AreBookmarks rules s self.old
+            →
+            ((held : Held) → s.zones origin.now ≡ Some held
+            → IsPoint rules caller.now held.changes began × IfSome ended (λ point. IsPoint rules caller.now held.changes point))
+            → AreBookmarks rules s self.new }
     {
         let Some(ended) = ended else {
             return;

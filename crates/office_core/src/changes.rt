@@ -53,7 +53,8 @@ fn push_seen(
     change: Change,
 ) -> Result<(), AllocError>
     requires { grants.old.action ≡ Action.List }
-    ensures value { OnOk result (map seen_in all.new.items ≡ map seen_in all.old.items ++ if_some (seen_of grants.old.rules grants.old.caller (change_in change))) }
+    ensures value { OnOk result
+        (map seen_in all.new.items ≡ map seen_in all.old.items ++ if_some (seen_of grants.old.rules grants.old.caller (change_in change))) }
     ensures same { grants.new ≡ grants.old }
 {
     let seen = seen_of(alloc, grants, change)?;
@@ -95,7 +96,9 @@ impl Seen {
         requires { grants.old.action ≡ Action.List }
         ensures read { OnOk result (self.new.read ≡ self.old.read + length changes.items) }
         ensures fits { OnOk result (self.new.read ≤ 4294967295) }
-        ensures changes { OnOk result (map seen_in self.new.changes.items ≡ map seen_in self.old.changes.items ++ seen grants.old.rules grants.old.caller (map change_in changes.items)) }
+        ensures changes { OnOk result
+            (map seen_in self.new.changes.items
+            ≡ map seen_in self.old.changes.items ++ seen grants.old.rules grants.old.caller (map change_in changes.items)) }
         ensures same { grants.new ≡ grants.old }
     {
         self.read = counted(self.read, changes.len())?;
@@ -114,7 +117,8 @@ impl Seen {
         origin: &Name,
     ) -> Result<Option<bool>, TableFault>
         requires { grants.old.action ≡ Action.List }
-        ensures answer { T.is_honest table.new → IfOk result (λ found. (s : State) → T.holds table.old s → IsNext grants.old (s.zones origin.now) self.old self.new found) }
+        ensures answer { T.is_honest table.new
+            → IfOk result (λ found. (s : State) → T.holds table.old s → IsNext grants.old (s.zones origin.now) self.old self.new found) }
         ensures further { result ≡ Ok (Some true) → self.old.read < self.new.read }
         ensures fits { result ≡ Ok (Some true) → self.new.read ≤ 4294967295 }
         ensures same { grants.new ≡ grants.old }
@@ -143,7 +147,8 @@ fn seen_behind<T: ZoneTable>(
     count: u32,
 ) -> Result<Option<Seen>, TableFault>
     requires { grants.old.action ≡ Action.List }
-    ensures answer { T.is_honest table.new → IfOk result (λ found. (s : State) → T.holds table.old s → IsSeenBehind grants.old count (s.zones origin.now) found) }
+    ensures answer { T.is_honest table.new
+        → IfOk result (λ found. (s : State) → T.holds table.old s → IsSeenBehind grants.old count (s.zones origin.now) found) }
     ensures reads { ReadsOnly T.holds T.is_honest T.leaves T.failures table.old table.new result }
 {
     let mut seen = Seen {
@@ -167,7 +172,8 @@ fn push_numbered(
     number: u64,
     change: SeenChange,
 ) -> Result<(), AllocError>
-    ensures { OnOk result (map numbered_of all.new.items ≡ map numbered_of all.old.items ++ filter (λ c. nat_le from c.number) (numbered number (seen_in change ∷ []))) }
+    ensures { OnOk result
+        (map numbered_of all.new.items ≡ map numbered_of all.old.items ++ filter (λ c. nat_le from c.number) (numbered number (seen_in change ∷ []))) }
 {
     let change = NumberedChange { number, change };
     if number >= u64::from(from) {
@@ -205,8 +211,10 @@ pub(crate) fn changes<T: ZoneTable>(
     origin: &Name,
     from: u32,
 ) -> Result<Reply, TableFault>
-    ensures takes { T.is_honest table.new → (s : State) → T.holds table.old s → AreBookmarks policy.now s bookmarks.old → Takes (T.holds table.new) s (unchanged s (of_zone (s.zones origin.now) (changes_reply policy.now caller.now from))) result }
-    ensures bookmarks { T.is_honest table.new → (s : State) → T.holds table.old s → AreBookmarks policy.now s bookmarks.old → AreBookmarks policy.now s bookmarks.new }
+    ensures takes { T.is_honest table.new → (s : State) → T.holds table.old s → AreBookmarks policy.now s bookmarks.old
+        → Takes (T.holds table.new) s (unchanged s (of_zone (s.zones origin.now) (changes_reply policy.now caller.now from))) result }
+    ensures bookmarks { T.is_honest table.new → (s : State) → T.holds table.old s → AreBookmarks policy.now s bookmarks.old
+        → AreBookmarks policy.now s bookmarks.new }
     ensures answers { IfOk result IsAnswer }
     ensures reads { ReadsOnly T.holds T.is_honest T.leaves T.failures table.old table.new result }
 {

@@ -20,7 +20,8 @@ pub(crate) fn list<T: ZoneTable>(
     caller: &Identifier,
     origin: &Name,
 ) -> Result<Reply, TableFault>
-    ensures takes { T.is_honest table.new → (s : State) → T.holds table.old s → Takes (T.holds table.new) s (unchanged s (of_zone (s.zones origin.now) (list_reply policy.now caller.now))) result }
+    ensures takes { T.is_honest table.new → (s : State) → T.holds table.old s
+        → Takes (T.holds table.new) s (unchanged s (of_zone (s.zones origin.now) (list_reply policy.now caller.now))) result }
     ensures answers { IfOk result IsAnswer }
     ensures reads { ReadsOnly T.holds T.is_honest T.leaves T.failures table.old table.new result }
 {

@@ -41,7 +41,8 @@ fn none_of<T: ZoneTable>(
     table: &mut T,
     origin: &Name,
 ) -> Result<Option<Vec<Record>>, TableFault>
-    ensures answer { T.is_honest table.new → IfOk result (λ found. (s : State) → T.holds table.old s → option_map (λ rs. rs.items) found ≡ option_map (λ held. []) (s.zones origin.now)) }
+    ensures answer { T.is_honest table.new
+        → IfOk result (λ found. (s : State) → T.holds table.old s → option_map (λ rs. rs.items) found ≡ option_map (λ held. []) (s.zones origin.now)) }
     ensures order { IfOk result (λ found. IfSome found (λ rs. InOrder rs.items)) }
     ensures reads { ReadsOnly T.holds T.is_honest T.leaves T.failures table.old table.new result }
 {
@@ -60,7 +61,8 @@ fn within_reach<T: ZoneTable>(
     caller: &Identifier,
     origin: &Name,
 ) -> Result<Option<Vec<Record>>, TableFault>
-    ensures answer { T.is_honest table.new → IfOk result (λ found. (s : State) → T.holds table.old s → option_map (λ rs. rs.items) found ≡ listed_at policy.now caller.now s origin.now) }
+    ensures answer { T.is_honest table.new
+        → IfOk result (λ found. (s : State) → T.holds table.old s → option_map (λ rs. rs.items) found ≡ listed_at policy.now caller.now s origin.now) }
     ensures order { IfOk result (λ found. IfSome found (λ rs. InOrder rs.items)) }
     ensures reads { ReadsOnly T.holds T.is_honest T.leaves T.failures table.old table.new result }
 {
@@ -80,7 +82,8 @@ pub(crate) fn listed_of<T: ZoneTable>(
     caller: &Identifier,
     origin: &Name,
 ) -> Result<Option<Vec<Record>>, TableFault>
-    ensures answer { T.is_honest table.new → IfOk result (λ found. (s : State) → T.holds table.old s → option_map (λ rs. rs.items) found ≡ listed_at policy.now caller.now s origin.now) }
+    ensures answer { T.is_honest table.new
+        → IfOk result (λ found. (s : State) → T.holds table.old s → option_map (λ rs. rs.items) found ≡ listed_at policy.now caller.now s origin.now) }
     ensures order { IfOk result (λ found. IfSome found (λ rs. InOrder rs.items)) }
     ensures reads { ReadsOnly T.holds T.is_honest T.leaves T.failures table.old table.new result }
 {

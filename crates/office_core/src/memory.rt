@@ -127,7 +127,10 @@ fn keep(
     id: Identifier,
     receipt: Receipt,
 ) -> Result<(), AllocError>
-    ensures kept { OnOk result ((c i : List ℕ) → receipt_in receipts.new c i ≡ (if is_at (slice_cmp nat_cmp caller) c && is_at (slice_cmp nat_cmp id) i then Some receipt else receipt_in receipts.old c i)) }
+    ensures kept { OnOk result
+        ((c i : List ℕ)
+        → receipt_in receipts.new c i
+        ≡ (if is_at (slice_cmp nat_cmp caller) c && is_at (slice_cmp nat_cmp id) i then Some receipt else receipt_in receipts.old c i)) }
     ensures same { OnErr result ((c i : List ℕ) → receipt_in receipts.new c i ≡ receipt_in receipts.old c i) }
 {
     match receipts.get_mut(&caller) {

@@ -78,8 +78,10 @@ fn denied_prerequisite<'a>(
     prerequisites: &[Prerequisite],
     look_ups: &mut LookUps,
 ) -> Option<Denial<'a>>
-    ensures denial { option_map denial_of result ≡ first_denial policy.now caller.now (points_from tested_name prerequisite_action lists.Prerequisites 0 prerequisites.now) }
-    ensures cost { look_ups.new.count ≤ look_ups.old.count + sum_by (point_cost policy.now caller.now) (points_from tested_name prerequisite_action lists.Prerequisites 0 prerequisites.now) }
+    ensures denial { option_map denial_of result
+        ≡ first_denial policy.now caller.now (points_from tested_name prerequisite_action lists.Prerequisites 0 prerequisites.now) }
+    ensures cost { look_ups.new.count ≤ look_ups.old.count + sum_by (point_cost policy.now caller.now)
+        (points_from tested_name prerequisite_action lists.Prerequisites 0 prerequisites.now) }
 {
     let list = ItemList::Prerequisites;
     for (item, prerequisite) in prerequisites.iter().enumerate() {
@@ -101,8 +103,10 @@ fn denied_operation<'a>(
     operations: &[Operation],
     look_ups: &mut LookUps,
 ) -> Option<Denial<'a>>
-    ensures denial { option_map denial_of result ≡ first_denial policy.now caller.now (points_from acted_name (operation_action origin.now) lists.Operations 0 operations.now) }
-    ensures cost { look_ups.new.count ≤ look_ups.old.count + sum_by (point_cost policy.now caller.now) (points_from acted_name (operation_action origin.now) lists.Operations 0 operations.now) }
+    ensures denial { option_map denial_of result
+        ≡ first_denial policy.now caller.now (points_from acted_name (operation_action origin.now) lists.Operations 0 operations.now) }
+    ensures cost { look_ups.new.count ≤ look_ups.old.count + sum_by (point_cost policy.now caller.now)
+        (points_from acted_name (operation_action origin.now) lists.Operations 0 operations.now) }
 {
     let list = ItemList::Operations;
     for (item, operation) in operations.iter().enumerate() {
@@ -125,8 +129,10 @@ fn denied_item<'a>(
     record_types: &[RecordType],
     look_ups: &mut LookUps,
 ) -> Option<Denial<'a>>
-    ensures denial { option_map denial_of result ≡ first_denial policy.now caller.now (points_at place (item_name item.entry) (item_action item.entry) record_types.now) }
-    ensures cost { look_ups.new.count ≤ look_ups.old.count + sum_by (point_cost policy.now caller.now) (points_at place (item_name item.entry) (item_action item.entry) record_types.now) }
+    ensures denial { option_map denial_of result
+        ≡ first_denial policy.now caller.now (points_at place (item_name item.entry) (item_action item.entry) record_types.now) }
+    ensures cost { look_ups.new.count ≤ look_ups.old.count + sum_by (point_cost policy.now caller.now)
+        (points_at place (item_name item.entry) (item_action item.entry) record_types.now) }
 {
     for record_type in record_types {
         let denial = denied_point(policy, caller, place, item, *record_type, look_ups);
@@ -146,8 +152,10 @@ fn denied_point<'a>(
     record_type: RecordType,
     look_ups: &mut LookUps,
 ) -> Option<Denial<'a>>
-    ensures denial { option_map denial_of result ≡ point_denial policy.now caller.now (point_of place (item_name item.entry) (item_action item.entry) record_type) }
-    ensures cost { look_ups.new.count ≤ look_ups.old.count + sum_by (point_cost policy.now caller.now) (option_to_list (point_of place (item_name item.entry) (item_action item.entry) record_type)) }
+    ensures denial { option_map denial_of result
+        ≡ point_denial policy.now caller.now (point_of place (item_name item.entry) (item_action item.entry) record_type) }
+    ensures cost { look_ups.new.count ≤ look_ups.old.count + sum_by (point_cost policy.now caller.now)
+        (option_to_list (point_of place (item_name item.entry) (item_action item.entry) record_type)) }
 {
     let action = item.asks(record_type)?;
     match decide(policy, caller, item.name(), record_type, action, look_ups) {

@@ -28,8 +28,10 @@ pub(crate) fn query_reply<T: ZoneTable>(
     caller: &Identifier,
     query: &Query,
 ) -> Result<Reply, TableFault>
-    ensures takes { T.is_honest table.new → (s : State) → T.holds table.old s → AreBookmarks policy.now s bookmarks.old → Takes (T.holds table.new) s (unchanged s (query_reply policy.now s caller.now query.now)) result }
-    ensures bookmarks { T.is_honest table.new → (s : State) → T.holds table.old s → AreBookmarks policy.now s bookmarks.old → AreBookmarks policy.now s bookmarks.new }
+    ensures takes { T.is_honest table.new → (s : State) → T.holds table.old s → AreBookmarks policy.now s bookmarks.old
+        → Takes (T.holds table.new) s (unchanged s (query_reply policy.now s caller.now query.now)) result }
+    ensures bookmarks { T.is_honest table.new → (s : State) → T.holds table.old s → AreBookmarks policy.now s bookmarks.old
+        → AreBookmarks policy.now s bookmarks.new }
     ensures answers { IfOk result IsAnswer }
     ensures reads { ReadsOnly T.holds T.is_honest T.leaves T.failures table.old table.new result }
 {

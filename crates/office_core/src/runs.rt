@@ -22,13 +22,17 @@ pub fn run<T: ZoneTable>(
 ) -> Result<Vec<Reply>, AllocError>
     // Where the store has kept its word, the replies are those of the machine to the calls that it answered, and so is the state
     // after them.
-    ensures run { T.is_honest table.new → (s : State) → T.holds table.old s → IfOk result (λ replies. IsRun (T.holds table.new) policy.now s calls.now replies.items) }
+    ensures run { T.is_honest table.new → (s : State) → T.holds table.old s
+        → IfOk result (λ replies. IsRun (T.holds table.new) policy.now s calls.now replies.items) }
     // What is promised of calls holds of them: what is made of them is permitted, made whole and in order, and nothing else is.
-    ensures promises { T.is_honest table.new → (s : State) → T.holds table.old s → IfOk result (λ replies. CallsAreRight policy.now s (kept calls.now replies.items)) }
+    ensures promises { T.is_honest table.new → (s : State) → T.holds table.old s
+        → IfOk result (λ replies. CallsAreRight policy.now s (kept calls.now replies.items)) }
     // The answers to calls are right: each reply, by what is held before its call and after it.
-    ensures answers { T.is_honest table.new → (s : State) → T.holds table.old s → IfOk result (λ replies. AnswersAreRight policy.now s (kept calls.now replies.items) (given calls.now replies.items)) }
+    ensures answers { T.is_honest table.new → (s : State) → T.holds table.old s
+        → IfOk result (λ replies. AnswersAreRight policy.now s (kept calls.now replies.items) (given calls.now replies.items)) }
     // Each caller gets the replies that it would get alone, as far as the law of isolation goes.
-    ensures alone { T.is_honest table.new → (s : State) → T.holds table.old s → IfOk result (λ replies. AreAnsweredAlone policy.now s (kept calls.now replies.items) (given calls.now replies.items)) }
+    ensures alone { T.is_honest table.new → (s : State) → T.holds table.old s
+        → IfOk result (λ replies. AreAnsweredAlone policy.now s (kept calls.now replies.items) (given calls.now replies.items)) }
     // A store that has kept its word had kept it before.
     ensures honest { T.is_honest table.new → T.is_honest table.old }
     // As many failures of the table are reported as the table counted.
@@ -48,7 +52,8 @@ fn replies_to<T: ZoneTable>(
     policy: &Policy,
     calls: &[Call],
 ) -> Result<Vec<Reply>, AllocError>
-    ensures run { T.is_honest table.new → (s : State) → T.holds table.old s → IfOk result (λ replies. IsRun (T.holds table.new) policy.now s calls.now replies.items) }
+    ensures run { T.is_honest table.new → (s : State) → T.holds table.old s
+        → IfOk result (λ replies. IsRun (T.holds table.new) policy.now s calls.now replies.items) }
     ensures honest { T.is_honest table.new → T.is_honest table.old }
     ensures counts { IfOk result (λ replies. T.failures table.new ≡ T.failures table.old + sum_by counted_failures replies.items) }
     ensures refused { OnErr result ((s : State) → T.holds table.old s → T.holds table.new s) }

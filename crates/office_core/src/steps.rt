@@ -33,7 +33,8 @@ pub fn step<T: ZoneTable>(
     ensures step { T.is_honest table.new → (s : State) → T.holds table.old s → Steps (T.holds table.new) policy.now s caller.now request.now result }
     // A crash leaves the state after the request behind a reply of the machine; where the step failed before its commit, the state
     // before it; and where the commit failed, either.
-    ensures crash { T.is_honest table.new → (s : State) → T.holds table.old s → T.leaves table.old s s → Leaves (T.leaves table.new) policy.now s caller.now request.now result }
+    ensures crash { T.is_honest table.new → (s : State) → T.holds table.old s → T.leaves table.old s s
+        → Leaves (T.leaves table.new) policy.now s caller.now request.now result }
     // A store that has kept its word had kept it before.
     ensures honest { T.is_honest table.new → T.is_honest table.old }
     // A failure of the table is told only where the table counted it.
@@ -55,8 +56,10 @@ pub fn step_with_bookmarks<T: ZoneTable>(
 ) -> Reply
     // Where the store has kept its word and the bookmarks are right of what is held, it does the same, and they are right of what is
     // held then.
-    ensures step { T.is_honest table.new → (s : State) → T.holds table.old s → AreBookmarks policy.now s bookmarks.old → Steps (λ t. T.holds table.new t × AreBookmarks policy.now t bookmarks.new) policy.now s caller.now request.now result }
-    ensures crash { T.is_honest table.new → (s : State) → T.holds table.old s → T.leaves table.old s s → Leaves (T.leaves table.new) policy.now s caller.now request.now result }
+    ensures step { T.is_honest table.new → (s : State) → T.holds table.old s → AreBookmarks policy.now s bookmarks.old
+        → Steps (λ t. T.holds table.new t × AreBookmarks policy.now t bookmarks.new) policy.now s caller.now request.now result }
+    ensures crash { T.is_honest table.new → (s : State) → T.holds table.old s → T.leaves table.old s s
+        → Leaves (T.leaves table.new) policy.now s caller.now request.now result }
     ensures honest { T.is_honest table.new → T.is_honest table.old }
     ensures counts { CountsReply (T.failures table.old) (T.failures table.new) result }
 {
@@ -75,12 +78,15 @@ fn answer<T: ZoneTable>(
     caller: &Identifier,
     request: &Request,
 ) -> Result<Reply, StepFault>
-    ensures takes { T.is_honest table.new → (s : State) → T.holds table.old s → AreBookmarks policy.now s bookmarks.old → Takes (T.holds table.new) s (step policy.now s caller.now request.now) result }
-    ensures crash { T.is_honest table.new → (s : State) → T.holds table.old s → T.leaves table.old s s → LeavesTurn (T.leaves table.new) s (step policy.now s caller.now request.now) result }
+    ensures takes { T.is_honest table.new → (s : State) → T.holds table.old s → AreBookmarks policy.now s bookmarks.old
+        → Takes (T.holds table.new) s (step policy.now s caller.now request.now) result }
+    ensures crash { T.is_honest table.new → (s : State) → T.holds table.old s → T.leaves table.old s s
+        → LeavesTurn (T.leaves table.new) s (step policy.now s caller.now request.now) result }
     ensures honest { T.is_honest table.new → T.is_honest table.old }
     ensures answers { IfOk result IsAnswer }
     ensures counts { CountsStep (T.failures table.old) (T.failures table.new) result }
-    ensures bookmarks { T.is_honest table.new → (s : State) → T.holds table.old s → AreBookmarks policy.now s bookmarks.old → AreBookmarks policy.now s bookmarks.new }
+    ensures bookmarks { T.is_honest table.new → (s : State) → T.holds table.old s → AreBookmarks policy.now s bookmarks.old
+        → AreBookmarks policy.now s bookmarks.new }
 {
     match request {
         Request::Update { origin, id, update } => update_reply(

@@ -50,7 +50,10 @@ pub(crate) fn within_each<T: ZoneTable>(
 ) -> Result<Option<Vec<Record>>, TableFault>
     requires apart { AreApart tops.now }
     requires some { 0 < length tops.now }
-    ensures answer { T.is_honest table.new → IfOk result (λ found. (s : State) → T.holds table.old s → option_map (λ rs. rs.items) found ≡ option_map (included grants.old) (subtrees_at s origin.now tops.now)) }
+    ensures answer { T.is_honest table.new
+        → IfOk result
+        (λ found. (s : State) → T.holds table.old s
+        → option_map (λ rs. rs.items) found ≡ option_map (included grants.old) (subtrees_at s origin.now tops.now)) }
     // They are in record order, whatever the store has done.
     ensures order { IfOk result (λ found. IfSome found (λ rs. InOrder rs.items)) }
     ensures reads { ReadsOnly T.holds T.is_honest T.leaves T.failures table.old table.new result }

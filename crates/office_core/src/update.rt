@@ -28,8 +28,10 @@ pub(crate) fn update_reply<T: ZoneTable>(
     origin: &Name,
     update: &Update,
 ) -> Result<Reply, StepFault>
-    ensures takes { T.is_honest table.new → (s : State) → T.holds table.old s → Takes (T.holds table.new) s (updated policy.now s caller.now id.now origin.now update.now (s.receipts caller.now id.now)) result }
-    ensures crash { T.is_honest table.new → (s : State) → T.holds table.old s → T.leaves table.old s s → LeavesTurn (T.leaves table.new) s (updated policy.now s caller.now id.now origin.now update.now (s.receipts caller.now id.now)) result }
+    ensures takes { T.is_honest table.new → (s : State) → T.holds table.old s
+        → Takes (T.holds table.new) s (updated policy.now s caller.now id.now origin.now update.now (s.receipts caller.now id.now)) result }
+    ensures crash { T.is_honest table.new → (s : State) → T.holds table.old s → T.leaves table.old s s
+        → LeavesTurn (T.leaves table.new) s (updated policy.now s caller.now id.now origin.now update.now (s.receipts caller.now id.now)) result }
     ensures honest { T.is_honest table.new → T.is_honest table.old }
     ensures answers { IfOk result IsAnswer }
     ensures counts { CountsStep (T.failures table.old) (T.failures table.new) result }
@@ -62,8 +64,12 @@ fn first_reply<T: ZoneTable>(
     update: &Update,
 ) -> Result<Reply, StepFault>
     requires fresh { T.is_honest table.old → (s : State) → T.holds table.old s → s.receipts caller.now id.now ≡ None }
-    ensures takes { T.is_honest table.new → (s : State) → T.holds table.old s → Takes (T.holds table.new) s (answered s caller.now id.now origin.now update.now (refusal policy.now caller.now origin.now update.now (s.zones origin.now))) result }
-    ensures crash { T.is_honest table.new → (s : State) → T.holds table.old s → T.leaves table.old s s → LeavesTurn (T.leaves table.new) s (answered s caller.now id.now origin.now update.now (refusal policy.now caller.now origin.now update.now (s.zones origin.now))) result }
+    ensures takes { T.is_honest table.new → (s : State) → T.holds table.old s
+        → Takes (T.holds table.new) s
+        (answered s caller.now id.now origin.now update.now (refusal policy.now caller.now origin.now update.now (s.zones origin.now))) result }
+    ensures crash { T.is_honest table.new → (s : State) → T.holds table.old s → T.leaves table.old s s
+        → LeavesTurn (T.leaves table.new) s
+        (answered s caller.now id.now origin.now update.now (refusal policy.now caller.now origin.now update.now (s.zones origin.now))) result }
     ensures honest { T.is_honest table.new → T.is_honest table.old }
     ensures answers { IfOk result IsAnswer }
     ensures counts { CountsStep (T.failures table.old) (T.failures table.new) result }
@@ -87,7 +93,12 @@ fn prepared<T: ZoneTable>(
     update: &Update,
 ) -> Result<(UpdateReply, Addition), TableFault>
     requires fresh { T.is_honest table.old → (s : State) → T.holds table.old s → s.receipts caller.now id.now ≡ None }
-    ensures commits { T.is_honest table.new → IfOk result (λ r. (s : State) → T.holds table.new s → Commits s (answered s caller.now id.now origin.now update.now (refusal policy.now caller.now origin.now update.now (s.zones origin.now))) (addition_in r.1) r.0) }
+    ensures commits { T.is_honest table.new
+        → IfOk result
+        (λ r. (s : State) → T.holds table.new s
+        → Commits s
+        (answered s caller.now id.now origin.now update.now (refusal policy.now caller.now origin.now update.now (s.zones origin.now)))
+        (addition_in r.1) r.0) }
     ensures reads { ReadsOnly T.holds T.is_honest T.leaves T.failures table.old table.new result }
 {
     let (reply, change) = decided(alloc, table, policy, caller, origin, update)?;
@@ -105,7 +116,9 @@ fn decided<T: ZoneTable>(
     origin: &Name,
     update: &Update,
 ) -> Result<(UpdateReply, Option<Change>), TableFault>
-    ensures makes { T.is_honest table.new → IfOk result (λ r. (s : State) → T.holds table.old s → MakesAt policy.now caller.now update.now (zone_at s origin.now) r.0 (option_map change_in r.1)) }
+    ensures makes { T.is_honest table.new
+        → IfOk result
+        (λ r. (s : State) → T.holds table.old s → MakesAt policy.now caller.now update.now (zone_at s origin.now) r.0 (option_map change_in r.1)) }
     ensures update { IsUpdate update.now }
     ensures reads { ReadsOnly T.holds T.is_honest T.leaves T.failures table.old table.new result }
 {
@@ -192,7 +205,8 @@ pub fn plan(
     // An office that holds the zone, and to which the caller has sent no update under the identifier, answers so, and notes this change.
     ensures step { IfOk result (λ r. Plans policy.now caller.now zone.now update.now r.0 (option_map change_in r.1)) }
     // The same by a definition that computes.
-    ensures exact { IfOk result (λ r. Makes zone.now update.now (zone_refusal policy.now caller.now zone.now.origin update.now (held_in zone.now)) r.0 (option_map change_in r.1)) }
+    ensures exact { IfOk result
+        (λ r. Makes zone.now update.now (zone_refusal policy.now caller.now zone.now.origin update.now (held_in zone.now)) r.0 (option_map change_in r.1)) }
     // An update that is made acts within the zone.
     ensures inside { IfOk result (λ r. r.0 ≡ NoError → ActsWithin zone.now.origin update.now) }
 {
@@ -207,7 +221,8 @@ fn planned(
     zone: &Zone,
     update: &Update,
 ) -> Result<(UpdateReply, Option<Change>), AllocError>
-    ensures { IfOk result (λ r. Makes zone.now update.now (zone_refusal policy.now caller.now zone.now.origin update.now (held_in zone.now)) r.0 (option_map change_in r.1)) }
+    ensures { IfOk result
+        (λ r. Makes zone.now update.now (zone_refusal policy.now caller.now zone.now.origin update.now (held_in zone.now)) r.0 (option_map change_in r.1)) }
 {
     match unread_refusal(alloc, policy, caller, zone.origin(), update)? {
         Some(reply) => Ok((reply, None)),

@@ -59,7 +59,10 @@ pub trait ZoneTable {
         top: &Name,
         grants: &mut Grants<'_>,
     ) -> Result<Option<Vec<Record>>, TableFault>
-        ensures answer { is_honest self.new → IfOk result (λ records. (s : State) → holds self.old s → option_map (λ rs. rs.items) records ≡ option_map (included grants.old) (subtree_at s origin.now top.now)) }
+        ensures answer { is_honest self.new
+            → IfOk result
+            (λ records. (s : State) → holds self.old s
+            → option_map (λ rs. rs.items) records ≡ option_map (included grants.old) (subtree_at s origin.now top.now)) }
         // They are in record order, whatever the store has done.
         ensures order { IfOk result (λ records. IfSome records (λ rs. InOrder rs.items)) }
         ensures same { grants.new ≡ grants.old }
@@ -77,7 +80,8 @@ pub trait ZoneTable {
 
     /// The changes of a zone, the oldest first, where there is the zone.
     fn changes(&mut self, alloc: Global, origin: &Name) -> Result<Option<Vec<Change>>, TableFault>
-        ensures answer { is_honest self.new → IfOk result (λ changes. (s : State) → holds self.old s → option_map (λ cs. map change_in cs.items) changes ≡ changes_at s origin.now) }
+        ensures answer { is_honest self.new
+            → IfOk result (λ changes. (s : State) → holds self.old s → option_map (λ cs. map change_in cs.items) changes ≡ changes_at s origin.now) }
         ensures reads { ReadsOnly holds is_honest leaves failures self.old self.new result };
 
     /// The changes of a zone behind the first ones, so many, and at most so many of them; the oldest first, where there is the zone.
@@ -88,7 +92,10 @@ pub trait ZoneTable {
         count: u32,
         most: u32,
     ) -> Result<Option<Vec<Change>>, TableFault>
-        ensures answer { is_honest self.new → IfOk result (λ changes. (s : State) → holds self.old s → option_map (λ cs. map change_in cs.items) changes ≡ option_map (λ cs. take most (drop count cs)) (changes_at s origin.now)) }
+        ensures answer { is_honest self.new
+            → IfOk result
+            (λ changes. (s : State) → holds self.old s
+            → option_map (λ cs. map change_in cs.items) changes ≡ option_map (λ cs. take most (drop count cs)) (changes_at s origin.now)) }
         ensures reads { ReadsOnly holds is_honest leaves failures self.old self.new result };
 
     /// What comes next among the changes of a zone behind the first ones, so many, as far as the table remembers what it has read.
@@ -98,7 +105,10 @@ pub trait ZoneTable {
         count: u32,
         grants: &mut Grants<'_>,
     ) -> Result<Ahead, TableFault>
-        ensures hidden { is_honest self.new → IfOk result (λ ahead. (s : State) (held : Held) → holds self.old s → s.zones origin.now ≡ Some held → AreHidden grants.old (drop count held.changes) ahead.hidden) }
+        ensures hidden { is_honest self.new
+            → IfOk result
+            (λ ahead. (s : State) (held : Held) → holds self.old s → s.zones origin.now ≡ Some held
+            → AreHidden grants.old (drop count held.changes) ahead.hidden) }
         ensures same { grants.new ≡ grants.old }
         ensures reads { ReadsOnly holds is_honest leaves failures self.old self.new result };
 
@@ -108,7 +118,8 @@ pub trait ZoneTable {
         requires fits { is_honest self.old → (s : State) → holds self.old s → Fits s (addition_in addition) }
         ensures made { is_honest self.new → OnOk result ((s : State) → holds self.old s → holds self.new (committed (addition_in addition) s)) }
         ensures failed { OnErr result ((s : State) → holds self.old s → holds self.new s) }
-        ensures kept { is_honest self.new → OnOk result ((s : State) → holds self.old s → leaves self.old s s → (let t = committed (addition_in addition) s in leaves self.new t t)) }
+        ensures kept { is_honest self.new
+            → OnOk result ((s : State) → holds self.old s → leaves self.old s s → (let t = committed (addition_in addition) s in leaves self.new t t)) }
         ensures crash { OnErr result ((s : State) → holds self.old s → leaves self.old s s → leaves self.new s (committed (addition_in addition) s)) }
         ensures honest { is_honest self.new → is_honest self.old }
         ensures counts { Counts (failures self.old) (failures self.new) result };

@@ -43,7 +43,8 @@ pub(crate) fn next_number<S: Alter>(
     conn: &mut Connection<S>,
     origin: &Name,
 ) -> Result<i64, StoreFault>
-    ensures next { HasCleanDisk (state S.Store conn.new) → IfOk result (λ number. (s : State) → HoldsState (state S.Store conn.old) s → IsNext s origin.now number) }
+    ensures next { HasCleanDisk (state S.Store conn.new)
+        → IfOk result (λ number. (s : State) → HoldsState (state S.Store conn.old) s → IsNext s origin.now number) }
     ensures asked { Asked (state S.Store conn.old) (state S.Store conn.new) }
     ensures ended { OnOk result (conn.new.in_transaction ≡ false) }
     ensures named { IfErr result IsFailure }
@@ -61,7 +62,9 @@ pub(crate) fn write_to<S: Alter>(conn: &mut Connection<S>, batch: &Batch) -> Res
     ensures made { OnOk result ((s t : State) → Leads batch.now s t → HoldsState (state S.Store conn.old) s → HoldsState (state S.Store conn.new) t) }
     ensures failed { OnErr result ((s : State) → HoldsState (state S.Store conn.old) s → HoldsState (state S.Store conn.new) s) }
     ensures kept { OnOk result ((s t : State) → Leads batch.now s t → HoldsState (state S.Store conn.old) s → LeavesStates (state S.Store conn.new) t t) }
-    ensures crash { OnErr result ((s t : State) → Leads batch.now s t → HoldsState (state S.Store conn.old) s → LeavesStates (state S.Store conn.old) s s → LeavesStates (state S.Store conn.new) s t) }
+    ensures crash { OnErr result
+        ((s t : State) → Leads batch.now s t → HoldsState (state S.Store conn.old) s → LeavesStates (state S.Store conn.old) s s
+        → LeavesStates (state S.Store conn.new) s t) }
     ensures honest { HasCleanDisk (state S.Store conn.new) → HasCleanDisk (state S.Store conn.old) }
 {
     write(conn, batch)?;
@@ -75,8 +78,14 @@ fn batch_of<S: Alter>(
     addition: &Addition,
 ) -> Result<Batch, StoreFault>
     // Its rows, and no others.
-    ensures exact { HasCleanDisk (state S.Store conn.new) → IfOk result (λ batch. (s : State) → HoldsState (state S.Store conn.old) s → Fits s (addition_in addition.now) → Writes s addition.now.receipt.origin (option_map change_in addition.now.change) (receipt_rows (addition_in addition.now)) batch) }
-    ensures leads { HasCleanDisk (state S.Store conn.new) → IfOk result (λ batch. (s : State) → HoldsState (state S.Store conn.old) s → Fits s (addition_in addition.now) → Leads batch s (committed (addition_in addition.now) s)) }
+    ensures exact { HasCleanDisk (state S.Store conn.new)
+        → IfOk result
+        (λ batch. (s : State) → HoldsState (state S.Store conn.old) s → Fits s (addition_in addition.now)
+        → Writes s addition.now.receipt.origin (option_map change_in addition.now.change) (receipt_rows (addition_in addition.now)) batch) }
+    ensures leads { HasCleanDisk (state S.Store conn.new)
+        → IfOk result
+        (λ batch. (s : State) → HoldsState (state S.Store conn.old) s → Fits s (addition_in addition.now)
+        → Leads batch s (committed (addition_in addition.now) s)) }
     ensures asked { Asked (state S.Store conn.old) (state S.Store conn.new) }
     ensures ended { OnOk result (conn.new.in_transaction ≡ false) }
 {

@@ -55,7 +55,8 @@ pub(crate) fn cached_or_held<S: Alter>(
     origin: &Name,
 ) -> Result<bool, StoreFault>
     requires fits { FitsCache (state S.Store conn.old) (cached_in cache.now) }
-    ensures answer { HasCleanDisk (state S.Store conn.new) → IfOk result (λ found. (s : State) → HoldsState (state S.Store conn.old) s → found ≡ is_some (s.zones origin.now)) }
+    ensures answer { HasCleanDisk (state S.Store conn.new)
+        → IfOk result (λ found. (s : State) → HoldsState (state S.Store conn.old) s → found ≡ is_some (s.zones origin.now)) }
     ensures asks { AsksOnly (state S.Store conn.old) (state S.Store conn.new) result }
 {
     if is_cached(cache, origin) {
@@ -73,7 +74,8 @@ pub(crate) fn export_cached<S: Alter>(
     origin: &Name,
 ) -> Result<Vec<Record>, StoreFault>
     requires fits { FitsCache (state S.Store conn.old) (cached_in cache.old) }
-    ensures answer { HasCleanDisk (state S.Store conn.new) → (s : State) → HoldsState (state S.Store conn.old) s → Gives (λ records. records.items) result (exported (s.zones origin.now)) }
+    ensures answer { HasCleanDisk (state S.Store conn.new) → (s : State) → HoldsState (state S.Store conn.old) s
+        → Gives (λ records. records.items) result (exported (s.zones origin.now)) }
     ensures asks { AsksOnly (state S.Store conn.old) (state S.Store conn.new) result }
     ensures fits { FitsCache (state S.Store conn.new) (cached_in cache.new) }
 {
@@ -94,7 +96,8 @@ pub(crate) fn cached_part<S: Alter>(
     names: &[Name],
 ) -> Result<Option<Zone>, StoreFault>
     requires fits { FitsCache (state S.Store conn.old) (cached_in cache.now) }
-    ensures answer { HasCleanDisk (state S.Store conn.new) → IfOk result (λ zone. (s : State) → HoldsState (state S.Store conn.old) s → zone ≡ part_at s origin.now names.now) }
+    ensures answer { HasCleanDisk (state S.Store conn.new)
+        → IfOk result (λ zone. (s : State) → HoldsState (state S.Store conn.old) s → zone ≡ part_at s origin.now names.now) }
     ensures asks { AsksOnly (state S.Store conn.old) (state S.Store conn.new) result }
 {
     if let Some(part) = part_of_cached(alloc, cache, origin, names)? {
@@ -167,7 +170,10 @@ fn included_at<S: Alter>(
     top: &Name,
     grants: &mut Grants<'_>,
 ) -> Result<Option<Vec<Record>>, StoreFault>
-    ensures answer { HasCleanDisk (state S.Store conn.new) → IfOk result (λ records. (s : State) → HoldsState (state S.Store conn.old) s → option_map (λ rs. rs.items) records ≡ option_map (included grants.old) (subtree_at s origin.now top.now)) }
+    ensures answer { HasCleanDisk (state S.Store conn.new)
+        → IfOk result
+        (λ records. (s : State) → HoldsState (state S.Store conn.old) s
+        → option_map (λ rs. rs.items) records ≡ option_map (included grants.old) (subtree_at s origin.now top.now)) }
     ensures order { IfOk result (λ records. IfSome records (λ rs. InOrder rs.items)) }
     ensures same { grants.new ≡ grants.old }
     ensures asks { AsksOnly (state S.Store conn.old) (state S.Store conn.new) result }
@@ -187,7 +193,10 @@ fn subtree_by<S: Alter>(
     grants: &mut Grants<'_>,
 ) -> Result<Option<Vec<Record>>, StoreFault>
     requires fits { FitsCache (state S.Store conn.old) (cached_in cache.now) }
-    ensures answer { HasCleanDisk (state S.Store conn.new) → IfOk result (λ records. (s : State) → HoldsState (state S.Store conn.old) s → option_map (λ rs. rs.items) records ≡ option_map (included grants.old) (subtree_at s origin.now top.now)) }
+    ensures answer { HasCleanDisk (state S.Store conn.new)
+        → IfOk result
+        (λ records. (s : State) → HoldsState (state S.Store conn.old) s
+        → option_map (λ rs. rs.items) records ≡ option_map (included grants.old) (subtree_at s origin.now top.now)) }
     ensures order { IfOk result (λ records. IfSome records (λ rs. InOrder rs.items)) }
     ensures same { grants.new ≡ grants.old }
     ensures asks { AsksOnly (state S.Store conn.old) (state S.Store conn.new) result }
@@ -211,7 +220,10 @@ pub(crate) fn cached_subtree<S: Alter>(
     grants: &mut Grants<'_>,
 ) -> Result<Option<Vec<Record>>, StoreFault>
     requires fits { FitsCache (state S.Store conn.old) (cached_in cache.old) }
-    ensures answer { HasCleanDisk (state S.Store conn.new) → IfOk result (λ records. (s : State) → HoldsState (state S.Store conn.old) s → option_map (λ rs. rs.items) records ≡ option_map (included grants.old) (subtree_at s origin.now top.now)) }
+    ensures answer { HasCleanDisk (state S.Store conn.new)
+        → IfOk result
+        (λ records. (s : State) → HoldsState (state S.Store conn.old) s
+        → option_map (λ rs. rs.items) records ≡ option_map (included grants.old) (subtree_at s origin.now top.now)) }
     ensures order { IfOk result (λ records. IfSome records (λ rs. InOrder rs.items)) }
     ensures same { grants.new ≡ grants.old }
     ensures asks { AsksOnly (state S.Store conn.old) (state S.Store conn.new) result }

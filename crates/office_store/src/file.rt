@@ -42,19 +42,31 @@ impl<S: Start, L: Ledger> SqlTable<FileStore<FileFrom<S>>, L> {
         requires parts { blank.parts ≡ L.parts }
         requires some { 0 < blank.parts }
         // The table holds a state, and a crash leaves that.
-        ensures found { IfOk result (λ table. HasCleanDisk (file_state table.conn) → (s : State) × HoldsState (file_state table.conn) s × LeavesStates (file_state table.conn) s s) }
+        ensures found { IfOk result
+            (λ table. HasCleanDisk (file_state table.conn) → (s : State) × HoldsState (file_state table.conn) s × LeavesStates (file_state table.conn) s s) }
         // It is the state of the rows that the files held.
-        ensures held { IfOk result (λ table. HasCleanDisk (file_state table.conn) → (trees : Trees) → HoldsDatabase (image_at S.Start) trees → (s : State) × IsStateIn trees s × HoldsState (file_state table.conn) s) }
+        ensures held { IfOk result
+            (λ table. HasCleanDisk (file_state table.conn) → (trees : Trees) → HoldsDatabase (image_at S.Start) trees
+            → (s : State) × IsStateIn trees s × HoldsState (file_state table.conn) s) }
         ensures none { IfOk result (λ table. table.book.total ≡ 0) }
         // Where the files held a state only the store fails or memory runs out.
-        ensures good { IfErr result (λ refused. IfSome refused.conn (λ conn. HasCleanDisk (file_state conn) → (s : State) → HoldStateIn (image_at S.Start) s → IsFailure refused.fault)) }
+        ensures good { IfErr result
+            (λ refused. IfSome refused.conn
+            (λ conn. HasCleanDisk (file_state conn) → (s : State) → HoldStateIn (image_at S.Start) s → IsFailure refused.fault)) }
         ensures named { IfErr result (λ refused. (refused.fault ≡ WrongVersion) ⊎ IsOfRows refused.fault) }
         // Else the first names files that held no tables of this version, and `BadRow` files that held them.
-        ensures wrong { IfErr result (λ refused. IfSome refused.conn (λ conn. HasCleanDisk (file_state conn) → refused.fault ≡ WrongVersion → ¬ HoldVersionIn (image_at S.Start))) }
-        ensures bad { IfErr result (λ refused. IfSome refused.conn (λ conn. HasCleanDisk (file_state conn) → refused.fault ≡ BadRow → (trees : Trees) → HoldsDatabase (image_at S.Start) trees → AreOfVersion trees)) }
+        ensures wrong { IfErr result
+            (λ refused. IfSome refused.conn (λ conn. HasCleanDisk (file_state conn) → refused.fault ≡ WrongVersion → ¬ HoldVersionIn (image_at S.Start))) }
+        ensures bad { IfErr result
+            (λ refused. IfSome refused.conn
+            (λ conn. HasCleanDisk (file_state conn) → refused.fault ≡ BadRow → (trees : Trees)
+            → HoldsDatabase (image_at S.Start) trees → AreOfVersion trees)) }
         // What the files held is shown still, and a crash leaves it.
-        ensures shown { IfErr result (λ refused. IfSome refused.conn (λ conn. HasCleanDisk (file_state conn) → ShowsStill (image_at S.Start) (file_state conn))) }
-        ensures left { IfErr result (λ refused. IfSome refused.conn (λ conn. (trees : Trees) → HoldsDatabase (image_at S.Start) trees → Leaves (file_state conn) (λ db. db ≡ trees))) }
+        ensures shown { IfErr result
+            (λ refused. IfSome refused.conn (λ conn. HasCleanDisk (file_state conn) → ShowsStill (image_at S.Start) (file_state conn))) }
+        ensures left { IfErr result
+            (λ refused. IfSome refused.conn
+            (λ conn. (trees : Trees) → HoldsDatabase (image_at S.Start) trees → Leaves (file_state conn) (λ db. db ≡ trees))) }
         // Without a connection nothing is said of what they held.
         ensures unopened { IfErr result (λ refused. refused.conn ≡ None → IsFailure refused.fault) }
     {

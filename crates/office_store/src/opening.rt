@@ -123,7 +123,8 @@ pub(crate) fn check_version<S: Alter>(
     ensures version { HasCleanDisk (state S.Store conn.new) → OnOk result (IsOfVersion version (state S.Store conn.old)) }
     ensures wrong { HasCleanDisk (state S.Store conn.new) → result ≡ Err WrongVersion → ¬ IsOfVersion version (state S.Store conn.old) }
     ensures tables { OnOk result (IsOffice (state S.Store conn.old).now.schema) }
-    ensures good { HasCleanDisk (state S.Store conn.new) → IfErr result (λ e. (rows : RowsOf) → IsPermutation (version ∷ []) rows.versions → Holds (state S.Store conn.old) rows → IsFailure e) }
+    ensures good { HasCleanDisk (state S.Store conn.new)
+        → IfErr result (λ e. (rows : RowsOf) → IsPermutation (version ∷ []) rows.versions → Holds (state S.Store conn.old) rows → IsFailure e) }
     ensures named { IfErr result (λ e. (e ≡ WrongVersion) ⊎ IsFailure e) }
     ensures asks { AsksOnly (state S.Store conn.old) (state S.Store conn.new) result }
     ensures shown { Keeps (state S.Store conn.old) (state S.Store conn.new) }
@@ -172,7 +173,8 @@ fn check_meta<S: Alter>(alloc: Global, conn: &mut Connection<S>) -> Result<(), S
 /// Checks the rows of `zones`, and reads their origins, in canonical order.
 fn check_zones<S: Alter>(alloc: Global, conn: &mut Connection<S>) -> Result<Vec<Name>, StoreFault>
     requires { conn.old.in_transaction ≡ false }
-    ensures check { IsCheck (state S.Store conn.old) (state S.Store conn.new) result (λ origins db. OriginsIn origins.items db) (λ rows. HasOrigins rows.zones) }
+    ensures check { IsCheck (state S.Store conn.old) (state S.Store conn.new) result (λ origins db. OriginsIn origins.items db)
+        (λ rows. HasOrigins rows.zones) }
     ensures origins { IfOk result (λ origins. AreOrigins origins.items) }
 {
     match all_zones(alloc, conn, &mut OriginReader) {
@@ -189,7 +191,8 @@ fn check_records<S: Alter>(
 ) -> Result<Option<Zone>, StoreFault>
     requires alone { conn.old.in_transaction ≡ false }
     requires origins { AreOrigins origins.now }
-    ensures { IsCheck (state S.Store conn.old) (state S.Store conn.new) result (λ found db. RecordsFound origins.now found db) (λ rows. AreRecordsOf origins.now rows.records) }
+    ensures { IsCheck (state S.Store conn.old) (state S.Store conn.new) result (λ found db. RecordsFound origins.now found db)
+        (λ rows. AreRecordsOf origins.now rows.records) }
 {
     let read = all_records(alloc, conn, &mut RecordReader::new());
     match read {
@@ -280,7 +283,8 @@ fn check_changes<S: Alter>(
 ) -> Result<Option<ZoneHistory>, StoreFault>
     requires alone { conn.old.in_transaction ≡ false }
     requires origins { AreOrigins origins.now }
-    ensures { IsCheck (state S.Store conn.old) (state S.Store conn.new) result (λ history db. ChangesFound origins.now history db) (λ rows. AreChangesOf origins.now rows.changes) }
+    ensures { IsCheck (state S.Store conn.old) (state S.Store conn.new) result (λ history db. ChangesFound origins.now history db)
+        (λ rows. AreChangesOf origins.now rows.changes) }
 {
     let read = all_changes(alloc, conn, &mut ChangeReader::new());
     match read {
@@ -316,7 +320,10 @@ fn check_each<S: Alter>(alloc: Global, conn: &mut Connection<S>) -> Result<Check
 /// Tells whether the rows that the connection shows are a state.
 fn check_rows<S: Alter>(alloc: Global, conn: &mut Connection<S>) -> Result<Checked, StoreFault>
     requires { conn.old.in_transaction ≡ false }
-    ensures found { HasCleanDisk (state S.Store conn.new) → IfOk result (λ found. (s : State) × HoldsState (state S.Store conn.new) s × LeavesStates (state S.Store conn.new) s s × IsZoneIn s found.largest × Remembers s found.history) }
+    ensures found { HasCleanDisk (state S.Store conn.new)
+        → IfOk result
+        (λ found. (s : State) × HoldsState (state S.Store conn.new) s × LeavesStates (state S.Store conn.new) s s
+        × IsZoneIn s found.largest × Remembers s found.history) }
     ensures good { HasCleanDisk (state S.Store conn.new) → IfErr result (λ e. (s : State) → HoldsState (state S.Store conn.old) s → IsFailure e) }
     ensures named { IfErr result IsOfRows }
     ensures asks { AsksOnly (state S.Store conn.old) (state S.Store conn.new) result }
@@ -332,7 +339,10 @@ pub(crate) fn check_state<S: Alter>(
     conn: &mut Connection<S>,
 ) -> Result<Checked, StoreFault>
     requires { conn.old.in_transaction ≡ false }
-    ensures found { HasCleanDisk (state S.Store conn.new) → IfOk result (λ found. (s : State) × HoldsState (state S.Store conn.new) s × LeavesStates (state S.Store conn.new) s s × IsZoneIn s found.largest × Remembers s found.history) }
+    ensures found { HasCleanDisk (state S.Store conn.new)
+        → IfOk result
+        (λ found. (s : State) × HoldsState (state S.Store conn.new) s × LeavesStates (state S.Store conn.new) s s
+        × IsZoneIn s found.largest × Remembers s found.history) }
     ensures good { HasCleanDisk (state S.Store conn.new) → IfErr result (λ e. (s : State) → HoldsState (state S.Store conn.old) s → IsFailure e) }
     ensures wrong { HasCleanDisk (state S.Store conn.new) → result ≡ Err WrongVersion → ¬ HasVersion (state S.Store conn.old) }
     ensures bad { HasCleanDisk (state S.Store conn.new) → result ≡ Err BadRow → HasVersion (state S.Store conn.old) }

@@ -62,7 +62,8 @@ pub(crate) fn held_text<S: Alter>(
     origin: &Name,
 ) -> Result<Option<String>, StoreFault>
     ensures text { IfOk result (λ found. IfSome found (λ text. string_bytes text ≡ name_text origin.now)) }
-    ensures found { HasCleanDisk (state S.Store conn.new) → IfOk result (λ found. (s : State) → HoldsState (state S.Store conn.old) s → is_some found ≡ is_some (s.zones origin.now)) }
+    ensures found { HasCleanDisk (state S.Store conn.new)
+        → IfOk result (λ found. (s : State) → HoldsState (state S.Store conn.old) s → is_some found ≡ is_some (s.zones origin.now)) }
     ensures asks { AsksOnly (state S.Store conn.old) (state S.Store conn.new) result }
     ensures ended { OnOk result (conn.new.in_transaction ≡ false) }
     ensures named { IfErr result IsFailure }
@@ -80,7 +81,10 @@ pub(crate) fn zone_rows<S: Alter>(
     conn: &mut Connection<S>,
     origin: &Name,
 ) -> Result<Option<Vec<RecordRow>>, StoreFault>
-    ensures found { HasCleanDisk (state S.Store conn.new) → IfOk result (λ found. (s : State) → HoldsState (state S.Store conn.old) s → Finds (λ all rows. IsPermutation (rows_of (name_text origin.now) all.records) rows.items) s origin.now found) }
+    ensures found { HasCleanDisk (state S.Store conn.new)
+        → IfOk result
+        (λ found. (s : State) → HoldsState (state S.Store conn.old) s
+        → Finds (λ all rows. IsPermutation (rows_of (name_text origin.now) all.records) rows.items) s origin.now found) }
     ensures asks { AsksOnly (state S.Store conn.old) (state S.Store conn.new) result }
     ensures ended { OnOk result (conn.new.in_transaction ≡ false) }
     ensures named { IfErr result IsFailure }
@@ -99,7 +103,10 @@ pub(crate) fn part_rows<S: Alter>(
     origin: &Name,
     names: &[Name],
 ) -> Result<Option<Vec<RecordRow>>, StoreFault>
-    ensures found { HasCleanDisk (state S.Store conn.new) → IfOk result (λ found. (s : State) → HoldsState (state S.Store conn.old) s → Finds (λ all rows. AreRowsAt (name_text origin.now) (map key_of (origin.now ∷ names.now)) all.records rows.items) s origin.now found) }
+    ensures found { HasCleanDisk (state S.Store conn.new)
+        → IfOk result
+        (λ found. (s : State) → HoldsState (state S.Store conn.old) s
+        → Finds (λ all rows. AreRowsAt (name_text origin.now) (map key_of (origin.now ∷ names.now)) all.records rows.items) s origin.now found) }
     ensures asks { AsksOnly (state S.Store conn.old) (state S.Store conn.new) result }
 {
     check_alone(conn)?;
@@ -117,9 +124,14 @@ fn rows_at<S: Alter>(
     names: &[Name],
 ) -> Result<Option<Vec<RecordRow>>, StoreFault>
     requires { conn.old.in_transaction ≡ false }
-    ensures found { HasCleanDisk (state S.Store conn.new) → IfOk result (λ found. (all : RowsOf) → Holds (state S.Store conn.old) all → Stands (records_at text.now (key_of origin.now) all.records) (λ rows. AreRowsAt text.now (map key_of (origin.now ∷ names.now)) all.records rows.items) found) }
+    ensures found { HasCleanDisk (state S.Store conn.new)
+        → IfOk result
+        (λ found. (all : RowsOf) → Holds (state S.Store conn.old) all
+        → Stands (records_at text.now (key_of origin.now) all.records)
+        (λ rows. AreRowsAt text.now (map key_of (origin.now ∷ names.now)) all.records rows.items) found) }
     ensures asks { OnlyAsks (state S.Store conn.old) (state S.Store conn.new) }
-    ensures only { HasCleanDisk (state S.Store conn.new) → OnOk result ((rows : RowsOf) → Holds (state S.Store conn.new) rows → Holds (state S.Store conn.old) rows) }
+    ensures only { HasCleanDisk (state S.Store conn.new)
+        → OnOk result ((rows : RowsOf) → Holds (state S.Store conn.new) rows → Holds (state S.Store conn.old) rows) }
 {
     let mut rows = records_at(alloc, conn, text, origin.key())?;
     // Each zone has an SOA at its origin.
@@ -140,7 +152,10 @@ pub(crate) fn subtree_rows<S: Alter>(
     origin: &Name,
     top: &Name,
 ) -> Result<Option<Vec<RecordRow>>, StoreFault>
-    ensures found { HasCleanDisk (state S.Store conn.new) → IfOk result (λ found. (s : State) → HoldsState (state S.Store conn.old) s → Finds (λ all rows. IsPermutation (rows_within (name_text origin.now) top.now all.records) rows.items) s origin.now found) }
+    ensures found { HasCleanDisk (state S.Store conn.new)
+        → IfOk result
+        (λ found. (s : State) → HoldsState (state S.Store conn.old) s
+        → Finds (λ all rows. IsPermutation (rows_within (name_text origin.now) top.now all.records) rows.items) s origin.now found) }
     ensures asks { AsksOnly (state S.Store conn.old) (state S.Store conn.new) result }
 {
     let Some(text) = held_text(alloc, conn, origin)? else {
@@ -158,7 +173,8 @@ fn rows_below<S: Alter>(
     top: &Name,
 ) -> Result<Vec<RecordRow>, StoreFault>
     requires { conn.old.in_transaction ≡ false }
-    ensures found { HasCleanDisk (state S.Store conn.new) → IfOk result (λ rows. (all : RowsOf) → Holds (state S.Store conn.old) all → IsPermutation (rows_within text.now top.now all.records) rows.items) }
+    ensures found { HasCleanDisk (state S.Store conn.new)
+        → IfOk result (λ rows. (all : RowsOf) → Holds (state S.Store conn.old) all → IsPermutation (rows_within text.now top.now all.records) rows.items) }
     ensures asks { AsksOnly (state S.Store conn.old) (state S.Store conn.new) result }
 {
     let range = top.key_range(alloc)?;
@@ -174,7 +190,10 @@ pub(crate) fn change_rows<S: Alter>(
     conn: &mut Connection<S>,
     origin: &Name,
 ) -> Result<Option<Vec<ChangeRow>>, StoreFault>
-    ensures found { HasCleanDisk (state S.Store conn.new) → IfOk result (λ found. (s : State) → HoldsState (state S.Store conn.old) s → Finds (λ all rows. IsPermutation (changes_in (name_text origin.now) all.changes) rows.items) s origin.now found) }
+    ensures found { HasCleanDisk (state S.Store conn.new)
+        → IfOk result
+        (λ found. (s : State) → HoldsState (state S.Store conn.old) s
+        → Finds (λ all rows. IsPermutation (changes_in (name_text origin.now) all.changes) rows.items) s origin.now found) }
     ensures asks { AsksOnly (state S.Store conn.old) (state S.Store conn.new) result }
     ensures named { IfErr result IsFailure }
 {
@@ -207,7 +226,12 @@ pub(crate) fn change_rows_behind<S: Alter>(
     count: u32,
     most: u32,
 ) -> Result<Option<Vec<ChangeRow>>, StoreFault>
-    ensures found { HasCleanDisk (state S.Store conn.new) → IfOk result (λ found. (s : State) → HoldsState (state S.Store conn.old) s → Finds (λ all rows. IsPermutation (changes_in_between (name_text origin.now) (pos (1 + count)) (pos (1 + count + most)) all.changes) rows.items) s origin.now found) }
+    ensures found { HasCleanDisk (state S.Store conn.new)
+        → IfOk result
+        (λ found. (s : State) → HoldsState (state S.Store conn.old) s
+        → Finds
+        (λ all rows. IsPermutation
+        (changes_in_between (name_text origin.now) (pos (1 + count)) (pos (1 + count + most)) all.changes) rows.items) s origin.now found) }
     ensures asks { AsksOnly (state S.Store conn.old) (state S.Store conn.new) result }
 {
     let Some(text) = held_text(alloc, conn, origin)? else {

@@ -34,7 +34,8 @@ pub(crate) fn is_held<S: Alter>(
     conn: &mut Connection<S>,
     origin: &Name,
 ) -> Result<bool, StoreFault>
-    ensures answer { HasCleanDisk (state S.Store conn.new) → IfOk result (λ found. (s : State) → HoldsState (state S.Store conn.old) s → found ≡ is_some (s.zones origin.now)) }
+    ensures answer { HasCleanDisk (state S.Store conn.new)
+        → IfOk result (λ found. (s : State) → HoldsState (state S.Store conn.old) s → found ≡ is_some (s.zones origin.now)) }
     ensures asks { AsksOnly (state S.Store conn.old) (state S.Store conn.new) result }
 {
     let text = held_text(alloc, conn, origin)?;
@@ -48,7 +49,8 @@ pub(crate) fn zone_at<S: Alter>(
     origin: &Name,
 ) -> Result<Option<Zone>, StoreFault>
     ensures origin { IfOk result (λ found. IfSome found (λ zone. zone.origin ≡ origin.now)) }
-    ensures answer { HasCleanDisk (state S.Store conn.new) → IfOk result (λ zone. (s : State) → HoldsState (state S.Store conn.old) s → zone ≡ zone_at s origin.now) }
+    ensures answer { HasCleanDisk (state S.Store conn.new)
+        → IfOk result (λ zone. (s : State) → HoldsState (state S.Store conn.old) s → zone ≡ zone_at s origin.now) }
     ensures asks { AsksOnly (state S.Store conn.old) (state S.Store conn.new) result }
     ensures ended { OnOk result (conn.new.in_transaction ≡ false) }
     ensures named { IfErr result IsFailure }
@@ -67,7 +69,8 @@ pub(crate) fn part_at<S: Alter>(
     origin: &Name,
     names: &[Name],
 ) -> Result<Option<Zone>, StoreFault>
-    ensures answer { HasCleanDisk (state S.Store conn.new) → IfOk result (λ zone. (s : State) → HoldsState (state S.Store conn.old) s → zone ≡ part_at s origin.now names.now) }
+    ensures answer { HasCleanDisk (state S.Store conn.new)
+        → IfOk result (λ zone. (s : State) → HoldsState (state S.Store conn.old) s → zone ≡ part_at s origin.now names.now) }
     ensures asks { AsksOnly (state S.Store conn.old) (state S.Store conn.new) result }
 {
     let Some(rows) = part_rows(alloc, conn, origin, names)? else {
@@ -84,7 +87,9 @@ pub(crate) fn subtree_at<S: Alter>(
     origin: &Name,
     top: &Name,
 ) -> Result<Option<Vec<Record>>, StoreFault>
-    ensures answer { HasCleanDisk (state S.Store conn.new) → IfOk result (λ records. (s : State) → HoldsState (state S.Store conn.old) s → option_map (λ rs. rs.items) records ≡ subtree_at s origin.now top.now) }
+    ensures answer { HasCleanDisk (state S.Store conn.new)
+        → IfOk result
+        (λ records. (s : State) → HoldsState (state S.Store conn.old) s → option_map (λ rs. rs.items) records ≡ subtree_at s origin.now top.now) }
     ensures order { IfOk result (λ records. IfSome records (λ rs. InOrder rs.items)) }
     ensures asks { AsksOnly (state S.Store conn.old) (state S.Store conn.new) result }
 {
@@ -101,7 +106,9 @@ pub(crate) fn changes_at<S: Alter>(
     conn: &mut Connection<S>,
     origin: &Name,
 ) -> Result<Option<Vec<Change>>, StoreFault>
-    ensures answer { HasCleanDisk (state S.Store conn.new) → IfOk result (λ changes. (s : State) → HoldsState (state S.Store conn.old) s → option_map (λ cs. map change_in cs.items) changes ≡ changes_at s origin.now) }
+    ensures answer { HasCleanDisk (state S.Store conn.new)
+        → IfOk result
+        (λ changes. (s : State) → HoldsState (state S.Store conn.old) s → option_map (λ cs. map change_in cs.items) changes ≡ changes_at s origin.now) }
     ensures asks { AsksOnly (state S.Store conn.old) (state S.Store conn.new) result }
     ensures named { IfErr result IsFailure }
 {
@@ -120,7 +127,10 @@ pub(crate) fn changes_behind<S: Alter>(
     count: u32,
     most: u32,
 ) -> Result<Option<Vec<Change>>, StoreFault>
-    ensures answer { HasCleanDisk (state S.Store conn.new) → IfOk result (λ changes. (s : State) → HoldsState (state S.Store conn.old) s → option_map (λ cs. map change_in cs.items) changes ≡ option_map (λ cs. take most (drop count cs)) (changes_at s origin.now)) }
+    ensures answer { HasCleanDisk (state S.Store conn.new)
+        → IfOk result
+        (λ changes. (s : State) → HoldsState (state S.Store conn.old) s
+        → option_map (λ cs. map change_in cs.items) changes ≡ option_map (λ cs. take most (drop count cs)) (changes_at s origin.now)) }
     ensures asks { AsksOnly (state S.Store conn.old) (state S.Store conn.new) result }
 {
     let Some(rows) = change_rows_behind(alloc, conn, origin, count, most)? else {
@@ -137,7 +147,8 @@ pub(crate) fn receipt_at<S: Alter>(
     caller: &Identifier,
     id: &Identifier,
 ) -> Result<Option<Receipt>, StoreFault>
-    ensures answer { HasCleanDisk (state S.Store conn.new) → IfOk result (λ receipt. (s : State) → HoldsState (state S.Store conn.old) s → receipt ≡ s.receipts caller.now id.now) }
+    ensures answer { HasCleanDisk (state S.Store conn.new)
+        → IfOk result (λ receipt. (s : State) → HoldsState (state S.Store conn.old) s → receipt ≡ s.receipts caller.now id.now) }
     ensures asks { AsksOnly (state S.Store conn.old) (state S.Store conn.new) result }
 {
     check_alone(conn)?;
@@ -151,7 +162,8 @@ pub(crate) fn origins<S: Alter>(
     alloc: Global,
     conn: &mut Connection<S>,
 ) -> Result<Vec<Name>, StoreFault>
-    ensures answer { HasCleanDisk (state S.Store conn.new) → IfOk result (λ names. (s : State) → HoldsState (state S.Store conn.old) s → AreOriginsOf s names.items) }
+    ensures answer { HasCleanDisk (state S.Store conn.new)
+        → IfOk result (λ names. (s : State) → HoldsState (state S.Store conn.old) s → AreOriginsOf s names.items) }
     ensures asks { AsksOnly (state S.Store conn.old) (state S.Store conn.new) result }
     ensures named { IfErr result IsFailure }
 {
@@ -165,7 +177,8 @@ pub(crate) fn receipts<S: Alter>(
     alloc: Global,
     conn: &mut Connection<S>,
 ) -> Result<Vec<KeptReceipt>, StoreFault>
-    ensures answer { HasCleanDisk (state S.Store conn.new) → IfOk result (λ kept. (s : State) → HoldsState (state S.Store conn.old) s → AreReceiptsOf s kept.items) }
+    ensures answer { HasCleanDisk (state S.Store conn.new)
+        → IfOk result (λ kept. (s : State) → HoldsState (state S.Store conn.old) s → AreReceiptsOf s kept.items) }
     ensures asks { AsksOnly (state S.Store conn.old) (state S.Store conn.new) result }
     ensures named { IfErr result IsFailure }
 {

@@ -29,7 +29,8 @@ pub(crate) fn put_zone<S: Alter>(
     conn: &mut Connection<S>,
     zone: &Zone,
 ) -> Result<(), StoreFault>
-    ensures answer { HasCleanDisk (state S.Store conn.new) → (s : State) → HoldsState (state S.Store conn.old) s → Gives (λ _. zone.now) result (if_free (s.zones zone.now.origin) zone.now) }
+    ensures answer { HasCleanDisk (state S.Store conn.new) → (s : State) → HoldsState (state S.Store conn.old) s
+        → Gives (λ _. zone.now) result (if_free (s.zones zone.now.origin) zone.now) }
     ensures turns { Turns (state S.Store conn.old) (state S.Store conn.new) result (λ s. with_imported s (if_free (s.zones zone.now.origin) zone.now)) }
 {
     let None = held_text(alloc, conn, zone.origin())? else {
@@ -46,7 +47,8 @@ pub(crate) fn import<S: Alter>(
     origin: Name,
     records: Vec<Record>,
 ) -> Result<Zone, StoreFault>
-    ensures answer { HasCleanDisk (state S.Store conn.new) → (s : State) → HoldsState (state S.Store conn.old) s → Gives (λ zone. zone) result (imported s origin records.items) }
+    ensures answer { HasCleanDisk (state S.Store conn.new) → (s : State) → HoldsState (state S.Store conn.old) s
+        → Gives (λ zone. zone) result (imported s origin records.items) }
     ensures turns { Turns (state S.Store conn.old) (state S.Store conn.new) result (λ s. with_imported s (imported s origin records.items)) }
 {
     let zone = Zone::build(alloc, origin, records)?;
@@ -69,8 +71,12 @@ fn zone_before<S: Alter>(
 ) -> Result<Zone, StoreFault>
     ensures origin { IfOk result (λ old. old.origin ≡ zone.now.origin) }
     ensures differs { IfOk result (λ old. is_same old.records zone.now.records ≡ false) }
-    ensures held { HasCleanDisk (state S.Store conn.new) → IfOk result (λ old. (s : State) → HoldsState (state S.Store conn.old) s → (held : Held) × (s.zones zone.now.origin ≡ Some held) × (held.records ≡ old.records)) }
-    ensures answer { HasCleanDisk (state S.Store conn.new) → (s : State) → HoldsState (state S.Store conn.old) s → Gives (λ _. zone.now) result (if_later (s.zones zone.now.origin) zone.now) }
+    ensures held { HasCleanDisk (state S.Store conn.new)
+        → IfOk result
+        (λ old. (s : State) → HoldsState (state S.Store conn.old) s
+        → (held : Held) × (s.zones zone.now.origin ≡ Some held) × (held.records ≡ old.records)) }
+    ensures answer { HasCleanDisk (state S.Store conn.new) → (s : State) → HoldsState (state S.Store conn.old) s
+        → Gives (λ _. zone.now) result (if_later (s.zones zone.now.origin) zone.now) }
     ensures asks { AsksOnly (state S.Store conn.old) (state S.Store conn.new) result }
 {
     let Some(old) = zone_at(alloc, conn, zone.origin())? else {
@@ -89,7 +95,8 @@ pub(crate) fn take_place<S: Alter>(
     conn: &mut Connection<S>,
     zone: &Zone,
 ) -> Result<(), StoreFault>
-    ensures answer { HasCleanDisk (state S.Store conn.new) → (s : State) → HoldsState (state S.Store conn.old) s → Gives (λ _. zone.now) result (if_later (s.zones zone.now.origin) zone.now) }
+    ensures answer { HasCleanDisk (state S.Store conn.new) → (s : State) → HoldsState (state S.Store conn.old) s
+        → Gives (λ _. zone.now) result (if_later (s.zones zone.now.origin) zone.now) }
     ensures turns { Turns (state S.Store conn.old) (state S.Store conn.new) result (λ s. with_replaced s (if_later (s.zones zone.now.origin) zone.now)) }
 {
     let old = zone_before(alloc, conn, zone)?;
@@ -105,7 +112,8 @@ pub(crate) fn replace<S: Alter>(
     origin: Name,
     records: Vec<Record>,
 ) -> Result<Zone, StoreFault>
-    ensures answer { HasCleanDisk (state S.Store conn.new) → (s : State) → HoldsState (state S.Store conn.old) s → Gives (λ zone. zone) result (replaced s origin records.items) }
+    ensures answer { HasCleanDisk (state S.Store conn.new) → (s : State) → HoldsState (state S.Store conn.old) s
+        → Gives (λ zone. zone) result (replaced s origin records.items) }
     ensures turns { Turns (state S.Store conn.old) (state S.Store conn.new) result (λ s. with_replaced s (replaced s origin records.items)) }
 {
     let zone = Zone::build(alloc, origin, records)?;
@@ -119,7 +127,8 @@ pub(crate) fn export<S: Alter>(
     conn: &mut Connection<S>,
     origin: &Name,
 ) -> Result<Vec<Record>, StoreFault>
-    ensures answer { HasCleanDisk (state S.Store conn.new) → (s : State) → HoldsState (state S.Store conn.old) s → Gives (λ records. records.items) result (exported (s.zones origin.now)) }
+    ensures answer { HasCleanDisk (state S.Store conn.new) → (s : State) → HoldsState (state S.Store conn.old) s
+        → Gives (λ records. records.items) result (exported (s.zones origin.now)) }
     ensures asks { AsksOnly (state S.Store conn.old) (state S.Store conn.new) result }
 {
     let Some(rows) = zone_rows(alloc, conn, origin)? else {

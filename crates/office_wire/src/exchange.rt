@@ -73,7 +73,10 @@ impl<'a> Service<'a> {
         body: &[u8],
     ) -> Response
         requires { IsUtf8 heading.now.target.now }
-        ensures answers { T.is_honest table.new → (s : State) → T.holds table.old s × AreBookmarks self.now.policy.now s bookmarks.old → (h : RequestHead) → IsAsked heading.now h → (t : State) × (T.holds table.new t × AreBookmarks self.now.policy.now t bookmarks.new) × Answers self.now.policy.now (standing s (T.failures table.old)) (call_of h body.now) result (standing t (T.failures table.new)) }
+        ensures answers { T.is_honest table.new → (s : State) → T.holds table.old s × AreBookmarks self.now.policy.now s bookmarks.old → (h : RequestHead)
+            → IsAsked heading.now h
+            → (t : State) × (T.holds table.new t × AreBookmarks self.now.policy.now t bookmarks.new)
+            × Answers self.now.policy.now (standing s (T.failures table.old)) (call_of h body.now) result (standing t (T.failures table.new)) }
         ensures honest { T.is_honest table.new → T.is_honest table.old }
     {
         match read_call(self.alloc, self.routes, heading, body) {
@@ -104,7 +107,11 @@ impl<'a> Service<'a> {
         servfails: &mut Servfails,
     ) -> bool
         requires { IsUtf8 heading.now.target.now }
-        ensures answered { T.is_honest table.new → (s : State) → T.holds table.old s × AreBookmarks self.now.policy.now s bookmarks.old → (h : RequestHead) → IsAsked heading.now h → (t : State) × (T.holds table.new t × AreBookmarks self.now.policy.now t bookmarks.new) × IsReplied self.now.policy.now (mark s (T.failures table.old) servfails.old) (call_of h body.now) heading.now.method heading.now.closes result out.new (mark t (T.failures table.new) servfails.new) }
+        ensures answered { T.is_honest table.new → (s : State) → T.holds table.old s × AreBookmarks self.now.policy.now s bookmarks.old → (h : RequestHead)
+            → IsAsked heading.now h
+            → (t : State) × (T.holds table.new t × AreBookmarks self.now.policy.now t bookmarks.new)
+            × IsReplied self.now.policy.now (mark s (T.failures table.old) servfails.old)
+            (call_of h body.now) heading.now.method heading.now.closes result out.new (mark t (T.failures table.new) servfails.new) }
         ensures honest { T.is_honest table.new → T.is_honest table.old }
     {
         let response = self.respond(table, bookmarks, heading, body);
@@ -129,7 +136,10 @@ impl<'a> Service<'a> {
     ) -> Progress
         requires { length spans.old ≡ 5462 }
         ensures stands { Stands pending.now result }
-        ensures answered { T.is_honest table.new → (s : State) → T.holds table.old s × AreBookmarks self.now.policy.now s bookmarks.old → (t : State) × (T.holds table.new t × AreBookmarks self.now.policy.now t bookmarks.new) × IsProgress self.now.policy.now (mark s (T.failures table.old) servfails.old) pending.now result out.new (mark t (T.failures table.new) servfails.new) }
+        ensures answered { T.is_honest table.new → (s : State) → T.holds table.old s × AreBookmarks self.now.policy.now s bookmarks.old
+            → (t : State) × (T.holds table.new t × AreBookmarks self.now.policy.now t bookmarks.new)
+            × IsProgress self.now.policy.now (mark s (T.failures table.old) servfails.old) pending.now result out.new
+            (mark t (T.failures table.new) servfails.new) }
         ensures honest { T.is_honest table.new → T.is_honest table.old }
     {
         match framing_of(pending, spans) {
@@ -170,7 +180,12 @@ impl<'a> Service<'a> {
     ) -> Result<Stage, DeviceFailed>
         requires { length spans.old ≡ 5462 }
         ensures idle { IsIdle result buffer.new }
-        ensures served { T.is_honest table.new → (s : State) → T.holds table.old s × AreBookmarks self.now.policy.now s bookmarks.old → (t : State) × (T.holds table.new t × AreBookmarks self.now.policy.now t bookmarks.new) × IsServed self.now.policy.now (mark s (T.failures table.old) servfails.old) buffer.old result buffer.new (moment (W.contents writer.old) (S.events reader.old writer.old)) (moment (W.contents writer.new) (S.events reader.new writer.new)) (D.asked deadline.old) (D.asked deadline.new) (mark t (T.failures table.new) servfails.new) }
+        ensures served { T.is_honest table.new → (s : State) → T.holds table.old s × AreBookmarks self.now.policy.now s bookmarks.old
+            → (t : State) × (T.holds table.new t × AreBookmarks self.now.policy.now t bookmarks.new)
+            × IsServed self.now.policy.now (mark s (T.failures table.old) servfails.old) buffer.old result buffer.new
+            (moment (W.contents writer.old) (S.events reader.old writer.old))
+            (moment (W.contents writer.new) (S.events reader.new writer.new)) (D.asked deadline.old) (D.asked deadline.new)
+            (mark t (T.failures table.new) servfails.new) }
         ensures honest { T.is_honest table.new → T.is_honest table.old }
         ensures passed { CountsHalt result (D.passed deadline.old) (D.passed deadline.new) }
         ensures same { OnOk result (W.failures writer.new ≡ W.failures writer.old) }

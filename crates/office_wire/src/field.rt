@@ -22,7 +22,8 @@ pub(crate) fn next_value<'b, 'h>(
     name: &[u8],
 ) -> Option<(&'b [u8], &'h [HeaderSpan])>
     requires { All (IsHeaderWithin (length head.now)) fields.now }
-    ensures found { MatchOption result (values_of name.now (map (header_bytes head.now) fields.now) ≡ []) (λ r. values_of name.now (map (header_bytes head.now) fields.now) ≡ r.0.now ∷ values_of name.now (map (header_bytes head.now) r.1.now)) }
+    ensures found { MatchOption result (values_of name.now (map (header_bytes head.now) fields.now) ≡ [])
+        (λ r. values_of name.now (map (header_bytes head.now) fields.now) ≡ r.0.now ∷ values_of name.now (map (header_bytes head.now) r.1.now)) }
     ensures within { IfSome result (λ r. All (IsHeaderWithin (length head.now)) r.1.now) }
     ensures fewer { IfSome result (λ r. length r.1.now < length fields.now) }
 {

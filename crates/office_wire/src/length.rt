@@ -62,7 +62,9 @@ fn body_up_to(digits: &[u8]) -> Ask
 /// What is read behind a head with these fields.
 pub(crate) fn asked(method: Method, head: &[u8], fields: &[HeaderSpan]) -> Ask
     requires { All (IsHeaderWithin (length head.now)) fields.now }
-    ensures value { result ≡ ask_by method (length fields.now) (is_any (values_of (codes "transfer-encoding") (map (header_bytes head.now) fields.now))) (values_of (codes "content-length") (map (header_bytes head.now) fields.now)) }
+    ensures value { result
+        ≡ ask_by method (length fields.now) (is_any (values_of (codes "transfer-encoding") (map (header_bytes head.now) fields.now)))
+        (values_of (codes "content-length") (map (header_bytes head.now) fields.now)) }
     ensures small { BodyUpTo 65536 result }
 {
     if fields.len() > FIELDS_MAX {

@@ -78,8 +78,13 @@ impl RequestBuffer {
         writer: &mut W,
     ) -> Result<usize, DeviceFailed>
         requires { length self.old < 81920 }
-        ensures got { IfOk result (λ n. (got : List ℕ) × (self.new ≡ self.old ++ got) × (length got ≡ n) × Consumes (R.remaining reader.old) (R.remaining reader.new) got × (n ≡ 0 → IsAtEnd (R.remaining reader.new)) × Follows (S.events reader.old writer.old) (S.events reader.new writer.new) (read got ∷ [])) }
-        ensures kept { OnErr result ((self.new ≡ self.old) × Keeps (R.remaining reader.old) (R.remaining reader.new) × Follows (S.events reader.old writer.old) (S.events reader.new writer.new) (read [] ∷ [])) }
+        ensures got { IfOk result
+            (λ n. (got : List ℕ) × (self.new ≡ self.old ++ got) × (length got ≡ n)
+            × Consumes (R.remaining reader.old) (R.remaining reader.new) got × (n ≡ 0 → IsAtEnd (R.remaining reader.new))
+            × Follows (S.events reader.old writer.old) (S.events reader.new writer.new) (read got ∷ [])) }
+        ensures kept { OnErr result
+            ((self.new ≡ self.old) × Keeps (R.remaining reader.old) (R.remaining reader.new)
+            × Follows (S.events reader.old writer.old) (S.events reader.new writer.new) (read [] ∷ [])) }
         ensures fine { OnOk result (R.failures reader.new ≡ R.failures reader.old) }
         ensures failed { OnErr result (R.failures reader.new ≡ R.failures reader.old + 1) }
         ensures same { W.contents writer.new ≡ W.contents writer.old }

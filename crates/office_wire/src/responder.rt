@@ -57,7 +57,12 @@ impl<'a> Responder<'a> {
         servfails: &mut Servfails,
         deadline: &mut D,
     ) -> Result<Ending, ServeFault>
-        ensures run { T.is_honest table.new → (s : State) → T.holds table.old s × AreBookmarks self.old.policy.now s self.old.bookmarks → (turns : List Turn) × (t : State) × (T.holds table.new t × AreBookmarks self.old.policy.now t self.new.bookmarks) × Leads self.old.policy.now (mark s (T.failures table.old) servfails.old) turns (mark t (T.failures table.new) servfails.new) × IsEnded turns result (R.remaining reader.old) (R.remaining reader.new) (W.contents writer.old) (W.contents writer.new) × IsServedInTurn turns (S.events reader.old writer.old) (S.events reader.new writer.new) × CountsAsked turns result (D.asked deadline.old) (D.asked deadline.new) }
+        ensures run { T.is_honest table.new → (s : State) → T.holds table.old s × AreBookmarks self.old.policy.now s self.old.bookmarks
+            → (turns : List Turn) × (t : State) × (T.holds table.new t × AreBookmarks self.old.policy.now t self.new.bookmarks)
+            × Leads self.old.policy.now (mark s (T.failures table.old) servfails.old) turns (mark t (T.failures table.new) servfails.new)
+            × IsEnded turns result (R.remaining reader.old) (R.remaining reader.new) (W.contents writer.old) (W.contents writer.new)
+            × IsServedInTurn turns (S.events reader.old writer.old) (S.events reader.new writer.new)
+            × CountsAsked turns result (D.asked deadline.old) (D.asked deadline.new) }
         ensures policy { self.new.policy ≡ self.old.policy }
         ensures honest { T.is_honest table.new → T.is_honest table.old }
         ensures passed { CountsPassed result (D.passed deadline.old) (D.passed deadline.new) }
@@ -90,7 +95,13 @@ impl<'a> Responder<'a> {
         deadline: &mut D,
     ) -> Served
         // Each response goes out whole before the next read, so a peer that waits for it before it sends more gets it.
-        ensures run { T.is_honest table.new → (s : State) → T.holds table.old s × AreBookmarks self.old.policy.now s self.old.bookmarks → (turns : List Turn) × (t : State) × (T.holds table.new t × AreBookmarks self.old.policy.now t self.new.bookmarks) × Run self.old.policy.now (standing s (T.failures table.old)) turns (standing t (T.failures table.new)) × IsEnded turns result.ended (R.remaining reader.old) (R.remaining reader.new) (W.contents writer.old) (W.contents writer.new) × ArePromised self.old.policy.now s turns t × AreNoted (servfails turns) result.servfails × CountsAsked turns result.ended (D.asked deadline.old) (D.asked deadline.new) × IsServedInTurn turns (S.events reader.old writer.old) (S.events reader.new writer.new) }
+        ensures run { T.is_honest table.new → (s : State) → T.holds table.old s × AreBookmarks self.old.policy.now s self.old.bookmarks
+            → (turns : List Turn) × (t : State) × (T.holds table.new t × AreBookmarks self.old.policy.now t self.new.bookmarks)
+            × Run self.old.policy.now (standing s (T.failures table.old)) turns (standing t (T.failures table.new))
+            × IsEnded turns result.ended (R.remaining reader.old) (R.remaining reader.new) (W.contents writer.old) (W.contents writer.new)
+            × ArePromised self.old.policy.now s turns t × AreNoted (servfails turns) result.servfails
+            × CountsAsked turns result.ended (D.asked deadline.old) (D.asked deadline.new)
+            × IsServedInTurn turns (S.events reader.old writer.old) (S.events reader.new writer.new) }
         ensures policy { self.new.policy ≡ self.old.policy }
         ensures honest { T.is_honest table.new → T.is_honest table.old }
         // No further request is answered where the deadline has passed, and only there.
@@ -118,7 +129,12 @@ impl<'a> Responder<'a> {
         deadline: &mut D,
     ) -> Served
         // What is noted is noted of the turns of the stream.
-        ensures run { T.is_honest table.new → (s : State) → T.holds table.old s × AreBookmarks self.old.policy.now s self.old.bookmarks → (turns : List Turn) × (t : State) × (T.holds table.new t × AreBookmarks self.old.policy.now t self.new.bookmarks) × Run self.old.policy.now (standing s (T.failures table.old)) turns (standing t (T.failures table.new)) × IsEnded turns result.ended (R.remaining reader.old) (R.remaining reader.new) (W.contents writer.old) (W.contents writer.new) × ArePromised self.old.policy.now s turns t × AreNoted (servfails turns) result.servfails × CountsAsked turns result.ended (D.asked deadline.old) (D.asked deadline.new) }
+        ensures run { T.is_honest table.new → (s : State) → T.holds table.old s × AreBookmarks self.old.policy.now s self.old.bookmarks
+            → (turns : List Turn) × (t : State) × (T.holds table.new t × AreBookmarks self.old.policy.now t self.new.bookmarks)
+            × Run self.old.policy.now (standing s (T.failures table.old)) turns (standing t (T.failures table.new))
+            × IsEnded turns result.ended (R.remaining reader.old) (R.remaining reader.new) (W.contents writer.old) (W.contents writer.new)
+            × ArePromised self.old.policy.now s turns t × AreNoted (servfails turns) result.servfails
+            × CountsAsked turns result.ended (D.asked deadline.old) (D.asked deadline.new) }
         ensures policy { self.new.policy ≡ self.old.policy }
         ensures honest { T.is_honest table.new → T.is_honest table.old }
         // No further request is answered where the deadline has passed, and only there.
@@ -141,7 +157,11 @@ fn serve_whole<R: Source, W: Sink, T: ZoneTable, L: Ledger>(
     requires name { blank.name ≡ L.name }
     requires parts { blank.parts ≡ L.parts }
     requires some { 0 < blank.parts }
-    ensures run { T.is_honest table.new → (s : State) → T.holds table.old s → (turns : List Turn) × (t : State) × T.holds table.new t × Run policy.now (standing s (T.failures table.old)) turns (standing t (T.failures table.new)) × IsDone turns result (R.remaining reader.old) (R.remaining reader.new) (W.contents writer.old) (W.contents writer.new) × ArePromised policy.now s turns t }
+    ensures run { T.is_honest table.new → (s : State) → T.holds table.old s
+        → (turns : List Turn) × (t : State) × T.holds table.new t
+        × Run policy.now (standing s (T.failures table.old)) turns (standing t (T.failures table.new))
+        × IsDone turns result (R.remaining reader.old) (R.remaining reader.new) (W.contents writer.old) (W.contents writer.new)
+        × ArePromised policy.now s turns t }
     ensures honest { T.is_honest table.new → T.is_honest table.old }
     ensures devices { CountsServed result (R.failures reader.old) (R.failures reader.new) (W.failures writer.old) (W.failures writer.new) }
 {
@@ -175,7 +195,11 @@ pub fn serve<R: Source, W: Sink, T: ZoneTable>(
 ) -> Result<(), ServeFault>
     // Where the store has kept its word, there are turns that take the table from how it stood to how it stands: they are the
     // requests of the stream, their responses are what was written, and what the office promises of calls holds of theirs.
-    ensures run { T.is_honest table.new → (s : State) → T.holds table.old s → (turns : List Turn) × (t : State) × T.holds table.new t × Run policy.now (standing s (T.failures table.old)) turns (standing t (T.failures table.new)) × IsDone turns result (R.remaining reader.old) (R.remaining reader.new) (W.contents writer.old) (W.contents writer.new) × ArePromised policy.now s turns t }
+    ensures run { T.is_honest table.new → (s : State) → T.holds table.old s
+        → (turns : List Turn) × (t : State) × T.holds table.new t
+        × Run policy.now (standing s (T.failures table.old)) turns (standing t (T.failures table.new))
+        × IsDone turns result (R.remaining reader.old) (R.remaining reader.new) (W.contents writer.old) (W.contents writer.new)
+        × ArePromised policy.now s turns t }
     // A store that has kept its word had kept it before.
     ensures honest { T.is_honest table.new → T.is_honest table.old }
     // A fault of a device is reported only if the device failed in this call, and it failed once. `Ok` means that neither failed.

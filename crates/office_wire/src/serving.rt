@@ -44,7 +44,8 @@ fn finish<S: Stream<R, W>, R: Source, W: Sink>(
 ) -> Result<(), DeviceFailed>
     requires spans { length spans.old ≡ 5462 }
     requires waits { Waits rest.now }
-    ensures finishes { Finishes rest.now result (moment (W.contents writer.old) (S.events reader.old writer.old)) (moment (W.contents writer.new) (S.events reader.new writer.new)) }
+    ensures finishes { Finishes rest.now result (moment (W.contents writer.old) (S.events reader.old writer.old))
+        (moment (W.contents writer.new) (S.events reader.new writer.new)) }
     ensures same { OnOk result (W.failures writer.new ≡ W.failures writer.old) }
     ensures rose { OnErr result (W.failures writer.new ≡ W.failures writer.old + 1) }
     ensures unread { R.remaining reader.new ≡ R.remaining reader.old }
@@ -73,7 +74,12 @@ fn serve_in<S: Stream<R, W>, R: Source, W: Sink, T: ZoneTable, D: Deadline>(
 ) -> Result<Ending, ServeFault>
     requires empty { length buffer.old ≡ 0 }
     requires spans { length spans.old ≡ 5462 }
-    ensures run { T.is_honest table.new → (s : State) → T.holds table.old s × AreBookmarks service.now.policy.now s bookmarks.old → (turns : List Turn) × (t : State) × (T.holds table.new t × AreBookmarks service.now.policy.now t bookmarks.new) × Leads service.now.policy.now (mark s (T.failures table.old) servfails.old) turns (mark t (T.failures table.new) servfails.new) × IsEnded turns result (R.remaining reader.old) (R.remaining reader.new) (W.contents writer.old) (W.contents writer.new) × IsServedInTurn turns (S.events reader.old writer.old) (S.events reader.new writer.new) × CountsAsked turns result (D.asked deadline.old) (D.asked deadline.new) }
+    ensures run { T.is_honest table.new → (s : State) → T.holds table.old s × AreBookmarks service.now.policy.now s bookmarks.old
+        → (turns : List Turn) × (t : State) × (T.holds table.new t × AreBookmarks service.now.policy.now t bookmarks.new)
+        × Leads service.now.policy.now (mark s (T.failures table.old) servfails.old) turns (mark t (T.failures table.new) servfails.new)
+        × IsEnded turns result (R.remaining reader.old) (R.remaining reader.new) (W.contents writer.old) (W.contents writer.new)
+        × IsServedInTurn turns (S.events reader.old writer.old) (S.events reader.new writer.new)
+        × CountsAsked turns result (D.asked deadline.old) (D.asked deadline.new) }
     ensures honest { T.is_honest table.new → T.is_honest table.old }
     ensures passed { CountsPassed result (D.passed deadline.old) (D.passed deadline.new) }
     ensures devices { CountsEnded result (R.failures reader.old) (R.failures reader.new) (W.failures writer.old) (W.failures writer.new) }
@@ -113,7 +119,12 @@ pub(crate) fn serve_within<S: Stream<R, W>, R: Source, W: Sink, T: ZoneTable, D:
     servfails: &mut Servfails,
     deadline: &mut D,
 ) -> Result<Ending, ServeFault>
-    ensures run { T.is_honest table.new → (s : State) → T.holds table.old s × AreBookmarks policy.now s bookmarks.old → (turns : List Turn) × (t : State) × (T.holds table.new t × AreBookmarks policy.now t bookmarks.new) × Leads policy.now (mark s (T.failures table.old) servfails.old) turns (mark t (T.failures table.new) servfails.new) × IsEnded turns result (R.remaining reader.old) (R.remaining reader.new) (W.contents writer.old) (W.contents writer.new) × IsServedInTurn turns (S.events reader.old writer.old) (S.events reader.new writer.new) × CountsAsked turns result (D.asked deadline.old) (D.asked deadline.new) }
+    ensures run { T.is_honest table.new → (s : State) → T.holds table.old s × AreBookmarks policy.now s bookmarks.old
+        → (turns : List Turn) × (t : State) × (T.holds table.new t × AreBookmarks policy.now t bookmarks.new)
+        × Leads policy.now (mark s (T.failures table.old) servfails.old) turns (mark t (T.failures table.new) servfails.new)
+        × IsEnded turns result (R.remaining reader.old) (R.remaining reader.new) (W.contents writer.old) (W.contents writer.new)
+        × IsServedInTurn turns (S.events reader.old writer.old) (S.events reader.new writer.new)
+        × CountsAsked turns result (D.asked deadline.old) (D.asked deadline.new) }
     ensures honest { T.is_honest table.new → T.is_honest table.old }
     ensures passed { CountsPassed result (D.passed deadline.old) (D.passed deadline.new) }
     ensures devices { CountsEnded result (R.failures reader.old) (R.failures reader.new) (W.failures writer.old) (W.failures writer.new) }

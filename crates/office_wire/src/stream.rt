@@ -62,7 +62,8 @@ pub(crate) fn write_all<S: Stream<R, W>, R: Source, W: Sink>(
     writer: &mut W,
     octets: &[u8],
 ) -> Result<(), DeviceFailed>
-    ensures written { WritesAll octets.now result (moment (W.contents writer.old) (S.events reader.old writer.old)) (moment (W.contents writer.new) (S.events reader.new writer.new)) }
+    ensures written { WritesAll octets.now result (moment (W.contents writer.old) (S.events reader.old writer.old))
+        (moment (W.contents writer.new) (S.events reader.new writer.new)) }
     ensures fine { OnOk result (W.failures writer.new ≡ W.failures writer.old) }
     ensures failed { OnErr result (W.failures writer.new ≡ W.failures writer.old + 1) }
     ensures same { R.remaining reader.new ≡ R.remaining reader.old }

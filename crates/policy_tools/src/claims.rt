@@ -76,7 +76,8 @@ fn decided(entries: &[Entry<'_>], callers: &Callers) -> Points
 fn entry_behind<'a>(before: &[Entry<'_>], number: usize, claim: Claim<'a>) -> Entry<'a>
     ensures number { result.number ≡ number }
     ensures claim { result.claim ≡ claim.entry }
-    ensures left { (t : TypeOf) (a : ActionOf) → has_point result.left.bits t a ≡ (has_point claim.entry.points.bits t a && not (is_decided before.now claim.entry.rule.now.callers t a)) }
+    ensures left { (t : TypeOf) (a : ActionOf)
+        → has_point result.left.bits t a ≡ (has_point claim.entry.points.bits t a && not (is_decided before.now claim.entry.rule.now.callers t a)) }
 {
     let left = claim.points.without(decided(before, &claim.rule.callers));
     Entry {

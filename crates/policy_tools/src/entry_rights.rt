@@ -15,7 +15,9 @@ use grant_policy::{Callers, Effect, Identifier};
 
 /// A right that entries grant a caller, among those that are looked for.
 pub(crate) fn own_right(entries: &[Entry<'_>], caller: &Identifier, wanted: Wanted) -> Option<Right>
-    ensures { MatchOption result ((right : RightOf) → IsWanted wanted right → ¬ GrantsAmong (One caller.now) entries.now (length entries.now) right) (λ right. IsWanted wanted right × GrantsAmong (One caller.now) entries.now (length entries.now) right) }
+    ensures { MatchOption result
+        ((right : RightOf) → IsWanted wanted right → ¬ GrantsAmong (One caller.now) entries.now (length entries.now) right)
+        (λ right. IsWanted wanted right × GrantsAmong (One caller.now) entries.now (length entries.now) right) }
 {
     let looked_for = Points::wanted(wanted);
     let mut decided = Points::none();
@@ -33,7 +35,8 @@ pub(crate) fn own_right(entries: &[Entry<'_>], caller: &Identifier, wanted: Want
 
 /// A right that entries grant others than a caller, to change records.
 pub(crate) fn other_right(entries: &[Entry<'_>], caller: &Identifier) -> Option<Right>
-    ensures { MatchOption result ((e : EntryOf) (right : RightOf) → Contains entries.now e → ¬ GrantsOthers caller.now e right) (λ right. (e : EntryOf) × Contains entries.now e × GrantsOthers caller.now e right) }
+    ensures { MatchOption result ((e : EntryOf) (right : RightOf) → Contains entries.now e → ¬ GrantsOthers caller.now e right)
+        (λ right. (e : EntryOf) × Contains entries.now e × GrantsOthers caller.now e right) }
 {
     let changes = Points::wanted(Wanted::Changes);
     for entry in entries {
@@ -58,7 +61,8 @@ fn is_only(callers: &Callers, caller: &Identifier) -> bool
 
 /// A right that the rule of an entry grants, of a pair that is in both sets.
 fn granted(entry: Entry<'_>, own: Points, wanted: Points) -> Option<Right>
-    ensures { MatchOption result ((right : RightOf) → ¬ IsGrant entry.entry own.bits wanted.bits right) (λ right. IsGrant entry.entry own.bits wanted.bits right) }
+    ensures { MatchOption result ((right : RightOf) → ¬ IsGrant entry.entry own.bits wanted.bits right)
+        (λ right. IsGrant entry.entry own.bits wanted.bits right) }
 {
     match entry.claim.rule.effect {
         Effect::Deny => None,

@@ -64,7 +64,8 @@ fn idle_by(alloc: Global, claims: &[Claim<'_>], names: &[Name]) -> Result<Vec<Id
     requires few { length claims.now ≤ 1024 }
     requires claims { All IsClaim claims.now }
     requires names { Represent (rules_of claims.now) names.now }
-    ensures idle { IfOk result (λ idle. (i : ℕ) → Contains (map (λ r. r.rule) idle.items) i ↔ ((i < length (rules_of claims.now)) × IsIdle (rules_of claims.now) i)) }
+    ensures idle { IfOk result
+        (λ idle. (i : ℕ) → Contains (map (λ r. r.rule) idle.items) i ↔ ((i < length (rules_of claims.now)) × IsIdle (rules_of claims.now) i)) }
     ensures takers { IfOk result (λ idle. All (λ r. AreTakers (rules_of claims.now) r.rule r.takers.items) idle.items) }
     ensures ordered { IfOk result (λ idle. IsStrictlyIncreasing (map (λ r. r.rule) idle.items)) }
 {
@@ -82,7 +83,8 @@ fn idle_of(
     requires claims { All IsClaim claims.now }
     requires rows { All (IsRow (rules_of claims.now)) rows.now }
     requires names { Represent (rules_of claims.now) (map (λ r. r.name.now) rows.now) }
-    ensures idle { IfOk result (λ idle. (i : ℕ) → Contains (map (λ r. r.rule) idle.items) i ↔ ((i < length (rules_of claims.now)) × IsIdle (rules_of claims.now) i)) }
+    ensures idle { IfOk result
+        (λ idle. (i : ℕ) → Contains (map (λ r. r.rule) idle.items) i ↔ ((i < length (rules_of claims.now)) × IsIdle (rules_of claims.now) i)) }
     ensures takers { IfOk result (λ idle. All (λ r. AreTakers (rules_of claims.now) r.rule r.takers.items) idle.items) }
     ensures ordered { IfOk result (λ idle. IsStrictlyIncreasing (map (λ r. r.rule) idle.items)) }
 {

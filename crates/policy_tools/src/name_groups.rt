@@ -127,7 +127,8 @@ fn add_groups(
     requires rules { rules_of claims.now ≡ rules.now }
     requires top { IsTop rules.now top.now }
     requires name { IsName top.now }
-    ensures { OnOk result ((middle : List RowOf) × AddsGroup rules.now (Exactly top.now) rows.old.items middle × AddsGroup rules.now (Below top.now) middle rows.new.items) }
+    ensures { OnOk result
+        ((middle : List RowOf) × AddsGroup rules.now (Exactly top.now) rows.old.items middle × AddsGroup rules.now (Below top.now) middle rows.new.items) }
 {
     add_exactly(alloc, claims, top, rows)?;
     add_below(alloc, rules, claims, top, rows)

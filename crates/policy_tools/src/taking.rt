@@ -37,7 +37,8 @@ pub(crate) fn takers(
 /// Marks the rules that take questions of a rule, whose number this is, in a row.
 fn mark_rows(claim: Claim<'_>, number: usize, rows: &[Coverage<'_>], found: &mut [bool])
     requires { All (λ row. All (λ e. e.number < length found.old) row.entries.items) rows.now }
-    ensures { (j : ℕ) → j < length found.old → slice_index_or found.new j false ≡ true ↔ ((slice_index_or found.old j false ≡ true) ⊎ TakesIn claim.entry number rows.now j) }
+    ensures { (j : ℕ) → j < length found.old
+        → slice_index_or found.new j false ≡ true ↔ ((slice_index_or found.old j false ≡ true) ⊎ TakesIn claim.entry number rows.now j) }
 {
     for row in rows {
         if is_in(&row.entries, number) {
@@ -56,7 +57,8 @@ fn is_in(entries: &[Entry<'_>], number: usize) -> bool
 /// Marks the rules of entries that take questions of a rule there.
 fn mark(claim: Claim<'_>, entries: &[Entry<'_>], found: &mut [bool])
     requires { All (λ e. e.number < length found.old) entries.now }
-    ensures { (j : ℕ) → j < length found.old → slice_index_or found.new j false ≡ true ↔ ((slice_index_or found.old j false ≡ true) ⊎ Hits claim.entry entries.now (length entries.now) j) }
+    ensures { (j : ℕ) → j < length found.old
+        → slice_index_or found.new j false ≡ true ↔ ((slice_index_or found.old j false ≡ true) ⊎ Hits claim.entry entries.now (length entries.now) j) }
 {
     let mut decided = Points::none();
     for entry in entries {
@@ -71,7 +73,9 @@ fn mark(claim: Claim<'_>, entries: &[Entry<'_>], found: &mut [bool])
 
 /// Whether the rule of an entry takes questions of a rule, behind rules that decide some for all its callers.
 fn takes(claim: Claim<'_>, entry: Entry<'_>, decided: Points) -> bool
-    ensures { (before : List EntryOf) → ((t : TypeOf) (a : ActionOf) → has_point decided.bits t a ≡ is_decided before claim.entry.rule.now.callers t a) → result ≡ true ↔ TakesBehind claim.entry before entry.entry }
+    ensures { (before : List EntryOf)
+        → ((t : TypeOf) (a : ActionOf) → has_point decided.bits t a ≡ is_decided before claim.entry.rule.now.callers t a)
+        → result ≡ true ↔ TakesBehind claim.entry before entry.entry }
 {
     claim.points.meets(entry.left.without(decided))
         && shared(&claim.rule.callers, &entry.claim.rule.callers).is_some()

@@ -39,7 +39,8 @@ pub fn first_match<'a>(
     record_type: RecordType,
     action: Action,
 ) -> Option<&'a Rule>
-    ensures { option_map_or decided (option_copied result) (denied None) ≡ decision (record { caller = caller.now; name = name.now; record_type = record_type; action = action }) rules.entry.now }
+    ensures { option_map_or decided (option_copied result) (denied None)
+        ≡ decision (record { caller = caller.now; name = name.now; record_type = record_type; action = action }) rules.entry.now }
 {
     match rules {
         [] => None,

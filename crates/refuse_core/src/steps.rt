@@ -48,7 +48,8 @@ pub fn left_by_step<T: ZoneTable>(
     caller: &Identifier,
     wanted: &Request,
 ) -> Reply
-    ensures { T.is_honest table.new → (s : State) → T.holds table.old s → T.leaves table.old s s → Leaves (T.leaves table.new) policy.now s caller.now wanted.now result }
+    ensures { T.is_honest table.new → (s : State) → T.holds table.old s → T.leaves table.old s s
+        → Leaves (T.leaves table.new) policy.now s caller.now wanted.now result }
 {
     office_core::step(alloc, table, policy, caller, wanted)
 }
@@ -63,7 +64,8 @@ pub fn step_with_bookmarks<T: ZoneTable>(
     request: &Request,
     _other: &Identifier,
 ) -> Reply
-    ensures { T.is_honest table.new → (s : State) → T.holds table.old s → AreBookmarks policy.now s bookmarks.old → Steps (λ t. T.holds table.new t × AreBookmarks policy.now t bookmarks.new) policy.now s caller.now request.now result }
+    ensures { T.is_honest table.new → (s : State) → T.holds table.old s → AreBookmarks policy.now s bookmarks.old
+        → Steps (λ t. T.holds table.new t × AreBookmarks policy.now t bookmarks.new) policy.now s caller.now request.now result }
 {
     office_core::step_with_bookmarks(alloc, table, policy, bookmarks, caller, request)
 }

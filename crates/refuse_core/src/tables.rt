@@ -45,7 +45,8 @@ pub fn zone_behind<T: ZoneTable>(
     Option<Addition>,
 )
     requires { T.is_honest table.old → (s : State) → T.holds table.old s → Fits s (addition_in added) }
-    ensures { T.is_honest table.new → OnOk result.0 (IfOk result.1 (λ zone. (s : State) → T.holds table.old s → zone ≡ zone_at (committed (addition_in added) s) at.now)) }
+    ensures { T.is_honest table.new
+        → OnOk result.0 (IfOk result.1 (λ zone. (s : State) → T.holds table.old s → zone ≡ zone_at (committed (addition_in added) s) at.now)) }
 {
     let made = table.commit(alloc, added);
     (made, table.zone(alloc, at), None)

@@ -38,7 +38,11 @@ pub fn serve_stream<S: Stream<R, W>, R: Source, W: Sink, T: ZoneTable, D: Deadli
     table: &mut T,
     deadline: &mut D,
 ) -> Served
-    ensures { T.is_honest table.new → (s : State) → T.holds table.old s × AreBookmarks responder.old.policy.now s responder.old.bookmarks → (turns : List Turn) × (t : State) × (T.holds table.new t × AreBookmarks responder.old.policy.now t responder.new.bookmarks) × Run responder.old.policy.now (standing s (T.failures table.old)) turns (standing t (T.failures table.new)) × AreNoted (servfails turns) result.servfails × IsServedInTurn turns (S.events reader.old writer.old) (S.events reader.new writer.new) }
+    ensures { T.is_honest table.new → (s : State) → T.holds table.old s × AreBookmarks responder.old.policy.now s responder.old.bookmarks
+        → (turns : List Turn) × (t : State) × (T.holds table.new t × AreBookmarks responder.old.policy.now t responder.new.bookmarks)
+        × Run responder.old.policy.now (standing s (T.failures table.old)) turns (standing t (T.failures table.new))
+        × AreNoted (servfails turns) result.servfails
+        × IsServedInTurn turns (S.events reader.old writer.old) (S.events reader.new writer.new) }
 {
     let served = responder.serve_stream::<S, _, _, _, _>(reader, writer, table, deadline);
     served
@@ -73,7 +77,10 @@ pub fn serve_octets<L: Ledger, T: ZoneTable>(
     requires writes_name { writes.name ≡ L.name }
     requires writes_parts { writes.parts ≡ L.parts }
     requires writes_some { 0 < writes.parts }
-    ensures { T.is_honest table.new → (s : State) → T.holds table.old s → (turns : List Turn) × (t : State) × (left : Option (List ℕ)) × T.holds table.new t × Run policy.now (standing s (T.failures table.old)) turns (standing t (T.failures table.new)) × IsDone turns result.1 (Some octets.items) left (Some []) (Some result.0.items) }
+    ensures { T.is_honest table.new → (s : State) → T.holds table.old s
+        → (turns : List Turn) × (t : State) × (left : Option (List ℕ)) × T.holds table.new t
+        × Run policy.now (standing s (T.failures table.old)) turns (standing t (T.failures table.new))
+        × IsDone turns result.1 (Some octets.items) left (Some []) (Some result.0.items) }
 {
     let mut reader: Counted<Pieces, L> = Counted::new(Pieces::new(octets, usize::MAX, 0), reads);
     let room = Pieces::new(Vec::new(alloc), usize::MAX, 0);

@@ -67,7 +67,9 @@ fn push_point(
     origin: &Name,
     rr: &Record,
 ) -> Result<(), AllocError>
-    ensures { OnOk result ((grants : GrantsOf) → includes grants origin.now Soa ≡ false → IsTrue (includes_none grants points.new.items) → IsTrue (includes_none grants points.old.items) × (includes grants rr.now.owner (type_of rr.now.rdata) ≡ false)) }
+    ensures { OnOk result
+        ((grants : GrantsOf) → includes grants origin.now Soa ≡ false → IsTrue (includes_none grants points.new.items)
+        → IsTrue (includes_none grants points.old.items) × (includes grants rr.now.owner (type_of rr.now.rdata) ≡ false)) }
 {
     let record_type = rr.record_type();
     if is_type(record_type, RecordType::Soa) && rr.owner == *origin {
@@ -90,7 +92,9 @@ fn push_points(
     origin: &Name,
     records: &[Record],
 ) -> Result<(), AllocError>
-    ensures { OnOk result ((grants : GrantsOf) → includes grants origin.now Soa ≡ false → IsTrue (includes_none grants points.new.items) → IsTrue (includes_none grants points.old.items) × IsTrue (hides_each grants records.now)) }
+    ensures { OnOk result
+        ((grants : GrantsOf) → includes grants origin.now Soa ≡ false → IsTrue (includes_none grants points.new.items)
+        → IsTrue (includes_none grants points.old.items) × IsTrue (hides_each grants records.now)) }
 {
     for record in records {
         push_point(alloc, points, origin, record)?;
@@ -251,9 +255,12 @@ impl ZoneHistory {
     /// Notes one more record of the last change, if there is one. The only error is out of memory, behind which that change is forgotten.
     pub fn note(&mut self, alloc: Global, rr: &Record) -> Result<(), AllocError>
         ensures origin { self.new.origin ≡ self.old.origin }
-        ensures last { OnOk result ((cs : List ChangeOf) (c more : ChangeOf) → KnowsAll self.old (cs ++ c ∷ []) → HasAlso rr.now c more → KnowsAll self.new (cs ++ more ∷ [])) }
+        ensures last { OnOk result
+            ((cs : List ChangeOf) (c more : ChangeOf) → KnowsAll self.old (cs ++ c ∷ []) → HasAlso rr.now c more → KnowsAll self.new (cs ++ more ∷ [])) }
         ensures none { OnOk result (KnowsAll self.old [] → KnowsAll self.new []) }
-        ensures failed { OnErr result ((cs : List ChangeOf) → KnowsAll self.old cs → (front : List ChangeOf) × (last : ChangeOf) × (cs ≡ front ++ last ∷ []) × KnowsAll self.new front) }
+        ensures failed { OnErr result
+            ((cs : List ChangeOf) → KnowsAll self.old cs
+            → (front : List ChangeOf) × (last : ChangeOf) × (cs ≡ front ++ last ∷ []) × KnowsAll self.new front) }
     {
         let Some(mut last) = self.changes.pop() else {
             return Ok(());
@@ -267,7 +274,9 @@ impl ZoneHistory {
     /// Appends what the next changes touch, as far as there is memory.
     fn push(&mut self, alloc: Global, changes: &[Change])
         ensures origin { self.new.origin ≡ self.old.origin }
-        ensures touched { (cs : List ChangeOf) → AreTouched self.old.origin self.old.changes.items cs → map change_in changes.now ≡ take (length changes.now) (drop (length self.old.changes.items) cs) → AreTouched self.new.origin self.new.changes.items cs }
+        ensures touched { (cs : List ChangeOf) → AreTouched self.old.origin self.old.changes.items cs
+            → map change_in changes.now ≡ take (length changes.now) (drop (length self.old.changes.items) cs)
+            → AreTouched self.new.origin self.new.changes.items cs }
     {
         for change in changes {
             let Ok(touched) = Touched::of(alloc, &self.origin, change) else {
@@ -281,7 +290,8 @@ impl ZoneHistory {
 
     /// What comes next behind the first changes, so many.
     fn ahead(&self, count: u32, grants: &mut Grants<'_>) -> Ahead
-        ensures hidden { (cs : List ChangeOf) → AreTouched self.now.origin self.now.changes.items cs → IsTrue (are_hidden grants.old (drop count cs) result.hidden) }
+        ensures hidden { (cs : List ChangeOf) → AreTouched self.now.origin self.now.changes.items cs
+            → IsTrue (are_hidden grants.old (drop count cs) result.hidden) }
         ensures same { grants.new ≡ grants.old }
     {
         let rest = behind(&self.changes, count);
@@ -326,7 +336,9 @@ fn append(
     count: u32,
     changes: &[Change],
 )
-    ensures { (s : State) (held : Held) → s.zones origin.now ≡ Some held → map change_in changes.now ≡ take (length changes.now) (drop count held.changes) → Remembers s history.old → Remembers s history.new }
+    ensures { (s : State) (held : Held) → s.zones origin.now ≡ Some held
+        → map change_in changes.now ≡ take (length changes.now) (drop count held.changes) → Remembers s history.old
+        → Remembers s history.new }
 {
     let Some(zone) = history else {
         return;
@@ -345,7 +357,9 @@ pub fn remember(
     count: u32,
     changes: &[Change],
 )
-    ensures { (s : State) (held : Held) → s.zones origin.now ≡ Some held → map change_in changes.now ≡ take (length changes.now) (drop count held.changes) → Remembers s history.old → Remembers s history.new }
+    ensures { (s : State) (held : Held) → s.zones origin.now ≡ Some held
+        → map change_in changes.now ≡ take (length changes.now) (drop count held.changes) → Remembers s history.old
+        → Remembers s history.new }
 {
     if count == 0 {
         begin(alloc, history, origin);
@@ -360,7 +374,8 @@ pub fn ahead_in(
     count: u32,
     grants: &mut Grants<'_>,
 ) -> Ahead
-    ensures hidden { (s : State) (held : Held) → s.zones origin.now ≡ Some held → Remembers s history.now → IsTrue (are_hidden grants.old (drop count held.changes) result.hidden) }
+    ensures hidden { (s : State) (held : Held) → s.zones origin.now ≡ Some held → Remembers s history.now
+        → IsTrue (are_hidden grants.old (drop count held.changes) result.hidden) }
     ensures same { grants.new ≡ grants.old }
 {
     match history {

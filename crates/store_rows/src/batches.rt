@@ -64,7 +64,8 @@ pub fn receipt_batch(alloc: Global, addition: &Addition) -> Result<Batch, AllocE
     // This row and nothing else.
     ensures exact { IfOk result (λ batch. batch ≡ receipts_batch (receipt_rows (addition_in addition.now))) }
     // It leads from each state that the addition fits to the one with the addition made, if it has no change.
-    ensures leads { addition.now.change ≡ None → IfOk result (λ batch. (s : State) → Fits s (addition_in addition.now) → Leads batch s (committed (addition_in addition.now) s)) }
+    ensures leads { addition.now.change ≡ None
+        → IfOk result (λ batch. (s : State) → Fits s (addition_in addition.now) → Leads batch s (committed (addition_in addition.now) s)) }
 {
     let receipts = receipt_rows(alloc, addition)?;
     Ok(Batch {
@@ -82,9 +83,15 @@ pub fn receipt_batch(alloc: Global, addition: &Addition) -> Result<Batch, AllocE
 /// out of memory.
 pub fn addition_batch(alloc: Global, addition: &Addition, number: i64) -> Result<Batch, AllocError>
     // These rows and no others.
-    ensures exact { IfOk result (λ batch. MatchOption addition.now.change (batch ≡ receipts_batch (receipt_rows (addition_in addition.now))) (λ change. (n : ℕ) → number ≡ pos n → batch ≡ change_batch addition.now.receipt.origin n (change_in change) (receipt_rows (addition_in addition.now)))) }
+    ensures exact { IfOk result
+        (λ batch. MatchOption addition.now.change (batch ≡ receipts_batch (receipt_rows (addition_in addition.now)))
+        (λ change. (n : ℕ) → number ≡ pos n
+        → batch ≡ change_batch addition.now.receipt.origin n (change_in change) (receipt_rows (addition_in addition.now)))) }
     // It leads from each state that the addition fits to the one with the addition made.
-    ensures leads { IfOk result (λ batch. (s : State) → Fits s (addition_in addition.now) → (IsSome addition.now.change → IsNext s addition.now.receipt.origin number) → Leads batch s (committed (addition_in addition.now) s)) }
+    ensures leads { IfOk result
+        (λ batch. (s : State) → Fits s (addition_in addition.now)
+        → (IsSome addition.now.change → IsNext s addition.now.receipt.origin number)
+        → Leads batch s (committed (addition_in addition.now) s)) }
 {
     let Some(change) = &addition.change else {
         return receipt_batch(alloc, addition);
@@ -125,9 +132,12 @@ pub fn replacement_batch(
     requires origin { old.now.origin ≡ new.now.origin }
     requires differs { is_same old.now.records new.now.records ≡ false }
     // The rows of the records by which the two differ, and no others.
-    ensures exact { (n : ℕ) → number ≡ pos n → IfOk result (λ batch. batch ≡ change_batch new.now.origin n (change_between old.now.records new.now.records) []) }
+    ensures exact { (n : ℕ) → number ≡ pos n
+        → IfOk result (λ batch. batch ≡ change_batch new.now.origin n (change_between old.now.records new.now.records) []) }
     // It leads from each state that holds the old zone to the one with the new zone in its place.
-    ensures leads { IfOk result (λ batch. (s : State) (held : Held) → s.zones new.now.origin ≡ Some held → held.records ≡ old.now.records → IsNext s new.now.origin number → Leads batch s (with_zone_replaced s new.now held)) }
+    ensures leads { IfOk result
+        (λ batch. (s : State) (held : Held) → s.zones new.now.origin ≡ Some held → held.records ≡ old.now.records
+        → IsNext s new.now.origin number → Leads batch s (with_zone_replaced s new.now held)) }
 {
     reveal_zone(old);
     reveal_zone(new);

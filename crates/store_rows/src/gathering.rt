@@ -27,9 +27,12 @@ use zone_core::Change;
 /// the numbers are not those from 1 on.
 pub fn read_changes(alloc: Global, rows: &[ChangeRow]) -> Result<Vec<Change>, RowFault>
     // The rows are those of what is read, of some zone.
-    ensures found { IfOk result (λ cs. (origin : List (List ℕ)) × IsName origin × AllByRecursion IsChange (map change_in cs.items) × IsPermutation (changes_rows origin 1 (map change_in cs.items)) rows.now) }
+    ensures found { IfOk result
+        (λ cs. (origin : List (List ℕ)) × IsName origin × AllByRecursion IsChange (map change_in cs.items)
+        × IsPermutation (changes_rows origin 1 (map change_in cs.items)) rows.now) }
     // The rows of the changes of a zone are read as these changes, unless memory runs out.
-    ensures only { (origin : List (List ℕ)) (changes : List ChangeOf) → IsName origin → AllByRecursion IsChange changes → IsPermutation (changes_rows origin 1 changes) rows.now → Reads (λ cs. map change_in cs.items) result (Ok changes) }
+    ensures only { (origin : List (List ℕ)) (changes : List ChangeOf) → IsName origin → AllByRecursion IsChange changes
+        → IsPermutation (changes_rows origin 1 changes) rows.now → Reads (λ cs. map change_in cs.items) result (Ok changes) }
 {
     let changed = sorted_changes(alloc, rows)?;
     changes_among(alloc, changed)
@@ -41,7 +44,8 @@ pub(crate) fn stored_changes(alloc: Global, rows: Vec<ChangeRow>) -> Result<Vec<
     // They have what each row says.
     ensures found { IfOk result (λ cs. AreStoredIn rows.items (map change_in cs.items)) }
     // The rows of the changes of a zone are read as these changes, unless memory runs out.
-    ensures only { (origin : List (List ℕ)) (changes : List ChangeOf) → IsName origin → AllByRecursion IsChange changes → IsPermutation (changes_rows origin 1 changes) rows.items → Reads (λ cs. map change_in cs.items) result (Ok changes) }
+    ensures only { (origin : List (List ℕ)) (changes : List ChangeOf) → IsName origin → AllByRecursion IsChange changes
+        → IsPermutation (changes_rows origin 1 changes) rows.items → Reads (λ cs. map change_in cs.items) result (Ok changes) }
 {
     let changed = each_stored(alloc, rows)?;
     changes_among(alloc, in_order(changed)?)
@@ -57,7 +61,8 @@ pub(crate) fn stored_behind(
     // They have what each row says.
     ensures found { IfOk result (λ cs. AreStoredBehind count rows.now (map change_in cs.items)) }
     // The rows of changes with the numbers from there on are read as these changes, unless memory runs out.
-    ensures only { (origin : List (List ℕ)) (changes : List ChangeOf) → IsName origin → AllByRecursion IsChange changes → IsPermutation (changes_rows origin (1 + count) changes) rows.now → Reads (λ cs. map change_in cs.items) result (Ok changes) }
+    ensures only { (origin : List (List ℕ)) (changes : List ChangeOf) → IsName origin → AllByRecursion IsChange changes
+        → IsPermutation (changes_rows origin (1 + count) changes) rows.now → Reads (λ cs. map change_in cs.items) result (Ok changes) }
 {
     let changed = each_behind(alloc, rows, count)?;
     changes_among(alloc, in_order(changed)?)

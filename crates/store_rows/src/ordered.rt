@@ -73,7 +73,8 @@ pub fn sorted_origins(mut origins: Vec<Name>) -> Result<Vec<Name>, AllocError>
     requires { AllByRecursion IsName origins.items }
     ensures found { IfOk result (λ os. IsPermutation origins.items os.items × AllByRecursion IsName os.items × IsSorted canonical_cmp os.items) }
     // The origins of the zones of a state, in any order, are those of the state.
-    ensures held { (version : ℤ) (all : RowsOf) (s : State) → AreOfState version all s → IsPermutation all.zones (map name_text origins.items) → IfOk result (λ os. AreOriginsOf s os.items) }
+    ensures held { (version : ℤ) (all : RowsOf) (s : State) → AreOfState version all s → IsPermutation all.zones (map name_text origins.items)
+        → IfOk result (λ os. AreOriginsOf s os.items) }
 {
     origins.sort_by(|first, second| first.cmp(second))?;
     Ok(origins)
@@ -84,7 +85,8 @@ pub fn origins(alloc: Global, rows: &[ZoneRow]) -> Result<Vec<Name>, RowFault>
     ensures found { IfOk result (λ os. IsPermutation (map name_text os.items) rows.now × AllByRecursion IsName os.items × IsSorted canonical_cmp os.items) }
     ensures only { AllByRecursion IsOriginText rows.now → IfErr result (λ e. e ≡ RowFault.NoMemory) }
     // The rows of a state, in any order, are read as the origins of its zones, unless memory runs out.
-    ensures held { (version : ℤ) (all : RowsOf) (s : State) → AreOfState version all s → IsPermutation all.zones rows.now → Answers (λ os. AreOriginsOf s os.items) result }
+    ensures held { (version : ℤ) (all : RowsOf) (s : State) → AreOfState version all s → IsPermutation all.zones rows.now
+        → Answers (λ os. AreOriginsOf s os.items) result }
 {
     let origins = all_origins(alloc, rows)?;
     Ok(sorted_origins(origins)?)
@@ -139,7 +141,8 @@ impl Ordered for ZoneRecord {
 
 /// The records of rows of `records`, by origin, and then in record order. A row that is that of no record of a zone is `BadRow`.
 pub fn records(alloc: Global, rows: &[RecordRow]) -> Result<Vec<ZoneRecord>, RowFault>
-    ensures found { IfOk result (λ rs. IsPermutation (map row_of_record rs.items) rows.now × AllByRecursion IsZoneRecord rs.items × IsSorted zone_record_order rs.items) }
+    ensures found { IfOk result
+        (λ rs. IsPermutation (map row_of_record rs.items) rows.now × AllByRecursion IsZoneRecord rs.items × IsSorted zone_record_order rs.items) }
     ensures only { AllByRecursion IsZoneRecordRow rows.now → IfErr result (λ e. e ≡ RowFault.NoMemory) }
 {
     let records = each_record(alloc, rows)?;
@@ -204,7 +207,8 @@ impl Ordered for ReceiptKey {
 /// Under what the receipts of rows of `receipts` are kept, by caller, and then by identifier. A row that is that of no receipt is
 /// `BadRow`. Each goes as soon as it is read.
 pub(crate) fn receipts(alloc: Global, rows: Vec<ReceiptRow>) -> Result<Vec<ReceiptKey>, RowFault>
-    ensures found { IfOk result (λ ks. IsPermutation (map row_key rows.items) ks.items × AllByRecursion IsReceiptRow rows.items × IsSorted receipt_key_order ks.items) }
+    ensures found { IfOk result
+        (λ ks. IsPermutation (map row_key rows.items) ks.items × AllByRecursion IsReceiptRow rows.items × IsSorted receipt_key_order ks.items) }
     ensures only { AllByRecursion IsReceiptRow rows.items → IfErr result (λ e. e ≡ RowFault.NoMemory) }
 {
     let keys = receipt_keys(alloc, rows)?;
@@ -249,10 +253,12 @@ fn kept_order(first: &KeptReceipt, second: &KeptReceipt) -> Ordering
 /// The receipts of rows of `receipts`, by caller, and then by identifier. A row that is not read is `BadRow`.
 pub fn kept_receipts(alloc: Global, rows: &[ReceiptRow]) -> Result<Vec<KeptReceipt>, RowFault>
     // They are those of all rows, in order.
-    ensures found { IfOk result (λ kept. (ks : List KeptOf) × (each_read kept_in rows.now ≡ Ok ks) × IsPermutation ks kept.items × IsSorted kept_order kept.items) }
+    ensures found { IfOk result
+        (λ kept. (ks : List KeptOf) × (each_read kept_in rows.now ≡ Ok ks) × IsPermutation ks kept.items × IsSorted kept_order kept.items) }
     ensures only { IfErr result (λ e. Refuses e (each_read kept_in rows.now)) }
     // The rows of a state, in any order, are read as its receipts, unless memory runs out.
-    ensures held { (version : ℤ) (all : RowsOf) (s : State) → AreOfState version all s → IsPermutation all.receipts rows.now → Answers (λ kept. AreReceiptsOf s kept.items) result }
+    ensures held { (version : ℤ) (all : RowsOf) (s : State) → AreOfState version all s → IsPermutation all.receipts rows.now
+        → Answers (λ kept. AreReceiptsOf s kept.items) result }
 {
     let mut kept = all_kept(alloc, rows)?;
     kept.sort_unstable_by(|first, second| kept_order(first, second));

@@ -92,7 +92,8 @@ pub fn zone_of(alloc: Global, origin: &Name, rows: &[RecordRow]) -> Result<Zone,
     // It has what each row says: none is left out, and if one is not read there is no zone.
     ensures exact { Reads (λ zone. zone) result (zone_by origin.now rows.now) }
     // In a state that holds the zone, the rows of its records are read as it, unless memory runs out.
-    ensures held { (version : ℤ) (all : RowsOf) (s : State) (zone : ZoneOf) → AreOfState version all s → zone_at s origin.now ≡ Some zone → IsPermutation (records_of (name_text origin.now) all.records) rows.now → Reads (λ z. z) result (Ok zone) }
+    ensures held { (version : ℤ) (all : RowsOf) (s : State) (zone : ZoneOf) → AreOfState version all s → zone_at s origin.now ≡ Some zone
+        → IsPermutation (records_of (name_text origin.now) all.records) rows.now → Reads (λ z. z) result (Ok zone) }
 {
     zone_by(alloc, origin, rows)
 }
@@ -103,7 +104,9 @@ pub fn part_of(alloc: Global, origin: &Name, rows: &[RecordRow]) -> Result<Zone,
     ensures origin { IfOk result (λ zone. zone.origin ≡ origin.now) }
     ensures exact { Reads (λ zone. zone) result (zone_by origin.now rows.now) }
     // In a state that holds the zone, the rows at the names are read as this part, unless memory runs out.
-    ensures held { (version : ℤ) (all : RowsOf) (s : State) (zone : ZoneOf) (names : List (List (List ℕ))) → AreOfState version all s → zone_at s origin.now ≡ Some zone → AreRowsAt (name_text origin.now) (map key_of (origin.now ∷ names)) all.records rows.now → Reads (λ z. z) result (Ok (zone_part zone (at_names origin.now names))) }
+    ensures held { (version : ℤ) (all : RowsOf) (s : State) (zone : ZoneOf) (names : List (List (List ℕ))) → AreOfState version all s
+        → zone_at s origin.now ≡ Some zone → AreRowsAt (name_text origin.now) (map key_of (origin.now ∷ names)) all.records rows.now
+        → Reads (λ z. z) result (Ok (zone_part zone (at_names origin.now names))) }
 {
     zone_by(alloc, origin, rows)
 }
@@ -119,9 +122,13 @@ pub fn are_in_order(records: &[Record]) -> bool
 /// record.
 pub fn records_within(alloc: Global, rows: &[RecordRow]) -> Result<Vec<Record>, RowFault>
     // They are those of all rows, in order.
-    ensures found { IfOk result (λ records. (rs : List RecordOf) × (each_read record_in rows.now ≡ Ok rs) × IsPermutation rs records.items × (rises record_order records.items ≡ true)) }
+    ensures found { IfOk result
+        (λ records. (rs : List RecordOf) × (each_read record_in rows.now ≡ Ok rs) × IsPermutation rs records.items
+        × (rises record_order records.items ≡ true)) }
     // In a state that holds a zone, the rows of its records within a name are read as these, unless memory runs out.
-    ensures held { (version : ℤ) (all : RowsOf) (s : State) (origin top : List (List ℕ)) (zone : ZoneOf) → AreOfState version all s → zone_at s origin ≡ Some zone → IsPermutation (rows_within (name_text origin) top all.records) rows.now → Reads (λ records. records.items) result (Ok (listing (part zone.records (within top)))) }
+    ensures held { (version : ℤ) (all : RowsOf) (s : State) (origin top : List (List ℕ)) (zone : ZoneOf) → AreOfState version all s
+        → zone_at s origin ≡ Some zone → IsPermutation (rows_within (name_text origin) top all.records) rows.now
+        → Reads (λ records. records.items) result (Ok (listing (part zone.records (within top)))) }
 {
     let mut records = records_in(alloc, rows)?;
     records.sort_by(|first, second| record_order(first, second))?;
@@ -136,7 +143,8 @@ pub fn receipt_of(alloc: Global, rows: &[ReceiptRow]) -> Result<Option<Receipt>,
     // Nothing where there is no row, and else what the one row says.
     ensures exact { Reads (λ receipt. receipt) result (receipt_by rows.now) }
     // In a state, the rows under an identifier of a caller are read as what it has there, unless memory runs out.
-    ensures held { (version : ℤ) (all : RowsOf) (s : State) (caller id : List ℕ) → AreOfState version all s → IsPermutation (receipts_of caller id all.receipts) rows.now → Reads (λ receipt. receipt) result (Ok (s.receipts caller id)) }
+    ensures held { (version : ℤ) (all : RowsOf) (s : State) (caller id : List ℕ) → AreOfState version all s
+        → IsPermutation (receipts_of caller id all.receipts) rows.now → Reads (λ receipt. receipt) result (Ok (s.receipts caller id)) }
 {
     receipt_by(alloc, rows)
 }
@@ -157,7 +165,9 @@ pub fn changes_of(alloc: Global, rows: Vec<ChangeRow>) -> Result<Vec<Change>, Ro
     // They have what each row says.
     ensures found { IfOk result (λ changes. AreStoredIn rows.items (map change_in changes.items)) }
     // In a state that holds the zone, the rows of its changes are read as these, unless memory runs out.
-    ensures held { (version : ℤ) (all : RowsOf) (s : State) (origin : List (List ℕ)) (held : Held) → AreOfState version all s → s.zones origin ≡ Some held → IsPermutation (changes_in (name_text origin) all.changes) rows.items → Reads (λ changes. map change_in changes.items) result (Ok held.changes) }
+    ensures held { (version : ℤ) (all : RowsOf) (s : State) (origin : List (List ℕ)) (held : Held) → AreOfState version all s
+        → s.zones origin ≡ Some held → IsPermutation (changes_in (name_text origin) all.changes) rows.items
+        → Reads (λ changes. map change_in changes.items) result (Ok held.changes) }
 {
     stored_changes(alloc, rows)
 }
@@ -173,7 +183,10 @@ pub fn changes_behind(
     ensures found { IfOk result (λ changes. AreStoredBehind count rows.now (map change_in changes.items)) }
     // In a state that holds the zone, the rows of its changes with so many numbers from there on are read as these, unless memory runs
     // out.
-    ensures held { (version : ℤ) (all : RowsOf) (s : State) (origin : List (List ℕ)) (held : Held) (most : ℕ) → AreOfState version all s → s.zones origin ≡ Some held → IsPermutation (changes_between (name_text origin) (pos (1 + count)) (pos (1 + count + most)) all.changes) rows.now → Reads (λ changes. map change_in changes.items) result (Ok (take most (drop count held.changes))) }
+    ensures held { (version : ℤ) (all : RowsOf) (s : State) (origin : List (List ℕ)) (held : Held) (most : ℕ) → AreOfState version all s
+        → s.zones origin ≡ Some held
+        → IsPermutation (changes_between (name_text origin) (pos (1 + count)) (pos (1 + count + most)) all.changes) rows.now
+        → Reads (λ changes. map change_in changes.items) result (Ok (take most (drop count held.changes))) }
 {
     stored_behind(alloc, rows, count)
 }

@@ -70,7 +70,8 @@ pub fn read_receipt(
     // The row is that of what is read.
     ensures found { IfOk result (λ x. IsRowOfReceipt x.0 x.1 x.2 row.now × IsReceiptAt (receipt_under x.0 x.1 x.2)) }
     // The row of a receipt is read as this receipt, unless memory runs out.
-    ensures only { (r : ReceiptAt) → IsReceiptAt r → row.now ≡ row_of_receipt r → Reads {Y = List ℕ × (List ℕ × ReceiptOf)} (λ x. (x.0, (x.1, x.2))) result (Ok (r.caller, (r.id, r.receipt))) }
+    ensures only { (r : ReceiptAt) → IsReceiptAt r → row.now ≡ row_of_receipt r
+        → Reads {Y = List ℕ × (List ℕ × ReceiptOf)} (λ x. (x.0, (x.1, x.2))) result (Ok (r.caller, (r.id, r.receipt))) }
 {
     ReceiptReader::new().read_row(alloc, row)
 }

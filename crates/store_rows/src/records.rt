@@ -63,7 +63,8 @@ pub fn read_record(alloc: Global, row: &RecordRow) -> Result<(Name, Record), Row
     // The row is that of what is read.
     ensures found { IfOk result (λ x. (row.now ≡ record_row x.0 x.1) × IsName x.0 × IsRecord x.1) }
     // The row of a record is read as this record, unless memory runs out.
-    ensures only { (origin : List (List ℕ)) (r : RecordOf) → IsName origin → IsRecord r → row.now ≡ record_row origin r → Reads {Y = List (List ℕ) × RecordOf} (λ x. (x.0, x.1)) result (Ok (origin, r)) }
+    ensures only { (origin : List (List ℕ)) (r : RecordOf) → IsName origin → IsRecord r → row.now ≡ record_row origin r
+        → Reads {Y = List (List ℕ) × RecordOf} (λ x. (x.0, x.1)) result (Ok (origin, r)) }
 {
     let read = RecordReader::new().read_row(alloc, row)?;
     Ok((read.origin, read.rr))

@@ -21,7 +21,8 @@ pub(crate) fn zone_of_records(
     records: &[ZoneRecord],
 ) -> Result<Option<Zone>, AllocError>
     ensures zone { IfOk result (λ found. IsSome found ↔ AreOfZone origin.now (map (λ r. r.rr) records.now)) }
-    ensures built { IfOk result (λ found. IfSome found (λ zone. (zone.origin ≡ origin.now) × (of_zones (built origin.now (map (λ r. r.rr) records.now)) ≡ Ok zone))) }
+    ensures built { IfOk result
+        (λ found. IfSome found (λ zone. (zone.origin ≡ origin.now) × (of_zones (built origin.now (map (λ r. r.rr) records.now)) ≡ Ok zone))) }
 {
     match built(alloc, origin, copied(alloc, records)?) {
         Ok(zone) => {

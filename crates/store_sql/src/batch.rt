@@ -24,7 +24,8 @@ pub(crate) fn run_counted<S: Alter>(
 ) -> Result<usize, Error>
     ensures same_reference { tx.new.conn.ghost_name ≡ tx.old.conn.ghost_name }
     ensures stays { Stays (state S.Store tx.old.conn.now) (state S.Store tx.new.conn.now) }
-    ensures ran { HasCleanDisk (state S.Store tx.new.conn.now) → IfOk result (λ count. Executes sql.now (bound params.now) (state S.Store tx.old.conn.now) (state S.Store tx.new.conn.now) (Ok count)) }
+    ensures ran { HasCleanDisk (state S.Store tx.new.conn.now)
+        → IfOk result (λ count. Executes sql.now (bound params.now) (state S.Store tx.old.conn.now) (state S.Store tx.new.conn.now) (Ok count)) }
     ensures going { HasCleanDisk (state S.Store tx.new.conn.now) → OnOk result (IsGoing (state S.Store tx.new.conn.now)) }
 {
     Ok(tx.execute(sql, params)?)
@@ -38,7 +39,8 @@ pub(crate) fn run<S: Alter>(
 ) -> Result<(), Error>
     ensures same_reference { tx.new.conn.ghost_name ≡ tx.old.conn.ghost_name }
     ensures stays { Stays (state S.Store tx.old.conn.now) (state S.Store tx.new.conn.now) }
-    ensures ran { HasCleanDisk (state S.Store tx.new.conn.now) → OnOk result ((count : ℕ) × Executes sql.now (bound params.now) (state S.Store tx.old.conn.now) (state S.Store tx.new.conn.now) (Ok count)) }
+    ensures ran { HasCleanDisk (state S.Store tx.new.conn.now)
+        → OnOk result ((count : ℕ) × Executes sql.now (bound params.now) (state S.Store tx.old.conn.now) (state S.Store tx.new.conn.now) (Ok count)) }
     ensures going { HasCleanDisk (state S.Store tx.new.conn.now) → OnOk result (IsGoing (state S.Store tx.new.conn.now)) }
 {
     run_counted(tx, sql, params)?;
@@ -67,7 +69,8 @@ trait InsertRows: Insert {
     ) -> Result<(), Error>
         ensures same_reference { tx.new.conn.ghost_name ≡ tx.old.conn.ghost_name }
         ensures stays { Stays (state S.Store tx.old.conn.now) (state S.Store tx.new.conn.now) }
-        ensures part { OnOk result (Part (state S.Store tx.old.conn.now) (state S.Store tx.new.conn.now) (with_each Self.Insert.with (first.now ∷ second.now ∷ []))) }
+        ensures part { OnOk result
+            (Part (state S.Store tx.old.conn.now) (state S.Store tx.new.conn.now) (with_each Self.Insert.with (first.now ∷ second.now ∷ []))) }
         ensures going { HasCleanDisk (state S.Store tx.new.conn.now) → OnOk result (IsGoing (state S.Store tx.new.conn.now)) };
 
     fn insert_three<'a, S: Alter>(
@@ -78,7 +81,8 @@ trait InsertRows: Insert {
     ) -> Result<(), Error>
         ensures same_reference { tx.new.conn.ghost_name ≡ tx.old.conn.ghost_name }
         ensures stays { Stays (state S.Store tx.old.conn.now) (state S.Store tx.new.conn.now) }
-        ensures part { OnOk result (Part (state S.Store tx.old.conn.now) (state S.Store tx.new.conn.now) (with_each Self.Insert.with (first.now ∷ second.now ∷ third.now ∷ []))) }
+        ensures part { OnOk result
+            (Part (state S.Store tx.old.conn.now) (state S.Store tx.new.conn.now) (with_each Self.Insert.with (first.now ∷ second.now ∷ third.now ∷ []))) }
         ensures going { HasCleanDisk (state S.Store tx.new.conn.now) → OnOk result (IsGoing (state S.Store tx.new.conn.now)) };
 }
 
@@ -244,7 +248,8 @@ fn insert_all<S: Alter, T: Insert>(tx: &mut Transaction<'_, S>, all: &[T]) -> Re
     ensures same_reference { tx.new.conn.ghost_name ≡ tx.old.conn.ghost_name }
     ensures stays { Stays (state S.Store tx.old.conn.now) (state S.Store tx.new.conn.now) }
     ensures part { OnOk result (Part (state S.Store tx.old.conn.now) (state S.Store tx.new.conn.now) (with_each T.Insert.with all.now)) }
-    ensures going { IsGoing (state S.Store tx.old.conn.now) → HasCleanDisk (state S.Store tx.new.conn.now) → OnOk result (IsGoing (state S.Store tx.new.conn.now)) }
+    ensures going { IsGoing (state S.Store tx.old.conn.now) → HasCleanDisk (state S.Store tx.new.conn.now)
+        → OnOk result (IsGoing (state S.Store tx.new.conn.now)) }
 {
     for one in all {
         one.insert(tx)?;
@@ -260,7 +265,8 @@ fn insert_some<S: Alter, T: InsertRows>(
     ensures same_reference { tx.new.conn.ghost_name ≡ tx.old.conn.ghost_name }
     ensures stays { Stays (state S.Store tx.old.conn.now) (state S.Store tx.new.conn.now) }
     ensures part { OnOk result (Part (state S.Store tx.old.conn.now) (state S.Store tx.new.conn.now) (with_each T.Insert.with some.now)) }
-    ensures going { IsGoing (state S.Store tx.old.conn.now) → HasCleanDisk (state S.Store tx.new.conn.now) → OnOk result (IsGoing (state S.Store tx.new.conn.now)) }
+    ensures going { IsGoing (state S.Store tx.old.conn.now) → HasCleanDisk (state S.Store tx.new.conn.now)
+        → OnOk result (IsGoing (state S.Store tx.new.conn.now)) }
 {
     match some {
         [first, second, third] => T::insert_three(tx, first, second, third),
@@ -274,7 +280,8 @@ fn insert_rows<S: Alter, T: InsertRows>(tx: &mut Transaction<'_, S>, all: &[T]) 
     ensures same_reference { tx.new.conn.ghost_name ≡ tx.old.conn.ghost_name }
     ensures stays { Stays (state S.Store tx.old.conn.now) (state S.Store tx.new.conn.now) }
     ensures part { OnOk result (Part (state S.Store tx.old.conn.now) (state S.Store tx.new.conn.now) (with_each T.Insert.with all.now)) }
-    ensures going { IsGoing (state S.Store tx.old.conn.now) → HasCleanDisk (state S.Store tx.new.conn.now) → OnOk result (IsGoing (state S.Store tx.new.conn.now)) }
+    ensures going { IsGoing (state S.Store tx.old.conn.now) → HasCleanDisk (state S.Store tx.new.conn.now)
+        → OnOk result (IsGoing (state S.Store tx.new.conn.now)) }
 {
     for some in all.chunks(3) {
         insert_some(tx, some)?;
@@ -304,7 +311,8 @@ fn delete_records<S: Alter>(tx: &mut Transaction<'_, S>, removed: &[RecordRow]) 
     ensures same_reference { tx.new.conn.ghost_name ≡ tx.old.conn.ghost_name }
     ensures stays { Stays (state S.Store tx.old.conn.now) (state S.Store tx.new.conn.now) }
     ensures part { OnOk result (Part (state S.Store tx.old.conn.now) (state S.Store tx.new.conn.now) (without_records removed.now)) }
-    ensures going { IsGoing (state S.Store tx.old.conn.now) → HasCleanDisk (state S.Store tx.new.conn.now) → OnOk result (IsGoing (state S.Store tx.new.conn.now)) }
+    ensures going { IsGoing (state S.Store tx.old.conn.now) → HasCleanDisk (state S.Store tx.new.conn.now)
+        → OnOk result (IsGoing (state S.Store tx.new.conn.now)) }
 {
     for gone in removed {
         delete_record(tx, gone)?;
@@ -339,7 +347,8 @@ fn replace_record<'a, S: Alter>(
 ) -> Result<(), Error>
     ensures same_reference { tx.new.conn.ghost_name ≡ tx.old.conn.ghost_name }
     ensures stays { Stays (state S.Store tx.old.conn.now) (state S.Store tx.new.conn.now) }
-    ensures part { OnOk result (Part (state S.Store tx.old.conn.now) (state S.Store tx.new.conn.now) (λ rows. with_record new.now (without_record gone.now rows))) }
+    ensures part { OnOk result
+        (Part (state S.Store tx.old.conn.now) (state S.Store tx.new.conn.now) (λ rows. with_record new.now (without_record gone.now rows))) }
     ensures going { HasCleanDisk (state S.Store tx.new.conn.now) → OnOk result (IsGoing (state S.Store tx.new.conn.now)) }
 {
     if update_record(tx, gone, new)? {
@@ -357,8 +366,10 @@ fn write_records<'a, S: Alter>(
 ) -> Result<(), Error>
     ensures same_reference { tx.new.conn.ghost_name ≡ tx.old.conn.ghost_name }
     ensures stays { Stays (state S.Store tx.old.conn.now) (state S.Store tx.new.conn.now) }
-    ensures part { OnOk result (Part (state S.Store tx.old.conn.now) (state S.Store tx.new.conn.now) (λ rows. with_each with_record added.now (without_records removed.now rows))) }
-    ensures going { IsGoing (state S.Store tx.old.conn.now) → HasCleanDisk (state S.Store tx.new.conn.now) → OnOk result (IsGoing (state S.Store tx.new.conn.now)) }
+    ensures part { OnOk result
+        (Part (state S.Store tx.old.conn.now) (state S.Store tx.new.conn.now) (λ rows. with_each with_record added.now (without_records removed.now rows))) }
+    ensures going { IsGoing (state S.Store tx.old.conn.now) → HasCleanDisk (state S.Store tx.new.conn.now)
+        → OnOk result (IsGoing (state S.Store tx.new.conn.now)) }
 {
     let ([gone, removed @ ..], [new, added @ ..]) = (removed, added) else {
         delete_records(tx, removed)?;
@@ -372,8 +383,10 @@ fn write_records<'a, S: Alter>(
 fn set_version<S: Alter>(tx: &mut Transaction<'_, S>, version: Option<i64>) -> Result<(), Error>
     ensures same_reference { tx.new.conn.ghost_name ≡ tx.old.conn.ghost_name }
     ensures stays { Stays (state S.Store tx.old.conn.now) (state S.Store tx.new.conn.now) }
-    ensures part { OnOk result (Part (state S.Store tx.old.conn.now) (state S.Store tx.new.conn.now) (λ rows. record rows { versions = versions_with version rows.versions })) }
-    ensures going { IsGoing (state S.Store tx.old.conn.now) → HasCleanDisk (state S.Store tx.new.conn.now) → OnOk result (IsGoing (state S.Store tx.new.conn.now)) }
+    ensures part { OnOk result
+        (Part (state S.Store tx.old.conn.now) (state S.Store tx.new.conn.now) (λ rows. record rows { versions = versions_with version rows.versions })) }
+    ensures going { IsGoing (state S.Store tx.old.conn.now) → HasCleanDisk (state S.Store tx.new.conn.now)
+        → OnOk result (IsGoing (state S.Store tx.new.conn.now)) }
 {
     let Some(version) = version else {
         return Ok(());
@@ -387,7 +400,8 @@ fn write_all<S: Alter>(tx: &mut Transaction<'_, S>, batch: &Batch) -> Result<(),
     ensures same_reference { tx.new.conn.ghost_name ≡ tx.old.conn.ghost_name }
     ensures stays { Stays (state S.Store tx.old.conn.now) (state S.Store tx.new.conn.now) }
     ensures part { OnOk result (Part (state S.Store tx.old.conn.now) (state S.Store tx.new.conn.now) (written batch.now)) }
-    ensures going { IsGoing (state S.Store tx.old.conn.now) → HasCleanDisk (state S.Store tx.new.conn.now) → OnOk result (IsGoing (state S.Store tx.new.conn.now)) }
+    ensures going { IsGoing (state S.Store tx.old.conn.now) → HasCleanDisk (state S.Store tx.new.conn.now)
+        → OnOk result (IsGoing (state S.Store tx.new.conn.now)) }
 {
     insert_all(tx, &batch.zones)?;
     write_records(tx, &batch.removed, &batch.added)?;
@@ -402,8 +416,11 @@ fn commit<S: Alter>(conn: &mut Connection<S>, batch: &Batch) -> Result<(), Error
     requires opened { HasCleanDisk (state S.Store conn.old) → IsTrue (state S.Store conn.old).is_open }
     ensures made { OnOk result ((rows : RowsOf) → Holds (state S.Store conn.old) rows → Holds (state S.Store conn.new) (written batch.now rows)) }
     ensures failed { OnErr result (Keeps (state S.Store conn.old) (state S.Store conn.new)) }
-    ensures kept { OnOk result ((rows : RowsOf) → Holds (state S.Store conn.old) rows → Leaves (state S.Store conn.new) (λ db. AreRows db (written batch.now rows))) }
-    ensures crash { OnErr result ((rows : RowsOf) → Holds (state S.Store conn.old) rows → Leaves (state S.Store conn.new) (λ db. (state S.Store conn.old).may_leave db ⊎ AreRows db (written batch.now rows))) }
+    ensures kept { OnOk result
+        ((rows : RowsOf) → Holds (state S.Store conn.old) rows → Leaves (state S.Store conn.new) (λ db. AreRows db (written batch.now rows))) }
+    ensures crash { OnErr result
+        ((rows : RowsOf) → Holds (state S.Store conn.old) rows
+        → Leaves (state S.Store conn.new) (λ db. (state S.Store conn.old).may_leave db ⊎ AreRows db (written batch.now rows))) }
     ensures honest { HasCleanDisk (state S.Store conn.new) → HasCleanDisk (state S.Store conn.old) }
     ensures ended { conn.new.in_transaction ≡ false }
 {
@@ -420,8 +437,11 @@ pub fn write<S: Alter>(conn: &mut Connection<S>, batch: &Batch) -> Result<(), Ro
     ensures made { OnOk result ((rows : RowsOf) → Holds (state S.Store conn.old) rows → Holds (state S.Store conn.new) (written batch.now rows)) }
     // The connection shows what it showed, whatever that is.
     ensures failed { OnErr result (Keeps (state S.Store conn.old) (state S.Store conn.new)) }
-    ensures kept { OnOk result ((rows : RowsOf) → Holds (state S.Store conn.old) rows → Leaves (state S.Store conn.new) (λ db. AreRows db (written batch.now rows))) }
-    ensures crash { OnErr result ((rows : RowsOf) → Holds (state S.Store conn.old) rows → Leaves (state S.Store conn.new) (λ db. (state S.Store conn.old).may_leave db ⊎ AreRows db (written batch.now rows))) }
+    ensures kept { OnOk result
+        ((rows : RowsOf) → Holds (state S.Store conn.old) rows → Leaves (state S.Store conn.new) (λ db. AreRows db (written batch.now rows))) }
+    ensures crash { OnErr result
+        ((rows : RowsOf) → Holds (state S.Store conn.old) rows
+        → Leaves (state S.Store conn.new) (λ db. (state S.Store conn.old).may_leave db ⊎ AreRows db (written batch.now rows))) }
     ensures honest { HasCleanDisk (state S.Store conn.new) → HasCleanDisk (state S.Store conn.old) }
     ensures ended { conn.new.in_transaction ≡ false }
 {

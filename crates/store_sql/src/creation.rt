@@ -14,7 +14,8 @@ use sqlite::{Alter, Connection, Error, Transaction};
 fn make_schema<S: Alter>(tx: &mut Transaction<'_, S>) -> Result<(), Error>
     ensures same_reference { tx.new.conn.ghost_name ≡ tx.old.conn.ghost_name }
     ensures stays { Stays (state S.Store tx.old.conn.now) (state S.Store tx.new.conn.now) }
-    ensures made { HasCleanDisk (state S.Store tx.new.conn.now) → OnOk result ((state S.Store tx.old.conn.now).now.schema ≡ no_schema → AreEmpty (state S.Store tx.new.conn.now).now) }
+    ensures made { HasCleanDisk (state S.Store tx.new.conn.now)
+        → OnOk result ((state S.Store tx.old.conn.now).now.schema ≡ no_schema → AreEmpty (state S.Store tx.new.conn.now).now) }
 {
     run(
         tx,
@@ -52,7 +53,8 @@ fn make_schema<S: Alter>(tx: &mut Transaction<'_, S>) -> Result<(), Error>
 fn make_all<S: Alter>(tx: &mut Transaction<'_, S>, version: i64) -> Result<(), Error>
     ensures same_reference { tx.new.conn.ghost_name ≡ tx.old.conn.ghost_name }
     ensures stays { Stays (state S.Store tx.old.conn.now) (state S.Store tx.new.conn.now) }
-    ensures made { HasCleanDisk (state S.Store tx.new.conn.now) → OnOk result ((state S.Store tx.old.conn.now).now.schema ≡ no_schema → Reads (state S.Store tx.new.conn.now).now (made_rows version)) }
+    ensures made { HasCleanDisk (state S.Store tx.new.conn.now)
+        → OnOk result ((state S.Store tx.old.conn.now).now.schema ≡ no_schema → Reads (state S.Store tx.new.conn.now).now (made_rows version)) }
     ensures going { HasCleanDisk (state S.Store tx.new.conn.now) → OnOk result (IsGoing (state S.Store tx.new.conn.now)) }
 {
     make_schema(tx)?;
@@ -83,7 +85,9 @@ pub fn make_tables<S: Alter>(conn: &mut Connection<S>, version: i64) -> Result<(
     ensures made { OnOk result (Holds (state S.Store conn.new) (made_rows version)) }
     ensures kept { OnOk result (Leaves (state S.Store conn.new) (λ db. AreRows db (made_rows version))) }
     // There is no table, nor was one committed.
-    ensures failed { OnErr result (IsTrue (state S.Store conn.new).is_open → ((state S.Store conn.new).now.schema ≡ no_schema) × ((state S.Store conn.new).committed ≡ (state S.Store conn.new).now)) }
+    ensures failed { OnErr result
+        (IsTrue (state S.Store conn.new).is_open
+        → ((state S.Store conn.new).now.schema ≡ no_schema) × ((state S.Store conn.new).committed ≡ (state S.Store conn.new).now)) }
     ensures crash { OnErr result (Leaves (state S.Store conn.new) (λ db. (state S.Store conn.old).may_leave db ⊎ AreRows db (made_rows version))) }
     ensures honest { HasCleanDisk (state S.Store conn.new) → HasCleanDisk (state S.Store conn.old) }
     ensures ended { conn.new.in_transaction ≡ false }

@@ -78,7 +78,9 @@ fn are_blank<D: Disk>(alloc: Global, files: &mut Files<D>, size: PageSize) -> Re
     ensures db { OnlyReads D.Disk files.old.db files.new.db }
     ensures named { IfErr result (λ e. IsTrue (is_open_error e)) }
     ensures counts { faults_of D.Disk files.old ≤ faults_of D.Disk files.new }
-    ensures cause { IfErr result (λ e. AreClean D.Disk files.new.log files.new.db → FailsFor (faults_of D.Disk files.old) (faults_of D.Disk files.new) (IsTooLong (image_of D.Disk files.old)) ⊤ e) }
+    ensures cause { IfErr result
+        (λ e. AreClean D.Disk files.new.log files.new.db
+        → FailsFor (faults_of D.Disk files.old) (faults_of D.Disk files.new) (IsTooLong (image_of D.Disk files.old)) ⊤ e) }
 {
     match probe_blank(alloc, files, size, false) {
         Ok(are_blank) => Ok(are_blank),
@@ -99,7 +101,9 @@ fn make<D: Disk + Drop>(
     ensures guarded { IfOk result (λ store. IsTrue (view store).is_clean → is_shielded store) }
     ensures named { IfErr result (λ e. IsTrue (is_open_error e.0)) }
     ensures honest { IfErr result (λ e. IsCleanLeft e.1 → AreClean D.Disk files.log files.db) }
-    ensures cause { IfErr result (λ e. IsCleanLeft e.1 → FailsFor (faults_of D.Disk files) (faults_left e.1) (IsFullLeft e.1) (IsBlankFile (bytes_of size) (image_of D.Disk files)) e.0) }
+    ensures cause { IfErr result
+        (λ e. IsCleanLeft e.1
+        → FailsFor (faults_of D.Disk files) (faults_left e.1) (IsFullLeft e.1) (IsBlankFile (bytes_of size) (image_of D.Disk files)) e.0) }
 {
     let pager = match Pager::new(alloc, files, size, options) {
         Ok(pager) => pager,

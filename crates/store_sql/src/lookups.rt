@@ -21,10 +21,13 @@ use std::alloc::Global;
 /// runs out, and with `BadRow` where a row cannot have been written here.
 pub fn has_zone<S: Alter>(conn: &mut Connection<S>, origin: &str) -> Result<bool, RowsFault>
     requires { conn.old.in_transaction ≡ false }
-    ensures answer { HasCleanDisk (state S.Store conn.new) → IfOk result (λ yes. (rows : RowsOf) → Holds (state S.Store conn.old) rows → yes ≡ list_any (bytes_eq origin.now) rows.zones) }
+    ensures answer { HasCleanDisk (state S.Store conn.new)
+        → IfOk result (λ yes. (rows : RowsOf) → Holds (state S.Store conn.old) rows → yes ≡ list_any (bytes_eq origin.now) rows.zones) }
     ensures asks { OnlyAsks (state S.Store conn.old) (state S.Store conn.new) }
-    ensures same { HasCleanDisk (state S.Store conn.new) → OnOk result (Shows (state S.Store conn.old) (state S.Store conn.new) (state S.Store conn.old).now (state S.Store conn.old).now false) }
-    ensures only { HasCleanDisk (state S.Store conn.new) → OnOk result ((rows : RowsOf) → Holds (state S.Store conn.new) rows → Holds (state S.Store conn.old) rows) }
+    ensures same { HasCleanDisk (state S.Store conn.new)
+        → OnOk result (Shows (state S.Store conn.old) (state S.Store conn.new) (state S.Store conn.old).now (state S.Store conn.old).now false) }
+    ensures only { HasCleanDisk (state S.Store conn.new)
+        → OnOk result ((rows : RowsOf) → Holds (state S.Store conn.new) rows → Holds (state S.Store conn.old) rows) }
     ensures bad { HasCleanDisk (state S.Store conn.new) → result ≡ Err BadRow → (rows : RowsOf) → Holds (state S.Store conn.old) rows → ⊥ }
 {
     let zones = fetch_open(
@@ -42,10 +45,13 @@ pub fn records_of<S: Alter>(
     origin: &str,
 ) -> Result<Vec<RecordRow>, RowsFault>
     requires { conn.old.in_transaction ≡ false }
-    ensures answer { HasCleanDisk (state S.Store conn.new) → IfOk result (λ xs. (rows : RowsOf) → Holds (state S.Store conn.old) rows → IsPermutation (the.records_of origin.now rows.records) xs.items) }
+    ensures answer { HasCleanDisk (state S.Store conn.new)
+        → IfOk result (λ xs. (rows : RowsOf) → Holds (state S.Store conn.old) rows → IsPermutation (the.records_of origin.now rows.records) xs.items) }
     ensures asks { OnlyAsks (state S.Store conn.old) (state S.Store conn.new) }
-    ensures same { HasCleanDisk (state S.Store conn.new) → OnOk result (Shows (state S.Store conn.old) (state S.Store conn.new) (state S.Store conn.old).now (state S.Store conn.old).now false) }
-    ensures only { HasCleanDisk (state S.Store conn.new) → OnOk result ((rows : RowsOf) → Holds (state S.Store conn.new) rows → Holds (state S.Store conn.old) rows) }
+    ensures same { HasCleanDisk (state S.Store conn.new)
+        → OnOk result (Shows (state S.Store conn.old) (state S.Store conn.new) (state S.Store conn.old).now (state S.Store conn.old).now false) }
+    ensures only { HasCleanDisk (state S.Store conn.new)
+        → OnOk result ((rows : RowsOf) → Holds (state S.Store conn.new) rows → Holds (state S.Store conn.old) rows) }
     ensures bad { HasCleanDisk (state S.Store conn.new) → result ≡ Err BadRow → (rows : RowsOf) → Holds (state S.Store conn.old) rows → ⊥ }
 {
     ask(
@@ -64,10 +70,14 @@ pub fn records_at<S: Alter>(
     owner_key: &[u8],
 ) -> Result<Vec<RecordRow>, RowsFault>
     requires { conn.old.in_transaction ≡ false }
-    ensures answer { HasCleanDisk (state S.Store conn.new) → IfOk result (λ xs. (rows : RowsOf) → Holds (state S.Store conn.old) rows → IsPermutation (the.records_at origin.now owner_key.now rows.records) xs.items) }
+    ensures answer { HasCleanDisk (state S.Store conn.new)
+        → IfOk result
+        (λ xs. (rows : RowsOf) → Holds (state S.Store conn.old) rows → IsPermutation (the.records_at origin.now owner_key.now rows.records) xs.items) }
     ensures asks { OnlyAsks (state S.Store conn.old) (state S.Store conn.new) }
-    ensures same { HasCleanDisk (state S.Store conn.new) → OnOk result (Shows (state S.Store conn.old) (state S.Store conn.new) (state S.Store conn.old).now (state S.Store conn.old).now false) }
-    ensures only { HasCleanDisk (state S.Store conn.new) → OnOk result ((rows : RowsOf) → Holds (state S.Store conn.new) rows → Holds (state S.Store conn.old) rows) }
+    ensures same { HasCleanDisk (state S.Store conn.new)
+        → OnOk result (Shows (state S.Store conn.old) (state S.Store conn.new) (state S.Store conn.old).now (state S.Store conn.old).now false) }
+    ensures only { HasCleanDisk (state S.Store conn.new)
+        → OnOk result ((rows : RowsOf) → Holds (state S.Store conn.new) rows → Holds (state S.Store conn.old) rows) }
     ensures bad { HasCleanDisk (state S.Store conn.new) → result ≡ Err BadRow → (rows : RowsOf) → Holds (state S.Store conn.old) rows → ⊥ }
 {
     ask(
@@ -87,10 +97,15 @@ pub fn records_between<S: Alter>(
     to: &[u8],
 ) -> Result<Vec<RecordRow>, RowsFault>
     requires { conn.old.in_transaction ≡ false }
-    ensures answer { HasCleanDisk (state S.Store conn.new) → IfOk result (λ xs. (rows : RowsOf) → Holds (state S.Store conn.old) rows → IsPermutation (the.records_between origin.now from.now to.now rows.records) xs.items) }
+    ensures answer { HasCleanDisk (state S.Store conn.new)
+        → IfOk result
+        (λ xs. (rows : RowsOf) → Holds (state S.Store conn.old) rows
+        → IsPermutation (the.records_between origin.now from.now to.now rows.records) xs.items) }
     ensures asks { OnlyAsks (state S.Store conn.old) (state S.Store conn.new) }
-    ensures same { HasCleanDisk (state S.Store conn.new) → OnOk result (Shows (state S.Store conn.old) (state S.Store conn.new) (state S.Store conn.old).now (state S.Store conn.old).now false) }
-    ensures only { HasCleanDisk (state S.Store conn.new) → OnOk result ((rows : RowsOf) → Holds (state S.Store conn.new) rows → Holds (state S.Store conn.old) rows) }
+    ensures same { HasCleanDisk (state S.Store conn.new)
+        → OnOk result (Shows (state S.Store conn.old) (state S.Store conn.new) (state S.Store conn.old).now (state S.Store conn.old).now false) }
+    ensures only { HasCleanDisk (state S.Store conn.new)
+        → OnOk result ((rows : RowsOf) → Holds (state S.Store conn.new) rows → Holds (state S.Store conn.old) rows) }
     ensures bad { HasCleanDisk (state S.Store conn.new) → result ≡ Err BadRow → (rows : RowsOf) → Holds (state S.Store conn.old) rows → ⊥ }
 {
     ask(
@@ -109,10 +124,14 @@ pub fn receipts_of<S: Alter>(
     id: &str,
 ) -> Result<Vec<ReceiptRow>, RowsFault>
     requires { conn.old.in_transaction ≡ false }
-    ensures answer { HasCleanDisk (state S.Store conn.new) → IfOk result (λ xs. (rows : RowsOf) → Holds (state S.Store conn.old) rows → IsPermutation (the.receipts_of caller.now id.now rows.receipts) xs.items) }
+    ensures answer { HasCleanDisk (state S.Store conn.new)
+        → IfOk result
+        (λ xs. (rows : RowsOf) → Holds (state S.Store conn.old) rows → IsPermutation (the.receipts_of caller.now id.now rows.receipts) xs.items) }
     ensures asks { OnlyAsks (state S.Store conn.old) (state S.Store conn.new) }
-    ensures same { HasCleanDisk (state S.Store conn.new) → OnOk result (Shows (state S.Store conn.old) (state S.Store conn.new) (state S.Store conn.old).now (state S.Store conn.old).now false) }
-    ensures only { HasCleanDisk (state S.Store conn.new) → OnOk result ((rows : RowsOf) → Holds (state S.Store conn.new) rows → Holds (state S.Store conn.old) rows) }
+    ensures same { HasCleanDisk (state S.Store conn.new)
+        → OnOk result (Shows (state S.Store conn.old) (state S.Store conn.new) (state S.Store conn.old).now (state S.Store conn.old).now false) }
+    ensures only { HasCleanDisk (state S.Store conn.new)
+        → OnOk result ((rows : RowsOf) → Holds (state S.Store conn.new) rows → Holds (state S.Store conn.old) rows) }
     ensures bad { HasCleanDisk (state S.Store conn.new) → result ≡ Err BadRow → (rows : RowsOf) → Holds (state S.Store conn.old) rows → ⊥ }
 {
     ask(
@@ -130,10 +149,13 @@ pub fn changes_of<S: Alter>(
     origin: &str,
 ) -> Result<Vec<ChangeRow>, RowsFault>
     requires { conn.old.in_transaction ≡ false }
-    ensures answer { HasCleanDisk (state S.Store conn.new) → IfOk result (λ xs. (rows : RowsOf) → Holds (state S.Store conn.old) rows → IsPermutation (the.changes_of origin.now rows.changes) xs.items) }
+    ensures answer { HasCleanDisk (state S.Store conn.new)
+        → IfOk result (λ xs. (rows : RowsOf) → Holds (state S.Store conn.old) rows → IsPermutation (the.changes_of origin.now rows.changes) xs.items) }
     ensures asks { OnlyAsks (state S.Store conn.old) (state S.Store conn.new) }
-    ensures same { HasCleanDisk (state S.Store conn.new) → OnOk result (Shows (state S.Store conn.old) (state S.Store conn.new) (state S.Store conn.old).now (state S.Store conn.old).now false) }
-    ensures only { HasCleanDisk (state S.Store conn.new) → OnOk result ((rows : RowsOf) → Holds (state S.Store conn.new) rows → Holds (state S.Store conn.old) rows) }
+    ensures same { HasCleanDisk (state S.Store conn.new)
+        → OnOk result (Shows (state S.Store conn.old) (state S.Store conn.new) (state S.Store conn.old).now (state S.Store conn.old).now false) }
+    ensures only { HasCleanDisk (state S.Store conn.new)
+        → OnOk result ((rows : RowsOf) → Holds (state S.Store conn.new) rows → Holds (state S.Store conn.old) rows) }
     ensures bad { HasCleanDisk (state S.Store conn.new) → result ≡ Err BadRow → (rows : RowsOf) → Holds (state S.Store conn.old) rows → ⊥ }
 {
     ask(
@@ -154,10 +176,14 @@ pub fn changes_between<S: Alter>(
     to: i64,
 ) -> Result<Vec<ChangeRow>, RowsFault>
     requires { conn.old.in_transaction ≡ false }
-    ensures answer { HasCleanDisk (state S.Store conn.new) → IfOk result (λ xs. (rows : RowsOf) → Holds (state S.Store conn.old) rows → IsPermutation (the.changes_between origin.now from to rows.changes) xs.items) }
+    ensures answer { HasCleanDisk (state S.Store conn.new)
+        → IfOk result
+        (λ xs. (rows : RowsOf) → Holds (state S.Store conn.old) rows → IsPermutation (the.changes_between origin.now from to rows.changes) xs.items) }
     ensures asks { OnlyAsks (state S.Store conn.old) (state S.Store conn.new) }
-    ensures same { HasCleanDisk (state S.Store conn.new) → OnOk result (Shows (state S.Store conn.old) (state S.Store conn.new) (state S.Store conn.old).now (state S.Store conn.old).now false) }
-    ensures only { HasCleanDisk (state S.Store conn.new) → OnOk result ((rows : RowsOf) → Holds (state S.Store conn.new) rows → Holds (state S.Store conn.old) rows) }
+    ensures same { HasCleanDisk (state S.Store conn.new)
+        → OnOk result (Shows (state S.Store conn.old) (state S.Store conn.new) (state S.Store conn.old).now (state S.Store conn.old).now false) }
+    ensures only { HasCleanDisk (state S.Store conn.new)
+        → OnOk result ((rows : RowsOf) → Holds (state S.Store conn.new) rows → Holds (state S.Store conn.old) rows) }
     ensures bad { HasCleanDisk (state S.Store conn.new) → result ≡ Err BadRow → (rows : RowsOf) → Holds (state S.Store conn.old) rows → ⊥ }
 {
     ask(
@@ -175,10 +201,13 @@ pub fn last_number<S: Alter>(
     origin: &str,
 ) -> Result<Option<i64>, RowsFault>
     requires { conn.old.in_transaction ≡ false }
-    ensures answer { HasCleanDisk (state S.Store conn.new) → IfOk result (λ last. (rows : RowsOf) → Holds (state S.Store conn.old) rows → IsLast (the.changes_of origin.now rows.changes) last) }
+    ensures answer { HasCleanDisk (state S.Store conn.new)
+        → IfOk result (λ last. (rows : RowsOf) → Holds (state S.Store conn.old) rows → IsLast (the.changes_of origin.now rows.changes) last) }
     ensures asks { OnlyAsks (state S.Store conn.old) (state S.Store conn.new) }
-    ensures same { HasCleanDisk (state S.Store conn.new) → OnOk result (Shows (state S.Store conn.old) (state S.Store conn.new) (state S.Store conn.old).now (state S.Store conn.old).now false) }
-    ensures only { HasCleanDisk (state S.Store conn.new) → OnOk result ((rows : RowsOf) → Holds (state S.Store conn.new) rows → Holds (state S.Store conn.old) rows) }
+    ensures same { HasCleanDisk (state S.Store conn.new)
+        → OnOk result (Shows (state S.Store conn.old) (state S.Store conn.new) (state S.Store conn.old).now (state S.Store conn.old).now false) }
+    ensures only { HasCleanDisk (state S.Store conn.new)
+        → OnOk result ((rows : RowsOf) → Holds (state S.Store conn.new) rows → Holds (state S.Store conn.old) rows) }
     ensures bad { HasCleanDisk (state S.Store conn.new) → result ≡ Err BadRow → (rows : RowsOf) → Holds (state S.Store conn.old) rows → ⊥ }
 {
     let numbers: Vec<i64> = ask(

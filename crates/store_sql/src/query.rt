@@ -36,7 +36,10 @@ fn fetch<S: Alter>(
     requires { conn.old.in_transaction ≡ false }
     ensures stays { Stays (state S.Store conn.old) (state S.Store conn.new) }
     ensures back { Keeps (state S.Store conn.old) (state S.Store conn.new) }
-    ensures shown { HasCleanDisk (state S.Store conn.new) → IfOk result (λ rows. (mid : _) × Shown sql.now (bound params.now) (state S.Store (record conn.old { in_transaction = true })) (state S.Store mid) rows.items) }
+    ensures shown { HasCleanDisk (state S.Store conn.new)
+        → IfOk result
+        (λ rows. (mid : _)
+        × Shown sql.now (bound params.now) (state S.Store (record conn.old { in_transaction = true })) (state S.Store mid) rows.items) }
     ensures ended { conn.new.in_transaction ≡ false }
 {
     let mut tx = conn.transaction();
@@ -51,8 +54,12 @@ pub(crate) fn fetch_open<S: Alter>(
 ) -> Result<Vec<Row>, Error>
     requires { conn.old.in_transaction ≡ false }
     ensures asks { OnlyAsks (state S.Store conn.old) (state S.Store conn.new) }
-    ensures same { HasCleanDisk (state S.Store conn.new) → OnOk result (Shows (state S.Store conn.old) (state S.Store conn.new) (state S.Store conn.old).now (state S.Store conn.old).now false) }
-    ensures shown { HasCleanDisk (state S.Store conn.new) → IfOk result (λ rows. (mid : _) × Shown sql.now (bound params.now) (state S.Store (record conn.old { in_transaction = true })) (state S.Store mid) rows.items) }
+    ensures same { HasCleanDisk (state S.Store conn.new)
+        → OnOk result (Shows (state S.Store conn.old) (state S.Store conn.new) (state S.Store conn.old).now (state S.Store conn.old).now false) }
+    ensures shown { HasCleanDisk (state S.Store conn.new)
+        → IfOk result
+        (λ rows. (mid : _)
+        × Shown sql.now (bound params.now) (state S.Store (record conn.old { in_transaction = true })) (state S.Store mid) rows.items) }
 {
     let is_alone = conn.is_autocommit();
     prove!(is_alone);
@@ -70,10 +77,18 @@ pub(crate) fn ask<S: Alter, T: FromRow>(
 ) -> Result<Vec<T>, RowsFault>
     requires { conn.old.in_transaction ≡ false }
     ensures asks { OnlyAsks (state S.Store conn.old) (state S.Store conn.new) }
-    ensures same { HasCleanDisk (state S.Store conn.new) → OnOk result (Shows (state S.Store conn.old) (state S.Store conn.new) (state S.Store conn.old).now (state S.Store conn.old).now false) }
-    ensures shown { HasCleanDisk (state S.Store conn.new) → IfOk result (λ xs. (mid : _) × Shown sql.now (bound params.now) (state S.Store (record conn.old { in_transaction = true })) (state S.Store mid) (map T.FromRow.stored xs.items)) }
+    ensures same { HasCleanDisk (state S.Store conn.new)
+        → OnOk result (Shows (state S.Store conn.old) (state S.Store conn.new) (state S.Store conn.old).now (state S.Store conn.old).now false) }
+    ensures shown { HasCleanDisk (state S.Store conn.new)
+        → IfOk result
+        (λ xs. (mid : _)
+        × Shown sql.now (bound params.now) (state S.Store (record conn.old { in_transaction = true })) (state S.Store mid)
+        (map T.FromRow.stored xs.items)) }
     ensures readable { IfOk result (λ xs. AllByRecursion IsReadableRow (map T.FromRow.stored xs.items)) }
-    ensures bad { HasCleanDisk (state S.Store conn.new) → result ≡ Err BadRow → (rows : _) × (mid : _) × Shown sql.now (bound params.now) (state S.Store (record conn.old { in_transaction = true })) (state S.Store mid) rows × ((xs : List T) → rows ≡ map T.FromRow.stored xs → AllByRecursion IsReadableRow rows → ⊥) }
+    ensures bad { HasCleanDisk (state S.Store conn.new) → result ≡ Err BadRow
+        → (rows : _) × (mid : _)
+        × Shown sql.now (bound params.now) (state S.Store (record conn.old { in_transaction = true })) (state S.Store mid) rows
+        × ((xs : List T) → rows ≡ map T.FromRow.stored xs → AllByRecursion IsReadableRow rows → ⊥) }
 {
     let rows = fetch_open(conn, sql, params)?;
     read_rows(alloc, rows)

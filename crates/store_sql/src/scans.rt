@@ -81,7 +81,9 @@ fn take_numbered<R: FromRow, C: RowCheck<R>>(
     check: &mut C,
     row: &Row,
 ) -> Result<(), RowsFault>
-    ensures taken { OnOk result ((start : C) (given : _) → AreTaken R.FromRow.stored C.has_taken start check.old given rowids.old.items → AreTaken R.FromRow.stored C.has_taken start check.new (given ++ row.now ∷ []) rowids.new.items) }
+    ensures taken { OnOk result
+        ((start : C) (given : _) → AreTaken R.FromRow.stored C.has_taken start check.old given rowids.old.items
+        → AreTaken R.FromRow.stored C.has_taken start check.new (given ++ row.now ∷ []) rowids.new.items) }
     ensures bad { result ≡ Err BadRow → IsOneToOne R.FromRow.stored → (id : ℤ) (x : R) → Numbers R.FromRow.stored row.now id x → C.is_good x → ⊥ }
 {
     let rowid = number_at(row, 0, 0)?;
@@ -100,9 +102,19 @@ fn take_each<S: Alter, R: FromRow, C: RowCheck<R>>(
     requires open { HasCleanDisk (state S.Store rows.old.conn.now) → IsTrue (state S.Store rows.old.conn.now).is_open }
     ensures same_reference { rows.new.conn.ghost_name ≡ rows.old.conn.ghost_name }
     ensures writes { WritesNothing (state S.Store rows.old.conn.now) (state S.Store rows.new.conn.now) }
-    ensures same { HasCleanDisk (state S.Store rows.new.conn.now) → OnOk result (IsUnchanged (state S.Store rows.old.conn.now) (state S.Store rows.new.conn.now)) }
-    ensures taken { IfOk result (λ rowids. (given : _) × AreTaken R.FromRow.stored C.has_taken check.old check.new given rowids.items × (HasCleanDisk (state S.Store rows.new.conn.now) → (sql : _) → IsPlain (understood rows.old.conn.now.schema sql) → HasGiven S.Store sql [] rows.old.conn.now [] → Shown sql [] (state S.Store rows.old.conn.now) (state S.Store rows.new.conn.now) given)) }
-    ensures bad { HasCleanDisk (state S.Store rows.new.conn.now) → result ≡ Err BadRow → IsTrue (state S.Store rows.new.conn.now).is_open × ((sql : _) → HasGiven S.Store sql [] rows.old.conn.now [] → (given : _) × Begins sql [] (state S.Store rows.new.conn.now) given × BeginNone R.FromRow.stored C.is_good given) }
+    ensures same { HasCleanDisk (state S.Store rows.new.conn.now)
+        → OnOk result (IsUnchanged (state S.Store rows.old.conn.now) (state S.Store rows.new.conn.now)) }
+    ensures taken { IfOk result
+        (λ rowids. (given : _) × AreTaken R.FromRow.stored C.has_taken check.old check.new given rowids.items
+        ×
+        (HasCleanDisk (state S.Store rows.new.conn.now) → (sql : _) → IsPlain (understood rows.old.conn.now.schema sql)
+        → HasGiven S.Store sql [] rows.old.conn.now []
+        → Shown sql [] (state S.Store rows.old.conn.now) (state S.Store rows.new.conn.now) given)) }
+    ensures bad { HasCleanDisk (state S.Store rows.new.conn.now) → result ≡ Err BadRow
+        → IsTrue (state S.Store rows.new.conn.now).is_open
+        ×
+        ((sql : _) → HasGiven S.Store sql [] rows.old.conn.now []
+        → (given : _) × Begins sql [] (state S.Store rows.new.conn.now) given × BeginNone R.FromRow.stored C.is_good given) }
 {
     let mut rowids = Vec::new(alloc);
     'rows: for _ in 0..u64::MAX {
@@ -127,8 +139,12 @@ fn scan<S: Alter, R: FromRow, C: RowCheck<R>>(
     requires plain { IsPlain (understood conn.old.schema sql.now) }
     ensures writes { WritesNothing (state S.Store conn.old) (state S.Store conn.new) }
     ensures same { HasCleanDisk (state S.Store conn.new) → OnOk result (IsUnchanged (state S.Store conn.old) (state S.Store conn.new)) }
-    ensures taken { IfOk result (λ rowids. (given : _) × AreTaken R.FromRow.stored C.has_taken check.old check.new given rowids.items × (HasCleanDisk (state S.Store conn.new) → Shown sql.now [] (state S.Store conn.old) (state S.Store conn.new) given)) }
-    ensures bad { HasCleanDisk (state S.Store conn.new) → result ≡ Err BadRow → IsTrue (state S.Store conn.new).is_open × ((given : _) × Begins sql.now [] (state S.Store conn.new) given × BeginNone R.FromRow.stored C.is_good given) }
+    ensures taken { IfOk result
+        (λ rowids. (given : _) × AreTaken R.FromRow.stored C.has_taken check.old check.new given rowids.items
+        × (HasCleanDisk (state S.Store conn.new) → Shown sql.now [] (state S.Store conn.old) (state S.Store conn.new) given)) }
+    ensures bad { HasCleanDisk (state S.Store conn.new) → result ≡ Err BadRow
+        → IsTrue (state S.Store conn.new).is_open
+        × ((given : _) × Begins sql.now [] (state S.Store conn.new) given × BeginNone R.FromRow.stored C.is_good given) }
 {
     let mut rows = conn.query(sql, &[])?;
     take_each::<S, R, C>(alloc, &mut rows, check)
@@ -146,10 +162,20 @@ fn each<S: Alter, R: FromRow, C: RowCheck<R>>(
     requires idle { conn.old.in_transaction ≡ false }
     requires plain { IsOffice conn.old.schema → IsPlain (understood conn.old.schema sql.now) }
     ensures asks { OnlyAsks (state S.Store conn.old) (state S.Store conn.new) }
-    ensures same { HasCleanDisk (state S.Store conn.new) → OnOk result (Shows (state S.Store conn.old) (state S.Store conn.new) (state S.Store conn.old).now (state S.Store conn.old).now false) }
-    ensures live { HasCleanDisk (state S.Store conn.new) → OnOk result (IsOffice (state S.Store conn.old).now.schema × IsDatabase (state S.Store conn.old).now) }
-    ensures taken { OnOk result ((rows : List R) × TakesMore C.has_taken check.old check.new rows × (HasCleanDisk (state S.Store conn.new) → (given : _) × Shown sql.now [] (state S.Store conn.old) (state S.Store conn.new) given × Stores given (map R.FromRow.stored rows))) }
-    ensures bad { HasCleanDisk (state S.Store conn.new) → result ≡ Err BadRow → IsTrue (state S.Store conn.new).is_open × (IsOffice (state S.Store conn.new).now.schema → (given : _) × Begins sql.now [] (state S.Store conn.new) given × BeginNone R.FromRow.stored C.is_good given) }
+    ensures same { HasCleanDisk (state S.Store conn.new)
+        → OnOk result (Shows (state S.Store conn.old) (state S.Store conn.new) (state S.Store conn.old).now (state S.Store conn.old).now false) }
+    ensures live { HasCleanDisk (state S.Store conn.new)
+        → OnOk result (IsOffice (state S.Store conn.old).now.schema × IsDatabase (state S.Store conn.old).now) }
+    ensures taken { OnOk result
+        ((rows : List R) × TakesMore C.has_taken check.old check.new rows
+        ×
+        (HasCleanDisk (state S.Store conn.new)
+        → (given : _) × Shown sql.now [] (state S.Store conn.old) (state S.Store conn.new) given × Stores given (map R.FromRow.stored rows))) }
+    ensures bad { HasCleanDisk (state S.Store conn.new) → result ≡ Err BadRow
+        → IsTrue (state S.Store conn.new).is_open
+        ×
+        (IsOffice (state S.Store conn.new).now.schema
+        → (given : _) × Begins sql.now [] (state S.Store conn.new) given × BeginNone R.FromRow.stored C.is_good given) }
 {
     let is_alone = conn.is_autocommit();
     prove!(is_alone);
@@ -190,11 +216,21 @@ fn all<S: Alter, R: FromRow, T: Drop, Q: RowReader<R, T>>(
     requires idle { conn.old.in_transaction ≡ false }
     requires plain { IsOffice conn.old.schema → IsPlain (understood conn.old.schema sql.now) }
     ensures asks { OnlyAsks (state S.Store conn.old) (state S.Store conn.new) }
-    ensures same { HasCleanDisk (state S.Store conn.new) → OnOk result (Shows (state S.Store conn.old) (state S.Store conn.new) (state S.Store conn.old).now (state S.Store conn.old).now false) }
-    ensures live { HasCleanDisk (state S.Store conn.new) → OnOk result (IsOffice (state S.Store conn.old).now.schema × IsDatabase (state S.Store conn.old).now) }
-    ensures shown { HasCleanDisk (state S.Store conn.new) → IfOk result (λ xs. (rows : _) × Shown sql.now [] (state S.Store conn.old) (state S.Store conn.new) rows × Stores rows (map R.FromRow.stored (map Q.row_of xs.items))) }
+    ensures same { HasCleanDisk (state S.Store conn.new)
+        → OnOk result (Shows (state S.Store conn.old) (state S.Store conn.new) (state S.Store conn.old).now (state S.Store conn.old).now false) }
+    ensures live { HasCleanDisk (state S.Store conn.new)
+        → OnOk result (IsOffice (state S.Store conn.old).now.schema × IsDatabase (state S.Store conn.old).now) }
+    ensures shown { HasCleanDisk (state S.Store conn.new)
+        → IfOk result
+        (λ xs. (rows : _) × Shown sql.now [] (state S.Store conn.old) (state S.Store conn.new) rows
+        × Stores rows (map R.FromRow.stored (map Q.row_of xs.items))) }
     ensures read { IfOk result (λ xs. AllByRecursion Q.is_read xs.items) }
-    ensures bad { HasCleanDisk (state S.Store conn.new) → result ≡ Err BadRow → IsTrue (state S.Store conn.new).is_open × (IsOffice (state S.Store conn.new).now.schema → (rows : _) × Begins sql.now [] (state S.Store conn.new) rows × BeginNone R.FromRow.stored (λ row. (x : T) × Q.is_read x × (row ≡ Q.row_of x)) rows) }
+    ensures bad { HasCleanDisk (state S.Store conn.new) → result ≡ Err BadRow
+        → IsTrue (state S.Store conn.new).is_open
+        ×
+        (IsOffice (state S.Store conn.new).now.schema
+        → (rows : _) × Begins sql.now [] (state S.Store conn.new) rows
+        × BeginNone R.FromRow.stored (λ row. (x : T) × Q.is_read x × (row ≡ Q.row_of x)) rows) }
 {
     let mut gathered = Gathered {
         reader,
@@ -210,11 +246,15 @@ fn all<S: Alter, R: FromRow, T: Drop, Q: RowReader<R, T>>(
 /// `BadRow` where the tables are not those of the office or a row cannot have been written here.
 pub fn versions<S: Alter>(alloc: Global, conn: &mut Connection<S>) -> Result<Vec<i64>, RowsFault>
     requires { conn.old.in_transaction ≡ false }
-    ensures found { HasCleanDisk (state S.Store conn.new) → IfOk result (λ xs. IsOffice (state S.Store conn.new).now.schema × Stores ((state S.Store conn.new).now.trees 0) (map stored_version xs.items)) }
-    ensures answer { HasCleanDisk (state S.Store conn.new) → IfOk result (λ xs. (rows : RowsOf) → Holds (state S.Store conn.old) rows → IsPermutation rows.versions xs.items) }
+    ensures found { HasCleanDisk (state S.Store conn.new)
+        → IfOk result (λ xs. IsOffice (state S.Store conn.new).now.schema × Stores ((state S.Store conn.new).now.trees 0) (map stored_version xs.items)) }
+    ensures answer { HasCleanDisk (state S.Store conn.new)
+        → IfOk result (λ xs. (rows : RowsOf) → Holds (state S.Store conn.old) rows → IsPermutation rows.versions xs.items) }
     ensures asks { OnlyAsks (state S.Store conn.old) (state S.Store conn.new) }
-    ensures same { HasCleanDisk (state S.Store conn.new) → OnOk result (Shows (state S.Store conn.old) (state S.Store conn.new) (state S.Store conn.old).now (state S.Store conn.old).now false) }
-    ensures only { HasCleanDisk (state S.Store conn.new) → OnOk result ((rows : RowsOf) → Holds (state S.Store conn.new) rows → Holds (state S.Store conn.old) rows) }
+    ensures same { HasCleanDisk (state S.Store conn.new)
+        → OnOk result (Shows (state S.Store conn.old) (state S.Store conn.new) (state S.Store conn.old).now (state S.Store conn.old).now false) }
+    ensures only { HasCleanDisk (state S.Store conn.new)
+        → OnOk result ((rows : RowsOf) → Holds (state S.Store conn.new) rows → Holds (state S.Store conn.old) rows) }
     ensures bad { HasCleanDisk (state S.Store conn.new) → result ≡ Err BadRow → (rows : RowsOf) → Holds (state S.Store conn.old) rows → ⊥ }
 {
     all::<S, i64, i64, WholeRows>(
@@ -234,11 +274,15 @@ pub fn all_zones<S: Alter, T: Drop, Q: RowReader<ZoneRow, T>>(
     requires { conn.old.in_transaction ≡ false }
     ensures found { HasCleanDisk (state S.Store conn.new) → IfOk result (λ xs. HasZones (state S.Store conn.new).now (map Q.row_of xs.items)) }
     ensures read { IfOk result (λ xs. AllByRecursion Q.is_read xs.items) }
-    ensures answer { HasCleanDisk (state S.Store conn.new) → IfOk result (λ xs. (rows : RowsOf) → Holds (state S.Store conn.old) rows → IsPermutation rows.zones (map Q.row_of xs.items)) }
+    ensures answer { HasCleanDisk (state S.Store conn.new)
+        → IfOk result (λ xs. (rows : RowsOf) → Holds (state S.Store conn.old) rows → IsPermutation rows.zones (map Q.row_of xs.items)) }
     ensures asks { OnlyAsks (state S.Store conn.old) (state S.Store conn.new) }
-    ensures same { HasCleanDisk (state S.Store conn.new) → OnOk result (Shows (state S.Store conn.old) (state S.Store conn.new) (state S.Store conn.old).now (state S.Store conn.old).now false) }
-    ensures only { HasCleanDisk (state S.Store conn.new) → OnOk result ((rows : RowsOf) → Holds (state S.Store conn.new) rows → Holds (state S.Store conn.old) rows) }
-    ensures bad { HasCleanDisk (state S.Store conn.new) → result ≡ Err BadRow → (rows : RowsOf) → Holds (state S.Store conn.old) rows → AllByRecursion (λ row. (x : T) × Q.is_read x × (row ≡ Q.row_of x)) rows.zones → ⊥ }
+    ensures same { HasCleanDisk (state S.Store conn.new)
+        → OnOk result (Shows (state S.Store conn.old) (state S.Store conn.new) (state S.Store conn.old).now (state S.Store conn.old).now false) }
+    ensures only { HasCleanDisk (state S.Store conn.new)
+        → OnOk result ((rows : RowsOf) → Holds (state S.Store conn.new) rows → Holds (state S.Store conn.old) rows) }
+    ensures bad { HasCleanDisk (state S.Store conn.new) → result ≡ Err BadRow → (rows : RowsOf) → Holds (state S.Store conn.old) rows
+        → AllByRecursion (λ row. (x : T) × Q.is_read x × (row ≡ Q.row_of x)) rows.zones → ⊥ }
 {
     all::<S, ZoneRow, T, Q>(alloc, conn, reader, "SELECT rowid, origin FROM zones")
 }
@@ -252,11 +296,15 @@ pub fn all_records<S: Alter, T: Drop, Q: RowReader<RecordRow, T>>(
     requires { conn.old.in_transaction ≡ false }
     ensures found { HasCleanDisk (state S.Store conn.new) → IfOk result (λ xs. HasRecords (state S.Store conn.new).now (map Q.row_of xs.items)) }
     ensures read { IfOk result (λ xs. AllByRecursion Q.is_read xs.items) }
-    ensures answer { HasCleanDisk (state S.Store conn.new) → IfOk result (λ xs. (rows : RowsOf) → Holds (state S.Store conn.old) rows → IsPermutation rows.records (map Q.row_of xs.items)) }
+    ensures answer { HasCleanDisk (state S.Store conn.new)
+        → IfOk result (λ xs. (rows : RowsOf) → Holds (state S.Store conn.old) rows → IsPermutation rows.records (map Q.row_of xs.items)) }
     ensures asks { OnlyAsks (state S.Store conn.old) (state S.Store conn.new) }
-    ensures same { HasCleanDisk (state S.Store conn.new) → OnOk result (Shows (state S.Store conn.old) (state S.Store conn.new) (state S.Store conn.old).now (state S.Store conn.old).now false) }
-    ensures only { HasCleanDisk (state S.Store conn.new) → OnOk result ((rows : RowsOf) → Holds (state S.Store conn.new) rows → Holds (state S.Store conn.old) rows) }
-    ensures bad { HasCleanDisk (state S.Store conn.new) → result ≡ Err BadRow → (rows : RowsOf) → Holds (state S.Store conn.old) rows → AllByRecursion (λ row. (x : T) × Q.is_read x × (row ≡ Q.row_of x)) rows.records → ⊥ }
+    ensures same { HasCleanDisk (state S.Store conn.new)
+        → OnOk result (Shows (state S.Store conn.old) (state S.Store conn.new) (state S.Store conn.old).now (state S.Store conn.old).now false) }
+    ensures only { HasCleanDisk (state S.Store conn.new)
+        → OnOk result ((rows : RowsOf) → Holds (state S.Store conn.new) rows → Holds (state S.Store conn.old) rows) }
+    ensures bad { HasCleanDisk (state S.Store conn.new) → result ≡ Err BadRow → (rows : RowsOf) → Holds (state S.Store conn.old) rows
+        → AllByRecursion (λ row. (x : T) × Q.is_read x × (row ≡ Q.row_of x)) rows.records → ⊥ }
 {
     all::<S, RecordRow, T, Q>(
         alloc,
@@ -275,11 +323,15 @@ pub fn all_receipts<S: Alter, T: Drop, Q: RowReader<ReceiptRow, T>>(
     requires { conn.old.in_transaction ≡ false }
     ensures found { HasCleanDisk (state S.Store conn.new) → IfOk result (λ xs. HasReceipts (state S.Store conn.new).now (map Q.row_of xs.items)) }
     ensures read { IfOk result (λ xs. AllByRecursion Q.is_read xs.items) }
-    ensures answer { HasCleanDisk (state S.Store conn.new) → IfOk result (λ xs. (rows : RowsOf) → Holds (state S.Store conn.old) rows → IsPermutation rows.receipts (map Q.row_of xs.items)) }
+    ensures answer { HasCleanDisk (state S.Store conn.new)
+        → IfOk result (λ xs. (rows : RowsOf) → Holds (state S.Store conn.old) rows → IsPermutation rows.receipts (map Q.row_of xs.items)) }
     ensures asks { OnlyAsks (state S.Store conn.old) (state S.Store conn.new) }
-    ensures same { HasCleanDisk (state S.Store conn.new) → OnOk result (Shows (state S.Store conn.old) (state S.Store conn.new) (state S.Store conn.old).now (state S.Store conn.old).now false) }
-    ensures only { HasCleanDisk (state S.Store conn.new) → OnOk result ((rows : RowsOf) → Holds (state S.Store conn.new) rows → Holds (state S.Store conn.old) rows) }
-    ensures bad { HasCleanDisk (state S.Store conn.new) → result ≡ Err BadRow → (rows : RowsOf) → Holds (state S.Store conn.old) rows → AllByRecursion (λ row. (x : T) × Q.is_read x × (row ≡ Q.row_of x)) rows.receipts → ⊥ }
+    ensures same { HasCleanDisk (state S.Store conn.new)
+        → OnOk result (Shows (state S.Store conn.old) (state S.Store conn.new) (state S.Store conn.old).now (state S.Store conn.old).now false) }
+    ensures only { HasCleanDisk (state S.Store conn.new)
+        → OnOk result ((rows : RowsOf) → Holds (state S.Store conn.new) rows → Holds (state S.Store conn.old) rows) }
+    ensures bad { HasCleanDisk (state S.Store conn.new) → result ≡ Err BadRow → (rows : RowsOf) → Holds (state S.Store conn.old) rows
+        → AllByRecursion (λ row. (x : T) × Q.is_read x × (row ≡ Q.row_of x)) rows.receipts → ⊥ }
 {
     all::<S, ReceiptRow, T, Q>(alloc, conn, reader, RECEIPT_ROWS)
 }
@@ -292,13 +344,22 @@ pub fn each_receipt<S: Alter, C: RowCheck<ReceiptRow>>(
 ) -> Result<(), RowsFault>
     requires { conn.old.in_transaction ≡ false }
     // It has taken all rows of the table, each once, in some order; and so those that were held.
-    ensures found { OnOk result ((rows : List ReceiptRowOf) × TakesMore C.has_taken check.old check.new rows × (HasCleanDisk (state S.Store conn.new) → HasReceipts (state S.Store conn.new).now rows × ((all : RowsOf) → Holds (state S.Store conn.old) all → IsPermutation all.receipts rows))) }
+    ensures found { OnOk result
+        ((rows : List ReceiptRowOf) × TakesMore C.has_taken check.old check.new rows
+        ×
+        (HasCleanDisk (state S.Store conn.new)
+        → HasReceipts (state S.Store conn.new).now rows
+        × ((all : RowsOf) → Holds (state S.Store conn.old) all → IsPermutation all.receipts rows))) }
     // The key of the table is that of one row.
-    ensures keys { HasCleanDisk (state S.Store conn.new) → OnOk result ((rows : List ReceiptRowOf) → HasReceipts (state S.Store conn.new).now rows → IsDistinct same_receipt_key rows) }
+    ensures keys { HasCleanDisk (state S.Store conn.new)
+        → OnOk result ((rows : List ReceiptRowOf) → HasReceipts (state S.Store conn.new).now rows → IsDistinct same_receipt_key rows) }
     ensures asks { OnlyAsks (state S.Store conn.old) (state S.Store conn.new) }
-    ensures same { HasCleanDisk (state S.Store conn.new) → OnOk result (Shows (state S.Store conn.old) (state S.Store conn.new) (state S.Store conn.old).now (state S.Store conn.old).now false) }
-    ensures only { HasCleanDisk (state S.Store conn.new) → OnOk result ((rows : RowsOf) → Holds (state S.Store conn.new) rows → Holds (state S.Store conn.old) rows) }
-    ensures bad { HasCleanDisk (state S.Store conn.new) → result ≡ Err BadRow → (rows : RowsOf) → Holds (state S.Store conn.old) rows → AllByRecursion C.is_good rows.receipts → ⊥ }
+    ensures same { HasCleanDisk (state S.Store conn.new)
+        → OnOk result (Shows (state S.Store conn.old) (state S.Store conn.new) (state S.Store conn.old).now (state S.Store conn.old).now false) }
+    ensures only { HasCleanDisk (state S.Store conn.new)
+        → OnOk result ((rows : RowsOf) → Holds (state S.Store conn.new) rows → Holds (state S.Store conn.old) rows) }
+    ensures bad { HasCleanDisk (state S.Store conn.new) → result ≡ Err BadRow → (rows : RowsOf) → Holds (state S.Store conn.old) rows
+        → AllByRecursion C.is_good rows.receipts → ⊥ }
 {
     each::<S, ReceiptRow, C>(alloc, conn, check, RECEIPT_ROWS)
 }
@@ -312,11 +373,15 @@ pub fn all_changes<S: Alter, T: Drop, Q: RowReader<ChangeRow, T>>(
     requires { conn.old.in_transaction ≡ false }
     ensures found { HasCleanDisk (state S.Store conn.new) → IfOk result (λ xs. HasChanges (state S.Store conn.new).now (map Q.row_of xs.items)) }
     ensures read { IfOk result (λ xs. AllByRecursion Q.is_read xs.items) }
-    ensures answer { HasCleanDisk (state S.Store conn.new) → IfOk result (λ xs. (rows : RowsOf) → Holds (state S.Store conn.old) rows → IsPermutation rows.changes (map Q.row_of xs.items)) }
+    ensures answer { HasCleanDisk (state S.Store conn.new)
+        → IfOk result (λ xs. (rows : RowsOf) → Holds (state S.Store conn.old) rows → IsPermutation rows.changes (map Q.row_of xs.items)) }
     ensures asks { OnlyAsks (state S.Store conn.old) (state S.Store conn.new) }
-    ensures same { HasCleanDisk (state S.Store conn.new) → OnOk result (Shows (state S.Store conn.old) (state S.Store conn.new) (state S.Store conn.old).now (state S.Store conn.old).now false) }
-    ensures only { HasCleanDisk (state S.Store conn.new) → OnOk result ((rows : RowsOf) → Holds (state S.Store conn.new) rows → Holds (state S.Store conn.old) rows) }
-    ensures bad { HasCleanDisk (state S.Store conn.new) → result ≡ Err BadRow → (rows : RowsOf) → Holds (state S.Store conn.old) rows → AllByRecursion (λ row. (x : T) × Q.is_read x × (row ≡ Q.row_of x)) rows.changes → ⊥ }
+    ensures same { HasCleanDisk (state S.Store conn.new)
+        → OnOk result (Shows (state S.Store conn.old) (state S.Store conn.new) (state S.Store conn.old).now (state S.Store conn.old).now false) }
+    ensures only { HasCleanDisk (state S.Store conn.new)
+        → OnOk result ((rows : RowsOf) → Holds (state S.Store conn.new) rows → Holds (state S.Store conn.old) rows) }
+    ensures bad { HasCleanDisk (state S.Store conn.new) → result ≡ Err BadRow → (rows : RowsOf) → Holds (state S.Store conn.old) rows
+        → AllByRecursion (λ row. (x : T) × Q.is_read x × (row ≡ Q.row_of x)) rows.changes → ⊥ }
 {
     all::<S, ChangeRow, T, Q>(
         alloc,
@@ -330,11 +395,14 @@ pub fn all_changes<S: Alter, T: Drop, Q: RowReader<ChangeRow, T>>(
 pub fn all_rows<S: Alter>(alloc: Global, conn: &mut Connection<S>) -> Result<AllRows, RowsFault>
     requires { conn.old.in_transaction ≡ false }
     // The connection holds them, and a crash leaves them.
-    ensures found { HasCleanDisk (state S.Store conn.new) → IfOk result (λ all. Holds (state S.Store conn.new) all × Leaves (state S.Store conn.new) (λ db. AreRows db all)) }
+    ensures found { HasCleanDisk (state S.Store conn.new)
+        → IfOk result (λ all. Holds (state S.Store conn.new) all × Leaves (state S.Store conn.new) (λ db. AreRows db all)) }
     ensures answer { HasCleanDisk (state S.Store conn.new) → IfOk result (λ all. (rows : RowsOf) → Holds (state S.Store conn.old) rows → SameRows rows all) }
     ensures asks { OnlyAsks (state S.Store conn.old) (state S.Store conn.new) }
-    ensures same { HasCleanDisk (state S.Store conn.new) → OnOk result (Shows (state S.Store conn.old) (state S.Store conn.new) (state S.Store conn.old).now (state S.Store conn.old).now false) }
-    ensures only { HasCleanDisk (state S.Store conn.new) → OnOk result ((rows : RowsOf) → Holds (state S.Store conn.new) rows → Holds (state S.Store conn.old) rows) }
+    ensures same { HasCleanDisk (state S.Store conn.new)
+        → OnOk result (Shows (state S.Store conn.old) (state S.Store conn.new) (state S.Store conn.old).now (state S.Store conn.old).now false) }
+    ensures only { HasCleanDisk (state S.Store conn.new)
+        → OnOk result ((rows : RowsOf) → Holds (state S.Store conn.new) rows → Holds (state S.Store conn.old) rows) }
     ensures bad { HasCleanDisk (state S.Store conn.new) → result ≡ Err BadRow → (rows : RowsOf) → Holds (state S.Store conn.old) rows → ⊥ }
 {
     let versions = versions(alloc, conn)?;

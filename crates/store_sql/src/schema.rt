@@ -197,7 +197,8 @@ fn is_index(
     columns: &[usize],
     is_unique: bool,
 ) -> bool
-    ensures { (result ≡ true) ↔ (index.now ≡ record { name = name.now; tree = tree; table = table; columns = columns.now; order = plain; is_unique = is_unique }) }
+    ensures { (result ≡ true)
+        ↔ (index.now ≡ record { name = name.now; tree = tree; table = table; columns = columns.now; order = plain; is_unique = is_unique }) }
 {
     index.name.as_slice() == name
         && index.tree == tree

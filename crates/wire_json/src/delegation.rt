@@ -80,7 +80,8 @@ pub fn read_delegation(alloc: Global, body: &[u8], origin: &Name) -> Result<Upda
     // What is read is an update.
     ensures update { IfOk result (λ read. IsUpdate read.update) }
     // A body that asks for a delegation is read as its update, or refused as it is, unless memory runs out.
-    ensures only { (id : List ℕ) (request : RequestOf) → IsDelegationBody body.now id request → Gives (λ read. read) result (body_with id (of_delegations (delegated origin.now request))) }
+    ensures only { (id : List ℕ) (request : RequestOf) → IsDelegationBody body.now id request
+        → Gives (λ read. read) result (body_with id (of_delegations (delegated origin.now request))) }
     // Which refusal it is.
     ensures exact { Gives (λ read. read) result (delegation_of_body origin.now body.now) }
 {

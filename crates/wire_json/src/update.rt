@@ -85,7 +85,8 @@ pub fn read_update(alloc: Global, body: &[u8]) -> Result<UpdateBody, BodyFault>
     // What is read is an update.
     ensures update { IfOk result (λ read. IsUpdate read.update) }
     // A body that asks for these lists is read as their update, or refused as they are, unless memory runs out.
-    ensures only { (id : List ℕ) (update : UpdateOf) → IsUpdateBody body.now id update → Gives (λ read. read) result (body_with id (of_updates (update_of update.prerequisites update.operations))) }
+    ensures only { (id : List ℕ) (update : UpdateOf) → IsUpdateBody body.now id update
+        → Gives (λ read. read) result (body_with id (of_updates (update_of update.prerequisites update.operations))) }
     // Which refusal it is.
     ensures exact { Gives (λ read. read) result (update_of_body body.now) }
 {

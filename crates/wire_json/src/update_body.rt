@@ -59,7 +59,10 @@ fn put_set(
     name: &Name,
     record_type: RecordType,
 ) -> Result<(), AllocError>
-    ensures { OnOk result (members_view members.new.entries ≡ put (field_text Field.Type) (string (type_text record_type)) (put (field_text Field.Name) (string (name_text name.now)) (members_view members.old.entries))) }
+    ensures { OnOk result
+        (members_view members.new.entries
+        ≡ put (field_text Field.Type) (string (type_text record_type))
+        (put (field_text Field.Name) (string (name_text name.now)) (members_view members.old.entries))) }
 {
     put_name(members, alloc, name)?;
     put_word(members, alloc, Field::Type, record_type.text())
@@ -72,7 +75,11 @@ fn put_datum(
     name: &Name,
     rdata: &Data,
 ) -> Result<(), AllocError>
-    ensures { OnOk result (members_view members.new.entries ≡ put (field_text Field.Data) (string (data_text rdata.now)) (put (field_text Field.Type) (string (type_text (type_of rdata.now))) (put (field_text Field.Name) (string (name_text name.now)) (members_view members.old.entries)))) }
+    ensures { OnOk result
+        (members_view members.new.entries
+        ≡ put (field_text Field.Data) (string (data_text rdata.now))
+        (put (field_text Field.Type) (string (type_text (type_of rdata.now)))
+        (put (field_text Field.Name) (string (name_text name.now)) (members_view members.old.entries)))) }
 {
     put_set(members, alloc, name, rdata.record_type())?;
     put_text(members, alloc, Field::Data, format!(in alloc; "{rdata}")?)

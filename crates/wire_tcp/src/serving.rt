@@ -45,7 +45,10 @@ fn serve_stream<T: ZoneTable, C: Clock, A: Ledger, B: Ledger, L: Ledger>(
     requires asks_name { asks.name ≡ L.name }
     requires asks_parts { asks.parts ≡ L.parts }
     requires asks_some { 1 < asks.parts }
-    ensures run { T.is_honest table.new → (s : State) → T.holds table.old s × AreBookmarks responder.old.policy.now s responder.old.bookmarks → (turns : List Turn) × (t : State) × (T.holds table.new t × AreBookmarks responder.old.policy.now t responder.new.bookmarks) × Run responder.old.policy.now (standing s (T.failures table.old)) turns (standing t (T.failures table.new)) × AreNoted (servfails turns) result.servfails }
+    ensures run { T.is_honest table.new → (s : State) → T.holds table.old s × AreBookmarks responder.old.policy.now s responder.old.bookmarks
+        → (turns : List Turn) × (t : State) × (T.holds table.new t × AreBookmarks responder.old.policy.now t responder.new.bookmarks)
+        × Run responder.old.policy.now (standing s (T.failures table.old)) turns (standing t (T.failures table.new))
+        × AreNoted (servfails turns) result.servfails }
     ensures policy { responder.new.policy ≡ responder.old.policy }
     ensures honest { T.is_honest table.new → T.is_honest table.old }
 {
@@ -82,10 +85,14 @@ fn serve_connection<T: ZoneTable, D: Diagnosis<T>, C: Clock, W: Sink, E: Sink>(
     writer: &mut W,
     trace: &mut E,
 ) -> Result<(), DeviceFailed>
-    ensures run { T.is_honest table.new → (s : State) → T.holds table.old s × AreBookmarks responder.old.policy.now s responder.old.bookmarks → (turns : List Turn) × (t : State) × (T.holds table.new t × AreBookmarks responder.old.policy.now t responder.new.bookmarks) × Run responder.old.policy.now (standing s (T.failures table.old)) turns (standing t (T.failures table.new)) × IsTraced turns (D.fault diagnosis.now table.new) (E.contents trace.old) (E.contents trace.new) (E.failures trace.old) (E.failures trace.new) }
+    ensures run { T.is_honest table.new → (s : State) → T.holds table.old s × AreBookmarks responder.old.policy.now s responder.old.bookmarks
+        → (turns : List Turn) × (t : State) × (T.holds table.new t × AreBookmarks responder.old.policy.now t responder.new.bookmarks)
+        × Run responder.old.policy.now (standing s (T.failures table.old)) turns (standing t (T.failures table.new))
+        × IsTraced turns (D.fault diagnosis.now table.new) (E.contents trace.old) (E.contents trace.new) (E.failures trace.old) (E.failures trace.new) }
     ensures policy { responder.new.policy ≡ responder.old.policy }
     ensures honest { T.is_honest table.new → T.is_honest table.old }
-    ensures written { (end : Option FaultOf) × IsSent (W.contents writer.old) (W.contents writer.new) (ended_line end) result (W.failures writer.old) (W.failures writer.new) }
+    ensures written { (end : Option FaultOf)
+        × IsSent (W.contents writer.old) (W.contents writer.new) (ended_line end) result (W.failures writer.old) (W.failures writer.new) }
     ensures traced { E.failures trace.old ≤ E.failures trace.new }
 {
     let (reads, writes, asks) = (Blank::new(1), Blank::new(1), Blank::new(2));
@@ -127,10 +134,16 @@ impl<C: Clock, D> Connections<'_, C, D> {
     ) -> Result<(), DeviceFailed>
     where
         D: Diagnosis<T>,
-        ensures run { T.is_honest table.new → (s : State) → T.holds table.old s × AreBookmarks responder.old.policy.now s responder.old.bookmarks → (turns : List Turn) × (t : State) × (T.holds table.new t × AreBookmarks responder.old.policy.now t responder.new.bookmarks) × Run responder.old.policy.now (standing s (T.failures table.old)) turns (standing t (T.failures table.new)) × IsTraced turns (D.fault self.now.diagnosis.now table.new) (E.contents trace.old) (E.contents trace.new) (E.failures trace.old) (E.failures trace.new) }
+        ensures run { T.is_honest table.new → (s : State) → T.holds table.old s × AreBookmarks responder.old.policy.now s responder.old.bookmarks
+            → (turns : List Turn) × (t : State)
+            × (T.holds table.new t × AreBookmarks responder.old.policy.now t responder.new.bookmarks)
+            × Run responder.old.policy.now (standing s (T.failures table.old)) turns (standing t (T.failures table.new))
+            × IsTraced turns (D.fault self.now.diagnosis.now table.new) (E.contents trace.old) (E.contents trace.new)
+            (E.failures trace.old) (E.failures trace.new) }
         ensures policy { responder.new.policy ≡ responder.old.policy }
         ensures honest { T.is_honest table.new → T.is_honest table.old }
-        ensures written { (end : Option FaultOf) × IsSent (W.contents writer.old) (W.contents writer.new) (ended_line end) result (W.failures writer.old) (W.failures writer.new) }
+        ensures written { (end : Option FaultOf)
+            × IsSent (W.contents writer.old) (W.contents writer.new) (ended_line end) result (W.failures writer.old) (W.failures writer.new) }
         ensures traced { E.failures trace.old ≤ E.failures trace.new }
     {
         // a short response goes out at once
@@ -152,8 +165,12 @@ fn serve_each<H: Listener, T: ZoneTable, D: Diagnosis<T>, C: Clock, W: Sink, E: 
     trace: &mut E,
 ) -> Result<(), JobFault>
     requires { (s : State) → AreBookmarks responder.old.policy.now s responder.old.bookmarks }
-    ensures served { AreServedFrom (T.is_honest table.new) (T.holds table.old) (T.holds table.new) (T.failures table.old) (T.failures table.new) responder.old.policy.now most result (E.contents trace.old) (E.contents trace.new) (E.failures trace.old) (E.failures trace.new) }
-    ensures written { (ends : List (Option FaultOf)) × AreReported (H.cut listener.old) most ends (W.contents writer.old) (W.contents writer.new) result (W.failures writer.old) (W.failures writer.new) × (H.taken listener.new ≡ H.taken listener.old + length ends) }
+    ensures served { AreServedFrom (T.is_honest table.new) (T.holds table.old) (T.holds table.new) (T.failures table.old)
+        (T.failures table.new) responder.old.policy.now most result (E.contents trace.old) (E.contents trace.new) (E.failures trace.old)
+        (E.failures trace.new) }
+    ensures written { (ends : List (Option FaultOf))
+        × AreReported (H.cut listener.old) most ends (W.contents writer.old) (W.contents writer.new) result (W.failures writer.old) (W.failures writer.new)
+        × (H.taken listener.new ≡ H.taken listener.old + length ends) }
     ensures honest { T.is_honest table.new → T.is_honest table.old }
 {
     'accepted: for _ in 0..most {
@@ -182,10 +199,14 @@ pub fn serve_connections<H: Listener, T: ZoneTable, D: Diagnosis<T>, C: Clock, W
     // that take the table from how it stood to how it stands; each is answered by the policy and the state that it found, and what the
     // office promises of calls holds of all of them together, whichever connection each came by. The trace tells of those of these
     // turns that were answered SERVFAIL.
-    ensures served { AreServedFrom (T.is_honest table.new) (T.holds table.old) (T.holds table.new) (T.failures table.old) (T.failures table.new) policy.now most result (E.contents trace.old) (E.contents trace.new) (E.failures trace.old) (E.failures trace.new) }
+    ensures served { AreServedFrom (T.is_honest table.new) (T.holds table.old) (T.holds table.new) (T.failures table.old)
+        (T.failures table.new) policy.now most result (E.contents trace.old) (E.contents trace.new) (E.failures trace.old)
+        (E.failures trace.new) }
     // Each connection that was taken is served. A line is written for each that a fault ended, and one where fewer were served than asked
     // for, which comes only where no connection can be had.
-    ensures written { (ends : List (Option FaultOf)) × AreReported (H.cut listener.old) most ends (W.contents writer.old) (W.contents writer.new) result (W.failures writer.old) (W.failures writer.new) × (H.taken listener.new ≡ H.taken listener.old + length ends) }
+    ensures written { (ends : List (Option FaultOf))
+        × AreReported (H.cut listener.old) most ends (W.contents writer.old) (W.contents writer.new) result (W.failures writer.old) (W.failures writer.new)
+        × (H.taken listener.new ≡ H.taken listener.old + length ends) }
     // A store that has kept its word had kept it before.
     ensures honest { T.is_honest table.new → T.is_honest table.old }
 {

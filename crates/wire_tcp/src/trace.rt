@@ -14,7 +14,8 @@ use store_faults::StoreFault;
 
 /// Writes texts, one behind the other.
 pub fn write_texts<W: Sink>(writer: &mut W, texts: &[&[u8]]) -> Result<(), DeviceFailed>
-    ensures { IsSent (W.contents writer.old) (W.contents writer.new) (flat_map (λ text. text.now) texts.now) result (W.failures writer.old) (W.failures writer.new) }
+    ensures { IsSent (W.contents writer.old) (W.contents writer.new) (flat_map (λ text. text.now) texts.now) result (W.failures writer.old)
+        (W.failures writer.new) }
 {
     for text in texts {
         write_text(writer, text)?;
@@ -40,7 +41,8 @@ pub(crate) fn tell_servfails<E: Sink>(
     servfails: Servfails,
     store: Option<StoreFault>,
 ) -> Result<(), DeviceFailed>
-    ensures { IsSent (E.contents trace.old) (E.contents trace.new) (trace_by servfails.last servfails.count store) result (E.failures trace.old) (E.failures trace.new) }
+    ensures { IsSent (E.contents trace.old) (E.contents trace.new) (trace_by servfails.last servfails.count store) result (E.failures trace.old)
+        (E.failures trace.new) }
 {
     let Some(fault) = servfails.last else {
         return Ok(());

@@ -52,7 +52,12 @@ fn edits(
     new: &[Record],
 ) -> Result<Vec<Operation>, AllocError>
     requires { InOrder new.now }
-    ensures { IfOk result (λ ops. ops.items ≡ (map addition (filter (λ r. is_server origin.now (key_of r)) change.now.added.items) ++ map deletion (filter (λ r. is_gone (set_of new.now) (key_of r)) change.now.removed.items)) ++ map addition (filter (λ r. is_other origin.now (key_of r)) change.now.added.items)) }
+    ensures { IfOk result
+        (λ ops. ops.items
+        ≡
+        (map addition (filter (λ r. is_server origin.now (key_of r)) change.now.added.items) ++ map deletion
+        (filter (λ r. is_gone (set_of new.now) (key_of r)) change.now.removed.items)) ++ map addition
+        (filter (λ r. is_other origin.now (key_of r)) change.now.added.items)) }
 {
     let mut operations = Vec::new(alloc);
     push_servers(alloc, &mut operations, origin, &change.added)?;

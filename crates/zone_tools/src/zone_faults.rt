@@ -172,7 +172,8 @@ fn with_findings_by(
     mut found: Vec<Finding>,
 ) -> Result<Vec<Finding>, AllocError>
     requires { IsSurvey survey.now }
-    ensures { IfOk result (λ all. all.items ≡ found.items ++ findings_by survey.now.zone.now.origin (listing survey.now.zone.now.records) place rr.now rules.now) }
+    ensures { IfOk result
+        (λ all. all.items ≡ found.items ++ findings_by survey.now.zone.now.origin (listing survey.now.zone.now.records) place rr.now rules.now) }
 {
     let broken = server_rule(alloc, survey, rr)?;
     for rule in rules {
