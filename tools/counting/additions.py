@@ -86,8 +86,8 @@ def of_own_kind():
 
 def request():
     """A read request with its reply: the changes of a zone."""
-    variant = r"\b(?:Request|Query|Reply|Route|requests|queries|replies|routes)(?:::|\.)Changes\b|\bin-Changes\b"
-    declared = r"^pub(?:\(crate\))? enum (?:Request|Reply|Route) \{\n(?:[ \n].*\n|\n)*?    Changes\b"
+    variant = r"\b(?:Query|Reading|Route|queries|readings|routes)(?:::|\.)Changes\b|\bin-Changes\b"
+    declared = r"^pub(?:\(crate\))? enum (?:Query|Reading|Route) \{\n(?:[ \n].*\n|\n)*?    Changes\b"
     told = near("`changes", ["`list", "`file", "`delegations", "`changes"], 3)
     return Addition("request", "a read request with its reply (changes)", ["Changes", "changes"], rf"{variant}|/changes/|`changes\b|^changes\b", [
         (SOURCE, has(f"{variant}|{declared}")), (r"^docs/", told), (TEST, told), (AROUND, has(r"/changes/(?:FROM|\{from\})")),
