@@ -4,6 +4,7 @@ pub mod Permissions
 pub mod Subtrees
 pub mod Machine
 pub mod Steps
+pub mod Submissions
 pub mod Plans
 pub mod Bookmarks
 pub mod Seen

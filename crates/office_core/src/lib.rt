@@ -18,6 +18,7 @@ mod query;
 mod rights;
 mod runs;
 mod steps;
+mod submission;
 mod subtrees;
 mod update;
 

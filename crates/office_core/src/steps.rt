@@ -8,6 +8,7 @@ ghost use Rattle.office_core.specs.Steps.{Steps, Leaves, CountsReply, CountsStep
 
 use crate::bookmark::Bookmarks;
 use crate::query::query_reply;
+use crate::submission::Submission;
 use crate::update::update_reply;
 use grant_policy::{Identifier, Policy};
 use office_model::{Reply, Request, StepFault, ZoneTable};
@@ -89,9 +90,16 @@ fn answer<T: ZoneTable>(
         → AreBookmarks policy.now s bookmarks.new }
 {
     match request {
-        Request::Update { origin, id, update } => update_reply(
-            alloc, table, policy, caller, id, origin, update,
-        ),
+        Request::Update { origin, id, update } => {
+            let submission = Submission {
+                policy,
+                caller,
+                id,
+                origin,
+                update,
+            };
+            update_reply(alloc, table, &submission)
+        }
         Request::Read(query) => Ok(query_reply(alloc, table, policy, bookmarks, caller, query)?),
     }
 }

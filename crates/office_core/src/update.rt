@@ -4,14 +4,16 @@ ghost use Rattle.std.specs.Prelude.{◌≡◌, None, Some, IfOk, option_map};
 ghost use Rattle.zone_core.specs.Updates.{IsUpdate, ActsWithin};
 ghost use Rattle.zone_core.specs.Changes.{change_in};
 ghost use Rattle.office_model.specs.Replies.{reply_of};
-ghost use Rattle.office_model.specs.States.{State, zone_at};
+ghost use Rattle.office_model.specs.States.{State};
 ghost use Rattle.office_model.specs.Tables.{ReadsOnly, addition_in};
 ghost use Rattle.office_model.specs.declared.reply.UpdateReply.TheVariants.{NoError};
-ghost use Rattle.office_core.specs.Machine.{again, answered, updated, refusal, zone_refusal, failed_reply};
-ghost use Rattle.office_core.specs.Steps.{CountsStep, IsAnswer, Takes, LeavesTurn, Commits, Makes, MakesAt, MakesOf, held_in, unread_refusal, addition_of};
+ghost use Rattle.office_core.specs.Machine.{again, zone_refusal, failed_reply};
+ghost use Rattle.office_core.specs.Steps.{CountsStep, IsAnswer, Takes, LeavesTurn, Commits, Makes, MakesOf, held_in, unread_refusal};
+ghost use Rattle.office_core.specs.Submissions.{submitted, first_submitted, IsFresh, MakesFirst, addition_for};
 ghost use Rattle.office_core.specs.Plans.{Plans};
 
 use crate::permission::denied;
+use crate::submission::Submission;
 use dns_names::Name;
 use grant_policy::{Identifier, LookUps, Policy};
 use office_model::{Addition, Receipt, Reply, StepFault, TableFault, UpdateReply, ZoneTable};
@@ -22,23 +24,18 @@ use zone_core::{Change, Update, Zone, holds};
 pub(crate) fn update_reply<T: ZoneTable>(
     alloc: Global,
     table: &mut T,
-    policy: &Policy,
-    caller: &Identifier,
-    id: &Identifier,
-    origin: &Name,
-    update: &Update,
+    submission: &Submission<'_>,
 ) -> Result<Reply, StepFault>
-    ensures takes { T.is_honest table.new → (s : State) → T.holds table.old s
-        → Takes (T.holds table.new) s (updated policy.now s caller.now id.now origin.now update.now (s.receipts caller.now id.now)) result }
+    ensures takes { T.is_honest table.new → (s : State) → T.holds table.old s → Takes (T.holds table.new) s (submitted submission.now s) result }
     ensures crash { T.is_honest table.new → (s : State) → T.holds table.old s → T.leaves table.old s s
-        → LeavesTurn (T.leaves table.new) s (updated policy.now s caller.now id.now origin.now update.now (s.receipts caller.now id.now)) result }
+        → LeavesTurn (T.leaves table.new) s (submitted submission.now s) result }
     ensures honest { T.is_honest table.new → T.is_honest table.old }
     ensures answers { IfOk result IsAnswer }
     ensures counts { CountsStep (T.failures table.old) (T.failures table.new) result }
 {
-    match table.receipt(alloc, caller, id)? {
-        Some(kept) => Ok(repeated(kept, origin, update)),
-        None => first_reply(alloc, table, policy, caller, id, origin, update),
+    match table.receipt(alloc, submission.caller, submission.id)? {
+        Some(kept) => Ok(repeated(kept, submission.origin, submission.update)),
+        None => first_reply(alloc, table, submission),
     }
 }
 
@@ -57,24 +54,17 @@ fn repeated(kept: Receipt, origin: &Name, update: &Update) -> Reply
 fn first_reply<T: ZoneTable>(
     alloc: Global,
     table: &mut T,
-    policy: &Policy,
-    caller: &Identifier,
-    id: &Identifier,
-    origin: &Name,
-    update: &Update,
+    submission: &Submission<'_>,
 ) -> Result<Reply, StepFault>
-    requires fresh { T.is_honest table.old → (s : State) → T.holds table.old s → s.receipts caller.now id.now ≡ None }
-    ensures takes { T.is_honest table.new → (s : State) → T.holds table.old s
-        → Takes (T.holds table.new) s
-        (answered s caller.now id.now origin.now update.now (refusal policy.now caller.now origin.now update.now (s.zones origin.now))) result }
+    requires fresh { T.is_honest table.old → (s : State) → T.holds table.old s → IsFresh submission.now s }
+    ensures takes { T.is_honest table.new → (s : State) → T.holds table.old s → Takes (T.holds table.new) s (first_submitted submission.now s) result }
     ensures crash { T.is_honest table.new → (s : State) → T.holds table.old s → T.leaves table.old s s
-        → LeavesTurn (T.leaves table.new) s
-        (answered s caller.now id.now origin.now update.now (refusal policy.now caller.now origin.now update.now (s.zones origin.now))) result }
+        → LeavesTurn (T.leaves table.new) s (first_submitted submission.now s) result }
     ensures honest { T.is_honest table.new → T.is_honest table.old }
     ensures answers { IfOk result IsAnswer }
     ensures counts { CountsStep (T.failures table.old) (T.failures table.new) result }
 {
-    let (reply, addition) = prepared(alloc, table, policy, caller, id, origin, update)?;
+    let (reply, addition) = prepared(alloc, table, submission)?;
     match table.commit(alloc, addition) {
         // nothing takes memory behind a commit
         Ok(()) => Ok(Reply::Update(reply)),
@@ -86,23 +76,15 @@ fn first_reply<T: ZoneTable>(
 fn prepared<T: ZoneTable>(
     alloc: Global,
     table: &mut T,
-    policy: &Policy,
-    caller: &Identifier,
-    id: &Identifier,
-    origin: &Name,
-    update: &Update,
+    submission: &Submission<'_>,
 ) -> Result<(UpdateReply, Addition), TableFault>
-    requires fresh { T.is_honest table.old → (s : State) → T.holds table.old s → s.receipts caller.now id.now ≡ None }
+    requires fresh { T.is_honest table.old → (s : State) → T.holds table.old s → IsFresh submission.now s }
     ensures commits { T.is_honest table.new
-        → IfOk result
-        (λ r. (s : State) → T.holds table.new s
-        → Commits s
-        (answered s caller.now id.now origin.now update.now (refusal policy.now caller.now origin.now update.now (s.zones origin.now)))
-        (addition_in r.1) r.0) }
+        → IfOk result (λ r. (s : State) → T.holds table.new s → Commits s (first_submitted submission.now s) (addition_in r.1) r.0) }
     ensures reads { ReadsOnly T.holds T.is_honest T.leaves T.failures table.old table.new result }
 {
-    let (reply, change) = decided(alloc, table, policy, caller, origin, update)?;
-    let addition = addition(alloc, caller, id, origin, update, &reply, change)?;
+    let (reply, change) = decided(alloc, table, submission)?;
+    let addition = addition(alloc, submission, &reply, change)?;
     Ok((reply, addition))
 }
 
@@ -111,17 +93,20 @@ fn prepared<T: ZoneTable>(
 fn decided<T: ZoneTable>(
     alloc: Global,
     table: &mut T,
-    policy: &Policy,
-    caller: &Identifier,
-    origin: &Name,
-    update: &Update,
+    submission: &Submission<'_>,
 ) -> Result<(UpdateReply, Option<Change>), TableFault>
     ensures makes { T.is_honest table.new
-        → IfOk result
-        (λ r. (s : State) → T.holds table.old s → MakesAt policy.now caller.now update.now (zone_at s origin.now) r.0 (option_map change_in r.1)) }
-    ensures update { IsUpdate update.now }
+        → IfOk result (λ r. (s : State) → T.holds table.old s → MakesFirst submission.now s r.0 (option_map change_in r.1)) }
+    ensures update { IsUpdate submission.now.update.now }
     ensures reads { ReadsOnly T.holds T.is_honest T.leaves T.failures table.old table.new result }
 {
+    let Submission {
+        policy,
+        caller,
+        origin,
+        update,
+        ..
+    } = submission;
     // that it is an update follows from that it has operations
     let _operations = update.operations();
     if !table.has_zone(alloc, origin)? {
@@ -138,23 +123,20 @@ fn decided<T: ZoneTable>(
 /// What is kept of an update: its receipt, and the change that it made. The only error is out of memory.
 fn addition(
     alloc: Global,
-    caller: &Identifier,
-    id: &Identifier,
-    origin: &Name,
-    update: &Update,
+    submission: &Submission<'_>,
     reply: &UpdateReply,
     change: Option<Change>,
 ) -> Result<Addition, AllocError>
-    ensures { IfOk result (λ a. addition_in a ≡ addition_of caller.now id.now origin.now update.now reply.now (option_map change_in change)) }
+    ensures { IfOk result (λ a. addition_in a ≡ addition_for submission.now reply.now (option_map change_in change)) }
 {
     let receipt = Receipt {
-        origin: origin.try_copy(alloc)?,
-        update: update.try_copy(alloc)?,
+        origin: submission.origin.try_copy(alloc)?,
+        update: submission.update.try_copy(alloc)?,
         reply: reply.try_copy(alloc)?,
     };
     Ok(Addition {
-        caller: caller.try_copy(alloc)?,
-        id: id.try_copy(alloc)?,
+        caller: submission.caller.try_copy(alloc)?,
+        id: submission.id.try_copy(alloc)?,
         receipt,
         change,
     })
