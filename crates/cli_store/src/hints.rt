@@ -96,9 +96,14 @@ fn tell_refused_type(rt: &HostRuntime, input: Input<'_>) {
     }
 }
 
+/// Whether an input begins with a byte order mark.
+fn is_marked(text: &[u8]) -> bool {
+    text.starts_with(BYTE_ORDER_MARK)
+}
+
 /// Says what is known of a master file beside its refusal, if it was refused.
 fn tell(rt: &HostRuntime, input: Input<'_>, status: ExitCode) {
-    if input.text.starts_with(BYTE_ORDER_MARK) {
+    if is_marked(input.text) {
         let file = input.file;
         if let Ok(words) = format!(in rt.alloc();
             "zoneoffice: {file} begins with a byte order mark, which is read as a part of its first item"
@@ -111,6 +116,15 @@ fn tell(rt: &HostRuntime, input: Input<'_>, status: ExitCode) {
     }
 }
 
+/// Whether there may be something to say of what a job read.
+fn may_tell(files: &[KeptFile], standard: &Beginning, status: ExitCode) -> bool {
+    status != ExitCode::SUCCESS
+        || is_marked(standard.octets())
+        || files
+            .iter()
+            .any(|file| is_marked(file.beginning().octets()))
+}
+
 /// Says on standard error what is known of the master files that a job read, beside their refusal: that one begins with a byte order
 /// mark, and of which type the record is that is not kept. `files` are those that the words name, `standard` is the beginning of
 /// standard input, and `status` how the job ended.
@@ -121,6 +135,10 @@ pub(crate) fn tell_hints(
     standard: &Beginning,
     status: ExitCode,
 ) {
+    // Most jobs end here, so their words are read only once.
+    if !may_tell(files, standard, status) {
+        return;
+    }
     let origin = match read_words(rt.alloc(), words) {
         Ok(
             Job::Text(
