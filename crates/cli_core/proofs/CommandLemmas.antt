@@ -7,10 +7,10 @@ use Rattle.clap.specs.Walk.{Held, Names, Waiting, Walk, arg_by_id, arg_by_index,
 use Rattle.clap.specs.Simple.{entered, built, names_of, filled_from, help_rule}
 use Rattle.clap.proofs.OnLiterals.{clap_on_literals}
 use Rattle.cli_core.specs.Commands.{app_for, command_of, command_word, office}
-use Rattle.cli_core.specs.declared.command.Command.{Command}
-use Rattle.cli_core.specs.declared.command.Command.TheVariants as command
+use Rattle.cli_core.specs.declared.commands.Command.{Command}
+use Rattle.cli_core.specs.declared.commands.Command.TheVariants as command
 use Rattle.cli_core.specs.PlainForms.{IsValue}
-use Rattle.cli_core.specs.Words.{apply, job_by, job_met, job_of}
+use Rattle.cli_core.specs.Words.{job_by, job_met, job_of}
 
 pub office_simple : is_simple office ≡ true
 unfolding office clap_on_literals
@@ -44,52 +44,16 @@ first_walked c = walked (built office).top.rules (names_of (built office)) (walk
 met : (c : Command) → (first_walked c).stopped ≡ Some (command_word c, [])
 unfolding office clap_on_literals
 met command.Apply = refl
-met command.Canon = refl
-met command.Diff = refl
-met command.Request = refl
-met command.Import = refl
-met command.Export = refl
-met command.Zones = refl
-met command.Log = refl
-met command.Migrate = refl
-met command.Rights = refl
-met command.Plan = refl
-met command.Serve = refl
-met command.Check = refl
-met command.Explain = refl
+met c = refl
 
 entered_by : (c : Command) (words : List Text) → entered_at (Some (command_word c, words)) ≡ Some (command_word c, rows_after (rules_of c) [] words)
 unfolding office clap_on_literals
 entered_by command.Apply words = refl
-entered_by command.Canon words = refl
-entered_by command.Diff words = refl
-entered_by command.Request words = refl
-entered_by command.Import words = refl
-entered_by command.Export words = refl
-entered_by command.Zones words = refl
-entered_by command.Log words = refl
-entered_by command.Migrate words = refl
-entered_by command.Rights words = refl
-entered_by command.Plan words = refl
-entered_by command.Serve words = refl
-entered_by command.Check words = refl
-entered_by command.Explain words = refl
+entered_by c words = refl
 
 read_back : (c : Command) → command_of (command_word c) ≡ Some c
 read_back command.Apply = refl
-read_back command.Canon = refl
-read_back command.Diff = refl
-read_back command.Request = refl
-read_back command.Import = refl
-read_back command.Export = refl
-read_back command.Zones = refl
-read_back command.Log = refl
-read_back command.Migrate = refl
-read_back command.Rights = refl
-read_back command.Plan = refl
-read_back command.Serve = refl
-read_back command.Check = refl
-read_back command.Explain = refl
+read_back c = refl
 
 -- the words after a command's word are read by its own rules
 pub job_of_command : (c : Command) (words : List Text) → job_of (command_word c ∷ words) ≡ job_by c (rows_after (rules_of c) [] words)
@@ -116,7 +80,7 @@ pub place_walked : (c : List Rule) (position : ℕ) (v : Text) (a : Rule) (h : H
 unfolding walked
 place_walked c position v a h is found = rw (is.dashes, is.long, is.short, found) refl
 
-pub no_words : job_of [] ≡ Some apply
+pub no_words : job_of [] ≡ Some (command.Apply, [])
 unfolding office clap_on_literals
 no_words = refl
 

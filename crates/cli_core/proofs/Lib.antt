@@ -1,5 +1,6 @@
 pub mod CommandLemmas
 pub mod NumberWordLemmas
+pub mod RowLemmas
 pub mod PlainLemmas
 pub mod MisuseLemmas
 pub mod DeviceLemmas

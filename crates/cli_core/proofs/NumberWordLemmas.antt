@@ -7,7 +7,7 @@ use Rattle.std.specs.Char.{digit_value}
 use Rattle.std.specs.Str.Parse.{AllDigits, ParsesUnsigned, digits_value, without_leading_plus}
 use Rattle.clap.specs.Words.{Text, TriesOne}
 use Rattle.clap.proofs.WalkLemmas.{both}
-use Rattle.cli_core.specs.Words.{number_if, number_in}
+use Rattle.cli_core.specs.Values.{number_if, number_in}
 
 digits_pass : (ds : List ℕ) → AllDigits 10 ds → list_all (λ d. nat_lt (digit_value d) 10) ds ≡ true
 digits_pass [] h = refl

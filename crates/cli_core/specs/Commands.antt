@@ -7,9 +7,9 @@ use Rattle.clap.specs.declared.builder.value_parser.ValueParser.TheVariants as v
 use Rattle.cli_core.specs.declared.argument.Argument.{Argument}
 use Rattle.cli_core.specs.declared.argument.Argument.TheVariants as argument
 use Rattle.cli_core.specs.declared.argument.Form.{Form}
-use Rattle.cli_core.specs.declared.argument.Form.TheVariants.{Needed, Number, Flag, Optional, Place, OptionalPlace}
-use Rattle.cli_core.specs.declared.command.Command.{Command}
-use Rattle.cli_core.specs.declared.command.Command.TheVariants as command
+use Rattle.cli_core.specs.declared.argument.Form.TheVariants.{Needed, Number, Flag, Optional, Asked, Place, OptionalPlace}
+use Rattle.cli_core.specs.declared.commands.Command.{Command}
+use Rattle.cli_core.specs.declared.commands.Command.TheVariants as command
 
 -- ---- the table of arguments
 
@@ -30,10 +30,10 @@ argument_row argument.Patience = (codes "patience", Number)
 argument_row argument.Longest = (codes "longest", Number)
 argument_row argument.Number = (codes "number", OptionalPlace)
 argument_row argument.Subject = (codes "subject", Place)
-argument_row argument.CheckedPolicy = (codes "policy", Optional)
-argument_row argument.CheckedOrigin = (codes "origin", Optional)
+argument_row argument.CheckedPolicy = (codes "policy", Asked)
+argument_row argument.CheckedOrigin = (codes "origin", Asked)
 argument_row argument.CheckedName = (codes "name", OptionalPlace)
-argument_row argument.Isolated = (codes "caller", Optional)
+argument_row argument.Isolated = (codes "caller", Asked)
 argument_row argument.Only = (codes "only", Optional)
 argument_row argument.Not = (codes "not", Optional)
 argument_row argument.Json = (codes "json", Flag)
@@ -96,6 +96,7 @@ in_form Needed name r = record r { long = Some name; required = true; action = S
 in_form Number name r = record r { long = Some name; action = Some Set; parser = Some (value.Unsigned 0 18446744073709551615) }
 in_form Flag name r = record r { long = Some name; action = Some SetTrue }
 in_form Optional name r = record r { long = Some name; action = Some Set }
+in_form Asked name r = record r { long = Some name; action = Some Set }
 in_form Place name r = record r { required = true; action = Some Set }
 in_form OptionalPlace name r = record r { action = Some Set }
 

@@ -1,4 +1,6 @@
 pub mod Commands
+pub mod Values
+pub mod Jobs
 pub mod Words
 pub mod PlainForms
 pub mod Misuse

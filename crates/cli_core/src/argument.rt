@@ -53,6 +53,8 @@ pub enum Form {
     Flag,
     /// `--name VALUE`, which may be left out.
     Optional,
+    /// `--name VALUE`, which some jobs of its command need.
+    Asked,
     /// A word in its place, which must be given.
     Place,
     /// A word in its place, which may be left out.
@@ -153,12 +155,12 @@ impl Argument {
             },
             Argument::CheckedPolicy => &Row {
                 name: "policy",
-                form: Form::Optional,
+                form: Form::Asked,
                 help: "The path of the policy; needed by all but zone",
             },
             Argument::CheckedOrigin => &Row {
                 name: "origin",
-                form: Form::Optional,
+                form: Form::Asked,
                 help: "The zone's origin; needed by zone",
             },
             Argument::CheckedName => &Row {
@@ -168,7 +170,7 @@ impl Argument {
             },
             Argument::Isolated => &Row {
                 name: "caller",
-                form: Form::Optional,
+                form: Form::Asked,
                 help: "Whose isolation to check; needed by isolation",
             },
             Argument::Only => &Row {
@@ -259,7 +261,7 @@ fn in_form<'a>(alloc: Global, name: &'a str, help: &'a str, form: Form) -> Arg<'
             option(alloc, name, help, ArgAction::Set).value_parser(clap::value_parser!(u64))
         }
         Form::Flag => option(alloc, name, help, ArgAction::SetTrue),
-        Form::Optional => option(alloc, name, help, ArgAction::Set),
+        Form::Optional | Form::Asked => option(alloc, name, help, ArgAction::Set),
         Form::Place => place(alloc, name, help).required(true),
         Form::OptionalPlace => place(alloc, name, help),
     }

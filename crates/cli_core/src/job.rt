@@ -1,5 +1,10 @@
 //! What the program is to do.
 
+use crate::commands::{
+    Canon, Check, Diff, Explain, Export, Import, Log, Migrate, Plan, Request, Rights, Service,
+    Zones,
+};
+
 /// What the program is to do.
 #[derive(Clone, Copy)]
 pub enum Job<'a> {
@@ -15,116 +20,36 @@ pub enum TextJob<'a> {
     /// To update a zone that is read from standard input.
     Apply,
     /// To print a zone that is read from standard input.
-    Canon {
-        /// The name of its origin.
-        origin: &'a str,
-        /// In which form it is printed.
-        form: ZoneForm,
-    },
+    Canon(Canon<'a>),
     /// To print the items that lead from a zone to another.
-    Diff {
-        /// The name of their origin.
-        origin: &'a str,
-        /// Where the two zones are.
-        files: ZoneFiles<'a>,
-        /// What stands before the items.
-        form: DiffForm,
-    },
+    Diff(Diff<'a>),
     /// To print the body of an update that is read from standard input, or the bodies of its parts.
-    Request {
-        /// The identifier of the update, or what stands before the numbers of its parts.
-        id: &'a str,
-        /// In one body, or in parts.
-        form: RequestForm,
-    },
+    Request(Request<'a>),
     /// To ask a policy.
-    Rights {
-        /// The path of the policy.
-        policy: &'a str,
-        /// What is asked.
-        asked: QuestionWords<'a>,
-    },
+    Rights(Rights<'a>),
     /// To say what the office would answer to an update of a zone, both read from standard input.
-    Plan {
-        /// The path of the policy.
-        policy: &'a str,
-        /// Who asks.
-        caller: &'a str,
-    },
-    /// To find the rules of a policy that never decide.
-    CheckPolicy {
-        /// The path of the policy.
-        policy: &'a str,
-    },
-    /// To find what keeps a caller of a policy from being isolated.
-    CheckIsolation {
-        /// The path of the policy.
-        policy: &'a str,
-        /// Whose isolation it is.
-        caller: &'a str,
-    },
-    /// To print who may do what, by a policy.
-    CheckRights {
-        /// The path of the policy.
-        policy: &'a str,
-        /// At which name, and by scopes where none is given.
-        name: Option<&'a str>,
-    },
-    /// To find what name servers refuse in a zone that is read from standard input.
-    CheckZone {
-        /// The name of its origin.
-        origin: &'a str,
-        /// By which rules.
-        rules: RuleChoice<'a>,
-    },
+    Plan(Plan<'a>),
+    /// To check a policy, the isolation of a caller or a zone, or to print who may do what.
+    Check(Check<'a>),
     /// To say what the number of a refusal means.
-    Explain {
-        /// The number, or the code, and all where none is given.
-        number: Option<&'a str>,
-        /// As what it is printed.
-        form: TextForm,
-    },
+    Explain(Explain<'a>),
 }
 
 /// What the program is to do with a store.
 #[derive(Clone, Copy)]
 pub enum StoreJob<'a> {
     /// To put a zone that is read from standard input into a store.
-    Import {
-        /// Which zone, and which store.
-        zone: StoredZone<'a>,
-        /// What becomes of a zone of this origin that is there.
-        existing: Existing,
-    },
+    Import(Import<'a>),
     /// To print a zone of a store.
-    Export {
-        /// Which zone, and which store.
-        zone: StoredZone<'a>,
-        /// In which form it is printed.
-        form: ZoneForm,
-    },
+    Export(Export<'a>),
     /// To print the zones of a store.
-    Zones {
-        /// The path of the store.
-        store: &'a str,
-    },
+    Zones(Zones<'a>),
     /// To print the changes and the receipts of a zone of a store.
-    Log {
-        /// Which zone, and which store.
-        zone: StoredZone<'a>,
-        /// Which of them.
-        choice: LogChoice<'a>,
-    },
+    Log(Log<'a>),
     /// To take a store from version 1 of the tables to version 2.
-    Migrate {
-        /// The path of the store.
-        store: &'a str,
-    },
+    Migrate(Migrate<'a>),
     /// To answer callers over HTTP.
-    Serve {
-        /// What is served, and where.
-        service: Service<'a>,
-    },
+    Serve(Service<'a>),
 }
 
 /// As what a text is printed.
@@ -223,21 +148,4 @@ pub struct QuestionWords<'a> {
     pub record_type: &'a str,
     /// What is to be done with them.
     pub action: &'a str,
-}
-
-/// What the words of `serve` name.
-#[derive(Clone, Copy)]
-pub struct Service<'a> {
-    /// The path of the store.
-    pub store: &'a str,
-    /// The path of the policy.
-    pub policy: &'a str,
-    /// The address and the port to listen at.
-    pub listen: &'a str,
-    /// After how many connections to end, where a number is given.
-    pub connections: Option<u64>,
-    /// For how many seconds to wait for a peer, where a number is given.
-    pub patience: Option<u64>,
-    /// After how many seconds to end a connection between two requests, where a number is given.
-    pub longest: Option<u64>,
 }

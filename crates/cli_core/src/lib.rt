@@ -3,21 +3,26 @@
 #![tactic(auto)]
 
 mod argument;
-mod command;
+mod commands;
 mod device;
 mod input;
 mod input_file;
 mod job;
 mod line_fault;
+mod matched;
 mod parser;
 mod refusal;
 mod words;
 
+pub use commands::{
+    Canon, Check, Diff, Explain, Export, Import, Log, Migrate, Plan, Request, Rights, Service,
+    Zones,
+};
 pub use device::{ended, write_answer, write_refusal, write_text};
 pub use input::{Input, read_input};
 pub use input_file::read_path;
 pub use job::{
-    DiffForm, Existing, Job, LogChoice, QuestionWords, RequestForm, RuleChoice, Service, StoreJob,
+    DiffForm, Existing, Job, LogChoice, QuestionWords, RequestForm, RuleChoice, StoreJob,
     StoredZone, TextForm, TextJob, ZoneFiles, ZoneForm,
 };
 pub use line_fault::{JobFault, LineFault, NO_MEMORY_LINE};

@@ -5,7 +5,7 @@ ghost use Rattle.clap.specs.Words.{app_of};
 ghost use Rattle.clap.specs.declared.builder.command.Command.TheViews.{out-Command};
 ghost use Rattle.cli_core.specs.Commands.{app_for, office, bare_office};
 
-use crate::command::Command;
+use crate::commands::Command;
 use std::alloc::{AllocError, Global};
 
 /// The version of the program, which `--version` prints.

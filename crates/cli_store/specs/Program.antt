@@ -1,6 +1,8 @@
 -- What the program does: the job that the words of its command line ask for, in what is around it, and the status with which it ends.
 use Rattle.std.specs.Prelude.{◌≡◌, ◌≢◌, ◌<◌, ◌⊎◌, ⊤, ℕ, List, [], codes, Option, Some, None, option_map, Result, Ok, Err, string_bytes}
 use Rattle.dns_master.specs.declared.device.DeviceFailed.{DeviceFailed}
+use Rattle.cli_core.specs.declared.commands.check.Check.{Check}
+use Rattle.cli_core.specs.declared.commands.check.Check.TheVariants as check
 use Rattle.cli_core.specs.declared.job.Job.{Job}
 use Rattle.cli_core.specs.declared.job.Job.TheVariants as job
 use Rattle.cli_core.specs.declared.job.TextJob.{TextJob}
@@ -13,7 +15,8 @@ use Rattle.cli_core.specs.declared.job.RequestForm.{RequestForm}
 use Rattle.cli_core.specs.declared.job.RequestForm.TheVariants.{Whole, Split}
 use Rattle.cli_core.specs.declared.words.WordsFault.{WordsFault}
 use Rattle.cli_core.specs.declared.words.WordsFault.TheVariants as fault
-use Rattle.cli_core.specs.Words.{asks, job_of}
+use Rattle.cli_core.specs.Jobs.{asks}
+use Rattle.cli_core.specs.Words.{job_of}
 use Rattle.cli_core.specs.Misuse.{IsReported}
 use Rattle.cli_core.specs.declared.refusal.Refusal.{Refusal}
 use Rattle.cli_core.specs.declared.line_fault.LineFault.TheVariants.{NoMemory}
@@ -122,42 +125,46 @@ abbrev pub requested : RequestForm → List ℕ → List ℕ → Result (List �
 requested Whole word = request_text word
 requested Split word = split_text word
 
+-- A check reads the file of its policy, or standard input where that is a zone.
+abbrev pub CheckEnds : Around → Reading → Writing → Check → ℕ → Type 0
+CheckEnds a i o (check.Policy policy) status = IsUnread i × EndsCheck Rules (a.file policy.now) ⊤ (a.unreadable policy.now) o status
+CheckEnds a i o (check.Isolation policy caller) status = IsUnread i × EndsCheck (Isolation caller) (a.file policy.now) ⊤ (a.unreadable policy.now) o status
+CheckEnds a i o (check.Rights policy name) status = IsUnread i × EndsCheck (Rights name) (a.file policy.now) ⊤ (a.unreadable policy.now) o status
+CheckEnds a i o (check.Zone origin rules) status = EndsCheck (Zone origin rules) i.left (i.after ≡ i.before) (i.before < i.after) o status
+
 -- A job that needs no store reads its own input and answers to its own words, and the status is 0 exactly where it went through, and a check
 -- found nothing. What is around, standard input, standard output, the job, and the status. A job whose inputs are files, or that has none, does
 -- not read standard input.
 abbrev pub TextJobEnds : Around → Reading → Writing → TextJob → ℕ → Type 0
 TextJobEnds a i o text_job.Apply status = EndsTask i.left (i.after ≡ i.before) (i.before < i.after) apply_text o status
-TextJobEnds a i o (text_job.Canon origin form) status = EndsTask i.left (i.after ≡ i.before) (i.before < i.after) (canon_text form origin.now) o status
-TextJobEnds a i o (text_job.Diff origin files form) status = Ends (λ outcome. DiffersBy a i form origin.now files o outcome) status
-TextJobEnds a i o (text_job.Request id form) status = EndsTask i.left (i.after ≡ i.before) (i.before < i.after) (requested form id.now) o status
-TextJobEnds a i o (text_job.Rights policy asked) status = IsUnread i × EndsTask (a.file policy.now) ⊤ (a.unreadable policy.now) (rights_text asked) o status
-TextJobEnds a i o (text_job.Plan policy caller) status =
-    Ends (λ outcome. IsPlanned caller.now (named a policy.now) (standard i) o.old o.new outcome o.before o.after) status
-TextJobEnds a i o (text_job.CheckPolicy policy) status = IsUnread i × EndsCheck Rules (a.file policy.now) ⊤ (a.unreadable policy.now) o status
-TextJobEnds a i o (text_job.CheckIsolation policy caller) status =
-    IsUnread i × EndsCheck (Isolation caller) (a.file policy.now) ⊤ (a.unreadable policy.now) o status
-TextJobEnds a i o (text_job.CheckRights policy name) status = IsUnread i × EndsCheck (Rights name) (a.file policy.now) ⊤ (a.unreadable policy.now) o status
-TextJobEnds a i o (text_job.CheckZone origin rules) status = EndsCheck (Zone origin rules) i.left (i.after ≡ i.before) (i.before < i.after) o status
-TextJobEnds a i o (text_job.Explain number form) status =
-    IsUnread i × EndsTask ended.left ended.fine ended.failed (explain_text (option_map (λ n. n.now) number) form) o status
+TextJobEnds a i o (text_job.Canon w) status = EndsTask i.left (i.after ≡ i.before) (i.before < i.after) (canon_text w.form w.origin.now) o status
+TextJobEnds a i o (text_job.Diff w) status = Ends (λ outcome. DiffersBy a i w.form w.origin.now w.files o outcome) status
+TextJobEnds a i o (text_job.Request w) status = EndsTask i.left (i.after ≡ i.before) (i.before < i.after) (requested w.form w.id.now) o status
+TextJobEnds a i o (text_job.Rights w) status =
+    IsUnread i × EndsTask (a.file w.policy.now) ⊤ (a.unreadable w.policy.now) (rights_text w.asked) o status
+TextJobEnds a i o (text_job.Plan w) status =
+    Ends (λ outcome. IsPlanned w.caller.now (named a w.policy.now) (standard i) o.old o.new outcome o.before o.after) status
+TextJobEnds a i o (text_job.Check w) status = CheckEnds a i o w status
+TextJobEnds a i o (text_job.Explain w) status =
+    IsUnread i × EndsTask ended.left ended.fine ended.failed (explain_text (option_map (λ n. n.now) w.number) w.form) o status
 
 -- A job with a store answers to its own words, and the status is 0 exactly where it went through. What is around, the stores of paths, standard
 -- input, standard output, the trace, the job, the connection that is handed back (which shows what is left of the store that the job reached),
 -- and the status. Only an import reads standard input, and only a service writes to the trace.
 abbrev pub StoreJobEnds : {C : Type 0} → Around → StoresOf C → Reading → Writing → Writing → StoreJob → Option C → ℕ → Type 0
-StoreJobEnds a s i o t (store_job.Import zone existing) left status =
-    IsIdle t × Ends (λ outcome. ImportWritten zone.origin.now i.left o.old o.new outcome (i.after ≡ i.before) (i.before < i.after) o.before o.after
-    × ZoneStored s zone.store.now zone.origin.now existing i.left left o.old o.new outcome (i.after ≡ i.before) (i.before < i.after) o.before o.after) status
-StoreJobEnds a s i o t (store_job.Export zone form) left status =
-    IsIdle t × IsUnread i × Ends (λ outcome. ExportWritten zone.origin.now form o.old o.new outcome o.before o.after
-    × ZoneExported s zone.store.now zone.origin.now form left o.old o.new outcome o.before o.after) status
-StoreJobEnds a s i o t (store_job.Zones store) left status =
-    IsIdle t × IsUnread i × Ends (λ outcome. ZonesPrinted s store.now left o.old o.new outcome o.before o.after) status
-StoreJobEnds a s i o t (store_job.Log zone choice) left status =
-    IsIdle t × IsUnread i × Ends (λ outcome. LogPrinted s zone.store.now zone.origin.now choice left o.old o.new outcome o.before o.after) status
-StoreJobEnds a s i o t (store_job.Migrate store) left status =
+StoreJobEnds a s i o t (store_job.Import w) left status =
+    IsIdle t × Ends (λ outcome. ImportWritten w.zone.origin.now i.left o.old o.new outcome (i.after ≡ i.before) (i.before < i.after) o.before o.after
+    × ZoneStored s w.zone.store.now w.zone.origin.now w.existing i.left left o.old o.new outcome (i.after ≡ i.before) (i.before < i.after) o.before o.after) status
+StoreJobEnds a s i o t (store_job.Export w) left status =
+    IsIdle t × IsUnread i × Ends (λ outcome. ExportWritten w.zone.origin.now w.form o.old o.new outcome o.before o.after
+    × ZoneExported s w.zone.store.now w.zone.origin.now w.form left o.old o.new outcome o.before o.after) status
+StoreJobEnds a s i o t (store_job.Zones w) left status =
+    IsIdle t × IsUnread i × Ends (λ outcome. ZonesPrinted s w.store.now left o.old o.new outcome o.before o.after) status
+StoreJobEnds a s i o t (store_job.Log w) left status =
+    IsIdle t × IsUnread i × Ends (λ outcome. LogPrinted s w.zone.store.now w.zone.origin.now w.choice left o.old o.new outcome o.before o.after) status
+StoreJobEnds a s i o t (store_job.Migrate w) left status =
     IsIdle t × IsUnread i
-    × Ends (λ outcome. MigrationWritten o.old o.new outcome o.before o.after × StoreMigrated s store.now left o.old o.new outcome o.before o.after) status
+    × Ends (λ outcome. MigrationWritten o.old o.new outcome o.before o.after × StoreMigrated s w.store.now left o.old o.new outcome o.before o.after) status
 StoreJobEnds a s i o t (store_job.Serve service) left status =
     IsUnread i × Ends (λ outcome. Serves a s service left o.old o.new outcome o.before o.after t.old t.new t.before t.after) status
 

@@ -9,7 +9,7 @@ use Rattle.grant_policy.specs.Reading.{policy_of}
 use Rattle.office_wire.specs.declared.serve_fault.ServeFault.{ServeFault}
 use Rattle.store_faults.specs.declared.store_fault.StoreFault.{StoreFault}
 use Rattle.wire_tcp.specs.Connections.{AreReported, AreServedFrom}
-use Rattle.cli_core.specs.declared.job.Service.{Service}
+use Rattle.cli_core.specs.declared.commands.serve.Service.{Service}
 use Rattle.cli_core.specs.declared.refusal.Refusal.{Refusal}
 use Rattle.cli_core.specs.LineFaults.{◌>>=◌, limited, of_policies, of_store, Makes, GivesOf}
 use Rattle.cli_core.specs.declared.line_fault.LineFault.{LineFault}

@@ -2,7 +2,7 @@
 
 use crate::beginning::Beginning;
 use crate::kept_files::KeptFile;
-use cli_core::{Job, StoreJob, TextJob, read_words};
+use cli_core::{Check, Job, StoreJob, TextJob, read_words};
 use dns_data::{DataFault, RecordType};
 use dns_master::{MasterFault, Token, read_file, tokens};
 use dns_names::Name;
@@ -140,14 +140,10 @@ pub(crate) fn tell_hints(
         return;
     }
     let origin = match read_words(rt.alloc(), words) {
-        Ok(
-            Job::Text(
-                TextJob::Canon { origin, .. }
-                | TextJob::CheckZone { origin, .. }
-                | TextJob::Diff { origin, .. },
-            ),
-        ) => origin,
-        Ok(Job::Store(StoreJob::Import { zone, .. })) => zone.origin,
+        Ok(Job::Text(TextJob::Canon(words))) => words.origin,
+        Ok(Job::Text(TextJob::Check(Check::Zone { origin, .. }))) => origin,
+        Ok(Job::Text(TextJob::Diff(words))) => words.origin,
+        Ok(Job::Store(StoreJob::Import(words))) => words.zone.origin,
         _ => return,
     };
     for file in files {

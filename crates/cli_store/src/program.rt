@@ -5,7 +5,7 @@ ghost use Rattle.std.specs.Process.{exit_status};
 ghost use Rattle.sqlite.specs.Held.{state};
 ghost use Rattle.cli_text.specs.Plan.{IsPlanned};
 ghost use Rattle.cli_store.specs.Stores.{stores_of};
-ghost use Rattle.cli_store.specs.Program.{Ends, EndsTask, EndsCheck, DiffersBy, named, standard, requested, TextJobEnds, StoreJobEnds, JobEnds, EndsFault, WordsEnd, IsToldWhole, status_of, check_status_of};
+ghost use Rattle.cli_store.specs.Program.{Ends, EndsTask, EndsCheck, DiffersBy, named, standard, requested, CheckEnds, TextJobEnds, StoreJobEnds, JobEnds, EndsFault, WordsEnd, IsToldWhole, status_of, check_status_of};
 
 use crate::files::StoreFiles;
 use crate::migration::migrate;
@@ -15,12 +15,11 @@ use crate::store_log::log;
 use crate::surroundings::{Ended, NamedFile, Surroundings};
 use crate::zones::{export, import};
 use cli_core::{
-    DiffForm, Input, Job, JobFault, NO_MEMORY_LINE, RequestForm, StoreJob, TextJob, WordsFault,
-    ZoneFiles, read_words, write_text,
+    Check, DiffForm, Input, Job, JobFault, NO_MEMORY_LINE, RequestForm, StoreJob, TextJob,
+    WordsFault, ZoneFiles, read_words, write_text,
 };
 use cli_text::{
-    Apply, Canon, DiffFault, Explain, Findings, Request, Split, Subject, Task, do_check, do_diff,
-    do_plan,
+    Apply, DiffFault, Findings, Request, Split, Subject, Task, do_check, do_diff, do_plan,
 };
 use dns_master::{Sink, Source};
 use sqlite::{Alter, Connection};
@@ -96,6 +95,32 @@ fn check_file<M: Surroundings, W: Sink>(
 {
     let mut file = NamedFile { around, path };
     check(around.machine(), subject, &mut file, output)
+}
+
+/// Checks what the words of `check` name.
+fn check_job<M: Surroundings, R: Source, W: Sink>(
+    around: &M,
+    words: Check<'_>,
+    input: &mut R,
+    output: &mut W,
+) -> ExitCode
+    ensures { CheckEnds (M.around around.now) (record { left = R.remaining input.old; rest = R.remaining input.new; before = R.failures input.old; after = R.failures input.new }) (record { old = W.contents output.old; new = W.contents output.new; before = W.failures output.old; after = W.failures output.new }) words.entry (exit_status result) }
+{
+    match words {
+        Check::Policy { policy } => check_file(around, Subject::Rules, policy, output),
+        Check::Isolation { policy, caller } => {
+            check_file(around, Subject::Isolation(caller), policy, output)
+        }
+        Check::Rights { policy, name } => check_file(around, Subject::Rights(name), policy, output),
+        Check::Zone { origin, rules } => {
+            check(
+                around.machine(),
+                Subject::Zone(origin, rules),
+                input,
+                output,
+            )
+        }
+    }
 }
 
 /// Whether a path is standard input.
@@ -178,31 +203,22 @@ pub fn do_text_job<M: Surroundings, R: Source, W: Sink>(
     let rt = around.machine();
     match job {
         TextJob::Apply => do_task(rt, Apply, input, output),
-        TextJob::Canon { origin, form } => do_task(rt, Canon { origin, form }, input, output),
-        TextJob::Diff {
-            origin,
-            files,
-            form,
-        } => ended(rt, diff(around, (origin, form), files, input, output)),
-        TextJob::Request { id, form } => request(rt, id, form, input, output),
-        TextJob::Rights {
-            policy: path,
-            asked,
-        } => do_task(rt, asked, &mut NamedFile { around, path }, output),
-        TextJob::Plan { policy, caller } => plan(around, policy, caller, input, output),
-        TextJob::CheckPolicy { policy } => check_file(around, Subject::Rules, policy, output),
-        TextJob::CheckIsolation { policy, caller } => {
-            check_file(around, Subject::Isolation(caller), policy, output)
+        TextJob::Canon(words) => do_task(rt, words, input, output),
+        TextJob::Diff(words) => {
+            let what = (words.origin, words.form);
+            ended(rt, diff(around, what, words.files, input, output))
         }
-        TextJob::CheckRights { policy, name } => {
-            check_file(around, Subject::Rights(name), policy, output)
+        TextJob::Request(words) => request(rt, words.id, words.form, input, output),
+        TextJob::Rights(words) => {
+            let mut policy = NamedFile {
+                around,
+                path: words.policy,
+            };
+            do_task(rt, words.asked, &mut policy, output)
         }
-        TextJob::CheckZone { origin, rules } => {
-            check(rt, Subject::Zone(origin, rules), input, output)
-        }
-        TextJob::Explain { number, form } => {
-            do_task(rt, Explain { number, form }, &mut Ended, output)
-        }
+        TextJob::Plan(words) => plan(around, words.policy, words.caller, input, output),
+        TextJob::Check(words) => check_job(around, words, input, output),
+        TextJob::Explain(words) => do_task(rt, words, &mut Ended, output),
     }
 }
 
@@ -232,14 +248,14 @@ fn done<M: Surroundings, S: Alter + Drop, P: StoreFiles<S> + Drop, R: Source, W:
 {
     let alloc = around.machine().alloc();
     match job {
-        StoreJob::Import { zone, existing } => {
-            import(alloc, files, (zone, existing), input, output)
+        StoreJob::Import(words) => {
+            import(alloc, files, (words.zone, words.existing), input, output)
         }
-        StoreJob::Export { zone, form } => export(alloc, files, zone, form, output),
-        StoreJob::Zones { store } => list_zones(alloc, files, store, output),
-        StoreJob::Log { zone, choice } => log(alloc, files, zone, choice, output),
-        StoreJob::Migrate { store } => migrate(alloc, files, store, output),
-        StoreJob::Serve { service } => serve(around, files, service, output, trace),
+        StoreJob::Export(words) => export(alloc, files, words.zone, words.form, output),
+        StoreJob::Zones(words) => list_zones(alloc, files, words.store, output),
+        StoreJob::Log(words) => log(alloc, files, words.zone, words.choice, output),
+        StoreJob::Migrate(words) => migrate(alloc, files, words.store, output),
+        StoreJob::Serve(service) => serve(around, files, service, output, trace),
     }
 }
 

@@ -9,7 +9,7 @@ ghost use Rattle.cli_text.specs.Canon.{zone_of_file, zone_read, zone_text_in, te
 ghost use Rattle.dns_master.specs.Device.{TextWritten};
 
 use crate::task::Task;
-use cli_core::{Input, JobFault, LineFault, ZoneForm, ended, read_input, write_refusal};
+use cli_core::{Canon, Input, JobFault, LineFault, ZoneForm, ended, read_input, write_refusal};
 use dns_data::Record;
 use dns_master::{MasterFault, Sink, print_relative_zone, print_zone, read_file};
 use dns_names::Name;
@@ -81,14 +81,6 @@ fn print<W: Sink>(
 /// origin, and its record lines in record order, which in the relative form have the owner relative to the origin and no TTL that
 /// a line `$TTL` gives. Otherwise one line tells the refusal that comes first: of the origin, that the input is too large, of the
 /// master file, of its records as a zone.
-#[derive(Clone, Copy)]
-pub struct Canon<'a> {
-    /// The name of the zone's origin, a word of the command line.
-    pub origin: &'a str,
-    /// In which form it is printed.
-    pub form: ZoneForm,
-}
-
 impl Task for Canon<'_> {
     ghost use Rattle.cli_text.specs.Canon.{canon_text};
 

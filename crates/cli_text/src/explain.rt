@@ -6,7 +6,7 @@ ghost use Rattle.cli_core.specs.LineFaults.{Gives};
 ghost use Rattle.cli_text.specs.Explain.{rows_asked, rows_text, explain_made, explain_text};
 
 use crate::task::Task;
-use cli_core::{Input, JobFault, LineFault, Refusal, TextForm, write_answer};
+use cli_core::{Explain, Input, JobFault, LineFault, Refusal, TextForm, write_answer};
 use dns_master::Sink;
 use refusals::{RefusalRow, all_rows, explained, json_text, plain_text};
 use std::alloc::{AllocError, Global};
@@ -44,14 +44,6 @@ fn answer(alloc: Global, number: Option<&str>, form: TextForm) -> Result<String,
 
 /// The task `explain`: to print what each part of a number means and what to do, and of all numbers where none is given. It reads
 /// nothing. A number that the program never prints is refused.
-#[derive(Clone, Copy)]
-pub struct Explain<'a> {
-    /// The number, or the code, a word of the command line.
-    pub number: Option<&'a str>,
-    /// As what it is printed.
-    pub form: TextForm,
-}
-
 impl Task for Explain<'_> {
     ghost answer = { λ asked. explain_text (option_map (λ n. n.now) asked.number) asked.form };
 

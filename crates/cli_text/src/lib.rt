@@ -25,11 +25,10 @@ mod task;
 mod zone_check;
 
 pub use apply::Apply;
-pub use canon::{Canon, print_zone_in, read_name, read_zone};
+pub use canon::{print_zone_in, read_name, read_zone};
 pub use check::{Findings, Subject, do_check, name_if};
 pub use diff::do_diff;
 pub use diff_fault::DiffFault;
-pub use explain::Explain;
 pub use laws::{
     diffs_are_guarded, diffs_lead, splits_are_parts, text_is_divided, zones_are_read_again,
 };

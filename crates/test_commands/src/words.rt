@@ -1,8 +1,8 @@
 //! What the words of a command line ask for.
 
 use cli_core::{
-    DiffForm, Existing, Job, LogChoice, QuestionWords, RequestForm, RuleChoice, Service, StoreJob,
-    StoredZone, TextForm, TextJob, WordsFault, ZoneFiles, ZoneForm, read_words,
+    Check, Diff, DiffForm, Existing, Job, LogChoice, QuestionWords, RequestForm, RuleChoice,
+    Service, StoreJob, StoredZone, TextForm, TextJob, WordsFault, ZoneForm, read_words,
 };
 use std::alloc::{AllocError, Global};
 use test_rows::Row;
@@ -78,31 +78,38 @@ fn push_job(alloc: Global, job: &Job<'_>, answer: &mut Vec<u8>) -> Result<(), Al
 fn push_text_job(job: &TextJob<'_>, answer: &mut Vec<u8>) -> Result<(), AllocError> {
     match job {
         TextJob::Apply => push("apply", answer),
-        TextJob::Canon { origin, form } => push_given("canon", origin, form_text(*form), answer),
-        TextJob::Diff {
-            origin,
-            files,
-            form,
-        } => push_diff(origin, files, diff_text(*form), answer),
-        TextJob::Request { id, form } => push_given("request", id, request_text(*form), answer),
-        TextJob::Rights { policy, asked } => push_question(policy, asked, answer),
-        TextJob::Plan { policy, caller } => {
-            push_all(&["plan (", policy, ") (", caller, ")"], answer)
+        TextJob::Canon(words) => {
+            push_given("canon", words.origin, form_text(words.form), answer)
         }
-        TextJob::CheckPolicy { policy } => push_given("check policy", policy, "", answer),
-        TextJob::CheckIsolation { policy, caller } => push_all(
+        TextJob::Diff(words) => push_diff(words, answer),
+        TextJob::Request(words) => {
+            push_given("request", words.id, request_text(words.form), answer)
+        }
+        TextJob::Rights(words) => push_question(words.policy, &words.asked, answer),
+        TextJob::Plan(words) => push_all(
+            &["plan (", words.policy, ") (", words.caller, ")"],
+            answer,
+        ),
+        TextJob::Check(words) => push_check(words, answer),
+        TextJob::Explain(words) => push_explain(words.number, words.form, answer),
+    }
+}
+
+fn push_check(words: &Check<'_>, answer: &mut Vec<u8>) -> Result<(), AllocError> {
+    match words {
+        Check::Policy { policy } => push_given("check policy", policy, "", answer),
+        Check::Isolation { policy, caller } => push_all(
             &["check isolation (", policy, ") (", caller, ")"],
             answer,
         ),
-        TextJob::CheckRights { policy, name } => {
+        Check::Rights { policy, name } => {
             push_all(&["check rights (", policy, ")"], answer)?;
             push_if_given(*name, answer)
         }
-        TextJob::CheckZone { origin, rules } => {
+        Check::Zone { origin, rules } => {
             push_all(&["check zone (", origin, ")"], answer)?;
             push_choice(*rules, answer)
         }
-        TextJob::Explain { number, form } => push_explain(*number, *form, answer),
     }
 }
 
@@ -112,17 +119,19 @@ fn push_store_job(
     answer: &mut Vec<u8>,
 ) -> Result<(), AllocError> {
     match job {
-        StoreJob::Import { zone, existing } => push_zone(
+        StoreJob::Import(words) => push_zone(
             "import",
-            zone,
-            existing_text(*existing),
+            &words.zone,
+            existing_text(words.existing),
             answer,
         ),
-        StoreJob::Export { zone, form } => push_zone("export", zone, form_text(*form), answer),
-        StoreJob::Zones { store } => push_given("zones", store, "", answer),
-        StoreJob::Log { zone, choice } => push_log(alloc, zone, choice, answer),
-        StoreJob::Migrate { store } => push_given("migrate", store, "", answer),
-        StoreJob::Serve { service } => push_service(alloc, service, answer),
+        StoreJob::Export(words) => {
+            push_zone("export", &words.zone, form_text(words.form), answer)
+        }
+        StoreJob::Zones(words) => push_given("zones", words.store, "", answer),
+        StoreJob::Log(words) => push_log(alloc, &words.zone, &words.choice, answer),
+        StoreJob::Migrate(words) => push_given("migrate", words.store, "", answer),
+        StoreJob::Serve(service) => push_service(alloc, service, answer),
     }
 }
 
@@ -148,16 +157,10 @@ fn push_given(word: &str, given: &str, end: &str, answer: &mut Vec<u8>) -> Resul
     push_all(&[word, " (", given, ")", end], answer)
 }
 
-fn push_diff(
-    origin: &str,
-    files: &ZoneFiles<'_>,
-    end: &str,
-    answer: &mut Vec<u8>,
-) -> Result<(), AllocError> {
+fn push_diff(words: &Diff<'_>, answer: &mut Vec<u8>) -> Result<(), AllocError> {
+    push_all(&["diff (", words.origin, ") (", words.files.old], answer)?;
     push_all(
-        &[
-            "diff (", origin, ") (", files.old, ") (", files.new, ")", end,
-        ],
+        &[") (", words.files.new, ")", diff_text(words.form)],
         answer,
     )
 }

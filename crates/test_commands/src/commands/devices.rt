@@ -1,8 +1,8 @@
 //! Commands, and the devices that they read and write.
 
 use crate::commands::trials::{Devices, Trial, tried};
-use cli_core::{JobFault, QuestionWords, TextForm, ZoneForm};
-use cli_text::{Apply, Canon, Explain, Findings, Request, Split, Subject, Task, do_check};
+use cli_core::{Canon, Explain, JobFault, QuestionWords, TextForm, ZoneForm};
+use cli_text::{Apply, Findings, Request, Split, Subject, Task, do_check};
 use dns_master::{Pieces, Sink, Source};
 use std::alloc::{AllocError, Global};
 

@@ -3,7 +3,8 @@ use Rattle.std.specs.Prelude.{unwrap_or}
 use Rattle.clap.specs.Words.{is_simple, subcommand_of, takes}
 use Rattle.clap.specs.Faults.{fault_of, is_simple_and_free}
 use Rattle.clap.specs.declared.error.ErrorKind.TheVariants as kind
-use Rattle.cli_core.specs.Words.{asks, job_met}
+use Rattle.cli_core.specs.Jobs.{asks}
+use Rattle.cli_core.specs.Words.{job_met}
 use Rattle.cli_core.proofs.CommandLemmas.{office_free, office_simple}
 use Rattle.cli_core.proofs.PlainLemmas.{plain_read}
 use Rattle.cli_core.proofs.MisuseLemmas.{nothing_wrong, told_of}

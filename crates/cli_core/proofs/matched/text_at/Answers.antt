@@ -1,7 +1,7 @@
 use Rattle.std.proofs.Common.{◌∙◌, ap}
 use Rattle.clap.proofs.WalkLemmas.{first_value-rows}
 use Rattle.clap.specs.Words.{first_of, found_of, rows_of}
-use Rattle.cli_core.proofs.words.text_at.Goals as goal
+use Rattle.cli_core.proofs.matched.text_at.Goals as goal
 
 pub returns : goal.returns
 returns c =

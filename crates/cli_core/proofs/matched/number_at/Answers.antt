@@ -2,9 +2,9 @@ use Rattle.std.proofs.Common.{◌∙◌, ap}
 use Rattle.std.specs.Str.Parse.{ParsesUnsigned, ExplainsUnsignedError, HasUnsignedDigitsIfOk}
 use Rattle.clap.proofs.WalkLemmas.{one_text-rows}
 use Rattle.clap.specs.Words.{found_of, one_of, one_text, rows_of}
-use Rattle.cli_core.specs.Words.{number_if}
+use Rattle.cli_core.specs.Values.{number_if}
 use Rattle.cli_core.proofs.NumberWordLemmas.{number_tried}
-use Rattle.cli_core.proofs.words.number_at.Goals as goal
+use Rattle.cli_core.proofs.matched.number_at.Goals as goal
 
 pub returns : goal.returns
 returns c =

@@ -1,0 +1,114 @@
+-- The jobs: what each command has for its arguments.
+use Rattle.std.specs.Prelude.{Bool, true, false, List, [], ◌∷◌, None, option_map, codes}
+use Rattle.clap.specs.Words.{Text}
+use Rattle.cli_core.specs.Values.{Given, text, number, flag, given}
+use Rattle.cli_core.specs.declared.argument.Argument.TheVariants as argument
+use Rattle.cli_core.specs.declared.commands.Command.{Command}
+use Rattle.cli_core.specs.declared.commands.Command.TheVariants as command
+use Rattle.cli_core.specs.declared.commands.check.Check.{Check}
+use Rattle.cli_core.specs.declared.commands.check.Check.TheVariants as check
+use Rattle.cli_core.specs.declared.job.Existing.{Existing}
+use Rattle.cli_core.specs.declared.job.Existing.TheVariants.{Kept, Replaced}
+use Rattle.cli_core.specs.declared.job.TextForm.{TextForm}
+use Rattle.cli_core.specs.declared.job.TextForm.TheVariants.{Plain, Json}
+use Rattle.cli_core.specs.declared.job.DiffForm.{DiffForm}
+use Rattle.cli_core.specs.declared.job.DiffForm.TheVariants.{Bare, Guarded}
+use Rattle.cli_core.specs.declared.job.ZoneForm.{ZoneForm}
+use Rattle.cli_core.specs.declared.job.ZoneForm.TheVariants.{Whole, Relative}
+use Rattle.cli_core.specs.declared.job.RequestForm.{RequestForm}
+use Rattle.cli_core.specs.declared.job.RequestForm.TheVariants as request_form
+use Rattle.cli_core.specs.declared.job.StoredZone.{StoredZone}
+use Rattle.cli_core.specs.declared.job.RuleChoice.{RuleChoice}
+use Rattle.cli_core.specs.declared.job.RuleChoice.TheVariants as choice
+use Rattle.cli_core.specs.declared.job.Job.{Job}
+use Rattle.cli_core.specs.declared.job.Job.TheVariants as job
+use Rattle.cli_core.specs.declared.job.TextJob.{TextJob}
+use Rattle.cli_core.specs.declared.job.TextJob.TheVariants as text_job
+use Rattle.cli_core.specs.declared.job.StoreJob.{StoreJob}
+use Rattle.cli_core.specs.declared.job.StoreJob.TheVariants as store_job
+
+-- a job: its command, and the arguments that it reads with their values, in the order of the table
+abbrev pub JobOf : Type 0
+JobOf = Command × List Given
+
+-- ---- parts of jobs
+
+abbrev pub is_relative : ZoneForm → Bool
+is_relative Whole = false
+is_relative Relative = true
+
+abbrev pub is_guarded : DiffForm → Bool
+is_guarded Bare = false
+is_guarded Guarded = true
+
+abbrev pub is_json : TextForm → Bool
+is_json Plain = false
+is_json Json = true
+
+abbrev pub is_replaced : Existing → Bool
+is_replaced Kept = false
+is_replaced Replaced = true
+
+abbrev pub request_values : RequestForm → Text → List Given
+request_values request_form.Whole id = (argument.Id, given id) ∷ (argument.Split, text None) ∷ []
+request_values request_form.Split id = (argument.Id, text None) ∷ (argument.Split, given id) ∷ []
+
+abbrev pub choice_values : RuleChoice → List Given
+choice_values choice.All = (argument.Only, text None) ∷ (argument.Not, text None) ∷ []
+choice_values (choice.Only rule) = (argument.Only, given rule.now) ∷ (argument.Not, text None) ∷ []
+choice_values (choice.Not rule) = (argument.Only, text None) ∷ (argument.Not, given rule.now) ∷ []
+
+abbrev pub subject : Text → Given
+subject word = (argument.Subject, given word)
+
+-- ---- the table of jobs
+
+abbrev pub asks_check : Check → JobOf
+asks_check (check.Policy policy) = (command.Check, subject (codes "policy") ∷ (argument.CheckedPolicy, given policy.now) ∷ [])
+asks_check (check.Isolation policy caller) =
+    (command.Check, subject (codes "isolation") ∷ (argument.CheckedPolicy, given policy.now) ∷ (argument.Isolated, given caller.now) ∷ [])
+asks_check (check.Rights policy name) =
+    (command.Check, subject (codes "rights") ∷ (argument.CheckedName, text (option_map (λ n. n.now) name)) ∷ (argument.CheckedPolicy, given policy.now) ∷ [])
+asks_check (check.Zone origin rules) = (command.Check, subject (codes "zone") ∷ (argument.CheckedOrigin, given origin.now) ∷ choice_values rules)
+
+abbrev pub asks_text : TextJob → JobOf
+asks_text text_job.Apply = (command.Apply, [])
+asks_text (text_job.Canon w) = (command.Canon, (argument.Origin, given w.origin.now) ∷ (argument.Relative, flag (is_relative w.form)) ∷ [])
+asks_text (text_job.Diff w) = (
+  command.Diff,
+  (argument.Origin, given w.origin.now) ∷ (argument.Guard, flag (is_guarded w.form))
+      ∷ (argument.Old, given w.files.old.now) ∷ (argument.New, given w.files.new.now) ∷ [],
+)
+asks_text (text_job.Request w) = (command.Request, request_values w.form w.id.now)
+asks_text (text_job.Rights w) = (
+  command.Rights,
+  (argument.Policy, given w.policy.now) ∷ (argument.Caller, given w.asked.caller.now) ∷ (argument.Name, given w.asked.name.now)
+      ∷ (argument.Type, given w.asked.record_type.now) ∷ (argument.Action, given w.asked.action.now) ∷ [],
+)
+asks_text (text_job.Plan w) = (command.Plan, (argument.Policy, given w.policy.now) ∷ (argument.Caller, given w.caller.now) ∷ [])
+asks_text (text_job.Check w) = asks_check w
+asks_text (text_job.Explain w) =
+    (command.Explain, (argument.Number, text (option_map (λ n. n.now) w.number)) ∷ (argument.Json, flag (is_json w.form)) ∷ [])
+
+abbrev pub stored : StoredZone → List Given → List Given
+stored zone gs = (argument.Store, given zone.store.now) ∷ (argument.Origin, given zone.origin.now) ∷ gs
+
+abbrev pub asks_store : StoreJob → JobOf
+asks_store (store_job.Import w) = (command.Import, stored w.zone ((argument.Replace, flag (is_replaced w.existing)) ∷ []))
+asks_store (store_job.Export w) = (command.Export, stored w.zone ((argument.Relative, flag (is_relative w.form)) ∷ []))
+asks_store (store_job.Zones w) = (command.Zones, (argument.Store, given w.store.now) ∷ [])
+asks_store (store_job.Log w) = (
+  command.Log,
+  stored w.zone ((argument.From, number w.choice.from) ∷ (argument.Within, text (option_map (λ n. n.now) w.choice.name))
+      ∷ (argument.Asker, text (option_map (λ c. c.now) w.choice.caller)) ∷ []),
+)
+asks_store (store_job.Migrate w) = (command.Migrate, (argument.Store, given w.store.now) ∷ [])
+asks_store (store_job.Serve w) = (
+  command.Serve,
+  (argument.Store, given w.store.now) ∷ (argument.Policy, given w.policy.now) ∷ (argument.Listen, given w.listen.now)
+      ∷ (argument.Connections, number w.connections) ∷ (argument.Patience, number w.patience) ∷ (argument.Longest, number w.longest) ∷ [],
+)
+
+abbrev pub asks : Job → JobOf
+asks (job.Text j) = asks_text j
+asks (job.Store j) = asks_store j

@@ -1,0 +1,124 @@
+//! The command `check`.
+
+ghost use Rattle.cli_core.specs.declared.commands.Command.TheVariants as command;
+ghost use Rattle.std.specs.Prelude.{◌≡◌, codes, option_and_then, option_map};
+ghost use Rattle.clap.specs.Words.{found_of, rows_of};
+ghost use Rattle.cli_core.specs.Jobs.{asks_check};
+ghost use Rattle.cli_core.specs.Words.{check_by};
+
+use crate::argument::Argument;
+use crate::commands::{CommandWords, Row};
+use crate::job::{Job, RuleChoice, TextJob};
+use crate::matched::{text_at, texts_at};
+use clap::ArgMatches;
+
+/// The words of `check`, by its subject.
+#[derive(Clone, Copy)]
+pub enum Check<'a> {
+    /// To find the rules of a policy that never decide.
+    Policy {
+        /// The path of the policy.
+        policy: &'a str,
+    },
+    /// To find what keeps a caller of a policy from being isolated.
+    Isolation {
+        /// The path of the policy.
+        policy: &'a str,
+        /// Whose isolation it is.
+        caller: &'a str,
+    },
+    /// To print who may do what, by a policy.
+    Rights {
+        /// The path of the policy.
+        policy: &'a str,
+        /// At which name, and by scopes where none is given.
+        name: Option<&'a str>,
+    },
+    /// To find what name servers refuse in a zone that is read from standard input.
+    Zone {
+        /// The name of its origin.
+        origin: &'a str,
+        /// By which rules.
+        rules: RuleChoice<'a>,
+    },
+}
+
+pub(super) static ROW: Row = Row {
+    word: "check",
+    about: "Checks a policy, the isolation of a caller, or a zone; or prints who may do what",
+    example: "Example: zoneoffice check policy --policy policy.toml",
+    arguments: &[
+        Argument::Subject,
+        Argument::CheckedName,
+        Argument::CheckedPolicy,
+        Argument::Isolated,
+        Argument::CheckedOrigin,
+        Argument::Only,
+        Argument::Not,
+    ],
+};
+
+impl<'a> CommandWords<'a> for Check<'a> {
+    ghost command = { command.Check };
+
+    fn read(matches: &ArgMatches<'a>) -> Option<Job<'a>> {
+        let subject = text_at(matches, Argument::Subject)?;
+        let check = check_in(subject, matches)?;
+        Some(Job::Text(TextJob::Check(check)))
+    }
+}
+
+/// The job of a subject.
+fn check_in<'a>(subject: &str, matches: &ArgMatches<'a>) -> Option<Check<'a>>
+    ensures { option_map asks_check result ≡ check_by subject.now (rows_of (found_of matches.now)) }
+{
+    match subject {
+        "policy" => policy_in(matches),
+        "isolation" => isolation_in(matches),
+        "rights" => rights_in(matches),
+        "zone" => zone_in(matches),
+        _ => None,
+    }
+}
+
+/// The job of `check policy`.
+fn policy_in<'a>(matches: &ArgMatches<'a>) -> Option<Check<'a>>
+    ensures { option_map asks_check result ≡ check_by (codes "policy") (rows_of (found_of matches.now)) }
+{
+    let policy = text_at(matches, Argument::CheckedPolicy)?;
+    Some(Check::Policy { policy })
+}
+
+/// The job of `check isolation`.
+fn isolation_in<'a>(matches: &ArgMatches<'a>) -> Option<Check<'a>>
+    ensures { option_map asks_check result ≡ check_by (codes "isolation") (rows_of (found_of matches.now)) }
+{
+    let (policy, caller) = texts_at(matches, Argument::CheckedPolicy, Argument::Isolated)?;
+    Some(Check::Isolation { policy, caller })
+}
+
+/// The job of `check rights`.
+fn rights_in<'a>(matches: &ArgMatches<'a>) -> Option<Check<'a>>
+    ensures { option_map asks_check result ≡ check_by (codes "rights") (rows_of (found_of matches.now)) }
+{
+    let policy = text_at(matches, Argument::CheckedPolicy)?;
+    let name = text_at(matches, Argument::CheckedName);
+    Some(Check::Rights { policy, name })
+}
+
+/// The job of `check zone`, where not both one rule only and all but one are asked for.
+fn zone_in<'a>(matches: &ArgMatches<'a>) -> Option<Check<'a>>
+    ensures { option_map asks_check result ≡ check_by (codes "zone") (rows_of (found_of matches.now)) }
+{
+    let origin = text_at(matches, Argument::CheckedOrigin)?;
+    let rules = match (
+        text_at(matches, Argument::Only),
+        text_at(matches, Argument::Not),
+    ) {
+        (None, None) => RuleChoice::All,
+        (Some(rule), None) => RuleChoice::Only(rule),
+        (None, Some(rule)) => RuleChoice::Not(rule),
+        (Some(_), Some(_)) => return None,
+    };
+    Some(Check::Zone { origin, rules })
+}
