@@ -83,7 +83,7 @@ def written(argument):
     """How an argument is written: in brackets where it may be left out."""
     value = argument.name.upper()
     return {"Needed": f"--{argument.name} {value}", "Number": f"[--{argument.name} N]", "Flag": f"[--{argument.name}]",
-            "Optional": f"[--{argument.name} {value}]", "Place": value, "OptionalPlace": f"[{value}]"}[argument.form]
+            "Optional": f"[--{argument.name} {value}]", "Asked": f"[--{argument.name} {value}]", "Place": value, "OptionalPlace": f"[{value}]"}[argument.form]
 
 
 def arguments_of_commands(_):

@@ -9,7 +9,7 @@ TYPES = "crates/dns_data/src/record_type.rt"
 FIELDS = "crates/dns_data/specs/Types.antt"
 ACTIONS = "crates/grant_policy/src/action.rt"
 REFUSALS = "crates/refusals/src/table.rt"
-COMMANDS = "crates/cli_core/src/command.rt"
+COMMANDS = "crates/cli_core/src/commands.rt"
 ARGUMENTS = "crates/cli_core/src/argument.rt"
 DEFAULTS = "crates/wire_tcp/src/limits.rt"
 ROUTES = "crates/office_wire/src/route.rt"
@@ -100,12 +100,17 @@ def arguments():
 
 
 def commands():
-    """The commands in the order of the help, with what they take after their words."""
+    """The commands in the order of the help, with what they take after their words: each has its row in its module."""
     text, known = read(COMMANDS), arguments()
-    row = r'Command::(\w+) => &Row \{\s*word: "(.*?)",\s*about: "(.*?)",\s*example: "(.*?)",\s*arguments: &\[(.*?)\],\s*\}'
-    rows = {variant: Command(*told, [row_of(ARGUMENTS, known, one) for one in re.findall(r"Argument::(\w+)", taken)])
-            for variant, *told, taken in re.findall(row, text, re.S)}
-    return [row_of(COMMANDS, rows, variant) for variant in listed(COMMANDS, text, "Command")]
+    modules = dict(re.findall(r"Command::(\w+) => &(\w+)::ROW,", text))
+    return [command(f"{COMMANDS.removesuffix('.rt')}/{row_of(COMMANDS, modules, variant)}.rt", known) for variant in listed(COMMANDS, text, "Command")]
+
+
+def command(path, known):
+    """The command that a module has the row of."""
+    row = r'static ROW: Row = Row \{\s*word: "(.*?)",\s*about: "(.*?)",\s*example: "(.*?)",\s*arguments: &\[(.*?)\],\s*\}'
+    [(*told, taken)] = counted(path, re.findall(row, read(path), re.S), 1)
+    return Command(*told, [row_of(ARGUMENTS, known, one) for one in re.findall(r"Argument::(\w+)", taken)])
 
 
 def defaults():
