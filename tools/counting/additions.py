@@ -98,13 +98,13 @@ def request():
 
 def command():
     """A command: `plan`."""
-    variant = r"\b(?:Command|TextJob|StoreJob|command|text_job|store_job)(?:::|\.)Plan\b(?!\.)|^ +Plan(?:,| \{)$"
-    declared = r"^(?:pub )?mod plan;$|^pub mod Plan$|\(plan policy caller\)"
+    variant = r"\b(?:Command|TextJob|StoreJob|command|text_job|store_job)(?:::|\.)Plan\b(?!\.)|^ +Plan(?:,|\(Plan<'a>\),)$"
+    declared = r"^(?:pub )?mod plan;$|^pub mod Plan$|^pub use commands::\{[^}]*\bPlan\b"
     words = [one.lower() for one in variants("Command")]
     return Addition("command", "a command, beside its own module (plan)", ["Plan", "plan"], rf"{variant}|\b[Pp]lan\b|\bdo_plan\b", [
         (SOURCE, has(f"{variant}|{declared}")), (TEST, has(r'^ +"plan"|`plan CALLER`')),
         (AROUND, near("plan", words, 15)), (ROWS, has(r"^(?:job )?plan\b|^= +plan +\w")),
-    ], r"^crates/(?:cli_text|office_core|test_commands)/.*/[Pp]lan(?:s|_fault|Lemmas)?[./]")
+    ], r"^crates/(?:cli_core|cli_text|office_core|test_commands)/.*/[Pp]lan(?:s|_fault|Lemmas)?[./]")
 
 
 def refusal():
