@@ -5,6 +5,7 @@ use grant_policy::{Identifier, Policy};
 use zone_core::Update;
 
 /// An update of the zone of an origin that a caller submits under an identifier, and the policy by which it is decided.
+#[derive(Clone, Copy)]
 pub(crate) struct Submission<'a> {
     pub(crate) policy: &'a Policy,
     pub(crate) caller: &'a Identifier,
