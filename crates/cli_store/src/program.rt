@@ -53,7 +53,9 @@ fn do_task<T: Task, I: Input, W: Sink>(
     input: &mut I,
     output: &mut W,
 ) -> ExitCode
-    ensures { EndsTask (I.left input.old) (I.fine input.old input.new) (I.failed input.old input.new) (T.answer task) (record { old = W.contents output.old; new = W.contents output.new; before = W.failures output.old; after = W.failures output.new }) (exit_status result) }
+    ensures { EndsTask (I.left input.old) (I.fine input.old input.new) (I.failed input.old input.new) (T.answer task)
+        (record { old = W.contents output.old; new = W.contents output.new; before = W.failures output.old; after = W.failures output.new })
+        (exit_status result) }
 {
     ended(rt, task.run(rt.alloc(), input, output))
 }
@@ -79,7 +81,9 @@ fn check<I: Input, W: Sink>(
     input: &mut I,
     output: &mut W,
 ) -> ExitCode
-    ensures { EndsCheck subject.entry (I.left input.old) (I.fine input.old input.new) (I.failed input.old input.new) (record { old = W.contents output.old; new = W.contents output.new; before = W.failures output.old; after = W.failures output.new }) (exit_status result) }
+    ensures { EndsCheck subject.entry (I.left input.old) (I.fine input.old input.new) (I.failed input.old input.new)
+        (record { old = W.contents output.old; new = W.contents output.new; before = W.failures output.old; after = W.failures output.new })
+        (exit_status result) }
 {
     check_status(rt, do_check(rt.alloc(), subject, input, output))
 }
@@ -91,7 +95,9 @@ fn check_file<M: Surroundings, W: Sink>(
     path: &str,
     output: &mut W,
 ) -> ExitCode
-    ensures { EndsCheck subject.entry ((M.around around.now).file path.now) ⊤ ((M.around around.now).unreadable path.now) (record { old = W.contents output.old; new = W.contents output.new; before = W.failures output.old; after = W.failures output.new }) (exit_status result) }
+    ensures { EndsCheck subject.entry ((M.around around.now).file path.now) ⊤ ((M.around around.now).unreadable path.now)
+        (record { old = W.contents output.old; new = W.contents output.new; before = W.failures output.old; after = W.failures output.new })
+        (exit_status result) }
 {
     let mut file = NamedFile { around, path };
     check(around.machine(), subject, &mut file, output)
@@ -104,7 +110,10 @@ fn check_job<M: Surroundings, R: Source, W: Sink>(
     input: &mut R,
     output: &mut W,
 ) -> ExitCode
-    ensures { CheckEnds (M.around around.now) (record { left = R.remaining input.old; rest = R.remaining input.new; before = R.failures input.old; after = R.failures input.new }) (record { old = W.contents output.old; new = W.contents output.new; before = W.failures output.old; after = W.failures output.new }) words.entry (exit_status result) }
+    ensures { CheckEnds (M.around around.now)
+        (record { left = R.remaining input.old; rest = R.remaining input.new; before = R.failures input.old; after = R.failures input.new })
+        (record { old = W.contents output.old; new = W.contents output.new; before = W.failures output.old; after = W.failures output.new }) words.entry
+        (exit_status result) }
 {
     match words {
         Check::Policy { policy } => check_file(around, Subject::Rules, policy, output),
@@ -139,7 +148,10 @@ fn diff<M: Surroundings, R: Source, W: Sink>(
     input: &mut R,
     output: &mut W,
 ) -> Result<(), DiffFault>
-    ensures { DiffersBy (M.around around.now) (record { left = R.remaining input.old; rest = R.remaining input.new; before = R.failures input.old; after = R.failures input.new }) what.entry.1 what.entry.0.now files.entry (record { old = W.contents output.old; new = W.contents output.new; before = W.failures output.old; after = W.failures output.new }) result }
+    ensures { DiffersBy (M.around around.now)
+        (record
+        { left = R.remaining input.old; rest = R.remaining input.new; before = R.failures input.old; after = R.failures input.new }) what.entry.1 what.entry.0.now files.entry
+        (record { old = W.contents output.old; new = W.contents output.new; before = W.failures output.old; after = W.failures output.new }) result }
 {
     let alloc = around.machine().alloc();
     let mut old = NamedFile {
@@ -166,7 +178,9 @@ fn request<I: Input, W: Sink>(
     input: &mut I,
     output: &mut W,
 ) -> ExitCode
-    ensures { EndsTask (I.left input.old) (I.fine input.old input.new) (I.failed input.old input.new) (requested form id.now) (record { old = W.contents output.old; new = W.contents output.new; before = W.failures output.old; after = W.failures output.new }) (exit_status result) }
+    ensures { EndsTask (I.left input.old) (I.fine input.old input.new) (I.failed input.old input.new) (requested form id.now)
+        (record { old = W.contents output.old; new = W.contents output.new; before = W.failures output.old; after = W.failures output.new })
+        (exit_status result) }
 {
     match form {
         RequestForm::Whole => do_task(rt, Request { id }, input, output),
@@ -182,7 +196,11 @@ fn plan<M: Surroundings, R: Source, W: Sink>(
     input: &mut R,
     output: &mut W,
 ) -> ExitCode
-    ensures { Ends (λ outcome. IsPlanned caller.now (named (M.around around.now) path.now) (standard (record { left = R.remaining input.old; rest = R.remaining input.new; before = R.failures input.old; after = R.failures input.new })) (W.contents output.old) (W.contents output.new) outcome (W.failures output.old) (W.failures output.new)) (exit_status result) }
+    ensures { Ends
+        (λ outcome. IsPlanned caller.now (named (M.around around.now) path.now)
+        (standard (record { left = R.remaining input.old; rest = R.remaining input.new; before = R.failures input.old; after = R.failures input.new }))
+        (W.contents output.old) (W.contents output.new) outcome (W.failures output.old) (W.failures output.new))
+        (exit_status result) }
 {
     let rt = around.machine();
     let mut policy = NamedFile { around, path };
@@ -198,7 +216,10 @@ pub fn do_text_job<M: Surroundings, R: Source, W: Sink>(
     output: &mut W,
 ) -> ExitCode
     // Each job reads its own input and answers to its own words.
-    ensures { TextJobEnds (M.around around.now) (record { left = R.remaining input.old; rest = R.remaining input.new; before = R.failures input.old; after = R.failures input.new }) (record { old = W.contents output.old; new = W.contents output.new; before = W.failures output.old; after = W.failures output.new }) job.entry (exit_status result) }
+    ensures { TextJobEnds (M.around around.now)
+        (record { left = R.remaining input.old; rest = R.remaining input.new; before = R.failures input.old; after = R.failures input.new })
+        (record { old = W.contents output.old; new = W.contents output.new; before = W.failures output.old; after = W.failures output.new }) job.entry
+        (exit_status result) }
 {
     let rt = around.machine();
     match job {
@@ -244,7 +265,11 @@ fn done<M: Surroundings, S: Alter + Drop, P: StoreFiles<S> + Drop, R: Source, W:
     output: &mut W,
     trace: &mut E,
 ) -> (Option<Connection<S>>, Result<(), JobFault>)
-    ensures { StoreJobEnds (M.around around.now) (stores_of (state S.Store) (P.finds files) (P.refuses files) (P.connects files)) (record { left = R.remaining input.old; rest = R.remaining input.new; before = R.failures input.old; after = R.failures input.new }) (record { old = W.contents output.old; new = W.contents output.new; before = W.failures output.old; after = W.failures output.new }) (record { old = E.contents trace.old; new = E.contents trace.new; before = E.failures trace.old; after = E.failures trace.new }) job.entry result.0 (status_of result.1) }
+    ensures { StoreJobEnds (M.around around.now) (stores_of (state S.Store) (P.finds files) (P.refuses files) (P.connects files))
+        (record { left = R.remaining input.old; rest = R.remaining input.new; before = R.failures input.old; after = R.failures input.new })
+        (record { old = W.contents output.old; new = W.contents output.new; before = W.failures output.old; after = W.failures output.new })
+        (record { old = E.contents trace.old; new = E.contents trace.new; before = E.failures trace.old; after = E.failures trace.new }) job.entry result.0
+        (status_of result.1) }
 {
     let alloc = around.machine().alloc();
     match job {
@@ -277,7 +302,11 @@ pub fn do_store_job<
     trace: &mut E,
 ) -> (Option<Connection<S>>, ExitCode)
     // Each job answers to its own words, and what the connection shows is what it left of the store of its path.
-    ensures { StoreJobEnds (M.around around.now) (stores_of (state S.Store) (P.finds files) (P.refuses files) (P.connects files)) (record { left = R.remaining input.old; rest = R.remaining input.new; before = R.failures input.old; after = R.failures input.new }) (record { old = W.contents output.old; new = W.contents output.new; before = W.failures output.old; after = W.failures output.new }) (record { old = E.contents trace.old; new = E.contents trace.new; before = E.failures trace.old; after = E.failures trace.new }) job.entry result.0 (exit_status result.1) }
+    ensures { StoreJobEnds (M.around around.now) (stores_of (state S.Store) (P.finds files) (P.refuses files) (P.connects files))
+        (record { left = R.remaining input.old; rest = R.remaining input.new; before = R.failures input.old; after = R.failures input.new })
+        (record { old = W.contents output.old; new = W.contents output.new; before = W.failures output.old; after = W.failures output.new })
+        (record { old = E.contents trace.old; new = E.contents trace.new; before = E.failures trace.old; after = E.failures trace.new }) job.entry result.0
+        (exit_status result.1) }
 {
     let rt = around.machine();
     left(rt, done(around, files, job, input, output, trace))
@@ -300,7 +329,11 @@ pub fn do_job<
     output: &mut W,
     trace: &mut E,
 ) -> (Option<Connection<S>>, ExitCode)
-    ensures { JobEnds (M.around around.now) (stores_of (state S.Store) (P.finds files) (P.refuses files) (P.connects files)) (record { left = R.remaining input.old; rest = R.remaining input.new; before = R.failures input.old; after = R.failures input.new }) (record { old = W.contents output.old; new = W.contents output.new; before = W.failures output.old; after = W.failures output.new }) (record { old = E.contents trace.old; new = E.contents trace.new; before = E.failures trace.old; after = E.failures trace.new }) job.entry result.0 (exit_status result.1) }
+    ensures { JobEnds (M.around around.now) (stores_of (state S.Store) (P.finds files) (P.refuses files) (P.connects files))
+        (record { left = R.remaining input.old; rest = R.remaining input.new; before = R.failures input.old; after = R.failures input.new })
+        (record { old = W.contents output.old; new = W.contents output.new; before = W.failures output.old; after = W.failures output.new })
+        (record { old = E.contents trace.old; new = E.contents trace.new; before = E.failures trace.old; after = E.failures trace.new }) job.entry result.0
+        (exit_status result.1) }
 {
     match job {
         Job::Text(job) => (None, do_text_job(around, job, input, output)),
@@ -310,7 +343,9 @@ pub fn do_job<
 
 /// Writes a text, and answers whether it went out whole.
 fn told<W: Sink>(output: &mut W, text: &str) -> ExitCode
-    ensures { IsToldWhole text.now (record { old = W.contents output.old; new = W.contents output.new; before = W.failures output.old; after = W.failures output.new }) (exit_status result) }
+    ensures { IsToldWhole text.now
+        (record { old = W.contents output.old; new = W.contents output.new; before = W.failures output.old; after = W.failures output.new })
+        (exit_status result) }
 {
     match write_text(output, text.as_bytes()) {
         Ok(()) => ExitCode::SUCCESS,
@@ -321,7 +356,9 @@ fn told<W: Sink>(output: &mut W, text: &str) -> ExitCode
 /// Tells why words are no job: the help that they ask for is written to standard output, with status 0 if that went through and else 1;
 /// what is wrong with them is said on standard error, with status 2.
 fn tell_fault<W: Sink>(rt: &HostRuntime, fault: WordsFault, output: &mut W) -> ExitCode
-    ensures { EndsFault fault (record { old = W.contents output.old; new = W.contents output.new; before = W.failures output.old; after = W.failures output.new }) (exit_status result) }
+    ensures { EndsFault fault
+        (record { old = W.contents output.old; new = W.contents output.new; before = W.failures output.old; after = W.failures output.new })
+        (exit_status result) }
 {
     match fault {
         WordsFault::Help(text) => told(output, text.as_str()),
@@ -354,7 +391,11 @@ pub fn do_words<
     output: &mut W,
     trace: &mut E,
 ) -> (Option<Connection<S>>, ExitCode)
-    ensures { WordsEnd (M.around around.now) (stores_of (state S.Store) (P.finds files) (P.refuses files) (P.connects files)) (record { left = R.remaining input.old; rest = R.remaining input.new; before = R.failures input.old; after = R.failures input.new }) (record { old = W.contents output.old; new = W.contents output.new; before = W.failures output.old; after = W.failures output.new }) (record { old = E.contents trace.old; new = E.contents trace.new; before = E.failures trace.old; after = E.failures trace.new }) (map (λ s. s.now) words.now) result.0 (exit_status result.1) }
+    ensures { WordsEnd (M.around around.now) (stores_of (state S.Store) (P.finds files) (P.refuses files) (P.connects files))
+        (record { left = R.remaining input.old; rest = R.remaining input.new; before = R.failures input.old; after = R.failures input.new })
+        (record { old = W.contents output.old; new = W.contents output.new; before = W.failures output.old; after = W.failures output.new })
+        (record { old = E.contents trace.old; new = E.contents trace.new; before = E.failures trace.old; after = E.failures trace.new })
+        (map (λ s. s.now) words.now) result.0 (exit_status result.1) }
 {
     let rt = around.machine();
     match read_words(rt.alloc(), words) {
