@@ -31,7 +31,7 @@ use Rattle.office_store.specs.Cache.{FitsCache}
 use Rattle.office_store.specs.Holds.{HoldsState, LeavesStates}
 use Rattle.office_store.specs.Queries.{Asked}
 use Rattle.office_store.specs.Turns.{Turns}
-use Rattle.office_store.proofs.CacheLemmas.{one_zone}
+use Rattle.office_store.proofs.CacheLemmas.{fits_none, fits_asked, fits_turned, one_zone}
 
 abbrev Labels : Type 0
 Labels = List (List ℕ)
@@ -57,9 +57,16 @@ history_checked conn history Other found = record { held = λ clean. let it = fo
 pub history_asked : (old new : Shown) (history : Option ZoneHistory) → Asked old new → FitsHistory old history → FitsHistory new history
 history_asked old new history asked fits = record { held = λ clean. ∥∥₁_map (fits.held (asked.honest clean)) (λ it. (it.0, asked.same it.0 it.1, it.2)) }
 
+-- behind a call that turns the state into another, nothing is remembered
+pub history_turned : {X E : Type 0} (old new : Shown) (r : Result X E) (after : State → State) (cached : _) → Turns old new r after → FitsCache old cached → FitsHistory new None
+history_turned old new r after cached turns fits = history_none new None (fits_turned old new r after cached turns fits)
+
 pub history_committed : {X E : Type 0} (old new : Shown) (r : Result X E) (a : AdditionOf) (history : Option ZoneHistory) → Turns old new r (committed a) → FitsHistory old history → FitsHistory new history
 history_committed old new (Ok x) a history turns fits = record { held = λ clean. ∥∥₁_map (fits.held (turns.honest clean)) (λ it. (committed a it.0, turns.made clean it.0 it.1, remembers_committed a it.0 history it.2)) }
 history_committed old new (Err e) a history turns fits = record { held = λ clean. ∥∥₁_map (fits.held (turns.honest clean)) (λ it. (it.0, turns.failed it.0 it.1, it.2)) }
+
+-- what a call leaves of what is kept beside the connection
+pub ruleset kept = (fits_none, fits_asked, fits_turned, history_asked, history_turned, history_committed)
 
 -- ---- what is told of it
 

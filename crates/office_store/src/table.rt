@@ -1,4 +1,5 @@
 //! The table in SQLite.
+#![tactic(auto, using(crate::proofs::HistoryLemmas::kept))]
 
 ghost use Rattle.std.specs.Prelude.{pos, ◌≡◌, ◌≢◌, ◌↔◌, ◌⊎◌, ◌<◌, false, None, IfOk, IfErr, IsErrAnd, IsTrue, OnErr, map, option_map};
 ghost use Rattle.sqlite.specs.Held.{state};
@@ -60,34 +61,6 @@ pub struct SqlTable<S: Alter + Drop, L: Ledger> {
     ghost remembers: { FitsHistory (state S.Store conn) history },
 }
 
-/// Counts a fault, if it is a failure of the store.
-fn counted<L: Ledger>(book: &mut Book<L>, share: &mut Share<L>, fault: StoreFault) -> StoreFault
-    requires { 0 < share.old.parts }
-    ensures fault { result ≡ fault }
-    ensures counts { CountsFailure book.old.total book.new.total fault }
-    ensures parts { share.new.parts ≡ share.old.parts }
-{
-    if let StoreFault::Store(_) = fault {
-        book.add(share, 1);
-    }
-    fault
-}
-
-/// Tells a fault as one of a table, and counts it, unless it is when out of memory.
-fn refused<L: Ledger>(book: &mut Book<L>, share: &mut Share<L>, fault: StoreFault) -> TableFault
-    requires { 0 < share.old.parts }
-    ensures counts { CountsFault book.old.total book.new.total result }
-    ensures parts { share.new.parts ≡ share.old.parts }
-{
-    match fault {
-        StoreFault::NoMemory => TableFault::NoMemory,
-        _ => {
-            book.add(share, 1);
-            TableFault::Store
-        }
-    }
-}
-
 impl<S: Alter + Drop, L: Ledger> SqlTable<S, L> {
     /// The table over a connection that holds a state, of which a zone may be cached, and the changes of one remembered.
     fn over(
@@ -113,6 +86,35 @@ impl<S: Alter + Drop, L: Ledger> SqlTable<S, L> {
             subtree_read: SubtreeRead::Rows,
             history,
             fault: None,
+        }
+    }
+
+    /// Drops the cache after a failed call, and counts the fault, if it is a failure of the store.
+    fn count(&mut self, fault: StoreFault) -> StoreFault
+        ensures fault { result ≡ fault }
+        ensures conn { self.new.conn ≡ self.old.conn }
+        ensures counts { CountsFailure self.old.book.total self.new.book.total fault }
+    {
+        self.cache = None;
+        if let StoreFault::Store(_) = fault {
+            self.book.add(&mut self.share, 1);
+        }
+        fault
+    }
+
+    /// Drops the cache after a failed call of the machine, notes why it failed, and counts it, unless memory ran out.
+    fn fail(&mut self, fault: StoreFault) -> TableFault
+        ensures conn { self.new.conn ≡ self.old.conn }
+        ensures counts { CountsFault self.old.book.total self.new.book.total result }
+    {
+        self.cache = None;
+        self.fault = Some(fault);
+        match fault {
+            StoreFault::NoMemory => TableFault::NoMemory,
+            _ => {
+                self.book.add(&mut self.share, 1);
+                TableFault::Store
+            }
         }
     }
 
@@ -251,7 +253,7 @@ impl<S: Alter + Drop, L: Ledger> SqlTable<S, L> {
         self.history = None;
         match put_zone(alloc, &mut self.conn, zone) {
             Ok(()) => Ok(()),
-            Err(fault) => Err(counted(&mut self.book, &mut self.share, fault)),
+            Err(fault) => Err(self.count(fault)),
         }
     }
 
@@ -270,7 +272,7 @@ impl<S: Alter + Drop, L: Ledger> SqlTable<S, L> {
         self.history = None;
         match take_place(alloc, &mut self.conn, zone) {
             Ok(()) => Ok(()),
-            Err(fault) => Err(counted(&mut self.book, &mut self.share, fault)),
+            Err(fault) => Err(self.count(fault)),
         }
     }
 
@@ -292,7 +294,7 @@ impl<S: Alter + Drop, L: Ledger> SqlTable<S, L> {
         self.history = None;
         match import(alloc, &mut self.conn, origin, records) {
             Ok(zone) => Ok(zone),
-            Err(fault) => Err(counted(&mut self.book, &mut self.share, fault)),
+            Err(fault) => Err(self.count(fault)),
         }
     }
 
@@ -316,7 +318,7 @@ impl<S: Alter + Drop, L: Ledger> SqlTable<S, L> {
         self.history = None;
         match replace(alloc, &mut self.conn, origin, records) {
             Ok(zone) => Ok(zone),
-            Err(fault) => Err(counted(&mut self.book, &mut self.share, fault)),
+            Err(fault) => Err(self.count(fault)),
         }
     }
 
@@ -333,10 +335,7 @@ impl<S: Alter + Drop, L: Ledger> SqlTable<S, L> {
     {
         match export_cached(alloc, &mut self.conn, &mut self.cache, origin) {
             Ok(records) => Ok(records),
-            Err(fault) => {
-                self.cache = None;
-                Err(counted(&mut self.book, &mut self.share, fault))
-            }
+            Err(fault) => Err(self.count(fault)),
         }
     }
 
@@ -349,10 +348,7 @@ impl<S: Alter + Drop, L: Ledger> SqlTable<S, L> {
     {
         match zone_at(alloc, &mut self.conn, origin) {
             Ok(zone) => Ok(zone),
-            Err(fault) => {
-                self.cache = None;
-                Err(counted(&mut self.book, &mut self.share, fault))
-            }
+            Err(fault) => Err(self.count(fault)),
         }
     }
 
@@ -370,10 +366,7 @@ impl<S: Alter + Drop, L: Ledger> SqlTable<S, L> {
     {
         match changes_at(alloc, &mut self.conn, origin) {
             Ok(changes) => Ok(changes),
-            Err(fault) => {
-                self.cache = None;
-                Err(counted(&mut self.book, &mut self.share, fault))
-            }
+            Err(fault) => Err(self.count(fault)),
         }
     }
 
@@ -387,10 +380,7 @@ impl<S: Alter + Drop, L: Ledger> SqlTable<S, L> {
     {
         match origins(alloc, &mut self.conn) {
             Ok(names) => Ok(names),
-            Err(fault) => {
-                self.cache = None;
-                Err(counted(&mut self.book, &mut self.share, fault))
-            }
+            Err(fault) => Err(self.count(fault)),
         }
     }
 
@@ -404,10 +394,7 @@ impl<S: Alter + Drop, L: Ledger> SqlTable<S, L> {
     {
         match receipts(alloc, &mut self.conn) {
             Ok(kept) => Ok(kept),
-            Err(fault) => {
-                self.cache = None;
-                Err(counted(&mut self.book, &mut self.share, fault))
-            }
+            Err(fault) => Err(self.count(fault)),
         }
     }
 }
@@ -427,22 +414,14 @@ impl<S: Alter + Drop, L: Ledger> ZoneTable for SqlTable<S, L> {
     fn has_zone(&mut self, alloc: Global, origin: &Name) -> Result<bool, TableFault> {
         match cached_or_held(alloc, &mut self.conn, &self.cache, origin) {
             Ok(found) => Ok(found),
-            Err(fault) => {
-                self.cache = None;
-                self.fault = Some(fault);
-                Err(refused(&mut self.book, &mut self.share, fault))
-            }
+            Err(fault) => Err(self.fail(fault)),
         }
     }
 
     fn zone(&mut self, alloc: Global, origin: &Name) -> Result<Option<Zone>, TableFault> {
         match zone_at(alloc, &mut self.conn, origin) {
             Ok(zone) => Ok(zone),
-            Err(fault) => {
-                self.cache = None;
-                self.fault = Some(fault);
-                Err(refused(&mut self.book, &mut self.share, fault))
-            }
+            Err(fault) => Err(self.fail(fault)),
         }
     }
 
@@ -454,11 +433,7 @@ impl<S: Alter + Drop, L: Ledger> ZoneTable for SqlTable<S, L> {
     ) -> Result<Option<Zone>, TableFault> {
         match cached_part(alloc, &mut self.conn, &self.cache, origin, names) {
             Ok(part) => Ok(part),
-            Err(fault) => {
-                self.cache = None;
-                self.fault = Some(fault);
-                Err(refused(&mut self.book, &mut self.share, fault))
-            }
+            Err(fault) => Err(self.fail(fault)),
         }
     }
 
@@ -479,11 +454,7 @@ impl<S: Alter + Drop, L: Ledger> ZoneTable for SqlTable<S, L> {
             grants,
         ) {
             Ok(records) => Ok(records),
-            Err(fault) => {
-                self.cache = None;
-                self.fault = Some(fault);
-                Err(refused(&mut self.book, &mut self.share, fault))
-            }
+            Err(fault) => Err(self.fail(fault)),
         }
     }
 
@@ -495,22 +466,14 @@ impl<S: Alter + Drop, L: Ledger> ZoneTable for SqlTable<S, L> {
     ) -> Result<Option<Receipt>, TableFault> {
         match receipt_at(alloc, &mut self.conn, caller, id) {
             Ok(receipt) => Ok(receipt),
-            Err(fault) => {
-                self.cache = None;
-                self.fault = Some(fault);
-                Err(refused(&mut self.book, &mut self.share, fault))
-            }
+            Err(fault) => Err(self.fail(fault)),
         }
     }
 
     fn changes(&mut self, alloc: Global, origin: &Name) -> Result<Option<Vec<Change>>, TableFault> {
         match changes_at(alloc, &mut self.conn, origin) {
             Ok(changes) => Ok(changes),
-            Err(fault) => {
-                self.cache = None;
-                self.fault = Some(fault);
-                Err(refused(&mut self.book, &mut self.share, fault))
-            }
+            Err(fault) => Err(self.fail(fault)),
         }
     }
 
@@ -527,11 +490,7 @@ impl<S: Alter + Drop, L: Ledger> ZoneTable for SqlTable<S, L> {
                 remember(alloc, &mut self.history, origin, count, &changes);
                 Ok(Some(changes))
             }
-            Err(fault) => {
-                self.cache = None;
-                self.fault = Some(fault);
-                Err(refused(&mut self.book, &mut self.share, fault))
-            }
+            Err(fault) => Err(self.fail(fault)),
         }
     }
 
@@ -548,21 +507,14 @@ impl<S: Alter + Drop, L: Ledger> ZoneTable for SqlTable<S, L> {
         // a connection that is shut tells nothing of what is held
         match check_open(&mut self.conn) {
             Ok(()) => Ok(ahead),
-            Err(fault) => {
-                self.cache = None;
-                self.fault = Some(fault);
-                Err(refused(&mut self.book, &mut self.share, fault))
-            }
+            Err(fault) => Err(self.fail(fault)),
         }
     }
 
     fn commit(&mut self, alloc: Global, addition: Addition) -> Result<(), TableFault> {
         match commit_cached(alloc, &mut self.conn, &mut self.cache, &addition) {
             Ok(()) => Ok(()),
-            Err(fault) => {
-                self.fault = Some(fault);
-                Err(refused(&mut self.book, &mut self.share, fault))
-            }
+            Err(fault) => Err(self.fail(fault)),
         }
     }
 

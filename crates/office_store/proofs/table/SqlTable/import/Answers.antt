@@ -1,12 +1,4 @@
-use Rattle.office_store.proofs.CacheLemmas.{fits_turned}
-use Rattle.office_store.proofs.HistoryLemmas.{history_none}
 use Rattle.office_store.proofs.table.SqlTable.import.Goals as goal
 
-pub invariant_of-self : goal.invariant_of-self
-invariant_of-self g c = record { counts = c.args.self.now.counts; fits = fits_turned _ _ c.import.result _ _ c.import.ensures.turns c.args.self.now.fits; remembers = history_none _ _ (fits_turned _ _ c.import.result _ _ c.import.ensures.turns c.args.self.now.fits) }
-
-pub invariant_of-self-in-Err-clause-fits : goal.invariant_of-self-in-Err-clause-fits
-invariant_of-self-in-Err-clause-fits g c = fits_turned _ _ c.import.result _ _ c.import.ensures.turns c.args.self.now.fits
-
-pub invariant_of-self-in-Err-clause-remembers : goal.invariant_of-self-in-Err-clause-remembers
-invariant_of-self-in-Err-clause-remembers g c = history_none _ _ (fits_turned _ _ c.import.result _ _ c.import.ensures.turns c.args.self.now.fits)
+pub returns-in-Err-clause-turns : goal.returns-in-Err-clause-turns
+returns-in-Err-clause-turns g c = rw (c.count.ensures.conn, c.count.ensures.fault) c.in-Err.ensures.turns

@@ -1,13 +1,9 @@
 use Rattle.std.proofs.Common.{rules}
-use Rattle.office_store.proofs.CacheLemmas.{fits_asked, fits_asked_none}
-use Rattle.office_store.proofs.HistoryLemmas.{history_asked, told_of_history}
+use Rattle.office_store.proofs.HistoryLemmas.{kept, told_of_history}
 use Rattle.office_store.proofs.table.SqlTableZoneTable.ahead.Goals as goal
 
 pub invariant_of-self : goal.invariant_of-self
-invariant_of-self g c = record { counts = c.args.self.now.counts; fits = fits_asked _ _ _ c.check_open.ensures.asks.0 c.args.self.now.fits; remembers = history_asked _ _ _ c.check_open.ensures.asks.0 c.args.self.now.remembers }
-
-pub invariant_of-self-in-Err : goal.invariant_of-self-in-Err
-invariant_of-self-in-Err g c = record { counts = search rules; fits = fits_asked_none _ _ _ c.check_open.ensures.asks.0 c.args.self.now.fits; remembers = history_asked _ _ _ c.check_open.ensures.asks.0 c.args.self.now.remembers }
+invariant_of-self g c = search (rules, kept)
 
 pub returns-in-Ok-clause-hidden : goal.returns-in-Ok-clause-hidden
 returns-in-Ok-clause-hidden g c = λ clean s held holds at.
