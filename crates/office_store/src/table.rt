@@ -165,13 +165,16 @@ impl<S: Alter + Drop, L: Ledger> SqlTable<S, L> {
         requires parts { blank.parts ≡ L.parts }
         requires some { 0 < blank.parts }
         // The table holds a state, and a crash leaves that.
-        ensures found { IfOk result (λ table. HasCleanDisk (state S.Store table.conn) → (s : State) × HoldsState (state S.Store table.conn) s × LeavesStates (state S.Store table.conn) s s) }
+        ensures found { IfOk result
+            (λ table. HasCleanDisk (state S.Store table.conn)
+            → (s : State) × HoldsState (state S.Store table.conn) s × LeavesStates (state S.Store table.conn) s s) }
         // It is what was there.
         ensures asked { IfOk result (λ table. Asked (state S.Store conn) (state S.Store table.conn)) }
         ensures only { IfOk result (λ table. HasCleanDisk (state S.Store table.conn) → Only (state S.Store conn) (state S.Store table.conn)) }
         ensures none { IfOk result (λ table. table.book.total ≡ 0) }
         // Over rows that are a state only the store fails or memory runs out; so `BadRow` says that there is no state.
-        ensures good { IfErr result (λ refused. HasCleanDisk (state S.Store refused.conn) → (s : State) → HoldsState (state S.Store conn) s → IsFailure refused.fault) }
+        ensures good { IfErr result
+            (λ refused. HasCleanDisk (state S.Store refused.conn) → (s : State) → HoldsState (state S.Store conn) s → IsFailure refused.fault) }
         ensures wrong { IfErr result (λ refused. HasCleanDisk (state S.Store refused.conn) → refused.fault ≡ WrongVersion → ¬ HasVersion (state S.Store conn)) }
         // It comes only over tables of this version.
         ensures bad { IfErr result (λ refused. HasCleanDisk (state S.Store refused.conn) → refused.fault ≡ BadRow → HasVersion (state S.Store conn)) }
@@ -180,7 +183,8 @@ impl<S: Alter + Drop, L: Ledger> SqlTable<S, L> {
         // Behind a refusal all is as it was, whatever the tables are, and a crash leaves what was committed.
         ensures same { IfErr result (λ refused. Asked (state S.Store conn) (state S.Store refused.conn)) }
         ensures shown { IfErr result (λ refused. Keeps (state S.Store conn) (state S.Store refused.conn)) }
-        ensures left { IfErr result (λ refused. IsTrue (state S.Store conn).is_open → Leaves (state S.Store refused.conn) (λ db. db ≡ (state S.Store conn).committed.trees)) }
+        ensures left { IfErr result
+            (λ refused. IsTrue (state S.Store conn).is_open → Leaves (state S.Store refused.conn) (λ db. db ≡ (state S.Store conn).committed.trees)) }
         ensures ended { IfErr result (λ refused. refused.conn.in_transaction ≡ false) }
         ensures blank { IfErr result (λ refused. refused.blank ≡ blank) }
     {
@@ -211,11 +215,13 @@ impl<S: Alter + Drop, L: Ledger> SqlTable<S, L> {
         // Behind a refusal the connection shows what it showed, whatever the tables are; and a crash leaves what it left before, or the
         // content migrated.
         ensures failed { OnErr result (Keeps (state S.Store conn.old) (state S.Store conn.new)) }
-        ensures crash { OnErr result (Leaves (state S.Store conn.new) (λ db. (state S.Store conn.old).may_leave db ⊎ IsMigratedFrom (state S.Store conn.old) db)) }
+        ensures crash { OnErr result
+            (Leaves (state S.Store conn.new) (λ db. (state S.Store conn.old).may_leave db ⊎ IsMigratedFrom (state S.Store conn.old) db)) }
         // Behind `WrongVersion` and `BadRow` it leaves nothing else than before.
         ensures same { (result ≡ Err WrongVersion) ⊎ (result ≡ Err BadRow) → Asked (state S.Store conn.old) (state S.Store conn.new) }
         // Over rows of version 1 only the store fails or memory runs out; so `BadRow` says that they are not such rows.
-        ensures good { HasCleanDisk (state S.Store conn.new) → IfErr result (λ e. (content : ContentOf) → HoldsOld (state S.Store conn.old) content → IsFailure e) }
+        ensures good { HasCleanDisk (state S.Store conn.new)
+            → IfErr result (λ e. (content : ContentOf) → HoldsOld (state S.Store conn.old) content → IsFailure e) }
         ensures wrong { HasCleanDisk (state S.Store conn.new) → result ≡ Err WrongVersion → ¬ IsOfVersion (pos 1) (state S.Store conn.old) }
         // `BadRow` comes only over tables of version 1.
         ensures bad { HasCleanDisk (state S.Store conn.new) → result ≡ Err BadRow → IsOfVersion (pos 1) (state S.Store conn.old) }
@@ -245,8 +251,10 @@ impl<S: Alter + Drop, L: Ledger> SqlTable<S, L> {
     /// `ZoneExists` comes exactly where there is a zone of its origin, `Store` where the store fails, and `NoMemory` where memory
     /// runs out.
     pub fn put(&mut self, alloc: Global, zone: &Zone) -> Result<(), StoreFault>
-        ensures answer { HasCleanDisk (state S.Store self.new.conn) → (s : State) → HoldsState (state S.Store self.old.conn) s → Gives (λ _. zone.now) result (if_free (s.zones zone.now.origin) zone.now) }
-        ensures turns { Turns (state S.Store self.old.conn) (state S.Store self.new.conn) result (λ s. with_imported s (if_free (s.zones zone.now.origin) zone.now)) }
+        ensures answer { HasCleanDisk (state S.Store self.new.conn) → (s : State) → HoldsState (state S.Store self.old.conn) s
+            → Gives (λ _. zone.now) result (if_free (s.zones zone.now.origin) zone.now) }
+        ensures turns { Turns (state S.Store self.old.conn) (state S.Store self.new.conn) result
+            (λ s. with_imported s (if_free (s.zones zone.now.origin) zone.now)) }
         ensures counts { CountsCall self.old.book.total self.new.book.total result }
     {
         self.cache = None;
@@ -264,8 +272,10 @@ impl<S: Alter + Drop, L: Ledger> SqlTable<S, L> {
     /// exactly where its serial is not less than the new one (RFC 1982 section 3.2). `Store` comes where the store fails, and
     /// `NoMemory` where memory runs out.
     pub fn put_in_place(&mut self, alloc: Global, zone: &Zone) -> Result<(), StoreFault>
-        ensures answer { HasCleanDisk (state S.Store self.new.conn) → (s : State) → HoldsState (state S.Store self.old.conn) s → Gives (λ _. zone.now) result (if_later (s.zones zone.now.origin) zone.now) }
-        ensures turns { Turns (state S.Store self.old.conn) (state S.Store self.new.conn) result (λ s. with_replaced s (if_later (s.zones zone.now.origin) zone.now)) }
+        ensures answer { HasCleanDisk (state S.Store self.new.conn) → (s : State) → HoldsState (state S.Store self.old.conn) s
+            → Gives (λ _. zone.now) result (if_later (s.zones zone.now.origin) zone.now) }
+        ensures turns { Turns (state S.Store self.old.conn) (state S.Store self.new.conn) result
+            (λ s. with_replaced s (if_later (s.zones zone.now.origin) zone.now)) }
         ensures counts { CountsCall self.old.book.total self.new.book.total result }
     {
         self.cache = None;
@@ -286,7 +296,8 @@ impl<S: Alter + Drop, L: Ledger> SqlTable<S, L> {
         origin: Name,
         records: Vec<Record>,
     ) -> Result<Zone, StoreFault>
-        ensures answer { HasCleanDisk (state S.Store self.new.conn) → (s : State) → HoldsState (state S.Store self.old.conn) s → Gives (λ zone. zone) result (imported s origin records.items) }
+        ensures answer { HasCleanDisk (state S.Store self.new.conn) → (s : State) → HoldsState (state S.Store self.old.conn) s
+            → Gives (λ zone. zone) result (imported s origin records.items) }
         ensures turns { Turns (state S.Store self.old.conn) (state S.Store self.new.conn) result (λ s. with_imported s (imported s origin records.items)) }
         ensures counts { CountsCall self.old.book.total self.new.book.total result }
     {
@@ -310,7 +321,8 @@ impl<S: Alter + Drop, L: Ledger> SqlTable<S, L> {
         origin: Name,
         records: Vec<Record>,
     ) -> Result<Zone, StoreFault>
-        ensures answer { HasCleanDisk (state S.Store self.new.conn) → (s : State) → HoldsState (state S.Store self.old.conn) s → Gives (λ zone. zone) result (replaced s origin records.items) }
+        ensures answer { HasCleanDisk (state S.Store self.new.conn) → (s : State) → HoldsState (state S.Store self.old.conn) s
+            → Gives (λ zone. zone) result (replaced s origin records.items) }
         ensures turns { Turns (state S.Store self.old.conn) (state S.Store self.new.conn) result (λ s. with_replaced s (replaced s origin records.items)) }
         ensures counts { CountsCall self.old.book.total self.new.book.total result }
     {
@@ -329,7 +341,8 @@ impl<S: Alter + Drop, L: Ledger> SqlTable<S, L> {
         alloc: Global,
         origin: &Name,
     ) -> Result<Vec<Record>, StoreFault>
-        ensures answer { HasCleanDisk (state S.Store self.new.conn) → (s : State) → HoldsState (state S.Store self.old.conn) s → Gives (λ records. records.items) result (exported (s.zones origin.now)) }
+        ensures answer { HasCleanDisk (state S.Store self.new.conn) → (s : State) → HoldsState (state S.Store self.old.conn) s
+            → Gives (λ records. records.items) result (exported (s.zones origin.now)) }
         ensures asks { AsksOnly (state S.Store self.old.conn) (state S.Store self.new.conn) result }
         ensures counts { CountsCall self.old.book.total self.new.book.total result }
     {
@@ -341,7 +354,8 @@ impl<S: Alter + Drop, L: Ledger> SqlTable<S, L> {
 
     /// The zone of an origin, where there is one. `Store` comes where the store fails, and `NoMemory` where memory runs out.
     pub fn stored_zone(&mut self, alloc: Global, origin: &Name) -> Result<Option<Zone>, StoreFault>
-        ensures answer { HasCleanDisk (state S.Store self.new.conn) → IfOk result (λ zone. (s : State) → HoldsState (state S.Store self.old.conn) s → zone ≡ zone_at s origin.now) }
+        ensures answer { HasCleanDisk (state S.Store self.new.conn)
+            → IfOk result (λ zone. (s : State) → HoldsState (state S.Store self.old.conn) s → zone ≡ zone_at s origin.now) }
         ensures named { IfErr result IsFailure }
         ensures asks { AsksOnly (state S.Store self.old.conn) (state S.Store self.new.conn) result }
         ensures counts { CountsCall self.old.book.total self.new.book.total result }
@@ -359,7 +373,10 @@ impl<S: Alter + Drop, L: Ledger> SqlTable<S, L> {
         alloc: Global,
         origin: &Name,
     ) -> Result<Option<Vec<Change>>, StoreFault>
-        ensures answer { HasCleanDisk (state S.Store self.new.conn) → IfOk result (λ changes. (s : State) → HoldsState (state S.Store self.old.conn) s → option_map (λ cs. map change_in cs.items) changes ≡ changes_held s origin.now) }
+        ensures answer { HasCleanDisk (state S.Store self.new.conn)
+            → IfOk result
+            (λ changes. (s : State) → HoldsState (state S.Store self.old.conn) s
+            → option_map (λ cs. map change_in cs.items) changes ≡ changes_held s origin.now) }
         ensures named { IfErr result IsFailure }
         ensures asks { AsksOnly (state S.Store self.old.conn) (state S.Store self.new.conn) result }
         ensures counts { CountsCall self.old.book.total self.new.book.total result }
@@ -373,7 +390,8 @@ impl<S: Alter + Drop, L: Ledger> SqlTable<S, L> {
     /// The origins of all zones, in canonical order (RFC 4034 section 6.1). `Store` comes where the store fails, and `NoMemory`
     /// where memory runs out.
     pub fn origins(&mut self, alloc: Global) -> Result<Vec<Name>, StoreFault>
-        ensures answer { HasCleanDisk (state S.Store self.new.conn) → IfOk result (λ names. (s : State) → HoldsState (state S.Store self.old.conn) s → AreOriginsOf s names.items) }
+        ensures answer { HasCleanDisk (state S.Store self.new.conn)
+            → IfOk result (λ names. (s : State) → HoldsState (state S.Store self.old.conn) s → AreOriginsOf s names.items) }
         ensures named { IfErr result IsFailure }
         ensures asks { AsksOnly (state S.Store self.old.conn) (state S.Store self.new.conn) result }
         ensures counts { CountsCall self.old.book.total self.new.book.total result }
@@ -387,7 +405,8 @@ impl<S: Alter + Drop, L: Ledger> SqlTable<S, L> {
     /// All receipts, by caller, and then by identifier, in the order of octets. `Store` comes where the store fails, and `NoMemory`
     /// where memory runs out.
     pub fn receipts(&mut self, alloc: Global) -> Result<Vec<KeptReceipt>, StoreFault>
-        ensures answer { HasCleanDisk (state S.Store self.new.conn) → IfOk result (λ kept. (s : State) → HoldsState (state S.Store self.old.conn) s → AreReceiptsOf s kept.items) }
+        ensures answer { HasCleanDisk (state S.Store self.new.conn)
+            → IfOk result (λ kept. (s : State) → HoldsState (state S.Store self.old.conn) s → AreReceiptsOf s kept.items) }
         ensures named { IfErr result IsFailure }
         ensures asks { AsksOnly (state S.Store self.old.conn) (state S.Store self.new.conn) result }
         ensures counts { CountsCall self.old.book.total self.new.book.total result }
