@@ -1,8 +1,8 @@
 //! What the words of a command line ask for.
 
 use cli_core::{
-    Check, Diff, DiffForm, Existing, Job, LogChoice, QuestionWords, RequestForm, RuleChoice,
-    Service, StoreJob, StoredZone, TextForm, TextJob, WordsFault, ZoneForm, read_words,
+    Check, DiffForm, Existing, Job, LogChoice, QuestionWords, RequestForm, RuleChoice, Service,
+    StoreJob, StoredZone, TextForm, TextJob, WordsFault, ZoneFiles, ZoneForm, read_words,
 };
 use std::alloc::{AllocError, Global};
 use test_rows::Row;
@@ -81,7 +81,9 @@ fn push_text_job(job: &TextJob<'_>, answer: &mut Vec<u8>) -> Result<(), AllocErr
         TextJob::Canon(words) => {
             push_given("canon", words.origin, form_text(words.form), answer)
         }
-        TextJob::Diff(words) => push_diff(words, answer),
+        TextJob::Diff(words) => {
+            push_diff(words.origin, &words.files, diff_text(words.form), answer)
+        }
         TextJob::Request(words) => {
             push_given("request", words.id, request_text(words.form), answer)
         }
@@ -157,10 +159,16 @@ fn push_given(word: &str, given: &str, end: &str, answer: &mut Vec<u8>) -> Resul
     push_all(&[word, " (", given, ")", end], answer)
 }
 
-fn push_diff(words: &Diff<'_>, answer: &mut Vec<u8>) -> Result<(), AllocError> {
-    push_all(&["diff (", words.origin, ") (", words.files.old], answer)?;
+fn push_diff(
+    origin: &str,
+    files: &ZoneFiles<'_>,
+    end: &str,
+    answer: &mut Vec<u8>,
+) -> Result<(), AllocError> {
     push_all(
-        &[") (", words.files.new, ")", diff_text(words.form)],
+        &[
+            "diff (", origin, ") (", files.old, ") (", files.new, ")", end,
+        ],
         answer,
     )
 }
