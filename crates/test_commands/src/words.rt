@@ -88,10 +88,7 @@ fn push_text_job(job: &TextJob<'_>, answer: &mut Vec<u8>) -> Result<(), AllocErr
             push_given("request", words.id, request_text(words.form), answer)
         }
         TextJob::Rights(words) => push_question(words.policy, &words.asked, answer),
-        TextJob::Plan(words) => push_all(
-            &["plan (", words.policy, ") (", words.caller, ")"],
-            answer,
-        ),
+        TextJob::Plan(words) => push_plan(words.policy, words.caller, answer),
         TextJob::Check(words) => push_check(words, answer),
         TextJob::Explain(words) => push_explain(words.number, words.form, answer),
     }
@@ -171,6 +168,10 @@ fn push_diff(
         ],
         answer,
     )
+}
+
+fn push_plan(policy: &str, caller: &str, answer: &mut Vec<u8>) -> Result<(), AllocError> {
+    push_all(&["plan (", policy, ") (", caller, ")"], answer)
 }
 
 fn request_text(form: RequestForm) -> &'static str {
