@@ -116,6 +116,25 @@ fn tell(rt: &HostRuntime, input: Input<'_>, status: ExitCode) {
     }
 }
 
+/// The origin of the zone that a job without a store reads, if it is one of a master file.
+fn text_origin(job: TextJob<'_>) -> Option<&str> {
+    match job {
+        TextJob::Canon(words) => Some(words.origin),
+        TextJob::Diff(words) => Some(words.origin),
+        TextJob::Check(Check::Zone { origin, .. }) => Some(origin),
+        _ => None,
+    }
+}
+
+/// The origin of the zone that a job reads, if it is one of a master file.
+fn origin_of(job: Job<'_>) -> Option<&str> {
+    match job {
+        Job::Text(job) => text_origin(job),
+        Job::Store(StoreJob::Import(words)) => Some(words.zone.origin),
+        Job::Store(_) => None,
+    }
+}
+
 /// Whether there may be something to say of what a job read.
 fn may_tell(files: &[KeptFile], standard: &Beginning, status: ExitCode) -> bool {
     status != ExitCode::SUCCESS
@@ -139,12 +158,11 @@ pub(crate) fn tell_hints(
     if !may_tell(files, standard, status) {
         return;
     }
-    let origin = match read_words(rt.alloc(), words) {
-        Ok(Job::Text(TextJob::Canon(words))) => words.origin,
-        Ok(Job::Text(TextJob::Check(Check::Zone { origin, .. }))) => origin,
-        Ok(Job::Text(TextJob::Diff(words))) => words.origin,
-        Ok(Job::Store(StoreJob::Import(words))) => words.zone.origin,
-        _ => return,
+    let Ok(job) = read_words(rt.alloc(), words) else {
+        return;
+    };
+    let Some(origin) = origin_of(job) else {
+        return;
     };
     for file in files {
         let input = Input {
