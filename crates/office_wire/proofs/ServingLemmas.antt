@@ -20,7 +20,7 @@ use Rattle.std.proofs.KnownBytes.{Appends-nil, Appends-trans, Consumes-nil, Cons
 use Rattle.office_wire.proofs.KnownLemmas.{on_stream}
 use Rattle.office_wire.proofs.TurnLemmas.{head_some}
 use Rattle.office_wire.specs.Order.{read, Moment, Writes, Follows, IsServedInTurn}
-use Rattle.office_wire.proofs.OrderLemmas.{IsInTurn, nothing_yet, read_next, written_next, in_turn}
+use Rattle.office_wire.proofs.OrderLemmas.{IsInTurn, nothing_yet, idle_reads, read_next, read_none, written_next, in_turn}
 use Rattle.office_wire.proofs.JoinLemmas.{leads_join, three, texts_join, exchange_join, said_join, exchange_more, closes_more, says_more}
 
 too_long : (a b k : ℕ) → a ≡ 0 → a ≡ k + b → 0 < k → ⊥
@@ -60,7 +60,7 @@ module _ (rules : List Rule) (c : Mark) (asked : ℕ) where
 
   -- a read gave octets
   pub went_read : (d : Mark) (least n : ℕ) (now : ℕ) (old new got : List ℕ) (known left left' : Option (List ℕ)) (before mid mid' : Moment) → Waits old → new ≡ old ++ got → length got ≡ n
-      → Consumes left left' got → Follows mid.events mid'.events (read got ∷ []) → mid'.contents ≡ mid.contents
+      → Consumes left left' got → (idle : ℕ) × Follows mid.events mid'.events (idle_reads idle (read got ∷ [])) → mid'.contents ≡ mid.contents
       → IsAnsweredRead least known left old before mid now d → IsAnsweredRead (least + n) known left' new before mid' now d
   went_read d least n now old new got known left left' before mid mid' waits is len more follows same p = (
     p.0,
@@ -70,13 +70,13 @@ module _ (rules : List Rule) (c : Mark) (asked : ℕ) where
     subst (λ (o : Option (List ℕ)). Appends before.contents o (texts p.0)) (sym same) p.4,
     (let whole = length-append p.1 got in omega (arith, p.5)),
     Consumes-trans known left left' p.1 got p.6 more,
-    read_next p.0 p.1 (texts p.0) old got before.events mid.events mid'.events p.3 waits refl p.7 follows,
+    read_next p.0 p.1 (texts p.0) old before.events mid.events mid'.events p.3 waits refl p.7 got follows.0 follows.1,
     p.8,
   )
 
   -- a read failed
   pub went_nowhere : (d : Mark) (least now : ℕ) (rest : List ℕ) (known left left' : Option (List ℕ)) (before mid mid' : Moment) → Waits rest → Keeps left left'
-      → Follows mid.events mid'.events (read [] ∷ []) → mid'.contents ≡ mid.contents
+      → (idle : ℕ) × Follows mid.events mid'.events (idle_reads idle []) → mid'.contents ≡ mid.contents
       → IsAnsweredRead least known left rest before mid now d → IsAnsweredRead least known left' rest before mid' now d
   went_nowhere d least now rest known left left' before mid mid' waits kept follows same p = (
     p.0,
@@ -86,7 +86,7 @@ module _ (rules : List Rule) (c : Mark) (asked : ℕ) where
     subst (λ (o : Option (List ℕ)). Appends before.contents o (texts p.0)) (sym same) p.4,
     p.5,
     Consumes-kept known left left' p.1 p.6 kept,
-    subst (λ (l : List ℕ). IsInTurn p.0 l (texts p.0) before.events mid'.events) (append-nil p.1) (read_next p.0 p.1 (texts p.0) rest [] before.events mid.events mid'.events p.3 waits refl p.7 follows),
+    read_none p.0 p.1 (texts p.0) rest before.events mid.events mid'.events p.3 waits refl p.7 follows.0 follows.1,
     p.8,
   )
 

@@ -21,8 +21,8 @@ returns-then-last-clause-answered g c = λ honest s held.
     let a = c.reply-last.ensures.answered honest s held f.0 f.1.asked in
     let before = standing s (g.T.ZoneTable.failures c.args.table.now) in
     let now = standing a.0 (g.T.ZoneTable.failures c.reply-last.new.table) in
-    let t = ready c.args.self.now.policy.now before now c.args.pending.now c.reply-last.new.out f.0 c.in-Ready.heading c.in-Ready.n a.2.response c.reply-last.result f.1 f.2 f.3 f.4 f.5 a.2.answers a.2.last_is a.2.text_is in
-    (a.0, a.1, (t.turn ∷ [], (t.run, a.2.note ∙ one_noted c.args.servfails.now t.turn a.2.response t.said), whole t.turn _ t.is (t.closing ∙ c.if-last.true) t.octets refl t.text))
+    let t = ready c.args.self.now.policy.now before now c.args.workspace.now.requests c.reply-last.new.out f.0 c.in-Ready.heading c.in-Ready.n a.2.response c.reply-last.result f.1 f.2 f.3 f.4 f.5 a.2.answers a.2.last_is a.2.text_is in
+    (a.0, a.1, (t.turn ∷ [], (t.run, a.2.note ∙ one_noted c.args.self.now.servfails t.turn a.2.response t.said), whole t.turn _ t.is (t.closing ∙ c.if-last.true) t.octets refl t.text))
 
 pub returns-else-last-clause-answered : goal.returns-else-last-clause-answered
 returns-else-last-clause-answered g c = λ honest s held.
@@ -30,8 +30,8 @@ returns-else-last-clause-answered g c = λ honest s held.
     let a = c.reply-last.ensures.answered honest s held f.0 f.1.asked in
     let before = standing s (g.T.ZoneTable.failures c.args.table.now) in
     let now = standing a.0 (g.T.ZoneTable.failures c.reply-last.new.table) in
-    let t = ready c.args.self.now.policy.now before now c.args.pending.now c.reply-last.new.out f.0 c.in-Ready.heading c.in-Ready.n a.2.response c.reply-last.result f.1 f.2 f.3 f.4 f.5 a.2.answers a.2.last_is a.2.text_is in
-    (a.0, a.1, (t.turn, (t.run, a.2.note ∙ one_noted c.args.servfails.now t.turn a.2.response t.said), record { turn = t.is; stays = t.closing ∙ c.if-last.false }, t.octets, t.text))
+    let t = ready c.args.self.now.policy.now before now c.args.workspace.now.requests c.reply-last.new.out f.0 c.in-Ready.heading c.in-Ready.n a.2.response c.reply-last.result f.1 f.2 f.3 f.4 f.5 a.2.answers a.2.last_is a.2.text_is in
+    (a.0, a.1, (t.turn, (t.run, a.2.note ∙ one_noted c.args.self.now.servfails t.turn a.2.response t.said), record { turn = t.is; stays = t.closing ∙ c.if-last.false }, t.octets, t.text))
 
 pub returns-else-last-clause-stands : goal.returns-else-last-clause-stands
 returns-else-last-clause-stands g c =

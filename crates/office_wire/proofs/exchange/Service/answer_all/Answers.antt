@@ -7,21 +7,22 @@ use Rattle.office_wire.proofs.exchange.Service.answer_all.Goals as goal
 
 pub returns-then-is_awaiting-clause-served : goal.returns-then-is_awaiting-clause-served
 returns-then-is_awaiting-clause-served g c = λ honest s held.
-    let now = mark s (g.T.ZoneTable.failures c.args.table.now) c.args.servfails.now in
-    let here = moment (g.W.Sink.contents c.args.writer.now) (g.S.Stream.events c.args.reader.now c.args.writer.now) in
-    (s, held, none_served c.args.self.now.policy.now now c.args.buffer.now here (g.D.Deadline.asked c.args.deadline.now))
+    let now = mark s (g.T.ZoneTable.failures c.args.table.now) c.args.self.now.servfails in
+    let here = moment (g.S.Stream.flow c.args.stream.now) in
+    (s, held, none_served c.args.self.now.policy.now now c.args.workspace.now.requests here (g.D.Deadline.asked c.args.deadline.now))
 
 pub turns-init : goal.turns-init
 turns-init g c = record {
-  spans = c.requires;
   honest = λ honest. honest;
   served = λ honest s held.
-      let now = mark s (g.T.ZoneTable.failures c.args.table.now) c.args.servfails.now in
-      let here = moment (g.W.Sink.contents c.args.writer.now) (g.S.Stream.events c.args.reader.now c.args.writer.now) in
-      (s, held, none_served c.args.self.now.policy.now now c.args.buffer.now here (g.D.Deadline.asked c.args.deadline.now));
+      let now = mark s (g.T.ZoneTable.failures c.args.table.now) c.args.self.now.servfails in
+      let here = moment (g.S.Stream.flow c.args.stream.now) in
+      (s, held, none_served c.args.self.now.policy.now now c.args.workspace.now.requests here (g.D.Deadline.asked c.args.deadline.now));
   unread = refl;
   still = refl;
   same = refl;
+  policy = refl;
+  kept = g.met.S.Stream.same _;
   passed = refl;
 }
 
@@ -38,7 +39,7 @@ pub turns-smaller : goal.turns-smaller
 turns-smaller g c =
     let within = subst (λ (l : List ℕ). c.in-Next.n ≤ length l) c.as_slice.ensures.value c.in-Next.ensures.stands.1 in
     let some = c.in-Next.ensures.stands.0 in
-    let len = ap (λ (l : List ℕ). length l) c.consume.ensures ∙ length-drop c.in-Next.n c.turns.buffer in
+    let len = ap (λ (l : List ℕ). length l) c.consume.ensures ∙ length-drop c.in-Next.n c.turns.workspace.requests in
     omega arith
 
 pub returns-in_err-write_all-in-Last-clause-served : goal.returns-in_err-write_all-in-Last-clause-served
@@ -62,14 +63,15 @@ returns-then-has_passed-clause-served g c = λ honest s held.
 
 pub turns-preserved : goal.turns-preserved
 turns-preserved g c = record {
-  spans = search rules;
   honest = λ honest. c.turns.invariant.honest (c.in-Next.ensures.honest honest);
   served = λ honest s held.
       let p = c.turns.invariant.served (c.in-Next.ensures.honest honest) s held in
       let a = c.in-Next.ensures.answered honest p.0 p.1 in
       (a.0, a.1, next_served _ _ _ _ _ _ _ _ _ _ _ p.2 c.in-Next.n _ _ _ _ _ c.as_slice.ensures.value c.consume.ensures c.as_slice-in-Next.ensures a.2 c.in_ok-write_all-in-Next.ensures.written c.has_passed.ensures.asked);
-  unread = c.in_ok-write_all-in-Next.ensures.same ∙ c.turns.invariant.unread;
+  unread = c.in_ok-write_all-in-Next.ensures.unread ∙ c.turns.invariant.unread;
   still = c.in_ok-write_all-in-Next.ensures.still ∙ c.turns.invariant.still;
-  same = c.in_ok-write_all-in-Next.ensures.fine ∙ c.turns.invariant.same;
+  same = c.in_ok-write_all-in-Next.ensures.failed ∙ c.turns.invariant.same;
+  policy = c.in-Next.ensures.policy ∙ c.turns.invariant.policy;
+  kept = g.met.S.Stream.joins _ _ _ c.turns.invariant.kept c.in_ok-write_all-in-Next.ensures.kept;
   passed = rw c.if-has_passed.false at c.has_passed.ensures.passed ∙ c.turns.invariant.passed;
 }
