@@ -8,10 +8,10 @@ use crate::commands::Command;
 use crate::parser::VERSION;
 use std::alloc::{AllocError, Global};
 
-/// What stands before the commands in the help of the program.
+/// The help of the program up to its commands.
 const BEFORE_COMMANDS: &str = "Usage: zoneoffice [COMMAND]\n\nCommands:\n";
 
-/// What stands behind them.
+/// The help of the program after them.
 const AFTER_COMMANDS: &str =
     "  help     Print this message or the help of the given subcommand(s)\n\nOptions:\n  -h, --help     Print help\n  -V, --version  Print version\n";
 
