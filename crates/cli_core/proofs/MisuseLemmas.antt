@@ -1,5 +1,5 @@
 -- What is told of words, by the kinds of error that they may give.
-use Rattle.std.proofs.Common.{◌≡◌, ◌∙◌, ◌||◌, sym, subst, true≢false, Bool, true, false, refl, List, [], ◌∷◌, None, inl, inr}
+use Rattle.std.proofs.Common.{◌≡◌, ◌≢◌, ◌||◌, subst, Bool, true, false, refl, List, [], ◌∷◌, None, inl, inr}
 use Rattle.std.specs.List.{list_any}
 use Rattle.clap.specs.Words.{App, Text, fault_of}
 use Rattle.clap.specs.Kinds.{HasKind, IsAmong, Kinds}
@@ -23,8 +23,8 @@ among p k (x ∷ xs) (inr is) passes = go (p x) (among p k xs is passes)
     go true rest = refl
     go false rest = rest
 
-by_kind : (words : List Text) (k : ErrorKind) (told : WordsFault) → IsAmong k (fault_of office words) → IsReportedAs k told → IsReported words told
-by_kind words k (fault.Help text) is agrees = among is_help k (fault_of office words) is agrees
+by_kind : (words : List Text) (k : ErrorKind) (told : WordsFault) → IsAmong k (fault_of office words) → IsReportedAs words k told → IsReported words told
+by_kind words k (fault.Help text) is agrees = (k, is, agrees)
 by_kind words k (fault.Misused text) is agrees = inl (among is_mistake k (fault_of office words) is agrees)
 by_kind words k fault.NoMemory is agrees = tt
 
@@ -32,14 +32,20 @@ no_memory : (words : List Text) (told : WordsFault) → told ≡ fault.NoMemory 
 no_memory words told e = rw e tt
 
 -- what is told of an error of clap's, whose kind is one of the words' or no memory
-pub told_of : (words : List Text) (app : App) (e : Error) (told : WordsFault) → app ≡ office → IsReportedAs (kind_of e) told
+pub told_of : (words : List Text) (app : App) (e : Error) (told : WordsFault) → app ≡ office → IsReportedAs words (kind_of e) told
     → (kind_of e ≡ kind.OutOfMemory → told ≡ fault.NoMemory) → HasKind (fault_of app words) e → IsReported words told
 told_of words app e told is agrees memory (inl out) = no_memory words told (memory out)
 told_of words app e told is agrees memory (inr among) = by_kind words (kind_of e) told (subst (λ a. IsAmong (kind_of e) (fault_of a words)) is among) agrees
 
 -- what is told of words that have no mistake in them and name no job
-pub nothing_wrong : (words : List Text) (k : ErrorKind) (told : WordsFault) → fault_of office words ≡ [] → job_of words ≡ None
-    → is_help k ≡ false → IsReportedAs k told → IsReported words told
-nothing_wrong words k (fault.Help text) faultless none not_help agrees = absurd (true≢false (sym agrees ∙ not_help))
-nothing_wrong words k (fault.Misused text) faultless none not_help agrees = inr (faultless, none)
-nothing_wrong words k fault.NoMemory faultless none not_help agrees = tt
+pub nothing_wrong : (words : List Text) (told : WordsFault) → fault_of office words ≡ [] → job_of words ≡ None
+    → IsReportedAs words kind.InvalidValue told → IsReported words told
+nothing_wrong words (fault.Help text) faultless none agrees = absurd agrees
+nothing_wrong words (fault.Misused text) faultless none agrees = inr (faultless, none)
+nothing_wrong words fault.NoMemory faultless none agrees = tt
+
+-- a kind that is neither help nor the version is a mistake
+pub is_wrong : (k : ErrorKind) → k ≢ kind.DisplayHelp → k ≢ kind.DisplayVersion → is_help k ≡ false
+is_wrong kind.DisplayHelp help version = absurd (help refl)
+is_wrong kind.DisplayVersion help version = absurd (version refl)
+is_wrong _ help version = refl

@@ -3,6 +3,7 @@ pub mod Values
 pub mod Jobs
 pub mod Words
 pub mod PlainForms
+pub mod Help
 pub mod Misuse
 pub mod Device
 pub mod Inputs

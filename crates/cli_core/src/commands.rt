@@ -81,6 +81,7 @@ pub(crate) trait CommandWords<'a> {
 
 impl Command {
     ghost use Rattle.cli_core.specs.Commands.{command_word, arguments_of, command_of};
+    ghost use Rattle.cli_core.specs.Help.{command_about, command_example};
 
     /// The commands, in the order of the help.
     pub const ALL: [Command; 14] = [
@@ -103,6 +104,8 @@ impl Command {
     /// The one table of commands.
     const fn row(self) -> &'static Row
         ensures word { result.now.word.now ≡ command_word self }
+        ensures about { result.now.about.now ≡ command_about self }
+        ensures example { result.now.example.now ≡ command_example self }
         ensures arguments { result.now.arguments.now ≡ arguments_of self }
     {
         match self {
@@ -131,12 +134,16 @@ impl Command {
     }
 
     /// What the command does, in one line.
-    pub fn about(self) -> &'static str {
+    pub fn about(self) -> &'static str
+        ensures { result.now ≡ command_about self }
+    {
         self.row().about
     }
 
     /// How the command is used, in one line.
-    pub fn example(self) -> &'static str {
+    pub fn example(self) -> &'static str
+        ensures { result.now ≡ command_example self }
+    {
         self.row().example
     }
 

@@ -5,6 +5,7 @@
 mod argument;
 mod commands;
 mod device;
+mod help;
 mod input;
 mod input_file;
 mod job;

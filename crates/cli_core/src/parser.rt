@@ -9,19 +9,15 @@ use crate::commands::Command;
 use std::alloc::{AllocError, Global};
 
 /// The version of the program, which `--version` prints.
-const VERSION: &str = "1.0.0";
+pub(crate) const VERSION: &str = "1.0.0";
 
-/// One command, with what it takes.
+/// One command, with what it takes. `help` has the rest of its row.
 fn command_parser<'a>(alloc: Global, command: Command) -> Result<clap::Command<'a>, AllocError>
     ensures shape { IfOk result (λ c. app_of c ≡ app_for command) }
     ensures local { IfOk result (λ c. (out-Command c).has_globals ≡ false) }
 {
     let word: &'a str = command.word();
-    let about: &'a str = command.about();
-    let example: &'a str = command.example();
-    let mut parser = clap::Command::new(alloc, word)
-        .about(about)
-        .after_help(example);
+    let mut parser = clap::Command::new(alloc, word);
     for argument in command.arguments() {
         parser = parser.arg(argument.rule(alloc))?;
     }

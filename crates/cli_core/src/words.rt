@@ -1,7 +1,7 @@
 //! The words of the command line, read as a job.
 
-ghost use Rattle.std.specs.Prelude.{◌≡◌, [], IfErr, IfOk, map, option_map, Some, is_some, true};
-ghost use Rattle.clap.specs.Words.{app_of, fault_of, found_of, kind_of, rows_of, subcommand_rows_of, takes};
+ghost use Rattle.std.specs.Prelude.{◌≡◌, [], List, IfErr, IfOk, map, option_map, Some, is_some, true, false};
+ghost use Rattle.clap.specs.Words.{Text, app_of, fault_of, found_of, kind_of, rows_of, subcommand_rows_of, takes};
 ghost use Rattle.cli_core.specs.Commands.{office};
 ghost use Rattle.cli_core.specs.Jobs.{JobOf, asks};
 ghost use Rattle.cli_core.specs.Words.{job_named, job_without_command, job_met, job_of};
@@ -9,16 +9,17 @@ ghost use Rattle.cli_core.specs.PlainForms.{IsPlain};
 ghost use Rattle.cli_core.specs.Misuse.{IsReportedAs, IsReported, is_help};
 
 use crate::commands::Command;
+use crate::help::{help, version};
 use crate::job::{Job, TextJob};
 use crate::parser::parser;
 use clap::error::ErrorKind;
 use clap::{ArgMatches, Error};
-use std::alloc::Global;
+use std::alloc::{AllocError, Global};
 
 /// Why words are no job.
 #[derive(Drop)]
 pub enum WordsFault {
-    /// They ask for help: its text.
+    /// They ask for help, or for the version: the text that answers them.
     Help(String),
     /// They are not understood: a text that says why.
     Misused(String),
@@ -63,26 +64,54 @@ fn mistake_in(matches: &ArgMatches<'_>) -> &'static str {
     }
 }
 
-/// Whether an error is an answer to words that ask for it.
-fn asks_for_help(kind: ErrorKind) -> bool
-    ensures { result ≡ is_help kind }
-{
-    matches!(kind, ErrorKind::DisplayHelp | ErrorKind::DisplayVersion)
+/// The text of clap's error. The only error is out of memory.
+fn text_of(alloc: Global, error: Error) -> Result<String, AllocError> {
+    format!(in alloc; "{error}")
 }
 
-/// What clap's error says.
-fn reported(alloc: Global, error: Error) -> WordsFault
-    ensures kind { IsReportedAs (kind_of error) result }
-    ensures memory { kind_of error ≡ ErrorKind.OutOfMemory → result ≡ WordsFault.NoMemory }
+/// The help that words ask for.
+fn helped(alloc: Global, words: &[&str], error: Error) -> WordsFault
+    ensures { IsReportedAs (map (λ s. s.now) words.now) ErrorKind.DisplayHelp result }
 {
-    let kind = error.kind();
-    if matches!(kind, ErrorKind::OutOfMemory) {
+    let Ok(usage) = text_of(alloc, error) else {
         return WordsFault::NoMemory;
+    };
+    match help(alloc, words, usage.as_str()) {
+        Ok(text) => WordsFault::Help(text),
+        Err(_) => WordsFault::NoMemory,
     }
-    match format!(in alloc; "{error}") {
-        Ok(text) if asks_for_help(kind) => WordsFault::Help(text),
+}
+
+/// The version.
+fn versioned(alloc: Global) -> WordsFault
+    ensures { (words : List Text) → IsReportedAs words ErrorKind.DisplayVersion result }
+{
+    match version(alloc) {
+        Ok(text) => WordsFault::Help(text),
+        Err(_) => WordsFault::NoMemory,
+    }
+}
+
+/// What is wrong with words, as clap says it.
+fn misused(alloc: Global, error: Error) -> WordsFault
+    ensures { (words : List Text) (k : ErrorKind) → is_help k ≡ false → IsReportedAs words k result }
+{
+    match text_of(alloc, error) {
         Ok(text) => WordsFault::Misused(text),
         Err(_) => WordsFault::NoMemory,
+    }
+}
+
+/// What clap's error says of words.
+fn reported(alloc: Global, words: &[&str], error: Error) -> WordsFault
+    ensures kind { IsReportedAs (map (λ s. s.now) words.now) (kind_of error) result }
+    ensures memory { kind_of error ≡ ErrorKind.OutOfMemory → result ≡ WordsFault.NoMemory }
+{
+    match error.kind() {
+        ErrorKind::OutOfMemory => WordsFault::NoMemory,
+        ErrorKind::DisplayHelp => helped(alloc, words, error),
+        ErrorKind::DisplayVersion => versioned(alloc),
+        _ => misused(alloc, error),
     }
 }
 
@@ -131,20 +160,20 @@ fn job_by<'a>(
 {
     let matches = match command.try_get_matches_from_mut(words) {
         Ok(matches) => matches,
-        Err(error) => return Err(reported(alloc, error)),
+        Err(error) => return Err(reported(alloc, words, error)),
     };
     match job_in(words, &matches) {
         Some(job) => Ok(job),
-        None => Err(mistake(alloc, command, mistake_in(&matches))),
+        None => Err(mistake(alloc, words, command, mistake_in(&matches))),
     }
 }
 
 /// What is wrong with words that clap takes.
-fn mistake(alloc: Global, command: &mut clap::Command<'_>, text: &str) -> WordsFault
-    ensures { IsReportedAs ErrorKind.InvalidValue result }
+fn mistake(alloc: Global, words: &[&str], command: &mut clap::Command<'_>, text: &str) -> WordsFault
+    ensures { IsReportedAs (map (λ s. s.now) words.now) ErrorKind.InvalidValue result }
 {
     match command.error(ErrorKind::InvalidValue, text) {
-        Ok(error) => reported(alloc, error),
+        Ok(error) => reported(alloc, words, error),
         Err(_) => WordsFault::NoMemory,
     }
 }

@@ -109,5 +109,5 @@ module _ {C : Type 0} (shows : C → Shown) (finds : Bool → Type 0) (refuses :
 pub told_as : (a : Around) (listen : List ℕ) (most : ℕ) (old new : Option (List ℕ)) (result : Result (Unit {0}) JobFault) (before after : ℕ) {idle other served others : Type 0}
     → (idle → other) → (served → others) → IsServiceTold a listen most idle served old new result before after → IsServiceTold a listen most other others old new result before after
 told_as a listen most old new result before after f g (inl refused) = inl (refused.0, refused.1, refused.2, f refused.3)
-told_as a listen most old new result before after f g (inr (address, inl failed)) = inr (address, inl (failed.0, failed.1, failed.2, f failed.3))
-told_as a listen most old new result before after f g (inr (address, inr done)) = inr (address, inr (done.0, done.1, done.2, g done.3))
+told_as a listen most old new result before after f g (inr (listener, address, heard, inl failed)) = inr (listener, address, heard, inl (failed.0, failed.1, failed.2, f failed.3))
+told_as a listen most old new result before after f g (inr (listener, address, heard, inr done)) = inr (listener, address, heard, inr (done.0, done.1, done.2, g done.3))

@@ -7,3 +7,4 @@ pub mod ZoneListLaws
 pub mod TextExamples
 pub mod ListLemmas
 pub mod LoggedLemmas
+pub mod StreamLemmas

@@ -15,6 +15,8 @@ use Rattle.cli_core.specs.declared.job.RequestForm.{RequestForm}
 use Rattle.cli_core.specs.declared.job.RequestForm.TheVariants.{Whole, Split}
 use Rattle.cli_core.specs.declared.words.WordsFault.{WordsFault}
 use Rattle.cli_core.specs.declared.words.WordsFault.TheVariants as fault
+use Rattle.clap.specs.Words.{fault_of}
+use Rattle.cli_core.specs.Commands.{office}
 use Rattle.cli_core.specs.Jobs.{asks}
 use Rattle.cli_core.specs.Words.{job_of}
 use Rattle.cli_core.specs.Misuse.{IsReported}
@@ -182,16 +184,26 @@ JobEnds a s i o t (job.Store j) left status = StoreJobEnds a s i o t j left stat
 abbrev pub IsToldWhole : List ℕ → Writing → ℕ → Type 0
 IsToldWhole text o status = (sent : Result (Unit {0}) DeviceFailed) × IsSent o.old o.new text sent o.before o.after × (status ≡ status_of sent)
 
--- What was written and the status where words ask for no job: the help that they ask for; or nothing, where they are misused; or that there
--- is no memory for them.
+-- What was written and the status where words ask for no job: the help or the version that they ask for; or nothing, where they are misused;
+-- or that there is no memory for them.
 abbrev pub EndsFault : WordsFault → Writing → ℕ → Type 0
 EndsFault (fault.Help text) o status = IsToldWhole (string_bytes text) o status
 EndsFault (fault.Misused text) o status = IsIdle o × (status ≡ 2)
 EndsFault fault.NoMemory o status = ((told : ℕ) × IsToldWhole (line_of NoMemory) o told) × (status ≡ 1)
 
--- The job that the words ask for is done; or they ask for help, are misused, or there is no memory for them, and nothing is read and no store
--- touched.
+-- There is no mistake in the words, and the job that they ask for is done; or they ask for help, are misused, or there is no memory for them,
+-- and nothing is read and no store touched.
 abbrev pub WordsEnd : {C : Type 0} → Around → StoresOf C → Reading → Writing → Writing → List (List ℕ) → Option C → ℕ → Type 0
 WordsEnd a s i o t words left status =
-    ((asked : Job) × (job_of words ≡ Some (asks asked)) × JobEnds a s i o t asked left status)
+    ((asked : Job) × (fault_of office words ≡ []) × (job_of words ≡ Some (asks asked)) × JobEnds a s i o t asked left status)
     ⊎ ((refused : WordsFault) × IsReported words refused × EndsFault refused o status × IsAlone left t × IsUnread i)
+
+-- ---- the streams of the process
+
+-- What there was to read before and after, what standard output and the trace held before and after, the words, and the status: so the words
+-- end, with some failures of each stream and some connection, which has ended since.
+abbrev pub IsRun : {C : Type 0} → Around → StoresOf C → Option (List ℕ) → Option (List ℕ) → Option (List ℕ) → Option (List ℕ) → Option (List ℕ) → Option (List ℕ) → List (List ℕ) → ℕ → Type 0
+IsRun {C} a s left rest old new trace trace_after words status =
+    (conn : Option C) × (reads : ℕ) × (writes : ℕ) × (fails : ℕ)
+    × WordsEnd a s (record { left = left; rest = rest; before = 0; after = reads }) (record { old = old; new = new; before = 0; after = writes })
+    (record { old = trace; new = trace_after; before = 0; after = fails }) words conn status

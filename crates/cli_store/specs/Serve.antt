@@ -2,7 +2,9 @@
 use Rattle.std.specs.Prelude.{◌≡◌, ◌⊎◌, ⊤, ℕ, ◌<◌, List, ◌∷◌, [], ◌++◌, codes, Option, None, Result, Ok, Err, unwrap_or}
 use Rattle.std.specs.Io.KnownBytes.{Appends}
 use Rattle.std.specs.Net.Grammar.{IsSocketText}
+use Rattle.std.specs.Net.Text.{socket_text}
 use Rattle.std.specs.declared.net.socket_addr.SocketAddr.{SocketAddr}
+use Rattle.std.specs.declared.net.tcp.TcpListener.{TcpListener}
 use Rattle.grant_policy.specs.declared.rule.Rule.{Rule}
 use Rattle.grant_policy.specs.Documents.{document_of}
 use Rattle.grant_policy.specs.Reading.{policy_of}
@@ -34,8 +36,12 @@ most_of service = unwrap_or service.connections 18446744073709551615
 -- ---- a service
 
 -- where it listens
-abbrev pub listening_line : List ℕ → List ℕ
-listening_line address = codes "listening " ++ address ++ 10 ∷ []
+abbrev pub listening_line : SocketAddr → List ℕ
+listening_line address = codes "listening " ++ socket_text address ++ 10 ∷ []
+
+-- the listener was had at the address that the word is, and listens at this one
+abbrev pub IsHeard : Around → List ℕ → TcpListener → SocketAddr → Type 0
+IsHeard a listen listener address = (asked : SocketAddr) × IsSocketText listen asked × a.heard asked listener address
 
 -- the address is one, and there can be no listener at it
 abbrev pub IsUnheard : Around → List ℕ → Type 0
@@ -49,12 +55,15 @@ IsNoListener a listen NoMemory = Unit {0}
 
 -- What is around, the word that says where to listen, how many connections are asked for, that nothing was done, that connections were served,
 -- what the writer held before and after, the answer, and the writer's failures before and after. The line of why there is no listener is
--- written, and nothing is done; or the line that tells where it listens, and then connections were served, and theirs are written.
+-- written, and nothing is done; or the line of the address at which a listener was had that the word asks for, and then connections were served,
+-- and theirs are written: fewer than asked for only where that listener has no further one.
 abbrev pub IsServiceTold : Around → List ℕ → ℕ → Type 0 → Type 0 → Option (List ℕ) → Option (List ℕ) → Result (Unit {0}) JobFault → ℕ → ℕ → Type 0
 IsServiceTold a listen most idle served old new result before after =
     ((fault : LineFault) × IsNoListener a listen fault × IsRefusalWritten old new fault result before after × idle)
-    ⊎ ((address : List ℕ) × (((result ≡ Err WriteFailed) × AppendsFront old new (listening_line address) × (before < after) × idle)
-    ⊎ ((mid : Option (List ℕ)) × Appends old mid (listening_line address) × ((ends : List (Option ServeFault)) × AreReported a.cut most ends mid new result before after) × served)))
+    ⊎ ((listener : TcpListener) × (address : SocketAddr) × IsHeard a listen listener address
+    × (((result ≡ Err WriteFailed) × AppendsFront old new (listening_line address) × (before < after) × idle)
+    ⊎ ((mid : Option (List ℕ)) × Appends old mid (listening_line address)
+    × ((ends : List (Option ServeFault)) × AreReported (a.cut listener) most ends mid new result before after) × served)))
 
 -- What connections show, what is around, the words, the rules, the connection to the store when it was opened and when it is handed back, what
 -- the writer held before and after, the answer, its failures before and after, what the writer of traces held before and after, and its

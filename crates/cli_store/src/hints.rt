@@ -2,6 +2,7 @@
 
 use crate::beginning::Beginning;
 use crate::kept_files::KeptFile;
+use crate::surroundings::Surroundings;
 use cli_core::{Check, Job, StoreJob, TextJob, read_words};
 use dns_data::{DataFault, RecordType};
 use dns_master::{MasterFault, Token, read_file, tokens};
@@ -54,19 +55,19 @@ fn type_on_line<'a>(text: &[u8], items: &[Token<'a>], line: usize) -> Option<&'a
 }
 
 /// Says that a type on a line is not kept, or that data of it in the generic form are not.
-fn tell_type(rt: &HostRuntime, line: usize, name: &str) {
+fn tell_type<M: Surroundings>(around: &M, line: usize, name: &str) {
     let form = match RecordType::read(name.as_bytes()) {
         Ok(_) => " in the generic form (RFC 3597)",
         Err(_) => "",
     };
-    if let Ok(words) = format!(in rt.alloc(); "zoneoffice: line {line}: {name}{form} is not kept") {
-        let _ = rt.eprintln(words.as_str());
+    if let Ok(words) = format!(in around.alloc(); "zoneoffice: line {line}: {name}{form} is not kept") {
+        around.say(words.as_str());
     }
 }
 
 /// Says which type of a text on a line is not kept.
-fn tell_type_on_line(rt: &HostRuntime, text: &[u8], line: usize) {
-    let Ok(items) = tokens(rt.alloc(), text) else {
+fn tell_type_on_line<M: Surroundings>(around: &M, text: &[u8], line: usize) {
+    let Ok(items) = tokens(around.alloc(), text) else {
         return;
     };
     let Some(raw) = type_on_line(text, &items, line) else {
@@ -76,13 +77,13 @@ fn tell_type_on_line(rt: &HostRuntime, text: &[u8], line: usize) {
         return;
     }
     if let Ok(name) = str::from_utf8(raw) {
-        tell_type(rt, line, name);
+        tell_type(around, line, name);
     }
 }
 
 /// Says which type a master file has that is not kept, if that is why it is refused.
-fn tell_refused_type(rt: &HostRuntime, input: Input<'_>) {
-    let Ok(origin) = Name::read_absolute(rt.alloc(), input.origin.as_bytes()) else {
+fn tell_refused_type<M: Surroundings>(around: &M, input: Input<'_>) {
+    let Ok(origin) = Name::read_absolute(around.alloc(), input.origin.as_bytes()) else {
         return;
     };
     if let Err(
@@ -90,9 +91,9 @@ fn tell_refused_type(rt: &HostRuntime, input: Input<'_>) {
             line,
             fault: DataFault::TypeNotKept,
         },
-    ) = read_file(rt.alloc(), input.text, &origin)
+    ) = read_file(around.alloc(), input.text, &origin)
     {
-        tell_type_on_line(rt, input.text, line);
+        tell_type_on_line(around, input.text, line);
     }
 }
 
@@ -102,17 +103,17 @@ fn is_marked(text: &[u8]) -> bool {
 }
 
 /// Says what is known of a master file beside its refusal, if it was refused.
-fn tell(rt: &HostRuntime, input: Input<'_>, status: ExitCode) {
+fn tell<M: Surroundings>(around: &M, input: Input<'_>, status: ExitCode) {
     if is_marked(input.text) {
         let file = input.file;
-        if let Ok(words) = format!(in rt.alloc();
+        if let Ok(words) = format!(in around.alloc();
             "zoneoffice: {file} begins with a byte order mark, which is read as a part of its first item"
         ) {
-            let _ = rt.eprintln(words.as_str());
+            around.say(words.as_str());
         }
     }
     if status != ExitCode::SUCCESS {
-        tell_refused_type(rt, input);
+        tell_refused_type(around, input);
     }
 }
 
@@ -147,8 +148,8 @@ fn may_tell(files: &[KeptFile], standard: &Beginning, status: ExitCode) -> bool 
 /// Says on standard error what is known of the master files that a job read, beside their refusal: that one begins with a byte order
 /// mark, and of which type the record is that is not kept. `files` are those that the words name, `standard` is the beginning of
 /// standard input, and `status` how the job ended.
-pub(crate) fn tell_hints(
-    rt: &HostRuntime,
+pub(crate) fn tell_hints<M: Surroundings>(
+    around: &M,
     words: &[&str],
     files: &[KeptFile],
     standard: &Beginning,
@@ -158,7 +159,7 @@ pub(crate) fn tell_hints(
     if !may_tell(files, standard, status) {
         return;
     }
-    let Ok(job) = read_words(rt.alloc(), words) else {
+    let Ok(job) = read_words(around.alloc(), words) else {
         return;
     };
     let Some(origin) = origin_of(job) else {
@@ -170,12 +171,12 @@ pub(crate) fn tell_hints(
             file: file.path(),
             text: file.beginning().octets(),
         };
-        tell(rt, input, status);
+        tell(around, input, status);
     }
     let input = Input {
         origin,
         file: "standard input",
         text: standard.octets(),
     };
-    tell(rt, input, status);
+    tell(around, input, status);
 }

@@ -1,5 +1,7 @@
 //! Surroundings that keep the beginning of each file that they read.
 
+ghost use Rattle.std.specs.Prelude.{◌≡◌};
+
 use crate::beginning::Beginning;
 use crate::surroundings::Surroundings;
 use cli_core::LineFault;
@@ -46,7 +48,9 @@ pub(crate) struct KeptFiles<'a, M> {
 
 impl<'a, M> KeptFiles<'a, M> {
     /// Surroundings of which no file was read yet.
-    pub(crate) fn new(alloc: Global, around: &'a M) -> KeptFiles<'a, M> {
+    pub(crate) fn new(alloc: Global, around: &'a M) -> KeptFiles<'a, M>
+        ensures { result.around.now ≡ around.now }
+    {
         KeptFiles {
             around,
             files: RefCell::new(Vec::new(alloc)),
@@ -71,10 +75,20 @@ impl<'a, M> KeptFiles<'a, M> {
 }
 
 impl<M: Surroundings> Surroundings for KeptFiles<'_, M> {
+    type Clock = M::Clock;
+
     ghost around = { λ kept. M.around kept.around.now };
 
-    fn machine(&self) -> &HostRuntime {
-        self.around.machine()
+    fn alloc(&self) -> Global {
+        self.around.alloc()
+    }
+
+    fn clock(&self) -> &M::Clock {
+        self.around.clock()
+    }
+
+    fn say(&self, line: &str) {
+        self.around.say(line)
     }
 
     fn file(&self, alloc: Global, path: &str) -> Result<Vec<u8>, LineFault> {

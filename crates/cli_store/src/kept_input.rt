@@ -1,5 +1,7 @@
 //! A reader that keeps the beginning of its input.
 
+ghost use Rattle.std.specs.Prelude.{◌≡◌};
+
 use crate::beginning::Beginning;
 use std::alloc::Global;
 use std::io::{self, Read};
@@ -13,16 +15,20 @@ pub(crate) struct KeptInput<I> {
 
 impl<I> KeptInput<I> {
     /// A reader of which nothing was read yet.
-    pub(crate) fn new(alloc: Global, reader: I) -> KeptInput<I> {
+    pub(crate) fn new(alloc: Global, reader: I) -> KeptInput<I>
+        ensures { result.reader ≡ reader }
+    {
         KeptInput {
             reader,
             beginning: Beginning::new(alloc),
         }
     }
 
-    /// The beginning of its input, as far as it was read.
-    pub(crate) fn beginning(&self) -> &Beginning {
-        &self.beginning
+    /// The reader, and the beginning of its input, as far as it was read.
+    pub(crate) fn into_parts(self) -> (I, Beginning)
+        ensures { result.0 ≡ self.reader }
+    {
+        (self.reader, self.beginning)
     }
 }
 

@@ -1,7 +1,6 @@
 //! The commands that need a store: to put a zone into it, to print one, to migrate it, and to serve callers.
 #![tactic(auto)]
 
-mod any_store;
 mod beginning;
 mod diagnosis;
 mod files;
@@ -33,9 +32,9 @@ pub use list_laws::{all_changes_are_asked, asked_is_printed, each_receipt_counts
 pub use listening::{CountedListener, heard, listen_at, next_of};
 pub use migration::migrate;
 pub use program::{do_job, do_store_job, do_text_job, do_words};
-pub use service::serve;
+pub use service::{listening_at, serve};
 pub use store_list::list_zones;
 pub use store_log::log;
-pub use streams::run_words;
+pub use streams::{Streams, run_words};
 pub use surroundings::Surroundings;
 pub use zones::{export, import};

@@ -26,6 +26,7 @@ impl<'a, M, L: Ledger> CountedListener<'a, M, L> {
         requires parts { blank.parts ≡ L.parts }
         requires some { 0 < blank.parts }
         ensures around { result.around.now ≡ around.now }
+        ensures listener { result.listener.now ≡ listener.now }
         ensures none { result.taken.total ≡ 0 }
     {
         let (taken, share) = blank.open::<L>();
@@ -41,7 +42,7 @@ impl<'a, M, L: Ledger> CountedListener<'a, M, L> {
 impl<M: Surroundings, L: Ledger> Listener for CountedListener<'_, M, L> {
     ghost taken = { λ l. l.taken.total };
 
-    ghost cut = { λ l. (M.around l.around.now).cut };
+    ghost cut = { λ l. (M.around l.around.now).cut l.listener.now };
 
     fn accept(&mut self) -> Result<TcpStream, DeviceFailed> {
         let stream = self.around.accept(self.listener)?;

@@ -27,28 +27,28 @@ use std::fmt::Display;
 use std::process::ExitCode;
 
 /// Says in words on standard error why a job was not done.
-fn complain<F: Display + Drop>(rt: &HostRuntime, fault: F) {
-    if let Ok(words) = format!(in rt.alloc(); "zoneoffice: {fault}") {
-        let _ = rt.eprintln(words.as_str());
+fn complain<M: Surroundings, F: Display + Drop>(around: &M, fault: F) {
+    if let Ok(words) = format!(in around.alloc(); "zoneoffice: {fault}") {
+        around.say(words.as_str());
     }
 }
 
 /// The exit status of what was done: 0 if it went through, else 1, after the words that say why it did not.
-fn ended<F: Display + Drop>(rt: &HostRuntime, done: Result<(), F>) -> ExitCode
+fn ended<M: Surroundings, F: Display + Drop>(around: &M, done: Result<(), F>) -> ExitCode
     ensures { exit_status result ≡ status_of done }
 {
     match done {
         Ok(()) => ExitCode::SUCCESS,
         Err(fault) => {
-            complain(rt, fault);
+            complain(around, fault);
             ExitCode::FAILURE
         }
     }
 }
 
 /// Does a task with an input and a writer.
-fn do_task<T: Task, I: Input, W: Sink>(
-    rt: &HostRuntime,
+fn do_task<M: Surroundings, T: Task, I: Input, W: Sink>(
+    around: &M,
     task: T,
     input: &mut I,
     output: &mut W,
@@ -57,26 +57,26 @@ fn do_task<T: Task, I: Input, W: Sink>(
         (record { old = W.contents output.old; new = W.contents output.new; before = W.failures output.old; after = W.failures output.new })
         (exit_status result) }
 {
-    ended(rt, task.run(rt.alloc(), input, output))
+    ended(around, task.run(around.alloc(), input, output))
 }
 
 /// The exit status of a check: 0 if it found nothing, else 1, after the words that say why it was not done.
-fn check_status(rt: &HostRuntime, done: Result<Findings, JobFault>) -> ExitCode
+fn check_status<M: Surroundings>(around: &M, done: Result<Findings, JobFault>) -> ExitCode
     ensures { exit_status result ≡ check_status_of done }
 {
     match done {
         Ok(Findings::Absent) => ExitCode::SUCCESS,
         Ok(Findings::Present) => ExitCode::FAILURE,
         Err(fault) => {
-            complain(rt, fault);
+            complain(around, fault);
             ExitCode::FAILURE
         }
     }
 }
 
 /// Checks what an input is, with a writer.
-fn check<I: Input, W: Sink>(
-    rt: &HostRuntime,
+fn check<M: Surroundings, I: Input, W: Sink>(
+    around: &M,
     subject: Subject<'_>,
     input: &mut I,
     output: &mut W,
@@ -85,7 +85,7 @@ fn check<I: Input, W: Sink>(
         (record { old = W.contents output.old; new = W.contents output.new; before = W.failures output.old; after = W.failures output.new })
         (exit_status result) }
 {
-    check_status(rt, do_check(rt.alloc(), subject, input, output))
+    check_status(around, do_check(around.alloc(), subject, input, output))
 }
 
 /// Checks the file of a path, which is a policy.
@@ -100,7 +100,7 @@ fn check_file<M: Surroundings, W: Sink>(
         (exit_status result) }
 {
     let mut file = NamedFile { around, path };
-    check(around.machine(), subject, &mut file, output)
+    check(around, subject, &mut file, output)
 }
 
 /// Checks what the words of `check` name.
@@ -122,12 +122,7 @@ fn check_job<M: Surroundings, R: Source, W: Sink>(
         }
         Check::Rights { policy, name } => check_file(around, Subject::Rights(name), policy, output),
         Check::Zone { origin, rules } => {
-            check(
-                around.machine(),
-                Subject::Zone(origin, rules),
-                input,
-                output,
-            )
+            check(around, Subject::Zone(origin, rules), input, output)
         }
     }
 }
@@ -153,7 +148,7 @@ fn diff<M: Surroundings, R: Source, W: Sink>(
         { left = R.remaining input.old; rest = R.remaining input.new; before = R.failures input.old; after = R.failures input.new }) what.entry.1 what.entry.0.now files.entry
         (record { old = W.contents output.old; new = W.contents output.new; before = W.failures output.old; after = W.failures output.new }) result }
 {
-    let alloc = around.machine().alloc();
+    let alloc = around.alloc();
     let mut old = NamedFile {
         around,
         path: files.old,
@@ -171,8 +166,8 @@ fn diff<M: Surroundings, R: Source, W: Sink>(
 }
 
 /// Writes the body of an update, or the bodies of its parts.
-fn request<I: Input, W: Sink>(
-    rt: &HostRuntime,
+fn request<M: Surroundings, I: Input, W: Sink>(
+    around: &M,
     id: &str,
     form: RequestForm,
     input: &mut I,
@@ -183,8 +178,8 @@ fn request<I: Input, W: Sink>(
         (exit_status result) }
 {
     match form {
-        RequestForm::Whole => do_task(rt, Request { id }, input, output),
-        RequestForm::Split => do_task(rt, Split { id }, input, output),
+        RequestForm::Whole => do_task(around, Request { id }, input, output),
+        RequestForm::Split => do_task(around, Split { id }, input, output),
     }
 }
 
@@ -202,9 +197,8 @@ fn plan<M: Surroundings, R: Source, W: Sink>(
         (W.contents output.old) (W.contents output.new) outcome (W.failures output.old) (W.failures output.new))
         (exit_status result) }
 {
-    let rt = around.machine();
     let mut policy = NamedFile { around, path };
-    ended(rt, do_plan(rt.alloc(), caller, &mut policy, input, output))
+    ended(around, do_plan(around.alloc(), caller, &mut policy, input, output))
 }
 
 /// Does a job that needs no store, with standard input and output. The status is 0 if it went through, and a check found nothing; else
@@ -221,38 +215,37 @@ pub fn do_text_job<M: Surroundings, R: Source, W: Sink>(
         (record { old = W.contents output.old; new = W.contents output.new; before = W.failures output.old; after = W.failures output.new }) job.entry
         (exit_status result) }
 {
-    let rt = around.machine();
     match job {
-        TextJob::Apply => do_task(rt, Apply, input, output),
-        TextJob::Canon(words) => do_task(rt, words, input, output),
+        TextJob::Apply => do_task(around, Apply, input, output),
+        TextJob::Canon(words) => do_task(around, words, input, output),
         TextJob::Diff(words) => {
             let what = (words.origin, words.form);
-            ended(rt, diff(around, what, words.files, input, output))
+            ended(around, diff(around, what, words.files, input, output))
         }
-        TextJob::Request(words) => request(rt, words.id, words.form, input, output),
+        TextJob::Request(words) => request(around, words.id, words.form, input, output),
         TextJob::Rights(words) => {
             let mut policy = NamedFile {
                 around,
                 path: words.policy,
             };
-            do_task(rt, words.asked, &mut policy, output)
+            do_task(around, words.asked, &mut policy, output)
         }
         TextJob::Plan(words) => plan(around, words.policy, words.caller, input, output),
         TextJob::Check(words) => check_job(around, words, input, output),
-        TextJob::Explain(words) => do_task(rt, words, &mut Ended, output),
+        TextJob::Explain(words) => do_task(around, words, &mut Ended, output),
     }
 }
 
 /// What a job hands back, if anything, and the exit status of what was done.
-fn left<C: Drop, F: Display + Drop>(
-    rt: &HostRuntime,
+fn left<M: Surroundings, C: Drop, F: Display + Drop>(
+    around: &M,
     done: (Option<C>, Result<(), F>),
 ) -> (Option<C>, ExitCode)
     ensures left { result.0 ≡ done.0 }
     ensures status { exit_status result.1 ≡ status_of done.1 }
 {
     let (conn, done) = done;
-    (conn, ended(rt, done))
+    (conn, ended(around, done))
 }
 
 /// Does a job with a store, by the files of stores, with standard input and output and a trace. The connection to the store is handed
@@ -271,7 +264,7 @@ fn done<M: Surroundings, S: Alter + Drop, P: StoreFiles<S> + Drop, R: Source, W:
         (record { old = E.contents trace.old; new = E.contents trace.new; before = E.failures trace.old; after = E.failures trace.new }) job.entry result.0
         (status_of result.1) }
 {
-    let alloc = around.machine().alloc();
+    let alloc = around.alloc();
     match job {
         StoreJob::Import(words) => {
             import(alloc, files, (words.zone, words.existing), input, output)
@@ -308,8 +301,7 @@ pub fn do_store_job<
         (record { old = E.contents trace.old; new = E.contents trace.new; before = E.failures trace.old; after = E.failures trace.new }) job.entry result.0
         (exit_status result.1) }
 {
-    let rt = around.machine();
-    left(rt, done(around, files, job, input, output, trace))
+    left(around, done(around, files, job, input, output, trace))
 }
 
 /// Does a job, with standard input and output, a trace, and the files of stores. The connection to the store that it reached is handed
@@ -355,7 +347,11 @@ fn told<W: Sink>(output: &mut W, text: &str) -> ExitCode
 
 /// Tells why words are no job: the help that they ask for is written to standard output, with status 0 if that went through and else 1;
 /// what is wrong with them is said on standard error, with status 2.
-fn tell_fault<W: Sink>(rt: &HostRuntime, fault: WordsFault, output: &mut W) -> ExitCode
+fn tell_fault<M: Surroundings, W: Sink>(
+    around: &M,
+    fault: WordsFault,
+    output: &mut W,
+) -> ExitCode
     ensures { EndsFault fault
         (record { old = W.contents output.old; new = W.contents output.new; before = W.failures output.old; after = W.failures output.new })
         (exit_status result) }
@@ -363,7 +359,7 @@ fn tell_fault<W: Sink>(rt: &HostRuntime, fault: WordsFault, output: &mut W) -> E
     match fault {
         WordsFault::Help(text) => told(output, text.as_str()),
         WordsFault::Misused(text) => {
-            let _ = rt.eprint(text);
+            around.say(text.as_str().strip_suffix('\n').unwrap_or(text.as_str()));
             ExitCode::from(2)
         }
         WordsFault::NoMemory => {
@@ -397,9 +393,8 @@ pub fn do_words<
         (record { old = E.contents trace.old; new = E.contents trace.new; before = E.failures trace.old; after = E.failures trace.new })
         (map (λ s. s.now) words.now) result.0 (exit_status result.1) }
 {
-    let rt = around.machine();
-    match read_words(rt.alloc(), words) {
+    match read_words(around.alloc(), words) {
         Ok(job) => do_job(around, files, job, input, output, trace),
-        Err(fault) => (None, tell_fault(rt, fault, output)),
+        Err(fault) => (None, tell_fault(around, fault, output)),
     }
 }

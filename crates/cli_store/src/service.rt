@@ -1,12 +1,13 @@
 //! The job `serve`: a policy, a store, and a listener.
 
-ghost use Rattle.std.specs.Prelude.{◌≡◌, ◌<◌, ⊤, ℕ, List, Option, IfErr, IfOk, string_bytes};
+ghost use Rattle.std.specs.Prelude.{◌≡◌, ◌<◌, ⊤, List, Option, IfErr, IfOk, string_bytes};
+ghost use Rattle.std.specs.declared.net.socket_addr.SocketAddr.{SocketAddr};
 ghost use Rattle.office_wire.specs.declared.serve_fault.ServeFault.{ServeFault as FaultOf};
 ghost use Rattle.sqlite.specs.Held.{state};
 ghost use Rattle.cli_core.specs.LineFaults.{GivesOf};
 ghost use Rattle.cli_store.specs.Stores.{stores_of};
 ghost use Rattle.wire_tcp.specs.Connections.{AreReported, AreServedFrom};
-ghost use Rattle.cli_store.specs.Serve.{policy_read, most_of, listening_line, IsNoListener, IsServiceTold, IsServedBy, BeginsBy, Serves};
+ghost use Rattle.cli_store.specs.Serve.{policy_read, most_of, listening_line, IsHeard, IsNoListener, IsServiceTold, IsServedBy, BeginsBy, Serves};
 
 use crate::diagnosis::Remembered;
 use crate::files::StoreFiles;
@@ -38,25 +39,24 @@ const REACHABLE: &str =
     "zoneoffice: this is no loopback address, and whoever reaches it may name any caller";
 
 /// Says so where an address is no loopback one.
-fn warn_if_reachable(rt: &HostRuntime, address: SocketAddr) {
+fn warn_if_reachable<M: Surroundings>(around: &M, address: SocketAddr) {
     if !address.ip().is_loopback() {
-        let _ = rt.eprintln(REACHABLE);
+        around.say(REACHABLE);
     }
 }
 
 /// The line that tells where the office listens. The only error is out of memory.
 fn listening_text(alloc: Global, address: SocketAddr) -> Result<String, AllocError>
-    ensures { IfOk result (λ text. (address : List ℕ) × (string_bytes text ≡ listening_line address)) }
+    ensures { IfOk result (λ text. string_bytes text ≡ listening_line address) }
 {
-    let address = format!(in alloc; "{address}")?;
     format!(in alloc; "listening {address}\n")
 }
 
 /// Says on standard error that nothing can listen at an address, which the refusal's number does not tell from an input that cannot be
 /// read.
-fn complain_unheard(rt: &HostRuntime, listen: &str) {
-    if let Ok(words) = format!(in rt.alloc(); "zoneoffice: nothing can listen at {listen}") {
-        let _ = rt.eprintln(words.as_str());
+fn complain_unheard<M: Surroundings>(around: &M, listen: &str) {
+    if let Ok(words) = format!(in around.alloc(); "zoneoffice: nothing can listen at {listen}") {
+        around.say(words.as_str());
     }
 }
 
@@ -65,7 +65,8 @@ fn listener_at<M: Surroundings>(
     around: &M,
     listen: &str,
 ) -> Result<(TcpListener, SocketAddr), LineFault>
-    ensures { IfErr result (IsNoListener (M.around around.now) listen.now) }
+    ensures heard { IfOk result (λ heard. IsHeard (M.around around.now) listen.now heard.0 heard.1) }
+    ensures refused { IfErr result (IsNoListener (M.around around.now) listen.now) }
 {
     let Ok(address) = listen.parse::<SocketAddr>() else {
         return Err(LineFault::ReadFailed);
@@ -78,23 +79,24 @@ fn listener_at<M: Surroundings>(
 
 /// A listener at an address and a port, and the line that tells where it listens. If others than programs of this machine can reach it,
 /// that is said on standard error.
-fn listening_at<M: Surroundings>(
+pub fn listening_at<M: Surroundings>(
     around: &M,
     listen: &str,
 ) -> Result<(TcpListener, String), LineFault>
-    ensures told { IfOk result (λ listening. (address : List ℕ) × (string_bytes listening.1 ≡ listening_line address)) }
+    // The line is of the address at which this listener listens, which was had at the one that the word is.
+    ensures told { IfOk result
+        (λ listening. (address : SocketAddr) × IsHeard (M.around around.now) listen.now listening.0 address × (string_bytes listening.1 ≡ listening_line address)) }
     ensures refused { IfErr result (IsNoListener (M.around around.now) listen.now) }
 {
-    let rt = around.machine();
     let (listener, address) = match listener_at(around, listen) {
         Ok(heard) => heard,
         Err(fault) => {
-            complain_unheard(rt, listen);
+            complain_unheard(around, listen);
             return Err(fault);
         }
     };
-    warn_if_reachable(rt, address);
-    let text = listening_text(rt.alloc(), address)?;
+    warn_if_reachable(around, address);
+    let text = listening_text(around.alloc(), address)?;
     Ok((listener, text))
 }
 
@@ -118,20 +120,19 @@ fn serve_listening<M: Surroundings, L: Ledger, T: ZoneTable, D: Diagnosis<T>, W:
         (E.failures trace.old) (E.failures trace.new) }
     ensures honest { T.is_honest table.new → T.is_honest table.old }
     ensures written { (ends : List (Option FaultOf))
-        × AreReported (M.around around.now).cut (most_of service.entry) ends (W.contents writer.old) (W.contents writer.new) result
+        × AreReported ((M.around around.now).cut listener.now) (most_of service.entry) ends (W.contents writer.old) (W.contents writer.new) result
         (W.failures writer.old) (W.failures writer.new) }
 {
-    let rt = around.machine();
     let mut listener: CountedListener<'_, M, L> = CountedListener::new(around, listener, blank);
     let connections = Connections {
-        clock: rt,
+        clock: around.clock(),
         patience: patience_of(service.patience),
         longest: longest_of(service.longest),
         diagnosis,
     };
     let most = service.connections.unwrap_or(u64::MAX);
     serve_connections(
-        rt.alloc(),
+        around.alloc(),
         &connections,
         &mut listener,
         table,
@@ -162,7 +163,7 @@ fn serve_table<M: Surroundings, T: ZoneTable, D: Diagnosis<T>, W: Sink, E: Sink>
 {
     let (listener, listening) = match listening_at(around, service.listen) {
         Ok(listening) => listening,
-        Err(fault) => return Err(write_refusal(around.machine().alloc(), writer, fault)),
+        Err(fault) => return Err(write_refusal(around.alloc(), writer, fault)),
     };
     write_text(writer, listening.as_bytes())?;
     let blank = Blank::new(1);
@@ -216,7 +217,7 @@ fn serve_by<M: Surroundings, S: Alter + Drop, P: StoreFiles<S> + Drop, L: Ledger
         (W.contents writer.old) (W.contents writer.new) result.1 (W.failures writer.old) (W.failures writer.new) (E.contents trace.old)
         (E.contents trace.new) (E.failures trace.old) (E.failures trace.new) }
 {
-    let alloc = around.machine().alloc();
+    let alloc = around.alloc();
     let opened: Result<SqlTable<S, L>, _> = open_store(alloc, files, service.store, blank);
     match opened {
         Ok(table) => {
@@ -248,7 +249,7 @@ pub fn serve<M: Surroundings, S: Alter + Drop, P: StoreFiles<S> + Drop, W: Sink,
         (W.contents writer.old) (W.contents writer.new) result.1 (W.failures writer.old) (W.failures writer.new) (E.contents trace.old)
         (E.contents trace.new) (E.failures trace.old) (E.failures trace.new) }
 {
-    let alloc = around.machine().alloc();
+    let alloc = around.alloc();
     match policy_of(around, alloc, service.policy) {
         Ok(policy) => {
             let blank = Blank::new(1);

@@ -1,50 +1,42 @@
-//! Words of the command line over streams of std and the stores of this machine.
+//! Words of the command line over streams of std.
 
-ghost use Rattle.std.specs.Prelude.{◌≡◌, ◌<◌};
+ghost use Rattle.std.specs.Prelude.{◌≡◌, ◌<◌, map};
+ghost use Rattle.std.specs.Process.{exit_status};
+ghost use Rattle.sqlite.specs.Held.{state};
+ghost use Rattle.cli_store.specs.Stores.{stores_of};
+ghost use Rattle.cli_store.specs.Program.{IsRun};
 
-use crate::any_store::{FilesJob, do_on_machine};
 use crate::files::StoreFiles;
+use crate::folding::fold_log;
 use crate::hints::tell_hints;
 use crate::kept_files::KeptFiles;
 use crate::kept_input::KeptInput;
 use crate::program::do_words;
 use crate::surroundings::Surroundings;
-use dns_master::{Counted, Sink, Source};
-use sqlite::{Alter, Connection};
+use dns_master::Counted;
+use sqlite::Alter;
 use std::io::{Read, Write};
 use std::marker::Brand;
 use std::process::ExitCode;
 use std::sync::ledger::{Blank, Ledger};
 
-/// Words of the command line, with the streams of their job.
+/// The streams of the process.
 #[derive(Drop)]
-struct Words<'a, M, R, W, E> {
-    around: &'a M,
-    words: &'a [&'a str],
-    input: &'a mut R,
-    output: &'a mut W,
-    trace: &'a mut E,
+pub struct Streams<I, O, E> {
+    /// Standard input.
+    pub input: I,
+    /// Standard output.
+    pub output: O,
+    /// Standard error, on which a service says why requests failed.
+    pub trace: E,
 }
 
-impl<M: Surroundings, R: Source, W: Sink, E: Sink> FilesJob for Words<'_, M, R, W, E> {
-    fn run<S: Alter + Drop, P: StoreFiles<S> + Drop>(
-        self,
-        files: P,
-    ) -> (Option<Connection<S>>, ExitCode) {
-        let Words {
-            around,
-            words,
-            input,
-            output,
-            trace,
-        } = self;
-        do_words(around, files, words, input, output, trace)
-    }
-}
-
-/// Does what words ask for with standard input, standard output and a trace, whose failures are counted from none on, and hands them back.
+/// Does what words ask for with streams, whose failures are counted from none on, ends the connection to the store that it reached, and hands
+/// the streams back.
 fn run_counted<
     M: Surroundings,
+    S: Alter + Drop,
+    P: StoreFiles<S> + Drop,
     I: Read + Drop,
     O: Write + Drop,
     E: Write + Drop,
@@ -53,12 +45,13 @@ fn run_counted<
     C: Ledger,
 >(
     around: &M,
+    files: P,
     words: &[&str],
-    streams: (I, O, E),
+    streams: Streams<I, O, E>,
     reads: Blank,
     writes: Blank,
     traces: Blank,
-) -> (I, O, E, ExitCode)
+) -> (Streams<I, O, E>, ExitCode)
     requires reads_name { reads.name ≡ A.name }
     requires reads_parts { reads.parts ≡ A.parts }
     requires reads_some { 0 < reads.parts }
@@ -68,48 +61,74 @@ fn run_counted<
     requires traces_name { traces.name ≡ C.name }
     requires traces_parts { traces.parts ≡ C.parts }
     requires traces_some { 0 < traces.parts }
+    ensures { IsRun (M.around around.now) (stores_of (state S.Store) (P.finds files) (P.refuses files) (P.connects files)) (I.remaining streams.input)
+        (I.remaining result.0.input) (O.contents streams.output) (O.contents result.0.output) (E.contents streams.trace) (E.contents result.0.trace)
+        (map (λ s. s.now) words.now) (exit_status result.1) }
 {
-    let (input, output, trace) = streams;
+    let Streams {
+        input,
+        output,
+        trace,
+    } = streams;
     let mut input: Counted<I, A> = Counted::new(input, reads);
     let mut output: Counted<O, B> = Counted::new(output, writes);
     let mut trace: Counted<E, C> = Counted::new(trace, traces);
-    let job = Words {
-        around,
-        words,
-        input: &mut input,
-        output: &mut output,
-        trace: &mut trace,
+    let (conn, status) = do_words(around, files, words, &mut input, &mut output, &mut trace);
+    fold_log::<M, S, P>(around, conn);
+    let streams = Streams {
+        input: input.into_inner(),
+        output: output.into_inner(),
+        trace: trace.into_inner(),
     };
-    let status = do_on_machine(around.machine(), job);
-    (
-        input.into_inner(),
-        output.into_inner(),
-        trace.into_inner(),
-        status,
-    )
+    (streams, status)
 }
 
-/// Does what words ask for, as `do_words` says, with standard input, standard output and a trace of std and the stores of this machine,
-/// ends the connection to the store that it reached, says what else is known of a refused master file, and hands back both writers. It
-/// has no contract: of streams that do not count their failures one could say only that there are counts.
-pub fn run_words<M: Surroundings, I: Read + Drop, O: Write + Drop, E: Write + Drop>(
+/// Does what words ask for with streams of std, ends the connection to the store that it reached, says what else is known of a refused master
+/// file, and hands the streams back.
+pub fn run_words<
+    M: Surroundings,
+    S: Alter + Drop,
+    P: StoreFiles<S> + Drop,
+    I: Read + Drop,
+    O: Write + Drop,
+    E: Write + Drop,
+>(
     around: &M,
+    files: P,
     words: &[&str],
-    streams: (I, O, E),
-) -> (O, E, ExitCode) {
-    let rt = around.machine();
-    let (input, output, trace) = streams;
-    let input = KeptInput::new(rt.alloc(), input);
-    let around = KeptFiles::new(rt.alloc(), around);
+    streams: Streams<I, O, E>,
+) -> (Streams<I, O, E>, ExitCode)
+    // It ends as `do_words` does, with these words, each stream in its own place.
+    ensures { IsRun (M.around around.now) (stores_of (state S.Store) (P.finds files) (P.refuses files) (P.connects files)) (I.remaining streams.input)
+        (I.remaining result.0.input) (O.contents streams.output) (O.contents result.0.output) (E.contents streams.trace) (E.contents result.0.trace)
+        (map (λ s. s.now) words.now) (exit_status result.1) }
+{
+    let Streams {
+        input,
+        output,
+        trace,
+    } = streams;
+    let streams = Streams {
+        input: KeptInput::new(around.alloc(), input),
+        output,
+        trace,
+    };
+    let kept = KeptFiles::new(around.alloc(), around);
     let (reads, writes, traces) = (Blank::new(1), Blank::new(1), Blank::new(1));
-    let (input, output, trace, status) = run_counted::<_, _, _, _, Brand, Brand, Brand>(
-        &around,
-        words,
-        (input, output, trace),
-        reads,
-        writes,
-        traces,
+    let (streams, status) = run_counted::<_, S, P, _, _, _, Brand, Brand, Brand>(
+        &kept, files, words, streams, reads, writes, traces,
     );
-    tell_hints(rt, words, &around.into_files(), input.beginning(), status);
-    (output, trace, status)
+    let Streams {
+        input,
+        output,
+        trace,
+    } = streams;
+    let (input, beginning) = input.into_parts();
+    tell_hints(around, words, &kept.into_files(), &beginning, status);
+    let streams = Streams {
+        input,
+        output,
+        trace,
+    };
+    (streams, status)
 }

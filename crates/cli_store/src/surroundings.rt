@@ -1,6 +1,6 @@
-//! What is around the program: the machine, and the files that words name.
+//! What is around the program: the files that words name, listeners, the time, and standard error.
 
-ghost use Rattle.std.specs.Prelude.{⊤, Some, [], OnErr};
+ghost use Rattle.std.specs.Prelude.{⊤, Some, [], IfOk, OnErr};
 ghost use Rattle.cli_core.specs.LineFaults.{GivesOf, limited};
 ghost use Rattle.cli_store.specs.Around.{Around};
 
@@ -8,14 +8,24 @@ use cli_core::{Input, LineFault};
 use dns_master::DeviceFailed;
 use std::alloc::Global;
 use std::net::{SocketAddr, TcpListener, TcpStream};
+use std::time::Clock;
 
-/// What the program runs in, beside its streams and the files of stores.
+/// What the program runs in, beside its streams and the files of stores. It reaches nothing else of the machine.
 pub trait Surroundings {
-    // What the files hold that words name, and when there is no listener and no connection.
+    /// What tells the time.
+    type Clock: Clock;
+
+    // What the files hold that words name, where a listener listens, and when there is none and no connection.
     ghost around: { Self → Around };
 
-    /// The machine, on whose standard error is said why a job was not done.
-    fn machine(&self) -> &HostRuntime;
+    /// The allocator.
+    fn alloc(&self) -> Global;
+
+    /// What tells the time.
+    fn clock(&self) -> &Self::Clock;
+
+    /// Says a line on standard error, as why a job was not done. A failure is let go.
+    fn say(&self, line: &str);
 
     /// All octets of the file of a path. More than 4,194,304 are `TooLarge`, and `ReadFailed` comes only where it cannot be read.
     fn file(&self, alloc: Global, path: &str) -> Result<Vec<u8>, LineFault>
@@ -23,11 +33,12 @@ pub trait Surroundings {
 
     /// A listener at an address and a port, and where it listens. An error comes only where there can be none.
     fn listen(&self, address: SocketAddr) -> Result<(TcpListener, SocketAddr), DeviceFailed>
-        ensures { OnErr result ((around self.now).unheard address) };
+        ensures heard { IfOk result (λ heard. (around self.now).heard address heard.0 heard.1) }
+        ensures unheard { OnErr result ((around self.now).unheard address) };
 
     /// The next connection of a listener. An error comes only where none can be had.
     fn accept(&self, listener: &TcpListener) -> Result<TcpStream, DeviceFailed>
-        ensures { OnErr result ((around self.now).cut) };
+        ensures { OnErr result ((around self.now).cut listener.now) };
 }
 
 /// A file that words name, which is an input.

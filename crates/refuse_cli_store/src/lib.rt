@@ -2,21 +2,24 @@
 //! calls; each edit in must-fail makes the call wrong in one idea, and the prover refuses it.
 #![tactic(auto)]
 
-ghost use Rattle.std.specs.Prelude.{◌≡◌, ◌+◌, List, Option, length};
+ghost use Rattle.std.specs.Prelude.{◌≡◌, ◌+◌, List, Option, IfOk, IfErr, length, map, string_bytes};
+ghost use Rattle.std.specs.declared.net.socket_addr.SocketAddr.{SocketAddr};
 ghost use Rattle.std.specs.Process.{exit_status};
 ghost use Rattle.sqlite.specs.Held.{state};
 ghost use Rattle.office_wire.specs.declared.serve_fault.ServeFault.{ServeFault as FaultOf};
 ghost use Rattle.wire_tcp.specs.Connections.{AreReported, AreServedFrom};
 ghost use Rattle.cli_store.specs.Stores.{stores_of};
-ghost use Rattle.cli_store.specs.Program.{JobEnds};
+ghost use Rattle.cli_store.specs.Program.{JobEnds, WordsEnd};
+ghost use Rattle.cli_store.specs.Serve.{IsHeard, IsNoListener, listening_line};
 
 use cli_core::{Job, StoreJob};
-use cli_store::{JobFault, StoreFiles, Surroundings};
+use cli_store::{JobFault, LineFault, StoreFiles, Surroundings};
 use dns_master::{Sink, Source};
 use grant_policy::Policy;
 use office_model::ZoneTable;
 use sqlite::{Alter, Connection};
 use std::alloc::Global;
+use std::net::TcpListener;
 use std::process::ExitCode;
 use std::time::Clock;
 use wire_tcp::{Connections, Diagnosis, Listener};
@@ -65,4 +68,41 @@ pub fn do_job<
         (exit_status result.1) }
 {
     cli_store::do_job(around, files, job, input, output, trace)
+}
+
+/// `do_words`.
+pub fn do_words<
+    M: Surroundings,
+    S: Alter + Drop,
+    P: StoreFiles<S> + Drop,
+    R: Source,
+    W: Sink,
+    E: Sink,
+>(
+    around: &M,
+    files: P,
+    words: &[&str],
+    input: &mut R,
+    output: &mut W,
+    trace: &mut E,
+) -> (Option<Connection<S>>, ExitCode)
+    ensures { WordsEnd (M.around around.now) (stores_of (state S.Store) (P.finds files) (P.refuses files) (P.connects files))
+        (record { left = R.remaining input.old; rest = R.remaining input.new; before = R.failures input.old; after = R.failures input.new })
+        (record { old = W.contents output.old; new = W.contents output.new; before = W.failures output.old; after = W.failures output.new })
+        (record { old = E.contents trace.old; new = E.contents trace.new; before = E.failures trace.old; after = E.failures trace.new })
+        (map (λ s. s.now) words.now) result.0 (exit_status result.1) }
+{
+    cli_store::do_words(around, files, words, input, output, trace)
+}
+
+/// `listening_at`.
+pub fn listening_at<M: Surroundings>(
+    around: &M,
+    listen: &str,
+) -> Result<(TcpListener, String), LineFault>
+    ensures told { IfOk result
+        (λ listening. (address : SocketAddr) × IsHeard (M.around around.now) listen.now listening.0 address × (string_bytes listening.1 ≡ listening_line address)) }
+    ensures refused { IfErr result (IsNoListener (M.around around.now) listen.now) }
+{
+    cli_store::listening_at(around, listen)
 }

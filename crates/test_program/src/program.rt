@@ -4,7 +4,8 @@ ghost use Rattle.std.specs.Prelude.{⊤, None};
 ghost use Rattle.cli_store.specs.Around.{Around};
 
 use cli_store::{
-    DeviceFailed, LineFault, Surroundings, heard, listen_at, next_of, read_path, run_words,
+    DeviceFailed, LineFault, MachineFiles, Streams, Surroundings, heard, listen_at, next_of,
+    read_path, run_words,
 };
 use std::alloc::{AllocError, Global};
 use std::net::{SocketAddr, TcpListener, TcpStream};
@@ -20,10 +21,20 @@ pub struct Given<'a> {
 }
 
 impl Surroundings for Given<'_> {
-    ghost around = { λ _. record { file = λ _. None; unreadable = λ _. ⊤; unheard = λ _. ⊤; cut = ⊤ } };
+    type Clock = HostRuntime;
 
-    fn machine(&self) -> &HostRuntime {
+    ghost around = { λ _. record { file = λ _. None; unreadable = λ _. ⊤; heard = λ _ _ _. ⊤; unheard = λ _. ⊤; cut = λ _. ⊤ } };
+
+    fn alloc(&self) -> Global {
+        self.rt.alloc()
+    }
+
+    fn clock(&self) -> &HostRuntime {
         self.rt
+    }
+
+    fn say(&self, line: &str) {
+        let _ = self.rt.eprintln(line);
     }
 
     fn file(&self, _alloc: Global, path: &str) -> Result<Vec<u8>, LineFault> {
@@ -60,11 +71,16 @@ pub fn told_by<'a>(
     words: &[&str],
     input: &[u8],
 ) -> Told {
-    let streams = (input, Vec::new(rt.alloc()), Vec::new(rt.alloc()));
-    let (output, trace, status) = run_words(&Given { rt, listener }, words, streams);
+    let streams = Streams {
+        input,
+        output: Vec::new(rt.alloc()),
+        trace: Vec::new(rt.alloc()),
+    };
+    let around = Given { rt, listener };
+    let (streams, status) = run_words(&around, MachineFiles(rt), words, streams);
     Told {
-        output,
-        trace,
+        output: streams.output,
+        trace: streams.trace,
         status,
     }
 }

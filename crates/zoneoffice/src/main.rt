@@ -5,7 +5,8 @@ ghost use Rattle.std.specs.Prelude.{⊤, None};
 ghost use Rattle.cli_store.specs.Around.{Around};
 
 use cli_store::{
-    DeviceFailed, LineFault, NO_MEMORY_LINE, Surroundings, listen_at, next_of, read_path, run_words,
+    DeviceFailed, LineFault, MachineFiles, NO_MEMORY_LINE, Streams, Surroundings, listen_at,
+    next_of, read_path, run_words,
 };
 use std::alloc::{AllocError, Global};
 use std::env;
@@ -25,10 +26,20 @@ fn complain_unread(rt: &HostRuntime, path: &str) {
 struct Process<'a>(&'a HostRuntime);
 
 impl Surroundings for Process<'_> {
-    ghost around = { λ _. record { file = λ _. None; unreadable = λ _. ⊤; unheard = λ _. ⊤; cut = ⊤ } };
+    type Clock = HostRuntime;
 
-    fn machine(&self) -> &HostRuntime {
+    ghost around = { λ _. record { file = λ _. None; unreadable = λ _. ⊤; heard = λ _ _ _. ⊤; unheard = λ _. ⊤; cut = λ _. ⊤ } };
+
+    fn alloc(&self) -> Global {
+        self.0.alloc()
+    }
+
+    fn clock(&self) -> &HostRuntime {
         self.0
+    }
+
+    fn say(&self, line: &str) {
+        let _ = self.0.eprintln(line);
     }
 
     fn file(&self, _alloc: Global, path: &str) -> Result<Vec<u8>, LineFault> {
@@ -72,8 +83,12 @@ fn given_words(rt: &HostRuntime) -> io::Result<Vec<String>> {
 
 /// Does what words ask for with the streams of this process.
 fn run(rt: &HostRuntime, words: &[&str]) -> ExitCode {
-    let streams = (rt.stdin(), rt.stdout(), rt.stderr());
-    run_words(&Process(rt), words, streams).2
+    let streams = Streams {
+        input: rt.stdin(),
+        output: rt.stdout(),
+        trace: rt.stderr(),
+    };
+    run_words(&Process(rt), MachineFiles(rt), words, streams).1
 }
 
 fn main(rt: HostRuntime) -> ExitCode {

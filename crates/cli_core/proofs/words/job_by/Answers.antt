@@ -1,8 +1,7 @@
-use Rattle.std.proofs.Common.{◌∙◌, sym, ap, map, is_some, true≢false, refl}
+use Rattle.std.proofs.Common.{◌∙◌, sym, ap, map, is_some, true≢false}
 use Rattle.std.specs.Prelude.{unwrap_or}
 use Rattle.clap.specs.Words.{is_simple, subcommand_of, takes}
 use Rattle.clap.specs.Faults.{fault_of, is_simple_and_free}
-use Rattle.clap.specs.declared.error.ErrorKind.TheVariants as kind
 use Rattle.cli_core.specs.Jobs.{asks}
 use Rattle.cli_core.specs.Words.{job_met}
 use Rattle.cli_core.proofs.CommandLemmas.{office_free, office_simple}
@@ -42,7 +41,7 @@ returns-clause-reported c =
     let rows = (c.in-Ok.ensures.ok.2 (ap is_simple c.requires ∙ office_simple)).1 ∙ ap (λ a. subcommand_of a words) c.requires in
     let faultless = ap (λ a. fault_of a words) (sym c.requires)
     ∙ c.in-Ok.ensures.kinds (ap is_simple_and_free c.requires ∙ office_free) in
-    nothing_wrong words kind.InvalidValue _ faultless (sym (c.in-None.ensures ∙ ap (job_met words) rows)) refl c.mistake.ensures
+    nothing_wrong words _ faultless (sym (c.in-None.ensures ∙ ap (job_met words) rows)) c.mistake.ensures
 
 pub returns-clause-passes : goal.returns-clause-passes
 returns-clause-passes c =

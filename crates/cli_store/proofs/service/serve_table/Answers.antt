@@ -9,12 +9,12 @@ pub returns-in_err-write_text-clause-told : goal.returns-in_err-write_text-claus
 returns-in_err-write_text-clause-told g c =
     let e = err_from_is_err_and c.from_residual.result c.from_residual.ensures.1 in
     let told = c.in-Ok.ensures.told in
-    let sent = rw told.1 at (rw c.as_bytes.ensures.value at c.in_err-write_text.ensures) in
-    rw (e.1, e.2) (inr (told.0, inl (refl, sent.0, sent.1, (refl, refl, refl))))
+    let sent = rw told.2 at (rw c.as_bytes.ensures.value at c.in_err-write_text.ensures) in
+    rw (e.1, e.2) (inr (_, told.0, told.1, inl (refl, sent.0, sent.1, (refl, refl, refl))))
 
 pub returns-clause-told : goal.returns-clause-told
 returns-clause-told g c =
     let told = c.in-Ok.ensures.told in
-    let sent = rw told.1 at (rw c.as_bytes.ensures.value at c.in_ok-write_text.ensures) in
+    let sent = rw told.2 at (rw c.as_bytes.ensures.value at c.in_ok-write_text.ensures) in
     let e = c.serve_listening.ensures in
-    inr (told.0, inr (_, sent.0, rw sent.1 at e.written, e.served))
+    inr (_, told.0, told.1, inr (_, sent.0, rw sent.1 at e.written, e.served))
