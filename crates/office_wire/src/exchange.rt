@@ -159,7 +159,8 @@ impl Service<'_> {
                 let end = heading.len + n;
                 let body = &pending[heading.len..end];
                 let received = Received { heading, body };
-                if self.reply(&workspace.routes, table, &received, out) {
+                let last = self.reply(&workspace.routes, table, &received, out);
+                if last {
                     Progress::Last
                 } else {
                     Progress::Next(end)

@@ -79,13 +79,15 @@ impl<'a> Responder<'a> {
         let Responder { service, workspace } = self;
         service.servfails = Servfails::none();
         make_workspace(service.alloc, workspace);
-        let ended = match workspace {
-            Some(workspace) => {
-                workspace.clear(service.alloc);
-                service.serve(workspace, stream, table, deadline)
-            }
-            None => Err(ServeFault::NoMemory),
+        let Some(workspace) = workspace else {
+            return Served {
+                ended: Err(ServeFault::NoMemory),
+                servfails: service.servfails,
+            };
         };
+        workspace.requests.clear();
+        let ended = service.serve(workspace, stream, table, deadline);
+        workspace.drop_response(service.alloc);
         Served {
             ended,
             servfails: service.servfails,

@@ -43,9 +43,9 @@ fn finish<S: Stream>(workspace: &mut Workspace, stream: &mut S) -> Result<(), De
         return Ok(());
     }
     let method = method_at(rest, &mut workspace.spans);
-    let cut_short = Response::Refused(Refusal::CutShort);
-    workspace.out.put_short(method, &cut_short, true);
-    write_all(stream, workspace.out.as_slice())
+    let out = &mut workspace.out;
+    out.put_short(method, &Response::Refused(Refusal::CutShort), true);
+    write_all(stream, out.as_slice())
 }
 
 impl Service<'_> {

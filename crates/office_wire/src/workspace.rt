@@ -1,6 +1,6 @@
 //! What serving takes once, and not for each stream.
 
-ghost use Rattle.std.specs.Prelude.{◌≡◌, length, vec_len};
+ghost use Rattle.std.specs.Prelude.{◌≡◌, vec_len};
 
 use crate::head::SPANS;
 use crate::request_buffer::RequestBuffer;
@@ -33,11 +33,8 @@ impl Workspace {
         })
     }
 
-    /// Forgets what a stream sent, and lets the memory of a long response go.
-    pub(crate) fn clear(&mut self, alloc: Global)
-        ensures { length self.new.requests ≡ 0 }
-    {
-        self.requests.clear();
+    /// Lets the memory of a long response go.
+    pub(crate) fn drop_response(&mut self, alloc: Global) {
         if let Ok(out) = ResponseBuffer::new(alloc) {
             self.out = out;
         }

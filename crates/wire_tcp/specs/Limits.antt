@@ -1,5 +1,5 @@
 -- For how long a peer is waited for, and how old a connection gets.
-use Rattle.std.specs.Prelude.{ℕ, ◌≤◌, zero, suc, min, List, Option, Some, None, ⊤}
+use Rattle.std.specs.Prelude.{ℕ, ◌≤◌, zero, suc, min, List, Option, Some, None, MatchOption, IsSomeAnd, ⊤}
 use Rattle.std.specs.List.{AllByRecursion}
 use Rattle.std.proofs.Common.{[], ◌∷◌, ◌++◌}
 use Rattle.office_wire.specs.Order.{Follows}
@@ -21,9 +21,7 @@ longest_in given = seconds_in 60 given
 
 -- a limit is one of at most this patience, where that has a limit
 abbrev pub IsWithin : Option ℕ → Option ℕ → Type 0
-IsWithin None limit = ⊤
-IsWithin (Some patience) None = ⊥
-IsWithin (Some patience) (Some limit) = limit ≤ patience
+IsWithin patience limit = MatchOption patience ⊤ (λ longest. IsSomeAnd limit (λ time. time ≤ longest))
 
 -- each of the limits that came between before and now is so; it says nothing where they are unknown
 abbrev pub AreWithin : Option ℕ → Option (List (Option ℕ)) → Option (List (Option ℕ)) → Type 0

@@ -6,6 +6,7 @@ ghost use Rattle.std.specs.Io.{ReadsAtMost, WritesAtMost};
 ghost use Rattle.std.specs.IoError.{error_kind};
 ghost use Rattle.office_wire.specs.Order.{ReadsOnce, WritesOnce};
 ghost use Rattle.std.proofs.Common.{◌∙◌, refl, subst};
+ghost use Rattle.std.proofs.Props.{props};
 ghost use Rattle.wire_tcp.specs.Limits.{IsWithin, AreWithin, within_none, within_joins};
 
 use crate::age::Age;
@@ -85,7 +86,7 @@ pub(crate) struct PatientStream<'a, P, C: Clock, L: Ledger> {
     writes: Share<L>,
     ghost counts_reads: { 0 < reads.parts },
     ghost counts_writes: { 0 < writes.parts },
-    ghost patient: { IsWithin (option_map as_nanos patience) (option_map as_nanos wait.left) },
+    ghost patient: { IsWithin (option_map as_nanos patience) (option_map as_nanos wait.left) } by { Prim.hlevel props },
 }
 
 impl<'a, P: Peer, C: Clock, L: Ledger> PatientStream<'a, P, C, L> {
@@ -127,7 +128,7 @@ impl<'a, P: Peer, C: Clock, L: Ledger> PatientStream<'a, P, C, L> {
 
     /// The peer.
     pub(crate) fn into_peer(self) -> P
-        ensures { result ≡ self.peer }
+        ensures { result ≡ self.entry.peer }
     {
         self.peer
     }
@@ -277,6 +278,9 @@ impl<P: Peer, C: Clock, L: Ledger> Stream for PatientStream<'_, P, C, L> {
 
     ghost same = { λ s. (refl, within_none (option_map as_nanos s.patience) (P.limits s.peer)) };
 
-    ghost joins = { λ a b c p q. (q.0 ∙ p.0, within_joins (option_map as_nanos a.patience) (P.limits a.peer) (P.limits b.peer) (P.limits c.peer) p.1
-        (subst (λ patience. AreWithin (option_map as_nanos patience) (P.limits b.peer) (P.limits c.peer)) p.0 q.1)) };
+    ghost joins = { λ a b c p q. (
+      q.0 ∙ p.0,
+      within_joins (option_map as_nanos a.patience) (P.limits a.peer) (P.limits b.peer) (P.limits c.peer) p.1
+          (subst (λ patience. AreWithin (option_map as_nanos patience) (P.limits b.peer) (P.limits c.peer)) p.0 q.1),
+    ) };
 }

@@ -93,8 +93,13 @@ impl<C: Clock, D> Connections<'_, C, D> {
         ensures rules { rules_of responder.new ≡ rules_of responder.old }
         ensures honest { T.is_honest table.new → T.is_honest table.old }
     {
-        let mut stream: PatientStream<'_, P, C, A> =
-            PatientStream::new(peer, self.clock, self.patience, self.longest, blanks.0);
+        let mut stream: PatientStream<'_, P, C, A> = PatientStream::new(
+            peer,
+            self.clock,
+            self.patience,
+            self.longest,
+            blanks.0,
+        );
         let mut deadline: AgeLimit<'_, C, B> = AgeLimit::new(stream.age(), blanks.1);
         let served = responder.serve_stream(&mut stream, table, &mut deadline);
         (stream.into_peer(), served)
@@ -137,8 +142,15 @@ impl<C: Clock, D> Connections<'_, C, D> {
         // whichever connection each came by. A line is written for each connection that a fault ended, and the trace tells of those of the
         // requests that were answered SERVFAIL.
         ensures served { T.is_honest table.new → AreServedFrom
-            (record { holds = T.holds; failures = T.failures; fault = D.fault self.now.diagnosis.now; gives = H.gives; ends = H.ends;
-            flow = H.Peer.flow; limits = H.Peer.limits })
+            (record {
+              holds = T.holds;
+              failures = T.failures;
+              fault = D.fault self.now.diagnosis.now;
+              gives = H.gives;
+              ends = H.ends;
+              flow = H.Peer.flow;
+              limits = H.Peer.limits;
+            })
             (record { rules = self.now.policy.now; patience = option_map as_nanos self.now.patience; most = self.now.most; cut = H.cut listener.old })
             table.old listener.old table.new listener.new result
             (record { old = W.contents writer.old; new = W.contents writer.new; before = W.failures writer.old; after = W.failures writer.new })

@@ -11,7 +11,7 @@ returns-then-put-clause-answered g c = λ honest s held h asked.
       a.0,
       a.1,
       put_whole c.args.self.now.policy.now before now (call_of h c.args.received.now.body.now) c.respond-response.result c.args.received.now.heading.method c.args.received.now.heading.closes _ c.put.result c.put.new.self a.2
-          c.is_last-last.ensures c.put.ensures c.if-put.true c.note.ensures,
+          c.is_last-last.ensures c.put.ensures c.if-put.true (rw c.respond-response.ensures.noted at c.note.ensures),
     )
 
 pub returns-clause-answered : goal.returns-clause-answered
@@ -22,5 +22,5 @@ returns-clause-answered g c = λ honest s held h asked.
       a.0,
       a.1,
       put_servfail c.args.self.now.policy.now before now (call_of h c.args.received.now.body.now) c.respond-response.result c.args.received.now.heading.method c.args.received.now.heading.closes _ c.put.result c.put.new.self a.2
-          c.is_last-last.ensures c.put.ensures c.if-put.false c.add.ensures,
+          c.is_last-last.ensures c.put.ensures c.if-put.false (rw c.respond-response.ensures.noted at c.add.ensures),
     )

@@ -2,7 +2,7 @@ use Rattle.std.proofs.Common.{◌∙◌, ◌+◌, ◌<◌, ℕ, List, refl, sym,
 use Rattle.office_wire.specs.Exchange.{Waits}
 use Rattle.office_wire.specs.Order.{moment}
 use Rattle.office_wire.specs.Serving.{mark}
-use Rattle.office_wire.proofs.ServingLemmas.{IsAnsweredRead, none_came, first_read, went_read, went_nowhere, ended, ended_part, went_closed, went_broken, went_on, halted, waits_nil, stayed}
+use Rattle.office_wire.proofs.ServingLemmas.{IsAnsweredRead, none_came, first_read, went_read, went_nowhere, ended, ended_part, went_closed, went_broken, went_on, sooner, halted, waits_nil, stayed}
 use Rattle.office_wire.proofs.exchange.Service.serve.Goals as goal
 
 pub reads-init : goal.reads-init
@@ -32,7 +32,7 @@ returns-in-Err-clause-run g c = λ honest s held.
     let mid = moment (g.S.Stream.flow c.reads.stream) in
     let read = moment (g.S.Stream.flow c.fill.new.stream) in
     let k = c.in-Err.ensures.kept in
-    let q = went_nowhere policy first asked now c.reads.counter _ c.reads.workspace.requests _ _ _ before mid read c.reads.invariant.waits k.1 k.2 c.in-Err.ensures.same p.2 in
+    let q = went_nowhere policy first asked now c.reads.counter _ c.reads.workspace.requests _ _ _ before mid read c.reads.invariant.waits k.1 (k.2, k.3) c.in-Err.ensures.same p.2 in
     let r = stayed policy first asked now c.reads.counter 0 _ c.reads.workspace.requests _ _ before read c.reads.invariant.waits (omega arith) q in
     (r.0, p.0, p.1, r.1, record { done = r.2.0; in_turn = r.2.1 }, r.2.2)
 
@@ -45,7 +45,7 @@ returns-in-Err-clause-devices g c = (omega (arith, c.in-Err.ensures.failed, c.re
 pub finish-requires : goal.finish-requires
 finish-requires g c =
     let f = c.in-Ok.ensures.got in
-    subst (λ (l : List ℕ). Waits l) (sym (c.as_slice.ensures.value ∙ none_came c.fill.new.self c.reads.workspace.requests f.0 c.in-Ok.got f.1 f.2 c.if-got-eq0.true)) c.reads.invariant.waits
+    subst (λ (l : List ℕ). Waits l) (sym (none_came c.fill.new.self c.reads.workspace.requests f.0 c.in-Ok.got f.1 f.2 c.if-got-eq0.true)) c.reads.invariant.waits
 
 pub returns-in-Ok-finish-clause-run : goal.returns-in-Ok-finish-clause-run
 returns-in-Ok-finish-clause-run g c = λ honest s held.
@@ -58,13 +58,12 @@ returns-in-Ok-finish-clause-run g c = λ honest s held.
     let mid = moment (g.S.Stream.flow c.reads.stream) in
     let read = moment (g.S.Stream.flow c.fill.new.stream) in
     let f = c.in-Ok.ensures.got in
-    let q = went_read policy first asked now c.reads.counter c.in-Ok.got _ c.reads.workspace.requests c.fill.new.self f.0 _ _ _ before mid read c.reads.invariant.waits f.1 f.2 f.3 f.5 c.in-Ok.ensures.same p.2 in
+    let q = went_read policy first asked now c.reads.counter c.in-Ok.got _ c.reads.workspace.requests c.fill.new.self f.0 _ _ _ before mid read c.reads.invariant.waits f.1 f.2 f.3 (f.5, f.6) c.in-Ok.ensures.same p.2 in
     let none = c.if-got-eq0.true in
     let old = none_came c.fill.new.self c.reads.workspace.requests f.0 c.in-Ok.got f.1 f.2 none in
-    let waits = subst (λ (l : List ℕ). Waits l) (sym (c.as_slice.ensures.value ∙ old)) c.reads.invariant.waits in
-    let here = subst (λ (l : List ℕ). IsAnsweredRead policy first asked (c.reads.counter + c.in-Ok.got) (g.S.Stream.flow c.args.stream.now).remaining (g.S.Stream.flow c.fill.new.stream).remaining l before read (g.D.Deadline.asked c.reads.deadline) now) (sym c.as_slice.ensures.value) q in
+    let waits = subst (λ (l : List ℕ). Waits l) (sym old) c.reads.invariant.waits in
     let after = moment (g.S.Stream.flow c.finish.new.stream) in
-    let r = ended policy first asked now _ _ c.as_slice.result.now _ _ before read after (f.4 none) waits here c.in-Ok-finish.ensures.finishes in
+    let r = ended policy first asked now _ _ c.fill.new.self _ _ before read after (f.4 none) waits q c.in-Ok-finish.ensures.finishes in
     (r.0, p.0, p.1, r.1, record { done = r.2.0; in_turn = r.2.1 }, r.2.2)
 
 pub returns-in-Ok-finish-clause-honest : goal.returns-in-Ok-finish-clause-honest
@@ -85,13 +84,12 @@ returns-in-Err-finish-clause-run g c = λ honest s held.
     let mid = moment (g.S.Stream.flow c.reads.stream) in
     let read = moment (g.S.Stream.flow c.fill.new.stream) in
     let f = c.in-Ok.ensures.got in
-    let q = went_read policy first asked now c.reads.counter c.in-Ok.got _ c.reads.workspace.requests c.fill.new.self f.0 _ _ _ before mid read c.reads.invariant.waits f.1 f.2 f.3 f.5 c.in-Ok.ensures.same p.2 in
+    let q = went_read policy first asked now c.reads.counter c.in-Ok.got _ c.reads.workspace.requests c.fill.new.self f.0 _ _ _ before mid read c.reads.invariant.waits f.1 f.2 f.3 (f.5, f.6) c.in-Ok.ensures.same p.2 in
     let none = c.if-got-eq0.true in
     let old = none_came c.fill.new.self c.reads.workspace.requests f.0 c.in-Ok.got f.1 f.2 none in
-    let waits = subst (λ (l : List ℕ). Waits l) (sym (c.as_slice.ensures.value ∙ old)) c.reads.invariant.waits in
-    let here = subst (λ (l : List ℕ). IsAnsweredRead policy first asked (c.reads.counter + c.in-Ok.got) (g.S.Stream.flow c.args.stream.now).remaining (g.S.Stream.flow c.fill.new.stream).remaining l before read (g.D.Deadline.asked c.reads.deadline) now) (sym c.as_slice.ensures.value) q in
+    let waits = subst (λ (l : List ℕ). Waits l) (sym old) c.reads.invariant.waits in
     let after = moment (g.S.Stream.flow c.finish.new.stream) in
-    let r = ended_part policy first asked now _ _ c.as_slice.result.now _ _ before read after (f.4 none) waits here c.in-Err-finish.ensures.finishes in
+    let r = ended_part policy first asked now _ _ c.fill.new.self _ _ before read after (f.4 none) waits q c.in-Err-finish.ensures.finishes in
     (r.0, p.0, p.1, r.1, record { done = r.2.0; in_turn = r.2.1 }, r.2.2)
 
 pub returns-in-Err-finish-clause-honest : goal.returns-in-Err-finish-clause-honest
@@ -112,8 +110,8 @@ returns-in-Err-answer_all-clause-run g c = λ honest s held.
     let mid = moment (g.S.Stream.flow c.reads.stream) in
     let read = moment (g.S.Stream.flow c.fill.new.stream) in
     let f = c.in-Ok.ensures.got in
-    let q = went_read policy first asked now c.reads.counter c.in-Ok.got _ c.reads.workspace.requests c.fill.new.self f.0 _ _ _ before mid read c.reads.invariant.waits f.1 f.2 f.3 f.5 c.in-Ok.ensures.same p.2 in
-    let a = c.in-Err-answer_all.ensures.served honest p.0 p.1 in
+    let q = went_read policy first asked now c.reads.counter c.in-Ok.got _ c.reads.workspace.requests c.fill.new.self f.0 _ _ _ before mid read c.reads.invariant.waits f.1 f.2 f.3 (f.5, f.6) c.in-Ok.ensures.same p.2 in
+    let a = (rw c.reads.invariant.policy at c.in-Err-answer_all.ensures.served) honest p.0 p.1 in
     let last = mark a.0 (g.T.ZoneTable.failures c.answer_all.new.table) c.answer_all.new.self.servfails in
     let after = moment (g.S.Stream.flow c.answer_all.new.stream) in
     let r = went_broken policy first asked now last _ _ _ c.fill.new.self _ _ before read after q a.2 in
@@ -137,11 +135,11 @@ returns-in-Ok-Closed-clause-run g c = λ honest s held.
     let mid = moment (g.S.Stream.flow c.reads.stream) in
     let read = moment (g.S.Stream.flow c.fill.new.stream) in
     let f = c.in-Ok.ensures.got in
-    let q = went_read policy first asked now c.reads.counter c.in-Ok.got _ c.reads.workspace.requests c.fill.new.self f.0 _ _ _ before mid read c.reads.invariant.waits f.1 f.2 f.3 f.5 c.in-Ok.ensures.same p.2 in
-    let a = c.in-Ok-Closed.ensures.served honest p.0 p.1 in
+    let q = went_read policy first asked now c.reads.counter c.in-Ok.got _ c.reads.workspace.requests c.fill.new.self f.0 _ _ _ before mid read c.reads.invariant.waits f.1 f.2 f.3 (f.5, f.6) c.in-Ok.ensures.same p.2 in
+    let a = (rw (c.in-Ok-Closed.field-0-is, c.reads.invariant.policy) at c.in-Ok-Closed.ensures.served) honest p.0 p.1 in
     let last = mark a.0 (g.T.ZoneTable.failures c.answer_all.new.table) c.answer_all.new.self.servfails in
     let after = moment (g.S.Stream.flow c.answer_all.new.stream) in
-    let r = went_closed policy first asked now last _ _ _ c.fill.new.self _ _ before read after q (rw c.in-Ok-Closed.field-0-is at a.2) in
+    let r = went_closed policy first asked now last _ _ _ c.fill.new.self _ _ before read after q a.2 in
     (r.0, a.0, a.1, r.1, record { done = r.2.0; in_turn = r.2.1 }, r.2.2)
 
 pub returns-in-Ok-Closed-clause-honest : goal.returns-in-Ok-Closed-clause-honest
@@ -162,13 +160,13 @@ returns-in-Ok-Overdue-clause-run g c = λ honest s held.
     let mid = moment (g.S.Stream.flow c.reads.stream) in
     let read = moment (g.S.Stream.flow c.fill.new.stream) in
     let f = c.in-Ok.ensures.got in
-    let q = went_read policy first asked now c.reads.counter c.in-Ok.got _ c.reads.workspace.requests c.fill.new.self f.0 _ _ _ before mid read c.reads.invariant.waits f.1 f.2 f.3 f.5 c.in-Ok.ensures.same p.2 in
-    let a = c.in-Ok-Overdue.ensures.served honest p.0 p.1 in
-    let served = rw c.in-Ok-Overdue.field-0-is at a.2 in
+    let q = went_read policy first asked now c.reads.counter c.in-Ok.got _ c.reads.workspace.requests c.fill.new.self f.0 _ _ _ before mid read c.reads.invariant.waits f.1 f.2 f.3 (f.5, f.6) c.in-Ok.ensures.same p.2 in
+    let a = (rw (c.in-Ok-Overdue.field-0-is, c.reads.invariant.policy) at c.in-Ok-Overdue.ensures.served) honest p.0 p.1 in
+    let served = a.2 in
     let last = mark a.0 (g.T.ZoneTable.failures c.answer_all.new.table) c.answer_all.new.self.servfails in
     let after = moment (g.S.Stream.flow c.answer_all.new.stream) in
     let here = went_on policy first asked now last (c.reads.counter + c.in-Ok.got) 0 _ _ c.fill.new.self c.answer_all.new.workspace.requests _ _ _ before read after (omega arith) c.in-Ok-Overdue.ensures.unread q served.0 in
-    let some : asked < g.D.Deadline.asked c.answer_all.new.deadline = let each = q.8 in let more = served.1 in omega (arith, each, more) in
+    let some = sooner policy first asked q.0 _ _ q.8 served.1 in
     let r = halted policy first asked last _ _ _ _ _ before after some here in
     (r.0, a.0, a.1, r.1, record { done = r.2.0; in_turn = r.2.1 }, r.2.2)
 
@@ -196,14 +194,14 @@ reads-preserved g c =
           let mid = moment (g.S.Stream.flow c.reads.stream) in
           let read = moment (g.S.Stream.flow c.fill.new.stream) in
           let f = c.in-Ok.ensures.got in
-          let q = went_read policy first asked now c.reads.counter c.in-Ok.got _ c.reads.workspace.requests c.fill.new.self f.0 _ _ _ before mid read c.reads.invariant.waits f.1 f.2 f.3 f.5 c.in-Ok.ensures.same p.2 in
-          let a = c.in-Ok-Open.ensures.served honest p.0 p.1 in
+          let q = went_read policy first asked now c.reads.counter c.in-Ok.got _ c.reads.workspace.requests c.fill.new.self f.0 _ _ _ before mid read c.reads.invariant.waits f.1 f.2 f.3 (f.5, f.6) c.in-Ok.ensures.same p.2 in
+          let a = (rw (c.in-Ok-Open.field-0-is, c.reads.invariant.policy) at c.in-Ok-Open.ensures.served) honest p.0 p.1 in
           let last = mark a.0 (g.T.ZoneTable.failures c.answer_all.new.table) c.answer_all.new.self.servfails in
           let after = moment (g.S.Stream.flow c.answer_all.new.stream) in (
             a.0,
             a.1,
             went_on policy first asked now last _ _ _ _ c.fill.new.self c.answer_all.new.workspace.requests _ _ _ before read after (let some = c.if-got-eq0.false in omega arith) c.in-Ok-Open.ensures.unread q
-                (rw c.in-Ok-Open.field-0-is at a.2),
+                a.2,
           );
       reads = c.in-Ok-Open.ensures.still ∙ c.in-Ok.ensures.failed ∙ c.reads.invariant.reads;
       writes = c.in-Ok-Open.ensures.failed ∙ c.in-Ok.ensures.still ∙ c.reads.invariant.writes;
