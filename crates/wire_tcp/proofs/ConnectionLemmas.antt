@@ -97,6 +97,12 @@ module _ (old mid new : Option (List ℕ)) (ends : List (Option ServeFault)) whe
       let front = subst (λ l. AppendsFront mid new (line_of l)) same wrote.0.2 in
       (inr (none, omega (arith, count, more), front_behind old mid new (ended_lines ends) (line_of ReadFailed) lines front), omega (arith, fine, wrote.1))
 
+-- the same of visits
+pub told_visit : (visits : List Visit) (v : Visit) (old mid new : Option (List ℕ)) → Appends old mid (ended_lines (ends visits)) → Appends mid new (ended_line (fault_of v.ended))
+    → Appends old new (ended_lines (ends (visits ++ v ∷ [])))
+told_visit visits v old mid new before line =
+    subst (λ (l : List (Option ServeFault)). Appends old new (ended_lines l)) (sym (ends_more visits v)) (told_more old mid new (ends visits) (fault_of v.ended) before line)
+
 -- ---- the trace
 
 sent_counted : (old new : Option (List ℕ)) (text : List ℕ) (result : Result (Unit {0}) DeviceFailed) (before after : ℕ) → IsSent old new text result before after → before ≤ after
