@@ -92,12 +92,7 @@ pub fn run_words<
     I: Read + Drop,
     O: Write + Drop,
     E: Write + Drop,
->(
-    around: &M,
-    files: P,
-    words: &[&str],
-    streams: Streams<I, O, E>,
-) -> (Streams<I, O, E>, ExitCode)
+>(around: &M, files: P, words: &[&str], streams: Streams<I, O, E>) -> (Streams<I, O, E>, ExitCode)
     // It ends as `do_words` does, with these words, each stream in its own place.
     ensures { IsRun (M.around around.now) (stores_of (state S.Store) (P.finds files) (P.refuses files) (P.connects files)) (I.remaining streams.input)
         (I.remaining result.0.input) (O.contents streams.output) (O.contents result.0.output) (E.contents streams.trace) (E.contents result.0.trace)
