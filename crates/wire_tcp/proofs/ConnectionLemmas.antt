@@ -1,7 +1,7 @@
 -- Connections that were served, one after the other.
 use Rattle.std.specs.Io.KnownBytes.{Appends}
 use Rattle.std.proofs.KnownBytes.{Appends-nil, Appends-trans}
-use Rattle.std.proofs.Common.{◌≡◌, ◌<◌, ◌≤◌, ◌+◌, inl, inr, ◌∙◌, ℕ, List, [], ◌∷◌, ◌++◌, length, Option, Result, Ok, Err, refl, sym, ap, subst, append-nil, append_assoc, length-append, arith}
+use Rattle.std.proofs.Common.{◌≡◌, ◌<◌, ◌≤◌, ◌+◌, inl, inr, ◌∙◌, ℕ, suc, List, [], ◌∷◌, ◌++◌, length, Option, Result, Ok, Err, refl, sym, ap, subst, append-nil, append_assoc, length-append, arith}
 use Rattle.std.proofs.lemmas.Grind.{flat_map-append}
 use Rattle.std.proofs.lemmas.List.{map-append}
 use Rattle.grant_policy.specs.declared.rule.Rule.{Rule}
@@ -38,7 +38,7 @@ ends_more visits v = map-append (λ (u : Visit). fault_of u.ended) visits (v ∷
 
 pub ends_length : (visits : List Visit) → length (ends visits) ≡ length visits
 ends_length [] = refl
-ends_length (v ∷ visits) = ap (λ (n : ℕ). n + 1) (ends_length visits)
+ends_length (v ∷ visits) = ap suc (ends_length visits)
 
 module _ {T H P : Type 0} (w : Parties T H P) (rules : List Rule) (patience : Option ℕ) where
   -- one more after the others
@@ -57,7 +57,7 @@ module _ {T H P : Type 0} (w : Parties T H P) (rules : List Rule) (patience : Op
       → AreServed w rules patience visits a b
   are_served visits a b zones receipts p =
       let ran = visits_run visits a b p in
-      record { visits = p; run = ran; promised = exchanges_run rules (standing_at w a) (standing_at w b) (joined visits) zones receipts ran }
+      record { each = p; run = ran; promised = exchanges_run rules (standing_at w a) (standing_at w b) (joined visits) zones receipts ran }
 
 pub one_more : (visits : List Visit) (v : Visit) (n : ℕ) → length visits ≡ n → length (visits ++ v ∷ []) ≡ n + 1
 one_more visits v n count = let all = length-append visits (v ∷ []) in omega arith
@@ -128,7 +128,7 @@ traces_more : (visits : List Visit) (v : Visit) → traces (visits ++ v ∷ []) 
 traces_more visits v = flat_map-append trace_at visits (v ∷ []) ∙ ap (λ (l : List ℕ). traces visits ++ l) (append-nil (trace_at v))
 
 pub traced_none : (a : Option (List ℕ)) (n : ℕ) → AreTraced [] (record { old = a; new = a; before = n; after = n })
-traced_none a n = record { counted = omega arith; traces = λ same. Appends-nil a }
+traced_none a n = record { counted = omega arith; written = λ same. Appends-nil a }
 
 -- and of one more
 pub traced_more : (visits : List Visit) (v : Visit) (old mid new : Option (List ℕ)) (before between after : ℕ)
@@ -139,8 +139,8 @@ traced_more visits v old mid new before between after p q =
     let second = q.0 in
     record {
       counted = omega (arith, first, second);
-      traces = λ same.
-          let x = p.traces (omega (arith, first, second, same)) in
+      written = λ same.
+          let x = p.written (omega (arith, first, second, same)) in
           let y = q.1 (omega (arith, first, second, same)) in
           subst (Appends old new) (sym (traces_more visits v)) (Appends-trans old mid new (traces visits) (trace_at v) x y);
     }

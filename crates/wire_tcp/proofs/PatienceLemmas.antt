@@ -1,6 +1,6 @@
 -- Reads and writes that are begun again where they were cut short.
 use Rattle.std.proofs.Common.{◌≡◌, ◌∙◌, ℕ, zero, suc, List, [], ◌∷◌, ◌++◌, replicate, Option, Some, None, Result, Ok, Err, IsErrAnd, refl, sym, ap, subst, append-nil, append_assoc}
-use Rattle.std.specs.Io.KnownBytes.{Keeps, ReadConsumes, WriteAppends}
+use Rattle.std.specs.Io.KnownBytes.{Keeps, Appends, ReadConsumes, WriteAppends}
 use Rattle.office_wire.specs.Order.{Event, read, written, Flow, Follows, moved, ReadsOnce, WritesOnce}
 use Rattle.office_wire.proofs.OrderLemmas.{follows_none, follows_join}
 
@@ -80,3 +80,22 @@ idle_again_write P a b c (Ok n) octets is p q = absurd is
 idle_again_write P a b c (Err e) octets is p q =
     let all = idle_then_write a b c (Err e) octets p q in
     (all.bytes, all.unread, all.event.0, subst (Follows a.events c.events) (append-nil (replicate all.event.0 (written []))) all.event.1)
+
+-- ---- a write that took nothing
+
+kept_by : (x y : Option (List ℕ)) → Appends x y [] → Keeps x y
+kept_by None y p = tt
+kept_by (Some xs) None p = absurd p
+kept_by (Some xs) (Some ys) p = p ∙ append-nil xs
+
+one_idle : (x : Event) (n : ℕ) → replicate n x ++ x ∷ [] ≡ replicate (suc n) x ++ []
+one_idle x zero = refl
+one_idle x (suc n) = ap (λ (l : List Event). x ∷ l) (one_idle x n)
+
+-- is one that failed
+pub took_none : {E F : Type 0} → (a b : Flow) (f : F) (octets : List ℕ) → WritesOnce {E = E} a b (Ok 0) octets → WritesOnce {E = F} a b (Err f) octets
+took_none a b f octets q = record {
+  bytes = kept_by a.contents b.contents q.bytes;
+  unread = q.unread;
+  event = (suc q.event.0, subst (Follows a.events b.events) (one_idle (written []) q.event.0) q.event.1);
+}

@@ -114,11 +114,11 @@ pub record Writing : Type 0 where
 -- What tells of connections on the writer of traces. What could not be written is let go, and then nothing is said.
 pub record AreTraced (visits : List Visit) (o : Writing) : Type 0 where
   pub counted : o.before ≤ o.after
-  pub traces : o.after ≡ o.before → Appends o.old o.new (traces visits)
+  pub written : o.after ≡ o.before → Appends o.old o.new (traces visits)
 
 -- Connections between two moments, and what the office promises of calls, which holds of all of them together.
 pub record AreServed {T H P : Type 0} (w : Parties T H P) (rules : List Rule) (patience : Option ℕ) (visits : List Visit) (before after : Moment T H) : Type 0 where
-  pub visits : AreVisits w rules patience visits before after
+  pub each : AreVisits w rules patience visits before after
   pub run : Run rules (standing_at w before) (joined visits) (standing_at w after)
   pub promised : ArePromised rules before.state (joined visits) after.state
 

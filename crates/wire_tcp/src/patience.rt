@@ -268,8 +268,13 @@ impl<P: Peer, C: Clock, L: Ledger> Stream for PatientStream<'_, P, C, L> {
 
     fn write_some(&mut self, octets: &[u8]) -> Result<usize, DeviceFailed> {
         match self.write_again(octets) {
-            Ok(count) if count > 0 => Ok(count),
-            _ => {
+            // a write that takes nothing has failed
+            Ok(0) => {
+                self.book.add(&mut self.writes, 1);
+                Err(DeviceFailed)
+            }
+            Ok(count) => Ok(count),
+            Err(_) => {
                 self.book.add(&mut self.writes, 1);
                 Err(DeviceFailed)
             }

@@ -29,17 +29,11 @@ use std::marker::Brand;
 use std::sync::ledger::{Blank, Ledger};
 use std::time::{Clock, Duration};
 
-/// Writes the line that reports the fault by which a connection ended, if one did. It takes no memory, so running out of memory on one
-/// connection does not end the office.
-fn tell_ended<W: Sink>(
-    writer: &mut W,
-    ended: Result<Ending, ServeFault>,
-) -> Result<(), DeviceFailed>
-    ensures { IsSent (W.contents writer.old) (W.contents writer.new) (ended_line (fault_of ended)) result (W.failures writer.old) (W.failures writer.new) }
+/// Writes the line that reports the fault by which a connection ended. It takes no memory, so running out of memory on one connection
+/// does not end the office.
+fn tell_fault<W: Sink>(writer: &mut W, fault: ServeFault) -> Result<(), DeviceFailed>
+    ensures { IsSent (W.contents writer.old) (W.contents writer.new) (connection_line fault) result (W.failures writer.old) (W.failures writer.new) }
 {
-    let Err(fault) = ended else {
-        return Ok(());
-    };
     let mut digits = Buffer::new();
     write_texts(
         writer,
@@ -49,6 +43,19 @@ fn tell_ended<W: Sink>(
             b"\n",
         ],
     )
+}
+
+/// Writes that line, if a fault ended the connection.
+fn tell_ended<W: Sink>(
+    writer: &mut W,
+    ended: Result<Ending, ServeFault>,
+) -> Result<(), DeviceFailed>
+    ensures { IsSent (W.contents writer.old) (W.contents writer.new) (ended_line (fault_of ended)) result (W.failures writer.old) (W.failures writer.new) }
+{
+    match ended {
+        Ok(_) => Ok(()),
+        Err(fault) => tell_fault(writer, fault),
+    }
 }
 
 /// How connections are served.

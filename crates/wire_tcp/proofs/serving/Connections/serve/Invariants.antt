@@ -11,7 +11,7 @@ abbrev pub invariant-accepted : goal.invariant-accepted
 invariant-accepted g l = record {
   honest : g.T.ZoneTable.is_honest l.table → g.T.ZoneTable.is_honest l.fn.table;
   served : g.T.ZoneTable.is_honest l.table → (s : State) → g.T.ZoneTable.holds l.fn.table s → (visits : List Visit) × (t : State) × (g.T.ZoneTable.holds l.table t × Fits l.responder t)
-      × AreVisits (record { holds = g.T.ZoneTable.holds; failures = g.T.ZoneTable.failures; fault = g.D.Diagnosis.fault l.self.diagnosis.now; gives = g.H.Listener.gives; ends = g.H.Listener.ends; flow = g.H.Listener.Peer.flow; limits = g.H.Listener.Peer.limits })
+      × AreVisits (record { holds = g.T.ZoneTable.holds; failures = g.T.ZoneTable.failures; fault = g.D.Diagnosis.fault l.self.diagnosis.now; gives = g.H.Listener.gives; ends = g.H.Listener.ends; flow = g.H.Peer.Peer.flow; limits = g.H.Peer.Peer.limits })
       l.self.policy.now (option_map as_nanos l.self.patience) visits (record { table = l.fn.table; state = s; listener = l.fn.listener }) (record { table = l.table; state = t; listener = l.listener })
       × (length visits ≡ l.counter) × Appends (g.W.Sink.contents l.fn.writer) (g.W.Sink.contents l.writer) (ended_lines (ends visits))
       × AreTraced visits (record { old = g.E.Sink.contents l.fn.trace; new = g.E.Sink.contents l.trace; before = g.E.FaultCount.failures l.fn.trace; after = g.E.FaultCount.failures l.trace });
