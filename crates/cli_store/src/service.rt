@@ -186,7 +186,14 @@ fn serve_opened<M: Surroundings, S: Alter + Drop, L: Ledger, W: Sink, E: Sink>(
 {
     let mut table = table;
     let connections = connections_of(around, &service, policy, &Remembered);
-    let done = serve_table(around, service.listen, &connections, &mut table, writer, trace);
+    let done = serve_table(
+        around,
+        service.listen,
+        &connections,
+        &mut table,
+        writer,
+        trace,
+    );
     (table.into_connection(), done)
 }
 
