@@ -200,10 +200,10 @@ WordsEnd a s i o t words left status =
 
 -- ---- the streams of the process
 
--- What there was to read before and after, what standard output and the trace held before and after, the words, and the status: so the words
--- end, with some failures of each stream and some connection, which has ended since.
-abbrev pub IsRun : {C : Type 0} → Around → StoresOf C → Option (List ℕ) → Option (List ℕ) → Option (List ℕ) → Option (List ℕ) → Option (List ℕ) → Option (List ℕ) → List (List ℕ) → ℕ → Type 0
-IsRun {C} a s left rest old new trace trace_after words status =
-    (conn : Option C) × (reads : ℕ) × (writes : ℕ) × (fails : ℕ)
+-- The connection that is handed back, what there was to read before and after, what standard output and the trace held before and after, the
+-- words, and the status: so the words end, with some failures of each stream.
+abbrev pub IsRun : {C : Type 0} → Around → StoresOf C → Option C → Option (List ℕ) → Option (List ℕ) → Option (List ℕ) → Option (List ℕ) → Option (List ℕ) → Option (List ℕ) → List (List ℕ) → ℕ → Type 0
+IsRun a s conn left rest old new trace trace_after words status =
+    (reads : ℕ) × (writes : ℕ) × (fails : ℕ)
     × WordsEnd a s (record { left = left; rest = rest; before = 0; after = reads }) (record { old = old; new = new; before = 0; after = writes })
     (record { old = trace; new = trace_after; before = 0; after = fails }) words conn status

@@ -1,5 +1,5 @@
 -- Serving callers from a store: where it listens, by which policy, and what is written.
-use Rattle.std.specs.Prelude.{◌≡◌, ◌⊎◌, ⊤, ℕ, ◌<◌, List, ◌∷◌, [], ◌++◌, codes, Option, None, Result, Ok, Err, unwrap_or}
+use Rattle.std.specs.Prelude.{◌≡◌, ◌⊎◌, ⊤, ℕ, ◌<◌, ◌≤◌, List, ◌∷◌, [], ◌++◌, codes, length, Option, None, Result, Ok, Err, unwrap_or}
 use Rattle.std.specs.Io.KnownBytes.{Appends}
 use Rattle.std.specs.Net.Grammar.{IsSocketText}
 use Rattle.std.specs.Net.Text.{socket_text}
@@ -10,7 +10,11 @@ use Rattle.grant_policy.specs.Documents.{document_of}
 use Rattle.grant_policy.specs.Reading.{policy_of}
 use Rattle.office_wire.specs.declared.serve_fault.ServeFault.{ServeFault}
 use Rattle.store_faults.specs.declared.store_fault.StoreFault.{StoreFault}
-use Rattle.wire_tcp.specs.Connections.{AreReported, AreServedFrom}
+use Rattle.office_model.specs.States.{State}
+use Rattle.office_wire.specs.Exchange.{Run}
+use Rattle.office_wire.specs.Promises.{ArePromised}
+use Rattle.office_wire.specs.Serving.{standing}
+use Rattle.wire_tcp.specs.Connections.{Visit, joined, AreReported, AreTraced}
 use Rattle.cli_core.specs.declared.commands.serve.Service.{Service}
 use Rattle.cli_core.specs.declared.refusal.Refusal.{Refusal}
 use Rattle.cli_core.specs.LineFaults.{◌>>=◌, limited, of_policies, of_store, Makes, GivesOf}
@@ -53,6 +57,22 @@ IsNoListener a listen (Refused refusal) = ⊥
 IsNoListener a listen ReadFailed = ((address : SocketAddr) → ¬ IsSocketText listen address) ⊎ IsUnheard a listen
 IsNoListener a listen NoMemory = Unit {0}
 
+-- So many connections were served: as many as were asked for, unless one could not be had or a line not be written.
+abbrev pub IsSoMany : ℕ → Result (Unit {0}) JobFault → ℕ → Type 0
+IsSoMany most (Ok u) n = n ≡ most
+IsSoMany most (Err fault) n = n ≤ most
+
+-- That the store has kept its word, the states that the table held before and holds after, its failures before and after, the rules, how many
+-- connections were asked for, the answer, what the writer of traces held before and after, and its failures before and after. Whatever
+-- connections come: where the store has kept its word, there are turns of all of them, one connection after the other, that take the table
+-- from how it stood to how it stands; each is answered by the policy and the state that it found, and what the office promises of calls holds
+-- of all of them together. The trace tells of those of these turns that were answered SERVFAIL.
+abbrev pub AreServedOn : Type 0 → (State → Type 0) → (State → Type 0) → ℕ → ℕ → List Rule → ℕ → Result (Unit {0}) JobFault → Option (List ℕ) → Option (List ℕ) → ℕ → ℕ → Type 0
+AreServedOn honest held holds failures failures_after rules most result old new fails fails_after =
+    honest → (s : State) → held s → (visits : List Visit) × (t : State) × holds t
+    × Run rules (standing s failures) (joined visits) (standing t failures_after) × ArePromised rules s (joined visits) t
+    × IsSoMany most result (length visits) × AreTraced visits (record { old = old; new = new; before = fails; after = fails_after })
+
 -- What is around, the word that says where to listen, how many connections are asked for, that nothing was done, that connections were served,
 -- what the writer held before and after, the answer, and the writer's failures before and after. The line of why there is no listener is
 -- written, and nothing is done; or the line of the address at which a listener was had that the word asks for, and then connections were served,
@@ -73,7 +93,7 @@ pub record IsServedBy {C : Type 0} (shows : C → Shown) (a : Around) (service :
   pub failures : ℕ
   pub failures_after : ℕ
   pub told : IsServiceTold a service.listen.now (most_of service) ((after ≡ now) × (trace_after ≡ trace) × (fails_after ≡ fails))
-      (AreServedFrom (HasCleanDisk (shows after)) (HoldsState (shows now)) (HoldsState (shows after)) failures failures_after rules (most_of service) result trace trace_after fails fails_after) old new result writes writes_after
+      (AreServedOn (HasCleanDisk (shows after)) (HoldsState (shows now)) (HoldsState (shows after)) failures failures_after rules (most_of service) result trace trace_after fails fails_after) old new result writes writes_after
 
 -- The stores of paths, the words, the rules, the connection that is handed back, and the rest as above: the store of the path is refused, and
 -- that is told; or it is opened, and connections are served from it by these rules.

@@ -9,7 +9,7 @@ use sqlite::{Alter, Connection, Error, ErrorCode, File, FileStore, Unknown};
 use std::fs;
 use store_sql::connect_at;
 
-/// What looks for the file of a store, and connects to it once: a connection uses it up. It ends connections too.
+/// What looks for the file of a store, and connects to it once: a connection uses it up.
 pub trait StoreFiles<S: Alter + Drop> {
     // It tells of a path whether there is a file.
     ghost finds: { Self → List ℕ → Bool → Type 0 };
@@ -30,9 +30,6 @@ pub trait StoreFiles<S: Alter + Drop> {
         ensures connected { IfOk result (connects self path.now) }
         ensures alone { IfOk result (λ conn. conn.in_transaction ≡ false) }
         ensures refused { IfErr result (refuses self path.now) };
-
-    /// Ends a connection, so that the file alone is the store. If that fails, all is in the file and its log still.
-    fn end(conn: Connection<S>) -> Result<(), StoreFault>;
 }
 
 /// The files of this machine. No contract can say what they hold.
@@ -55,10 +52,5 @@ impl StoreFiles<FileStore<File>> for MachineFiles<'_> {
 
     fn connect(self, path: &str) -> Result<Connection<FileStore<File>>, StoreFault> {
         Ok(connect_at(self.0, path, Unknown)?)
-    }
-
-    /// What the log has is copied into the database file, and both are closed.
-    fn end(conn: Connection<FileStore<File>>) -> Result<(), StoreFault> {
-        Ok(conn.close()?)
     }
 }

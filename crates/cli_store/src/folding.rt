@@ -1,22 +1,19 @@
 //! The log of a store at the end of a command.
 
-use crate::files::StoreFiles;
 use crate::surroundings::Surroundings;
 use office_model::TableFault;
 use office_store::StoreFault;
-use sqlite::{Alter, Connection};
+use sqlite::{Connection, File, FileStore};
 use wire_tcp::Cause;
 
-/// Ends the connection to a store, if there is one. If that fails it is said on standard error, and is no failure of the command.
-pub(crate) fn fold_log<M: Surroundings, S: Alter + Drop, P: StoreFiles<S> + Drop>(
-    around: &M,
-    conn: Option<Connection<S>>,
-) {
+/// Ends the connection to a store of this machine, if there is one: what its log has is copied into the database file, and both are closed.
+/// If that fails it is said on standard error, and is no failure of the command: all is in the two files still.
+pub fn fold_log<M: Surroundings>(around: &M, conn: Option<Connection<FileStore<File>>>) {
     let Some(conn) = conn else {
         return;
     };
-    if let Err(fault) = P::end(conn) {
-        complain(around, fault);
+    if let Err(fault) = conn.close() {
+        complain(around, fault.into());
     }
 }
 

@@ -60,7 +60,9 @@ fn tell_type<M: Surroundings>(around: &M, line: usize, name: &str) {
         Ok(_) => " in the generic form (RFC 3597)",
         Err(_) => "",
     };
-    if let Ok(words) = format!(in around.alloc(); "zoneoffice: line {line}: {name}{form} is not kept") {
+    if let Ok(words) = format!(in around.alloc();
+        "zoneoffice: line {line}: {name}{form} is not kept"
+    ) {
         around.say(words.as_str());
     }
 }

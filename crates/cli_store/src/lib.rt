@@ -28,6 +28,7 @@ pub use cli_core::{JobFault, LineFault, NO_MEMORY_LINE, read_path};
 pub use diagnosis::Remembered;
 pub use dns_master::DeviceFailed;
 pub use files::{MachineFiles, StoreFiles};
+pub use folding::fold_log;
 pub use list_laws::{all_changes_are_asked, asked_is_printed, each_receipt_counts_once};
 pub use listening::{CountedListener, heard, listen_at, next_of};
 pub use migration::migrate;

@@ -1,13 +1,14 @@
 //! Listeners of what is around the program.
 
-ghost use Rattle.std.specs.Prelude.{◌≡◌, ◌<◌};
+ghost use Rattle.std.specs.Prelude.{◌≡◌, ◌<◌, ⊤};
 
 use crate::surroundings::Surroundings;
 use dns_master::DeviceFailed;
+use office_wire::{Ending, ServeFault};
 use std::io;
 use std::net::{SocketAddr, TcpListener, TcpStream};
 use std::sync::ledger::{Blank, Book, Ledger, Share};
-use wire_tcp::Listener;
+use wire_tcp::{Listener, linger};
 
 /// A listener in what is around the program.
 #[derive(Drop)]
@@ -40,14 +41,28 @@ impl<'a, M, L: Ledger> CountedListener<'a, M, L> {
 }
 
 impl<M: Surroundings, L: Ledger> Listener for CountedListener<'_, M, L> {
+    type Peer = TcpStream;
+
     ghost taken = { λ l. l.taken.total };
 
     ghost cut = { λ l. (M.around l.around.now).cut l.listener.now };
 
+    ghost gives = { λ _ _ _. ⊤ };
+
+    ghost ends = { λ _ _ _. ⊤ };
+
     fn accept(&mut self) -> Result<TcpStream, DeviceFailed> {
         let stream = self.around.accept(self.listener)?;
         self.taken.add(&mut self.share, 1);
+        // a short response goes out at once
+        let _ = stream.set_nodelay(true);
         Ok(stream)
+    }
+
+    fn end(&mut self, stream: TcpStream, ended: Result<Ending, ServeFault>) {
+        if ended.is_ok() {
+            linger(&stream, self.around.clock());
+        }
     }
 }
 

@@ -198,7 +198,10 @@ fn plan<M: Surroundings, R: Source, W: Sink>(
         (exit_status result) }
 {
     let mut policy = NamedFile { around, path };
-    ended(around, do_plan(around.alloc(), caller, &mut policy, input, output))
+    ended(
+        around,
+        do_plan(around.alloc(), caller, &mut policy, input, output),
+    )
 }
 
 /// Does a job that needs no store, with standard input and output. The status is 0 if it went through, and a check found nothing; else
@@ -347,11 +350,7 @@ fn told<W: Sink>(output: &mut W, text: &str) -> ExitCode
 
 /// Tells why words are no job: the help that they ask for is written to standard output, with status 0 if that went through and else 1;
 /// what is wrong with them is said on standard error, with status 2.
-fn tell_fault<M: Surroundings, W: Sink>(
-    around: &M,
-    fault: WordsFault,
-    output: &mut W,
-) -> ExitCode
+fn tell_fault<M: Surroundings, W: Sink>(around: &M, fault: WordsFault, output: &mut W) -> ExitCode
     ensures { EndsFault fault
         (record { old = W.contents output.old; new = W.contents output.new; before = W.failures output.old; after = W.failures output.new })
         (exit_status result) }

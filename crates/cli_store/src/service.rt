@@ -6,8 +6,8 @@ ghost use Rattle.office_wire.specs.declared.serve_fault.ServeFault.{ServeFault a
 ghost use Rattle.sqlite.specs.Held.{state};
 ghost use Rattle.cli_core.specs.LineFaults.{GivesOf};
 ghost use Rattle.cli_store.specs.Stores.{stores_of};
-ghost use Rattle.wire_tcp.specs.Connections.{AreReported, AreServedFrom};
-ghost use Rattle.cli_store.specs.Serve.{policy_read, most_of, listening_line, IsHeard, IsNoListener, IsServiceTold, IsServedBy, BeginsBy, Serves};
+ghost use Rattle.wire_tcp.specs.Connections.{AreReported};
+ghost use Rattle.cli_store.specs.Serve.{policy_read, most_of, listening_line, AreServedOn, IsHeard, IsNoListener, IsServiceTold, IsServedBy, BeginsBy, Serves};
 
 use crate::diagnosis::Remembered;
 use crate::files::StoreFiles;
@@ -24,7 +24,7 @@ use std::alloc::{AllocError, Global};
 use std::marker::Brand;
 use std::net::{SocketAddr, TcpListener};
 use std::sync::ledger::{Blank, Ledger};
-use wire_tcp::{Connections, Diagnosis, longest_of, patience_of, serve_connections};
+use wire_tcp::{Connections, Diagnosis, longest_of, patience_of};
 
 /// The policy of a path.
 fn policy_of<M: Surroundings>(around: &M, alloc: Global, path: &str) -> Result<Policy, LineFault>
@@ -100,76 +100,75 @@ pub fn listening_at<M: Surroundings>(
     Ok((listener, text))
 }
 
-/// Serves connections of a listener from a table, so many as the words say.
-fn serve_listening<M: Surroundings, L: Ledger, T: ZoneTable, D: Diagnosis<T>, W: Sink, E: Sink>(
-    around: &M,
-    listener: &TcpListener,
-    blank: Blank,
-    service: Service<'_>,
-    policy: &Policy,
-    table: &mut T,
-    diagnosis: &D,
-    writer: &mut W,
-    trace: &mut E,
-) -> Result<(), JobFault>
-    requires name { blank.name ≡ L.name }
-    requires parts { blank.parts ≡ L.parts }
-    requires some { 0 < blank.parts }
-    ensures served { AreServedFrom (T.is_honest table.new) (T.holds table.old) (T.holds table.new) (T.failures table.old)
-        (T.failures table.new) policy.now (most_of service.entry) result (E.contents trace.old) (E.contents trace.new)
-        (E.failures trace.old) (E.failures trace.new) }
-    ensures honest { T.is_honest table.new → T.is_honest table.old }
-    ensures written { (ends : List (Option FaultOf))
-        × AreReported ((M.around around.now).cut listener.now) (most_of service.entry) ends (W.contents writer.old) (W.contents writer.new) result
-        (W.failures writer.old) (W.failures writer.new) }
+/// How connections are served by a policy, as the words say.
+fn connections_of<'a, M: Surroundings, D>(
+    around: &'a M,
+    service: &Service<'_>,
+    policy: &'a Policy,
+    diagnosis: &'a D,
+) -> Connections<'a, M::Clock, D>
+    ensures policy { result.policy.now ≡ policy.now }
+    ensures most { result.most ≡ most_of service.now }
 {
-    let mut listener: CountedListener<'_, M, L> = CountedListener::new(around, listener, blank);
-    let connections = Connections {
+    Connections {
+        alloc: around.alloc(),
+        policy,
+        most: service.connections.unwrap_or(u64::MAX),
         clock: around.clock(),
         patience: patience_of(service.patience),
         longest: longest_of(service.longest),
         diagnosis,
-    };
-    let most = service.connections.unwrap_or(u64::MAX);
-    serve_connections(
-        around.alloc(),
-        &connections,
-        &mut listener,
-        table,
-        policy,
-        most,
-        writer,
-        trace,
-    )
+    }
+}
+
+/// Serves connections of a listener from a table.
+fn serve_listening<M: Surroundings, L: Ledger, T: ZoneTable, D: Diagnosis<T>, W: Sink, E: Sink>(
+    listening: (&M, &TcpListener, Blank),
+    connections: &Connections<'_, M::Clock, D>,
+    table: &mut T,
+    writer: &mut W,
+    trace: &mut E,
+) -> Result<(), JobFault>
+    requires name { listening.2.name ≡ L.name }
+    requires parts { listening.2.parts ≡ L.parts }
+    requires some { 0 < listening.2.parts }
+    ensures served { AreServedOn (T.is_honest table.new) (T.holds table.old) (T.holds table.new) (T.failures table.old)
+        (T.failures table.new) connections.now.policy.now connections.now.most result (E.contents trace.old) (E.contents trace.new)
+        (E.failures trace.old) (E.failures trace.new) }
+    ensures honest { T.is_honest table.new → T.is_honest table.old }
+    ensures written { (ends : List (Option FaultOf))
+        × AreReported ((M.around listening.entry.0.now).cut listening.entry.1.now) connections.now.most ends (W.contents writer.old) (W.contents writer.new) result
+        (W.failures writer.old) (W.failures writer.new) }
+{
+    let (around, listener, blank) = listening;
+    let mut listener: CountedListener<'_, M, L> = CountedListener::new(around, listener, blank);
+    connections.serve(&mut listener, table, writer, trace)
 }
 
 /// Serves connections from a table: it listens, tells where, and serves as many as the words say.
 fn serve_table<M: Surroundings, T: ZoneTable, D: Diagnosis<T>, W: Sink, E: Sink>(
     around: &M,
-    service: Service<'_>,
-    policy: &Policy,
+    listen: &str,
+    connections: &Connections<'_, M::Clock, D>,
     table: &mut T,
-    diagnosis: &D,
     writer: &mut W,
     trace: &mut E,
 ) -> Result<(), JobFault>
-    ensures told { IsServiceTold (M.around around.now) service.entry.listen.now (most_of service.entry)
+    ensures told { IsServiceTold (M.around around.now) listen.now connections.now.most
         ((table.new ≡ table.old) × (E.contents trace.new ≡ E.contents trace.old) × (E.failures trace.new ≡ E.failures trace.old))
-        (AreServedFrom (T.is_honest table.new) (T.holds table.old) (T.holds table.new) (T.failures table.old)
-        (T.failures table.new) policy.now (most_of service.entry) result (E.contents trace.old) (E.contents trace.new)
+        (AreServedOn (T.is_honest table.new) (T.holds table.old) (T.holds table.new) (T.failures table.old)
+        (T.failures table.new) connections.now.policy.now connections.now.most result (E.contents trace.old) (E.contents trace.new)
         (E.failures trace.old) (E.failures trace.new))
         (W.contents writer.old) (W.contents writer.new) result (W.failures writer.old) (W.failures writer.new) }
     ensures honest { T.is_honest table.new → T.is_honest table.old }
 {
-    let (listener, listening) = match listening_at(around, service.listen) {
+    let (listener, text) = match listening_at(around, listen) {
         Ok(listening) => listening,
         Err(fault) => return Err(write_refusal(around.alloc(), writer, fault)),
     };
-    write_text(writer, listening.as_bytes())?;
-    let blank = Blank::new(1);
-    serve_listening::<M, Brand, T, D, W, E>(
-        around, &listener, blank, service, policy, table, diagnosis, writer, trace,
-    )
+    write_text(writer, text.as_bytes())?;
+    let listening = (around, &listener, Blank::new(1));
+    serve_listening::<M, Brand, T, D, W, E>(listening, connections, table, writer, trace)
 }
 
 /// Serves connections from the table of a store, and hands its connection back.
@@ -186,12 +185,12 @@ fn serve_opened<M: Surroundings, S: Alter + Drop, L: Ledger, W: Sink, E: Sink>(
         (E.failures trace.old) (E.failures trace.new) }
 {
     let mut table = table;
+    let connections = connections_of(around, &service, policy, &Remembered);
     let done = serve_table(
         around,
-        service,
-        policy,
+        service.listen,
+        &connections,
         &mut table,
-        &Remembered,
         writer,
         trace,
     );
@@ -244,7 +243,7 @@ pub fn serve<M: Surroundings, S: Alter + Drop, P: StoreFiles<S> + Drop, W: Sink,
     trace: &mut E,
 ) -> (Option<Connection<S>>, Result<(), JobFault>)
     // The line of the first refusal is written, of the policy or of the store of its path; or connections were served from that store by
-    // that policy, as `serve_connections` says, which is what the store is left with, and their lines are written.
+    // that policy, as `Connections::serve` says, which is what the store is left with, and their lines are written.
     ensures { Serves (M.around around.now) (stores_of (state S.Store) (P.finds files) (P.refuses files) (P.connects files)) service.entry result.0
         (W.contents writer.old) (W.contents writer.new) result.1 (W.failures writer.old) (W.failures writer.new) (E.contents trace.old)
         (E.contents trace.new) (E.failures trace.old) (E.failures trace.new) }

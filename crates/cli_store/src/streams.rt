@@ -7,14 +7,13 @@ ghost use Rattle.cli_store.specs.Stores.{stores_of};
 ghost use Rattle.cli_store.specs.Program.{IsRun};
 
 use crate::files::StoreFiles;
-use crate::folding::fold_log;
 use crate::hints::tell_hints;
 use crate::kept_files::KeptFiles;
 use crate::kept_input::KeptInput;
 use crate::program::do_words;
 use crate::surroundings::Surroundings;
 use dns_master::Counted;
-use sqlite::Alter;
+use sqlite::{Alter, Connection};
 use std::io::{Read, Write};
 use std::marker::Brand;
 use std::process::ExitCode;
@@ -31,8 +30,10 @@ pub struct Streams<I, O, E> {
     pub trace: E,
 }
 
-/// Does what words ask for with streams, whose failures are counted from none on, ends the connection to the store that it reached, and hands
-/// the streams back.
+/// What is left once words have ended: the connection to the store that they reached, if they reached one, the streams, and the exit status.
+type Left<S, I, O, E> = (Option<Connection<S>>, Streams<I, O, E>, ExitCode);
+
+/// Does what words ask for with streams, whose failures are counted from none on.
 fn run_counted<
     M: Surroundings,
     S: Alter + Drop,
@@ -51,7 +52,7 @@ fn run_counted<
     reads: Blank,
     writes: Blank,
     traces: Blank,
-) -> (Streams<I, O, E>, ExitCode)
+) -> Left<S, I, O, E>
     requires reads_name { reads.name ≡ A.name }
     requires reads_parts { reads.parts ≡ A.parts }
     requires reads_some { 0 < reads.parts }
@@ -61,9 +62,9 @@ fn run_counted<
     requires traces_name { traces.name ≡ C.name }
     requires traces_parts { traces.parts ≡ C.parts }
     requires traces_some { 0 < traces.parts }
-    ensures { IsRun (M.around around.now) (stores_of (state S.Store) (P.finds files) (P.refuses files) (P.connects files)) (I.remaining streams.input)
-        (I.remaining result.0.input) (O.contents streams.output) (O.contents result.0.output) (E.contents streams.trace) (E.contents result.0.trace)
-        (map (λ s. s.now) words.now) (exit_status result.1) }
+    ensures { IsRun (M.around around.now) (stores_of (state S.Store) (P.finds files) (P.refuses files) (P.connects files)) result.0
+        (I.remaining streams.input) (I.remaining result.1.input) (O.contents streams.output) (O.contents result.1.output)
+        (E.contents streams.trace) (E.contents result.1.trace) (map (λ s. s.now) words.now) (exit_status result.2) }
 {
     let Streams {
         input,
@@ -74,17 +75,16 @@ fn run_counted<
     let mut output: Counted<O, B> = Counted::new(output, writes);
     let mut trace: Counted<E, C> = Counted::new(trace, traces);
     let (conn, status) = do_words(around, files, words, &mut input, &mut output, &mut trace);
-    fold_log::<M, S, P>(around, conn);
     let streams = Streams {
         input: input.into_inner(),
         output: output.into_inner(),
         trace: trace.into_inner(),
     };
-    (streams, status)
+    (conn, streams, status)
 }
 
-/// Does what words ask for with streams of std, ends the connection to the store that it reached, says what else is known of a refused master
-/// file, and hands the streams back.
+/// Does what words ask for with streams of std, says what else is known of a refused master file, and hands back the connection to the store
+/// that it reached, if it reached one, and the streams.
 pub fn run_words<
     M: Surroundings,
     S: Alter + Drop,
@@ -92,16 +92,11 @@ pub fn run_words<
     I: Read + Drop,
     O: Write + Drop,
     E: Write + Drop,
->(
-    around: &M,
-    files: P,
-    words: &[&str],
-    streams: Streams<I, O, E>,
-) -> (Streams<I, O, E>, ExitCode)
+>(around: &M, files: P, words: &[&str], streams: Streams<I, O, E>) -> Left<S, I, O, E>
     // It ends as `do_words` does, with these words, each stream in its own place.
-    ensures { IsRun (M.around around.now) (stores_of (state S.Store) (P.finds files) (P.refuses files) (P.connects files)) (I.remaining streams.input)
-        (I.remaining result.0.input) (O.contents streams.output) (O.contents result.0.output) (E.contents streams.trace) (E.contents result.0.trace)
-        (map (λ s. s.now) words.now) (exit_status result.1) }
+    ensures { IsRun (M.around around.now) (stores_of (state S.Store) (P.finds files) (P.refuses files) (P.connects files)) result.0
+        (I.remaining streams.input) (I.remaining result.1.input) (O.contents streams.output) (O.contents result.1.output)
+        (E.contents streams.trace) (E.contents result.1.trace) (map (λ s. s.now) words.now) (exit_status result.2) }
 {
     let Streams {
         input,
@@ -115,7 +110,7 @@ pub fn run_words<
     };
     let kept = KeptFiles::new(around.alloc(), around);
     let (reads, writes, traces) = (Blank::new(1), Blank::new(1), Blank::new(1));
-    let (streams, status) = run_counted::<_, S, P, _, _, _, Brand, Brand, Brand>(
+    let (conn, streams, status) = run_counted::<_, S, P, _, _, _, Brand, Brand, Brand>(
         &kept, files, words, streams, reads, writes, traces,
     );
     let Streams {
@@ -130,5 +125,5 @@ pub fn run_words<
         output,
         trace,
     };
-    (streams, status)
+    (conn, streams, status)
 }

@@ -6,7 +6,7 @@ use Rattle.std.proofs.KnownBytes.{Appends-trans}
 use Rattle.httparse.specs.Grammar.{print_request}
 use Rattle.dns_master.specs.Written.{IsProperPrefix}
 use Rattle.grant_policy.specs.declared.rule.Rule.{Rule}
-use Rattle.office_wire.specs.declared.exchange.Progress.TheVariants.{Next}
+use Rattle.office_wire.specs.declared.exchange.Progress.TheVariants.{Waiting, Next}
 use Rattle.office_wire.specs.Exchange.{Turn, octets_of, turn_text, octets, texts, IsOpenTurn, Standing, Run, Exchange, Closes, whole, bad_length, bad_head, Says, next, closing}
 use Rattle.office_wire.specs.Serving.{Mark, Leads, IsProgress, IsCurrent, IsClosed, IsBroken}
 use Rattle.office_wire.specs.Order.{Moment, Writes}
@@ -81,6 +81,11 @@ module _ (rules : List Rule) (c : Mark) where
   -- ---- one turn of the loop
 
   module _ (d e : Mark) (stream rest : List ℕ) (before mid after : Moment) (asked asked_mid : ℕ) (p : IsCurrent rules c stream rest before mid asked asked_mid d) where
+    -- nothing more is answered
+    pub none_next : (n : ℕ) (pending left out : List ℕ) → left ≡ rest → IsProgress rules d pending (Waiting n) out e → IsCurrent rules c stream left before mid asked asked_mid e
+    none_next n pending left out is q =
+        subst (λ (m : Mark). IsCurrent rules c stream left before mid asked asked_mid m) (sym q) (subst (λ (l : List ℕ). IsCurrent rules c stream l before mid asked asked_mid d) (sym is) p)
+
     -- one more is answered, and the deadline asked
     pub next_served : (n asked_now : ℕ) (pending left out text : List ℕ) → pending ≡ rest → left ≡ drop n rest → text ≡ out → IsProgress rules d pending (Next n) out e
         → Writes mid after text → asked_now ≡ asked_mid + 1 → IsCurrent rules c stream left before after asked asked_now e

@@ -1,5 +1,5 @@
 -- What happens on a stream while its requests are answered in turn.
-use Rattle.std.proofs.Common.{◌≡◌, ◌<◌, ℕ, List, [], ◌∷◌, ◌++◌, length, take, drop, map, Option, Some, None, refl, sym, ap, subst, ◌∙◌, arith, append_assoc, append-nil, take-append-drop}
+use Rattle.std.proofs.Common.{◌≡◌, ◌<◌, ℕ, zero, suc, List, [], ◌∷◌, ◌++◌, length, take, drop, map, replicate, Option, Some, None, refl, sym, ap, subst, ◌∙◌, arith, append_assoc, append-nil, take-append-drop}
 use Rattle.std.specs.Io.KnownBytes.{Appends, Keeps}
 use Rattle.std.proofs.KnownBytes.{Appends-nil, Appends-trans, Appends-kept}
 use Rattle.dns_master.specs.Written.{IsProperPrefix}
@@ -25,15 +25,15 @@ abbrev pub IsInTurn : List Turn → List ℕ → List ℕ → Option (List Event
 IsInTurn turns received sent before now =
     (events : List Event) × Follows before now events × ReadInTurn turns [] [] events × (all_read events ≡ received) × (all_written events ≡ sent)
 
-follows_none : (a : Option (List Event)) → Follows a a []
+pub follows_none : {X : Type 0} → (a : Option (List X)) → Follows a a []
 follows_none None = tt
-follows_none (Some es) = ap (λ (l : List Event). let o : Option (List Event) = Some l in o) (sym (append-nil es))
+follows_none {X} (Some es) = ap (λ (l : List X). let o : Option (List X) = Some l in o) (sym (append-nil es))
 
-follows_join : (a b c : Option (List Event)) (es fs : List Event) → Follows a b es → Follows b c fs → Follows a c (es ++ fs)
+pub follows_join : {X : Type 0} → (a b c : Option (List X)) (es fs : List X) → Follows a b es → Follows b c fs → Follows a c (es ++ fs)
 follows_join None b c es fs p q = tt
-follows_join (Some before) b c es fs p q =
-    let r : c ≡ Some ((before ++ es) ++ fs) = subst (λ (o : Option (List Event)). Follows o c fs) p q in
-    r ∙ ap (λ (l : List Event). let o : Option (List Event) = Some l in o) (append_assoc before es fs)
+follows_join {X} (Some before) b c es fs p q =
+    let r : c ≡ Some ((before ++ es) ++ fs) = subst (λ (o : Option (List X)). Follows o c fs) p q in
+    r ∙ ap (λ (l : List X). let o : Option (List X) = Some l in o) (append_assoc before es fs)
 
 read_join : (es fs : List Event) → all_read (es ++ fs) ≡ all_read es ++ all_read fs
 read_join [] fs = refl
@@ -83,19 +83,52 @@ in_turn_join turns received sent (written octets ∷ es) fs p q =
 pub nothing_yet : (a : Option (List Event)) → IsInTurn [] [] [] a a
 nothing_yet a = ([], follows_none a, tt, refl, refl)
 
--- a read, where all whole requests are answered
-pub read_next : (turns : List Turn) (received sent rest more : List ℕ) (a b c : Option (List Event)) → Exchange received turns rest → Waits rest → sent ≡ texts turns
-    → IsInTurn turns received sent a b → Follows b c (read more ∷ []) → IsInTurn turns (received ++ more) sent a c
-read_next turns received sent rest more a b c exchanged waits said p q =
-    let es = p.0 in
-    let up : AllAnswered turns (all_read es) (all_written es) =
-    (turns, [], rest, sym (append-nil turns), subst (λ (l : List ℕ). Exchange l turns rest) (sym p.3) exchanged, waits, p.4 ∙ said) in (
-      es ++ read more ∷ [],
-      follows_join a b c es (read more ∷ []) p.1 q,
-      in_turn_join turns [] [] es (read more ∷ []) p.2 (up, tt),
-      read_join es (read more ∷ []) ∙ ap (λ (l : List ℕ). all_read es ++ l) (append-nil more) ∙ ap (λ (l : List ℕ). l ++ more) p.3,
-      written_join es (read more ∷ []) ∙ append-nil (all_written es) ∙ p.4,
-    )
+-- so many reads that gave nothing, and then these events
+abbrev pub idle_reads : ℕ → List Event → List Event
+idle_reads idle es = replicate idle (read []) ++ es
+
+idle_read : (idle : ℕ) (es : List Event) → all_read (idle_reads idle es) ≡ all_read es
+idle_read zero es = refl
+idle_read (suc idle) es = idle_read idle es
+
+idle_written : (idle : ℕ) (es : List Event) → all_written (idle_reads idle es) ≡ all_written es
+idle_written zero es = refl
+idle_written (suc idle) es = idle_written idle es
+
+idle_in_turn : (turns : List Turn) (received sent : List ℕ) (es : List Event) (idle : ℕ) → AllAnswered turns received sent → ReadInTurn turns received sent es
+    → ReadInTurn turns received sent (idle_reads idle es)
+idle_in_turn turns received sent es zero up then = then
+idle_in_turn turns received sent es (suc idle) up then =
+    (up, subst (λ (l : List ℕ). ReadInTurn turns l sent (idle_reads idle es)) (sym (append-nil received)) (idle_in_turn turns received sent es idle up then))
+
+module _ (turns : List Turn) (received sent rest : List ℕ) (a b c : Option (List Event)) (exchanged : Exchange received turns rest) (waits : Waits rest) (said : sent ≡ texts turns)
+    (p : IsInTurn turns received sent a b) where
+  up_to_here : AllAnswered turns (all_read p.0) (all_written p.0)
+  up_to_here = (turns, [], rest, sym (append-nil turns), subst (λ (l : List ℕ). Exchange l turns rest) (sym p.3) exchanged, waits, p.4 ∙ said)
+
+  -- a read, where all whole requests are answered
+  pub read_next : (more : List ℕ) (idle : ℕ) → Follows b c (idle_reads idle (read more ∷ [])) → IsInTurn turns (received ++ more) sent a c
+  read_next more idle follows =
+      let es = p.0 in
+      let fs = idle_reads idle (read more ∷ []) in (
+        es ++ fs,
+        follows_join a b c es fs p.1 follows,
+        in_turn_join turns [] [] es fs p.2 (idle_in_turn turns (all_read es) (all_written es) (read more ∷ []) idle up_to_here (up_to_here, tt)),
+        read_join es fs ∙ ap (λ (l : List ℕ). all_read es ++ l) (idle_read idle (read more ∷ []) ∙ append-nil more) ∙ ap (λ (l : List ℕ). l ++ more) p.3,
+        written_join es fs ∙ ap (λ (l : List ℕ). all_written es ++ l) (idle_written idle (read more ∷ [])) ∙ append-nil (all_written es) ∙ p.4,
+      )
+
+  -- reads that gave nothing
+  pub read_none : (idle : ℕ) → Follows b c (idle_reads idle []) → IsInTurn turns received sent a c
+  read_none idle follows =
+      let es = p.0 in
+      let fs = idle_reads idle [] in (
+        es ++ fs,
+        follows_join a b c es fs p.1 follows,
+        in_turn_join turns [] [] es fs p.2 (idle_in_turn turns (all_read es) (all_written es) [] idle up_to_here tt),
+        read_join es fs ∙ ap (λ (l : List ℕ). all_read es ++ l) (idle_read idle []) ∙ append-nil (all_read es) ∙ p.3,
+        written_join es fs ∙ ap (λ (l : List ℕ). all_written es ++ l) (idle_written idle []) ∙ append-nil (all_written es) ∙ p.4,
+      )
 
 -- a text that is written, by more turns
 pub written_next : (turns later : List Turn) (received sent text : List ℕ) (a b c : Option (List Event)) → IsInTurn turns received sent a b → OnlyWrites text b c
@@ -137,9 +170,19 @@ pub Writes-trans : (a b c : Moment) (first second : List ℕ) → Writes a b fir
 Writes-trans a b c first second p q =
     (Appends-trans a.contents b.contents c.contents first second p.0 q.0, written_behind first second a.events b.events c.events p.1 q.1)
 
--- one piece was written
-one_written : (a b : Option (List Event)) (piece : List ℕ) → Follows a b (written piece ∷ []) → OnlyWrites piece a b
-one_written a b piece follows = (piece ∷ [], follows, append-nil piece)
+-- pieces were written, after writes that were cut short
+idle_pieces : (idle : ℕ) (pieces : List (List ℕ)) → replicate idle (written []) ++ map written pieces ≡ map written (replicate idle [] ++ pieces)
+idle_pieces zero pieces = refl
+idle_pieces (suc idle) pieces = ap (λ (l : List Event). written [] ∷ l) (idle_pieces idle pieces)
+
+idle_text : (idle : ℕ) (pieces : List (List ℕ)) → flat_map (λ (piece : List ℕ). piece) (replicate idle [] ++ pieces) ≡ flat_map (λ piece. piece) pieces
+idle_text zero pieces = refl
+idle_text (suc idle) pieces = idle_text idle pieces
+
+all_written_so : (a b : Option (List Event)) (pieces : List (List ℕ)) (text : List ℕ) (idle : ℕ) → flat_map (λ piece. piece) pieces ≡ text
+    → Follows a b (replicate idle (written []) ++ map written pieces) → OnlyWrites text a b
+all_written_so a b pieces text idle is follows =
+    (replicate idle [] ++ pieces, subst (Follows a b) (idle_pieces idle pieces) follows, idle_text idle pieces ∙ is)
 
 -- a prefix of the text was written, and this is left of it
 abbrev pub IsLeft : Moment → Moment → List ℕ → List ℕ → Type 0
@@ -148,22 +191,24 @@ IsLeft old new text rest = (part : List ℕ) × (text ≡ part ++ rest) × Write
 pub left_whole : (a : Moment) (text : List ℕ) → IsLeft a a text text
 left_whole a text = ([], refl, Writes-nil a)
 
-pub left_less : (a b c : Moment) (text rest : List ℕ) (n : ℕ) → IsLeft a b text rest → Appends b.contents c.contents (take n rest) → Follows b.events c.events (written (take n rest) ∷ [])
+pub left_less : (a b c : Moment) (text rest : List ℕ) (n : ℕ) → IsLeft a b text rest → Appends b.contents c.contents (take n rest)
+    → (idle : ℕ) × Follows b.events c.events (replicate idle (written []) ++ written (take n rest) ∷ [])
     → IsLeft a c text (drop n rest)
 left_less a b c text rest n left more follows = (
   left.0 ++ take n rest,
   left.1 ∙ ap (λ (xs : List ℕ). left.0 ++ xs) (sym (take-append-drop n rest)) ∙ sym (append_assoc left.0 (take n rest) (drop n rest)),
-  Writes-trans a b c left.0 (take n rest) left.2 (more, one_written b.events c.events (take n rest) follows),
+  Writes-trans a b c left.0 (take n rest) left.2 (more, all_written_so b.events c.events (take n rest ∷ []) (take n rest) follows.0 (append-nil (take n rest)) follows.1),
 )
 
 pub left_none : (a b : Moment) (text rest : List ℕ) → IsLeft a b text rest → length rest ≡ 0 → Writes a b text
 left_none a b text [] left none = subst (Writes a b) (sym (left.1 ∙ append-nil left.0)) left.2
 left_none a b text (x ∷ rest) left none = absurd (omega (arith, none))
 
-pub left_part : (a b c : Moment) (text rest : List ℕ) → IsLeft a b text rest → 0 < length rest → Keeps b.contents c.contents → Follows b.events c.events (written [] ∷ [])
+pub left_part : (a b c : Moment) (text rest : List ℕ) → IsLeft a b text rest → 0 < length rest → Keeps b.contents c.contents
+    → (idle : ℕ) × Follows b.events c.events (replicate idle (written []) ++ [])
     → (part : List ℕ) × IsProperPrefix part text × Writes a c part
 left_part a b c text rest left some kept follows =
-    let none = written_behind left.0 [] a.events b.events c.events left.2.1 (one_written b.events c.events [] follows) in (
+    let none = written_behind left.0 [] a.events b.events c.events left.2.1 (all_written_so b.events c.events [] [] follows.0 refl follows.1) in (
       left.0,
       record { tail = rest; is = left.1; some = some },
       (Appends-kept a.contents b.contents c.contents left.0 left.2.0 kept, subst (λ (l : List ℕ). OnlyWrites l a.events c.events) (append-nil left.0) none),

@@ -1,10 +1,11 @@
 -- What was read of a stream, and what was answered to it.
-use Rattle.std.proofs.Common.{◌≡◌, ◌<◌, ◌≤◌, ◌+◌, length-append, ℕ, true, false, length, List, [], ◌++◌, ◌∷◌, ◌∙◌, sym, ap, refl, subst, arith, append-nil, append_assoc, Option, IfSome, Ok, Err, ◌⊎◌, inl, inr}
+use Rattle.std.proofs.Common.{◌≡◌, ◌<◌, ◌≤◌, ◌+◌, length-append, ℕ, true, false, length, List, [], ◌++◌, ◌∷◌, ◌∙◌, sym, ap, refl, subst, arith, append-nil, append_assoc, Option, IfSome, Result, Ok, Err, ◌⊎◌, inl, inr}
 use Rattle.std.specs.List.{list_all}
 use Rattle.std.specs.Io.KnownBytes.{Appends, Consumes, Keeps, IsAtEnd}
 use Rattle.std.proofs.lemmas.List.{nil_from_length}
 use Rattle.httparse.specs.Grammar.{print_request}
 use Rattle.dns_master.specs.Written.{IsProperPrefix}
+use Rattle.dns_master.specs.declared.device.DeviceFailed.{DeviceFailed}
 use Rattle.grant_policy.specs.declared.rule.Rule.{Rule}
 use Rattle.office_wire.specs.declared.method.Method.{Method}
 use Rattle.office_wire.specs.declared.refusal.Refusal.TheVariants.{CutShort}
@@ -13,14 +14,14 @@ use Rattle.office_wire.specs.Texts.{text_of}
 use Rattle.office_wire.specs.Exchange.{Turn, texts, Exchange, Waits, nothing, IsMethodAt, Ends, closed, quiet, cut, is_line_end}
 use Rattle.office_wire.specs.declared.ending.Ending.TheVariants.{Answered, Overdue}
 use Rattle.office_wire.specs.declared.serve_fault.ServeFault.TheVariants.{WriteFailed}
-use Rattle.office_wire.specs.Serving.{Mark, Leads, AskedAfter, IsCurrent, IsClosed, IsBroken, IsAnswered, IsCut, IsRead, IsHalted}
+use Rattle.office_wire.specs.Serving.{Mark, Leads, AskedAfter, IsCurrent, IsClosed, IsBroken, IsAnswered, IsCut, IsRead, IsHalted, Finishes}
 use Rattle.office_wire.specs.Deadlines.{open_turns, CountsAsked}
 use Rattle.office_wire.proofs.DeadlineLemmas.{counts_open, counts_closed, counts_cut}
 use Rattle.std.proofs.KnownBytes.{Appends-nil, Appends-trans, Consumes-nil, Consumes-trans, Consumes-kept, Consumes-whole}
 use Rattle.office_wire.proofs.KnownLemmas.{on_stream}
 use Rattle.office_wire.proofs.TurnLemmas.{head_some}
-use Rattle.office_wire.specs.Order.{read, Moment, Writes, Follows, IsServedInTurn}
-use Rattle.office_wire.proofs.OrderLemmas.{IsInTurn, nothing_yet, read_next, written_next, in_turn}
+use Rattle.office_wire.specs.Order.{read, Moment, Writes, WritesAll, Follows, IsServedInTurn}
+use Rattle.office_wire.proofs.OrderLemmas.{IsInTurn, nothing_yet, idle_reads, read_next, read_none, written_next, in_turn}
 use Rattle.office_wire.proofs.JoinLemmas.{leads_join, three, texts_join, exchange_join, said_join, exchange_more, closes_more, says_more}
 
 too_long : (a b k : ℕ) → a ≡ 0 → a ≡ k + b → 0 < k → ⊥
@@ -39,6 +40,13 @@ waits_nil rest none = record {
   under_way = nothing none;
 }
 
+-- the last response of a stream that was cut short
+pub finish_so : (rest text : List ℕ) (m : Method) (result : Result (Unit {0}) DeviceFailed) (before now : Moment) → list_all is_line_end rest ≡ false → IsMethodAt rest m
+    → text ≡ text_of m (Refused CutShort) true → WritesAll text result before now → Finishes rest result before now
+finish_so rest text m (Ok done) before now loud at is wrote = (text, wrote, inr (loud, m, at, is))
+finish_so rest text m (Err failed) before now loud at is wrote =
+    (loud, m, at, wrote.0, subst (λ (l : List ℕ). IsProperPrefix wrote.0 l) is wrote.1, wrote.2)
+
 module _ (rules : List Rule) (c : Mark) (asked : ℕ) where
   -- turns that were run, and of which P holds
   abbrev pub Ran : Mark → (List Turn → Type 0) → Type 0
@@ -54,13 +62,16 @@ module _ (rules : List Rule) (c : Mark) (asked : ℕ) where
   went_far : (us vs : List Turn) (now later : ℕ) → AskedAfter us asked now → AskedAfter vs now later → AskedAfter (us ++ vs) asked later
   went_far us vs now later first second = omega (arith, first, second, length-append us vs)
 
+  pub sooner : (turns : List Turn) (now later : ℕ) → AskedAfter turns asked now → now < later → asked < later
+  sooner turns now later each more = omega (arith, each, more)
+
   pub first_read : (known : Option (List ℕ)) (rest : List ℕ) (a : Moment) → length rest ≡ 0 → IsAnsweredRead 0 known known rest a a asked c
   first_read known rest a none =
       ([], [], (refl, refl), record { octets_are = sym (nil_from_length rest none); are_open = tt }, Appends-nil a.contents, omega arith, Consumes-nil known, nothing_yet a.events, omega arith)
 
   -- a read gave octets
   pub went_read : (d : Mark) (least n : ℕ) (now : ℕ) (old new got : List ℕ) (known left left' : Option (List ℕ)) (before mid mid' : Moment) → Waits old → new ≡ old ++ got → length got ≡ n
-      → Consumes left left' got → Follows mid.events mid'.events (read got ∷ []) → mid'.contents ≡ mid.contents
+      → Consumes left left' got → (idle : ℕ) × Follows mid.events mid'.events (idle_reads idle (read got ∷ [])) → mid'.contents ≡ mid.contents
       → IsAnsweredRead least known left old before mid now d → IsAnsweredRead (least + n) known left' new before mid' now d
   went_read d least n now old new got known left left' before mid mid' waits is len more follows same p = (
     p.0,
@@ -70,13 +81,13 @@ module _ (rules : List Rule) (c : Mark) (asked : ℕ) where
     subst (λ (o : Option (List ℕ)). Appends before.contents o (texts p.0)) (sym same) p.4,
     (let whole = length-append p.1 got in omega (arith, p.5)),
     Consumes-trans known left left' p.1 got p.6 more,
-    read_next p.0 p.1 (texts p.0) old got before.events mid.events mid'.events p.3 waits refl p.7 follows,
+    read_next p.0 p.1 (texts p.0) old before.events mid.events mid'.events p.3 waits refl p.7 got follows.0 follows.1,
     p.8,
   )
 
   -- a read failed
   pub went_nowhere : (d : Mark) (least now : ℕ) (rest : List ℕ) (known left left' : Option (List ℕ)) (before mid mid' : Moment) → Waits rest → Keeps left left'
-      → Follows mid.events mid'.events (read [] ∷ []) → mid'.contents ≡ mid.contents
+      → (idle : ℕ) × Follows mid.events mid'.events (idle_reads idle []) → mid'.contents ≡ mid.contents
       → IsAnsweredRead least known left rest before mid now d → IsAnsweredRead least known left' rest before mid' now d
   went_nowhere d least now rest known left left' before mid mid' waits kept follows same p = (
     p.0,
@@ -86,7 +97,7 @@ module _ (rules : List Rule) (c : Mark) (asked : ℕ) where
     subst (λ (o : Option (List ℕ)). Appends before.contents o (texts p.0)) (sym same) p.4,
     p.5,
     Consumes-kept known left left' p.1 p.6 kept,
-    subst (λ (l : List ℕ). IsInTurn p.0 l (texts p.0) before.events mid'.events) (append-nil p.1) (read_next p.0 p.1 (texts p.0) rest [] before.events mid.events mid'.events p.3 waits refl p.7 follows),
+    read_none p.0 p.1 (texts p.0) rest before.events mid.events mid'.events p.3 waits refl p.7 follows.0 follows.1,
     p.8,
   )
 

@@ -14,3 +14,4 @@ pub mod Promises
 pub mod Order
 pub mod Serving
 pub mod Deadlines
+pub mod Responders

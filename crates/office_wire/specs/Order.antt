@@ -1,7 +1,7 @@
 -- What is read from a stream and written to it, in order.
-use Rattle.std.specs.Prelude.{◌≡◌, ℕ, List, [], ◌∷◌, ◌++◌, take, map, Option, Some, None, Result, Ok, Err, ⊤}
+use Rattle.std.specs.Prelude.{◌≡◌, ℕ, ◌+◌, List, [], ◌∷◌, ◌++◌, take, map, replicate, Option, Some, None, Result, Ok, Err, ⊤}
 use Rattle.std.specs.List.{flat_map}
-use Rattle.std.specs.Io.KnownBytes.{Appends}
+use Rattle.std.specs.Io.KnownBytes.{Appends, ReadConsumes, WriteAppends}
 use Rattle.dns_master.specs.Written.{IsProperPrefix}
 use Rattle.dns_master.specs.declared.device.DeviceFailed.{DeviceFailed}
 use Rattle.office_wire.specs.Exchange.{Turn, texts, Exchange, Waits}
@@ -13,19 +13,52 @@ pub data Event : Type 0 where
   written : List ℕ → Event
 
 -- a read with this result, into a buffer with these octets
-abbrev pub read_by : Result ℕ DeviceFailed → List ℕ → Event
+abbrev pub read_by : {E : Type 0} → Result ℕ E → List ℕ → Event
 read_by (Ok n) octets = read (take n octets)
 read_by (Err failed) octets = read []
 
 -- a write of these octets, with this result
-abbrev pub written_by : Result ℕ DeviceFailed → List ℕ → Event
+abbrev pub written_by : {E : Type 0} → Result ℕ E → List ℕ → Event
 written_by (Ok n) octets = written (take n octets)
 written_by (Err failed) octets = written []
 
 -- These events, and no others, came between before and now. It says nothing where the events are unknown.
-abbrev pub Follows : Option (List Event) → Option (List Event) → List Event → Type 0
+abbrev pub Follows : {X : Type 0} → Option (List X) → Option (List X) → List X → Type 0
 Follows None now events = ⊤
 Follows (Some before) now events = now ≡ Some (before ++ events)
+
+-- A stream at a moment: the octets that are still to come, those that were written, and the reads and writes so far in order, each where
+-- it is known.
+pub record Flow : Type 0 where
+  pub remaining : Option (List ℕ)
+  pub contents : Option (List ℕ)
+  pub events : Option (List Event)
+
+-- what a call with this result moved: nothing where it failed
+abbrev pub moved : {E : Type 0} → (List ℕ → Event) → Result ℕ E → List ℕ → List Event
+moved event (Ok n) octets = event (take n octets) ∷ []
+moved event (Err failed) octets = []
+
+-- A call with this result came, after so many that moved nothing: they were cut short and begun again, or one of them is the call that failed.
+abbrev pub FollowsOnce : {E : Type 0} → (List ℕ → Event) → Option (List Event) → Option (List Event) → Result ℕ E → List ℕ → Type 0
+FollowsOnce event before now result octets = (idle : ℕ) × Follows before now (replicate idle (event []) ++ moved event result octets)
+
+-- one read, with this result, into a buffer with these octets: nothing was written
+pub record ReadsOnce {E : Type 0} (before now : Flow) (result : Result ℕ E) (buffer : List ℕ) : Type 0 where
+  pub bytes : ReadConsumes before.remaining now.remaining result buffer
+  pub unwritten : now.contents ≡ before.contents
+  pub event : FollowsOnce read before.events now.events result buffer
+
+-- one write of these octets, with this result: nothing was read
+pub record WritesOnce {E : Type 0} (before now : Flow) (result : Result ℕ E) (octets : List ℕ) : Type 0 where
+  pub bytes : WriteAppends before.contents now.contents result octets
+  pub unread : now.remaining ≡ before.remaining
+  pub event : FollowsOnce written before.events now.events result octets
+
+-- how many calls have failed, before a call with this result and after it
+abbrev pub CountsOnce : {X E : Type 0} → Result X E → ℕ → ℕ → Type 0
+CountsOnce (Ok x) before now = now ≡ before
+CountsOnce (Err failed) before now = now ≡ before + 1
 
 -- All whole requests of what was received are answered: what was received is the requests of the first turns, and then a rest without
 -- a whole request; and what was sent is the responses of these turns, each of them whole.
@@ -56,8 +89,8 @@ pub record Moment : Type 0 where
   pub contents : Option (List ℕ)
   pub events : Option (List Event)
 
-abbrev pub moment : Option (List ℕ) → Option (List Event) → Moment
-moment contents events = record { contents = contents; events = events }
+abbrev pub moment : Flow → Moment
+moment flow = record { contents = flow.contents; events = flow.events }
 
 -- between two moments a text was written, and nothing was read
 abbrev pub Writes : Moment → Moment → List ℕ → Type 0

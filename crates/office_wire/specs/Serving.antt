@@ -25,7 +25,7 @@ use Rattle.office_wire.specs.Framing.{WaitsUpTo}
 use Rattle.office_wire.specs.declared.servfails.Servfails.{Servfails}
 use Rattle.office_wire.specs.Exchange.{Turn, names_nobody, octets_of, turn_text, texts, IsOpenTurn, Standing, Answers, Run, Exchange, Waits, IsMethodAt, Closes, Ends, Says, is_line_end}
 use Rattle.office_wire.specs.Servfails.{noted, servfails, servfail_in}
-use Rattle.office_wire.specs.Order.{Moment, Writes}
+use Rattle.office_wire.specs.Order.{Flow, Moment, Writes, IsServedInTurn}
 
 -- how a table stands
 abbrev pub standing : State → ℕ → Standing
@@ -71,6 +71,11 @@ abbrev pub IsEnded : List Turn → Result Ending ServeFault → Option (List ℕ
 IsEnded all (Ok ending.Answered) known left before after = IsDone all (Ok tt) known left before after
 IsEnded all (Ok ending.Overdue) known left before after = IsHalted all known left before after
 IsEnded all (Err fault) known left before after = IsDone all (Err fault) known left before after
+
+-- What serving one stream did: these are its turns, and so it ended. Each read came when all whole requests received by then were answered.
+pub record IsStreamServed (all : List Turn) (ended : Result Ending ServeFault) (before after : Flow) : Type 0 where
+  pub done : IsEnded all ended before.remaining after.remaining before.contents after.contents
+  pub in_turn : IsServedInTurn all before.events after.events
 
 -- How often the reader and the writer failed, by the result: neither at Ok, at StreamTooLong and at NoMemory; at ReadFailed the reader
 -- once and the writer not; at WriteFailed the writer once and the reader not. So a read or a write that failed is not tried again.

@@ -1,13 +1,13 @@
 //! Answering requests, one after the other.
 
-ghost use Rattle.std.specs.Prelude.{◌≡◌, ◌+◌, ◌||◌, length, IsUtf8, OnOk, OnErr};
+ghost use Rattle.std.specs.Prelude.{◌≡◌, ◌||◌, length, IsUtf8};
 ghost use Rattle.httparse.specs.Grammar.{RequestHead};
 ghost use Rattle.office_model.specs.States.{State};
 ghost use Rattle.office_core.specs.Bookmarks.{AreBookmarks};
 ghost use Rattle.office_wire.specs.Exchange.{Answers, names_nobody};
 ghost use Rattle.office_wire.specs.Framing.{IsAsked};
 ghost use Rattle.office_wire.specs.Requests.{call_of};
-ghost use Rattle.office_wire.specs.Order.{moment};
+ghost use Rattle.office_wire.specs.Order.{moment, CountsOnce};
 ghost use Rattle.office_wire.specs.Serving.{standing, mark, IsReplied, IsProgress, Stands, IsIdle, IsServed, CountsHalt};
 
 use crate::deadline::Deadline;
@@ -16,13 +16,13 @@ use crate::head::Heading;
 use crate::method::Method;
 use crate::refusal::Refusal;
 use crate::request::read_call;
-use crate::request_buffer::RequestBuffer;
 use crate::response::Response;
 use crate::response_buffer::ResponseBuffer;
 use crate::route::Routes;
 use crate::servfails::Servfails;
 use crate::stream::{Stream, write_all};
-use dns_master::{DeviceFailed, Sink, Source};
+use crate::workspace::Workspace;
+use dns_master::DeviceFailed;
 use grant_policy::Policy;
 use httparse::spans::HeaderSpan;
 use office_core::{Bookmarks, TableFault, ZoneTable, step_with_bookmarks};
@@ -48,12 +48,20 @@ pub(crate) enum Stage {
     Overdue,
 }
 
-/// What requests are answered by.
+/// What requests are answered by, the bookmarks of callers, and a note of the requests that were answered SERVFAIL.
 #[derive(Drop)]
 pub(crate) struct Service<'a> {
     pub(crate) alloc: Global,
     pub(crate) policy: &'a Policy,
-    pub(crate) routes: &'a Routes,
+    pub(crate) bookmarks: Bookmarks,
+    pub(crate) servfails: Servfails,
+}
+
+/// A whole request: what is kept of its head, and its body.
+#[derive(Clone, Copy)]
+struct Received<'a> {
+    heading: Heading<'a>,
+    body: &'a [u8],
 }
 
 /// Whether a response is the last: the head asks for that, or the response refuses a request that names no caller.
@@ -63,29 +71,30 @@ fn is_last(heading: &Heading<'_>, response: &Response) -> bool
     heading.closes || response.names_nobody()
 }
 
-impl<'a> Service<'a> {
+impl Service<'_> {
     /// What is answered to a request.
     fn respond<T: ZoneTable>(
-        &self,
+        &mut self,
+        routes: &Routes,
         table: &mut T,
-        bookmarks: &mut Bookmarks,
-        heading: &Heading<'_>,
-        body: &[u8],
+        received: &Received<'_>,
     ) -> Response
-        requires { IsUtf8 heading.now.target.now }
-        ensures answers { T.is_honest table.new → (s : State) → T.holds table.old s × AreBookmarks self.now.policy.now s bookmarks.old → (h : RequestHead)
-            → IsAsked heading.now h
-            → (t : State) × (T.holds table.new t × AreBookmarks self.now.policy.now t bookmarks.new)
-            × Answers self.now.policy.now (standing s (T.failures table.old)) (call_of h body.now) result (standing t (T.failures table.new)) }
+        requires { IsUtf8 received.now.heading.target.now }
+        ensures answers { T.is_honest table.new → (s : State) → T.holds table.old s × AreBookmarks self.old.policy.now s self.old.bookmarks
+            → (h : RequestHead) → IsAsked received.now.heading h
+            → (t : State) × (T.holds table.new t × AreBookmarks self.old.policy.now t self.new.bookmarks)
+            × Answers self.old.policy.now (standing s (T.failures table.old)) (call_of h received.now.body.now) result (standing t (T.failures table.new)) }
+        ensures policy { self.new.policy ≡ self.old.policy }
+        ensures noted { self.new.servfails ≡ self.old.servfails }
         ensures honest { T.is_honest table.new → T.is_honest table.old }
     {
-        match read_call(self.alloc, self.routes, heading, body) {
+        match read_call(self.alloc, routes, &received.heading, received.body) {
             Ok(call) => {
                 let reply = step_with_bookmarks(
                     self.alloc,
                     table,
                     self.policy,
-                    bookmarks,
+                    &mut self.bookmarks,
                     &call.caller,
                     &call.request,
                 );
@@ -98,51 +107,45 @@ impl<'a> Service<'a> {
     /// Puts what is answered to a request, and answers whether it is the last response. Where there is no memory for a long response
     /// it is SERVFAIL, which is noted.
     fn reply<T: ZoneTable>(
-        &self,
+        &mut self,
+        routes: &Routes,
         table: &mut T,
-        bookmarks: &mut Bookmarks,
-        heading: &Heading<'_>,
-        body: &[u8],
+        received: &Received<'_>,
         out: &mut ResponseBuffer,
-        servfails: &mut Servfails,
     ) -> bool
-        requires { IsUtf8 heading.now.target.now }
-        ensures answered { T.is_honest table.new → (s : State) → T.holds table.old s × AreBookmarks self.now.policy.now s bookmarks.old → (h : RequestHead)
-            → IsAsked heading.now h
-            → (t : State) × (T.holds table.new t × AreBookmarks self.now.policy.now t bookmarks.new)
-            × IsReplied self.now.policy.now (mark s (T.failures table.old) servfails.old)
-            (call_of h body.now) heading.now.method heading.now.closes result out.new (mark t (T.failures table.new) servfails.new) }
+        requires { IsUtf8 received.now.heading.target.now }
+        ensures answered { T.is_honest table.new → (s : State) → T.holds table.old s × AreBookmarks self.old.policy.now s self.old.bookmarks
+            → (h : RequestHead) → IsAsked received.now.heading h
+            → (t : State) × (T.holds table.new t × AreBookmarks self.old.policy.now t self.new.bookmarks)
+            × IsReplied self.old.policy.now (mark s (T.failures table.old) self.old.servfails) (call_of h received.now.body.now)
+            received.now.heading.method received.now.heading.closes result out.new (mark t (T.failures table.new) self.new.servfails) }
+        ensures policy { self.new.policy ≡ self.old.policy }
         ensures honest { T.is_honest table.new → T.is_honest table.old }
     {
-        let response = self.respond(table, bookmarks, heading, body);
-        let last = is_last(heading, &response);
-        if out.put(heading.method, &response, last) {
-            servfails.note(&response);
+        let response = self.respond(routes, table, received);
+        let last = is_last(&received.heading, &response);
+        if out.put(received.heading.method, &response, last) {
+            self.servfails.note(&response);
             return last;
         }
-        servfails.add(TableFault::NoMemory);
+        self.servfails.add(TableFault::NoMemory);
         last
     }
 
     /// Answers the request that the octets begin with, where it is complete.
-    fn answer<T: ZoneTable>(
-        &self,
-        pending: &[u8],
-        spans: &mut [HeaderSpan],
-        table: &mut T,
-        bookmarks: &mut Bookmarks,
-        out: &mut ResponseBuffer,
-        servfails: &mut Servfails,
-    ) -> Progress
-        requires { length spans.old ≡ 5462 }
-        ensures stands { Stands pending.now result }
-        ensures answered { T.is_honest table.new → (s : State) → T.holds table.old s × AreBookmarks self.now.policy.now s bookmarks.old
-            → (t : State) × (T.holds table.new t × AreBookmarks self.now.policy.now t bookmarks.new)
-            × IsProgress self.now.policy.now (mark s (T.failures table.old) servfails.old) pending.now result out.new
-            (mark t (T.failures table.new) servfails.new) }
+    fn answer<T: ZoneTable>(&mut self, workspace: &mut Workspace, table: &mut T) -> Progress
+        ensures stands { Stands workspace.old.requests result }
+        ensures answered { T.is_honest table.new → (s : State) → T.holds table.old s × AreBookmarks self.old.policy.now s self.old.bookmarks
+            → (t : State) × (T.holds table.new t × AreBookmarks self.old.policy.now t self.new.bookmarks)
+            × IsProgress self.old.policy.now (mark s (T.failures table.old) self.old.servfails) workspace.old.requests result
+            workspace.new.out (mark t (T.failures table.new) self.new.servfails) }
+        ensures same { workspace.new.requests ≡ workspace.old.requests }
+        ensures policy { self.new.policy ≡ self.old.policy }
         ensures honest { T.is_honest table.new → T.is_honest table.old }
     {
-        match framing_of(pending, spans) {
+        let pending = workspace.requests.as_slice();
+        let out = &mut workspace.out;
+        match framing_of(pending, &mut workspace.spans) {
             Framing::Waiting(n) => Progress::Waiting(n),
             Framing::Bad => {
                 out.put_short(Method::Other, &Response::Refused(Refusal::BadHead), true);
@@ -155,7 +158,8 @@ impl<'a> Service<'a> {
             Framing::Ready(heading, n) => {
                 let end = heading.len + n;
                 let body = &pending[heading.len..end];
-                let last = self.reply(table, bookmarks, &heading, body, out, servfails);
+                let received = Received { heading, body };
+                let last = self.reply(&workspace.routes, table, &received, out);
                 if last {
                     Progress::Last
                 } else {
@@ -166,51 +170,45 @@ impl<'a> Service<'a> {
     }
 
     /// Answers each request that has come whole, and asks the deadline after each response that is not the last.
-    pub(crate) fn answer_all<S: Stream<R, W>, R: Source, W: Sink, T: ZoneTable, D: Deadline>(
-        &self,
-        buffer: &mut RequestBuffer,
-        spans: &mut [HeaderSpan],
-        reader: &mut R,
-        writer: &mut W,
+    pub(crate) fn answer_all<S: Stream, T: ZoneTable, D: Deadline>(
+        &mut self,
+        workspace: &mut Workspace,
+        stream: &mut S,
         table: &mut T,
-        bookmarks: &mut Bookmarks,
-        out: &mut ResponseBuffer,
-        servfails: &mut Servfails,
         deadline: &mut D,
     ) -> Result<Stage, DeviceFailed>
-        requires { length spans.old ≡ 5462 }
-        ensures idle { IsIdle result buffer.new }
-        ensures served { T.is_honest table.new → (s : State) → T.holds table.old s × AreBookmarks self.now.policy.now s bookmarks.old
-            → (t : State) × (T.holds table.new t × AreBookmarks self.now.policy.now t bookmarks.new)
-            × IsServed self.now.policy.now (mark s (T.failures table.old) servfails.old) buffer.old result buffer.new
-            (moment (W.contents writer.old) (S.events reader.old writer.old))
-            (moment (W.contents writer.new) (S.events reader.new writer.new)) (D.asked deadline.old) (D.asked deadline.new)
-            (mark t (T.failures table.new) servfails.new) }
+        ensures idle { IsIdle result workspace.new.requests }
+        ensures served { T.is_honest table.new → (s : State) → T.holds table.old s × AreBookmarks self.old.policy.now s self.old.bookmarks
+            → (t : State) × (T.holds table.new t × AreBookmarks self.old.policy.now t self.new.bookmarks)
+            × IsServed self.old.policy.now (mark s (T.failures table.old) self.old.servfails) workspace.old.requests result
+            workspace.new.requests (moment (S.flow stream.old)) (moment (S.flow stream.new)) (D.asked deadline.old) (D.asked deadline.new)
+            (mark t (T.failures table.new) self.new.servfails) }
+        ensures policy { self.new.policy ≡ self.old.policy }
         ensures honest { T.is_honest table.new → T.is_honest table.old }
         ensures passed { CountsHalt result (D.passed deadline.old) (D.passed deadline.new) }
-        ensures same { OnOk result (W.failures writer.new ≡ W.failures writer.old) }
-        ensures rose { OnErr result (W.failures writer.new ≡ W.failures writer.old + 1) }
-        ensures unread { R.remaining reader.new ≡ R.remaining reader.old }
-        ensures still { R.failures reader.new ≡ R.failures reader.old }
+        ensures failed { CountsOnce result (S.failed_writes stream.old) (S.failed_writes stream.new) }
+        ensures unread { (S.flow stream.new).remaining ≡ (S.flow stream.old).remaining }
+        ensures still { S.failed_reads stream.new ≡ S.failed_reads stream.old }
+        ensures kept { S.keeps stream.old stream.new }
     {
-        if buffer.is_awaiting() {
+        if workspace.requests.is_awaiting() {
             return Ok(Stage::Open);
         }
         'turns: loop {
-            match self.answer(buffer.as_slice(), spans, table, bookmarks, out, servfails) {
+            match self.answer(workspace, table) {
                 Progress::Waiting(n) => {
-                    buffer.await_octets(n);
+                    workspace.requests.await_octets(n);
                     return Ok(Stage::Open);
                 }
                 Progress::Next(n) => {
-                    write_all::<S, _, _>(reader, writer, out.as_slice())?;
-                    buffer.consume(n);
+                    write_all(stream, workspace.out.as_slice())?;
+                    workspace.requests.consume(n);
                     if deadline.has_passed() {
                         return Ok(Stage::Overdue);
                     }
                 }
                 Progress::Last => {
-                    write_all::<S, _, _>(reader, writer, out.as_slice())?;
+                    write_all(stream, workspace.out.as_slice())?;
                     return Ok(Stage::Closed);
                 }
             }

@@ -38,5 +38,5 @@ pub use responder::{Responder, serve};
 pub use serve_fault::ServeFault;
 pub use servfails::Servfails;
 pub use serving::Served;
-pub use stream::{Apart, Stream};
+pub use stream::Stream;
 pub use wire_json::{read_delegation, read_update, reply_text};

@@ -1,14 +1,14 @@
 //! The octets that were received and are not answered yet.
 
-ghost use Rattle.std.specs.Prelude.{◌≡◌, ◌<◌, ◌≤◌, ◌+◌, ◌++◌, ◌-◌, ℕ, List, [], ◌∷◌, true, vec_len, take, drop, length, IfOk, OnErr, OnOk};
+ghost use Rattle.std.specs.Prelude.{◌≡◌, ◌<◌, ◌≤◌, ◌++◌, ◌-◌, ℕ, List, [], ◌∷◌, true, vec_len, take, drop, replicate, length, IfOk, OnErr};
 ghost use Rattle.std.specs.Io.KnownBytes.{Consumes, IsAtEnd, Keeps};
 ghost use Rattle.std.specs.List.{slice_range};
 ghost use Rattle.office_wire.specs.Exchange.{Waits};
 ghost use Rattle.office_wire.specs.Framing.{WaitsUpTo};
-ghost use Rattle.office_wire.specs.Order.{Follows, read};
+ghost use Rattle.office_wire.specs.Order.{Follows, CountsOnce, read};
 
 use crate::stream::Stream;
-use dns_master::{DeviceFailed, Sink, Source};
+use dns_master::DeviceFailed;
 use std::alloc::{AllocError, Global};
 use std::marker::Model;
 
@@ -72,27 +72,23 @@ impl RequestBuffer {
     }
 
     /// Reads once behind what is there, and returns how many octets were received: none only at the end.
-    pub(crate) fn fill<S: Stream<R, W>, R: Source, W: Sink>(
-        &mut self,
-        reader: &mut R,
-        writer: &mut W,
-    ) -> Result<usize, DeviceFailed>
+    pub(crate) fn fill<S: Stream>(&mut self, stream: &mut S) -> Result<usize, DeviceFailed>
         requires { length self.old < 81920 }
         ensures got { IfOk result
             (λ n. (got : List ℕ) × (self.new ≡ self.old ++ got) × (length got ≡ n)
-            × Consumes (R.remaining reader.old) (R.remaining reader.new) got × (n ≡ 0 → IsAtEnd (R.remaining reader.new))
-            × Follows (S.events reader.old writer.old) (S.events reader.new writer.new) (read got ∷ [])) }
+            × Consumes (S.flow stream.old).remaining (S.flow stream.new).remaining got × (n ≡ 0 → IsAtEnd (S.flow stream.new).remaining)
+            × (idle : ℕ) × Follows (S.flow stream.old).events (S.flow stream.new).events (replicate idle (read []) ++ read got ∷ [])) }
         ensures kept { OnErr result
-            ((self.new ≡ self.old) × Keeps (R.remaining reader.old) (R.remaining reader.new)
-            × Follows (S.events reader.old writer.old) (S.events reader.new writer.new) (read [] ∷ [])) }
-        ensures fine { OnOk result (R.failures reader.new ≡ R.failures reader.old) }
-        ensures failed { OnErr result (R.failures reader.new ≡ R.failures reader.old + 1) }
-        ensures same { W.contents writer.new ≡ W.contents writer.old }
-        ensures still { W.failures writer.new ≡ W.failures writer.old }
+            ((self.new ≡ self.old) × Keeps (S.flow stream.old).remaining (S.flow stream.new).remaining
+            × (idle : ℕ) × Follows (S.flow stream.old).events (S.flow stream.new).events (replicate idle (read []) ++ [])) }
+        ensures failed { CountsOnce result (S.failed_reads stream.old) (S.failed_reads stream.new) }
+        ensures same { (S.flow stream.new).contents ≡ (S.flow stream.old).contents }
+        ensures still { S.failed_writes stream.new ≡ S.failed_writes stream.old }
+        ensures stays { S.keeps stream.old stream.new }
     {
         self.end = to_front(&mut self.bytes, self.start, self.end);
         self.start = 0;
-        let got = S::read_some(reader, writer, &mut self.bytes[self.end..])?;
+        let got = stream.read_some(&mut self.bytes[self.end..])?;
         self.end += got;
         Ok(got)
     }

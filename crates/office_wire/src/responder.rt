@@ -2,19 +2,18 @@
 
 ghost use Rattle.std.specs.Prelude.{◌≡◌, ◌<◌, List};
 ghost use Rattle.office_model.specs.States.{State};
-ghost use Rattle.office_core.specs.Bookmarks.{AreBookmarks};
 ghost use Rattle.office_wire.specs.Exchange.{Turn, Run};
 ghost use Rattle.office_wire.specs.Promises.{ArePromised};
-ghost use Rattle.office_wire.specs.Serving.{standing, mark, Leads, IsDone, IsEnded, CountsServed, CountsEnded};
+ghost use Rattle.office_wire.specs.Serving.{standing, IsDone, IsStreamServed, CountsServed, CountsEnded};
 ghost use Rattle.office_wire.specs.Deadlines.{CountsAsked, CountsPassed};
 ghost use Rattle.office_wire.specs.Servfails.{AreNoted, servfails};
-ghost use Rattle.office_wire.specs.Order.{IsServedInTurn};
 
 use crate::deadline::{Deadline, Never};
 use crate::ending::Ending;
+use crate::exchange::Service;
 use crate::serve_fault::ServeFault;
 use crate::servfails::Servfails;
-use crate::serving::{Served, serve_within};
+use crate::serving::Served;
 use crate::stream::{Apart, Stream};
 use crate::workspace::{Workspace, make_workspace};
 use dns_master::{Sink, Source};
@@ -28,128 +27,78 @@ use std::sync::ledger::{Blank, Ledger};
 /// kept from one stream to the next; of what a stream sent, nothing is.
 #[derive(Drop)]
 pub struct Responder<'a> {
-    alloc: Global,
-    policy: &'a Policy,
-    bookmarks: Bookmarks,
+    service: Service<'a>,
     workspace: Option<Workspace>,
 }
 
 impl<'a> Responder<'a> {
+    ghost use Rattle.office_wire.specs.Responders.{rules_of, Fits};
+
     /// A responder that has served no stream. It takes no memory before the first one.
     pub fn new(alloc: Global, policy: &'a Policy) -> Responder<'a>
-        ensures policy { result.policy ≡ policy.entry }
-        ensures bookmarks { (s : State) → AreBookmarks policy.now s result.bookmarks }
+        ensures rules { rules_of result ≡ policy.now }
+        ensures fits { (s : State) → Fits result s }
     {
-        Responder {
+        let service = Service {
             alloc,
             policy,
             bookmarks: Bookmarks::new(alloc),
+            servfails: Servfails::none(),
+        };
+        Responder {
+            service,
             workspace: None,
         }
     }
 
-    /// Answers each request of a stream in the workspace, which is made first if it is `None`.
-    fn serve_into<S: Stream<R, W>, R: Source, W: Sink, T: ZoneTable, D: Deadline>(
-        &mut self,
-        reader: &mut R,
-        writer: &mut W,
-        table: &mut T,
-        servfails: &mut Servfails,
-        deadline: &mut D,
-    ) -> Result<Ending, ServeFault>
-        ensures run { T.is_honest table.new → (s : State) → T.holds table.old s × AreBookmarks self.old.policy.now s self.old.bookmarks
-            → (turns : List Turn) × (t : State) × (T.holds table.new t × AreBookmarks self.old.policy.now t self.new.bookmarks)
-            × Leads self.old.policy.now (mark s (T.failures table.old) servfails.old) turns (mark t (T.failures table.new) servfails.new)
-            × IsEnded turns result (R.remaining reader.old) (R.remaining reader.new) (W.contents writer.old) (W.contents writer.new)
-            × IsServedInTurn turns (S.events reader.old writer.old) (S.events reader.new writer.new)
-            × CountsAsked turns result (D.asked deadline.old) (D.asked deadline.new) }
-        ensures policy { self.new.policy ≡ self.old.policy }
-        ensures honest { T.is_honest table.new → T.is_honest table.old }
-        ensures passed { CountsPassed result (D.passed deadline.old) (D.passed deadline.new) }
-        ensures devices { CountsEnded result (R.failures reader.old) (R.failures reader.new) (W.failures writer.old) (W.failures writer.new) }
-    {
-        make_workspace(self.alloc, &mut self.workspace);
-        match &mut self.workspace {
-            Some(workspace) => serve_within::<S, _, _, _, _>(
-                self.alloc,
-                workspace,
-                reader,
-                writer,
-                table,
-                self.policy,
-                &mut self.bookmarks,
-                servfails,
-                deadline,
-            ),
-            None => Err(ServeFault::NoMemory),
-        }
-    }
-
-    /// Serves a stream as `serve_noting` does, and reads only when all whole requests received before are answered, and their
-    /// responses written whole.
-    pub fn serve_stream<S: Stream<R, W>, R: Source, W: Sink, T: ZoneTable, D: Deadline>(
-        &mut self,
-        reader: &mut R,
-        writer: &mut W,
-        table: &mut T,
-        deadline: &mut D,
-    ) -> Served
-        // Each response goes out whole before the next read, so a peer that waits for it before it sends more gets it.
-        ensures run { T.is_honest table.new → (s : State) → T.holds table.old s × AreBookmarks self.old.policy.now s self.old.bookmarks
-            → (turns : List Turn) × (t : State) × (T.holds table.new t × AreBookmarks self.old.policy.now t self.new.bookmarks)
-            × Run self.old.policy.now (standing s (T.failures table.old)) turns (standing t (T.failures table.new))
-            × IsEnded turns result.ended (R.remaining reader.old) (R.remaining reader.new) (W.contents writer.old) (W.contents writer.new)
-            × ArePromised self.old.policy.now s turns t × AreNoted (servfails turns) result.servfails
-            × CountsAsked turns result.ended (D.asked deadline.old) (D.asked deadline.new)
-            × IsServedInTurn turns (S.events reader.old writer.old) (S.events reader.new writer.new) }
-        ensures policy { self.new.policy ≡ self.old.policy }
-        ensures honest { T.is_honest table.new → T.is_honest table.old }
-        // No further request is answered where the deadline has passed, and only there.
-        ensures passed { CountsPassed result.ended (D.passed deadline.old) (D.passed deadline.new) }
-        ensures devices { CountsEnded result.ended (R.failures reader.old) (R.failures reader.new) (W.failures writer.old) (W.failures writer.new) }
-    {
-        let mut servfails = Servfails::none();
-        let ended = self.serve_into::<S, _, _, _, _>(
-            reader,
-            writer,
-            table,
-            &mut servfails,
-            deadline,
-        );
-        Served { ended, servfails }
-    }
-
     /// Serves a stream as `serve` does, and counts the requests that were answered SERVFAIL, with the fault of the last. After each
-    /// response that is not the last it asks a deadline, and leaves the stream there if that has passed.
-    pub fn serve_noting<R: Source, W: Sink, T: ZoneTable, D: Deadline>(
+    /// response that is not the last it asks a deadline, and leaves the stream there if that has passed. It reads only when all whole
+    /// requests received before are answered, and their responses written whole.
+    pub fn serve_stream<S: Stream, T: ZoneTable, D: Deadline>(
         &mut self,
-        reader: &mut R,
-        writer: &mut W,
+        stream: &mut S,
         table: &mut T,
         deadline: &mut D,
     ) -> Served
-        // What is noted is noted of the turns of the stream.
-        ensures run { T.is_honest table.new → (s : State) → T.holds table.old s × AreBookmarks self.old.policy.now s self.old.bookmarks
-            → (turns : List Turn) × (t : State) × (T.holds table.new t × AreBookmarks self.old.policy.now t self.new.bookmarks)
-            × Run self.old.policy.now (standing s (T.failures table.old)) turns (standing t (T.failures table.new))
-            × IsEnded turns result.ended (R.remaining reader.old) (R.remaining reader.new) (W.contents writer.old) (W.contents writer.new)
-            × ArePromised self.old.policy.now s turns t × AreNoted (servfails turns) result.servfails
+        // Each response goes out whole before the next read, so a peer that waits for it before it sends more gets it. What is noted
+        // is noted of the turns of the stream.
+        ensures run { T.is_honest table.new → (s : State) → T.holds table.old s × Fits self.old s
+            → (turns : List Turn) × (t : State) × (T.holds table.new t × Fits self.new t)
+            × Run (rules_of self.old) (standing s (T.failures table.old)) turns (standing t (T.failures table.new))
+            × ArePromised (rules_of self.old) s turns t × AreNoted (servfails turns) result.servfails
+            × IsStreamServed turns result.ended (S.flow stream.old) (S.flow stream.new)
             × CountsAsked turns result.ended (D.asked deadline.old) (D.asked deadline.new) }
-        ensures policy { self.new.policy ≡ self.old.policy }
+        ensures rules { rules_of self.new ≡ rules_of self.old }
         ensures honest { T.is_honest table.new → T.is_honest table.old }
         // No further request is answered where the deadline has passed, and only there.
         ensures passed { CountsPassed result.ended (D.passed deadline.old) (D.passed deadline.new) }
-        ensures devices { CountsEnded result.ended (R.failures reader.old) (R.failures reader.new) (W.failures writer.old) (W.failures writer.new) }
+        ensures devices { CountsEnded result.ended (S.failed_reads stream.old) (S.failed_reads stream.new) (S.failed_writes stream.old)
+            (S.failed_writes stream.new) }
+        ensures kept { S.keeps stream.old stream.new }
     {
-        self.serve_stream::<Apart, _, _, _, _>(reader, writer, table, deadline)
+        let Responder { service, workspace } = self;
+        service.servfails = Servfails::none();
+        make_workspace(service.alloc, workspace);
+        let Some(workspace) = workspace else {
+            return Served {
+                ended: Err(ServeFault::NoMemory),
+                servfails: service.servfails,
+            };
+        };
+        workspace.requests.clear();
+        let ended = service.serve(workspace, stream, table, deadline);
+        workspace.drop_response(service.alloc);
+        Served {
+            ended,
+            servfails: service.servfails,
+        }
     }
 }
 
 /// Answers each request of a stream without a deadline.
-fn serve_whole<R: Source, W: Sink, T: ZoneTable, L: Ledger>(
+fn serve_whole<S: Stream, T: ZoneTable, L: Ledger>(
     alloc: Global,
-    reader: &mut R,
-    writer: &mut W,
+    stream: &mut S,
     table: &mut T,
     policy: &Policy,
     blank: Blank,
@@ -160,14 +109,16 @@ fn serve_whole<R: Source, W: Sink, T: ZoneTable, L: Ledger>(
     ensures run { T.is_honest table.new → (s : State) → T.holds table.old s
         → (turns : List Turn) × (t : State) × T.holds table.new t
         × Run policy.now (standing s (T.failures table.old)) turns (standing t (T.failures table.new))
-        × IsDone turns result (R.remaining reader.old) (R.remaining reader.new) (W.contents writer.old) (W.contents writer.new)
+        × IsDone turns result (S.flow stream.old).remaining (S.flow stream.new).remaining (S.flow stream.old).contents (S.flow stream.new).contents
         × ArePromised policy.now s turns t }
     ensures honest { T.is_honest table.new → T.is_honest table.old }
-    ensures devices { CountsServed result (R.failures reader.old) (R.failures reader.new) (W.failures writer.old) (W.failures writer.new) }
+    ensures devices { CountsServed result (S.failed_reads stream.old) (S.failed_reads stream.new) (S.failed_writes stream.old)
+        (S.failed_writes stream.new) }
+    ensures kept { S.keeps stream.old stream.new }
 {
     let mut responder = Responder::new(alloc, policy);
     let mut never: Never<L> = Never::new(blank);
-    let served = responder.serve_noting(reader, writer, table, &mut never);
+    let served = responder.serve_stream(stream, table, &mut never);
     match served.ended {
         Ok(Ending::Answered) => Ok(()),
         Ok(Ending::Overdue) => unreachable!(),
@@ -205,6 +156,6 @@ pub fn serve<R: Source, W: Sink, T: ZoneTable>(
     // A fault of a device is reported only if the device failed in this call, and it failed once. `Ok` means that neither failed.
     ensures devices { CountsServed result (R.failures reader.old) (R.failures reader.new) (W.failures writer.old) (W.failures writer.new) }
 {
-    let blank = Blank::new(1);
-    serve_whole::<R, W, T, Brand>(alloc, reader, writer, table, policy, blank)
+    let mut stream = Apart { reader, writer };
+    serve_whole::<_, T, Brand>(alloc, &mut stream, table, policy, Blank::new(1))
 }

@@ -1,77 +1,91 @@
-//! The order of what is read and what is written.
+//! Streams of octets, and the order of what is read from them and written to them.
 
-ghost use Rattle.std.specs.Prelude.{◌≡◌, ◌+◌, ◌<◌, ◌≤◌, [], ◌∷◌, List, Option, None, length, IfOk, OnOk, OnErr};
-ghost use Rattle.std.specs.Io.KnownBytes.{ReadConsumes, WriteAppends};
-ghost use Rattle.office_wire.specs.Order.{Event as EventOf, Follows, read_by, written_by, moment, WritesAll};
+ghost use Rattle.std.specs.Prelude.{◌≡◌, ◌<◌, ◌≤◌, ℕ, None, length, IfOk};
+ghost use Rattle.std.proofs.Common.{◌∙◌, refl};
+ghost use Rattle.office_wire.specs.Order.{Flow as FlowOf, ReadsOnce, WritesOnce, CountsOnce, WritesAll, moment};
 
 use dns_master::{DeviceFailed, Sink, Source};
 
-/// The two directions of a stream: each call is one read or one write, and they have an order.
-pub trait Stream<R: Source, W: Sink> {
-    /// The reads and writes so far, in order, where that is known.
-    ghost events: { R → W → Option (List EventOf) };
+/// A stream of octets in both directions. Each call is one read or one write, and they have an order.
+pub trait Stream {
+    /// What is still to come, what was written, and the reads and writes so far, each where it is known.
+    ghost flow: { Self → FlowOf };
 
-    /// Reads once, as `Source::read_some` does.
-    fn read_some(reader: &mut R, writer: &mut W, buffer: &mut [u8]) -> Result<usize, DeviceFailed>
+    /// How many of its reads have failed so far.
+    ghost failed_reads: { Self → ℕ };
+
+    /// How many of its writes have failed so far.
+    ghost failed_writes: { Self → ℕ };
+
+    /// What its reads and writes keep: of the stream before one of them and after it.
+    ghost keeps: { Self → Self → Type 0 };
+
+    /// Reads once, into a slice that is not empty, and answers how many octets came: none only at the end.
+    fn read_some(&mut self, buffer: &mut [u8]) -> Result<usize, DeviceFailed>
         requires { 0 < length buffer.old }
         ensures bound { IfOk result (λ n. n ≤ length buffer.new) }
-        ensures bytes { ReadConsumes (R.remaining reader.old) (R.remaining reader.new) result buffer.new }
-        ensures fine { OnOk result (R.failures reader.new ≡ R.failures reader.old) }
-        ensures failed { OnErr result (R.failures reader.new ≡ R.failures reader.old + 1) }
-        ensures same { W.contents writer.new ≡ W.contents writer.old }
-        ensures still { W.failures writer.new ≡ W.failures writer.old }
-        ensures event { Follows (events reader.old writer.old) (events reader.new writer.new) (read_by result buffer.new ∷ []) };
+        ensures read { ReadsOnce (flow self.old) (flow self.new) result buffer.new }
+        ensures failed { CountsOnce result (failed_reads self.old) (failed_reads self.new) }
+        ensures still { failed_writes self.new ≡ failed_writes self.old }
+        ensures kept { keeps self.old self.new };
 
-    /// Writes once, as `Sink::write_some` does.
-    fn write_some(reader: &mut R, writer: &mut W, octets: &[u8]) -> Result<usize, DeviceFailed>
+    /// Writes once, a prefix of a slice that is not empty, and answers how many octets were taken, at least one.
+    fn write_some(&mut self, octets: &[u8]) -> Result<usize, DeviceFailed>
         requires { 0 < length octets.now }
         ensures some { IfOk result (λ n. 0 < n) }
         ensures bound { IfOk result (λ n. n ≤ length octets.now) }
-        ensures bytes { WriteAppends (W.contents writer.old) (W.contents writer.new) result octets.now }
-        ensures fine { OnOk result (W.failures writer.new ≡ W.failures writer.old) }
-        ensures failed { OnErr result (W.failures writer.new ≡ W.failures writer.old + 1) }
-        ensures same { R.remaining reader.new ≡ R.remaining reader.old }
-        ensures still { R.failures reader.new ≡ R.failures reader.old }
-        ensures event { Follows (events reader.old writer.old) (events reader.new writer.new) (written_by result octets.now ∷ []) };
+        ensures written { WritesOnce (flow self.old) (flow self.new) result octets.now }
+        ensures failed { CountsOnce result (failed_writes self.old) (failed_writes self.new) }
+        ensures still { failed_reads self.new ≡ failed_reads self.old }
+        ensures kept { keeps self.old self.new };
+
+    // It is kept where there is none of them, and by several if by each.
+    ghost same: { (s : Self) → keeps s s };
+
+    ghost joins: { (a b c : Self) → keeps a b → keeps b c → keeps a c };
 }
 
-/// Any reader and any writer. Nothing is known of their order.
-#[derive(Clone, Copy)]
-pub struct Apart;
+/// A reader and a writer. Nothing is known of their order.
+#[derive(Drop)]
+pub(crate) struct Apart<'a, R, W> {
+    pub(crate) reader: &'a mut R,
+    pub(crate) writer: &'a mut W,
+}
 
-impl<R: Source, W: Sink> Stream<R, W> for Apart {
-    ghost events = { λ _ _. None };
+impl<R: Source, W: Sink> Stream for Apart<'_, R, W> {
+    ghost flow = { λ s. record { remaining = R.remaining s.reader.now; contents = W.contents s.writer.now; events = None } };
 
-    fn read_some(
-        reader: &mut R,
-        _writer: &mut W,
-        buffer: &mut [u8],
-    ) -> Result<usize, DeviceFailed> {
-        reader.read_some(buffer)
+    ghost failed_reads = { λ s. R.failures s.reader.now };
+
+    ghost failed_writes = { λ s. W.failures s.writer.now };
+
+    ghost keeps = { λ s t. (t.reader.ghost_name ≡ s.reader.ghost_name) × (t.writer.ghost_name ≡ s.writer.ghost_name) };
+
+    ghost same = { λ s. (refl, refl) };
+
+    ghost joins = { λ a b c p q. (q.0 ∙ p.0, q.1 ∙ p.1) };
+
+    fn read_some(&mut self, buffer: &mut [u8]) -> Result<usize, DeviceFailed> {
+        self.reader.read_some(buffer)
     }
 
-    fn write_some(_reader: &mut R, writer: &mut W, octets: &[u8]) -> Result<usize, DeviceFailed> {
-        writer.write_some(octets)
+    fn write_some(&mut self, octets: &[u8]) -> Result<usize, DeviceFailed> {
+        self.writer.write_some(octets)
     }
 }
 
 // It is not `dns_master::write_all`, since each of its writes is one of the stream's calls.
-/// Writes all octets, in as many pieces as the writer takes. A write that failed is the last one.
-pub(crate) fn write_all<S: Stream<R, W>, R: Source, W: Sink>(
-    reader: &mut R,
-    writer: &mut W,
-    octets: &[u8],
-) -> Result<(), DeviceFailed>
-    ensures written { WritesAll octets.now result (moment (W.contents writer.old) (S.events reader.old writer.old))
-        (moment (W.contents writer.new) (S.events reader.new writer.new)) }
-    ensures fine { OnOk result (W.failures writer.new ≡ W.failures writer.old) }
-    ensures failed { OnErr result (W.failures writer.new ≡ W.failures writer.old + 1) }
-    ensures same { R.remaining reader.new ≡ R.remaining reader.old }
-    ensures still { R.failures reader.new ≡ R.failures reader.old }
+/// Writes all octets, in as many pieces as the stream takes. A write that failed is the last one.
+pub(crate) fn write_all<S: Stream>(stream: &mut S, octets: &[u8]) -> Result<(), DeviceFailed>
+    ensures written { WritesAll octets.now result (moment (S.flow stream.old)) (moment (S.flow stream.new)) }
+    ensures failed { CountsOnce result (S.failed_writes stream.old) (S.failed_writes stream.new) }
+    ensures unread { (S.flow stream.new).remaining ≡ (S.flow stream.old).remaining }
+    ensures still { S.failed_reads stream.new ≡ S.failed_reads stream.old }
+    ensures kept { S.keeps stream.old stream.new }
 {
     let mut rest = octets;
     while !rest.is_empty() {
-        let count = S::write_some(reader, writer, rest)?;
+        let count = stream.write_some(rest)?;
         rest = &rest[count..];
     }
     Ok(())

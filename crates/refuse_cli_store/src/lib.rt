@@ -2,12 +2,12 @@
 //! calls; each edit in must-fail makes the call wrong in one idea, and the prover refuses it.
 #![tactic(auto)]
 
+pub mod callers;
+
 ghost use Rattle.std.specs.Prelude.{◌≡◌, ◌+◌, List, Option, IfOk, IfErr, length, map, string_bytes};
 ghost use Rattle.std.specs.declared.net.socket_addr.SocketAddr.{SocketAddr};
 ghost use Rattle.std.specs.Process.{exit_status};
 ghost use Rattle.sqlite.specs.Held.{state};
-ghost use Rattle.office_wire.specs.declared.serve_fault.ServeFault.{ServeFault as FaultOf};
-ghost use Rattle.wire_tcp.specs.Connections.{AreReported, AreServedFrom};
 ghost use Rattle.cli_store.specs.Stores.{stores_of};
 ghost use Rattle.cli_store.specs.Program.{JobEnds, WordsEnd};
 ghost use Rattle.cli_store.specs.Serve.{IsHeard, IsNoListener, listening_line};
@@ -15,35 +15,9 @@ ghost use Rattle.cli_store.specs.Serve.{IsHeard, IsNoListener, listening_line};
 use cli_core::{Job, StoreJob};
 use cli_store::{JobFault, LineFault, StoreFiles, Surroundings};
 use dns_master::{Sink, Source};
-use grant_policy::Policy;
-use office_model::ZoneTable;
 use sqlite::{Alter, Connection};
-use std::alloc::Global;
 use std::net::TcpListener;
 use std::process::ExitCode;
-use std::time::Clock;
-use wire_tcp::{Connections, Diagnosis, Listener};
-
-/// `serve_connections`.
-pub fn serve_connections<H: Listener, T: ZoneTable, D: Diagnosis<T>, C: Clock, W: Sink, E: Sink>(
-    alloc: Global,
-    from: &Connections<'_, C, D>,
-    listener: &mut H,
-    table: &mut T,
-    policy: &Policy,
-    most: u64,
-    writer: &mut W,
-    trace: &mut E,
-) -> Result<(), JobFault>
-    ensures served { AreServedFrom (T.is_honest table.new) (T.holds table.old) (T.holds table.new) (T.failures table.old)
-        (T.failures table.new) policy.now most result (E.contents trace.old) (E.contents trace.new) (E.failures trace.old)
-        (E.failures trace.new) }
-    ensures written { (ends : List (Option FaultOf))
-        × AreReported (H.cut listener.old) most ends (W.contents writer.old) (W.contents writer.new) result (W.failures writer.old) (W.failures writer.new)
-        × (H.taken listener.new ≡ H.taken listener.old + length ends) }
-{
-    wire_tcp::serve_connections(alloc, from, listener, table, policy, most, writer, trace)
-}
 
 /// `do_job`.
 pub fn do_job<

@@ -2,11 +2,11 @@
 
 ghost use Rattle.std.specs.Prelude.{◌≡◌, ◌<◌, ℕ, List, [], Option, Some};
 ghost use Rattle.office_model.specs.States.{State};
-ghost use Rattle.office_core.specs.Bookmarks.{AreBookmarks};
 ghost use Rattle.office_wire.specs.Exchange.{Turn, Run};
 ghost use Rattle.office_wire.specs.Serving.{standing, IsDone, CountsServed};
 ghost use Rattle.office_wire.specs.Deadlines.{CountsPassed};
 ghost use Rattle.office_wire.specs.Order.{IsServedInTurn};
+ghost use Rattle.office_wire.specs.Responders.{rules_of, Fits};
 ghost use Rattle.office_wire.specs.Servfails.{AreNoted, servfails};
 
 use dns_master::{Counted, Pieces, Sink, Source};
@@ -31,34 +31,32 @@ pub fn serve_counted<R: Source, W: Sink, T: ZoneTable>(
 }
 
 /// `Responder::serve_stream`, by what it notes, and by the order of what it reads and writes.
-pub fn serve_stream<S: Stream<R, W>, R: Source, W: Sink, T: ZoneTable, D: Deadline>(
+pub fn serve_stream<S: Stream, T: ZoneTable, D: Deadline>(
     responder: &mut Responder<'_>,
-    reader: &mut R,
-    writer: &mut W,
+    stream: &mut S,
     table: &mut T,
     deadline: &mut D,
 ) -> Served
-    ensures { T.is_honest table.new → (s : State) → T.holds table.old s × AreBookmarks responder.old.policy.now s responder.old.bookmarks
-        → (turns : List Turn) × (t : State) × (T.holds table.new t × AreBookmarks responder.old.policy.now t responder.new.bookmarks)
-        × Run responder.old.policy.now (standing s (T.failures table.old)) turns (standing t (T.failures table.new))
+    ensures { T.is_honest table.new → (s : State) → T.holds table.old s × Fits responder.old s
+        → (turns : List Turn) × (t : State) × (T.holds table.new t × Fits responder.new t)
+        × Run (rules_of responder.old) (standing s (T.failures table.old)) turns (standing t (T.failures table.new))
         × AreNoted (servfails turns) result.servfails
-        × IsServedInTurn turns (S.events reader.old writer.old) (S.events reader.new writer.new) }
+        × IsServedInTurn turns (S.flow stream.old).events (S.flow stream.new).events }
 {
-    let served = responder.serve_stream::<S, _, _, _, _>(reader, writer, table, deadline);
+    let served = responder.serve_stream(stream, table, deadline);
     served
 }
 
-/// `Responder::serve_noting`, by what its deadline answers.
-pub fn serve_until<R: Source, W: Sink, T: ZoneTable, D: Deadline>(
+/// `Responder::serve_stream`, by what its deadline answers.
+pub fn serve_until<S: Stream, T: ZoneTable, D: Deadline>(
     responder: &mut Responder<'_>,
-    reader: &mut R,
-    writer: &mut W,
+    stream: &mut S,
     table: &mut T,
     deadline: &mut D,
 ) -> Served
     ensures { CountsPassed result.ended (D.passed deadline.old) (D.passed deadline.new) }
 {
-    let until = responder.serve_noting(reader, writer, table, deadline);
+    let until = responder.serve_stream(stream, table, deadline);
     until
 }
 

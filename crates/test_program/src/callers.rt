@@ -16,7 +16,7 @@ use std::net::{TcpListener, TcpStream};
 use std::sync::ledger::{Blank, Ledger};
 use std::time::Duration;
 use test_rows::{Answers, Row, push_unanswered};
-use wire_tcp::{Connections, Undiagnosed, serve_connections};
+use wire_tcp::{Connections, Undiagnosed};
 
 /// An office, and those who call it.
 #[derive(Drop)]
@@ -156,7 +156,7 @@ const PATIENCE: u64 = 300;
 fn served_from<T: ZoneTable>(
     rt: &HostRuntime,
     listener: &TcpListener,
-    connections: u64,
+    most: u64,
     longest: Option<Duration>,
     table: &mut T,
     policy: &Policy,
@@ -165,7 +165,7 @@ fn served_from<T: ZoneTable>(
     served_in::<_, Brand, Brand, Brand>(
         rt,
         listener,
-        connections,
+        most,
         longest,
         table,
         policy,
@@ -178,7 +178,7 @@ fn served_from<T: ZoneTable>(
 fn served_in<T: ZoneTable, L: Ledger, A: Ledger, B: Ledger>(
     rt: &HostRuntime,
     listener: &TcpListener,
-    connections: u64,
+    most: u64,
     longest: Option<Duration>,
     table: &mut T,
     policy: &Policy,
@@ -201,22 +201,16 @@ fn served_in<T: ZoneTable, L: Ledger, A: Ledger, B: Ledger>(
     let mut trace: Counted<Vec<u8>, B> = Counted::new(Vec::new(alloc), traces);
     let around = Given { rt, listener: None };
     let mut listener: CountedListener<'_, _, L> = CountedListener::new(&around, listener, taken);
-    let from = Connections {
+    let connections = Connections {
+        alloc,
+        policy,
+        most,
         clock: rt,
         patience: Some(Duration::from_millis(PATIENCE)),
         longest,
         diagnosis: &Undiagnosed,
     };
-    let result = serve_connections(
-        alloc,
-        &from,
-        &mut listener,
-        table,
-        policy,
-        connections,
-        &mut sink,
-        &mut trace,
-    );
+    let result = connections.serve(&mut listener, table, &mut sink, &mut trace);
     Served {
         told: sink.into_inner(),
         trace: trace.into_inner(),

@@ -4,8 +4,8 @@ ghost use Rattle.std.specs.Prelude.{⊤, None};
 ghost use Rattle.cli_store.specs.Around.{Around};
 
 use cli_store::{
-    DeviceFailed, LineFault, MachineFiles, Streams, Surroundings, heard, listen_at, next_of,
-    read_path, run_words,
+    DeviceFailed, LineFault, MachineFiles, Streams, Surroundings, fold_log, heard, listen_at,
+    next_of, read_path, run_words,
 };
 use std::alloc::{AllocError, Global};
 use std::net::{SocketAddr, TcpListener, TcpStream};
@@ -77,7 +77,8 @@ pub fn told_by<'a>(
         trace: Vec::new(rt.alloc()),
     };
     let around = Given { rt, listener };
-    let (streams, status) = run_words(&around, MachineFiles(rt), words, streams);
+    let (conn, streams, status) = run_words(&around, MachineFiles(rt), words, streams);
+    fold_log(&around, conn);
     Told {
         output: streams.output,
         trace: streams.trace,

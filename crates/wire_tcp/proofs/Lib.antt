@@ -1,2 +1,3 @@
+pub mod PatienceLemmas
 pub mod SendLemmas
 pub mod ConnectionLemmas

@@ -1,14 +1,16 @@
 -- Serving connections, one after the other, and what is written of one that ended by a fault.
-use Rattle.std.specs.Prelude.{◌≡◌, ◌⊎◌, ℕ, ◌<◌, ◌≤◌, List, ◌∷◌, [], ◌++◌, length, codes, decimal, Option, Some, None, Result, Ok, Err}
+use Rattle.std.specs.Prelude.{◌≡◌, ◌⊎◌, ℕ, ◌<◌, ◌≤◌, List, ◌∷◌, [], ◌++◌, length, map, codes, decimal, Option, Some, None, Result, Ok, Err}
 use Rattle.std.specs.Io.KnownBytes.{Appends}
 use Rattle.std.specs.List.{flat_map}
 use Rattle.grant_policy.specs.declared.rule.Rule.{Rule}
+use Rattle.office_wire.specs.declared.ending.Ending.{Ending}
 use Rattle.office_wire.specs.declared.serve_fault.ServeFault.{ServeFault}
 use Rattle.office_wire.specs.Exchange.{Turn, Standing, Run}
 use Rattle.office_wire.specs.Promises.{ArePromised}
 use Rattle.office_wire.specs.Refusals.{fault_number}
 use Rattle.office_wire.specs.Servfails.{servfails}
-use Rattle.office_wire.specs.Serving.{standing}
+use Rattle.office_wire.specs.Order.{Flow}
+use Rattle.office_wire.specs.Serving.{standing, IsStreamServed}
 use Rattle.store_faults.specs.declared.store_fault.StoreFault.{StoreFault}
 use Rattle.cli_core.specs.declared.line_fault.LineFault.TheVariants.{ReadFailed}
 use Rattle.cli_core.specs.declared.line_fault.JobFault.{JobFault}
@@ -17,6 +19,7 @@ use Rattle.cli_core.specs.Device.{AppendsFront}
 use Rattle.cli_core.specs.Replies.{line_of}
 use Rattle.office_model.specs.States.{State}
 use Rattle.wire_tcp.specs.Causes.{trace_of}
+use Rattle.wire_tcp.specs.Limits.{AreWithin}
 
 -- the fault's published number
 abbrev pub connection_line : ServeFault → List ℕ
@@ -30,32 +33,94 @@ ended_line (Some fault) = connection_line fault
 abbrev pub ended_lines : List (Option ServeFault) → List ℕ
 ended_lines ends = flat_map ended_line ends
 
--- all turns of connections, one connection after the other
-abbrev pub joined : List (List Turn) → List Turn
-joined connections = flat_map (λ turns. turns) connections
+-- ---- one connection
 
--- what tells of the requests of connections that were answered SERVFAIL, one connection after the other
-abbrev pub AreTraces : List (List Turn) → List ℕ → Type 0
-AreTraces [] text = text ≡ []
-AreTraces (turns ∷ connections) text =
-    (store : Option StoreFault) × (rest : List ℕ) × (text ≡ trace_of (servfails turns) store ++ rest) × AreTraces connections rest
+-- a connection that was served: its turns, how it ended, and why the store failed, as far as that was known then
+pub record Visit : Type 0 where
+  pub turns : List Turn
+  pub ended : Result Ending ServeFault
+  pub store : Option StoreFault
 
--- The turns of connections, what the writer of traces held before and after, and its failures before and after. What could not be written
--- is let go, and then nothing is said.
-pub record AreTraced (connections : List (List Turn)) (old new : Option (List ℕ)) (before after : ℕ) : Type 0 where
-  pub counted : before ≤ after
-  pub traces : after ≡ before → (text : List ℕ) × AreTraces connections text × Appends old new text
+-- the fault that ended it, if one did
+abbrev pub fault_of : Result Ending ServeFault → Option ServeFault
+fault_of (Ok ending) = None
+fault_of (Err fault) = Some fault
 
--- the same of one connection, with what is known of the store behind it
-pub record IsTraced (turns : List Turn) (store : Option StoreFault) (old new : Option (List ℕ)) (before after : ℕ) : Type 0 where
-  pub counted : before ≤ after
-  pub trace : after ≡ before → Appends old new (trace_of (servfails turns) store)
+-- What a table holds, how many of its calls have failed, and why the last of them did; which peer a listener gives, and which it takes back;
+-- and what is known of a peer, and of the limits of its reads and writes.
+pub record Parties (T H P : Type 0) : Type 1 where
+  pub holds : T → State → Type 0
+  pub failures : T → ℕ
+  pub fault : T → Option StoreFault
+  pub gives : H → P → H → Type 0
+  pub ends : H → P → H → Type 0
+  pub flow : P → Flow
+  pub limits : P → Option (List (Option ℕ))
 
--- These turns of connections, one after the other, take a table from one standing to another, and what the office promises of calls holds
--- of all of them together.
-pub record AreServed (rules : List Rule) (c : Standing) (connections : List (List Turn)) (d : Standing) : Type 0 where
-  pub run : Run rules c (joined connections) d
-  pub promised : ArePromised rules c.state (joined connections) d.state
+-- a moment between two connections: the table, a state that it holds, and the listener
+pub record Moment (T H : Type 0) : Type 0 where
+  pub table : T
+  pub state : State
+  pub listener : H
+
+abbrev pub standing_at : {T H P : Type 0} → Parties T H P → Moment T H → Standing
+standing_at w m = standing m.state (w.failures m.table)
+
+-- A connection between two moments. Its peer was the next that the listener gave, and was handed back to it. The turns are the requests that
+-- this peer sent, and what was written to it are their responses, each before more is read. They are answered by the rules and the state of
+-- the moment before, and lead to that of the moment after. No read or write was allowed to wait longer than the patience.
+pub record IsVisit {T H P : Type 0} (w : Parties T H P) (rules : List Rule) (patience : Option ℕ) (v : Visit) (before after : Moment T H) : Type 0 where
+  pub came : P
+  pub went : P
+  pub between : H
+  pub given : w.gives before.listener came between
+  pub back : w.ends between went after.listener
+  pub served : IsStreamServed v.turns v.ended (w.flow came) (w.flow went)
+  pub patient : AreWithin patience (w.limits came) (w.limits went)
+  pub run : Run rules (standing_at w before) v.turns (standing_at w after)
+  pub holds : w.holds after.table after.state
+  pub store : v.store ≡ w.fault after.table
+
+-- one connection after the other
+abbrev pub AreVisits : {T H P : Type 0} → Parties T H P → List Rule → Option ℕ → List Visit → Moment T H → Moment T H → Type 0
+AreVisits w rules patience [] before after = after ≡ before
+AreVisits {T} {H} w rules patience (v ∷ visits) before after =
+    (m : Moment T H) × IsVisit w rules patience v before m × AreVisits w rules patience visits m after
+
+-- ---- all of them
+
+-- their turns, one connection after the other
+abbrev pub joined : List Visit → List Turn
+joined visits = flat_map (λ v. v.turns) visits
+
+-- the faults that ended them
+abbrev pub ends : List Visit → List (Option ServeFault)
+ends visits = map (λ v. fault_of v.ended) visits
+
+-- what tells of the requests that were answered SERVFAIL
+abbrev pub trace_at : Visit → List ℕ
+trace_at v = trace_of (servfails v.turns) v.store
+
+abbrev pub traces : List Visit → List ℕ
+traces visits = flat_map trace_at visits
+
+-- what a writer held before and after, and its failures before and after
+pub record Writing : Type 0 where
+  pub old : Option (List ℕ)
+  pub new : Option (List ℕ)
+  pub before : ℕ
+  pub after : ℕ
+
+-- What tells of connections on the writer of traces. What could not be written is let go, and then nothing is said.
+pub record AreTraced (visits : List Visit) (o : Writing) : Type 0 where
+  pub counted : o.before ≤ o.after
+  pub written : o.after ≡ o.before → Appends o.old o.new (traces visits)
+
+-- Connections between two moments, and what the office promises of calls, which holds of all of them together.
+pub record AreServed {T H P : Type 0} (w : Parties T H P) (rules : List Rule) (patience : Option ℕ) (visits : List Visit) (before after : Moment T H) : Type 0 where
+  pub each : AreVisits w rules patience visits before after
+  pub run : Run rules (standing_at w before) (joined visits) (standing_at w after)
+  pub promised : ArePromised rules before.state (joined visits) after.state
 
 -- That no connection can be had, how many were asked for, how each ended that was served, what the writer held before and after, the answer,
 -- and the writer's failures before and after. A line tells each fault that ended one. Fewer are served only where one cannot be had, which is
@@ -69,17 +134,18 @@ AreReported cut most ends old new (Err WriteFailed) before after =
     (((length ends ≤ most) × AppendsFront old new (ended_lines ends)) ⊎ (cut × (length ends < most) × AppendsFront old new (ended_lines ends ++ line_of ReadFailed)))
     × (before < after)
 
--- So many connections were served: as many as were asked for, unless one could not be had or a line not be written.
-abbrev pub IsSoMany : ℕ → Result (Unit {0}) JobFault → ℕ → Type 0
-IsSoMany most (Ok u) n = n ≡ most
-IsSoMany most (Err fault) n = n ≤ most
+-- The rules, the patience, how many connections were asked for, and that no further one can be had.
+pub record Asked : Type 1 where
+  pub rules : List Rule
+  pub patience : Option ℕ
+  pub most : ℕ
+  pub cut : Type 0
 
--- That the store has kept its word, the states that the table held before and holds after, its failures before and after, the rules, how many
--- connections were asked for, the answer, what the writer of traces held before and after, and its failures before and after. Whatever
--- connections come: where the store has kept its word, there are turns of all of them, one connection after the other, that take the table
--- from how it stood to how it stands; each is answered by the policy and the state that it found. The trace tells of those of these turns
--- that were answered SERVFAIL.
-abbrev pub AreServedFrom : Type 0 → (State → Type 0) → (State → Type 0) → ℕ → ℕ → List Rule → ℕ → Result (Unit {0}) JobFault → Option (List ℕ) → Option (List ℕ) → ℕ → ℕ → Type 0
-AreServedFrom honest held holds failures failures_after rules most result old new fails fails_after =
-    honest → (s : State) → held s → (turns : List (List Turn)) × (t : State) × holds t
-    × AreServed rules (standing s failures) turns (standing t failures_after) × IsSoMany most result (length turns) × AreTraced turns old new fails fails_after
+-- What is asked, the moment before but for the state, the table and the listener after, the answer, and what was written of connections and of
+-- their failures. From each state that the table held, connections were served, one after the other, up to one that it holds now; a line
+-- tells each fault that ended one of them; and the trace tells of those of their requests that were answered SERVFAIL.
+abbrev pub AreServedFrom : {T H P : Type 0} → Parties T H P → Asked → T → H → T → H → Result (Unit {0}) JobFault → Writing → Writing → Type 0
+AreServedFrom w asked table listener table_after listener_after result lines trace =
+    (s : State) → w.holds table s → (visits : List Visit) × (t : State) × w.holds table_after t
+    × AreServed w asked.rules asked.patience visits (record { table = table; state = s; listener = listener }) (record { table = table_after; state = t; listener = listener_after })
+    × AreReported asked.cut asked.most (ends visits) lines.old lines.new result lines.before lines.after × AreTraced visits trace

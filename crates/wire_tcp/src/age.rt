@@ -28,6 +28,15 @@ impl<'a, C: Clock> Age<'a, C> {
         }
     }
 
+    /// The same age.
+    pub(crate) fn again(&self) -> Age<'a, C> {
+        Age {
+            clock: self.clock,
+            begun: self.begun,
+            longest: self.longest,
+        }
+    }
+
     /// For how long it has lasted, unless the clock fails.
     fn spent(&self) -> Option<Duration> {
         self.begun?.elapsed(self.clock).ok()
@@ -56,7 +65,7 @@ impl<'a, C: Clock> Age<'a, C> {
 /// The deadline of a connection, by its age.
 #[derive(Drop)]
 pub(crate) struct AgeLimit<'a, C: Clock, L: Ledger> {
-    age: &'a Age<'a, C>,
+    age: Age<'a, C>,
     book: Book<L>,
     asks: Share<L>,
     passes: Share<L>,
@@ -66,7 +75,7 @@ pub(crate) struct AgeLimit<'a, C: Clock, L: Ledger> {
 
 impl<'a, C: Clock, L: Ledger> AgeLimit<'a, C, L> {
     /// One that was not asked yet.
-    pub(crate) fn new(age: &'a Age<'a, C>, blank: Blank) -> AgeLimit<'a, C, L>
+    pub(crate) fn new(age: Age<'a, C>, blank: Blank) -> AgeLimit<'a, C, L>
         requires name { blank.name ≡ L.name }
         requires parts { blank.parts ≡ L.parts }
         requires some { 1 < blank.parts }

@@ -8,11 +8,14 @@ mod limits;
 mod lingering;
 mod listener;
 mod patience;
+mod peer;
 mod serving;
 mod trace;
 
 pub use cause::{Cause, Diagnosis, Undiagnosed};
 pub use limits::{longest_of, patience_of};
+pub use lingering::linger;
 pub use listener::Listener;
-pub use serving::{Connections, serve_connections};
+pub use peer::Peer;
+pub use serving::Connections;
 pub use trace::write_texts;

@@ -60,7 +60,7 @@ fn drop_counted<C: Clock, L: Ledger>(rest: &Rest<'_, C>, blank: Blank)
 
 /// Says that nothing follows the last response, and takes what the peer still sends until it ends too, for one second and 1 MiB at most.
 /// A failure is nothing to report: the responses were written.
-pub(crate) fn linger<C: Clock>(stream: &TcpStream, clock: &C) {
+pub fn linger<C: Clock>(stream: &TcpStream, clock: &C) {
     if stream.shutdown(Shutdown::Write).is_ok() {
         let age = Age::new(clock, Some(Duration::from_secs(LONGEST)));
         let rest = Rest { stream, age };

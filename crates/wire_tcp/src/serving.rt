@@ -1,66 +1,37 @@
 //! Serving callers over TCP, one connection after the other.
 
-ghost use Rattle.std.specs.Prelude.{◌≡◌, ◌+◌, ◌<◌, ◌≤◌, List, Option, length};
+ghost use Rattle.std.specs.Prelude.{◌≡◌, ◌+◌, ◌<◌, ◌≤◌, List, Option, length, option_map};
+ghost use Rattle.std.specs.Duration.{as_nanos};
 ghost use Rattle.office_model.specs.States.{State};
-ghost use Rattle.office_core.specs.Bookmarks.{AreBookmarks};
 ghost use Rattle.office_wire.specs.Exchange.{Turn, Run};
-ghost use Rattle.office_wire.specs.Serving.{standing};
+ghost use Rattle.office_wire.specs.Responders.{rules_of, Fits};
+ghost use Rattle.office_wire.specs.Serving.{standing, IsStreamServed};
 ghost use Rattle.office_wire.specs.Servfails.{AreNoted, servfails};
 ghost use Rattle.office_wire.specs.declared.serve_fault.ServeFault.{ServeFault as FaultOf};
 ghost use Rattle.cli_core.specs.Replies.{IsSent};
-ghost use Rattle.wire_tcp.specs.Connections.{connection_line, ended_line, IsTraced, AreReported, AreServedFrom};
+ghost use Rattle.wire_tcp.specs.Limits.{AreWithin};
+ghost use Rattle.wire_tcp.specs.Connections.{connection_line, ended_line, fault_of, AreReported, AreServedFrom};
 
 use crate::age::AgeLimit;
 use crate::cause::Diagnosis;
 use crate::listener::Listener;
 use crate::patience::PatientStream;
+use crate::peer::Peer;
 use crate::trace::{tell_servfails, write_texts};
 use cli_core::{JobFault, LineFault, write_refusal};
-use dns_master::{Counted, DeviceFailed, Sink};
+use dns_master::{DeviceFailed, Sink};
 use grant_policy::Policy;
 use itoa::Buffer;
 use office_core::ZoneTable;
-use office_wire::{Responder, ServeFault, Served};
+use office_wire::{Ending, Responder, ServeFault, Served};
 use std::alloc::Global;
 use std::marker::Brand;
-use std::net::TcpStream;
 use std::sync::ledger::{Blank, Ledger};
 use std::time::{Clock, Duration};
 
-/// Serves the requests of a connection, and tells which of them were answered SERVFAIL.
-fn serve_stream<T: ZoneTable, C: Clock, A: Ledger, B: Ledger, L: Ledger>(
-    responder: &mut Responder<'_>,
-    stream: &PatientStream<'_, C>,
-    table: &mut T,
-    reads: Blank,
-    writes: Blank,
-    asks: Blank,
-) -> Served
-    requires reads_name { reads.name ≡ A.name }
-    requires reads_parts { reads.parts ≡ A.parts }
-    requires reads_some { 0 < reads.parts }
-    requires writes_name { writes.name ≡ B.name }
-    requires writes_parts { writes.parts ≡ B.parts }
-    requires writes_some { 0 < writes.parts }
-    requires asks_name { asks.name ≡ L.name }
-    requires asks_parts { asks.parts ≡ L.parts }
-    requires asks_some { 1 < asks.parts }
-    ensures run { T.is_honest table.new → (s : State) → T.holds table.old s × AreBookmarks responder.old.policy.now s responder.old.bookmarks
-        → (turns : List Turn) × (t : State) × (T.holds table.new t × AreBookmarks responder.old.policy.now t responder.new.bookmarks)
-        × Run responder.old.policy.now (standing s (T.failures table.old)) turns (standing t (T.failures table.new))
-        × AreNoted (servfails turns) result.servfails }
-    ensures policy { responder.new.policy ≡ responder.old.policy }
-    ensures honest { T.is_honest table.new → T.is_honest table.old }
-{
-    let mut source: Counted<&PatientStream<'_, C>, A> = Counted::new(stream, reads);
-    let mut sink: Counted<&PatientStream<'_, C>, B> = Counted::new(stream, writes);
-    let mut deadline: AgeLimit<'_, C, L> = AgeLimit::new(stream.age(), asks);
-    responder.serve_noting(&mut source, &mut sink, table, &mut deadline)
-}
-
-/// Writes the line that reports the fault by which a connection ended. It takes no memory, so running out of memory on one
-/// connection does not end the office.
-fn tell_ended<W: Sink>(writer: &mut W, fault: ServeFault) -> Result<(), DeviceFailed>
+/// Writes the line that reports the fault by which a connection ended. It takes no memory, so running out of memory on one connection
+/// does not end the office.
+fn tell_fault<W: Sink>(writer: &mut W, fault: ServeFault) -> Result<(), DeviceFailed>
     ensures { IsSent (W.contents writer.old) (W.contents writer.new) (connection_line fault) result (W.failures writer.old) (W.failures writer.new) }
 {
     let mut digits = Buffer::new();
@@ -74,44 +45,28 @@ fn tell_ended<W: Sink>(writer: &mut W, fault: ServeFault) -> Result<(), DeviceFa
     )
 }
 
-/// Serves a connection. A line tells the fault that ended it, if one did; and a line of the trace tells which of its requests were
-/// answered SERVFAIL, if some were. A line of the trace that cannot be written is let go. Where no fault ended it, the peer has time to
-/// take the last response.
-fn serve_connection<T: ZoneTable, D: Diagnosis<T>, C: Clock, W: Sink, E: Sink>(
-    responder: &mut Responder<'_>,
-    stream: &PatientStream<'_, C>,
-    table: &mut T,
-    diagnosis: &D,
+/// Writes that line, if a fault ended the connection.
+fn tell_ended<W: Sink>(
     writer: &mut W,
-    trace: &mut E,
+    ended: Result<Ending, ServeFault>,
 ) -> Result<(), DeviceFailed>
-    ensures run { T.is_honest table.new → (s : State) → T.holds table.old s × AreBookmarks responder.old.policy.now s responder.old.bookmarks
-        → (turns : List Turn) × (t : State) × (T.holds table.new t × AreBookmarks responder.old.policy.now t responder.new.bookmarks)
-        × Run responder.old.policy.now (standing s (T.failures table.old)) turns (standing t (T.failures table.new))
-        × IsTraced turns (D.fault diagnosis.now table.new) (E.contents trace.old) (E.contents trace.new) (E.failures trace.old) (E.failures trace.new) }
-    ensures policy { responder.new.policy ≡ responder.old.policy }
-    ensures honest { T.is_honest table.new → T.is_honest table.old }
-    ensures written { (end : Option FaultOf)
-        × IsSent (W.contents writer.old) (W.contents writer.new) (ended_line end) result (W.failures writer.old) (W.failures writer.new) }
-    ensures traced { E.failures trace.old ≤ E.failures trace.new }
+    ensures { IsSent (W.contents writer.old) (W.contents writer.new) (ended_line (fault_of ended)) result (W.failures writer.old) (W.failures writer.new) }
 {
-    let (reads, writes, asks) = (Blank::new(1), Blank::new(1), Blank::new(2));
-    let served = serve_stream::<_, _, Brand, Brand, Brand>(
-        responder, stream, table, reads, writes, asks,
-    );
-    let _ = tell_servfails(trace, served.servfails, diagnosis.store_fault(table));
-    match served.ended {
-        Ok(_) => {
-            stream.linger();
-            Ok(())
-        }
-        Err(fault) => tell_ended(writer, fault),
+    match ended {
+        Ok(_) => Ok(()),
+        Err(fault) => tell_fault(writer, fault),
     }
 }
 
-/// For how long to wait for the peers of connections, how old these get, and what tells why a table failed them.
+/// How connections are served.
 #[derive(Drop)]
 pub struct Connections<'a, C: Clock, D> {
+    /// What memory is taken from.
+    pub alloc: Global,
+    /// The policy by which requests are answered.
+    pub policy: &'a Policy,
+    /// How many connections are served.
+    pub most: u64,
     /// What tells the time.
     pub clock: &'a C,
     /// For how long a peer is waited for that sends no request or takes no response, where there is a limit.
@@ -123,102 +78,108 @@ pub struct Connections<'a, C: Clock, D> {
 }
 
 impl<C: Clock, D> Connections<'_, C, D> {
-    /// Serves one connection that was accepted.
-    fn serve_one<T: ZoneTable, W: Sink, E: Sink>(
+    /// Serves the stream of a peer, and hands the peer back.
+    fn serve_stream<P: Peer + Drop, T: ZoneTable, A: Ledger, B: Ledger>(
         &self,
         responder: &mut Responder<'_>,
-        stream: &TcpStream,
+        peer: P,
+        table: &mut T,
+        blanks: (Blank, Blank),
+    ) -> (P, Served)
+        requires counts_name { blanks.0.name ≡ A.name }
+        requires counts_parts { blanks.0.parts ≡ A.parts }
+        requires counts_some { 1 < blanks.0.parts }
+        requires asks_name { blanks.1.name ≡ B.name }
+        requires asks_parts { blanks.1.parts ≡ B.parts }
+        requires asks_some { 1 < blanks.1.parts }
+        ensures run { T.is_honest table.new → (s : State) → T.holds table.old s × Fits responder.old s
+            → (turns : List Turn) × (t : State) × (T.holds table.new t × Fits responder.new t)
+            × Run (rules_of responder.old) (standing s (T.failures table.old)) turns (standing t (T.failures table.new))
+            × AreNoted (servfails turns) result.1.servfails × IsStreamServed turns result.1.ended (P.flow peer) (P.flow result.0) }
+        ensures patient { AreWithin (option_map as_nanos self.now.patience) (P.limits peer) (P.limits result.0) }
+        ensures rules { rules_of responder.new ≡ rules_of responder.old }
+        ensures honest { T.is_honest table.new → T.is_honest table.old }
+    {
+        let mut stream: PatientStream<'_, P, C, A> = PatientStream::new(
+            peer,
+            self.clock,
+            self.patience,
+            self.longest,
+            blanks.0,
+        );
+        let mut deadline: AgeLimit<'_, C, B> = AgeLimit::new(stream.age(), blanks.1);
+        let served = responder.serve_stream(&mut stream, table, &mut deadline);
+        (stream.into_peer(), served)
+    }
+
+    /// Serves a peer, and hands it back.
+    fn serve_peer<P: Peer + Drop, T: ZoneTable>(
+        &self,
+        responder: &mut Responder<'_>,
+        peer: P,
+        table: &mut T,
+    ) -> (P, Served)
+        ensures run { T.is_honest table.new → (s : State) → T.holds table.old s × Fits responder.old s
+            → (turns : List Turn) × (t : State) × (T.holds table.new t × Fits responder.new t)
+            × Run (rules_of responder.old) (standing s (T.failures table.old)) turns (standing t (T.failures table.new))
+            × AreNoted (servfails turns) result.1.servfails × IsStreamServed turns result.1.ended (P.flow peer) (P.flow result.0) }
+        ensures patient { AreWithin (option_map as_nanos self.now.patience) (P.limits peer) (P.limits result.0) }
+        ensures rules { rules_of responder.new ≡ rules_of responder.old }
+        ensures honest { T.is_honest table.new → T.is_honest table.old }
+    {
+        let blanks = (Blank::new(2), Blank::new(2));
+        self.serve_stream::<_, _, Brand, Brand>(responder, peer, table, blanks)
+    }
+
+    /// Serves connections one after the other. A line tells each that ended by a fault. `ReadFailed` is written where a connection cannot
+    /// be had, and `WriteFailed` comes where a line cannot be written. A line of the trace tells of each connection in which requests were
+    /// answered SERVFAIL: how many, and why the last of them was; one that cannot be written is let go.
+    pub fn serve<H: Listener, T: ZoneTable, W: Sink, E: Sink>(
+        &self,
+        listener: &mut H,
         table: &mut T,
         writer: &mut W,
         trace: &mut E,
-    ) -> Result<(), DeviceFailed>
+    ) -> Result<(), JobFault>
     where
         D: Diagnosis<T>,
-        ensures run { T.is_honest table.new → (s : State) → T.holds table.old s × AreBookmarks responder.old.policy.now s responder.old.bookmarks
-            → (turns : List Turn) × (t : State)
-            × (T.holds table.new t × AreBookmarks responder.old.policy.now t responder.new.bookmarks)
-            × Run responder.old.policy.now (standing s (T.failures table.old)) turns (standing t (T.failures table.new))
-            × IsTraced turns (D.fault self.now.diagnosis.now table.new) (E.contents trace.old) (E.contents trace.new)
-            (E.failures trace.old) (E.failures trace.new) }
-        ensures policy { responder.new.policy ≡ responder.old.policy }
+        // Where the store has kept its word: each peer that the listener gave is served, and what it was sent are the responses to the
+        // requests that it sent, in order. They are answered by the policy and the states that they found, one connection after the other,
+        // which leads the table from how it stood to how it stands; and what the office promises of calls holds of all of them together,
+        // whichever connection each came by. A line is written for each connection that a fault ended, and the trace tells of those of the
+        // requests that were answered SERVFAIL.
+        ensures served { T.is_honest table.new → AreServedFrom
+            (record {
+              holds = T.holds;
+              failures = T.failures;
+              fault = D.fault self.now.diagnosis.now;
+              gives = H.gives;
+              ends = H.ends;
+              flow = H.Peer.flow;
+              limits = H.Peer.limits;
+            })
+            (record { rules = self.now.policy.now; patience = option_map as_nanos self.now.patience; most = self.now.most; cut = H.cut listener.old })
+            table.old listener.old table.new listener.new result
+            (record { old = W.contents writer.old; new = W.contents writer.new; before = W.failures writer.old; after = W.failures writer.new })
+            (record { old = E.contents trace.old; new = E.contents trace.new; before = E.failures trace.old; after = E.failures trace.new }) }
+        // Each connection that was taken is served. A line is written for each that a fault ended, and one where fewer were served than
+        // asked for, which comes only where no connection can be had.
+        ensures written { (ends : List (Option FaultOf))
+            × AreReported (H.cut listener.old) self.now.most ends (W.contents writer.old) (W.contents writer.new) result (W.failures writer.old) (W.failures writer.new)
+            × (H.taken listener.new ≡ H.taken listener.old + length ends) }
+        // A store that has kept its word had kept it before.
         ensures honest { T.is_honest table.new → T.is_honest table.old }
-        ensures written { (end : Option FaultOf)
-            × IsSent (W.contents writer.old) (W.contents writer.new) (ended_line end) result (W.failures writer.old) (W.failures writer.new) }
-        ensures traced { E.failures trace.old ≤ E.failures trace.new }
     {
-        // a short response goes out at once
-        let _ = stream.set_nodelay(true);
-        let stream = PatientStream::new(stream, self.clock, self.patience, self.longest);
-        serve_connection(responder, &stream, table, self.diagnosis, writer, trace)
+        let mut responder = Responder::new(self.alloc, self.policy);
+        'accepted: for _ in 0..self.most {
+            let Ok(peer) = listener.accept() else {
+                return Err(write_refusal(self.alloc, writer, LineFault::ReadFailed));
+            };
+            let (peer, served) = self.serve_peer(&mut responder, peer, table);
+            let _ = tell_servfails(trace, served.servfails, self.diagnosis.store_fault(table));
+            listener.end(peer, served.ended);
+            tell_ended(writer, served.ended)?;
+        }
+        Ok(())
     }
-}
-
-/// Serves connections one after the other, so many of them, by a responder.
-fn serve_each<H: Listener, T: ZoneTable, D: Diagnosis<T>, C: Clock, W: Sink, E: Sink>(
-    alloc: Global,
-    connections: &Connections<'_, C, D>,
-    responder: &mut Responder<'_>,
-    listener: &mut H,
-    table: &mut T,
-    most: u64,
-    writer: &mut W,
-    trace: &mut E,
-) -> Result<(), JobFault>
-    requires { (s : State) → AreBookmarks responder.old.policy.now s responder.old.bookmarks }
-    ensures served { AreServedFrom (T.is_honest table.new) (T.holds table.old) (T.holds table.new) (T.failures table.old)
-        (T.failures table.new) responder.old.policy.now most result (E.contents trace.old) (E.contents trace.new) (E.failures trace.old)
-        (E.failures trace.new) }
-    ensures written { (ends : List (Option FaultOf))
-        × AreReported (H.cut listener.old) most ends (W.contents writer.old) (W.contents writer.new) result (W.failures writer.old) (W.failures writer.new)
-        × (H.taken listener.new ≡ H.taken listener.old + length ends) }
-    ensures honest { T.is_honest table.new → T.is_honest table.old }
-{
-    'accepted: for _ in 0..most {
-        let Ok(stream) = listener.accept() else {
-            return Err(write_refusal(alloc, writer, LineFault::ReadFailed));
-        };
-        connections.serve_one(responder, &stream, table, writer, trace)?;
-    }
-    Ok(())
-}
-
-/// Serves connections one after the other, so many of them. A line tells each that ended by a fault. `ReadFailed` is written where a
-/// connection cannot be had, and `WriteFailed` comes where a line cannot be written. A line of the trace tells of each connection in
-/// which requests were answered SERVFAIL: how many, and why the last of them was.
-pub fn serve_connections<H: Listener, T: ZoneTable, D: Diagnosis<T>, C: Clock, W: Sink, E: Sink>(
-    alloc: Global,
-    connections: &Connections<'_, C, D>,
-    listener: &mut H,
-    table: &mut T,
-    policy: &Policy,
-    most: u64,
-    writer: &mut W,
-    trace: &mut E,
-) -> Result<(), JobFault>
-    // Whatever connections come: where the store has kept its word, there are turns of all of them, one connection after the other,
-    // that take the table from how it stood to how it stands; each is answered by the policy and the state that it found, and what the
-    // office promises of calls holds of all of them together, whichever connection each came by. The trace tells of those of these
-    // turns that were answered SERVFAIL.
-    ensures served { AreServedFrom (T.is_honest table.new) (T.holds table.old) (T.holds table.new) (T.failures table.old)
-        (T.failures table.new) policy.now most result (E.contents trace.old) (E.contents trace.new) (E.failures trace.old)
-        (E.failures trace.new) }
-    // Each connection that was taken is served. A line is written for each that a fault ended, and one where fewer were served than asked
-    // for, which comes only where no connection can be had.
-    ensures written { (ends : List (Option FaultOf))
-        × AreReported (H.cut listener.old) most ends (W.contents writer.old) (W.contents writer.new) result (W.failures writer.old) (W.failures writer.new)
-        × (H.taken listener.new ≡ H.taken listener.old + length ends) }
-    // A store that has kept its word had kept it before.
-    ensures honest { T.is_honest table.new → T.is_honest table.old }
-{
-    let mut responder = Responder::new(alloc, policy);
-    serve_each(
-        alloc,
-        connections,
-        &mut responder,
-        listener,
-        table,
-        most,
-        writer,
-        trace,
-    )
 }

@@ -5,8 +5,8 @@ ghost use Rattle.std.specs.Prelude.{⊤, None};
 ghost use Rattle.cli_store.specs.Around.{Around};
 
 use cli_store::{
-    DeviceFailed, LineFault, MachineFiles, NO_MEMORY_LINE, Streams, Surroundings, listen_at,
-    next_of, read_path, run_words,
+    DeviceFailed, LineFault, MachineFiles, NO_MEMORY_LINE, Streams, Surroundings, fold_log,
+    listen_at, next_of, read_path, run_words,
 };
 use std::alloc::{AllocError, Global};
 use std::env;
@@ -88,7 +88,9 @@ fn run(rt: &HostRuntime, words: &[&str]) -> ExitCode {
         output: rt.stdout(),
         trace: rt.stderr(),
     };
-    run_words(&Process(rt), MachineFiles(rt), words, streams).1
+    let (conn, _, status) = run_words(&Process(rt), MachineFiles(rt), words, streams);
+    fold_log(&Process(rt), conn);
+    status
 }
 
 fn main(rt: HostRuntime) -> ExitCode {

@@ -11,5 +11,5 @@ returns g c =
       honest = e.honest;
       failures = table.book.total;
       failures_after = left.book.total;
-      told = told_as (g.M.Surroundings.around c.args.around.now) _ _ _ _ _ _ _ (λ idle. (ap (λ t. t.conn) idle.0, idle.1, idle.2)) (λ served. served) e.told;
+      told = told_as (g.M.Surroundings.around c.args.around.now) _ _ _ _ _ _ _ (λ idle. (ap (λ t. t.conn) idle.0, idle.1, idle.2)) (λ served. served) (rw (c.connections_of-connections.ensures.most, c.connections_of-connections.ensures.policy) at e.told);
     })

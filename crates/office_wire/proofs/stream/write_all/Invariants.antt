@@ -5,10 +5,11 @@ use Rattle.office_wire.proofs.stream.write_all.Given as goal
 
 abbrev pub invariant-loop-rest : goal.invariant-loop-rest
 invariant-loop-rest g l = record {
-  left : IsLeft (moment (g.W.Sink.contents l.initial.writer) (g.S.Stream.events l.initial.reader l.initial.writer)) (moment (g.W.Sink.contents l.writer) (g.S.Stream.events l.reader l.writer)) l.octets l.rest;
-  fine : g.W.FaultCount.failures l.writer ≡ g.W.FaultCount.failures l.initial.writer;
-  same : g.R.Source.remaining l.reader ≡ g.R.Source.remaining l.initial.reader;
-  still : g.R.FaultCount.failures l.reader ≡ g.R.FaultCount.failures l.initial.reader;
+  left : IsLeft (moment (g.S.Stream.flow l.initial.stream)) (moment (g.S.Stream.flow l.stream)) l.octets l.rest;
+  fine : g.S.Stream.failed_writes l.stream ≡ g.S.Stream.failed_writes l.initial.stream;
+  same : (g.S.Stream.flow l.stream).remaining ≡ (g.S.Stream.flow l.initial.stream).remaining;
+  still : g.S.Stream.failed_reads l.stream ≡ g.S.Stream.failed_reads l.initial.stream;
+  kept : g.S.Stream.keeps l.initial.stream l.stream;
 }
 
 abbrev pub decreases-loop-rest : goal.decreases-loop-rest

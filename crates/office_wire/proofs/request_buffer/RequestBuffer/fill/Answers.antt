@@ -23,8 +23,8 @@ returns-clause-got g c =
     let least : length (take r xs) ≡ r = length-take-le r xs within in
     let asked : length (take r xs) < 81920 = rw old c.requires in
     let some : 0 < length buf = omega (arith, least, asked, same, len, room) in
-    let h = c.in_ok-got.ensures.bytes in
-    (take n buf, rw whole (filled_view xs buf c.args.self.now r n bytes.len len within fits same old), length-take-le n buf fits, h.0, (λ z. h.1 z some), c.in_ok-got.ensures.event)
+    let h = c.in_ok-got.ensures.read.bytes in
+    (take n buf, rw whole (filled_view xs buf c.args.self.now r n bytes.len len within fits same old), length-take-le n buf fits, h.0, (λ z. h.1 z some), c.in_ok-got.ensures.read.event.0, c.in_ok-got.ensures.read.event.1)
 
 pub invariant_of-self-2 : goal.invariant_of-self-2
 invariant_of-self-2 g c =

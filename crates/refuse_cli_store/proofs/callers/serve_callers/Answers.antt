@@ -1,6 +1,6 @@
 -- One tactic for what the function ensures, so that a wrong body is refused soon.
 use Rattle.std.proofs.Common.{rules}
-use Rattle.refuse_cli_store.proofs.serve_connections.Goals as goal
+use Rattle.refuse_cli_store.proofs.callers.serve_callers.Goals as goal
 
 pub returns : goal.returns
-returns c = search rules
+returns g c = search rules

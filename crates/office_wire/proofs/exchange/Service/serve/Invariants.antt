@@ -1,0 +1,24 @@
+use Rattle.std.proofs.Common.{◌≡◌, ◌<◌, length}
+use Rattle.office_model.specs.States.{State}
+use Rattle.office_core.specs.Bookmarks.{AreBookmarks}
+use Rattle.office_wire.specs.Exchange.{Waits}
+use Rattle.office_wire.specs.Order.{moment}
+use Rattle.office_wire.specs.Serving.{mark}
+use Rattle.office_wire.proofs.ServingLemmas.{IsAnsweredRead}
+use Rattle.office_wire.proofs.exchange.Service.serve.Given as goal
+
+abbrev pub invariant-reads : goal.invariant-reads
+invariant-reads g l = record {
+  waits : Waits l.workspace.requests;
+  room : length l.workspace.requests < 81920;
+  honest : g.T.ZoneTable.is_honest l.table → g.T.ZoneTable.is_honest l.fn.table;
+  served : g.T.ZoneTable.is_honest l.table → (s : State) → g.T.ZoneTable.holds l.fn.table s × AreBookmarks l.fn.self.policy.now s l.fn.self.bookmarks → (t : State) × (g.T.ZoneTable.holds l.table t × AreBookmarks l.fn.self.policy.now t l.self.bookmarks)
+      × IsAnsweredRead l.fn.self.policy.now (mark s (g.T.ZoneTable.failures l.fn.table) l.fn.self.servfails) (g.D.Deadline.asked l.fn.deadline) l.counter (g.S.Stream.flow l.fn.stream).remaining (g.S.Stream.flow l.stream).remaining l.workspace.requests
+      (moment (g.S.Stream.flow l.fn.stream)) (moment (g.S.Stream.flow l.stream))
+      (g.D.Deadline.asked l.deadline) (mark t (g.T.ZoneTable.failures l.table) l.self.servfails);
+  reads : g.S.Stream.failed_reads l.stream ≡ g.S.Stream.failed_reads l.fn.stream;
+  writes : g.S.Stream.failed_writes l.stream ≡ g.S.Stream.failed_writes l.fn.stream;
+  policy : l.self.policy ≡ l.fn.self.policy;
+  kept : g.S.Stream.keeps l.fn.stream l.stream;
+  passed : g.D.Deadline.passed l.deadline ≡ g.D.Deadline.passed l.fn.deadline;
+}

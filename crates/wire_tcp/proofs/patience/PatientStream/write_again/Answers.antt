@@ -1,0 +1,23 @@
+use Rattle.std.proofs.Common.{rules, ◌∙◌, refl}
+use Rattle.wire_tcp.specs.Limits.{within_joins}
+use Rattle.wire_tcp.proofs.PatienceLemmas.{no_write, idle_then_write, idle_again_write}
+use Rattle.wire_tcp.proofs.patience.PatientStream.write_again.Goals as goal
+
+pub returns-then-not-is_interrupted-clause-written : goal.returns-then-not-is_interrupted-clause-written
+returns-then-not-is_interrupted-clause-written g c = idle_then_write _ _ _ _ _ c.cut.invariant.idle c.write_once-written.ensures.written
+
+pub cut-preserved : goal.cut-preserved
+cut-preserved g c =
+    let e = c.write_once-written.ensures in
+    let i = c.cut.invariant in
+    let failed = (rw c.if-not-is_interrupted.false at c.is_interrupted.ensures).0 refl in
+    record {
+      idle = idle_again_write _ _ _ _ _ _ failed i.idle e.written;
+      limited = within_joins _ _ _ _ i.limited (rw i.patience at e.limited);
+      patience = e.patience ∙ i.patience;
+      reads = e.reads ∙ i.reads;
+      writes = e.writes ∙ i.writes;
+    }
+
+pub returns-clause-written : goal.returns-clause-written
+returns-clause-written g c = idle_then_write _ _ _ _ _ c.cut.invariant.idle c.write_once.ensures.written
