@@ -55,9 +55,10 @@ class Wait:
 
 @dataclasses.dataclass(frozen=True)
 class Verdict:
-    """What came of a message: the code, and why."""
+    """What came of a message: the code, and why; and the answers, if they are more than the code."""
     code: int
     cause: str = ""
+    answers: Answers | None = None
 
 
 class Gateway:  # pylint: disable=too-many-instance-attributes
@@ -148,7 +149,7 @@ class Gateway:  # pylint: disable=too-many-instance-attributes
     def _answers(self, message: Message, signed: Signed, peer: Peer) -> Answers:
         """The answers to a message that is rightly signed, and its line in the log."""
         asked = "?"
-        found: Verdict | Answers
+        found: Verdict
         try:
             zone, kind, group = messages.first_name(message)
             if message.opcode == dns.opcode.UPDATE:
@@ -165,10 +166,9 @@ class Gateway:  # pylint: disable=too-many-instance-attributes
             found = self._verdict(error.reply)
         except (NoReply, NotSeen, TooLong) as error:
             found = Verdict(dns.rcode.SERVFAIL, f"{type(error).__name__} {error}")
-        verdict = found if isinstance(found, Verdict) else Verdict(dns.rcode.NOERROR)
         self.log(f"address={peer.address} key={printable(signed.key.name)} caller={signed.key.caller} {asked} "
-                 f"{code_text(verdict.code)} {printable(verdict.cause)}".rstrip())
-        return [messages.answer(message, signed, verdict.code)] if isinstance(found, Verdict) else found
+                 f"{code_text(found.code)} {printable(found.cause)}".rstrip())
+        return [messages.answer(message, signed, found.code)] if found.answers is None else found.answers
 
     def _update(self, message: Message, signed: Signed, name: dns.name.Name, of_zone: tuple[int, int]) -> Verdict:
         if of_zone[0] != dns.rdatatype.SOA:
@@ -205,7 +205,7 @@ class Gateway:  # pylint: disable=too-many-instance-attributes
         return Verdict(dns.rcode.SERVFAIL, reply.cause()) if code is None else Verdict(code, reply.cause() if code else "")
 
     def _query(self, message: Message, signed: Signed, peer: Peer, name: dns.name.Name,  # pylint: disable=too-many-arguments
-               of_zone: tuple[int, int]) -> Verdict | Answers:
+               of_zone: tuple[int, int]) -> Verdict:
         kind, group = of_zone
         if kind not in (dns.rdatatype.SOA, dns.rdatatype.AXFR, dns.rdatatype.IXFR) or group != dns.rdataclass.IN:
             return Verdict(dns.rcode.REFUSED, "only SOA, AXFR and IXFR are answered")
@@ -217,22 +217,23 @@ class Gateway:  # pylint: disable=too-many-instance-attributes
             soa = zone.look()
             if not caller.rights(zone.text, "SOA", "list").granted:
                 soa = zones.without_serial(soa)
-            return [messages.sign(zones.soa_answer(message, soa), signed)[0]]
+            return Verdict(dns.rcode.NOERROR, "", [messages.sign(zones.soa_answer(message, soa), signed)[0]])
         if not peer.over_tcp:
             raise Malformed("AXFR over UDP")
-        serial = zones.question_serial(message) if kind == dns.rdatatype.IXFR else None
+        return self._transfer(message, signed, zone, caller)
+
+    def _transfer(self, message: Message, signed: Signed, zone: Zone, caller: Office) -> Verdict:
+        """The messages of a transfer, of which few are made at once, however slowly the peers take them."""
         if not self.transfers.enter(signed.key.name):
             return Verdict(dns.rcode.REFUSED, "too many transfers at once")
         try:
-            return self._transfer(message, signed, zones.transfer(zone, caller, serial, self.settings.partial_transfers))
+            lines = zones.transfer(zone, caller, zones.question_serial(message), self.settings.partial_transfers)
         except BaseException:
             self.transfers.leave(signed.key.name)
             raise
-
-    def _transfer(self, message: Message, signed: Signed, lines: list[str]) -> Answers:
-        """The messages of a transfer, of which few are made at once, however slowly the peers take them."""
-        rendered = zones.render(message, signed, lines)
-        return OneByOne(rendered, self.rendering, lambda: self.transfers.leave(signed.key.name))
+        answers = OneByOne(zones.render(message, signed, lines), self.rendering, lambda: self.transfers.leave(signed.key.name))
+        incremental = sum(line.split(" ", 4)[3] == "SOA" for line in lines) != 2
+        return Verdict(dns.rcode.NOERROR, f"{'incremental' if incremental else 'whole'} records={len(lines)}", answers)
 
 
 class OneByOne:  # pylint: disable=too-few-public-methods

@@ -14,6 +14,7 @@ import dns.name
 import dns.rdata
 import dns.rdataclass
 import dns.rdataset
+import dns.rdatatype
 import dns.renderer
 from dns.rdtypes.ANY.SOA import SOA
 
@@ -246,7 +247,9 @@ def without_serial(line: str) -> str:
 
 
 def question_serial(asked: Message) -> int | None:
-    """The serial that the client of an IXFR has: that of the SOA in the authority section."""
+    """The serial that the client of an IXFR has: that of the SOA in the authority section. AXFR has none."""
+    if messages.first_name(asked)[1] != dns.rdatatype.IXFR:
+        return None
     parser = messages.Parser(asked.wire, asked.sections[2])
     try:
         parser.get_name()
